@@ -38,3 +38,23 @@ unmixed_byte a b c d = bit_xor (bit_xor (product a 14) (product b 11)) (bit_xor 
 -- 5.3.3: each column is unmixed
 unfoldable pub inv_mix_columns : List ℕ → List ℕ
 inv_mix_columns s = state_of (λ r c. unmixed_byte (byte_at s r c) (byte_at s ((r + 1) % 4) c) (byte_at s ((r + 2) % 4) c) (byte_at s ((r + 3) % 4) c))
+
+-- 5.1: a round
+abbrev pub round : List ℕ → List ℕ → List ℕ
+round s k = add_round_key (mix_columns (shift_rows (sub_bytes s))) k
+
+-- 5.1: the last round, which has no MixColumns
+abbrev pub last_round : List ℕ → List ℕ → List ℕ
+last_round s k = add_round_key (shift_rows (sub_bytes s)) k
+
+-- 5.3: a round of the inverse cipher
+abbrev pub inverse_round : List ℕ → List ℕ → List ℕ
+inverse_round s k = inv_mix_columns (add_round_key (inv_sub_bytes (inv_shift_rows s)) k)
+
+-- 5.3: its last round, which has no InvMixColumns
+abbrev pub last_inverse_round : List ℕ → List ℕ → List ℕ
+last_inverse_round s k = add_round_key (inv_sub_bytes (inv_shift_rows s)) k
+
+-- 5.3.5: a round of the equivalent inverse cipher, whose round key is unmixed
+abbrev pub unmixed_round : List ℕ → List ℕ → List ℕ
+unmixed_round s k = add_round_key (inv_mix_columns (inv_sub_bytes (inv_shift_rows s))) k

@@ -1,9 +1,8 @@
 //! The rounds of the cipher (FIPS 197, 5.1) and of its inverse (5.3), each column by four tables.
 
-ghost use Rattle.std.specs.Prelude.{◌≡◌, ℕ, ◌<◌};
-ghost use Rattle.aes_block.specs.State.{byte_at};
-ghost use Rattle.aes_block.specs.Columns.{row_of, state_of_columns};
-ghost use Rattle.aes_block.specs.Rounds.{sub_bytes, shift_rows, mix_columns, add_round_key, inv_shift_rows, inv_sub_bytes, inv_mix_columns};
+ghost use Rattle.std.specs.Prelude.{◌≡◌, ◌<◌};
+ghost use Rattle.aes_block.specs.Columns.{IsColumn, state_of_columns};
+ghost use Rattle.aes_block.specs.Rounds.{sub_bytes, shift_rows, mix_columns, inv_shift_rows, inv_sub_bytes, inv_mix_columns, round, last_round, unmixed_round, last_inverse_round};
 
 use crate::columns::{Columns, add_round_key, shifted_byte, unshifted_byte};
 use crate::decryption_tables::{DECRYPTION_0, DECRYPTION_1, DECRYPTION_2, DECRYPTION_3};
@@ -14,7 +13,7 @@ use crate::s_box::{INV_S_BOX, S_BOX};
 #[inline(always)]
 fn mixed_column(state: &Columns, column: usize) -> u32
     requires { column < 4 }
-    ensures { (row : ℕ) → row < 4 → row_of result row ≡ byte_at (mix_columns (shift_rows (sub_bytes (state_of_columns state.now)))) row column }
+    ensures { IsColumn (mix_columns (shift_rows (sub_bytes (state_of_columns state.now)))) column result }
 {
     ENCRYPTION_0[shifted_byte(state, 0, column)]
         ^ ENCRYPTION_1[shifted_byte(state, 1, column)]
@@ -25,7 +24,7 @@ fn mixed_column(state: &Columns, column: usize) -> u32
 /// A round.
 #[inline(always)]
 pub fn round(state: &Columns, key: Columns) -> Columns
-    ensures { state_of_columns result ≡ add_round_key (mix_columns (shift_rows (sub_bytes (state_of_columns state.now)))) (state_of_columns key) }
+    ensures { state_of_columns result ≡ round (state_of_columns state.now) (state_of_columns key) }
 {
     let mixed = [
         mixed_column(state, 0),
@@ -40,7 +39,7 @@ pub fn round(state: &Columns, key: Columns) -> Columns
 #[inline(always)]
 fn shifted_column(state: &Columns, column: usize) -> u32
     requires { column < 4 }
-    ensures { (row : ℕ) → row < 4 → row_of result row ≡ byte_at (shift_rows (sub_bytes (state_of_columns state.now))) row column }
+    ensures { IsColumn (shift_rows (sub_bytes (state_of_columns state.now))) column result }
 {
     u32::from_le_bytes([
         S_BOX[shifted_byte(state, 0, column)],
@@ -53,7 +52,7 @@ fn shifted_column(state: &Columns, column: usize) -> u32
 /// The last round, which has no MixColumns.
 #[inline(always)]
 pub fn last_round(state: &Columns, key: Columns) -> Columns
-    ensures { state_of_columns result ≡ add_round_key (shift_rows (sub_bytes (state_of_columns state.now))) (state_of_columns key) }
+    ensures { state_of_columns result ≡ last_round (state_of_columns state.now) (state_of_columns key) }
 {
     let shifted = [
         shifted_column(state, 0),
@@ -68,7 +67,7 @@ pub fn last_round(state: &Columns, key: Columns) -> Columns
 #[inline(always)]
 fn unmixed_column(state: &Columns, column: usize) -> u32
     requires { column < 4 }
-    ensures { (row : ℕ) → row < 4 → row_of result row ≡ byte_at (inv_mix_columns (inv_sub_bytes (inv_shift_rows (state_of_columns state.now)))) row column }
+    ensures { IsColumn (inv_mix_columns (inv_sub_bytes (inv_shift_rows (state_of_columns state.now)))) column result }
 {
     DECRYPTION_0[unshifted_byte(state, 0, column)]
         ^ DECRYPTION_1[unshifted_byte(state, 1, column)]
@@ -79,7 +78,7 @@ fn unmixed_column(state: &Columns, column: usize) -> u32
 /// A round of the inverse cipher. Its round key is unmixed too, since InvMixColumns is linear.
 #[inline(always)]
 pub fn inverse_round(state: &Columns, unmixed_key: Columns) -> Columns
-    ensures { state_of_columns result ≡ add_round_key (inv_mix_columns (inv_sub_bytes (inv_shift_rows (state_of_columns state.now)))) (state_of_columns unmixed_key) }
+    ensures { state_of_columns result ≡ unmixed_round (state_of_columns state.now) (state_of_columns unmixed_key) }
 {
     let unmixed = [
         unmixed_column(state, 0),
@@ -94,7 +93,7 @@ pub fn inverse_round(state: &Columns, unmixed_key: Columns) -> Columns
 #[inline(always)]
 fn unshifted_column(state: &Columns, column: usize) -> u32
     requires { column < 4 }
-    ensures { (row : ℕ) → row < 4 → row_of result row ≡ byte_at (inv_sub_bytes (inv_shift_rows (state_of_columns state.now))) row column }
+    ensures { IsColumn (inv_sub_bytes (inv_shift_rows (state_of_columns state.now))) column result }
 {
     u32::from_le_bytes([
         INV_S_BOX[unshifted_byte(state, 0, column)],
@@ -107,7 +106,7 @@ fn unshifted_column(state: &Columns, column: usize) -> u32
 /// The last round of the inverse cipher, which has no InvMixColumns.
 #[inline(always)]
 pub fn last_inverse_round(state: &Columns, key: Columns) -> Columns
-    ensures { state_of_columns result ≡ add_round_key (inv_sub_bytes (inv_shift_rows (state_of_columns state.now))) (state_of_columns key) }
+    ensures { state_of_columns result ≡ last_inverse_round (state_of_columns state.now) (state_of_columns key) }
 {
     let unshifted = [
         unshifted_column(state, 0),

@@ -1,5 +1,5 @@
 -- The circuit of SubBytes on numbers, bit by bit: five parts, each of the wires before it.
-use Rattle.std.specs.Prelude.{◌≡◌, ℕ, zero, suc, List, [], ◌∷◌, length, slice_index, bit_xor, bit_and, bit_or}
+use Rattle.std.specs.Prelude.{◌≡◌, ℕ, zero, suc, ◌<◌, List, [], ◌∷◌, length, slice_index, bit_xor, bit_and, bit_or}
 use Rattle.std.specs.Int.{bit_at}
 use Rattle.aes_lanes.specs.Planes.{plane}
 
@@ -12,6 +12,15 @@ pub record Carries (p b v : ℕ) (x : List ℕ) (t : ℕ) : Type 0 where
 unfoldable pub CarryEach : ℕ → ℕ → ℕ → ℕ → List (List ℕ) → List ℕ → Type 0
 CarryEach zero p b v xs ts = Unit
 CarryEach (suc n) p b v xs ts = CarryEach n p b v xs ts × Carries p b v (plane xs n) (slice_index ts n)
+
+-- n planes have, in each lane and bit, what a map makes of the numbers that m planes have there
+abbrev pub Computes : (List ℕ → List ℕ) → ℕ → List (List ℕ) → ℕ → List (List ℕ) → Type 0
+Computes map m xs n ys = (p b v : ℕ) (bits : List ℕ) → p < 32 → b < 8 → v < 256 → CarryEach m p b v xs bits → CarryEach n p b v ys (map bits)
+
+-- the same of a map of the numbers of m planes and those of k
+abbrev pub ComputesOfBoth : (List ℕ → List ℕ → List ℕ) → ℕ → List (List ℕ) → ℕ → List (List ℕ) → ℕ → List (List ℕ) → Type 0
+ComputesOfBoth map m xs k zs n ys = (p b v : ℕ) (xs_bits zs_bits : List ℕ) → p < 32 → b < 8 → v < 256
+    → CarryEach m p b v xs xs_bits → CarryEach k p b v zs zs_bits → CarryEach n p b v ys (map xs_bits zs_bits)
 
 -- the sums of the byte's bits that the rest needs
 unfoldable pub sums : List ℕ → List ℕ

@@ -3,9 +3,8 @@
 //! After 10 or 14 rounds, two more than a multiple of four, the last two ShiftRows are still to be done.
 
 ghost use Rattle.std.specs.Prelude.{◌≡◌, ℕ, ◌+◌, ◌%◌, ◌≤◌, List, length};
-ghost use Rattle.aes_block.specs.Blocks.{block, joined};
-ghost use Rattle.aes_block.specs.Cipher.{cipher_with, inverse_cipher_with};
 ghost use Rattle.aes_lanes.specs.Keys.{HoldKeys};
+ghost use Rattle.aes_lanes.specs.Rounds.{sixteen_enciphered, sixteen_deciphered};
 
 use crate::keys::{KeyPlanes, MAX_KEYS};
 use crate::planes::{planes_of, write_blocks};
@@ -16,7 +15,7 @@ use crate::sums::add_round_key;
 pub(crate) fn encrypt_sixteen(keys: &[KeyPlanes; MAX_KEYS], rounds: usize, blocks: &mut [u8])
     requires blocks { length blocks.old ≡ 256 }
     requires rounds { (rounds % 4 ≡ 2) × (rounds + 1 ≤ MAX_KEYS) }
-    ensures { (w : List ℕ) → HoldKeys rounds w keys.now → blocks.new ≡ joined (λ j. cipher_with rounds w (block blocks.old j)) 16 }
+    ensures { (w : List ℕ) → HoldKeys rounds w keys.now → blocks.new ≡ sixteen_enciphered rounds w blocks.old }
 {
     let mut state = add_round_key(&planes_of(blocks), &keys[0].planes());
     for i in 1..rounds {
@@ -30,7 +29,7 @@ pub(crate) fn encrypt_sixteen(keys: &[KeyPlanes; MAX_KEYS], rounds: usize, block
 pub(crate) fn decrypt_sixteen(keys: &[KeyPlanes; MAX_KEYS], rounds: usize, blocks: &mut [u8])
     requires blocks { length blocks.old ≡ 256 }
     requires rounds { (rounds % 4 ≡ 2) × (rounds + 1 ≤ MAX_KEYS) }
-    ensures { (w : List ℕ) → HoldKeys rounds w keys.now → blocks.new ≡ joined (λ j. inverse_cipher_with rounds w (block blocks.old j)) 16 }
+    ensures { (w : List ℕ) → HoldKeys rounds w keys.now → blocks.new ≡ sixteen_deciphered rounds w blocks.old }
 {
     let mut state = first_inverse_key(&planes_of(blocks), &keys[rounds].planes());
     for i in (1..rounds).rev() {

@@ -1,9 +1,9 @@
 //! The map of SubBytes (FIPS 197, 5.1.1) as a circuit of 109 gates: the inverse is taken in the subfield of 16 elements, and
 //! the affine map but for its constant is part of the last sums. A gate works on one bit each of 256 bytes.
 
-ghost use Rattle.std.specs.Prelude.{◌≡◌, ℕ, ◌<◌, List};
+ghost use Rattle.std.specs.Prelude.{◌≡◌, ℕ, ◌<◌};
 ghost use Rattle.aes_lanes.specs.Planes.{ArePlanes, block_of};
-ghost use Rattle.aes_lanes.specs.Circuit.{CarryEach, sums, combined, inverse, products, substituted};
+ghost use Rattle.aes_lanes.specs.Circuit.{Computes, ComputesOfBoth, sums, combined, inverse, products, substituted};
 ghost use Rattle.aes_block.specs.Rounds.{sub_bytes};
 ghost use Rattle.aes_lanes.specs.Constant.{add_constant};
 
@@ -13,7 +13,7 @@ use std::simd::prelude::*;
 // The sums of the byte's bits that the rest needs.
 #[inline(always)]
 fn sums(x: &Planes) -> [u8x32; 20]
-    ensures { (p b v : ℕ) (bits : List ℕ) → p < 32 → b < 8 → v < 256 → CarryEach 8 p b v x.now bits → CarryEach 20 p b v result (sums bits) }
+    ensures { Computes sums 8 x.now 20 result }
 {
     let [x7, x6, x5, x4, x3, x2, x1, x0] = *x;
     let y14 = x3 ^ x5;
@@ -46,7 +46,7 @@ fn sums(x: &Planes) -> [u8x32; 20]
 // factors added, both are one gate, an or.
 #[inline(always)]
 pub(crate) fn combined(sums: &[u8x32; 20]) -> [u8x32; 4]
-    ensures { (p b v : ℕ) (sums_bits : List ℕ) → p < 32 → b < 8 → v < 256 → CarryEach 20 p b v sums.now sums_bits → CarryEach 4 p b v result (combined sums_bits) }
+    ensures { Computes combined 20 sums.now 4 result }
 {
     let t2 = sums[12] & sums[15];
     let t3 = sums[3] & sums[6];
@@ -75,7 +75,7 @@ pub(crate) fn combined(sums: &[u8x32; 20]) -> [u8x32; 4]
 // The inverse in the subfield of 16 elements, and the sums of its bits: 19 gates, found by a search.
 #[inline(always)]
 pub(crate) fn inverse(combined: &[u8x32; 4]) -> [u8x32; 9]
-    ensures { (p b v : ℕ) (combined_bits : List ℕ) → p < 32 → b < 8 → v < 256 → CarryEach 4 p b v combined.now combined_bits → CarryEach 9 p b v result (inverse combined_bits) }
+    ensures { Computes inverse 4 combined.now 9 result }
 {
     let [t21, t22, t23, t24] = *combined;
     let t25 = t23 ^ t24;
@@ -103,7 +103,7 @@ pub(crate) fn inverse(combined: &[u8x32; 4]) -> [u8x32; 9]
 // The products of the inverse's bits and the byte's sums.
 #[inline(always)]
 pub(crate) fn products(sums: &[u8x32; 20], inverse: &[u8x32; 9]) -> [u8x32; 18]
-    ensures { (p b v : ℕ) (sums_bits inverse_bits : List ℕ) → p < 32 → b < 8 → v < 256 → CarryEach 20 p b v sums.now sums_bits → CarryEach 9 p b v inverse.now inverse_bits → CarryEach 18 p b v result (products sums_bits inverse_bits) }
+    ensures { ComputesOfBoth products 20 sums.now 9 inverse.now 18 result }
 {
     let [t29, t33, t37, t40, t41, t42, t43, t44, t45] = *inverse;
     let z0 = t44 & sums[15];
@@ -132,7 +132,7 @@ pub(crate) fn products(sums: &[u8x32; 20], inverse: &[u8x32; 9]) -> [u8x32; 18]
 // The bits of the sums of the products, without those of the constant 0x63.
 #[inline(always)]
 fn substituted(products: &[u8x32; 18]) -> Planes
-    ensures { (p b v : ℕ) (products_bits : List ℕ) → p < 32 → b < 8 → v < 256 → CarryEach 18 p b v products.now products_bits → CarryEach 8 p b v result (substituted products_bits) }
+    ensures { Computes substituted 18 products.now 8 result }
 {
     let t46 = products[15] ^ products[16];
     let t47 = products[10] ^ products[11];

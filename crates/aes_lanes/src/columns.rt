@@ -6,7 +6,8 @@
 ghost use Rattle.std.specs.Prelude.{◌≡◌, ℕ, ◌<◌, length, slice_index};
 ghost use Rattle.aes_block.specs.Field.{xtimes};
 ghost use Rattle.aes_block.specs.Rounds.{mix_columns, inv_mix_columns};
-ghost use Rattle.aes_lanes.specs.Planes.{ArePlanes, byte_of, block_of, shifted, AreMoved, lane_below};
+ghost use Rattle.aes_lanes.specs.Planes.{ArePlanes, byte_of, AreMoved, lane_below};
+ghost use Rattle.aes_lanes.specs.Rounds.{EachGoesThrough};
 
 use crate::planes::{Planes, each};
 use crate::sums::add;
@@ -136,7 +137,7 @@ pub(crate) fn mix_columns(q: &Planes, shifts: usize) -> Planes
     requires planes { ArePlanes q.now }
     requires shifts { shifts < 4 }
     ensures planes { ArePlanes result }
-    ensures blocks { (j : ℕ) → j < 16 → shifted shifts (block_of result j) ≡ mix_columns (shifted shifts (block_of q.now j)) }
+    ensures blocks { EachGoesThrough mix_columns shifts q.now result }
 {
     let next = move_below_1(q, shifts);
     let pairs = add(q, &next);
@@ -152,7 +153,7 @@ pub(crate) fn inv_mix_columns(q: &Planes, shifts: usize) -> Planes
     requires planes { ArePlanes q.now }
     requires shifts { shifts < 4 }
     ensures planes { ArePlanes result }
-    ensures blocks { (j : ℕ) → j < 16 → shifted shifts (block_of result j) ≡ inv_mix_columns (shifted shifts (block_of q.now j)) }
+    ensures blocks { EachGoesThrough inv_mix_columns shifts q.now result }
 {
     let others = move_below_2(q, shifts);
     let pairs = add(q, &others);

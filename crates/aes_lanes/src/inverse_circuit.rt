@@ -1,9 +1,9 @@
 //! The map of InvSubBytes (FIPS 197, 5.3.2) as a circuit: that of SubBytes, whose first sums are those of the bits after the
 //! inverse of the affine map, and whose last give the inverse's bits.
 
-ghost use Rattle.std.specs.Prelude.{◌≡◌, ℕ, ◌<◌, List};
+ghost use Rattle.std.specs.Prelude.{◌≡◌, ℕ, ◌<◌};
 ghost use Rattle.aes_lanes.specs.Planes.{ArePlanes, block_of};
-ghost use Rattle.aes_lanes.specs.Circuit.{CarryEach};
+ghost use Rattle.aes_lanes.specs.Circuit.{Computes};
 ghost use Rattle.aes_lanes.specs.Constant.{add_constant};
 ghost use Rattle.aes_lanes.specs.InverseCircuit.{inverse_sums, inverse_substituted};
 ghost use Rattle.aes_block.specs.Rounds.{inv_sub_bytes};
@@ -15,7 +15,7 @@ use std::simd::prelude::*;
 // The sums that the rest needs, of the bits with those of the constant 0x63.
 #[inline(always)]
 fn inverse_sums(x: &Planes) -> [u8x32; 20]
-    ensures { (p b v : ℕ) (bits : List ℕ) → p < 32 → b < 8 → v < 256 → CarryEach 8 p b v x.now bits → CarryEach 20 p b v result (inverse_sums bits) }
+    ensures { Computes inverse_sums 8 x.now 20 result }
 {
     let [b0, b1, b2, b3, b4, b5, b6, b7] = *x;
     let y9 = b3 ^ b4;
@@ -47,7 +47,7 @@ fn inverse_sums(x: &Planes) -> [u8x32; 20]
 // The bits of the sums of the products.
 #[inline(always)]
 fn inverse_substituted(products: &[u8x32; 18]) -> Planes
-    ensures { (p b v : ℕ) (products_bits : List ℕ) → p < 32 → b < 8 → v < 256 → CarryEach 18 p b v products.now products_bits → CarryEach 8 p b v result (inverse_substituted products_bits) }
+    ensures { Computes inverse_substituted 18 products.now 8 result }
 {
     let c0 = products[6] ^ products[15];
     let c1 = products[12] ^ c0;

@@ -4,10 +4,9 @@
 //! moved for it. Four of them are none. The constant of SubBytes is added with the round keys.
 
 ghost use Rattle.std.specs.Prelude.{◌≡◌, ℕ, ◌+◌, ◌%◌, ◌<◌, List};
-ghost use Rattle.aes_block.specs.Rounds.{sub_bytes, shift_rows, mix_columns, add_round_key, inv_shift_rows, inv_sub_bytes, inv_mix_columns};
-ghost use Rattle.aes_lanes.specs.Planes.{ArePlanes, block_of, shifted};
-ghost use Rattle.aes_lanes.specs.Constant.{add_constant};
+ghost use Rattle.aes_lanes.specs.Planes.{ArePlanes};
 ghost use Rattle.aes_lanes.specs.Keys.{AreCopies};
+ghost use Rattle.aes_lanes.specs.Rounds.{HoldKey, IsRound, IsLastRound, IsInverseStart, IsInverseRound, IsLastInverseRound};
 
 use crate::circuit::sub_bytes_without_constant;
 use crate::columns::{inv_mix_columns, mix_columns};
@@ -22,7 +21,7 @@ pub(crate) fn round(q: &Planes, key: &Planes, shifts: usize) -> Planes
     requires planes { ArePlanes q.now }
     requires shifts { shifts < 4 }
     ensures planes { ArePlanes result }
-    ensures blocks { (s : ℕ) (k : List ℕ) → (s + 1) % 4 ≡ shifts → AreCopies shifts (add_constant k) key.now → (j : ℕ) → j < 16 → shifted (s + 1) (block_of result j) ≡ add_round_key (mix_columns (shift_rows (sub_bytes (shifted s (block_of q.now j))))) k }
+    ensures blocks { (s : ℕ) (k : List ℕ) → (s + 1) % 4 ≡ shifts → HoldKey shifts k key.now → IsRound s k q.now result }
 {
     let substituted = sub_bytes_without_constant(q);
     let mixed = mix_columns(&substituted, shifts);
@@ -34,7 +33,7 @@ pub(crate) fn round(q: &Planes, key: &Planes, shifts: usize) -> Planes
 pub(crate) fn last_round(q: &Planes, key: &Planes) -> Planes
     requires { ArePlanes q.now }
     ensures planes { ArePlanes result }
-    ensures blocks { (s : ℕ) (k : List ℕ) → s % 4 ≡ 1 → AreCopies 2 (add_constant k) key.now → (j : ℕ) → j < 16 → block_of result j ≡ add_round_key (shift_rows (sub_bytes (shifted s (block_of q.now j)))) k }
+    ensures blocks { (s : ℕ) (k : List ℕ) → s % 4 ≡ 1 → HoldKey 2 k key.now → IsLastRound s k q.now result }
 {
     let substituted = sub_bytes_without_constant(q);
     let keyed = add_round_key(&substituted, key);
@@ -47,7 +46,7 @@ pub(crate) fn last_round(q: &Planes, key: &Planes) -> Planes
 #[inline(always)]
 pub(crate) fn first_inverse_key(q: &Planes, key: &Planes) -> Planes
     ensures planes { ArePlanes result }
-    ensures blocks { (s : ℕ) (k : List ℕ) → s % 4 ≡ 2 → AreCopies 2 (add_constant k) key.now → (j : ℕ) → j < 16 → add_constant (shifted s (block_of result j)) ≡ add_round_key (block_of q.now j) k }
+    ensures blocks { (s : ℕ) (k : List ℕ) → s % 4 ≡ 2 → HoldKey 2 k key.now → IsInverseStart s k q.now result }
 {
     let once = inv_shift_rows(q);
     let back = inv_shift_rows(&once);
@@ -61,7 +60,7 @@ pub(crate) fn inverse_round(q: &Planes, key: &Planes, shifts: usize) -> Planes
     requires planes { ArePlanes q.now }
     requires shifts { shifts < 4 }
     ensures planes { ArePlanes result }
-    ensures blocks { (s : ℕ) (k : List ℕ) → s % 4 ≡ shifts → AreCopies shifts (add_constant k) key.now → (j : ℕ) → j < 16 → add_constant (shifted s (block_of result j)) ≡ inv_mix_columns (add_round_key (inv_sub_bytes (inv_shift_rows (add_constant (shifted (s + 1) (block_of q.now j))))) k) }
+    ensures blocks { (s : ℕ) (k : List ℕ) → s % 4 ≡ shifts → HoldKey shifts k key.now → IsInverseRound s k q.now result }
 {
     let substituted = inv_sub_bytes_with_constant(q);
     let keyed = add_round_key(&substituted, key);
@@ -73,7 +72,7 @@ pub(crate) fn inverse_round(q: &Planes, key: &Planes, shifts: usize) -> Planes
 pub(crate) fn last_inverse_round(q: &Planes, key: &Planes) -> Planes
     requires { ArePlanes q.now }
     ensures planes { ArePlanes result }
-    ensures blocks { (k : List ℕ) → AreCopies 0 k key.now → (j : ℕ) → j < 16 → block_of result j ≡ add_round_key (inv_sub_bytes (inv_shift_rows (add_constant (shifted 1 (block_of q.now j))))) k }
+    ensures blocks { (k : List ℕ) → AreCopies 0 k key.now → IsLastInverseRound k q.now result }
 {
     let substituted = inv_sub_bytes_with_constant(q);
     add_round_key(&substituted, key)

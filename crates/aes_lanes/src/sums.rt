@@ -1,10 +1,10 @@
 //! Sums of planes: AddRoundKey (FIPS 197, 5.1.4), and the constant of SubBytes.
 
 ghost use Rattle.std.specs.Prelude.{◌≡◌, ℕ, ◌<◌, List, length, slice_index, bit_xor};
-ghost use Rattle.aes_block.specs.Rounds.{add_round_key};
-ghost use Rattle.aes_lanes.specs.Planes.{ArePlanes, block_of, shifted, AreSums};
+ghost use Rattle.aes_lanes.specs.Planes.{ArePlanes, block_of, AreSums};
 ghost use Rattle.aes_lanes.specs.Constant.{add_constant};
 ghost use Rattle.aes_lanes.specs.Keys.{AreCopies};
+ghost use Rattle.aes_lanes.specs.Rounds.{IsKeyed};
 
 use crate::planes::Planes;
 use std::simd::prelude::*;
@@ -36,7 +36,7 @@ pub(crate) fn add(a: &Planes, b: &Planes) -> Planes
 #[inline(always)]
 pub(crate) fn add_round_key(q: &Planes, key: &Planes) -> Planes
     ensures planes { ArePlanes result }
-    ensures blocks { (s : ℕ) (k : List ℕ) → AreCopies s k key.now → (j : ℕ) → j < 16 → shifted s (block_of result j) ≡ add_round_key (shifted s (block_of q.now j)) k }
+    ensures blocks { (s : ℕ) (k : List ℕ) → AreCopies s k key.now → IsKeyed s k q.now result }
 {
     add(q, key)
 }

@@ -10,7 +10,7 @@ use Rattle.verity_format.specs.declared.verifying.Verdict.{Verdict}
 use Rattle.verity_format.specs.declared.verifying.Verdict.TheVariants.{Matches, RootDiffers, AreaDiffers}
 use Rattle.verity_format.specs.declared.verifying.VerifyFault.{VerifyFault}
 use Rattle.verity_format.specs.declared.verifying.VerifyFault.TheVariants as verify
-use Rattle.verity_format.specs.Blocks.{IsFullRead, blocks_at}
+use Rattle.verity_format.specs.Blocks.{IsFullRead, IsOnlyRead, blocks_at}
 use Rattle.verity_format.specs.Image.{area_over, data_sectors, root_over}
 use Rattle.verity_format.specs.Superblock.{SuperRecord, shape_of}
 
@@ -93,3 +93,25 @@ abbrev pub behind_head : Verdict → Verdict
 behind_head (AreaDiffers block) = AreaDiffers (block - 1)
 behind_head Matches = Matches
 behind_head RootDiffers = RootDiffers
+
+-- ---- calls, by what a proof sees of the devices: as they were before, and then after
+
+-- the data device was only read, and behind the tree nothing changed
+abbrev pub OnlyTreeIsWritten : {D H : Type 0} → (D → Device) → (H → Device) → SuperRecord → D → H → D → H → Type 0
+OnlyTreeIsWritten data_state hash_state s d h d' h' = IsOnlyRead (data_state d) (data_state d') × IsBareWritten s (hash_state h) (hash_state h')
+
+-- the tree was made, and that is its root
+abbrev pub MakesBare : {D H : Type 0} → (D → Device) → (H → Device) → SuperRecord → D → H → D → H → List ℕ → Type 0
+MakesBare data_state hash_state s d h d' h' root = IsBareMade s (data_state d) (hash_state h) (data_state d') (hash_state h') root
+
+-- why it wasn't
+abbrev pub FailsToMake : {D H : Type 0} → (D → Device) → (H → Device) → SuperRecord → D → H → D → H → FormatFault → Type 0
+FailsToMake data_state hash_state s d h d' h' fault = IsBareCause s (data_state d) (hash_state h) (data_state d') (hash_state h') fault
+
+-- data and tree were compared, and that was found; the hash device is gone then
+abbrev pub FindsBare : {D H : Type 0} → (D → Device) → (H → Device) → SuperRecord → D → H → D → List ℕ → Verdict → Type 0
+FindsBare data_state hash_state s d h d' root verdict = IsBareFound s (data_state d) (hash_state h) (data_state d') root verdict
+
+-- why they weren't
+abbrev pub FailsToVerify : {D H : Type 0} → (D → Device) → (H → Device) → SuperRecord → D → H → D → VerifyFault → Type 0
+FailsToVerify data_state hash_state s d h d' fault = IsBareVerifyCause s (data_state d) (hash_state h) (data_state d') fault

@@ -1,7 +1,7 @@
 //! Checks a hash tree that has no superblock.
 ghost use Rattle.std.specs.Prelude.{◌≡◌, ◌+◌, ◌^◌, ◌≤◌, IfErr, IfOk};
 ghost use Rattle.verity_format.specs.Blocks.{IsOnlyRead};
-ghost use Rattle.bare_tree.specs.BareTrees.{IsBareFound, IsBareVerifyCause, behind_head, is_bare_past};
+ghost use Rattle.bare_tree.specs.BareTrees.{FailsToVerify, FindsBare, behind_head, is_bare_past};
 
 use crate::Headed;
 use crate::head::{area_sectors, head_of};
@@ -23,8 +23,8 @@ pub fn verify_bare<D: BlockDev, H: BlockDev + Drop>(
 ) -> Result<Verdict, VerifyFault>
     requires { (H.state hash_dev).size + 8 ≤ 2 ^ 54 }
     ensures data { IsOnlyRead (D.state data_dev.old) (D.state data_dev.new) }
-    ensures ok { IfOk result (IsBareFound params (D.state data_dev.old) (H.state hash_dev) (D.state data_dev.new) root.now) }
-    ensures err { IfErr result (IsBareVerifyCause params (D.state data_dev.old) (H.state hash_dev) (D.state data_dev.new)) }
+    ensures ok { IfOk result (FindsBare D.state H.state params data_dev.old hash_dev data_dev.new root.now) }
+    ensures err { IfErr result (FailsToVerify D.state H.state params data_dev.old hash_dev data_dev.new) }
 {
     if is_past(data_dev, &hash_dev, &params) {
         return Err(VerifyFault::TooSmall);

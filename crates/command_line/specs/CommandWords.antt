@@ -1,5 +1,6 @@
 -- What the words of a command line invoke.
-use Rattle.std.specs.Prelude.{ℕ, ◌==◌, ◌&&◌, not, nat_lt, Bool, List, [], ◌∷◌, map, length, drop, slice_index, codes, Option, Some, None, option_map, if◌then◌else◌}
+use Rattle.std.specs.Prelude.{◌≡◌, ℕ, ◌==◌, ◌&&◌, not, nat_lt, Bool, List, [], ◌∷◌, map, length, drop, slice_index, codes, Option, Some, None, option_map, if◌then◌else◌}
+use Rattle.std.specs.Borrow.{Bor}
 use Rattle.std.specs.List.{list_any}
 use Rattle.std.specs.Option.{option_and_then}
 use Rattle.std.specs.Str.{bytes_eq}
@@ -7,13 +8,14 @@ use Rattle.dm_table.specs.Names.{is_device}
 use Rattle.dm_table.specs.Numbers.{number}
 use Rattle.command_line.specs.declared.fault.WordsFault.{WordsFault}
 use Rattle.command_line.specs.declared.fault.WordsFault.TheVariants.{Usage, NoMemory}
+use Rattle.command_line.specs.declared.option_words.OptionWords.{OptionWords}
 use Rattle.command_line.specs.declared.invocation.Invocation.{Invocation}
 use Rattle.command_line.specs.declared.invocation.Invocation.TheVariants.{Load, Read, Write, Session, Nbd, Scan, Copy, Image, Further}
 use Rattle.command_line.specs.declared.invocation.ImageInvocation.{ImageInvocation}
 use Rattle.command_line.specs.declared.invocation.ImageInvocation.TheVariants.{Format, Verify, Dump, Table}
 use Rattle.command_line.specs.Bindings.{BindingRecord, binding_record}
 use Rattle.command_line.specs.BindingWords.{bindings_of}
-use Rattle.command_line.specs.FormatOptions.{OptionTexts}
+use Rattle.command_line.specs.FormatOptions.{OptionTexts, option_texts, texts_of}
 use Rattle.command_line.specs.FurtherRecords.{FurtherRecord, further_record, further_said}
 use Rattle.command_line.specs.FurtherWords.{is_further}
 use Rattle.command_line.specs.Values.{cache_of, root_of}
@@ -171,3 +173,15 @@ invocation_record (Further words) = further (further_record words)
 abbrev pub IsUsage : WordsFault → Type 0 → Type 0
 IsUsage Usage Cause = Cause
 IsUsage NoMemory Cause = Unit {0}
+
+-- the fault refuses words that say nothing, or memory ran out
+abbrev pub Refuses : {A : Type 0} → Option A → WordsFault → Type 0
+Refuses said fault = IsUsage fault (said ≡ None)
+
+-- the program's own value is the invocation that words say
+abbrev pub IsSaid : Option InvocationRecord → Invocation → Type 0
+IsSaid said got = said ≡ Some (invocation_record got)
+
+-- what the program's own words invoke
+abbrev pub invoked_by : List ℕ → OptionWords → List (Bor (List ℕ)) → Bool → Option InvocationRecord
+invoked_by name options words behind_dashes = invocation_of name (option_texts options) (texts_of words) behind_dashes

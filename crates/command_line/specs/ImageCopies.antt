@@ -1,5 +1,5 @@
 -- The copies of an image, as words say them.
-use Rattle.std.specs.Prelude.{List, [], ◌∷◌, map, None, Option, Some, ℕ, option_map, if◌then◌else◌}
+use Rattle.std.specs.Prelude.{◌≡◌, List, [], ◌∷◌, map, None, Option, Some, ℕ, option_map, if◌then◌else◌}
 use Rattle.std.specs.Str.{bytes_eq}
 use Rattle.command_line.specs.declared.image_copies.ImageCopy.{ImageCopy}
 
@@ -25,3 +25,7 @@ copies_of data_path hash_path words = if bytes_eq data_path hash_path then Some 
 -- what the program's own value says
 abbrev pub image_copy_record : ImageCopy → ImageCopyRecord
 image_copy_record copy = record { data_path = copy.data_path.now; hash_path = copy.hash_path.now }
+
+-- the program's own values are the copies that words say
+abbrev pub AreCopies : Option (List ImageCopyRecord) → List ImageCopy → Type 0
+AreCopies said copies = said ≡ Some (map image_copy_record copies)

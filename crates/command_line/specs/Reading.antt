@@ -1,5 +1,5 @@
 -- That a result is the command that the words say.
-use Rattle.std.specs.Prelude.{◌≡◌, Option, Some, None, Result, Ok, Err}
+use Rattle.std.specs.Prelude.{◌≡◌, Option, Some, None, option_map, Result, Ok, Err}
 use Rattle.command_line.specs.declared.fault.WordsFault.{WordsFault}
 use Rattle.command_line.specs.declared.further.Further.{Further}
 use Rattle.command_line.specs.CommandWords.{IsUsage}
@@ -9,3 +9,7 @@ use Rattle.command_line.specs.FurtherRecords.{FurtherRecord, further_record}
 abbrev pub Reads : Option FurtherRecord → Result Further WordsFault → Type 0
 Reads said (Ok got) = said ≡ Some (further_record got)
 Reads said (Err fault) = IsUsage fault (said ≡ None)
+
+-- the same of the words of one command
+abbrev pub ReadsAs : {A : Type 0} → (A → FurtherRecord) → Option A → Result Further WordsFault → Type 0
+ReadsAs command said result = Reads (option_map command said) result

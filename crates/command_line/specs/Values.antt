@@ -1,11 +1,13 @@
 -- What the values of options say.
 use Rattle.std.specs.Prelude.{ℕ, Bool, true, false, ◌==◌, ◌&&◌, ◌||◌, ◌%◌, nat_le, List, [], ◌∷◌, length, codes, Option, Some, None, option_map, if◌then◌else◌}
+use Rattle.std.specs.Borrow.{Bor}
 use Rattle.std.specs.Option.{option_and_then}
 use Rattle.std.specs.Result.{result_ok}
 use Rattle.std.specs.Str.{bytes_eq}
 use Rattle.hex.specs.Hex.{decode_sized}
 use Rattle.dm_table.specs.Names.{is_device, is_mapped_name}
 use Rattle.dm_table.specs.Numbers.{number, number_if}
+use Rattle.command_line.specs.FormatOptions.{texts_of}
 use Rattle.command_line.specs.declared.values.PartitionForm.{PartitionForm}
 use Rattle.command_line.specs.declared.values.PartitionForm.TheVariants.{Lines, Object, Stack, Root}
 use Rattle.command_line.specs.declared.values.RootWord.{RootWord}
@@ -109,6 +111,9 @@ form_of word is_stack is_object = None
 abbrev pub root_record : RootWord → RootRecord
 root_record (Digest bytes) = digest bytes
 root_record (File path) = root_file path.now
+
+abbrev pub root_first_record : RootWord × Bor (List (Bor (List ℕ))) → RootRecord × List (List ℕ)
+root_first_record found = (root_record found.0, texts_of found.1.now)
 
 abbrev pub form_record : PartitionForm → FormRecord
 form_record Lines = lines

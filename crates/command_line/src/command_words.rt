@@ -1,8 +1,8 @@
 //! What the words of a command line invoke.
-ghost use Rattle.std.specs.Prelude.{◌≡◌, ◌&&◌, not, map, drop, Some, None, IfOk, IfErr};
+ghost use Rattle.std.specs.Prelude.{◌≡◌, ◌&&◌, not, drop, IfOk, IfErr};
 ghost use Rattle.std.specs.List.{list_any};
-ghost use Rattle.command_line.specs.FormatOptions.{option_texts, texts_of};
-ghost use Rattle.command_line.specs.CommandWords.{IsUsage, copy_of, has_late_option, invocation_at, invocation_of, invocation_record, is_option, load_of, nbd_of, read_of, scan_of, session_of, write_of};
+ghost use Rattle.command_line.specs.FormatOptions.{texts_of};
+ghost use Rattle.command_line.specs.CommandWords.{IsSaid, Refuses, copy_of, has_late_option, invocation_at, invoked_by, is_option, load_of, nbd_of, read_of, scan_of, session_of, write_of};
 
 use crate::binding_words::bindings_of;
 use crate::fault::WordsFault;
@@ -24,8 +24,8 @@ pub fn invocation_of<'a>(
     words: &[&'a str],
     behind_dashes: bool,
 ) -> Result<Invocation<'a>, WordsFault>
-    ensures ok { IfOk result (λ got. invocation_of name.now (option_texts options.now) (texts_of words.now) behind_dashes ≡ Some (invocation_record got)) }
-    ensures err { IfErr result (λ fault. IsUsage fault (invocation_of name.now (option_texts options.now) (texts_of words.now) behind_dashes ≡ None)) }
+    ensures ok { IfOk result (IsSaid (invoked_by name.now options.now words.now behind_dashes)) }
+    ensures err { IfErr result (Refuses (invoked_by name.now options.now words.now behind_dashes)) }
 {
     if is_late(words, behind_dashes) {
         return Err(WordsFault::Usage);
@@ -48,8 +48,8 @@ fn invocation_at<'a>(
     cache: u32,
     words: &[&'a str],
 ) -> Result<Invocation<'a>, WordsFault>
-    ensures ok { IfOk result (λ got. invocation_at name.now cache (map (λ word. word.now) words.now) ≡ Some (invocation_record got)) }
-    ensures err { IfErr result (λ fault. IsUsage fault (invocation_at name.now cache (map (λ word. word.now) words.now) ≡ None)) }
+    ensures ok { IfOk result (IsSaid (invocation_at name.now cache (texts_of words.now))) }
+    ensures err { IfErr result (Refuses (invocation_at name.now cache (texts_of words.now))) }
 {
     if name == b"load".as_slice() {
         load_of(alloc, words)
@@ -80,8 +80,8 @@ fn invocation_at<'a>(
 
 // `STACK BINDING...`
 fn load_of<'a>(alloc: Global, words: &[&'a str]) -> Result<Invocation<'a>, WordsFault>
-    ensures ok { IfOk result (λ got. load_of (map (λ word. word.now) words.now) ≡ Some (invocation_record got)) }
-    ensures err { IfErr result (λ fault. IsUsage fault (load_of (map (λ word. word.now) words.now) ≡ None)) }
+    ensures ok { IfOk result (IsSaid (load_of (texts_of words.now))) }
+    ensures err { IfErr result (Refuses (load_of (texts_of words.now))) }
 {
     let [stack, rest @ ..] = words else {
         return Err(WordsFault::Usage);
@@ -94,8 +94,8 @@ fn load_of<'a>(alloc: Global, words: &[&'a str]) -> Result<Invocation<'a>, Words
 
 // `STACK NAME FIRST COUNT BINDING...`
 fn read_of<'a>(alloc: Global, cache: u32, words: &[&'a str]) -> Result<Invocation<'a>, WordsFault>
-    ensures ok { IfOk result (λ got. read_of cache (map (λ word. word.now) words.now) ≡ Some (invocation_record got)) }
-    ensures err { IfErr result (λ fault. IsUsage fault (read_of cache (map (λ word. word.now) words.now) ≡ None)) }
+    ensures ok { IfOk result (IsSaid (read_of cache (texts_of words.now))) }
+    ensures err { IfErr result (Refuses (read_of cache (texts_of words.now))) }
 {
     let [stack, name, first, count, rest @ ..] = words else {
         return Err(WordsFault::Usage);
@@ -116,8 +116,8 @@ fn read_of<'a>(alloc: Global, cache: u32, words: &[&'a str]) -> Result<Invocatio
 
 // `STACK NAME FIRST SOURCE BINDING...`
 fn write_of<'a>(alloc: Global, cache: u32, words: &[&'a str]) -> Result<Invocation<'a>, WordsFault>
-    ensures ok { IfOk result (λ got. write_of cache (map (λ word. word.now) words.now) ≡ Some (invocation_record got)) }
-    ensures err { IfErr result (λ fault. IsUsage fault (write_of cache (map (λ word. word.now) words.now) ≡ None)) }
+    ensures ok { IfOk result (IsSaid (write_of cache (texts_of words.now))) }
+    ensures err { IfErr result (Refuses (write_of cache (texts_of words.now))) }
 {
     let [stack, name, first, source, rest @ ..] = words else {
         return Err(WordsFault::Usage);
@@ -146,8 +146,8 @@ fn session_of<'a>(
     cache: u32,
     words: &[&'a str],
 ) -> Result<Invocation<'a>, WordsFault>
-    ensures ok { IfOk result (λ got. session_of cache (map (λ word. word.now) words.now) ≡ Some (invocation_record got)) }
-    ensures err { IfErr result (λ fault. IsUsage fault (session_of cache (map (λ word. word.now) words.now) ≡ None)) }
+    ensures ok { IfOk result (IsSaid (session_of cache (texts_of words.now))) }
+    ensures err { IfErr result (Refuses (session_of cache (texts_of words.now))) }
 {
     match bindings_of(alloc, words) {
         Ok(bindings) => Ok(Invocation::Session { cache, bindings }),
@@ -157,8 +157,8 @@ fn session_of<'a>(
 
 // `STACK NAME BINDING...`, where STACK isn't the standard input, which is the client's
 fn nbd_of<'a>(alloc: Global, cache: u32, words: &[&'a str]) -> Result<Invocation<'a>, WordsFault>
-    ensures ok { IfOk result (λ got. nbd_of cache (map (λ word. word.now) words.now) ≡ Some (invocation_record got)) }
-    ensures err { IfErr result (λ fault. IsUsage fault (nbd_of cache (map (λ word. word.now) words.now) ≡ None)) }
+    ensures ok { IfOk result (IsSaid (nbd_of cache (texts_of words.now))) }
+    ensures err { IfErr result (Refuses (nbd_of cache (texts_of words.now))) }
 {
     let [stack, name, rest @ ..] = words else {
         return Err(WordsFault::Usage);
@@ -177,8 +177,8 @@ fn nbd_of<'a>(alloc: Global, cache: u32, words: &[&'a str]) -> Result<Invocation
 
 // `STACK NAME BINDING...`
 fn scan_of<'a>(alloc: Global, words: &[&'a str]) -> Result<Invocation<'a>, WordsFault>
-    ensures ok { IfOk result (λ got. scan_of (map (λ word. word.now) words.now) ≡ Some (invocation_record got)) }
-    ensures err { IfErr result (λ fault. IsUsage fault (scan_of (map (λ word. word.now) words.now) ≡ None)) }
+    ensures ok { IfOk result (IsSaid (scan_of (texts_of words.now))) }
+    ensures err { IfErr result (Refuses (scan_of (texts_of words.now))) }
 {
     let [stack, name, rest @ ..] = words else {
         return Err(WordsFault::Usage);
@@ -195,8 +195,8 @@ fn scan_of<'a>(alloc: Global, words: &[&'a str]) -> Result<Invocation<'a>, Words
 
 // `STACK NAME OUT BINDING...`
 fn copy_of<'a>(alloc: Global, words: &[&'a str]) -> Result<Invocation<'a>, WordsFault>
-    ensures ok { IfOk result (λ got. copy_of (map (λ word. word.now) words.now) ≡ Some (invocation_record got)) }
-    ensures err { IfErr result (λ fault. IsUsage fault (copy_of (map (λ word. word.now) words.now) ≡ None)) }
+    ensures ok { IfOk result (IsSaid (copy_of (texts_of words.now))) }
+    ensures err { IfErr result (Refuses (copy_of (texts_of words.now))) }
 {
     let [stack, name, out, rest @ ..] = words else {
         return Err(WordsFault::Usage);

@@ -1,8 +1,8 @@
 //! The copies of an image.
-ghost use Rattle.std.specs.Prelude.{◌≡◌, map, Some, None, IfOk, IfErr};
-ghost use Rattle.command_line.specs.CommandWords.{IsUsage};
+ghost use Rattle.std.specs.Prelude.{◌≡◌, map, IfOk, IfErr};
+ghost use Rattle.command_line.specs.CommandWords.{Refuses};
 ghost use Rattle.command_line.specs.FormatOptions.{texts_of};
-ghost use Rattle.command_line.specs.ImageCopies.{copies_in_pairs, copies_of, image_copy_record, one_file};
+ghost use Rattle.command_line.specs.ImageCopies.{AreCopies, copies_in_pairs, copies_of, image_copy_record, one_file};
 
 use crate::fault::WordsFault;
 use std::alloc::{AllocError, Global};
@@ -22,8 +22,8 @@ pub fn copies_of<'a>(
     hash_path: &str,
     words: &[&'a str],
 ) -> Result<Vec<ImageCopy<'a>>, WordsFault>
-    ensures ok { IfOk result (λ copies. copies_of data_path.now hash_path.now (texts_of words.now) ≡ Some (map image_copy_record copies.items)) }
-    ensures err { IfErr result (λ fault. IsUsage fault (copies_of data_path.now hash_path.now (texts_of words.now) ≡ None)) }
+    ensures ok { IfOk result (λ v. AreCopies (copies_of data_path.now hash_path.now (texts_of words.now)) v.items) }
+    ensures err { IfErr result (Refuses (copies_of data_path.now hash_path.now (texts_of words.now))) }
 {
     if data_path.as_bytes() == hash_path.as_bytes() {
         let copies = copies_in_one_file(alloc, words)?;
@@ -49,8 +49,8 @@ fn copies_in_one_file<'a>(
 }
 
 fn copies_in_pairs<'a>(alloc: Global, words: &[&'a str]) -> Result<Vec<ImageCopy<'a>>, WordsFault>
-    ensures ok { IfOk result (λ copies. copies_in_pairs (texts_of words.now) ≡ Some (map image_copy_record copies.items)) }
-    ensures err { IfErr result (λ fault. IsUsage fault (copies_in_pairs (texts_of words.now) ≡ None)) }
+    ensures ok { IfOk result (λ v. AreCopies (copies_in_pairs (texts_of words.now)) v.items) }
+    ensures err { IfErr result (Refuses (copies_in_pairs (texts_of words.now))) }
 {
     let mut copies = Vec::new(alloc);
     let mut rest = words;

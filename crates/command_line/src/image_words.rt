@@ -1,6 +1,7 @@
 //! What the words of the commands on images invoke.
-ghost use Rattle.std.specs.Prelude.{◌≡◌, map, Some, None, IfOk, IfErr};
-ghost use Rattle.command_line.specs.CommandWords.{IsUsage, dump_of, format_of, invocation_record, table_of, verify_of};
+ghost use Rattle.std.specs.Prelude.{IfOk, IfErr};
+ghost use Rattle.command_line.specs.FormatOptions.{texts_of};
+ghost use Rattle.command_line.specs.CommandWords.{IsSaid, Refuses, dump_of, format_of, table_of, verify_of};
 
 use crate::fault::WordsFault;
 use crate::invocation::{ImageInvocation, Invocation};
@@ -9,8 +10,8 @@ use dm_table::is_device;
 
 /// `DATA HASH`
 pub fn format_of<'a>(words: &[&'a str]) -> Result<Invocation<'a>, WordsFault>
-    ensures ok { IfOk result (λ got. format_of (map (λ word. word.now) words.now) ≡ Some (invocation_record got)) }
-    ensures err { IfErr result (λ fault. IsUsage fault (format_of (map (λ word. word.now) words.now) ≡ None)) }
+    ensures ok { IfOk result (IsSaid (format_of (texts_of words.now))) }
+    ensures err { IfErr result (Refuses (format_of (texts_of words.now))) }
 {
     match words {
         [data, hash] => Ok(Invocation::Image(ImageInvocation::Format { data, hash })),
@@ -20,8 +21,8 @@ pub fn format_of<'a>(words: &[&'a str]) -> Result<Invocation<'a>, WordsFault>
 
 /// `DATA HASH ROOT`
 pub fn verify_of<'a>(words: &[&'a str]) -> Result<Invocation<'a>, WordsFault>
-    ensures ok { IfOk result (λ got. verify_of (map (λ word. word.now) words.now) ≡ Some (invocation_record got)) }
-    ensures err { IfErr result (λ fault. IsUsage fault (verify_of (map (λ word. word.now) words.now) ≡ None)) }
+    ensures ok { IfOk result (IsSaid (verify_of (texts_of words.now))) }
+    ensures err { IfErr result (Refuses (verify_of (texts_of words.now))) }
 {
     let [data, hash, root] = words else {
         return Err(WordsFault::Usage);
@@ -34,8 +35,8 @@ pub fn verify_of<'a>(words: &[&'a str]) -> Result<Invocation<'a>, WordsFault>
 
 /// `HASH`
 pub fn dump_of<'a>(words: &[&'a str]) -> Result<Invocation<'a>, WordsFault>
-    ensures ok { IfOk result (λ got. dump_of (map (λ word. word.now) words.now) ≡ Some (invocation_record got)) }
-    ensures err { IfErr result (λ fault. IsUsage fault (dump_of (map (λ word. word.now) words.now) ≡ None)) }
+    ensures ok { IfOk result (IsSaid (dump_of (texts_of words.now))) }
+    ensures err { IfErr result (Refuses (dump_of (texts_of words.now))) }
 {
     match words {
         [hash] => Ok(Invocation::Image(ImageInvocation::Dump { hash })),
@@ -45,8 +46,8 @@ pub fn dump_of<'a>(words: &[&'a str]) -> Result<Invocation<'a>, WordsFault>
 
 /// `HASH ROOT DATANAME HASHNAME`, of which the last two are device arguments of a table line.
 pub fn table_of<'a>(words: &[&'a str]) -> Result<Invocation<'a>, WordsFault>
-    ensures ok { IfOk result (λ got. table_of (map (λ word. word.now) words.now) ≡ Some (invocation_record got)) }
-    ensures err { IfErr result (λ fault. IsUsage fault (table_of (map (λ word. word.now) words.now) ≡ None)) }
+    ensures ok { IfOk result (IsSaid (table_of (texts_of words.now))) }
+    ensures err { IfErr result (Refuses (table_of (texts_of words.now))) }
 {
     let [hash, root, data_name, hash_name] = words else {
         return Err(WordsFault::Usage);

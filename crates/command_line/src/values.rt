@@ -1,7 +1,7 @@
 //! What the values of options say.
-ghost use Rattle.std.specs.Prelude.{◌≡◌, map, option_map};
+ghost use Rattle.std.specs.Prelude.{◌≡◌, option_map};
 ghost use Rattle.command_line.specs.FormatOptions.{text_of, texts_of};
-ghost use Rattle.command_line.specs.Values.{cache_of, count_of, device_names, first_of, form_of, form_record, map_of, name_of, offset_of, root_alone, root_first, root_of, root_record, runs_of, sector_size_of, two_roots};
+ghost use Rattle.command_line.specs.Values.{cache_of, count_of, device_names, first_of, form_of, form_record, map_of, name_of, offset_of, root_alone, root_first, root_first_record, root_of, root_record, runs_of, sector_size_of, two_roots};
 
 use dm_table::{is_device, is_mapped_name};
 use table_reader::number;
@@ -170,7 +170,7 @@ pub fn root_first<'a, 'b>(
     file: Option<&'a str>,
     words: &'b [&'a str],
 ) -> Option<(RootWord<'a>, &'b [&'a str])>
-    ensures { option_map (λ found. (root_record found.0, texts_of found.1.now)) result ≡ root_first (text_of file.entry) (texts_of words.now) }
+    ensures { option_map root_first_record result ≡ root_first (text_of file.entry) (texts_of words.now) }
 {
     if let Some(path) = file {
         return Some((RootWord::File(path), words));

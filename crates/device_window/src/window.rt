@@ -1,9 +1,9 @@
 //! A part of a device as a device.
-ghost use Rattle.std.specs.Prelude.{◌≡◌, ◌/◌, ◌+◌, ◌^◌, ◌≤◌, length, is_ok, ◌↔◌, IsOk, IsTrue, IfOk, OnErr, OnOk};
+ghost use Rattle.std.specs.Prelude.{◌≡◌, ◌+◌, ◌^◌, ◌≤◌, length, is_ok, ◌↔◌, IsOk, IsTrue, IfOk, OnErr, OnOk};
 ghost use Rattle.std.specs.Option.{ForSome};
-ghost use Rattle.std.specs.List.{concat};
-ghost use Rattle.block_device.specs.Device.{HasFailed, IsInside, IsRead, IsUnsynced, IsWritten, run_of, sectors_of, spliced, synced};
-ghost use Rattle.block_device.specs.Failing.{IsInnerRead, IsInnerSync, IsInnerWrite};
+ghost use Rattle.block_device.specs.Device.{IsInside};
+ghost use Rattle.block_device.specs.Failing.{IsInnerSync};
+ghost use Rattle.device_window.specs.Calls.{Fails, FailsToSync, Gives, Puts, Reads, ReadsInner, Syncs, Writes, WritesInner};
 ghost use Rattle.device_window.specs.Parts.{LiesInside, StandOutside, part_before, part_behind};
 ghost use Rattle.device_window.specs.Windows.{windowed, windowed-whole};
 
@@ -112,14 +112,14 @@ impl<D: BlockDev, K: Beside> BlockDev for Window<D, K> {
 
     fn read(&mut self, first: u64, out: &mut [u8]) -> Result<(), DeviceFault>
         requires { IsInside (⟦<Window<D, K> as BlockDev>⟧.state self.old) first (length out.old) }
-        ensures moved { IsRead (⟦<Window<D, K> as BlockDev>⟧.state self.old) (length out.old / 512) (is_ok result) (⟦<Window<D, K> as BlockDev>⟧.state self.new) }
-        ensures bytes { OnOk result (IsTrue (⟦<Window<D, K> as BlockDev>⟧.state self.old).steady → out.new ≡ concat (run_of (⟦<Window<D, K> as BlockDev>⟧.state self.old).image first (length out.old / 512))) }
+        ensures moved { Reads ⟦<Window<D, K> as BlockDev>⟧.state self.old self.new out.old (is_ok result) }
+        ensures bytes { OnOk result (Gives ⟦<Window<D, K> as BlockDev>⟧.state self.old first out.old out.new) }
         ensures given { OnOk result (⟦<Window<D, K> as BlockDev>⟧.gives self.old first out.new) }
         ensures sure { IsTrue (⟦<Window<D, K> as BlockDev>⟧.state self.old).never_fails → IsOk result }
-        ensures fault { OnErr result (HasFailed (⟦<Window<D, K> as BlockDev>⟧.state self.old) (⟦<Window<D, K> as BlockDev>⟧.state self.new)) }
+        ensures fault { OnErr result (Fails ⟦<Window<D, K> as BlockDev>⟧.state self.old self.new) }
 
         // It is one of the whole device, that far behind the part's first sector.
-        ensures inner { IsInnerRead (D.state self.old.inner) (self.old.part.first + first) (length out.old / 512) (is_ok result) (D.state self.new.inner) out.new }
+        ensures inner { ReadsInner D.state self.old.inner self.new.inner (self.old.part.first + first) out.old out.new (is_ok result) }
         ensures part { self.new.part ≡ self.old.part }
     {
         self.inner.read(self.part.first + first, out)
@@ -128,13 +128,13 @@ impl<D: BlockDev, K: Beside> BlockDev for Window<D, K> {
     fn write(&mut self, first: u64, bytes: &[u8]) -> Result<(), DeviceFault>
         requires range { IsInside (⟦<Window<D, K> as BlockDev>⟧.state self.old) first (length bytes.now) }
         requires allowed { IsTrue (⟦<Window<D, K> as BlockDev>⟧.state self.old).may_write }
-        ensures moved { IsWritten (⟦<Window<D, K> as BlockDev>⟧.state self.old) first (length bytes.now / 512) (is_ok result) (⟦<Window<D, K> as BlockDev>⟧.state self.new) }
-        ensures image { OnOk result (IsTrue (⟦<Window<D, K> as BlockDev>⟧.state self.old).steady → (⟦<Window<D, K> as BlockDev>⟧.state self.new).image ≡ spliced (⟦<Window<D, K> as BlockDev>⟧.state self.old).image first (sectors_of (length bytes.now / 512) bytes.now)) }
+        ensures moved { Writes ⟦<Window<D, K> as BlockDev>⟧.state self.old self.new first bytes.now (is_ok result) }
+        ensures image { OnOk result (Puts ⟦<Window<D, K> as BlockDev>⟧.state self.old self.new first bytes.now) }
         ensures sure { IsTrue (⟦<Window<D, K> as BlockDev>⟧.state self.old).never_fails → IsOk result }
-        ensures fault { OnErr result (HasFailed (⟦<Window<D, K> as BlockDev>⟧.state self.old) (⟦<Window<D, K> as BlockDev>⟧.state self.new)) }
+        ensures fault { OnErr result (Fails ⟦<Window<D, K> as BlockDev>⟧.state self.old self.new) }
 
         // It is one of the whole device, that far behind the part's first sector.
-        ensures inner { IsInnerWrite (D.state self.old.inner) (self.old.part.first + first) (length bytes.now / 512) (is_ok result) (D.state self.new.inner) bytes.now }
+        ensures inner { WritesInner D.state self.old.inner self.new.inner (self.old.part.first + first) bytes.now (is_ok result) }
         ensures part { self.new.part ≡ self.old.part }
     {
         self.inner.write(self.part.first + first, bytes)
@@ -159,8 +159,8 @@ impl<D: SyncDev, K: Beside> SyncDev for Window<D, K> {
     }
 
     fn sync(&mut self) -> Result<(), DeviceFault>
-        ensures ok { OnOk result (⟦<Window<D, K> as BlockDev>⟧.state self.new ≡ synced (⟦<Window<D, K> as BlockDev>⟧.state self.old)) }
-        ensures err { OnErr result (IsUnsynced (⟦<Window<D, K> as BlockDev>⟧.state self.old) (⟦<Window<D, K> as BlockDev>⟧.state self.new)) }
+        ensures ok { OnOk result (Syncs ⟦<Window<D, K> as BlockDev>⟧.state self.old self.new) }
+        ensures err { OnErr result (FailsToSync ⟦<Window<D, K> as BlockDev>⟧.state self.old self.new) }
         ensures sure { IsTrue (⟦<Window<D, K> as BlockDev>⟧.state self.old).never_fails → IsOk result }
 
         // It is one of the whole device.

@@ -1,8 +1,9 @@
 //! A device of which only what differs is written.
-ghost use Rattle.std.specs.Prelude.{◌≡◌, ◌/◌, false, length, is_ok, IsOk, IsTrue, OnErr, OnOk};
-ghost use Rattle.block_device.specs.Device.{HasFailed, IsInside, IsUnsynced, IsWritten, sectors_of, spliced, synced};
+ghost use Rattle.std.specs.Prelude.{◌≡◌, false, length, is_ok, IsOk, IsTrue, OnErr, OnOk};
+ghost use Rattle.block_device.specs.Device.{IsInside};
 ghost use Rattle.block_device.specs.Failing.{IsInnerSync};
-ghost use Rattle.differing_device.specs.Differing.{IsPut, differing, stands};
+ghost use Rattle.differing_device.specs.Calls.{Fails, FailsToSync, LeavesStanding, Puts, Syncs, Writes};
+ghost use Rattle.differing_device.specs.Differing.{differing};
 
 use crate::put::put_blocks;
 use block_device::{BlockDev, DeviceFault, SyncDev};
@@ -58,13 +59,13 @@ impl<D: BlockDev> BlockDev for Differing<D> {
     fn write(&mut self, first: u64, bytes: &[u8]) -> Result<(), DeviceFault>
         requires range { IsInside (⟦<Differing<D> as BlockDev>⟧.state self.old) first (length bytes.now) }
         requires allowed { IsTrue (⟦<Differing<D> as BlockDev>⟧.state self.old).may_write }
-        ensures moved { IsWritten (⟦<Differing<D> as BlockDev>⟧.state self.old) first (length bytes.now / 512) (is_ok result) (⟦<Differing<D> as BlockDev>⟧.state self.new) }
-        ensures image { OnOk result (IsTrue (⟦<Differing<D> as BlockDev>⟧.state self.old).steady → (⟦<Differing<D> as BlockDev>⟧.state self.new).image ≡ spliced (⟦<Differing<D> as BlockDev>⟧.state self.old).image first (sectors_of (length bytes.now / 512) bytes.now)) }
+        ensures moved { Writes ⟦<Differing<D> as BlockDev>⟧.state self.old self.new first bytes.now (is_ok result) }
+        ensures image { OnOk result (Puts ⟦<Differing<D> as BlockDev>⟧.state self.old self.new first bytes.now) }
         ensures sure { IsTrue (⟦<Differing<D> as BlockDev>⟧.state self.old).never_fails → IsOk result }
-        ensures fault { OnErr result (HasFailed (⟦<Differing<D> as BlockDev>⟧.state self.old) (⟦<Differing<D> as BlockDev>⟧.state self.new)) }
+        ensures fault { OnErr result (Fails ⟦<Differing<D> as BlockDev>⟧.state self.old self.new) }
 
         // What stands there already isn't written again.
-        ensures same { OnOk result (IsTrue (D.state self.old.inner).steady → stands (D.state self.old.inner).image first (sectors_of (length bytes.now / 512) bytes.now) → (D.state self.new.inner).writes ≡ (D.state self.old.inner).writes) }
+        ensures same { OnOk result (LeavesStanding D.state self.old.inner self.new.inner first bytes.now) }
     {
         self.writes = self.writes.saturating_add(bytes.len() as u64 / 512);
         self.dirty = true;
@@ -90,8 +91,8 @@ impl<D: SyncDev> SyncDev for Differing<D> {
     }
 
     fn sync(&mut self) -> Result<(), DeviceFault>
-        ensures ok { OnOk result (⟦<Differing<D> as BlockDev>⟧.state self.new ≡ synced (⟦<Differing<D> as BlockDev>⟧.state self.old)) }
-        ensures err { OnErr result (IsUnsynced (⟦<Differing<D> as BlockDev>⟧.state self.old) (⟦<Differing<D> as BlockDev>⟧.state self.new)) }
+        ensures ok { OnOk result (Syncs ⟦<Differing<D> as BlockDev>⟧.state self.old self.new) }
+        ensures err { OnErr result (FailsToSync ⟦<Differing<D> as BlockDev>⟧.state self.old self.new) }
         ensures sure { IsTrue (⟦<Differing<D> as BlockDev>⟧.state self.old).never_fails → IsOk result }
 
         // It is one of the device that is compared with.

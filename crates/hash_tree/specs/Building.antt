@@ -116,6 +116,10 @@ pub record IsPushed (old : BuilderRecord) (ds : List (List ℕ)) (new : BuilderR
   pub builder : new ≡ pushed old ds
   pub out : after ≡ before ++ completed old ds
 
+-- some more digests were pushed, and the blocks that they complete put out
+abbrev pub Pushes : BuilderRecord → List (List ℕ) → BuilderRecord → List PlacedRecord → List PlacedRecord → Type 0
+Pushes old ds new before after = (new ≡ pushed old ds) × (after ≡ before ++ completed old ds)
+
 -- bytes of digests are a number of whole blocks of that size
 abbrev pub are_whole_blocks : ℕ → Bool
 are_whole_blocks size = not (size == 0) && (size % 32 == 0)
@@ -144,6 +148,10 @@ pushed_block b block d = record b { left = b.left - b.hash_block / 32; levels = 
 
 unfoldable pub completed_block : BuilderRecord → List ℕ → List ℕ → List PlacedRecord
 completed_block b block d = (grown_block b block d).placed
+
+-- a whole block was pushed with its digest, and the blocks that it completes put out
+abbrev pub PushesBlock : BuilderRecord → List ℕ → List ℕ → BuilderRecord → List PlacedRecord → List PlacedRecord → Type 0
+PushesBlock old block d new before after = (new ≡ pushed_block old block d) × (after ≡ before ++ completed_block old block d)
 
 -- the blocks that the end completes, and the root
 unfoldable pub last_completed : BuilderRecord → List PlacedRecord

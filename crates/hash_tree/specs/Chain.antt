@@ -1,5 +1,6 @@
 -- A data block with the hash blocks on the way to it.
-use Rattle.std.specs.Prelude.{◌≡◌, ℕ, zero, suc, ◌+◌, ◌<◌, List, [], ◌∷◌, length, map}
+use Rattle.std.specs.Prelude.{◌≡◌, ℕ, zero, suc, ◌+◌, ◌<◌, List, [], ◌∷◌, length, map, Vec}
+use Rattle.std.specs.Global.{Global}
 use Rattle.std.specs.List.{slice_index_or}
 use Rattle.tree_shape.specs.Digests.{digest, digest_in}
 use Rattle.tree_shape.specs.Shape.{ShapeRecord, levels, slot, ancestor}
@@ -10,6 +11,10 @@ pub record ChainRecord : Type 0 where
   pub index : ℕ
   pub content : List ℕ
   pub path : List (List ℕ)
+
+-- the bytes of each block
+abbrev pub bytes_of : List (Vec ℕ Global) → List (List ℕ)
+bytes_of blocks = map (λ b. b.items) blocks
 
 -- From the digest that is expected: each block of the path, and at last the content, has the right
 -- size and the digest that stands for it in the block above.

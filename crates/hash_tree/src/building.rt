@@ -3,7 +3,7 @@ ghost use Rattle.std.specs.Prelude.{true, false, ◌≡◌, ◌+◌, ◌*◌, �
 ghost use Rattle.std.specs.Option.{unwrap_or};
 ghost use Rattle.tree_shape.specs.Shape.{IsShape, levels};
 ghost use Rattle.hash_tree.specs.Tree.{filled};
-ghost use Rattle.hash_tree.specs.Building.{begun_builder, begun_levels, pushed, completed, last_completed, built_root, HasSome, grow, close};
+ghost use Rattle.hash_tree.specs.Building.{begun_builder, begun_levels, completed, last_completed, built_root, HasSome, Pushes, grow, close};
 
 mod grouping;
 
@@ -100,7 +100,7 @@ impl LevelBuilder {
     /// the builder answers nothing else.
     pub fn push(&mut self, digest: Digest, out: &mut Vec<Placed>) -> Result<(), AllocError>
         requires { self.old.failed ≡ false → 0 < self.old.left }
-        ensures ok { OnOk result ((self.new ≡ pushed self.old (digest ∷ [])) × (out.new.items ≡ out.old.items ++ completed self.old (digest ∷ []))) }
+        ensures ok { OnOk result (Pushes self.old (digest ∷ []) self.new out.old.items out.new.items) }
         ensures err { OnErr result (self.new.failed ≡ true) }
         ensures some { HasSome out.old.items (completed self.old (digest ∷ [])) out.new.items }
         ensures failed { self.old.failed ≡ true → (is_err result ≡ true) × (out.new.items ≡ out.old.items) }
@@ -130,7 +130,7 @@ impl LevelBuilder {
     /// The next digests, in order, as by `push`.
     pub fn push_many(&mut self, digests: &[Digest], out: &mut Vec<Placed>) -> Result<(), AllocError>
         requires { self.old.failed ≡ false → length digests.now ≤ self.old.left }
-        ensures ok { OnOk result ((self.new ≡ pushed self.old digests.now) × (out.new.items ≡ out.old.items ++ completed self.old digests.now)) }
+        ensures ok { OnOk result (Pushes self.old digests.now self.new out.old.items out.new.items) }
         ensures err { OnErr result (self.new.failed ≡ true) }
         ensures some { HasSome out.old.items (completed self.old digests.now) out.new.items }
         ensures failed { self.old.failed ≡ true → (is_err result ≡ true) × (out.new.items ≡ out.old.items) }

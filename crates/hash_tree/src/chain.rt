@@ -1,6 +1,6 @@
 //! A data block with the hash blocks on the way to it.
-ghost use Rattle.std.specs.Prelude.{◌↔◌, ◌<◌, ◌^◌, IsTrue, length, map};
-ghost use Rattle.hash_tree.specs.Chain.{IsGood, HangsFrom};
+ghost use Rattle.std.specs.Prelude.{◌↔◌, ◌<◌, ◌^◌, IsTrue, length};
+ghost use Rattle.hash_tree.specs.Chain.{IsGood, HangsFrom, bytes_of};
 
 use std::marker::Model;
 use tree_shape::{Digest, Salt, Shape, digest_in};
@@ -43,7 +43,7 @@ fn hangs(
     content: &[u8],
 ) -> bool
     requires { length path.now < 2 ^ 32 }
-    ensures { IsTrue result ↔ HangsFrom shape.now salt.now index expected.now (map (λ b. b.items) path.now) content.now }
+    ensures { IsTrue result ↔ HangsFrom shape.now salt.now index expected.now (bytes_of path.now) content.now }
 {
     let Some((block, below)) = path.split_first() else {
         return content.len() == shape.data_block() as usize && salt.digest(content) == *expected;

@@ -4,17 +4,23 @@ use Rattle.rand_core.specs.Stream.{Stream, fill_bytes}
 use Rattle.uuid.specs.Parts.{v4_of_fill}
 use Rattle.verity_format.specs.declared.formatting.FormatOptions.{FormatOptions}
 use Rattle.command_line.specs.declared.image_options.ImageOptions.{ImageOptions}
+use Rattle.image_commands.specs.declared.fault.ImageFault.{ImageFault}
+use Rattle.image_commands.specs.declared.fault.ImageFault.TheVariants.{Random}
 use Rattle.image_commands.specs.declared.random.NoRandomBytes.{NoRandomBytes}
+
+-- what a call gives that makes a generator, and what it leaves
+abbrev pub Gives : Type 0 → Type 0 → Type 1
+Gives S G = S → Result G NoRandomBytes → S → Type 0
 
 -- What makes generators, before and after a command: what a call gives, and what a proof sees of a generator, all that it
 -- will answer.
 pub record Drawing (S G : Type 0) : Type 1 where
-  pub gives : S → Result G NoRandomBytes → S → Type 0
+  pub gives : Gives S G
   pub stream : G → Stream
   pub old : S
   pub new : S
 
-abbrev pub drawing : {S G : Type 0} → (S → Result G NoRandomBytes → S → Type 0) → (G → Stream) → S → S → Drawing S G
+abbrev pub drawing : {S G : Type 0} → Gives S G → (G → Stream) → S → S → Drawing S G
 drawing gives stream old new = record { gives = gives; stream = stream; old = old; new = new }
 
 -- the next 32 bytes
@@ -53,3 +59,12 @@ pub record AreGiven {S G : Type 0} (d : Drawing S G) (options : ImageOptions) (g
 pub record IsUndrawn {S G : Type 0} (d : Drawing S G) (options : ImageOptions) : Type 0 where
   pub missing : IsMissing options
   pub refused : (fault : NoRandomBytes) × d.gives d.old (Err fault) d.new
+
+-- ---- as a call sees them
+
+-- the options are as they are given, or what isn't given was drawn
+abbrev pub DrawsOptions : {T G : Type 0} → Gives T G → (G → Stream) → T → T → ImageOptions → FormatOptions → Type 0
+DrawsOptions gives stream generators generators' options = AreGiven (drawing gives stream generators generators') options
+
+abbrev pub FailsToDraw : {T G : Type 0} → Gives T G → (G → Stream) → T → T → ImageOptions → ImageFault → Type 0
+FailsToDraw gives stream generators generators' options = λ fault. (fault ≡ Random) × IsUndrawn (drawing gives stream generators generators') options

@@ -37,3 +37,11 @@ abbrev pub IsFormatEnd : FormatOptions → Device → Device → Device → Devi
 IsFormatEnd options data_dev hash_dev data_dev' hash_dev' (Format fault) =
     IsFormatting (superblock_with options data_dev.size) data_dev hash_dev data_dev' hash_dev' (Err fault) ⊎ IsNotKept options data_dev hash_dev data_dev' hash_dev' fault
 IsFormatEnd options data_dev hash_dev data_dev' hash_dev' fault = ⊥
+
+-- ---- as a call sees them: what a proof sees of two devices, and both before and after
+
+abbrev pub MakesImage : {D H : Type 0} → (D → Device) → (H → Device) → D → H → D → H → FormatOptions → MadeImage → Type 0
+MakesImage data_state hash_state data_dev hash_dev data_dev' hash_dev' options = IsMade options (data_state data_dev) (hash_state hash_dev) (data_state data_dev') (hash_state hash_dev')
+
+abbrev pub IsUnmade : {D H : Type 0} → (D → Device) → (H → Device) → D → H → D → H → FormatOptions → FormatFault → Type 0
+IsUnmade data_state hash_state data_dev hash_dev data_dev' hash_dev' options = λ fault. IsFormatEnd options (data_state data_dev) (hash_state hash_dev) (data_state data_dev') (hash_state hash_dev') (Format fault)

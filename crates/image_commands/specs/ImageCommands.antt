@@ -1,23 +1,29 @@
 -- What the commands on verity images print where they succeed, and how they end early.
 use Rattle.std.specs.Prelude.{◌≡◌, ◌⊎◌, ℕ, Bool, false, List, codes, Option}
 use Rattle.std.specs.Io.KnownBytes.{Appends}
+use Rattle.rand_core.specs.Stream.{Stream}
+use Rattle.block_device.specs.Device.{Device}
+use Rattle.counted_io.specs.Counted.{CountedRecord}
 use Rattle.verity_format.specs.declared.formatting.FormatOptions.{FormatOptions}
 use Rattle.verity_format.specs.declared.verifying.Verdict.TheVariants.{Matches}
+use Rattle.verity_format.specs.Blocks.{IsOnlyRead}
 use Rattle.verity_format.specs.Superblock.{SuperRecord}
 use Rattle.verity_format.specs.Verifying.{IsFound, IsReadCause, IsVerifyCause}
 use Rattle.command_line.specs.declared.image_options.ImageOptions.{ImageOptions}
 use Rattle.image_files.specs.declared.images.OpenImage.{OpenImage}
 use Rattle.image_files.specs.Opened.{Opens, Refuses}
-use Rattle.image_files.specs.Opener.{Calls}
+use Rattle.image_files.specs.Opener.{Calls, Opener, calls}
 use Rattle.image_commands.specs.declared.fault.ImageFault.{ImageFault}
 use Rattle.image_commands.specs.declared.fault.ImageFault.TheVariants.{Random}
 use Rattle.image_commands.specs.declared.format.MadeImage.{MadeImage}
+use Rattle.image_commands.specs.declared.paths.ImagePaths.{ImagePaths}
 use Rattle.image_commands.specs.declared.paths.TwoImages.{TwoImages}
-use Rattle.image_commands.specs.Drawing.{AreGiven, Drawing, IsUndrawn}
+use Rattle.image_commands.specs.declared.table.LineWords.{LineWords}
+use Rattle.image_commands.specs.Drawing.{AreGiven, Drawing, Gives, IsUndrawn, drawing}
 use Rattle.image_commands.specs.Endings.{IsComparisonEnd, IsUnopened, IsUnwritten, IsVerifyEnd}
 use Rattle.image_commands.specs.Formats.{IsFormatEnd, IsMade, made_text}
-use Rattle.image_commands.specs.Openings.{FailsToOpenApart, FailsToOpenTwo, OpensApart, OpensTwo, TwoPaths}
-use Rattle.image_commands.specs.SuperblockTexts.{SaysSuperblock}
+use Rattle.image_commands.specs.Openings.{FailsToOpenApart, FailsToOpenTwo, OpensApart, OpensTwo, TwoPaths, two_paths}
+use Rattle.image_commands.specs.SuperblockTexts.{SaysSuperblock, line_text, superblock_text}
 
 -- `dump` and `table`: the text of the superblock of the image under the path, which is only read
 pub record PrintsSuperblock {S D : Type 0} (w : Calls S D) (path : List ℕ) (text : SuperRecord → List ℕ) (old new : Option (List ℕ)) : Type 0 where
@@ -101,3 +107,56 @@ abbrev pub IsFormatFilesEnd : {S D T G : Type 0} → Calls S D → Drawing T G �
 IsFormatFilesEnd w d options paths failed fault =
     EndsUnopened w d paths fault ⊎ (EndsUndrawn w d options paths fault ⊎ (EndsFormat w d options paths fault
     ⊎ ((image : MadeImage) × Makes w d options paths image × IsUnwritten failed fault)))
+
+-- ---- as a call sees them: an opener's relations and what a proof sees of its devices, what gives generators and what a proof sees of one,
+-- and what a proof sees of a writer, each with its value before and after
+
+-- the fields of a superblock, and a table line
+abbrev pub DumpsImage : {S D W : Type 0} → Opener S D → (D → Device) → S → S → (W → Option (List ℕ)) → CountedRecord W → CountedRecord W → List ℕ → Type 0
+DumpsImage relations state images images' contents writer writer' path = PrintsSuperblock (calls relations state images images') path superblock_text (contents writer.inner) (contents writer'.inner)
+
+abbrev pub PrintsLine : {S D W : Type 0} → Opener S D → (D → Device) → S → S → (W → Option (List ℕ)) → CountedRecord W → CountedRecord W → List ℕ → LineWords → Type 0
+PrintsLine relations state images images' contents writer writer' path words =
+    PrintsSuperblock (calls relations state images images') path (λ s. line_text s words.data_name.now words.hash_name.now words.root.now) (contents writer.inner) (contents writer'.inner)
+
+abbrev pub FailsToPrint : {S D W : Type 0} → Opener S D → (D → Device) → S → S → CountedRecord W → List ℕ → ImageFault → Type 0
+FailsToPrint relations state images images' writer' path = IsSuperblockEnd (calls relations state images images') path writer'.failed
+
+-- the same of a device that is open
+abbrev pub SaysFields : {H W : Type 0} → (H → Device) → H → (W → Option (List ℕ)) → CountedRecord W → CountedRecord W → Type 0
+SaysFields state hash_dev contents writer writer' = SaysSuperblock (state hash_dev) superblock_text (contents writer.inner) (contents writer'.inner)
+
+abbrev pub SaysLine : {H W : Type 0} → (H → Device) → H → (W → Option (List ℕ)) → CountedRecord W → CountedRecord W → LineWords → Type 0
+SaysLine state hash_dev contents writer writer' words =
+    SaysSuperblock (state hash_dev) (λ s. line_text s words.data_name.now words.hash_name.now words.root.now) (contents writer.inner) (contents writer'.inner)
+
+abbrev pub FailsToSay : {H W : Type 0} → (H → Device) → H → H → CountedRecord W → ImageFault → Type 0
+FailsToSay state hash_dev hash_dev' writer' = IsVerifyEnd (IsReadCause (state hash_dev) (state hash_dev')) writer'.failed
+
+-- two images, or two devices that are open, are compared
+abbrev pub VerifiesImages : {S D W : Type 0} → Opener S D → (D → Device) → S → S → (W → Option (List ℕ)) → CountedRecord W → CountedRecord W → ImagePaths → List ℕ → Type 0
+VerifiesImages relations state images images' contents writer writer' paths root = PrintsMatches (calls relations state images images') (two_paths paths) root (contents writer.inner) (contents writer'.inner)
+
+abbrev pub FailsToVerify : {S D W : Type 0} → Opener S D → (D → Device) → S → S → CountedRecord W → ImagePaths → List ℕ → ImageFault → Type 0
+FailsToVerify relations state images images' writer' paths root = IsVerifyFilesEnd (calls relations state images images') (two_paths paths) root writer'.failed
+
+abbrev pub OnlyReads : {D H : Type 0} → (D → Device) → (H → Device) → D → H → D → H → Type 0
+OnlyReads data_state hash_state data_dev hash_dev data_dev' hash_dev' =
+    IsOnlyRead (data_state data_dev) (data_state data_dev') × IsOnlyRead (hash_state hash_dev) (hash_state hash_dev')
+
+abbrev pub FindsMatches : {D H W : Type 0} → (D → Device) → (H → Device) → D → H → D → H → (W → Option (List ℕ)) → CountedRecord W → CountedRecord W → List ℕ → Type 0
+FindsMatches data_state hash_state data_dev hash_dev data_dev' hash_dev' contents writer writer' root =
+    IsFound (data_state data_dev) (hash_state hash_dev) (data_state data_dev') (hash_state hash_dev') root Matches × Appends (contents writer.inner) (contents writer'.inner) (codes "matches\n")
+
+abbrev pub FailsToCompare : {D H W : Type 0} → (D → Device) → (H → Device) → D → H → D → H → CountedRecord W → List ℕ → ImageFault → Type 0
+FailsToCompare data_state hash_state data_dev hash_dev data_dev' hash_dev' writer' root =
+    IsComparisonEnd (IsVerifyCause (data_state data_dev) (hash_state hash_dev) (data_state data_dev') (hash_state hash_dev')) (IsFound (data_state data_dev) (hash_state hash_dev) (data_state data_dev') (hash_state hash_dev') root) writer'.failed
+
+-- two images are formatted
+abbrev pub FormatsImages : {S D T G W : Type 0} → Opener S D → (D → Device) → S → S → Gives T G → (G → Stream) → T → T → (W → Option (List ℕ)) → CountedRecord W → CountedRecord W → ImageOptions → ImagePaths → Type 0
+FormatsImages relations state images images' gives stream generators generators' contents writer writer' options paths =
+    PrintsMade (calls relations state images images') (drawing gives stream generators generators') options (two_paths paths) (contents writer.inner) (contents writer'.inner)
+
+abbrev pub FailsToFormat : {S D T G W : Type 0} → Opener S D → (D → Device) → S → S → Gives T G → (G → Stream) → T → T → CountedRecord W → ImageOptions → ImagePaths → ImageFault → Type 0
+FailsToFormat relations state images images' gives stream generators generators' writer' options paths =
+    IsFormatFilesEnd (calls relations state images images') (drawing gives stream generators generators') options (two_paths paths) writer'.failed

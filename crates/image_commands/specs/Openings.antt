@@ -1,11 +1,12 @@
 -- The images of a command: which paths are opened, in which order and with which rights.
 use Rattle.std.specs.Prelude.{◌≡◌, ◌⊎◌, ℕ, List, Bool, true, false, Ok}
+use Rattle.block_device.specs.Device.{Device}
 use Rattle.block_device.specs.declared.open_fault.OpenFault.TheVariants.{SameFile}
 use Rattle.image_files.specs.declared.images.OpenImage.{OpenImage}
 use Rattle.image_files.specs.declared.opening.UnopenedFile.{UnopenedFile}
 use Rattle.image_files.specs.OneFile.{is_one_file}
 use Rattle.image_files.specs.Opened.{Refuses}
-use Rattle.image_files.specs.Opener.{Calls}
+use Rattle.image_files.specs.Opener.{Calls, Opener, calls}
 use Rattle.image_commands.specs.declared.paths.ImagePaths.{ImagePaths}
 use Rattle.image_commands.specs.declared.paths.TwoImages.{TwoImages}
 
@@ -48,3 +49,17 @@ pub record AreOneFile {S D : Type 0} (w : Calls S D) (paths : TwoPaths) (file : 
 
 abbrev pub FailsToOpenApart : {S D : Type 0} → Calls S D → TwoPaths → UnopenedFile → Type 0
 FailsToOpenApart w paths file = FailsToOpenTwo w paths true file ⊎ AreOneFile w paths file
+
+-- ---- as a call sees them: an opener's relations, what a proof sees of its devices, and the opener before and after
+
+abbrev pub OpensImages : {S D : Type 0} → Opener S D → (D → Device) → S → S → ImagePaths → Bool → TwoImages D → Type 0
+OpensImages relations state images images' paths writable = OpensTwo (calls relations state images images') (two_paths paths) writable
+
+abbrev pub FailsToOpenImages : {S D : Type 0} → Opener S D → (D → Device) → S → S → ImagePaths → Bool → UnopenedFile → Type 0
+FailsToOpenImages relations state images images' paths writable = FailsToOpenTwo (calls relations state images images') (two_paths paths) writable
+
+abbrev pub OpensTwoFiles : {S D : Type 0} → Opener S D → (D → Device) → S → S → ImagePaths → TwoImages D → Type 0
+OpensTwoFiles relations state images images' paths = OpensApart (calls relations state images images') (two_paths paths)
+
+abbrev pub FailsToOpenTwoFiles : {S D : Type 0} → Opener S D → (D → Device) → S → S → ImagePaths → UnopenedFile → Type 0
+FailsToOpenTwoFiles relations state images images' paths = FailsToOpenApart (calls relations state images images') (two_paths paths)

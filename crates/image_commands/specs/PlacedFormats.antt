@@ -1,21 +1,25 @@
 -- What `format` makes of a hash image behind a sector of a file, and how it ends early.
 use Rattle.std.specs.Prelude.{◌≡◌, ◌⊎◌, ℕ, Bool, true, false, List, Option}
 use Rattle.std.specs.Io.KnownBytes.{Appends}
+use Rattle.rand_core.specs.Stream.{Stream}
 use Rattle.block_device.specs.Device.{Device}
+use Rattle.counted_io.specs.Counted.{CountedRecord}
 use Rattle.device_window.specs.Parts.{StandOutside, outside_of, part_behind}
 use Rattle.device_window.specs.Windows.{windowed}
 use Rattle.verity_format.specs.declared.formatting.FormatFault.{FormatFault}
 use Rattle.verity_format.specs.declared.formatting.FormatOptions.{FormatOptions}
 use Rattle.command_line.specs.declared.image_options.ImageOptions.{ImageOptions}
-use Rattle.image_files.specs.Opener.{Calls}
+use Rattle.image_files.specs.Opener.{Calls, Opener, calls}
 use Rattle.image_commands.specs.declared.fault.ImageFault.{ImageFault}
 use Rattle.image_commands.specs.declared.fault.ImageFault.TheVariants.{Format, Random, Unaligned}
 use Rattle.image_commands.specs.declared.format.MadeImage.{MadeImage}
 use Rattle.image_commands.specs.declared.paths.TwoImages.{TwoImages}
-use Rattle.image_commands.specs.Drawing.{AreGiven, Drawing, IsUndrawn}
+use Rattle.image_commands.specs.declared.places.Bounds.{Bounds}
+use Rattle.image_commands.specs.declared.watching.WatchedPlaces.{WatchedPlaces}
+use Rattle.image_commands.specs.Drawing.{AreGiven, Drawing, Gives, IsUndrawn, drawing}
 use Rattle.image_commands.specs.Endings.{IsUnopened, IsUnwritten}
 use Rattle.image_commands.specs.Formats.{IsFormatEnd, IsMade, made_text}
-use Rattle.image_commands.specs.Places.{FailsToOpenPlaced, OpensPlaced, TwoPlaces, before, behind, data_end, is_aligned}
+use Rattle.image_commands.specs.Places.{FailsToOpenPlaced, OpensPlaced, TwoPlaces, before, behind, data_end, is_aligned, two_places}
 
 -- the two devices before and behind a formatting, the sector where the data end, and the one where the hash image begins
 pub record Placing : Type 0 where
@@ -101,3 +105,24 @@ abbrev pub IsFormatPlacedEnd : {S D T G : Type 0} → Calls S D → Drawing T G 
 IsFormatPlacedEnd w d options places failed fault =
     EndsUnaligned w d options places fault ⊎ (EndsUnopenedPlaced w d places fault ⊎ (EndsUndrawnPlaced w d options places fault ⊎ (EndsPlaced w d options places fault
     ⊎ ((image : MadeImage) × MakesPlaced w d options places image × IsUnwritten failed fault))))
+
+-- ---- as a call sees them, in the order of `ImageCommands`
+
+abbrev pub FormatsImagesAt : {S D T G W : Type 0} → Opener S D → (D → Device) → S → S → Gives T G → (G → Stream) → T → T → (W → Option (List ℕ)) → CountedRecord W → CountedRecord W → ImageOptions → WatchedPlaces → Type 0
+FormatsImagesAt relations state images images' gives stream generators generators' contents writer writer' options watched =
+    PrintsPlaced (calls relations state images images') (drawing gives stream generators generators') options (two_places watched.places) (contents writer.inner) (contents writer'.inner)
+
+abbrev pub FailsToFormatAt : {S D T G W : Type 0} → Opener S D → (D → Device) → S → S → Gives T G → (G → Stream) → T → T → CountedRecord W → ImageOptions → WatchedPlaces → ImageFault → Type 0
+FailsToFormatAt relations state images images' gives stream generators generators' writer' options watched =
+    IsFormatPlacedEnd (calls relations state images images') (drawing gives stream generators generators') options (two_places watched.places) writer'.failed
+
+-- two devices that are open, and the second behind the formatting
+abbrev pub placing : {D H : Type 0} → (D → Device) → (H → Device) → D → H → H → Bounds → Placing
+placing data_state hash_state data_dev hash_dev hash_dev' bounds =
+    record { data_dev = data_state data_dev; hash_dev = hash_state hash_dev; hash_dev' = hash_state hash_dev'; end = bounds.end; first = bounds.first }
+
+abbrev pub MakesImageAt : {D H : Type 0} → (D → Device) → (H → Device) → D → H → H → Bounds → FormatOptions → MadeImage → Type 0
+MakesImageAt data_state hash_state data_dev hash_dev hash_dev' bounds options = IsMadePlaced options (placing data_state hash_state data_dev hash_dev hash_dev' bounds)
+
+abbrev pub IsUnmadeAt : {D H : Type 0} → (D → Device) → (H → Device) → D → H → H → Bounds → FormatOptions → FormatFault → Type 0
+IsUnmadeAt data_state hash_state data_dev hash_dev hash_dev' bounds options = IsPlacedEnd options (placing data_state hash_state data_dev hash_dev hash_dev' bounds)

@@ -1,10 +1,12 @@
 -- What the other commands on a hash image behind a sector of a file print, and how they end early.
+use Rattle.std.specs.Borrow.{Bor}
 use Rattle.std.specs.Prelude.{◌≡◌, ◌⊎◌, ℕ, Bool, true, false, List, codes, Option}
 use Rattle.std.specs.Io.KnownBytes.{Appends}
 use Rattle.block_device.specs.Device.{Device}
+use Rattle.counted_io.specs.Counted.{CountedRecord}
 use Rattle.image_files.specs.declared.images.OpenImage.{OpenImage}
 use Rattle.image_files.specs.Opened.{Opens, Refuses}
-use Rattle.image_files.specs.Opener.{Calls}
+use Rattle.image_files.specs.Opener.{Calls, Opener, calls}
 use Rattle.verity_format.specs.declared.verifying.Verdict.TheVariants.{Matches}
 use Rattle.verity_format.specs.Blocks.{IsOnlyRead}
 use Rattle.verity_format.specs.Superblock.{SuperRecord}
@@ -12,9 +14,15 @@ use Rattle.verity_format.specs.Verifying.{IsFound, IsReadCause, IsReadFrom, IsVe
 use Rattle.image_commands.specs.declared.fault.ImageFault.{ImageFault}
 use Rattle.image_commands.specs.declared.fault.ImageFault.TheVariants.{Unaligned}
 use Rattle.image_commands.specs.declared.paths.TwoImages.{TwoImages}
+use Rattle.image_commands.specs.declared.places.Bounds.{Bounds}
+use Rattle.image_commands.specs.declared.places.HashPlace.{HashPlace}
+use Rattle.image_commands.specs.declared.table.LineWords.{LineWords}
+use Rattle.image_commands.specs.declared.watching.WatchedPlaces.{WatchedPlaces}
 use Rattle.image_commands.specs.Endings.{IsComparisonEnd, IsUnopened, IsVerifyEnd}
 use Rattle.image_commands.specs.Openings.{FailsToOpenTwo, OpensTwo}
-use Rattle.image_commands.specs.Places.{TwoPlaces, before, behind, data_end, is_aligned}
+use Rattle.image_commands.specs.PlacedLines.{line_at}
+use Rattle.image_commands.specs.Places.{TwoPlaces, before, behind, data_end, is_aligned, two_places}
+use Rattle.image_commands.specs.SuperblockJson.{dump_text}
 
 -- the superblock behind that sector was read, and a text of it written; where it must be, its tree may stand there
 pub record SaysPlaced (device : Device) (first : ℕ) (may : SuperRecord → Bool) (text : SuperRecord → List ℕ) (old new : Option (List ℕ)) : Type 0 where
@@ -82,3 +90,40 @@ pub record EndsPlacedMatches {S D : Type 0} (w : Calls S D) (places : TwoPlaces)
 
 abbrev pub IsPlacedMatchesEnd : {S D : Type 0} → Calls S D → TwoPlaces → List ℕ → Bool → ImageFault → Type 0
 IsPlacedMatchesEnd w places root failed fault = IsUnopened (FailsToOpenTwo w places.paths false) fault ⊎ EndsPlacedMatches w places root failed fault
+
+-- ---- as a call sees them, in the order of `ImageCommands`
+
+abbrev pub DumpsImageAt : {S D W : Type 0} → Opener S D → (D → Device) → S → S → (W → Option (List ℕ)) → CountedRecord W → CountedRecord W → HashPlace → Bool → Type 0
+DumpsImageAt relations state images images' contents writer writer' place json =
+    PrintsPlacedSuper (calls relations state images images') place.path.now place.first (λ s. true) (dump_text json) (contents writer.inner) (contents writer'.inner)
+
+abbrev pub PrintsLineAt : {S D W : Type 0} → Opener S D → (D → Device) → S → S → (W → Option (List ℕ)) → CountedRecord W → CountedRecord W → HashPlace → Option (Bor (List ℕ)) → LineWords → Type 0
+PrintsLineAt relations state images images' contents writer writer' place name words =
+    PrintsPlacedSuper (calls relations state images images') place.path.now place.first (λ s. is_aligned place.first s.hash_block) (λ s. line_at name s words place.first) (contents writer.inner) (contents writer'.inner)
+
+abbrev pub FailsToPrintAt : {S D W : Type 0} → Opener S D → (D → Device) → S → S → CountedRecord W → HashPlace → ImageFault → Type 0
+FailsToPrintAt relations state images images' writer' place = IsPlacedImageEnd (calls relations state images images') place.path.now place.first writer'.failed
+
+-- the same of a device that is open
+abbrev pub SaysFieldsAt : {H W : Type 0} → (H → Device) → H → (W → Option (List ℕ)) → CountedRecord W → CountedRecord W → ℕ → Bool → Type 0
+SaysFieldsAt state hash_dev contents writer writer' first json =
+    SaysPlaced (state hash_dev) first (λ s. true) (dump_text json) (contents writer.inner) (contents writer'.inner)
+
+abbrev pub SaysLineAt : {H W : Type 0} → (H → Device) → H → (W → Option (List ℕ)) → CountedRecord W → CountedRecord W → ℕ → Option (Bor (List ℕ)) → LineWords → Type 0
+SaysLineAt state hash_dev contents writer writer' first name words =
+    SaysPlaced (state hash_dev) first (λ s. is_aligned first s.hash_block) (λ s. line_at name s words first) (contents writer.inner) (contents writer'.inner)
+
+-- two images, or two devices that are open, are compared
+abbrev pub VerifiesImagesAt : {S D W : Type 0} → Opener S D → (D → Device) → S → S → (W → Option (List ℕ)) → CountedRecord W → CountedRecord W → WatchedPlaces → List ℕ → Type 0
+VerifiesImagesAt relations state images images' contents writer writer' watched root = PrintsPlacedMatches (calls relations state images images') (two_places watched.places) root (contents writer.inner) (contents writer'.inner)
+
+abbrev pub FailsToVerifyAt : {S D W : Type 0} → Opener S D → (D → Device) → S → S → CountedRecord W → WatchedPlaces → List ℕ → ImageFault → Type 0
+FailsToVerifyAt relations state images images' writer' watched root = IsPlacedMatchesEnd (calls relations state images images') (two_places watched.places) root writer'.failed
+
+abbrev pub MatchesAt : {D H W : Type 0} → (D → Device) → (H → Device) → D → H → (W → Option (List ℕ)) → CountedRecord W → CountedRecord W → Bounds → List ℕ → Type 0
+MatchesAt data_state hash_state data_dev hash_dev contents writer writer' bounds root =
+    MatchesPlaced (data_state data_dev) (hash_state hash_dev) bounds.end bounds.first root (contents writer.inner) (contents writer'.inner)
+
+abbrev pub FailsToMatchAt : {D H W : Type 0} → (D → Device) → (H → Device) → D → H → CountedRecord W → Bounds → List ℕ → ImageFault → Type 0
+FailsToMatchAt data_state hash_state data_dev hash_dev writer' bounds root =
+    IsMatchingEnd (data_state data_dev) (hash_state hash_dev) bounds.end bounds.first root writer'.failed

@@ -40,3 +40,10 @@ tree_line s words first = line_from s words (start_at first s.hash_block)
 abbrev pub entry_head : Option (Bor (List ℕ)) → List ℕ
 entry_head (Some name) = name.now ++ codes ",,,ro,"
 entry_head None = []
+
+-- the line, or the whole entry
+abbrev pub line_at : Option (Bor (List ℕ)) → SuperRecord → LineWords → ℕ → List ℕ
+line_at name s words first = entry_head name ++ placed_line s words first
+
+abbrev pub tree_at : Option (Bor (List ℕ)) → SuperRecord → LineWords → ℕ → List ℕ
+tree_at name s words first = entry_head name ++ tree_line s words first

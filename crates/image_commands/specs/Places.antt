@@ -6,7 +6,7 @@ use Rattle.device_window.specs.Parts.{part_before, part_behind}
 use Rattle.device_window.specs.Windows.{windowed}
 use Rattle.image_files.specs.declared.opening.UnopenedFile.{UnopenedFile}
 use Rattle.image_files.specs.OneFile.{is_one_file}
-use Rattle.image_files.specs.Opener.{Calls}
+use Rattle.image_files.specs.Opener.{Calls, Opener, calls}
 use Rattle.image_commands.specs.declared.paths.TwoImages.{TwoImages}
 use Rattle.image_commands.specs.declared.places.ImagePlaces.{ImagePlaces}
 use Rattle.image_commands.specs.Openings.{FailsToOpenTwo, OpensTwo, TwoPaths}
@@ -52,3 +52,11 @@ pub record AreOneImage {S D : Type 0} (w : Calls S D) (places : TwoPlaces) (file
 
 abbrev pub FailsToOpenPlaced : {S D : Type 0} → Calls S D → TwoPlaces → UnopenedFile → Type 0
 FailsToOpenPlaced w places file = FailsToOpenTwo w places.paths true file ⊎ AreOneImage w places file
+
+-- ---- as a call sees them
+
+abbrev pub OpensPlaces : {S D : Type 0} → Opener S D → (D → Device) → S → S → ImagePlaces → TwoImages D → Type 0
+OpensPlaces relations state images images' places = OpensPlaced (calls relations state images images') (two_places places)
+
+abbrev pub FailsToOpenPlaces : {S D : Type 0} → Opener S D → (D → Device) → S → S → ImagePlaces → UnopenedFile → Type 0
+FailsToOpenPlaces relations state images images' places = FailsToOpenPlaced (calls relations state images images') (two_places places)

@@ -1,5 +1,7 @@
 -- The fields of a superblock as a JSON object, and in which form they are printed.
-use Rattle.std.specs.Prelude.{ℕ, Bool, true, false, List, codes}
+use Rattle.std.specs.Prelude.{ℕ, Bool, true, false, List, Option, codes}
+use Rattle.std.specs.Io.KnownBytes.{Appends}
+use Rattle.counted_io.specs.Counted.{CountedRecord}
 use Rattle.uuid.specs.Text.{hyphenated_text, lower}
 use Rattle.serde_json.specs.Data.{Data, number, object, string, unsigned, member, no_members}
 use Rattle.reply_json.specs.Lines.{json_line}
@@ -28,3 +30,7 @@ superblock_json s = fields_json s.data_block s.blocks s.hash_block (string (salt
 abbrev pub dump_text : Bool → SuperRecord → List ℕ
 dump_text true s = json_line (superblock_json s)
 dump_text false s = superblock_text s
+
+-- one of the two was written
+abbrev pub SaysDump : {W : Type 0} → (W → Option (List ℕ)) → CountedRecord W → CountedRecord W → Bool → SuperRecord → Type 0
+SaysDump contents writer writer' json s = Appends (contents writer.inner) (contents writer'.inner) (dump_text json s)

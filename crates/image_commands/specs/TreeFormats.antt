@@ -1,6 +1,8 @@
 -- What `format --no-superblock` makes and prints, and how it ends early.
 use Rattle.std.specs.Prelude.{◌≡◌, ◌⊎◌, ℕ, Bool, false, true, min, IsTrue, List, ◌++◌, drop, Option, None, Result, Ok, Err}
 use Rattle.std.specs.Io.KnownBytes.{Appends}
+use Rattle.rand_core.specs.Stream.{Stream}
+use Rattle.counted_io.specs.Counted.{CountedRecord}
 use Rattle.block_device.specs.Device.{Device, IsUnsynced, spliced, synced}
 use Rattle.bare_tree.specs.BareTrees.{IsBareCause, IsBareMade, area_sectors, bare_refusal, tree_over}
 use Rattle.device_window.specs.Parts.{StandOutside, outside_of}
@@ -13,15 +15,17 @@ use Rattle.verity_format.specs.Image.{data_sectors, root_over}
 use Rattle.verity_format.specs.Options.{superblock_with}
 use Rattle.verity_format.specs.Superblock.{SuperRecord, shape_of}
 use Rattle.command_line.specs.declared.image_options.ImageOptions.{ImageOptions}
-use Rattle.image_files.specs.Opener.{Calls}
+use Rattle.image_files.specs.Opener.{Calls, Opener, calls}
 use Rattle.image_commands.specs.declared.fault.ImageFault.{ImageFault}
 use Rattle.image_commands.specs.declared.fault.ImageFault.TheVariants.{Format}
 use Rattle.image_commands.specs.declared.format.MadeImage.{MadeImage}
 use Rattle.image_commands.specs.declared.paths.TwoImages.{TwoImages}
-use Rattle.image_commands.specs.Drawing.{AreGiven, Drawing}
+use Rattle.image_commands.specs.declared.places.Bounds.{Bounds}
+use Rattle.image_commands.specs.declared.watching.WatchedPlaces.{WatchedPlaces}
+use Rattle.image_commands.specs.Drawing.{AreGiven, Drawing, Gives, drawing}
 use Rattle.image_commands.specs.Endings.{IsUnwritten}
 use Rattle.image_commands.specs.PlacedFormats.{EndsUnaligned, EndsUndrawnPlaced, EndsUnopenedPlaced}
-use Rattle.image_commands.specs.Places.{OpensPlaced, TwoPlaces, before, data_end, is_aligned}
+use Rattle.image_commands.specs.Places.{OpensPlaced, TwoPlaces, before, data_end, is_aligned, two_places}
 use Rattle.image_commands.specs.SuperblockTexts.{blocks_text, root_text, salt_text}
 use Rattle.image_commands.specs.TreePlaces.{HasNoShape, tree_part, tree_place, unnamed}
 
@@ -78,6 +82,10 @@ IsTreeCause s data_dev hash_dev first hash_dev' fault =
     (data_dev' : Device) × (IsBareCause s data_dev (tree_place hash_dev first) data_dev' (windowed hash_dev' (tree_part hash_dev first)) fault
     ⊎ IsTreeUnsynced s data_dev (tree_place hash_dev first) data_dev' (windowed hash_dev' (tree_part hash_dev first)) fault)
 
+-- so it ended, and only the sectors of the tree changed
+abbrev pub IsTreeUnmade : SuperRecord → Device → Device → ℕ → Device → FormatFault → Type 0
+IsTreeUnmade s data_dev hash_dev first hash_dev' = λ fault. IsTreeCause s data_dev hash_dev first hash_dev' fault × IsTreeKept s hash_dev first hash_dev'
+
 -- there is no tree of that shape, and the hash device wasn't asked; or one of these
 abbrev pub IsTreeEnd : SuperRecord → Device → Device → ℕ → Device → FormatFault → Type 0
 IsTreeEnd s data_dev hash_dev first hash_dev' fault =
@@ -124,3 +132,22 @@ abbrev pub IsFormatTreeEnd : {S D T G : Type 0} → Calls S D → Drawing T G �
 IsFormatTreeEnd w d options places failed fault =
     EndsUnaligned w d options places fault ⊎ (EndsUnopenedPlaced w d places fault ⊎ (EndsUndrawnPlaced w d (unnamed options) places fault ⊎ (EndsTree w d options places fault
     ⊎ ((made : MadeImage) × MakesTree w d options places made × IsUnwritten failed fault))))
+
+-- ---- as a call sees them, in the order of `ImageCommands`
+
+abbrev pub FormatsTree : {S D T G W : Type 0} → Opener S D → (D → Device) → S → S → Gives T G → (G → Stream) → T → T → (W → Option (List ℕ)) → CountedRecord W → CountedRecord W → ImageOptions → WatchedPlaces → Type 0
+FormatsTree relations state images images' gives stream generators generators' contents writer writer' options watched =
+    PrintsTree (calls relations state images images') (drawing gives stream generators generators') options (two_places watched.places) (contents writer.inner) (contents writer'.inner)
+
+abbrev pub FailsToFormatTree : {S D T G W : Type 0} → Opener S D → (D → Device) → S → S → Gives T G → (G → Stream) → T → T → CountedRecord W → ImageOptions → WatchedPlaces → ImageFault → Type 0
+FailsToFormatTree relations state images images' gives stream generators generators' writer' options watched =
+    IsFormatTreeEnd (calls relations state images images') (drawing gives stream generators generators') options (two_places watched.places) writer'.failed
+
+-- two devices that are open, and the second behind the formatting
+abbrev pub MakesTreeBehind : {D H : Type 0} → (D → Device) → (H → Device) → D → H → H → Bounds → FormatOptions → MadeImage → Type 0
+MakesTreeBehind data_state hash_state data_dev hash_dev hash_dev' bounds options =
+    let data_part = before (data_state data_dev) bounds.end in IsTreeMade (tree_with options data_part) data_part (hash_state hash_dev) bounds.first (hash_state hash_dev')
+
+abbrev pub FailsToMakeTree : {D H : Type 0} → (D → Device) → (H → Device) → D → H → H → Bounds → FormatOptions → FormatFault → Type 0
+FailsToMakeTree data_state hash_state data_dev hash_dev hash_dev' bounds options =
+    let data_part = before (data_state data_dev) bounds.end in IsTreeEnd (tree_with options data_part) data_part (hash_state hash_dev) bounds.first (hash_state hash_dev')

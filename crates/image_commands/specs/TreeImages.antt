@@ -2,6 +2,7 @@
 use Rattle.std.specs.Prelude.{◌≡◌, ◌≢◌, ◌⊎◌, ◌++◌, ℕ, Bool, false, true, List, codes, Option, None}
 use Rattle.std.specs.Borrow.{Bor}
 use Rattle.std.specs.Io.KnownBytes.{Appends}
+use Rattle.counted_io.specs.Counted.{CountedRecord}
 use Rattle.block_device.specs.Device.{Device}
 use Rattle.bare_tree.specs.BareTrees.{IsBareFound, IsBareVerifyCause}
 use Rattle.tree_shape.specs.Shape.{first_fault}
@@ -9,16 +10,19 @@ use Rattle.verity_format.specs.declared.formatting.FormatOptions.{FormatOptions}
 use Rattle.verity_format.specs.declared.verifying.Verdict.TheVariants.{Matches}
 use Rattle.verity_format.specs.Options.{superblock_with}
 use Rattle.verity_format.specs.Superblock.{SuperRecord, shape_of}
-use Rattle.image_files.specs.Opener.{Calls}
+use Rattle.image_files.specs.Opener.{Calls, Opener, calls}
 use Rattle.image_commands.specs.declared.fault.ImageFault.{ImageFault}
 use Rattle.image_commands.specs.declared.fault.ImageFault.TheVariants.{Differs, Format, Unaligned, Verify}
 use Rattle.image_commands.specs.declared.paths.TwoImages.{TwoImages}
+use Rattle.image_commands.specs.declared.places.Bounds.{Bounds}
 use Rattle.image_commands.specs.declared.table.LineWords.{LineWords}
+use Rattle.image_commands.specs.declared.tree_verify.ExpectedTree.{ExpectedTree}
+use Rattle.image_commands.specs.declared.watching.WatchedPlaces.{WatchedPlaces}
 use Rattle.image_commands.specs.Endings.{IsUnopened, IsUnwritten}
 use Rattle.image_commands.specs.Openings.{FailsToOpenTwo, OpensTwo}
 use Rattle.image_commands.specs.PlacedLines.{entry_head, tree_line}
-use Rattle.image_commands.specs.Places.{TwoPlaces, is_aligned}
-use Rattle.image_commands.specs.TreeFormats.{data_of}
+use Rattle.image_commands.specs.Places.{TwoPlaces, before, is_aligned, two_places}
+use Rattle.image_commands.specs.TreeFormats.{data_of, tree_with}
 use Rattle.image_commands.specs.TreePlaces.{HasNoShape, tree_place}
 
 -- the tree over the data stands at that sector of the hash device, and that is its root
@@ -68,3 +72,37 @@ abbrev pub IsTreeLineEnd : ℕ → FormatOptions → Bool → ImageFault → Typ
 IsTreeLineEnd first options failed Unaligned = is_aligned first options.hash_block ≡ false
 IsTreeLineEnd first options failed (Format fault) = HasNoShape (superblock_with options 0) fault
 IsTreeLineEnd first options failed fault = IsUnwritten failed fault
+
+-- ---- as a call sees them, in the order of `ImageCommands`
+
+abbrev pub VerifiesTree : {S D W : Type 0} → Opener S D → (D → Device) → S → S → (W → Option (List ℕ)) → CountedRecord W → CountedRecord W → WatchedPlaces → ExpectedTree → Type 0
+VerifiesTree relations state images images' contents writer writer' watched expected =
+    PrintsTreeMatches (calls relations state images images') (two_places watched.places) expected.options expected.root (contents writer.inner) (contents writer'.inner)
+
+abbrev pub FailsToVerifyTree : {S D W : Type 0} → Opener S D → (D → Device) → S → S → CountedRecord W → WatchedPlaces → ExpectedTree → ImageFault → Type 0
+FailsToVerifyTree relations state images images' writer' watched expected =
+    IsTreeMatchesEnd (calls relations state images images') (two_places watched.places) expected.options expected.root writer'.failed
+
+-- two devices that are open, of which the data end and the tree begins at these sectors
+abbrev pub MatchesTreeAt : {D H W : Type 0} → (D → Device) → (H → Device) → D → H → (W → Option (List ℕ)) → CountedRecord W → CountedRecord W → Bounds → FormatOptions → List ℕ → Type 0
+MatchesTreeAt data_state hash_state data_dev hash_dev contents writer writer' bounds options root =
+    let data_part = before (data_state data_dev) bounds.end in
+    MatchesTree (tree_with options data_part) data_part (hash_state hash_dev) bounds.first root (contents writer.inner) (contents writer'.inner)
+
+abbrev pub FailsAtTree : {D H W : Type 0} → (D → Device) → (H → Device) → D → H → CountedRecord W → Bounds → FormatOptions → List ℕ → ImageFault → Type 0
+FailsAtTree data_state hash_state data_dev hash_dev writer' bounds options root =
+    let data_part = before (data_state data_dev) bounds.end in
+    IsTreeComparisonEnd (tree_with options data_part) data_part (hash_state hash_dev) bounds.first root writer'.failed
+
+-- a tree of that shape, and the sector at which it begins
+abbrev pub MatchesShape : {D H W : Type 0} → SuperRecord → (D → Device) → (H → Device) → D → H → ℕ → (W → Option (List ℕ)) → CountedRecord W → CountedRecord W → List ℕ → Type 0
+MatchesShape s data_state hash_state data_dev hash_dev first contents writer writer' root =
+    MatchesTree s (data_state data_dev) (hash_state hash_dev) first root (contents writer.inner) (contents writer'.inner)
+
+abbrev pub FailsAtShape : {D H W : Type 0} → SuperRecord → (D → Device) → (H → Device) → D → H → ℕ → CountedRecord W → List ℕ → ImageFault → Type 0
+FailsAtShape s data_state hash_state data_dev hash_dev first writer' root =
+    IsTreeComparisonEnd s (data_state data_dev) (hash_state hash_dev) first root writer'.failed
+
+-- the line that the words give
+abbrev pub SaysTreeLine : {W : Type 0} → (W → Option (List ℕ)) → CountedRecord W → CountedRecord W → ℕ → Option (Bor (List ℕ)) → LineWords → FormatOptions → Type 0
+SaysTreeLine contents writer writer' first name words options = PrintsTreeLine first name words options (contents writer.inner) (contents writer'.inner)

@@ -1,12 +1,8 @@
 //! The command `dump`: what a superblock says.
 ghost use Rattle.std.specs.Prelude.{◌≡◌, OnOk, IfErr};
-ghost use Rattle.block_device.specs.Device.{Device};
-ghost use Rattle.image_files.specs.Opener.{calls};
 ghost use Rattle.verity_format.specs.Blocks.{IsOnlyRead};
-ghost use Rattle.verity_format.specs.Verifying.{IsReadCause};
-ghost use Rattle.image_commands.specs.Endings.{IsQuiet, IsVerifyEnd};
-ghost use Rattle.image_commands.specs.ImageCommands.{IsSuperblockEnd, PrintsSuperblock};
-ghost use Rattle.image_commands.specs.SuperblockTexts.{SaysSuperblock, superblock_text};
+ghost use Rattle.image_commands.specs.Endings.{IsQuiet};
+ghost use Rattle.image_commands.specs.ImageCommands.{DumpsImage, FailsToPrint, FailsToSay, SaysFields};
 
 use crate::fault::ImageFault;
 use crate::superblock_text::say_superblock;
@@ -23,8 +19,8 @@ pub fn dump_image<'a, I: Images, W: Write>(
     hash: &'a str,
     writer: &mut Counted<W>,
 ) -> Result<(), ImageFault<'a>>
-    ensures ok { OnOk result (PrintsSuperblock (calls I.relations I.Dev.state images.old images.new) hash.now superblock_text (W.contents writer.old.inner) (W.contents writer.new.inner)) }
-    ensures err { IfErr result (IsSuperblockEnd (calls I.relations I.Dev.state images.old images.new) hash.now writer.new.failed) }
+    ensures ok { OnOk result (DumpsImage I.relations I.Dev.state images.old images.new W.contents writer.old writer.new hash.now) }
+    ensures err { IfErr result (FailsToPrint I.relations I.Dev.state images.old images.new writer.new hash.now) }
     ensures quiet { IfErr result (λ fault. IsQuiet fault (W.contents writer.old.inner) (W.contents writer.new.inner)) }
 {
     let mut image = open_image(images, hash, false)?;
@@ -38,8 +34,8 @@ fn dump<'a, H: BlockDev, W: Write>(
     writer: &mut Counted<W>,
 ) -> Result<(), ImageFault<'a>>
     ensures read { IsOnlyRead (H.state hash_dev.old) (H.state hash_dev.new) }
-    ensures ok { OnOk result (SaysSuperblock (H.state hash_dev.old) superblock_text (W.contents writer.old.inner) (W.contents writer.new.inner)) }
-    ensures err { IfErr result (IsVerifyEnd (IsReadCause (H.state hash_dev.old) (H.state hash_dev.new)) writer.new.failed) }
+    ensures ok { OnOk result (SaysFields H.state hash_dev.old W.contents writer.old writer.new) }
+    ensures err { IfErr result (FailsToSay H.state hash_dev.old hash_dev.new writer.new) }
     ensures quiet { IfErr result (λ fault. IsQuiet fault (W.contents writer.old.inner) (W.contents writer.new.inner)) }
 {
     let superblock = read_superblock(hash_dev)?;

@@ -1,12 +1,10 @@
 //! The command `format`: makes a hash image over a data image.
 ghost use Rattle.std.specs.Prelude.{◌≡◌, IfErr, IfOk, OnOk};
 ghost use Rattle.counted_io.specs.Counted.{Writes};
-ghost use Rattle.image_files.specs.Opener.{calls};
-ghost use Rattle.image_commands.specs.Drawing.{AreGiven, IsUndrawn, drawing};
+ghost use Rattle.image_commands.specs.Drawing.{DrawsOptions, FailsToDraw};
 ghost use Rattle.image_commands.specs.Endings.{IsQuiet};
-ghost use Rattle.image_commands.specs.Formats.{IsFormatEnd, IsMade, made_text};
-ghost use Rattle.image_commands.specs.ImageCommands.{IsFormatFilesEnd, PrintsMade};
-ghost use Rattle.image_commands.specs.Openings.{two_paths};
+ghost use Rattle.image_commands.specs.Formats.{IsUnmade, MakesImage, made_text};
+ghost use Rattle.image_commands.specs.ImageCommands.{FailsToFormat, FormatsImages};
 
 use crate::fault::ImageFault;
 use crate::paths::{ImagePaths, TwoImages, open_apart};
@@ -41,8 +39,8 @@ pub fn format_images<'a, I: Images, G: Generators, W: Write>(
     paths: ImagePaths<'a>,
     writer: &mut Counted<W>,
 ) -> Result<(), ImageFault<'a>>
-    ensures ok { OnOk result (PrintsMade (calls I.relations I.Dev.state images.old images.new) (drawing G.gives G.Generator.stream generators.old generators.new) options (two_paths paths.entry) (W.contents writer.old.inner) (W.contents writer.new.inner)) }
-    ensures err { IfErr result (IsFormatFilesEnd (calls I.relations I.Dev.state images.old images.new) (drawing G.gives G.Generator.stream generators.old generators.new) options (two_paths paths.entry) writer.new.failed) }
+    ensures ok { OnOk result (FormatsImages I.relations I.Dev.state images.old images.new G.gives G.Generator.stream generators.old generators.new W.contents writer.old writer.new options paths.entry) }
+    ensures err { IfErr result (FailsToFormat I.relations I.Dev.state images.old images.new G.gives G.Generator.stream generators.old generators.new writer.new options paths.entry) }
     ensures quiet { IfErr result (λ fault. IsQuiet fault (W.contents writer.old.inner) (W.contents writer.new.inner)) }
 {
     let TwoImages {
@@ -68,8 +66,8 @@ pub(crate) fn make<D: BlockDev, H: SyncDev>(
     hash_dev: &mut H,
     options: FormatOptions,
 ) -> Result<MadeImage, FormatFault>
-    ensures ok { IfOk result (IsMade options (D.state data_dev.old) (H.state hash_dev.old) (D.state data_dev.new) (H.state hash_dev.new)) }
-    ensures err { IfErr result (λ fault. IsFormatEnd options (D.state data_dev.old) (H.state hash_dev.old) (D.state data_dev.new) (H.state hash_dev.new) (ImageFault.Format fault)) }
+    ensures ok { IfOk result (MakesImage D.state H.state data_dev.old hash_dev.old data_dev.new hash_dev.new options) }
+    ensures err { IfErr result (IsUnmade D.state H.state data_dev.old hash_dev.old data_dev.new hash_dev.new options) }
 {
     let blocks = given_blocks(options.blocks, options.data_block, data_dev.sectors());
     let salt = options.salt;
@@ -105,8 +103,8 @@ pub(crate) fn given_or_drawn<'a, G: Generators>(
     generators: &mut G,
     options: ImageOptions,
 ) -> Result<FormatOptions, ImageFault<'a>>
-    ensures ok { IfOk result (AreGiven (drawing G.gives G.Generator.stream generators.old generators.new) options) }
-    ensures err { IfErr result (λ fault. (fault ≡ ImageFault.Random) × IsUndrawn (drawing G.gives G.Generator.stream generators.old generators.new) options) }
+    ensures ok { IfOk result (DrawsOptions G.gives G.Generator.stream generators.old generators.new options) }
+    ensures err { IfErr result (FailsToDraw G.gives G.Generator.stream generators.old generators.new options) }
 {
     let ImageOptions {
         data_block,

@@ -1,7 +1,7 @@
 //! The two images of a command, opened one behind the other.
 ghost use Rattle.std.specs.Prelude.{◌≡◌, true, IfOk, IfErr};
-ghost use Rattle.image_files.specs.Opener.{IsFresh, calls};
-ghost use Rattle.image_commands.specs.Openings.{FailsToOpenApart, FailsToOpenTwo, OpensApart, OpensTwo, two_paths};
+ghost use Rattle.image_files.specs.Opener.{IsFresh};
+ghost use Rattle.image_commands.specs.Openings.{FailsToOpenImages, FailsToOpenTwoFiles, OpensImages, OpensTwoFiles};
 
 use block_device::OpenFault;
 use image_files::{Images, OpenImage, UnopenedFile, is_one_file, open_image};
@@ -26,9 +26,9 @@ pub fn open_two<'a, I: Images>(
     paths: ImagePaths<'a>,
     writable: bool,
 ) -> Result<TwoImages<I::Dev>, UnopenedFile<'a>>
-    ensures ok { IfOk result (OpensTwo (calls I.relations I.Dev.state images.old images.new) (two_paths paths.entry) writable) }
+    ensures ok { IfOk result (OpensImages I.relations I.Dev.state images.old images.new paths.entry writable) }
     ensures fresh { IfOk result (λ two. IsFresh (I.Dev.state two.hash.device) writable) }
-    ensures err { IfErr result (FailsToOpenTwo (calls I.relations I.Dev.state images.old images.new) (two_paths paths.entry) writable) }
+    ensures err { IfErr result (FailsToOpenImages I.relations I.Dev.state images.old images.new paths.entry writable) }
 {
     let data = open_image(images, paths.data, false)?;
     let hash = open_image(images, paths.hash, writable)?;
@@ -40,9 +40,9 @@ pub fn open_apart<'a, I: Images>(
     images: &mut I,
     paths: ImagePaths<'a>,
 ) -> Result<TwoImages<I::Dev>, UnopenedFile<'a>>
-    ensures ok { IfOk result (OpensApart (calls I.relations I.Dev.state images.old images.new) (two_paths paths.entry)) }
+    ensures ok { IfOk result (OpensTwoFiles I.relations I.Dev.state images.old images.new paths.entry) }
     ensures fresh { IfOk result (λ two. IsFresh (I.Dev.state two.hash.device) true) }
-    ensures err { IfErr result (FailsToOpenApart (calls I.relations I.Dev.state images.old images.new) (two_paths paths.entry)) }
+    ensures err { IfErr result (FailsToOpenTwoFiles I.relations I.Dev.state images.old images.new paths.entry) }
 {
     let two = open_two(images, paths, true)?;
     if is_one_file(two.data.id, two.hash.id) {

@@ -1,12 +1,9 @@
 //! The commands `dump`, `table` and `verify` with a place for the hash image in its file.
-ghost use Rattle.std.specs.Prelude.{◌++◌, true, IfErr, OnOk};
+ghost use Rattle.std.specs.Prelude.{IfErr, OnOk};
 ghost use Rattle.counted_io.specs.Counted.{Writes};
-ghost use Rattle.image_files.specs.Opener.{calls};
 ghost use Rattle.image_commands.specs.Endings.{IsQuiet};
-ghost use Rattle.image_commands.specs.PlacedImages.{IsMatchingEnd, IsPlacedImageEnd, IsPlacedMatchesEnd, IsPlacedSuperEnd, MatchesPlaced, PrintsPlacedMatches, PrintsPlacedSuper, SaysPlaced};
-ghost use Rattle.image_commands.specs.PlacedLines.{entry_head, placed_line};
-ghost use Rattle.image_commands.specs.Places.{is_aligned, two_places};
-ghost use Rattle.image_commands.specs.SuperblockJson.{dump_text};
+ghost use Rattle.image_commands.specs.PlacedImages.{DumpsImageAt, FailsToMatchAt, FailsToPrintAt, FailsToVerifyAt, IsPlacedSuperEnd, MatchesAt, PrintsLineAt, SaysFieldsAt, SaysLineAt, VerifiesImagesAt};
+ghost use Rattle.image_commands.specs.PlacedLines.{entry_head, line_at};
 
 use crate::fault::ImageFault;
 use crate::paths::{ImagePaths, open_two};
@@ -36,8 +33,8 @@ pub fn dump_placed<'a, I: Images, W: Write>(
     json: bool,
     writer: &mut Counted<W>,
 ) -> Result<(), ImageFault<'a>>
-    ensures ok { OnOk result (PrintsPlacedSuper (calls I.relations I.Dev.state images.old images.new) place.entry.path.now place.entry.first (λ s. true) (dump_text json) (W.contents writer.old.inner) (W.contents writer.new.inner)) }
-    ensures err { IfErr result (IsPlacedImageEnd (calls I.relations I.Dev.state images.old images.new) place.entry.path.now place.entry.first writer.new.failed) }
+    ensures ok { OnOk result (DumpsImageAt I.relations I.Dev.state images.old images.new W.contents writer.old writer.new place.entry json) }
+    ensures err { IfErr result (FailsToPrintAt I.relations I.Dev.state images.old images.new writer.new place.entry) }
     ensures quiet { IfErr result (λ fault. IsQuiet fault (W.contents writer.old.inner) (W.contents writer.new.inner)) }
 {
     let HashPlace { path, first } = place;
@@ -53,7 +50,7 @@ fn dump_behind<'a, H: BlockDev + Drop, W: Write>(
     json: bool,
     writer: &mut Counted<W>,
 ) -> Result<(), ImageFault<'a>>
-    ensures ok { OnOk result (SaysPlaced (H.state hash_dev) first (λ s. true) (dump_text json) (W.contents writer.old.inner) (W.contents writer.new.inner)) }
+    ensures ok { OnOk result (SaysFieldsAt H.state hash_dev W.contents writer.old writer.new first json) }
     ensures err { IfErr result (IsPlacedSuperEnd (H.state hash_dev) first writer.new.failed) }
     ensures quiet { IfErr result (λ fault. IsQuiet fault (W.contents writer.old.inner) (W.contents writer.new.inner)) }
 {
@@ -72,8 +69,8 @@ pub fn table_placed<'a, I: Images, W: Write>(
     words: LineWords<'_>,
     writer: &mut Counted<W>,
 ) -> Result<(), ImageFault<'a>>
-    ensures ok { OnOk result (PrintsPlacedSuper (calls I.relations I.Dev.state images.old images.new) place.entry.path.now place.entry.first (λ s. is_aligned place.entry.first s.hash_block) (λ s. entry_head name.entry ++ placed_line s words.entry place.entry.first) (W.contents writer.old.inner) (W.contents writer.new.inner)) }
-    ensures err { IfErr result (IsPlacedImageEnd (calls I.relations I.Dev.state images.old images.new) place.entry.path.now place.entry.first writer.new.failed) }
+    ensures ok { OnOk result (PrintsLineAt I.relations I.Dev.state images.old images.new W.contents writer.old writer.new place.entry name.entry words.entry) }
+    ensures err { IfErr result (FailsToPrintAt I.relations I.Dev.state images.old images.new writer.new place.entry) }
     ensures quiet { IfErr result (λ fault. IsQuiet fault (W.contents writer.old.inner) (W.contents writer.new.inner)) }
 {
     let HashPlace { path, first } = place;
@@ -89,7 +86,7 @@ fn table_behind<'a, H: BlockDev + Drop, W: Write>(
     words: LineWords<'_>,
     writer: &mut Counted<W>,
 ) -> Result<(), ImageFault<'a>>
-    ensures ok { OnOk result (SaysPlaced (H.state hash_dev) first (λ s. is_aligned first s.hash_block) (λ s. entry_head name.entry ++ placed_line s words.entry first) (W.contents writer.old.inner) (W.contents writer.new.inner)) }
+    ensures ok { OnOk result (SaysLineAt H.state hash_dev W.contents writer.old writer.new first name.entry words.entry) }
     ensures err { IfErr result (IsPlacedSuperEnd (H.state hash_dev) first writer.new.failed) }
     ensures quiet { IfErr result (λ fault. IsQuiet fault (W.contents writer.old.inner) (W.contents writer.new.inner)) }
 {
@@ -110,7 +107,7 @@ fn say_named_line<W: Write>(
     words: LineWords<'_>,
     first: u64,
 ) -> Result<(), WriteFault>
-    ensures { Writes W.contents writer.old writer.new (entry_head name.entry ++ placed_line superblock.now words.entry first) result }
+    ensures { Writes W.contents writer.old writer.new (line_at name.entry superblock.now words.entry first) result }
 {
     say_head(writer, name)?;
     say_placed_line(writer, superblock, words, first)
@@ -143,8 +140,8 @@ pub fn verify_placed<'a, I: Images, S: Watchers, W: Write>(
     root: &Digest,
     writer: &mut Counted<W>,
 ) -> Result<(), ImageFault<'a>>
-    ensures ok { OnOk result (PrintsPlacedMatches (calls I.relations I.Dev.state images.old images.new) (two_places watched.entry.places) root.now (W.contents writer.old.inner) (W.contents writer.new.inner)) }
-    ensures err { IfErr result (IsPlacedMatchesEnd (calls I.relations I.Dev.state images.old images.new) (two_places watched.entry.places) root.now writer.new.failed) }
+    ensures ok { OnOk result (VerifiesImagesAt I.relations I.Dev.state images.old images.new W.contents writer.old writer.new watched.entry root.now) }
+    ensures err { IfErr result (FailsToVerifyAt I.relations I.Dev.state images.old images.new writer.new watched.entry root.now) }
     ensures quiet { IfErr result (λ fault. IsQuiet fault (W.contents writer.old.inner) (W.contents writer.new.inner)) }
 {
     let WatchedPlaces { places, progress } = watched;
@@ -176,8 +173,8 @@ fn compare_behind<'a, D: BlockDev + Drop, H: BlockDev + Drop, W: Write>(
     root: &Digest,
     writer: &mut Counted<W>,
 ) -> Result<(), ImageFault<'a>>
-    ensures ok { OnOk result (MatchesPlaced (D.state data_dev) (H.state hash_dev) bounds.end bounds.first root.now (W.contents writer.old.inner) (W.contents writer.new.inner)) }
-    ensures err { IfErr result (IsMatchingEnd (D.state data_dev) (H.state hash_dev) bounds.end bounds.first root.now writer.new.failed) }
+    ensures ok { OnOk result (MatchesAt D.state H.state data_dev hash_dev W.contents writer.old writer.new bounds root.now) }
+    ensures err { IfErr result (FailsToMatchAt D.state H.state data_dev hash_dev writer.new bounds root.now) }
     ensures quiet { IfErr result (λ fault. IsQuiet fault (W.contents writer.old.inner) (W.contents writer.new.inner)) }
 {
     let mut before = Window::<D, Brand>::before(data_dev, bounds.end);

@@ -2,11 +2,8 @@
 ghost use Rattle.std.specs.Prelude.{◌≡◌, Some, IfErr, IfOk, OnOk};
 ghost use Rattle.std.specs.Option.{ForSome};
 ghost use Rattle.device_window.specs.Parts.{StandOutside, outside_of, part_behind};
-ghost use Rattle.image_files.specs.Opener.{calls};
-ghost use Rattle.image_commands.specs.Drawing.{drawing};
 ghost use Rattle.image_commands.specs.Endings.{IsQuiet};
-ghost use Rattle.image_commands.specs.PlacedFormats.{IsFormatPlacedEnd, IsMadePlaced, IsPlacedEnd, PrintsPlaced};
-ghost use Rattle.image_commands.specs.Places.{two_places};
+ghost use Rattle.image_commands.specs.PlacedFormats.{FailsToFormatAt, FormatsImagesAt, IsUnmadeAt, MakesImageAt};
 
 use crate::fault::ImageFault;
 use crate::format::{MadeImage, given_or_drawn, make, say_made};
@@ -35,8 +32,8 @@ pub fn format_placed<'a, I: Images, G: Generators + Watchers, W: Write>(
     watched: WatchedPlaces<'a>,
     writer: &mut Counted<W>,
 ) -> Result<(), ImageFault<'a>>
-    ensures ok { OnOk result (PrintsPlaced (calls I.relations I.Dev.state images.old images.new) (drawing G.gives G.Generator.stream generators.old generators.new) options (two_places watched.entry.places) (W.contents writer.old.inner) (W.contents writer.new.inner)) }
-    ensures err { IfErr result (IsFormatPlacedEnd (calls I.relations I.Dev.state images.old images.new) (drawing G.gives G.Generator.stream generators.old generators.new) options (two_places watched.entry.places) writer.new.failed) }
+    ensures ok { OnOk result (FormatsImagesAt I.relations I.Dev.state images.old images.new G.gives G.Generator.stream generators.old generators.new W.contents writer.old writer.new options watched.entry) }
+    ensures err { IfErr result (FailsToFormatAt I.relations I.Dev.state images.old images.new G.gives G.Generator.stream generators.old generators.new writer.new options watched.entry) }
     ensures quiet { IfErr result (λ fault. IsQuiet fault (W.contents writer.old.inner) (W.contents writer.new.inner)) }
 {
     let WatchedPlaces { places, progress } = watched;
@@ -65,8 +62,8 @@ fn make_behind<D: BlockDev + Drop, H: SyncDev + Drop>(
     bounds: Bounds,
     options: FormatOptions,
 ) -> (H, Result<MadeImage, FormatFault>)
-    ensures ok { IfOk result.1 (IsMadePlaced options (record { data_dev = D.state data_dev; hash_dev = H.state hash_dev; hash_dev' = H.state result.0; end = bounds.end; first = bounds.first })) }
-    ensures err { IfErr result.1 (IsPlacedEnd options (record { data_dev = D.state data_dev; hash_dev = H.state hash_dev; hash_dev' = H.state result.0; end = bounds.end; first = bounds.first })) }
+    ensures ok { IfOk result.1 (MakesImageAt D.state H.state data_dev hash_dev result.0 bounds options) }
+    ensures err { IfErr result.1 (IsUnmadeAt D.state H.state data_dev hash_dev result.0 bounds options) }
 {
     make_beside::<D, H, Brand>(alloc, data_dev, hash_dev, bounds, options)
 }
@@ -80,8 +77,8 @@ fn make_beside<D: BlockDev + Drop, H: SyncDev + Drop, K: Beside>(
     options: FormatOptions,
 ) -> (H, Result<MadeImage, FormatFault>)
     requires { K.outside ≡ Some (outside_of (H.state hash_dev).image (part_behind (H.state hash_dev) bounds.first)) }
-    ensures ok { IfOk result.1 (IsMadePlaced options (record { data_dev = D.state data_dev; hash_dev = H.state hash_dev; hash_dev' = H.state result.0; end = bounds.end; first = bounds.first })) }
-    ensures err { IfErr result.1 (IsPlacedEnd options (record { data_dev = D.state data_dev; hash_dev = H.state hash_dev; hash_dev' = H.state result.0; end = bounds.end; first = bounds.first })) }
+    ensures ok { IfOk result.1 (MakesImageAt D.state H.state data_dev hash_dev result.0 bounds options) }
+    ensures err { IfErr result.1 (IsUnmadeAt D.state H.state data_dev hash_dev result.0 bounds options) }
 {
     let mut before = Window::<D, Brand>::before(data_dev, bounds.end);
     let mut behind = Window::<H, K>::behind(hash_dev, bounds.first);

@@ -1,7 +1,7 @@
 //! Hash images that begin behind a sector of a file.
 ghost use Rattle.std.specs.Prelude.{◌≡◌, ◌&&◌, nat_lt, true, false, IfOk, IfErr};
-ghost use Rattle.image_files.specs.Opener.{IsFresh, calls};
-ghost use Rattle.image_commands.specs.Places.{FailsToOpenPlaced, OpensPlaced, data_end, is_aligned, start_behind, two_places};
+ghost use Rattle.image_files.specs.Opener.{IsFresh};
+ghost use Rattle.image_commands.specs.Places.{FailsToOpenPlaces, OpensPlaces, data_end, is_aligned, start_behind};
 
 use crate::paths::{ImagePaths, TwoImages, open_two};
 use block_device::OpenFault;
@@ -57,9 +57,9 @@ pub(crate) fn open_placed<'a, I: Images>(
     images: &mut I,
     places: ImagePlaces<'a>,
 ) -> Result<TwoImages<I::Dev>, UnopenedFile<'a>>
-    ensures ok { IfOk result (OpensPlaced (calls I.relations I.Dev.state images.old images.new) (two_places places.entry)) }
+    ensures ok { IfOk result (OpensPlaces I.relations I.Dev.state images.old images.new places.entry) }
     ensures fresh { IfOk result (λ two. IsFresh (I.Dev.state two.hash.device) true) }
-    ensures err { IfErr result (FailsToOpenPlaced (calls I.relations I.Dev.state images.old images.new) (two_places places.entry)) }
+    ensures err { IfErr result (FailsToOpenPlaces I.relations I.Dev.state images.old images.new places.entry) }
 {
     let ImagePlaces {
         data,

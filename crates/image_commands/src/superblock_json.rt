@@ -1,13 +1,12 @@
 //! The fields of a superblock as a JSON object.
 ghost use Rattle.std.specs.Prelude.{◌≡◌, ◌≤◌, length, string_bytes, IfOk, IfErr, OnOk};
-ghost use Rattle.std.specs.Io.KnownBytes.{Appends};
 ghost use Rattle.reply_json.specs.Lines.{json_line};
 ghost use Rattle.uuid.specs.Text.{hyphenated_text, lower};
 ghost use Rattle.serde_json.specs.Data.{string};
 ghost use Rattle.serde_json.specs.View.{view};
 ghost use Rattle.verity_format.specs.Line.{salt_word};
 ghost use Rattle.image_commands.specs.Endings.{IsQuiet, MayEnd};
-ghost use Rattle.image_commands.specs.SuperblockJson.{dump_text, fields_json, superblock_json};
+ghost use Rattle.image_commands.specs.SuperblockJson.{SaysDump, fields_json, superblock_json};
 
 use crate::fault::ImageFault;
 use crate::superblock_text::say_superblock;
@@ -27,7 +26,7 @@ pub(crate) fn say_dump<'a, W: Write>(
     superblock: &Superblock,
     json: bool,
 ) -> Result<(), ImageFault<'a>>
-    ensures ok { OnOk result (Appends (W.contents writer.old.inner) (W.contents writer.new.inner) (dump_text json superblock.now)) }
+    ensures ok { OnOk result (SaysDump W.contents writer.old writer.new json superblock.now) }
     ensures err { IfErr result (MayEnd writer.new.failed) }
     ensures quiet { IfErr result (λ fault. IsQuiet fault (W.contents writer.old.inner) (W.contents writer.new.inner)) }
 {

@@ -1,12 +1,8 @@
 //! The command `table`: the table line of a hash image.
 ghost use Rattle.std.specs.Prelude.{◌≡◌, OnOk, IfErr};
-ghost use Rattle.block_device.specs.Device.{Device};
-ghost use Rattle.image_files.specs.Opener.{calls};
 ghost use Rattle.verity_format.specs.Blocks.{IsOnlyRead};
-ghost use Rattle.verity_format.specs.Verifying.{IsReadCause};
-ghost use Rattle.image_commands.specs.Endings.{IsQuiet, IsVerifyEnd};
-ghost use Rattle.image_commands.specs.ImageCommands.{IsSuperblockEnd, PrintsSuperblock};
-ghost use Rattle.image_commands.specs.SuperblockTexts.{SaysSuperblock, line_text};
+ghost use Rattle.image_commands.specs.Endings.{IsQuiet};
+ghost use Rattle.image_commands.specs.ImageCommands.{FailsToPrint, FailsToSay, PrintsLine, SaysLine};
 
 use crate::fault::ImageFault;
 use block_device::BlockDev;
@@ -34,8 +30,8 @@ pub fn print_table_of_image<'a, I: Images, W: Write>(
     words: LineWords<'_>,
     writer: &mut Counted<W>,
 ) -> Result<(), ImageFault<'a>>
-    ensures ok { OnOk result (PrintsSuperblock (calls I.relations I.Dev.state images.old images.new) hash.now (λ s. line_text s words.entry.data_name.now words.entry.hash_name.now words.entry.root.now) (W.contents writer.old.inner) (W.contents writer.new.inner)) }
-    ensures err { IfErr result (IsSuperblockEnd (calls I.relations I.Dev.state images.old images.new) hash.now writer.new.failed) }
+    ensures ok { OnOk result (PrintsLine I.relations I.Dev.state images.old images.new W.contents writer.old writer.new hash.now words.entry) }
+    ensures err { IfErr result (FailsToPrint I.relations I.Dev.state images.old images.new writer.new hash.now) }
     ensures quiet { IfErr result (λ fault. IsQuiet fault (W.contents writer.old.inner) (W.contents writer.new.inner)) }
 {
     let mut image = open_image(images, hash, false)?;
@@ -51,8 +47,8 @@ fn print_table<'a, H: BlockDev, W: Write>(
     writer: &mut Counted<W>,
 ) -> Result<(), ImageFault<'a>>
     ensures read { IsOnlyRead (H.state hash_dev.old) (H.state hash_dev.new) }
-    ensures ok { OnOk result (SaysSuperblock (H.state hash_dev.old) (λ s. line_text s words.entry.data_name.now words.entry.hash_name.now words.entry.root.now) (W.contents writer.old.inner) (W.contents writer.new.inner)) }
-    ensures err { IfErr result (IsVerifyEnd (IsReadCause (H.state hash_dev.old) (H.state hash_dev.new)) writer.new.failed) }
+    ensures ok { OnOk result (SaysLine H.state hash_dev.old W.contents writer.old writer.new words.entry) }
+    ensures err { IfErr result (FailsToSay H.state hash_dev.old hash_dev.new writer.new) }
     ensures quiet { IfErr result (λ fault. IsQuiet fault (W.contents writer.old.inner) (W.contents writer.new.inner)) }
 {
     let LineWords {

@@ -2,11 +2,8 @@
 ghost use Rattle.std.specs.Prelude.{◌≡◌, Some, IfErr, IfOk, OnOk};
 ghost use Rattle.counted_io.specs.Counted.{Writes};
 ghost use Rattle.device_window.specs.Parts.{outside_of};
-ghost use Rattle.image_files.specs.Opener.{calls};
-ghost use Rattle.image_commands.specs.Drawing.{drawing};
 ghost use Rattle.image_commands.specs.Endings.{IsQuiet};
-ghost use Rattle.image_commands.specs.Places.{before, two_places};
-ghost use Rattle.image_commands.specs.TreeFormats.{IsFinished, IsFormatTreeEnd, IsTreeCause, IsTreeEnd, IsTreeKept, IsTreeMade, IsUnfinished, PrintsTree, tree_text, tree_with};
+ghost use Rattle.image_commands.specs.TreeFormats.{FailsToFormatTree, FailsToMakeTree, FormatsTree, IsFinished, IsTreeMade, IsTreeUnmade, IsUnfinished, MakesTreeBehind, tree_text};
 ghost use Rattle.image_commands.specs.TreePlaces.{tree_part};
 
 use crate::fault::ImageFault;
@@ -40,8 +37,8 @@ pub fn format_tree<'a, I: Images, G: Generators + Watchers, W: Write>(
     watched: WatchedPlaces<'a>,
     writer: &mut Counted<W>,
 ) -> Result<(), ImageFault<'a>>
-    ensures ok { OnOk result (PrintsTree (calls I.relations I.Dev.state images.old images.new) (drawing G.gives G.Generator.stream generators.old generators.new) options (two_places watched.entry.places) (W.contents writer.old.inner) (W.contents writer.new.inner)) }
-    ensures err { IfErr result (IsFormatTreeEnd (calls I.relations I.Dev.state images.old images.new) (drawing G.gives G.Generator.stream generators.old generators.new) options (two_places watched.entry.places) writer.new.failed) }
+    ensures ok { OnOk result (FormatsTree I.relations I.Dev.state images.old images.new G.gives G.Generator.stream generators.old generators.new W.contents writer.old writer.new options watched.entry) }
+    ensures err { IfErr result (FailsToFormatTree I.relations I.Dev.state images.old images.new G.gives G.Generator.stream generators.old generators.new writer.new options watched.entry) }
     ensures quiet { IfErr result (λ fault. IsQuiet fault (W.contents writer.old.inner) (W.contents writer.new.inner)) }
 {
     let WatchedPlaces { places, progress } = watched;
@@ -70,8 +67,8 @@ fn make_at<D: BlockDev + Drop, H: SyncDev + Drop>(
     bounds: Bounds,
     options: FormatOptions,
 ) -> (H, Result<MadeImage, FormatFault>)
-    ensures ok { let data_dev = before (D.state data_dev) bounds.end in IfOk result.1 (IsTreeMade (tree_with options data_dev) data_dev (H.state hash_dev) bounds.first (H.state result.0)) }
-    ensures err { let data_dev = before (D.state data_dev) bounds.end in IfErr result.1 (IsTreeEnd (tree_with options data_dev) data_dev (H.state hash_dev) bounds.first (H.state result.0)) }
+    ensures ok { IfOk result.1 (MakesTreeBehind D.state H.state data_dev hash_dev result.0 bounds options) }
+    ensures err { IfErr result.1 (FailsToMakeTree D.state H.state data_dev hash_dev result.0 bounds options) }
 {
     let mut before = Window::<D, Brand>::before(data_dev, bounds.end);
     match tree_of(options, before.sectors()) {
@@ -89,7 +86,7 @@ fn make_behind<D: BlockDev, H: SyncDev + Drop>(
     params: Superblock,
 ) -> (H, Result<MadeImage, FormatFault>)
     ensures ok { IfOk result.1 (IsTreeMade params (D.state data_dev.old) (H.state hash_dev) first (H.state result.0)) }
-    ensures err { IfErr result.1 (λ fault. IsTreeCause params (D.state data_dev.old) (H.state hash_dev) first (H.state result.0) fault × IsTreeKept params (H.state hash_dev) first (H.state result.0)) }
+    ensures err { IfErr result.1 (IsTreeUnmade params (D.state data_dev.old) (H.state hash_dev) first (H.state result.0)) }
 {
     make_beside::<D, H, Brand>(alloc, data_dev, hash_dev, first, params)
 }
@@ -104,7 +101,7 @@ fn make_beside<D: BlockDev, H: SyncDev + Drop, K: Beside>(
 ) -> (H, Result<MadeImage, FormatFault>)
     requires { K.outside ≡ Some (outside_of (H.state hash_dev).image (tree_part (H.state hash_dev) first)) }
     ensures ok { IfOk result.1 (IsTreeMade params (D.state data_dev.old) (H.state hash_dev) first (H.state result.0)) }
-    ensures err { IfErr result.1 (λ fault. IsTreeCause params (D.state data_dev.old) (H.state hash_dev) first (H.state result.0) fault × IsTreeKept params (H.state hash_dev) first (H.state result.0)) }
+    ensures err { IfErr result.1 (IsTreeUnmade params (D.state data_dev.old) (H.state hash_dev) first (H.state result.0)) }
 {
     let part = tree_part(&hash_dev, first);
     let window = Window::<H, K> {

@@ -1,9 +1,9 @@
 //! The command `table --no-superblock`: the table line of a tree alone.
-ghost use Rattle.std.specs.Prelude.{◌≡◌, ◌++◌, IfErr, OnOk};
+ghost use Rattle.std.specs.Prelude.{◌≡◌, IfErr, OnOk};
 ghost use Rattle.counted_io.specs.Counted.{Writes};
 ghost use Rattle.image_commands.specs.Endings.{IsQuiet};
-ghost use Rattle.image_commands.specs.PlacedLines.{entry_head, tree_line};
-ghost use Rattle.image_commands.specs.TreeImages.{IsTreeLineEnd, PrintsTreeLine};
+ghost use Rattle.image_commands.specs.PlacedLines.{tree_at};
+ghost use Rattle.image_commands.specs.TreeImages.{IsTreeLineEnd, SaysTreeLine};
 
 use crate::fault::ImageFault;
 use crate::placed::say_head;
@@ -26,7 +26,7 @@ pub fn print_tree_line<'a, W: Write>(
     options: FormatOptions,
     writer: &mut Counted<W>,
 ) -> Result<(), ImageFault<'a>>
-    ensures ok { OnOk result (PrintsTreeLine first name.entry words.entry options (W.contents writer.old.inner) (W.contents writer.new.inner)) }
+    ensures ok { OnOk result (SaysTreeLine W.contents writer.old writer.new first name.entry words.entry options) }
     ensures err { IfErr result (IsTreeLineEnd first options writer.new.failed) }
     ensures quiet { IfErr result (λ fault. IsQuiet fault (W.contents writer.old.inner) (W.contents writer.new.inner)) }
 {
@@ -46,7 +46,7 @@ fn say_tree_entry<W: Write>(
     words: LineWords<'_>,
     first: u64,
 ) -> Result<(), WriteFault>
-    ensures { Writes W.contents writer.old writer.new (entry_head name.entry ++ tree_line superblock.now words.entry first) result }
+    ensures { Writes W.contents writer.old writer.new (tree_at name.entry superblock.now words.entry first) result }
 {
     say_head(writer, name)?;
     say_tree_line(writer, superblock, words, first)

@@ -1,10 +1,7 @@
 //! The command `verify --no-superblock`: compares a tree alone with a data image.
 ghost use Rattle.std.specs.Prelude.{◌≡◌, IfErr, OnOk};
-ghost use Rattle.image_files.specs.Opener.{calls};
 ghost use Rattle.image_commands.specs.Endings.{IsQuiet};
-ghost use Rattle.image_commands.specs.Places.{before, two_places};
-ghost use Rattle.image_commands.specs.TreeFormats.{tree_with};
-ghost use Rattle.image_commands.specs.TreeImages.{IsTreeComparisonEnd, IsTreeMatchesEnd, MatchesTree, PrintsTreeMatches};
+ghost use Rattle.image_commands.specs.TreeImages.{FailsAtShape, FailsAtTree, FailsToVerifyTree, MatchesShape, MatchesTreeAt, VerifiesTree};
 
 use crate::fault::ImageFault;
 use crate::paths::{ImagePaths, open_two};
@@ -42,8 +39,8 @@ pub fn verify_tree<'a, I: Images, S: Watchers, W: Write>(
     expected: &ExpectedTree,
     writer: &mut Counted<W>,
 ) -> Result<(), ImageFault<'a>>
-    ensures ok { OnOk result (PrintsTreeMatches (calls I.relations I.Dev.state images.old images.new) (two_places watched.entry.places) expected.now.options expected.now.root (W.contents writer.old.inner) (W.contents writer.new.inner)) }
-    ensures err { IfErr result (IsTreeMatchesEnd (calls I.relations I.Dev.state images.old images.new) (two_places watched.entry.places) expected.now.options expected.now.root writer.new.failed) }
+    ensures ok { OnOk result (VerifiesTree I.relations I.Dev.state images.old images.new W.contents writer.old writer.new watched.entry expected.now) }
+    ensures err { IfErr result (FailsToVerifyTree I.relations I.Dev.state images.old images.new writer.new watched.entry expected.now) }
     ensures quiet { IfErr result (λ fault. IsQuiet fault (W.contents writer.old.inner) (W.contents writer.new.inner)) }
 {
     let WatchedPlaces { places, progress } = watched;
@@ -81,8 +78,8 @@ fn compare_at<'a, D: BlockDev + Drop, H: BlockDev + Drop, W: Write>(
     root: &Digest,
     writer: &mut Counted<W>,
 ) -> Result<(), ImageFault<'a>>
-    ensures ok { let data_dev = before (D.state devices.0) bounds.end in OnOk result (MatchesTree (tree_with options data_dev) data_dev (H.state devices.1) bounds.first root.now (W.contents writer.old.inner) (W.contents writer.new.inner)) }
-    ensures err { let data_dev = before (D.state devices.0) bounds.end in IfErr result (IsTreeComparisonEnd (tree_with options data_dev) data_dev (H.state devices.1) bounds.first root.now writer.new.failed) }
+    ensures ok { OnOk result (MatchesTreeAt D.state H.state devices.0 devices.1 W.contents writer.old writer.new bounds options root.now) }
+    ensures err { IfErr result (FailsAtTree D.state H.state devices.0 devices.1 writer.new bounds options root.now) }
     ensures quiet { IfErr result (λ fault. IsQuiet fault (W.contents writer.old.inner) (W.contents writer.new.inner)) }
 {
     let (data_dev, hash_dev) = devices;
@@ -108,8 +105,8 @@ fn compare_tree<'a, D: BlockDev, H: BlockDev + Drop, W: Write>(
     root: &Digest,
     writer: &mut Counted<W>,
 ) -> Result<(), ImageFault<'a>>
-    ensures ok { OnOk result (MatchesTree params (D.state data_dev.old) (H.state placed.0) placed.1 root.now (W.contents writer.old.inner) (W.contents writer.new.inner)) }
-    ensures err { IfErr result (IsTreeComparisonEnd params (D.state data_dev.old) (H.state placed.0) placed.1 root.now writer.new.failed) }
+    ensures ok { OnOk result (MatchesShape params D.state H.state data_dev.old placed.0 placed.1 W.contents writer.old writer.new root.now) }
+    ensures err { IfErr result (FailsAtShape params D.state H.state data_dev.old placed.0 placed.1 writer.new root.now) }
     ensures quiet { IfErr result (λ fault. IsQuiet fault (W.contents writer.old.inner) (W.contents writer.new.inner)) }
 {
     let (hash_dev, first) = placed;

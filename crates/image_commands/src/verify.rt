@@ -1,13 +1,7 @@
 //! The command `verify`: compares a hash image with a data image.
-ghost use Rattle.std.specs.Prelude.{◌≡◌, OnOk, IfErr, codes};
-ghost use Rattle.std.specs.Io.KnownBytes.{Appends};
-ghost use Rattle.block_device.specs.Device.{Device};
-ghost use Rattle.image_files.specs.Opener.{calls};
-ghost use Rattle.verity_format.specs.Blocks.{IsOnlyRead};
-ghost use Rattle.verity_format.specs.Verifying.{IsFound, IsVerifyCause};
-ghost use Rattle.image_commands.specs.Endings.{IsComparisonEnd, IsQuiet};
-ghost use Rattle.image_commands.specs.ImageCommands.{IsVerifyFilesEnd, PrintsMatches};
-ghost use Rattle.image_commands.specs.Openings.{two_paths};
+ghost use Rattle.std.specs.Prelude.{◌≡◌, OnOk, IfErr};
+ghost use Rattle.image_commands.specs.Endings.{IsQuiet};
+ghost use Rattle.image_commands.specs.ImageCommands.{FailsToCompare, FailsToVerify, FindsMatches, OnlyReads, VerifiesImages};
 
 use crate::fault::ImageFault;
 use crate::paths::{ImagePaths, open_two};
@@ -28,8 +22,8 @@ pub fn verify_images<'a, I: Images, W: Write>(
     root: &Digest,
     writer: &mut Counted<W>,
 ) -> Result<(), ImageFault<'a>>
-    ensures ok { OnOk result (PrintsMatches (calls I.relations I.Dev.state images.old images.new) (two_paths paths.entry) root.now (W.contents writer.old.inner) (W.contents writer.new.inner)) }
-    ensures err { IfErr result (IsVerifyFilesEnd (calls I.relations I.Dev.state images.old images.new) (two_paths paths.entry) root.now writer.new.failed) }
+    ensures ok { OnOk result (VerifiesImages I.relations I.Dev.state images.old images.new W.contents writer.old writer.new paths.entry root.now) }
+    ensures err { IfErr result (FailsToVerify I.relations I.Dev.state images.old images.new writer.new paths.entry root.now) }
     ensures quiet { IfErr result (λ fault. IsQuiet fault (W.contents writer.old.inner) (W.contents writer.new.inner)) }
 {
     let mut two = open_two(images, paths, false)?;
@@ -51,11 +45,9 @@ pub(crate) fn compare<'a, D: BlockDev, H: BlockDev, W: Write>(
     root: &Digest,
     writer: &mut Counted<W>,
 ) -> Result<(), ImageFault<'a>>
-    ensures read { IsOnlyRead (D.state data_dev.old) (D.state data_dev.new) × IsOnlyRead (H.state hash_dev.old) (H.state hash_dev.new) }
-    ensures ok { OnOk result (IsFound (D.state data_dev.old) (H.state hash_dev.old) (D.state data_dev.new) (H.state hash_dev.new) root.now Verdict.Matches
-        × Appends (W.contents writer.old.inner) (W.contents writer.new.inner) (codes "matches\n")) }
-    ensures err { IfErr result (IsComparisonEnd (IsVerifyCause (D.state data_dev.old) (H.state hash_dev.old) (D.state data_dev.new) (H.state hash_dev.new))
-        (IsFound (D.state data_dev.old) (H.state hash_dev.old) (D.state data_dev.new) (H.state hash_dev.new) root.now) writer.new.failed) }
+    ensures read { OnlyReads D.state H.state data_dev.old hash_dev.old data_dev.new hash_dev.new }
+    ensures ok { OnOk result (FindsMatches D.state H.state data_dev.old hash_dev.old data_dev.new hash_dev.new W.contents writer.old writer.new root.now) }
+    ensures err { IfErr result (FailsToCompare D.state H.state data_dev.old hash_dev.old data_dev.new hash_dev.new writer.new root.now) }
     ensures quiet { IfErr result (λ fault. IsQuiet fault (W.contents writer.old.inner) (W.contents writer.new.inner)) }
 {
     match verify(alloc, data_dev, hash_dev, root)? {

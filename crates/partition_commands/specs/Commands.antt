@@ -2,13 +2,14 @@
 use Rattle.std.specs.Prelude.{◌≡◌, ◌⊎◌, ℕ, Bool, true, false, List, Option, Ok, Err}
 use Rattle.std.specs.Io.KnownBytes.{Appends}
 use Rattle.block_device.specs.Device.{Device}
+use Rattle.counted_io.specs.Counted.{CountedRecord}
 use Rattle.device_window.specs.declared.part.Part.{Part}
 use Rattle.device_window.specs.Parts.{LiesInside}
 use Rattle.device_window.specs.Windows.{windowed}
 use Rattle.image_files.specs.declared.images.OpenImage.{OpenImage}
 use Rattle.image_files.specs.declared.opening.UnopenedFile.{UnopenedFile}
 use Rattle.image_files.specs.Opened.{Opens, Refuses}
-use Rattle.image_files.specs.Opener.{Calls}
+use Rattle.image_files.specs.Opener.{Calls, Opener, calls}
 use Rattle.partition_table.specs.declared.partition.Partition.{Partition}
 use Rattle.partition_table.specs.declared.sector_size.SectorSize.{SectorSize}
 use Rattle.partition_table.specs.declared.table.NoTable.{NoTable}
@@ -24,6 +25,7 @@ use Rattle.partition_commands.specs.declared.root.ImagePartitions.{ImagePartitio
 use Rattle.partition_commands.specs.Parts.{part_of}
 use Rattle.partition_commands.specs.RootStacks.{root_stack_text}
 use Rattle.partition_commands.specs.Roots.{image_partitions}
+use Rattle.partition_commands.specs.Stacks.{stack_text}
 
 -- a text of the table that was found on the device was written
 pub record PrintsPartitions (old new : Device) (size : SectorSize) (text : List Partition → Source → List ℕ) (written now_written : Option (List ℕ)) : Type 0 where
@@ -131,3 +133,34 @@ pub record EndsRoot {S D : Type 0} (w : Calls S D) (path : List ℕ) (size : Sec
 
 abbrev pub IsRootOfImageEnd : {S D : Type 0} → Calls S D → List ℕ → SectorSize → List ℕ → Bool → PartitionsFault → Type 0
 IsRootOfImageEnd w path size root failed fault = IsUnopened (Refuses w path false) fault ⊎ EndsRoot w path size root failed fault
+
+-- ---- as a call sees them: what a proof sees of an opener, a device or a writer, and these before and after
+
+-- a text of the table of a device, or of an image, and the stack text
+abbrev pub Prints : {D W : Type 0} → (D → Device) → D → D → (W → Option (List ℕ)) → CountedRecord W → CountedRecord W → SectorSize → (List Partition → Source → List ℕ) → Type 0
+Prints state device device' contents writer writer' size text =
+    PrintsPartitions (state device) (state device') size text (contents writer.inner) (contents writer'.inner)
+
+abbrev pub PrintsStack : {D W : Type 0} → (D → Device) → D → D → (W → Option (List ℕ)) → CountedRecord W → CountedRecord W → SectorSize → Type 0
+PrintsStack state device device' contents writer writer' size =
+    PrintsPartitions (state device) (state device') size (λ partitions source. stack_text size partitions) (contents writer.inner) (contents writer'.inner)
+
+abbrev pub PrintsImage : {S D W : Type 0} → Opener S D → (D → Device) → S → S → (W → Option (List ℕ)) → CountedRecord W → CountedRecord W → List ℕ → SectorSize → (List Partition → Source → List ℕ) → Type 0
+PrintsImage relations state images images' contents writer writer' path size text = PrintsOfImage (calls relations state images images') path size text (contents writer.inner) (contents writer'.inner)
+
+abbrev pub PrintsStackOf : {S D W : Type 0} → Opener S D → (D → Device) → S → S → (W → Option (List ℕ)) → CountedRecord W → CountedRecord W → List ℕ → SectorSize → Type 0
+PrintsStackOf relations state images images' contents writer writer' path size =
+    PrintsOfImage (calls relations state images images') path size (λ partitions source. stack_text size partitions) (contents writer.inner) (contents writer'.inner)
+
+abbrev pub FailsToPrint : {S D W : Type 0} → Opener S D → (D → Device) → S → S → CountedRecord W → List ℕ → SectorSize → PartitionsFault → Type 0
+FailsToPrint relations state images images' writer' path size = IsImageEnd (calls relations state images images') path (λ old new. IsTableEnd old new size writer'.failed)
+
+-- the stack text of a root
+abbrev pub SaysRoot : {D W : Type 0} → (D → Device) → D → (W → Option (List ℕ)) → CountedRecord W → CountedRecord W → SectorSize → List ℕ → Type 0
+SaysRoot state device contents writer writer' size root = PrintsRoot (state device) size root (contents writer.inner) (contents writer'.inner)
+
+abbrev pub PrintsRootOf : {S D W : Type 0} → Opener S D → (D → Device) → S → S → (W → Option (List ℕ)) → CountedRecord W → CountedRecord W → List ℕ → SectorSize → List ℕ → Type 0
+PrintsRootOf relations state images images' contents writer writer' path size root = PrintsRootOfImage (calls relations state images images') path size root (contents writer.inner) (contents writer'.inner)
+
+abbrev pub FailsToFind : {S D W : Type 0} → Opener S D → (D → Device) → S → S → CountedRecord W → List ℕ → SectorSize → List ℕ → PartitionsFault → Type 0
+FailsToFind relations state images images' writer' path size root = IsRootOfImageEnd (calls relations state images images') path size root writer'.failed

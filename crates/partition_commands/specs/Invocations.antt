@@ -1,8 +1,11 @@
 -- What the command `partitions` prints by its words, and how it ends early.
 use Rattle.std.specs.Prelude.{ℕ, ◌==◌, Bool, List, Option, if◌then◌else◌}
+use Rattle.block_device.specs.Device.{Device}
 use Rattle.command_line.specs.Values.{FormRecord, lines, object, root, stack}
-use Rattle.command_line.specs.words.Partitions.{PartitionsRecord}
-use Rattle.image_files.specs.Opener.{Calls}
+use Rattle.command_line.specs.declared.words.partitions.PartitionsWords.{PartitionsWords}
+use Rattle.command_line.specs.words.Partitions.{PartitionsRecord, partitions_record}
+use Rattle.counted_io.specs.Counted.{CountedRecord}
+use Rattle.image_files.specs.Opener.{Calls, Opener, calls}
 use Rattle.partition_table.specs.declared.sector_size.SectorSize.{SectorSize}
 use Rattle.partition_table.specs.declared.sector_size.SectorSize.TheVariants.{Bytes4096, Bytes512}
 use Rattle.partition_commands.specs.declared.fault.PartitionsFault.{PartitionsFault}
@@ -32,3 +35,11 @@ ListsPartitions w p old new = PrintsForm w p.image (size_of p.sector_size) p.for
 
 abbrev pub IsListingEnd : {S D : Type 0} → Calls S D → PartitionsRecord → Bool → PartitionsFault → Type 0
 IsListingEnd w p failed fault = IsFormEnd w p.image (size_of p.sector_size) p.form failed fault
+
+-- ---- as a call sees them, by the program's own words
+
+abbrev pub ListsByWords : {S D W : Type 0} → Opener S D → (D → Device) → S → S → (W → Option (List ℕ)) → CountedRecord W → CountedRecord W → PartitionsWords → Type 0
+ListsByWords relations state images images' contents writer writer' words = ListsPartitions (calls relations state images images') (partitions_record words) (contents writer.inner) (contents writer'.inner)
+
+abbrev pub FailsToList : {S D W : Type 0} → Opener S D → (D → Device) → S → S → CountedRecord W → PartitionsWords → PartitionsFault → Type 0
+FailsToList relations state images images' writer' words = IsListingEnd (calls relations state images images') (partitions_record words) writer'.failed

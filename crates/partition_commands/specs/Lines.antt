@@ -1,6 +1,8 @@
 -- The printed lines of a table.
 use Rattle.std.specs.Prelude.{ℕ, List, ◌++◌, codes, decimal, Option, Some, None}
+use Rattle.std.specs.Io.KnownBytes.{Appends}
 use Rattle.std.specs.List.{flat_map}
+use Rattle.counted_io.specs.Counted.{CountedRecord}
 use Rattle.uuid.specs.Text.{hyphenated_text, lower}
 use Rattle.partition_table.specs.declared.partition.Partition.{Partition}
 use Rattle.partition_table.specs.declared.read_fault.ReadFault.{ReadFault}
@@ -22,6 +24,10 @@ uuid_word uuid = hyphenated_text lower uuid ++ codes " "
 -- the type, its name, and the partition's own identifier
 unfoldable pub uuids_text : Partition → List ℕ
 uuids_text p = uuid_word p.kind ++ (kind_name p.kind ++ (codes " " ++ uuid_word p.uuid))
+
+-- a partition and the text of its label
+abbrev pub line_with : Partition → List ℕ → List ℕ
+line_with p label = range_text p ++ (uuids_text p ++ (label ++ codes "\n"))
 
 -- a partition: its number, first sector, sectors, type, the type's name, identifier and label
 unfoldable pub partition_line : Partition → List ℕ
@@ -49,3 +55,9 @@ partition_lines partitions = flat_map partition_line partitions
 -- a table: which copies are good, and its partitions
 abbrev pub table_text : List Partition → Source → List ℕ
 table_text partitions source = source_line source ++ partition_lines partitions
+
+-- ---- as a call sees them
+
+-- that text was written
+abbrev pub Says : {W : Type 0} → (W → Option (List ℕ)) → CountedRecord W → CountedRecord W → List ℕ → Type 0
+Says contents writer writer' text = Appends (contents writer.inner) (contents writer'.inner) text

@@ -2,6 +2,7 @@
 use Rattle.std.specs.Prelude.{◌≡◌, ℕ, Bool, true, List, Option}
 use Rattle.std.specs.Io.KnownBytes.{Appends}
 use Rattle.block_device.specs.Device.{Device}
+use Rattle.counted_io.specs.Counted.{CountedRecord}
 use Rattle.partition_table.specs.declared.partition.Partition.{Partition}
 use Rattle.partition_table.specs.declared.sector_size.SectorSize.{SectorSize}
 use Rattle.partition_table.specs.declared.table.Source.{Source}
@@ -28,3 +29,9 @@ abbrev pub IsSayEnd : Bool → PrintFault → Type 0
 IsSayEnd failed NoMemory = Unit {0}
 IsSayEnd failed (Table fault) = ⊥
 IsSayEnd failed Write = failed ≡ true
+
+-- ---- as a call sees them
+
+abbrev pub PrintsTableOf : {D W : Type 0} → (D → Device) → D → D → (W → Option (List ℕ)) → CountedRecord W → CountedRecord W → SectorSize → Type 0
+PrintsTableOf state device device' contents writer writer' size =
+    PrintsTable (state device) (state device') size (contents writer.inner) (contents writer'.inner)

@@ -1,9 +1,7 @@
 //! The commands `partitions`, `partitions --json` and `partitions --stack`, of an image.
 ghost use Rattle.std.specs.Prelude.{IfErr, OnOk};
-ghost use Rattle.std.specs.Io.KnownBytes.{Appends};
-ghost use Rattle.image_files.specs.Opener.{calls};
-ghost use Rattle.partition_commands.specs.Commands.{IsImageEnd, IsSayFault, IsTableEnd, PrintsOfImage, PrintsPartitions};
-ghost use Rattle.partition_commands.specs.Lines.{table_text};
+ghost use Rattle.partition_commands.specs.Commands.{FailsToPrint, IsSayFault, IsTableEnd, Prints, PrintsImage, PrintsStack, PrintsStackOf};
+ghost use Rattle.partition_commands.specs.Lines.{Says, table_text};
 ghost use Rattle.partition_commands.specs.Objects.{table_line};
 ghost use Rattle.partition_commands.specs.Stacks.{partition_entry, stack_text};
 
@@ -25,8 +23,8 @@ pub fn partitions_of_image<'a, I: Images, W: Write>(
     size: SectorSize,
     writer: &mut Counted<W>,
 ) -> Result<(), PartitionsFault<'a>>
-    ensures ok { OnOk result (PrintsOfImage (calls I.relations I.Dev.state images.old images.new) path.now size table_text (W.contents writer.old.inner) (W.contents writer.new.inner)) }
-    ensures err { IfErr result (IsImageEnd (calls I.relations I.Dev.state images.old images.new) path.now (λ old new. IsTableEnd old new size writer.new.failed)) }
+    ensures ok { OnOk result (PrintsImage I.relations I.Dev.state images.old images.new W.contents writer.old writer.new path.now size table_text) }
+    ensures err { IfErr result (FailsToPrint I.relations I.Dev.state images.old images.new writer.new path.now size) }
 {
     let mut image = open_image(images, path, false)?;
     list_partitions(alloc, &mut image.device, size, writer)
@@ -39,7 +37,7 @@ fn list_partitions<'a, D: BlockDev, W: Write>(
     size: SectorSize,
     writer: &mut Counted<W>,
 ) -> Result<(), PartitionsFault<'a>>
-    ensures ok { OnOk result (PrintsPartitions (D.state device.old) (D.state device.new) size table_text (W.contents writer.old.inner) (W.contents writer.new.inner)) }
+    ensures ok { OnOk result (Prints D.state device.old device.new W.contents writer.old writer.new size table_text) }
     ensures err { IfErr result (IsTableEnd (D.state device.old) (D.state device.new) size writer.new.failed) }
 {
     match print_partitions(alloc, device, size, writer) {
@@ -58,8 +56,8 @@ pub fn object_of_image<'a, I: Images, W: Write>(
     size: SectorSize,
     writer: &mut Counted<W>,
 ) -> Result<(), PartitionsFault<'a>>
-    ensures ok { OnOk result (PrintsOfImage (calls I.relations I.Dev.state images.old images.new) path.now size table_line (W.contents writer.old.inner) (W.contents writer.new.inner)) }
-    ensures err { IfErr result (IsImageEnd (calls I.relations I.Dev.state images.old images.new) path.now (λ old new. IsTableEnd old new size writer.new.failed)) }
+    ensures ok { OnOk result (PrintsImage I.relations I.Dev.state images.old images.new W.contents writer.old writer.new path.now size table_line) }
+    ensures err { IfErr result (FailsToPrint I.relations I.Dev.state images.old images.new writer.new path.now size) }
 {
     let mut image = open_image(images, path, false)?;
     list_object(alloc, &mut image.device, size, writer)
@@ -72,7 +70,7 @@ fn list_object<'a, D: BlockDev, W: Write>(
     size: SectorSize,
     writer: &mut Counted<W>,
 ) -> Result<(), PartitionsFault<'a>>
-    ensures ok { OnOk result (PrintsPartitions (D.state device.old) (D.state device.new) size table_line (W.contents writer.old.inner) (W.contents writer.new.inner)) }
+    ensures ok { OnOk result (Prints D.state device.old device.new W.contents writer.old writer.new size table_line) }
     ensures err { IfErr result (IsTableEnd (D.state device.old) (D.state device.new) size writer.new.failed) }
 {
     let table = read_table(alloc, device, size)?;
@@ -89,8 +87,8 @@ pub fn stack_of_image<'a, I: Images, W: Write>(
     size: SectorSize,
     writer: &mut Counted<W>,
 ) -> Result<(), PartitionsFault<'a>>
-    ensures ok { OnOk result (PrintsOfImage (calls I.relations I.Dev.state images.old images.new) path.now size (λ partitions source. stack_text size partitions) (W.contents writer.old.inner) (W.contents writer.new.inner)) }
-    ensures err { IfErr result (IsImageEnd (calls I.relations I.Dev.state images.old images.new) path.now (λ old new. IsTableEnd old new size writer.new.failed)) }
+    ensures ok { OnOk result (PrintsStackOf I.relations I.Dev.state images.old images.new W.contents writer.old writer.new path.now size) }
+    ensures err { IfErr result (FailsToPrint I.relations I.Dev.state images.old images.new writer.new path.now size) }
 {
     let mut image = open_image(images, path, false)?;
     list_entries(alloc, &mut image.device, size, writer)
@@ -103,7 +101,7 @@ fn list_entries<'a, D: BlockDev, W: Write>(
     size: SectorSize,
     writer: &mut Counted<W>,
 ) -> Result<(), PartitionsFault<'a>>
-    ensures ok { OnOk result (PrintsPartitions (D.state device.old) (D.state device.new) size (λ partitions source. stack_text size partitions) (W.contents writer.old.inner) (W.contents writer.new.inner)) }
+    ensures ok { OnOk result (PrintsStack D.state device.old device.new W.contents writer.old writer.new size) }
     ensures err { IfErr result (IsTableEnd (D.state device.old) (D.state device.new) size writer.new.failed) }
 {
     let table = read_table(alloc, device, size)?;
@@ -117,7 +115,7 @@ fn say_entries<'a, W: Write>(
     size: SectorSize,
     partitions: &[Partition],
 ) -> Result<(), PartitionsFault<'a>>
-    ensures ok { OnOk result (Appends (W.contents writer.old.inner) (W.contents writer.new.inner) (stack_text size partitions.now)) }
+    ensures ok { OnOk result (Says W.contents writer.old writer.new (stack_text size partitions.now)) }
     ensures err { IfErr result (IsSayFault writer.new.failed) }
 {
     for partition in partitions {
@@ -134,7 +132,7 @@ fn say_partition_entry<'a, W: Write>(
     partitions: &[Partition],
     partition: &Partition,
 ) -> Result<(), PartitionsFault<'a>>
-    ensures ok { OnOk result (Appends (W.contents writer.old.inner) (W.contents writer.new.inner) (partition_entry size partitions.now partition.now)) }
+    ensures ok { OnOk result (Says W.contents writer.old writer.new (partition_entry size partitions.now partition.now)) }
     ensures err { IfErr result (IsSayFault writer.new.failed) }
 {
     let name = partition_name(alloc, partitions, partition)?;

@@ -1,8 +1,6 @@
 //! The command `partitions` by its words.
 ghost use Rattle.std.specs.Prelude.{◌≡◌, OnOk, IfErr};
-ghost use Rattle.command_line.specs.words.Partitions.{partitions_record};
-ghost use Rattle.image_files.specs.Opener.{calls};
-ghost use Rattle.partition_commands.specs.Invocations.{IsListingEnd, ListsPartitions, size_of};
+ghost use Rattle.partition_commands.specs.Invocations.{FailsToList, ListsByWords, size_of};
 
 use crate::fault::PartitionsFault;
 use crate::image::{object_of_image, partitions_of_image, stack_of_image};
@@ -34,8 +32,8 @@ pub fn invoke_partitions<'a, I: Images, W: Write>(
     words: PartitionsWords<'a>,
     writer: &mut Counted<W>,
 ) -> Result<(), PartitionsFault<'a>>
-    ensures ok { OnOk result (ListsPartitions (calls I.relations I.Dev.state images.old images.new) (partitions_record words.entry) (W.contents writer.old.inner) (W.contents writer.new.inner)) }
-    ensures err { IfErr result (IsListingEnd (calls I.relations I.Dev.state images.old images.new) (partitions_record words.entry) writer.new.failed) }
+    ensures ok { OnOk result (ListsByWords I.relations I.Dev.state images.old images.new W.contents writer.old writer.new words.entry) }
+    ensures err { IfErr result (FailsToList I.relations I.Dev.state images.old images.new writer.new words.entry) }
 {
     let PartitionsWords {
         image,

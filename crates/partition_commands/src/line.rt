@@ -1,8 +1,7 @@
 //! The printed lines of a table.
 ghost use Rattle.std.specs.Prelude.{◌++◌, IfErr, OnOk, codes};
-ghost use Rattle.std.specs.Io.KnownBytes.{Appends};
 ghost use Rattle.counted_io.specs.Counted.{Writes};
-ghost use Rattle.partition_commands.specs.Lines.{fault_line, number_word, partition_line, range_text, source_line, uuid_word, uuids_text};
+ghost use Rattle.partition_commands.specs.Lines.{Says, fault_line, line_with, number_word, partition_line, range_text, source_line, uuid_word, uuids_text};
 ghost use Rattle.partition_commands.specs.Prints.{IsSayEnd};
 
 use crate::{PrintFault, kind_name, label_text};
@@ -62,7 +61,7 @@ fn say_labeled<W: Write>(
     partition: &Partition,
     label: &str,
 ) -> Result<(), WriteFault>
-    ensures { Writes W.contents writer.old writer.new (range_text partition.now ++ (uuids_text partition.now ++ (label.now ++ codes "\n"))) result }
+    ensures { Writes W.contents writer.old writer.new (line_with partition.now label.now) result }
 {
     say_range(writer, partition)?;
     say_uuids(writer, partition)?;
@@ -77,7 +76,7 @@ pub(crate) fn say_partition<W: Write>(
     writer: &mut Counted<W>,
     partition: &Partition,
 ) -> Result<(), PrintFault>
-    ensures ok { OnOk result (Appends (W.contents writer.old.inner) (W.contents writer.new.inner) (partition_line partition.now)) }
+    ensures ok { OnOk result (Says W.contents writer.old writer.new (partition_line partition.now)) }
     ensures err { IfErr result (IsSayEnd writer.new.failed) }
 {
     let label = label_text(alloc, &partition.label)?;

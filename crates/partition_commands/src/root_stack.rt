@@ -1,10 +1,9 @@
 //! The command `partitions --root`: the stack that opens a verity image of two partitions.
 ghost use Rattle.std.specs.Prelude.{ℕ, List, IfErr, IfOk, OnOk};
-ghost use Rattle.std.specs.Io.KnownBytes.{Appends};
 ghost use Rattle.device_window.specs.Windows.{windowed};
-ghost use Rattle.image_files.specs.Opener.{calls};
 ghost use Rattle.verity_format.specs.Verifying.{IsReadFrom};
-ghost use Rattle.partition_commands.specs.Commands.{IsRootEnd, IsRootOfImageEnd, IsSayFault, IsSuperEnd, PrintsRoot, PrintsRootOfImage};
+ghost use Rattle.partition_commands.specs.Commands.{FailsToFind, IsRootEnd, IsSayFault, IsSuperEnd, PrintsRootOf, SaysRoot};
+ghost use Rattle.partition_commands.specs.Lines.{Says};
 ghost use Rattle.partition_commands.specs.RootStacks.{root_entry, root_stack_text};
 
 use crate::entries::{say_entry, say_linear_entry};
@@ -30,8 +29,8 @@ pub fn root_stack_of_image<'a, I: Images, W: Write>(
     root: &Digest,
     writer: &mut Counted<W>,
 ) -> Result<(), PartitionsFault<'a>>
-    ensures ok { OnOk result (PrintsRootOfImage (calls I.relations I.Dev.state images.old images.new) path.now size root.now (W.contents writer.old.inner) (W.contents writer.new.inner)) }
-    ensures err { IfErr result (IsRootOfImageEnd (calls I.relations I.Dev.state images.old images.new) path.now size root.now writer.new.failed) }
+    ensures ok { OnOk result (PrintsRootOf I.relations I.Dev.state images.old images.new W.contents writer.old writer.new path.now size root.now) }
+    ensures err { IfErr result (FailsToFind I.relations I.Dev.state images.old images.new writer.new path.now size root.now) }
 {
     let image = open_image(images, path, false)?;
     print_root_stack(alloc, image.device, size, root, writer)
@@ -45,7 +44,7 @@ fn print_root_stack<'a, D: BlockDev + Drop, W: Write>(
     root: &Digest,
     writer: &mut Counted<W>,
 ) -> Result<(), PartitionsFault<'a>>
-    ensures ok { OnOk result (PrintsRoot (D.state device) size root.now (W.contents writer.old.inner) (W.contents writer.new.inner)) }
+    ensures ok { OnOk result (SaysRoot D.state device W.contents writer.old writer.new size root.now) }
     ensures err { IfErr result (IsRootEnd size root.now writer.new.failed (D.state device)) }
 {
     let mut device = device;
@@ -77,7 +76,7 @@ fn say_root_stack<'a, W: Write>(
     superblock: &Superblock,
     root: &Digest,
 ) -> Result<(), PartitionsFault<'a>>
-    ensures ok { OnOk result (Appends (W.contents writer.old.inner) (W.contents writer.new.inner) (root_stack_text size both.now superblock.now root.now)) }
+    ensures ok { OnOk result (Says W.contents writer.old writer.new (root_stack_text size both.now superblock.now root.now)) }
     ensures err { IfErr result (IsSayFault writer.new.failed) }
 {
     say_linear_entry(writer, b"data", part_of(size, &both.data))?;
@@ -92,7 +91,7 @@ fn say_root_entry<'a, W: Write>(
     superblock: &Superblock,
     root: &Digest,
 ) -> Result<(), PartitionsFault<'a>>
-    ensures ok { OnOk result (Appends (W.contents writer.old.inner) (W.contents writer.new.inner) (root_entry superblock.now root.now)) }
+    ensures ok { OnOk result (Says W.contents writer.old writer.new (root_entry superblock.now root.now)) }
     ensures err { IfErr result (IsSayFault writer.new.failed) }
 {
     let line = table_line(

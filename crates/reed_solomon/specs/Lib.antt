@@ -4,3 +4,4 @@ pub mod Restoring
 pub mod Factors
 pub mod Encoding
 pub mod Products
+pub mod Laws

@@ -1,8 +1,8 @@
 //! Bytes lost at the same places of many codewords, summed up one place after the other.
 
-ghost use Rattle.std.specs.Prelude.{◌≡◌, ℕ, ◌<◌, ◌≤◌, ◌*◌, ◌/◌, ◌%◌, length, slice_index, EachIndex, IfOk, bit_xor};
-ghost use Rattle.reed_solomon.specs.Field.{product};
+ghost use Rattle.std.specs.Prelude.{◌≡◌, ◌<◌, ◌≤◌, ◌*◌, length, slice_index, EachIndex, IfOk};
 ghost use Rattle.reed_solomon.specs.Factors.{AreProducts, AreRows, parity_places};
+ghost use Rattle.reed_solomon.specs.Products.{AreAdded, product_at};
 
 use crate::products::Products;
 use crate::restoring::factors;
@@ -53,7 +53,7 @@ pub fn parity_products(alloc: Global, parity: usize) -> Result<Vec<Products>, Al
 /// from c * n on.
 pub fn add_products(products: &[Products], bytes: &[u8], sums: &mut [u8])
     requires { length sums.old ≡ length bytes.now * length products.now }
-    ensures { EachIndex sums.new (λ m. slice_index sums.new m ≡ bit_xor (slice_index sums.old m) (product (slice_index products.now (m % length products.now)) (slice_index bytes.now (m / length products.now)))) }
+    ensures { AreAdded (product_at products.now bytes.now) sums.old sums.new }
 {
     let count = products.len();
     for c in 0..bytes.len() {

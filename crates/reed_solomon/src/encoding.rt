@@ -1,17 +1,16 @@
 //! The parity of a codeword: what is left of its message's polynomial, divided by the one whose roots a codeword has.
 //! A polynomial of degree 24 at most is an array of its 25 coefficients, the highest first.
 
-ghost use Rattle.std.specs.Prelude.{◌≡◌, ℕ, ◌+◌, ◌<◌, ◌≤◌, ◌↔◌, ◌++◌, IsTrue, length, slice_index, bit_xor};
-ghost use Rattle.reed_solomon.specs.Field.{product};
+ghost use Rattle.std.specs.Prelude.{◌≡◌, ℕ, ◌+◌, ◌<◌, ◌≤◌, ◌↔◌, ◌++◌, IsTrue, length, slice_index};
 ghost use Rattle.reed_solomon.specs.Code.{syndrome, IsCodeword};
-ghost use Rattle.reed_solomon.specs.Encoding.{IsGenerator};
+ghost use Rattle.reed_solomon.specs.Encoding.{IsGenerator, shifted_sum_at};
 
 use crate::field::{multiply, power};
 
 /// The product of one polynomial by x, and of the other by `scale`, added up.
 fn shifted_sum(shifted: &[u8; 25], scaled: &[u8; 25], scale: u8) -> [u8; 25]
     ensures len { length result ≡ 25 }
-    ensures value { (k : ℕ) → k < 25 → slice_index result k ≡ bit_xor (slice_index shifted.now (k + 1)) (product scale (slice_index scaled.now k)) }
+    ensures value { (k : ℕ) → k < 25 → slice_index result k ≡ shifted_sum_at shifted.now scaled.now scale k }
 {
     let mut sum = [0; 25];
     for k in 0..25_usize {

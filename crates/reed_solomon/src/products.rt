@@ -1,7 +1,8 @@
 //! The products of all bytes by one factor.
 
-ghost use Rattle.std.specs.Prelude.{◌≡◌, ◌<◌, length, slice_index, EachIndex, bit_xor};
+ghost use Rattle.std.specs.Prelude.{◌≡◌, length, slice_index};
 ghost use Rattle.reed_solomon.specs.Field.{product};
+ghost use Rattle.reed_solomon.specs.Products.{AreAdded};
 
 use crate::field::multiply;
 use std::marker::Model;
@@ -46,7 +47,7 @@ impl Products {
     /// Adds to each byte of a sum the product of the byte that stands at its place.
     pub fn add_to(&self, sum: &mut [u8], bytes: &[u8])
         requires { length bytes.now ≡ length sum.old }
-        ensures { EachIndex sum.new (λ k. slice_index sum.new k ≡ bit_xor (slice_index sum.old k) (product self.now (slice_index bytes.now k))) }
+        ensures { AreAdded (λ k. product self.now (slice_index bytes.now k)) sum.old sum.new }
     {
         for k in 0..sum.len() {
             sum[k] ^= self.of[bytes[k] as usize];

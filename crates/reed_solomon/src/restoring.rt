@@ -1,8 +1,7 @@
 //! Bytes lost at known places, from the others.
 
-ghost use Rattle.std.specs.Prelude.{◌≡◌, ℕ, ◌<◌, ◌≤◌, ◌≢◌, List, length, slice_index, EachIndex};
-ghost use Rattle.reed_solomon.specs.Code.{IsCodeword};
-ghost use Rattle.reed_solomon.specs.Restoring.{weight, others, combination, AgreesOutside};
+ghost use Rattle.std.specs.Prelude.{◌≡◌, ◌<◌, length, slice_index, EachIndex};
+ghost use Rattle.reed_solomon.specs.Restoring.{weight, combination, AgreesOutside, SumUpToByte, IsRestored};
 
 use crate::field::{inverse, multiply, power};
 
@@ -26,7 +25,7 @@ pub fn factors(lost: &[usize], place: usize) -> [u8; 255]
     requires place_in_word { place < 255 }
     requires lost_in_word { EachIndex lost.now (λ k. slice_index lost.now k < 255) }
     ensures len { length result ≡ 255 }
-    ensures restore { (parity : ℕ) → (word : List ℕ) → IsCodeword parity word → others lost.now place (length lost.now) < parity → combination result word ≡ slice_index word place }
+    ensures restore { SumUpToByte lost.now place result }
     ensures skip_place { slice_index result place ≡ 0 }
     ensures skip_lost { EachIndex lost.now (λ k. slice_index result (slice_index lost.now k) ≡ 0) }
 {
@@ -57,7 +56,7 @@ pub fn restore(word: &mut [u8], lost: &[usize])
     requires len { length word.old ≡ 255 }
     requires lost_in_word { EachIndex lost.now (λ k. slice_index lost.now k < 255) }
     ensures kept { AgreesOutside lost.now word.new word.old }
-    ensures restored { (parity : ℕ) → (codeword : List ℕ) → length lost.now ≤ parity → IsCodeword parity codeword → AgreesOutside lost.now word.old codeword → word.new ≡ codeword }
+    ensures restored { IsRestored lost.now word.old word.new }
 {
     for place in lost {
         let found = factors(lost, *place);

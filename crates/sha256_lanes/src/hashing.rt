@@ -1,7 +1,7 @@
 //! The hash of eight messages, FIPS 180-4, section 6.2.
-ghost use Rattle.std.specs.Prelude.{◌≡◌, ℕ, ◌*◌, ◌/◌, ◌+◌, ◌^◌, ◌<◌, [], length, take, drop, slice_index_or};
-ghost use Rattle.sha2.specs.Sha256.{sha256, compress, padded_message};
-ghost use Rattle.sha256_lanes.specs.Lanes.{state_of_lane, message};
+ghost use Rattle.std.specs.Prelude.{◌≡◌, ℕ, ◌*◌, ◌/◌, ◌+◌, ◌^◌, ◌<◌, [], length, slice_index_or};
+ghost use Rattle.sha2.specs.Sha256.{sha256};
+ghost use Rattle.sha256_lanes.specs.Lanes.{EachTakesIn, message, message_block};
 
 use crate::digests::digests;
 use crate::message::message_blocks;
@@ -21,7 +21,7 @@ fn take_in(
     requires blocks { length blocks.now ≡ 8 * size }
     requires room { length prefix.now + size + 136 < 2 ^ 64 }
     requires inside { index < (length prefix.now + size + 72) / 64 }
-    ensures { (j : ℕ) → j < 8 → state_of_lane j state.new ≡ compress (state_of_lane j state.old) (take 64 (drop (index * 64) (padded_message (message prefix.now blocks.now size j)))) }
+    ensures { EachTakesIn (λ j. message_block (message prefix.now blocks.now size j) index) state.old state.new }
 {
     let at = index * 64;
     if prefix.len() <= at && at + 64 <= prefix.len() + size {

@@ -1,13 +1,12 @@
 //! The message blocks of a padded message that is given in two parts.
-ghost use Rattle.std.specs.Prelude.{◌≡◌, ℕ, ◌+◌, ◌-◌, ◌*◌, ◌/◌, ◌^◌, ◌<◌, ◌≤◌, ◌++◌, List, length, take, drop, slice_index};
-ghost use Rattle.sha2.specs.Sha256.{padded_message};
-ghost use Rattle.sha256_lanes.specs.Lanes.{message};
+ghost use Rattle.std.specs.Prelude.{◌≡◌, ℕ, ◌+◌, ◌*◌, ◌/◌, ◌^◌, ◌<◌, ◌≤◌, ◌++◌, List, length, take, drop, slice_index};
+ghost use Rattle.sha256_lanes.specs.Lanes.{AreMessageBlocks, HasBytes, HasBytesBefore, HasBytesFrom, HasPiece, message};
 
 // Writes what of `piece`, which begins at byte `start` of a message, lies in the 64 bytes from `at` on.
 #[inline(always)]
 fn overlay(out: &mut [u8; 64], at: usize, piece: &[u8], start: usize)
     requires room { (at + 64 < 2 ^ 64) × (start + length piece.now < 2 ^ 64) }
-    ensures inside { (k : ℕ) → k < 64 → start ≤ at + k → at + k < start + length piece.now → slice_index out.new k ≡ slice_index piece.now (at + k - start) }
+    ensures inside { HasPiece at piece.now start out.new }
     ensures before { (k : ℕ) → k < 64 → at + k < start → slice_index out.new k ≡ slice_index out.old k }
     ensures after { (k : ℕ) → k < 64 → start + length piece.now ≤ at + k → slice_index out.new k ≡ slice_index out.old k }
 {
@@ -22,8 +21,8 @@ fn overlay(out: &mut [u8; 64], at: usize, piece: &[u8], start: usize)
 fn frame(prefix: &[u8], size: usize, index: usize) -> [u8; 64]
     requires room { length prefix.now + size + 136 < 2 ^ 64 }
     requires inside { index < (length prefix.now + size + 72) / 64 }
-    ensures before { (b : List ℕ) (k : ℕ) → k < 64 → index * 64 + k < length prefix.now → slice_index result k ≡ slice_index (padded_message (prefix.now ++ b)) (index * 64 + k) }
-    ensures behind { (b : List ℕ) (k : ℕ) → length b ≡ size → k < 64 → length prefix.now + size ≤ index * 64 + k → slice_index result k ≡ slice_index (padded_message (prefix.now ++ b)) (index * 64 + k) }
+    ensures before { (b : List ℕ) → HasBytesBefore (length prefix.now) (prefix.now ++ b) index result }
+    ensures behind { (b : List ℕ) → length b ≡ size → HasBytesFrom (length prefix.now + size) (prefix.now ++ b) index result }
 {
     let at = index * 64;
     let start = prefix.len();
@@ -41,9 +40,9 @@ fn frame(prefix: &[u8], size: usize, index: usize) -> [u8; 64]
 fn message_block(frame: &[u8; 64], prefix: &[u8], block: &[u8], index: usize) -> [u8; 64]
     requires room { length prefix.now + length block.now + 136 < 2 ^ 64 }
     requires inside { index < (length prefix.now + length block.now + 72) / 64 }
-    requires before { (k : ℕ) → k < 64 → index * 64 + k < length prefix.now → slice_index frame.now k ≡ slice_index (padded_message (prefix.now ++ block.now)) (index * 64 + k) }
-    requires behind { (k : ℕ) → k < 64 → length prefix.now + length block.now ≤ index * 64 + k → slice_index frame.now k ≡ slice_index (padded_message (prefix.now ++ block.now)) (index * 64 + k) }
-    ensures { (k : ℕ) → k < 64 → slice_index result k ≡ slice_index (padded_message (prefix.now ++ block.now)) (index * 64 + k) }
+    requires before { HasBytesBefore (length prefix.now) (prefix.now ++ block.now) index frame.now }
+    requires behind { HasBytesFrom (length prefix.now + length block.now) (prefix.now ++ block.now) index frame.now }
+    ensures { HasBytes (prefix.now ++ block.now) index result }
 {
     let mut out = *frame;
     overlay(&mut out, index * 64, block, prefix.len());
@@ -66,7 +65,7 @@ pub(crate) fn message_blocks(prefix: &[u8], blocks: &[u8], size: usize, index: u
     requires blocks { length blocks.now ≡ 8 * size }
     requires room { length prefix.now + size + 136 < 2 ^ 64 }
     requires inside { index < (length prefix.now + size + 72) / 64 }
-    ensures { (j : ℕ) → j < 8 → take 64 (drop (j * 64) result) ≡ take 64 (drop (index * 64) (padded_message (message prefix.now blocks.now size j))) }
+    ensures { AreMessageBlocks (message prefix.now blocks.now size) index result }
 {
     let shared = frame(prefix, size, index);
     let mut out = [0u8; 512];

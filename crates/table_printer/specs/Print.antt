@@ -1,5 +1,6 @@
 -- How a table is printed: each line on a line of its own, words joined by one space.
-use Rattle.std.specs.Prelude.{ℕ, Bool, List, [], ◌∷◌, ◌++◌, length, flat_map, codes, decimal}
+use Rattle.std.specs.Prelude.{◌≡◌, ℕ, Bool, List, Vec, [], ◌∷◌, ◌++◌, length, flat_map, codes, decimal}
+use Rattle.std.specs.Global.{Global}
 use Rattle.std.specs.List.{join_with_byte}
 use Rattle.dm_table.specs.declared.table.Base.{Base}
 use Rattle.dm_table.specs.declared.table.Line.{Line}
@@ -35,3 +36,11 @@ table_text show lines = flat_map (λ line. line_text show line ++ 10 ∷ []) lin
 -- a word after a space
 abbrev pub spaced_word : Word → List ℕ
 spaced_word word = 32 ∷ word
+
+-- these words were printed behind a text, each after a space
+abbrev pub PrintsWords : Vec ℕ Global → List Word → Vec ℕ Global → Type 0
+PrintsWords old words new = new.items ≡ old.items ++ flat_map spaced_word words
+
+-- a `striped` line's type and arguments
+abbrev pub striped_words : ℕ → List Base → List Word
+striped_words chunk bases = codes "striped" ∷ decimal (length bases) ∷ decimal chunk ∷ flat_map base_words bases

@@ -2,7 +2,7 @@
 ghost use Rattle.std.specs.Prelude.{◌≡◌, ◌∷◌, ◌++◌, [], OnOk, IfOk, Ok, codes, decimal, flat_map, length};
 ghost use Rattle.table_printer.specs.Keys.{printed_lines};
 ghost use Rattle.dm_table.specs.TableText.{table_of};
-ghost use Rattle.table_printer.specs.Print.{base_words, line_text, spaced_word, table_text, target_words};
+ghost use Rattle.table_printer.specs.Print.{PrintsWords, base_words, line_text, striped_words, table_text, target_words};
 
 use crate::print_crypt::print_crypt;
 use crate::print_unstriped::print_unstriped;
@@ -40,9 +40,7 @@ fn print_line(text: &mut Vec<u8>, line: &Line, show_keys: bool) -> Result<(), Al
 
 #[tactic(auto, unfolding(crate::specs::Print::target_words))]
 fn print_target(text: &mut Vec<u8>, target: &Target, show_keys: bool) -> Result<(), AllocError>
-    ensures { OnOk result
-        (text.new.items ≡ text.old.items
-        ++ flat_map spaced_word (target_words show_keys target.now)) }
+    ensures { OnOk result (PrintsWords text.old (target_words show_keys target.now) text.new) }
 {
     match target {
         Target::Linear(base) => print_linear(text, base),
@@ -56,9 +54,7 @@ fn print_target(text: &mut Vec<u8>, target: &Target, show_keys: bool) -> Result<
 }
 
 fn print_linear(text: &mut Vec<u8>, base: &Base) -> Result<(), AllocError>
-    ensures { OnOk result
-        (text.new.items ≡ text.old.items
-        ++ flat_map spaced_word (codes "linear" ∷ base_words base.now)) }
+    ensures { OnOk result (PrintsWords text.old (codes "linear" ∷ base_words base.now) text.new) }
 {
     push_spaced(text, b"linear")?;
     print_base(text, base)?;
@@ -66,10 +62,7 @@ fn print_linear(text: &mut Vec<u8>, base: &Base) -> Result<(), AllocError>
 }
 
 fn print_striped(text: &mut Vec<u8>, chunk: u64, bases: &[Base]) -> Result<(), AllocError>
-    ensures { OnOk result
-        (text.new.items ≡ text.old.items
-        ++ flat_map spaced_word
-        (codes "striped" ∷ decimal (length bases.now) ∷ decimal chunk ∷ flat_map base_words bases.now)) }
+    ensures { OnOk result (PrintsWords text.old (striped_words chunk bases.now) text.new) }
 {
     push_spaced(text, b"striped")?;
     push_spaced_number(text, bases.len() as u64)?;
@@ -79,8 +72,7 @@ fn print_striped(text: &mut Vec<u8>, chunk: u64, bases: &[Base]) -> Result<(), A
 }
 
 fn print_bases(text: &mut Vec<u8>, bases: &[Base]) -> Result<(), AllocError>
-    ensures { OnOk result
-        (text.new.items ≡ text.old.items ++ flat_map spaced_word (flat_map base_words bases.now)) }
+    ensures { OnOk result (PrintsWords text.old (flat_map base_words bases.now) text.new) }
 {
     for base in bases {
         print_base(text, base)?;
@@ -89,8 +81,7 @@ fn print_bases(text: &mut Vec<u8>, bases: &[Base]) -> Result<(), AllocError>
 }
 
 pub(crate) fn print_base(text: &mut Vec<u8>, base: &Base) -> Result<(), AllocError>
-    ensures { OnOk result
-        (text.new.items ≡ text.old.items ++ flat_map spaced_word (base_words base.now)) }
+    ensures { OnOk result (PrintsWords text.old (base_words base.now) text.new) }
 {
     push_spaced(text, base.device.as_slice())?;
     push_spaced_number(text, base.offset)

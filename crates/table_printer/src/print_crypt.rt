@@ -1,8 +1,8 @@
 //! The arguments of a `crypt` line, printed.
-ghost use Rattle.std.specs.Prelude.{◌≡◌, ◌*◌, ◌≤◌, ◌∷◌, ◌++◌, OnOk, codes, flat_map, length, replicate};
+ghost use Rattle.std.specs.Prelude.{◌≡◌, ◌*◌, ◌≤◌, ◌∷◌, ◌++◌, OnOk, codes, length, replicate};
 ghost use Rattle.hex.specs.Hex.{encode_lower};
 ghost use Rattle.table_printer.specs.ArgumentWords.{crypt_words, key_word};
-ghost use Rattle.table_printer.specs.Print.{spaced_word};
+ghost use Rattle.table_printer.specs.Print.{PrintsWords};
 
 use crate::digits::push_digits;
 use crate::print::{print_base, push_spaced, push_spaced_number};
@@ -16,9 +16,7 @@ pub(crate) fn print_crypt(
     crypt: &Crypt,
     show_keys: bool,
 ) -> Result<(), AllocError>
-    ensures { OnOk result
-        (text.new.items ≡ text.old.items
-        ++ flat_map spaced_word (codes "crypt" ∷ crypt_words show_keys crypt.now)) }
+    ensures { OnOk result (PrintsWords text.old (codes "crypt" ∷ crypt_words show_keys crypt.now) text.new) }
 {
     push_spaced(text, b"crypt")?;
     push_spaced(text, b"aes-xts-plain64")?;

@@ -1,7 +1,7 @@
 //! Options printed.
-ghost use Rattle.std.specs.Prelude.{◌≡◌, ◌++◌, OnOk, flat_map};
+ghost use Rattle.std.specs.Prelude.{OnOk};
 ghost use Rattle.table_printer.specs.ArgumentWords.{options_words};
-ghost use Rattle.table_printer.specs.Print.{spaced_word};
+ghost use Rattle.table_printer.specs.Print.{PrintsWords};
 
 use crate::print::{push_spaced, push_spaced_number};
 use dm_table::Name;
@@ -9,8 +9,7 @@ use std::alloc::AllocError;
 
 /// Their number and the options, or nothing where there is none.
 pub(crate) fn print_options(text: &mut Vec<u8>, options: &[Name]) -> Result<(), AllocError>
-    ensures { OnOk result
-        (text.new.items ≡ text.old.items ++ flat_map spaced_word (options_words options.now)) }
+    ensures { OnOk result (PrintsWords text.old (options_words options.now) text.new) }
 {
     if options.is_empty() {
         return Ok(());
@@ -20,7 +19,7 @@ pub(crate) fn print_options(text: &mut Vec<u8>, options: &[Name]) -> Result<(), 
 }
 
 fn print_words(text: &mut Vec<u8>, words: &[Name]) -> Result<(), AllocError>
-    ensures { OnOk result (text.new.items ≡ text.old.items ++ flat_map spaced_word words.now) }
+    ensures { OnOk result (PrintsWords text.old words.now text.new) }
 {
     for word in words {
         push_spaced(text, word.as_slice())?;

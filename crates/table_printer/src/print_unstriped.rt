@@ -1,7 +1,7 @@
 //! The arguments of an `unstriped` line, printed.
-ghost use Rattle.std.specs.Prelude.{◌≡◌, ◌∷◌, ◌++◌, OnOk, codes, flat_map};
+ghost use Rattle.std.specs.Prelude.{◌∷◌, OnOk, codes};
 ghost use Rattle.table_printer.specs.Unstriped.{unstriped_words};
-ghost use Rattle.table_printer.specs.Print.{spaced_word};
+ghost use Rattle.table_printer.specs.Print.{PrintsWords};
 
 use crate::print::{print_base, push_spaced, push_spaced_number};
 use dm_table::Unstriped;
@@ -9,9 +9,7 @@ use std::alloc::AllocError;
 
 /// Prints the target of an `unstriped` line.
 pub(crate) fn print_unstriped(text: &mut Vec<u8>, line: &Unstriped) -> Result<(), AllocError>
-    ensures { OnOk result
-        (text.new.items ≡ text.old.items
-        ++ flat_map spaced_word (codes "unstriped" ∷ unstriped_words line.now)) }
+    ensures { OnOk result (PrintsWords text.old (codes "unstriped" ∷ unstriped_words line.now) text.new) }
 {
     push_spaced(text, b"unstriped")?;
     push_spaced_number(text, u64::from(line.stripes))?;

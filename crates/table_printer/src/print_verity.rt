@@ -1,8 +1,8 @@
 //! The arguments of a `verity` line, printed.
-ghost use Rattle.std.specs.Prelude.{◌≡◌, ◌≤◌, ◌∷◌, ◌++◌, OnOk, codes, flat_map, length};
+ghost use Rattle.std.specs.Prelude.{◌≡◌, ◌≤◌, ◌∷◌, ◌++◌, OnOk, codes, length};
 ghost use Rattle.table_printer.specs.ArgumentWords.{options_words, salt_word, verity_words};
 ghost use Rattle.dm_table.specs.Verity.{verity_options};
-ghost use Rattle.table_printer.specs.Print.{spaced_word};
+ghost use Rattle.table_printer.specs.Print.{PrintsWords};
 
 use crate::digits::push_digits;
 use crate::print::{push_spaced, push_spaced_number};
@@ -11,9 +11,7 @@ use std::alloc::AllocError;
 
 /// Prints the target of a `verity` line.
 pub(crate) fn print_verity(text: &mut Vec<u8>, verity: &Verity) -> Result<(), AllocError>
-    ensures { OnOk result
-        (text.new.items ≡ text.old.items
-        ++ flat_map spaced_word (codes "verity" ∷ verity_words verity.now)) }
+    ensures { OnOk result (PrintsWords text.old (codes "verity" ∷ verity_words verity.now) text.new) }
 {
     push_spaced(text, b"verity")?;
     push_spaced(text, b"1")?;
@@ -43,9 +41,7 @@ fn print_salt(text: &mut Vec<u8>, salt: &[u8]) -> Result<(), AllocError>
 
 // The option and its count, where the line has it.
 fn print_options(text: &mut Vec<u8>, ignore_zero_blocks: bool) -> Result<(), AllocError>
-    ensures { OnOk result
-        (text.new.items ≡ text.old.items
-        ++ flat_map spaced_word (options_words (verity_options ignore_zero_blocks))) }
+    ensures { OnOk result (PrintsWords text.old (options_words (verity_options ignore_zero_blocks)) text.new) }
 {
     if !ignore_zero_blocks {
         return Ok(());

@@ -2,9 +2,11 @@
 use Rattle.std.specs.Prelude.{◌≡◌, ◌⊎◌, ◌==◌, ◌&&◌, ℕ, Bool, true, false, List, [], ◌++◌, codes, decimal, Option, Some, None}
 use Rattle.std.specs.Io.KnownBytes.{Appends}
 use Rattle.block_device.specs.Device.{Device}
-use Rattle.image_files.specs.Opener.{Calls}
+use Rattle.counted_io.specs.Counted.{CountedRecord}
+use Rattle.image_files.specs.Opener.{Calls, Opener, calls}
 use Rattle.reply_json.specs.Lines.{json_line}
 use Rattle.tree_runs.specs.declared.line.Line.{Line}
+use Rattle.tree_runs.specs.declared.listing.KeptLines.{KeptLines}
 use Rattle.tree_runs.specs.Lines.{lines_text}
 use Rattle.tree_difference.specs.declared.difference.Roots.{Roots}
 use Rattle.tree_difference.specs.declared.fault.DifferenceFault.{DifferenceFault}
@@ -14,9 +16,10 @@ use Rattle.tree_difference.specs.Comparisons.{World, world}
 use Rattle.tree_difference.specs.Differences.{IsDifference, IsDifferenceCause}
 use Rattle.tree_commands.specs.declared.fault.TreeFault.{TreeFault}
 use Rattle.tree_commands.specs.declared.fault.TreeFault.TheVariants.{Open, Trees, Differs, Write}
+use Rattle.tree_commands.specs.declared.paths.HashPaths.{HashPaths}
 use Rattle.tree_commands.specs.declared.paths.TwoHashes.{TwoHashes}
 use Rattle.tree_commands.specs.Objects.{difference_json}
-use Rattle.tree_commands.specs.Openings.{BothPaths, FailsToOpenBoth, OpensBoth}
+use Rattle.tree_commands.specs.Openings.{BothPaths, FailsToOpenBoth, OpensBoth, both_paths}
 
 -- `same N changed N removed N added N`
 unfoldable pub totals_text : Totals → List ℕ
@@ -91,3 +94,27 @@ IsUnopened w paths fault = ⊥
 -- that, or the comparison ends
 abbrev pub IsDiffFilesEnd : {S D : Type 0} → Bool → Calls S D → BothPaths → Roots → Option ℕ → Option (List ℕ) → Option (List ℕ) → Bool → TreeFault → Type 0
 IsDiffFilesEnd json w paths roots most old new failed fault = IsUnopened w paths fault ⊎ OfBoth w paths old new (λ i. IsDiffEnd json i roots most failed fault)
+
+-- ---- as a call sees them: what a proof sees of devices, an opener or a writer, and these before and after
+
+-- two devices and a writer
+abbrev pub compared : {D E W : Type 0} → (D → Device) → (E → Device) → D → E → D → E → (W → Option (List ℕ)) → CountedRecord W → CountedRecord W → World
+compared first_state second_state first second first' second' contents writer writer' =
+    world (first_state first) (second_state second) (first_state first') (second_state second') (contents writer.inner) (contents writer'.inner)
+
+-- the same, where lines are kept in memory
+abbrev pub listed : {D E : Type 0} → (D → Device) → (E → Device) → D → E → D → E → KeptLines → KeptLines → World
+listed first_state second_state first second first' second' kept kept' =
+    world (first_state first) (second_state second) (first_state first') (second_state second') (Some (lines_text kept.lines.items)) (Some (lines_text kept'.lines.items))
+
+abbrev pub FailsToList : {D E : Type 0} → (D → Device) → (E → Device) → D → E → D → E → Roots → DifferenceFault → Type 0
+FailsToList first_state second_state first second first' second' roots = IsTreesCause (first_state first) (second_state second) (first_state first') (second_state second') roots
+
+-- two images
+abbrev pub DiffsImages : {S D W : Type 0} → Opener S D → (D → Device) → S → S → (W → Option (List ℕ)) → CountedRecord W → CountedRecord W → HashPaths → Roots → Option ℕ → Bool → Type 0
+DiffsImages relations state images images' contents writer writer' paths roots most json =
+    PrintsSame json (calls relations state images images') (both_paths paths) roots most (contents writer.inner) (contents writer'.inner)
+
+abbrev pub FailsToDiff : {S D W : Type 0} → Opener S D → (D → Device) → S → S → (W → Option (List ℕ)) → CountedRecord W → CountedRecord W → HashPaths → Roots → Option ℕ → Bool → TreeFault → Type 0
+FailsToDiff relations state images images' contents writer writer' paths roots most json =
+    IsDiffFilesEnd json (calls relations state images images') (both_paths paths) roots most (contents writer.inner) (contents writer'.inner) writer'.failed

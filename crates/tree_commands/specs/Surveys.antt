@@ -2,16 +2,18 @@
 use Rattle.std.specs.Prelude.{◌≡◌, ◌⊎◌, ℕ, ◌-◌, ◌/◌, ◌%◌, ◌^◌, ◌==◌, ◌&&◌, nat_lt, Bool, true, false, List, [], ◌++◌, codes, decimal, Option, Some, if◌then◌else◌}
 use Rattle.std.specs.Io.KnownBytes.{Appends}
 use Rattle.block_device.specs.Device.{Device}
+use Rattle.counted_io.specs.Counted.{CountedRecord}
 use Rattle.device_window.specs.Parts.{part_before, part_behind}
 use Rattle.device_window.specs.Windows.{windowed}
 use Rattle.image_files.specs.OneFile.{is_one_file}
-use Rattle.image_files.specs.Opener.{Calls}
+use Rattle.image_files.specs.Opener.{Calls, Opener, calls}
 use Rattle.reply_json.specs.Lines.{json_line}
 use Rattle.verity_format.specs.Blocks.{IsOnlyRead}
 use Rattle.verity_format.specs.declared.verifying.VerifyFault.TheVariants as verify
 use Rattle.verity_format.specs.Superblock.{SuperRecord}
 use Rattle.verity_format.specs.Verifying.{IsReadCause, IsReadFrom}
 use Rattle.tree_runs.specs.declared.line.Line.{Line}
+use Rattle.tree_runs.specs.declared.listing.KeptLines.{KeptLines}
 use Rattle.tree_runs.specs.Lines.{lines_text}
 use Rattle.tree_survey.specs.declared.counts.Totals.{Totals}
 use Rattle.tree_survey.specs.declared.fault.SurveyFault.{SurveyFault}
@@ -23,6 +25,7 @@ use Rattle.tree_survey.specs.Passes.{IsSurvey, Pass, pass}
 use Rattle.tree_commands.specs.declared.fault.TreeFault.{TreeFault}
 use Rattle.tree_commands.specs.declared.fault.TreeFault.TheVariants.{Damaged, Survey, Unaligned, Write}
 use Rattle.tree_commands.specs.declared.paths.TwoHashes.{TwoHashes}
+use Rattle.tree_commands.specs.declared.survey.Bounds.{Bounds}
 use Rattle.tree_commands.specs.declared.survey.SurveyOrder.{SurveyOrder}
 use Rattle.tree_commands.specs.Diffs.{IsUnopened}
 use Rattle.tree_commands.specs.Objects.{survey_json}
@@ -150,3 +153,36 @@ pub record EndsSurvey {S D : Type 0} (json : Bool) (w : Calls S D) (places : Pla
 -- one of the two isn't opened, or it ends so
 abbrev pub IsSurveyFilesEnd : {S D : Type 0} → Bool → Calls S D → Places → List ℕ → Option (List ℕ) → Option (List ℕ) → Bool → TreeFault → Type 0
 IsSurveyFilesEnd json w places root old new failed fault = IsUnopened w places.paths fault ⊎ EndsSurvey json w places root old new failed fault
+
+-- ---- as a call sees them, as in `Diffs`
+
+-- two devices and a writer
+abbrev pub gone_over : {D H W : Type 0} → (D → Device) → (H → Device) → D → H → D → H → (W → Option (List ℕ)) → CountedRecord W → CountedRecord W → Pass
+gone_over data_state hash_state data_dev hash_dev data_dev' hash_dev' contents writer writer' =
+    pass (data_state data_dev) (hash_state hash_dev) (data_state data_dev') (hash_state hash_dev') (contents writer.inner) (contents writer'.inner)
+
+-- the same, where lines are kept in memory
+abbrev pub listed : {D H : Type 0} → (D → Device) → (H → Device) → D → H → D → H → KeptLines → KeptLines → Pass
+listed data_state hash_state data_dev hash_dev data_dev' hash_dev' kept kept' =
+    pass (data_state data_dev) (hash_state hash_dev) (data_state data_dev') (hash_state hash_dev') (Some (lines_text kept.lines.items)) (Some (lines_text kept'.lines.items))
+
+abbrev pub FailsToList : {D H : Type 0} → (D → Device) → (H → Device) → D → H → D → H → SurveyFault → Type 0
+FailsToList data_state hash_state data_dev hash_dev data_dev' hash_dev' = IsKeptCause (data_state data_dev) (hash_state hash_dev) (data_state data_dev') (hash_state hash_dev')
+
+-- what lies before the data's end, and what lies behind a sector
+abbrev pub SurveysBehind : {D H W : Type 0} → (D → Device) → (H → Device) → D → H → (W → Option (List ℕ)) → CountedRecord W → CountedRecord W → Bounds → List ℕ → Bool → Type 0
+SurveysBehind data_state hash_state data_dev hash_dev contents writer writer' bounds root json =
+    SurveysPlaced json (data_state data_dev) (hash_state hash_dev) bounds.end bounds.first root (contents writer.inner) (contents writer'.inner)
+
+abbrev pub FailsBehind : {D H W : Type 0} → (D → Device) → (H → Device) → D → H → (W → Option (List ℕ)) → CountedRecord W → CountedRecord W → Bounds → List ℕ → Bool → TreeFault → Type 0
+FailsBehind data_state hash_state data_dev hash_dev contents writer writer' bounds root json =
+    IsPlacedEnd json (data_state data_dev) (hash_state hash_dev) bounds.end bounds.first root (contents writer.inner) (contents writer'.inner) writer'.failed
+
+-- two images
+abbrev pub SurveysImages : {S D W : Type 0} → Opener S D → (D → Device) → S → S → (W → Option (List ℕ)) → CountedRecord W → CountedRecord W → SurveyOrder → List ℕ → Type 0
+SurveysImages relations state images images' contents writer writer' order root =
+    PrintsGood order.json (calls relations state images images') (survey_places order) root (contents writer.inner) (contents writer'.inner)
+
+abbrev pub FailsToSurvey : {S D W : Type 0} → Opener S D → (D → Device) → S → S → (W → Option (List ℕ)) → CountedRecord W → CountedRecord W → SurveyOrder → List ℕ → TreeFault → Type 0
+FailsToSurvey relations state images images' contents writer writer' order root =
+    IsSurveyFilesEnd order.json (calls relations state images images') (survey_places order) root (contents writer.inner) (contents writer'.inner) writer'.failed

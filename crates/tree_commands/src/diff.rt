@@ -1,10 +1,7 @@
 //! The command `diff`: which data blocks of two images differ, by their hash trees.
 ghost use Rattle.std.specs.Prelude.{◌≡◌, true, false, OnOk, IfErr};
 ghost use Rattle.counted_io.specs.Counted.{Writes};
-ghost use Rattle.image_files.specs.Opener.{calls};
-ghost use Rattle.tree_difference.specs.Comparisons.{world};
-ghost use Rattle.tree_commands.specs.Diffs.{IsDiffEnd, IsDiffFilesEnd, PrintsSame, Says, SaysDifference, is_unchanged, totals_text};
-ghost use Rattle.tree_commands.specs.Openings.{both_paths};
+ghost use Rattle.tree_commands.specs.Diffs.{DiffsImages, FailsToDiff, IsDiffEnd, Says, SaysDifference, compared, is_unchanged, totals_text};
 
 use crate::diff_object::diff_object;
 use crate::fault::TreeFault;
@@ -28,8 +25,8 @@ pub fn diff_images<'a, I: Images, W: Write>(
     json: bool,
     writer: &mut Counted<W>,
 ) -> Result<(), TreeFault<'a>>
-    ensures ok { OnOk result (PrintsSame json (calls I.relations I.Dev.state images.old images.new) (both_paths paths.entry) roots most (W.contents writer.old.inner) (W.contents writer.new.inner)) }
-    ensures err { IfErr result (IsDiffFilesEnd json (calls I.relations I.Dev.state images.old images.new) (both_paths paths.entry) roots most (W.contents writer.old.inner) (W.contents writer.new.inner) writer.new.failed) }
+    ensures ok { OnOk result (DiffsImages I.relations I.Dev.state images.old images.new W.contents writer.old writer.new paths.entry roots most json) }
+    ensures err { IfErr result (FailsToDiff I.relations I.Dev.state images.old images.new W.contents writer.old writer.new paths.entry roots most json) }
 {
     let mut two = open_both(images, paths)?;
     diff(
@@ -53,8 +50,8 @@ fn diff<'a, D: BlockDev, E: BlockDev, W: Write>(
     json: bool,
     writer: &mut Counted<W>,
 ) -> Result<(), TreeFault<'a>>
-    ensures ok { OnOk result (SaysDifference json (world (D.state first.old) (E.state second.old) (D.state first.new) (E.state second.new) (W.contents writer.old.inner) (W.contents writer.new.inner)) roots most true) }
-    ensures err { IfErr result (IsDiffEnd json (world (D.state first.old) (E.state second.old) (D.state first.new) (E.state second.new) (W.contents writer.old.inner) (W.contents writer.new.inner)) roots most writer.new.failed) }
+    ensures ok { OnOk result (SaysDifference json (compared D.state E.state first.old second.old first.new second.new W.contents writer.old writer.new) roots most true) }
+    ensures err { IfErr result (IsDiffEnd json (compared D.state E.state first.old second.old first.new second.new W.contents writer.old writer.new) roots most writer.new.failed) }
 {
     if json {
         return diff_object(alloc, first, second, roots, most, writer);
@@ -70,8 +67,8 @@ fn diff_lines<'a, D: BlockDev, E: BlockDev, W: Write>(
     most: Option<u64>,
     writer: &mut Counted<W>,
 ) -> Result<(), TreeFault<'a>>
-    ensures ok { OnOk result (Says (world (D.state first.old) (E.state second.old) (D.state first.new) (E.state second.new) (W.contents writer.old.inner) (W.contents writer.new.inner)) roots most true) }
-    ensures err { IfErr result (IsDiffEnd false (world (D.state first.old) (E.state second.old) (D.state first.new) (E.state second.new) (W.contents writer.old.inner) (W.contents writer.new.inner)) roots most writer.new.failed) }
+    ensures ok { OnOk result (Says (compared D.state E.state first.old second.old first.new second.new W.contents writer.old writer.new) roots most true) }
+    ensures err { IfErr result (IsDiffEnd false (compared D.state E.state first.old second.old first.new second.new W.contents writer.old writer.new) roots most writer.new.failed) }
 {
     let totals = compare_trees(alloc, first, second, roots, most, writer)?;
     say_totals(writer, totals)?;

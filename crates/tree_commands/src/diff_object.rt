@@ -3,10 +3,8 @@ ghost use Rattle.std.specs.Prelude.{◌≡◌, Some, true, string_bytes, IfOk, I
 ghost use Rattle.reply_json.specs.Lines.{json_line};
 ghost use Rattle.serde_json.specs.View.{view};
 ghost use Rattle.tree_difference.specs.declared.fault.DifferenceFault.TheVariants as difference_fault;
-ghost use Rattle.tree_difference.specs.Comparisons.{world};
 ghost use Rattle.tree_difference.specs.Differences.{IsDifference};
-ghost use Rattle.tree_runs.specs.Lines.{lines_text};
-ghost use Rattle.tree_commands.specs.Diffs.{IsDiffEnd, IsTreesCause, SaysObject, unkept};
+ghost use Rattle.tree_commands.specs.Diffs.{FailsToList, IsDiffEnd, SaysObject, compared, listed, unkept};
 ghost use Rattle.tree_commands.specs.Objects.{difference_json};
 
 use crate::diff::is_unchanged;
@@ -29,8 +27,8 @@ pub(crate) fn diff_object<'a, D: BlockDev, E: BlockDev, W: Write>(
     most: Option<u64>,
     writer: &mut Counted<W>,
 ) -> Result<(), TreeFault<'a>>
-    ensures ok { OnOk result (SaysObject (world (D.state first.old) (E.state second.old) (D.state first.new) (E.state second.new) (W.contents writer.old.inner) (W.contents writer.new.inner)) roots most true) }
-    ensures err { IfErr result (IsDiffEnd true (world (D.state first.old) (E.state second.old) (D.state first.new) (E.state second.new) (W.contents writer.old.inner) (W.contents writer.new.inner)) roots most writer.new.failed) }
+    ensures ok { OnOk result (SaysObject (compared D.state E.state first.old second.old first.new second.new W.contents writer.old writer.new) roots most true) }
+    ensures err { IfErr result (IsDiffEnd true (compared D.state E.state first.old second.old first.new second.new W.contents writer.old writer.new) roots most writer.new.failed) }
 {
     let mut kept = KeptLines::new(alloc);
     let totals = keep_difference(alloc, first, second, roots, most, &mut kept)?;
@@ -52,8 +50,8 @@ fn keep_difference<D: BlockDev, E: BlockDev>(
     most: Option<u64>,
     kept: &mut KeptLines,
 ) -> Result<Totals, DifferenceFault>
-    ensures ok { IfOk result (IsDifference (world (D.state first.old) (E.state second.old) (D.state first.new) (E.state second.new) (Some (lines_text kept.old.lines.items)) (Some (lines_text kept.new.lines.items))) roots most) }
-    ensures err { IfErr result (IsTreesCause (D.state first.old) (E.state second.old) (D.state first.new) (E.state second.new) roots) }
+    ensures ok { IfOk result (IsDifference (listed D.state E.state first.old second.old first.new second.new kept.old kept.new) roots most) }
+    ensures err { IfErr result (FailsToList D.state E.state first.old second.old first.new second.new roots) }
 {
     match compare_trees(alloc, first, second, roots, most, kept) {
         Ok(totals) => Ok(totals),

@@ -1,9 +1,6 @@
 //! The commands on hash trees by their words.
 ghost use Rattle.std.specs.Prelude.{OnOk, IfErr};
-ghost use Rattle.command_line.specs.words.Diff.{diff_record};
-ghost use Rattle.command_line.specs.words.Verify.{verify_record};
-ghost use Rattle.image_files.specs.Opener.{calls};
-ghost use Rattle.tree_commands.specs.Invocations.{DiffsTrees, IsDiffWordsEnd, IsSurveyWordsEnd, SurveysAt};
+ghost use Rattle.tree_commands.specs.Invocations.{DiffsByWords, FailsDiffByWords, FailsSurveyByWords, SurveysByWords};
 
 use crate::diff::diff_images;
 use crate::fault::TreeFault;
@@ -29,8 +26,8 @@ pub fn invoke_survey<'a, I: Images, S: Watchers, W: Write>(
     root: &Digest,
     writer: &mut Counted<W>,
 ) -> Result<(), TreeFault<'a>>
-    ensures ok { OnOk result (SurveysAt (calls I.relations I.Dev.state images.old images.new) (verify_record words.now) root.now (W.contents writer.old.inner) (W.contents writer.new.inner)) }
-    ensures err { IfErr result (IsSurveyWordsEnd (calls I.relations I.Dev.state images.old images.new) (verify_record words.now) root.now (W.contents writer.old.inner) (W.contents writer.new.inner) writer.new.failed) }
+    ensures ok { OnOk result (SurveysByWords I.relations I.Dev.state images.old images.new W.contents writer.old writer.new words.now root.now) }
+    ensures err { IfErr result (FailsSurveyByWords I.relations I.Dev.state images.old images.new W.contents writer.old writer.new words.now root.now) }
 {
     let order = SurveyOrder {
         data: words.data_path,
@@ -49,8 +46,8 @@ pub fn invoke_diff<'a, I: Images, W: Write>(
     words: DiffWords<'a>,
     writer: &mut Counted<W>,
 ) -> Result<(), TreeFault<'a>>
-    ensures ok { OnOk result (DiffsTrees (calls I.relations I.Dev.state images.old images.new) (diff_record words.entry) (W.contents writer.old.inner) (W.contents writer.new.inner)) }
-    ensures err { IfErr result (IsDiffWordsEnd (calls I.relations I.Dev.state images.old images.new) (diff_record words.entry) (W.contents writer.old.inner) (W.contents writer.new.inner) writer.new.failed) }
+    ensures ok { OnOk result (DiffsByWords I.relations I.Dev.state images.old images.new W.contents writer.old writer.new words.entry) }
+    ensures err { IfErr result (FailsDiffByWords I.relations I.Dev.state images.old images.new W.contents writer.old writer.new words.entry) }
 {
     let DiffWords {
         old_path,

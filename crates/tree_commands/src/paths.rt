@@ -1,7 +1,6 @@
 //! The two hash images of a command, opened one behind the other.
 ghost use Rattle.std.specs.Prelude.{◌≡◌, IfOk, IfErr};
-ghost use Rattle.image_files.specs.Opener.{calls};
-ghost use Rattle.tree_commands.specs.Openings.{FailsToOpenBoth, OpensBoth, both_paths};
+ghost use Rattle.tree_commands.specs.Openings.{FailsToOpenHashes, OpensHashes};
 
 use image_files::{Images, OpenImage, UnopenedFile, open_image};
 
@@ -24,8 +23,8 @@ pub fn open_both<'a, I: Images>(
     images: &mut I,
     paths: HashPaths<'a>,
 ) -> Result<TwoHashes<I::Dev>, UnopenedFile<'a>>
-    ensures ok { IfOk result (OpensBoth (calls I.relations I.Dev.state images.old images.new) (both_paths paths.entry)) }
-    ensures err { IfErr result (FailsToOpenBoth (calls I.relations I.Dev.state images.old images.new) (both_paths paths.entry)) }
+    ensures ok { IfOk result (OpensHashes I.relations I.Dev.state images.old images.new paths.entry) }
+    ensures err { IfErr result (FailsToOpenHashes I.relations I.Dev.state images.old images.new paths.entry) }
 {
     let first = open_image(images, paths.first, false)?;
     let second = open_image(images, paths.second, false)?;

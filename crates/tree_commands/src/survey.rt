@@ -1,9 +1,7 @@
 //! The command `verify --all`: which data blocks of an image are good, and which hash blocks aren't.
 ghost use Rattle.std.specs.Prelude.{◌≡◌, ◌&&◌, nat_lt, true, false, OnOk, IfErr};
 ghost use Rattle.counted_io.specs.Counted.{Writes};
-ghost use Rattle.image_files.specs.Opener.{calls};
-ghost use Rattle.tree_survey.specs.Passes.{pass};
-ghost use Rattle.tree_commands.specs.Surveys.{IsPlacedEnd, IsSurveyEnd, IsSurveyFilesEnd, PrintsGood, SaysFound, SaysSurvey, SurveysPlaced, data_end, is_aligned, is_all_good, survey_places, totals_text};
+ghost use Rattle.tree_commands.specs.Surveys.{FailsBehind, FailsToSurvey, IsSurveyEnd, SaysFound, SaysSurvey, SurveysBehind, SurveysImages, data_end, gone_over, is_aligned, is_all_good, totals_text};
 
 use crate::fault::TreeFault;
 use crate::paths::{HashPaths, TwoHashes, open_both};
@@ -50,8 +48,8 @@ pub fn survey_images<'a, I: Images, S: Watchers, W: Write>(
     root: &Digest,
     writer: &mut Counted<W>,
 ) -> Result<(), TreeFault<'a>>
-    ensures ok { OnOk result (PrintsGood order.entry.json (calls I.relations I.Dev.state images.old images.new) (survey_places order.entry) root.now (W.contents writer.old.inner) (W.contents writer.new.inner)) }
-    ensures err { IfErr result (IsSurveyFilesEnd order.entry.json (calls I.relations I.Dev.state images.old images.new) (survey_places order.entry) root.now (W.contents writer.old.inner) (W.contents writer.new.inner) writer.new.failed) }
+    ensures ok { OnOk result (SurveysImages I.relations I.Dev.state images.old images.new W.contents writer.old writer.new order.entry root.now) }
+    ensures err { IfErr result (FailsToSurvey I.relations I.Dev.state images.old images.new W.contents writer.old writer.new order.entry root.now) }
 {
     let SurveyOrder {
         data,
@@ -133,8 +131,8 @@ fn survey_behind<'a, D: BlockDev + Drop, H: BlockDev + Drop, W: Write>(
     json: bool,
     writer: &mut Counted<W>,
 ) -> Result<(), TreeFault<'a>>
-    ensures ok { OnOk result (SurveysPlaced json (D.state data_dev) (H.state hash_dev) bounds.end bounds.first root.now (W.contents writer.old.inner) (W.contents writer.new.inner)) }
-    ensures err { IfErr result (IsPlacedEnd json (D.state data_dev) (H.state hash_dev) bounds.end bounds.first root.now (W.contents writer.old.inner) (W.contents writer.new.inner) writer.new.failed) }
+    ensures ok { OnOk result (SurveysBehind D.state H.state data_dev hash_dev W.contents writer.old writer.new bounds root.now json) }
+    ensures err { IfErr result (FailsBehind D.state H.state data_dev hash_dev W.contents writer.old writer.new bounds root.now json) }
 {
     let mut before = Window::<D, Brand>::before(data_dev, bounds.end);
     let mut behind = Window::<H, Brand>::behind(hash_dev, bounds.first);
@@ -154,8 +152,8 @@ fn say_survey<'a, D: BlockDev, H: BlockDev, W: Write>(
     json: bool,
     writer: &mut Counted<W>,
 ) -> Result<(), TreeFault<'a>>
-    ensures ok { OnOk result (SaysFound json (pass (D.state data_dev.old) (H.state hash_dev.old) (D.state data_dev.new) (H.state hash_dev.new) (W.contents writer.old.inner) (W.contents writer.new.inner)) root.now true) }
-    ensures err { IfErr result (IsSurveyEnd json (pass (D.state data_dev.old) (H.state hash_dev.old) (D.state data_dev.new) (H.state hash_dev.new) (W.contents writer.old.inner) (W.contents writer.new.inner)) root.now writer.new.failed) }
+    ensures ok { OnOk result (SaysFound json (gone_over D.state H.state data_dev.old hash_dev.old data_dev.new hash_dev.new W.contents writer.old writer.new) root.now true) }
+    ensures err { IfErr result (IsSurveyEnd json (gone_over D.state H.state data_dev.old hash_dev.old data_dev.new hash_dev.new W.contents writer.old writer.new) root.now writer.new.failed) }
 {
     if json {
         return survey_object(alloc, data_dev, hash_dev, root, writer);
@@ -171,8 +169,8 @@ fn survey_lines<'a, D: BlockDev, H: BlockDev, W: Write>(
     root: &Digest,
     writer: &mut Counted<W>,
 ) -> Result<(), TreeFault<'a>>
-    ensures ok { OnOk result (SaysSurvey (pass (D.state data_dev.old) (H.state hash_dev.old) (D.state data_dev.new) (H.state hash_dev.new) (W.contents writer.old.inner) (W.contents writer.new.inner)) root.now true) }
-    ensures err { IfErr result (IsSurveyEnd false (pass (D.state data_dev.old) (H.state hash_dev.old) (D.state data_dev.new) (H.state hash_dev.new) (W.contents writer.old.inner) (W.contents writer.new.inner)) root.now writer.new.failed) }
+    ensures ok { OnOk result (SaysSurvey (gone_over D.state H.state data_dev.old hash_dev.old data_dev.new hash_dev.new W.contents writer.old writer.new) root.now true) }
+    ensures err { IfErr result (IsSurveyEnd false (gone_over D.state H.state data_dev.old hash_dev.old data_dev.new hash_dev.new W.contents writer.old writer.new) root.now writer.new.failed) }
 {
     let found = survey_image(alloc, data_dev, hash_dev, root, writer)?;
     say_totals(writer, found.totals)?;

@@ -4,11 +4,10 @@ ghost use Rattle.reply_json.specs.Lines.{json_line};
 ghost use Rattle.serde_json.specs.View.{view};
 ghost use Rattle.verity_format.specs.Blocks.{IsOnlyRead};
 ghost use Rattle.verity_format.specs.declared.verifying.VerifyFault.TheVariants as verify_fault;
-ghost use Rattle.tree_runs.specs.Lines.{lines_text};
 ghost use Rattle.tree_survey.specs.declared.fault.SurveyFault.TheVariants as survey_fault;
-ghost use Rattle.tree_survey.specs.Passes.{IsSurvey, pass};
+ghost use Rattle.tree_survey.specs.Passes.{IsSurvey};
 ghost use Rattle.tree_commands.specs.Objects.{survey_json};
-ghost use Rattle.tree_commands.specs.Surveys.{IsKeptCause, IsSurveyEnd, SaysObject, unkept};
+ghost use Rattle.tree_commands.specs.Surveys.{FailsToList, IsSurveyEnd, SaysObject, gone_over, listed, unkept};
 
 use crate::fault::TreeFault;
 use crate::survey::is_all_good;
@@ -31,8 +30,8 @@ pub(crate) fn survey_object<'a, D: BlockDev, H: BlockDev, W: Write>(
     root: &Digest,
     writer: &mut Counted<W>,
 ) -> Result<(), TreeFault<'a>>
-    ensures ok { OnOk result (SaysObject (pass (D.state data_dev.old) (H.state hash_dev.old) (D.state data_dev.new) (H.state hash_dev.new) (W.contents writer.old.inner) (W.contents writer.new.inner)) root.now true) }
-    ensures err { IfErr result (IsSurveyEnd true (pass (D.state data_dev.old) (H.state hash_dev.old) (D.state data_dev.new) (H.state hash_dev.new) (W.contents writer.old.inner) (W.contents writer.new.inner)) root.now writer.new.failed) }
+    ensures ok { OnOk result (SaysObject (gone_over D.state H.state data_dev.old hash_dev.old data_dev.new hash_dev.new W.contents writer.old writer.new) root.now true) }
+    ensures err { IfErr result (IsSurveyEnd true (gone_over D.state H.state data_dev.old hash_dev.old data_dev.new hash_dev.new W.contents writer.old writer.new) root.now writer.new.failed) }
 {
     let mut kept = KeptLines::new(alloc);
     let found = keep_survey(alloc, data_dev, hash_dev, root, &mut kept)?;
@@ -53,8 +52,8 @@ fn keep_survey<D: BlockDev, H: BlockDev>(
     root: &Digest,
     kept: &mut KeptLines,
 ) -> Result<Survey, SurveyFault>
-    ensures ok { IfOk result (IsSurvey (pass (D.state data_dev.old) (H.state hash_dev.old) (D.state data_dev.new) (H.state hash_dev.new) (Some (lines_text kept.old.lines.items)) (Some (lines_text kept.new.lines.items))) root.now) }
-    ensures err { IfErr result (IsKeptCause (D.state data_dev.old) (H.state hash_dev.old) (D.state data_dev.new) (H.state hash_dev.new)) }
+    ensures ok { IfOk result (IsSurvey (listed D.state H.state data_dev.old hash_dev.old data_dev.new hash_dev.new kept.old kept.new) root.now) }
+    ensures err { IfErr result (FailsToList D.state H.state data_dev.old hash_dev.old data_dev.new hash_dev.new) }
 {
     match survey_image(alloc, data_dev, hash_dev, root, kept) {
         Ok(found) => Ok(found),

@@ -203,7 +203,7 @@ module _ (a b : SuperRecord) (roots : Roots) (w : Walk) (d d' e e' d'' e'' : Dev
   walk-cause NoMemory h = absurd h
   walk-cause Write h = absurd h
 
-  pub comparison-cause : (fault : DifferenceFault) → IsComparisonCause w (world d' e' d'' e'' old new) failed fault → IsDifferenceCause (world d e d'' e'' old new) roots failed fault
+  pub comparison-cause : (fault : DifferenceFault) → IsComparisonCause w d' e' d'' e'' failed fault → IsDifferenceCause (world d e d'' e'' old new) roots failed fault
   comparison-cause Write h = h
   comparison-cause (Hash tree level number) h = walk-cause (Hash tree level number) h
   comparison-cause (Image tree f) h = walk-cause (Image tree f) h

@@ -37,12 +37,12 @@ count_of-most kind [] = omega arith
 count_of-most kind (x ∷ xs) = omega (arith, weight-most (is_state kind x), count_of-most kind xs)
 
 -- a walk's cause is the comparison's
-pub walk-comparison : (w : Walk) (i : World) (failed : Bool) (fault : DifferenceFault) → IsWalkCause w i.first i.second i.first' i.second' fault → IsComparisonCause w i failed fault
-walk-comparison w i failed (Hash tree level number) h = h
-walk-comparison w i failed (Image tree f) h = h
-walk-comparison w i failed (Unlike f) h = absurd h
-walk-comparison w i failed NoMemory h = absurd h
-walk-comparison w i failed Write h = absurd h
+pub walk-comparison : (w : Walk) (d e d' e' : Device) (failed : Bool) (fault : DifferenceFault) → IsWalkCause w d e d' e' fault → IsComparisonCause w d e d' e' failed fault
+walk-comparison w d e d' e' failed (Hash tree level number) h = h
+walk-comparison w d e d' e' failed (Image tree f) h = h
+walk-comparison w d e d' e' failed (Unlike f) h = absurd h
+walk-comparison w d e d' e' failed NoMemory h = absurd h
+walk-comparison w d e d' e' failed Write h = absurd h
 
 pub top-is : (w0 w : Walk) (d e : Device) (at top : ℕ) → HaveTrees w0 d e → AreSameTrees w0 w → IsTopAt (per_block w.shape) w.levels at top → IsTopAt (width w0) w0.levels at top
 top-is w0 w d e at top have trees is =

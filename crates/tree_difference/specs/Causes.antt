@@ -9,7 +9,7 @@ use Rattle.verity_format.specs.Image.{tree_sectors}
 use Rattle.verity_format.specs.Superblock.{SuperRecord, shape_of}
 use Rattle.verity_format.specs.Verifying.{IsReadCause, IsReadFrom}
 use Rattle.tree_path.specs.Path.{PathRecord, IsPathOf, LeadsTo, AreStored, block_of, digest_on}
-use Rattle.tree_path.specs.Steps.{Steps, IsStopped}
+use Rattle.tree_path.specs.Steps.{Steps, IsStopped, steps}
 use Rattle.tree_difference.specs.declared.fault.DifferenceFault.{DifferenceFault}
 use Rattle.tree_difference.specs.declared.fault.DifferenceFault.TheVariants.{Image, Unlike, Hash, NoMemory, Write}
 use Rattle.tree_difference.specs.declared.fault.Unlike.{Unlike as Field}
@@ -44,3 +44,13 @@ IsWalkCause w first second first' second' (Hash Second level number) = IsBadBloc
 IsWalkCause w first second first' second' (Image First DeviceFailed) = HasFailed first first'
 IsWalkCause w first second first' second' (Image Second DeviceFailed) = HasFailed second second'
 IsWalkCause w first second first' second' fault = ⊥
+
+-- ---- calls, by what a proof sees of devices: as they were before, and then after
+
+-- why the hash blocks on the way to a data block, from a level down to one, weren't read or aren't good
+abbrev pub FailsToRead : {H : Type 0} → (H → Device) → PathRecord → PathRecord → H → H → ℕ → ℕ → Which → ℕ → DifferenceFault → Type 0
+FailsToRead state old new h h' index from which to fault = IsReadingCause (steps old new (state h) (state h') index from) which to fault
+
+-- why a walk ended early
+abbrev pub EndsWalk : {D E : Type 0} → (D → Device) → (E → Device) → Walk → D → E → D → E → DifferenceFault → Type 0
+EndsWalk first_state second_state w d e d' e' fault = IsWalkCause w (first_state d) (second_state e) (first_state d') (second_state e') fault

@@ -9,6 +9,8 @@ use Rattle.tree_path.specs.Path.{IsPathOf}
 use Rattle.tree_path.specs.Steps.{IsDown, steps}
 use Rattle.tree_runs.specs.declared.run.Kind.TheVariants.{Removed, Added}
 use Rattle.tree_runs.specs.declared.run.Run.{Run}
+use Rattle.tree_runs.specs.declared.tally.Tally.{Tally}
+use Rattle.tree_runs.specs.Limits.{lines_of}
 use Rattle.tree_runs.specs.Runs.{run}
 use Rattle.tree_difference.specs.declared.difference.Roots.{Roots}
 use Rattle.tree_difference.specs.declared.difference.Totals.{Totals}
@@ -17,10 +19,11 @@ use Rattle.tree_difference.specs.declared.fault.DifferenceFault.TheVariants.{Ima
 use Rattle.tree_difference.specs.declared.fault.Which.TheVariants.{First, Second}
 use Rattle.tree_difference.specs.declared.walk.Walk.{Walk}
 use Rattle.tree_difference.specs.Causes.{IsBadBlock, IsWalkCause}
-use Rattle.tree_difference.specs.Comparisons.{Compares, Reads, World}
+use Rattle.tree_difference.specs.Comparisons.{Compares, Reads, World, world}
+use Rattle.tree_difference.specs.Rests.{last_runs}
 use Rattle.tree_difference.specs.Superblocks.{IsCut, IsImageRead, unlike}
 use Rattle.tree_difference.specs.Trees.{Trees, AreAlike, common_blocks, common_levels}
-use Rattle.tree_difference.specs.Walks.{HaveBlock, IsOn, Sides}
+use Rattle.tree_difference.specs.Walks.{HaveBlock, IsOn, Sides, sides}
 
 -- the trees of two superblocks and two roots
 abbrev pub trees_of : SuperRecord → SuperRecord → Roots → Trees
@@ -65,10 +68,18 @@ rest_of w =
     else if nat_lt w.blocks w.second.shape.blocks then Some (run w.blocks (w.second.shape.blocks - w.blocks) Added)
     else None
 
+-- what is told at last, of the run that may still grow and of those blocks
+abbrev pub last_lines : Tally → Walk → List ℕ
+last_lines tally w = lines_of tally.limit (last_runs tally.last (rest_of w))
+
+-- the totals of a walk, of which so many data blocks changed
+abbrev pub totals_in : Walk → ℕ → Totals
+totals_in w changed = record { same = w.blocks - changed; changed = changed; removed = w.first.shape.blocks - w.blocks; added = w.second.shape.blocks - w.blocks }
+
 -- a walk ended early, or a line can't be written
-abbrev pub IsComparisonCause : Walk → World → Bool → DifferenceFault → Type 0
-IsComparisonCause w i failed Write = failed ≡ true
-IsComparisonCause w i failed fault = IsWalkCause w i.first i.second i.first' i.second' fault
+abbrev pub IsComparisonCause : Walk → Device → Device → Device → Device → Bool → DifferenceFault → Type 0
+IsComparisonCause w first second first' second' failed Write = failed ≡ true
+IsComparisonCause w first second first' second' failed fault = IsWalkCause w first second first' second' fault
 
 -- how many sectors of an image are read beside the pairs of hash blocks that differ: the superblock's, and those of the
 -- first hash block of each level that the other tree doesn't have
@@ -98,3 +109,25 @@ IsDifferenceCause w roots failed (Hash First level number) = AreRead w (λ a b. 
 IsDifferenceCause w roots failed (Hash Second level number) = AreRead w (λ a b. IsBadBlock (shape_of b) b.salt roots.second w.second level number)
 IsDifferenceCause w roots failed NoMemory = (w.first'.failures ≡ w.first.failures) × (w.second'.failures ≡ w.second.failures)
 IsDifferenceCause w roots failed Write = failed ≡ true
+
+-- ---- calls, by what a proof sees of the two devices: as they were before, and then after
+
+-- the first hash blocks of the levels that the other tree doesn't have were read
+abbrev pub Aligns : {D E : Type 0} → (D → Device) → (E → Device) → Walk → Walk → D → E → D → E → Type 0
+Aligns first_state second_state old new d e d' e' = IsAligned (sides old new (first_state d) (second_state e) (first_state d') (second_state e'))
+
+-- what a proof sees of the devices and of what was told, before and after
+abbrev pub seen : {D E L : Type 0} → (D → Device) → (E → Device) → (L → Option (List ℕ)) → D → E → D → E → L → L → World
+seen first_state second_state told d e d' e' l l' = world (first_state d) (second_state e) (first_state d') (second_state e') (told l) (told l')
+
+-- the data blocks of both trees were compared, and at most so many lines were told
+abbrev pub ComparesBlocks : {D E L : Type 0} → (D → Device) → (E → Device) → (L → Option (List ℕ)) → Walk → D → E → D → E → L → L → Option ℕ → Totals → Type 0
+ComparesBlocks first_state second_state told w d e d' e' l l' most totals = Compares (trees_in w) (seen first_state second_state told d e d' e' l l') most totals
+
+-- the pairs of hash blocks that differ were read, each once, and nothing else
+abbrev pub ReadsPairs : {D E L : Type 0} → (D → Device) → (E → Device) → (L → Option (List ℕ)) → Walk → D → E → D → E → L → L → Type 0
+ReadsPairs first_state second_state told w d e d' e' l l' = Reads (trees_in w) (seen first_state second_state told d e d' e' l l') 0 0
+
+-- why the comparison of the data blocks ended early
+abbrev pub EndsEarly : {D E : Type 0} → (D → Device) → (E → Device) → Walk → D → E → D → E → Bool → DifferenceFault → Type 0
+EndsEarly first_state second_state w d e d' e' failed fault = IsComparisonCause w (first_state d) (second_state e) (first_state d') (second_state e') failed fault

@@ -5,8 +5,9 @@ use Rattle.block_device.specs.Device.{Device}
 use Rattle.tree_shape.specs.Shape.{levels}
 use Rattle.verity_format.specs.Blocks.{IsFullRead}
 use Rattle.verity_format.specs.Image.{tree_sectors}
-use Rattle.tree_path.specs.Path.{IsPathOf, LeadsTo, AreStored, digest_on}
+use Rattle.tree_path.specs.Path.{PathRecord, IsPathOf, LeadsTo, AreStored, digest_on}
 use Rattle.tree_path.specs.Steps.{IsDown, steps}
+use Rattle.tree_difference.specs.declared.walk.Stop.{Stop}
 use Rattle.tree_difference.specs.declared.walk.Walk.{Walk}
 
 -- two walks and their devices, before and after
@@ -74,3 +75,17 @@ pub record HasStopped (s : Sides) (i top level : ℕ) (same : Bool) : Type 0 whe
   pub last : same ≡ false → level ≡ 0
   pub first_read : IsFullRead s.first ((top - level) * (s.old.first.shape.hash_block / 512)) s.first'
   pub second_read : IsFullRead s.second ((top - level) * (s.old.second.shape.hash_block / 512)) s.second'
+
+-- ---- calls, by what a proof sees of the two devices: as they were before, and then after
+
+-- the hash blocks of that level were read, of both trees
+abbrev pub Enters : {D E : Type 0} → (D → Device) → (E → Device) → Walk → Walk → D → E → D → E → ℕ → ℕ → Type 0
+Enters first_state second_state old new d e d' e' i level = HasEntered (sides old new (first_state d) (second_state e) (first_state d') (second_state e')) i level
+
+-- the way down from a level ended there
+abbrev pub Stops : {D E : Type 0} → (D → Device) → (E → Device) → Walk → Walk → D → E → D → E → ℕ → ℕ → Stop → Type 0
+Stops first_state second_state old new d e d' e' i top stop = HasStopped (sides old new (first_state d) (second_state e) (first_state d') (second_state e')) i top stop.level stop.same
+
+-- the hash blocks on the way to a data block, from a level down to one, were read and are good
+abbrev pub ReadsDown : {H : Type 0} → (H → Device) → PathRecord → PathRecord → H → H → ℕ → ℕ → ℕ → Type 0
+ReadsDown state old new h h' index from to = IsDown (steps old new (state h) (state h') index from) to to

@@ -1,13 +1,9 @@
 //! Two trees compared from their roots down.
-ghost use Rattle.std.specs.Prelude.{◌≡◌, ◌≤◌, ◌<◌, ◌+◌, ◌-◌, ◌^◌, OnOk, IfOk, IfErr, IfSome};
-ghost use Rattle.tree_runs.specs.Limits.{lines_of};
+ghost use Rattle.std.specs.Prelude.{◌≡◌, ◌≤◌, ◌<◌, ◌+◌, ◌^◌, OnOk, IfOk, IfErr, IfSome};
 ghost use Rattle.tree_runs.specs.Listings.{Tells};
 ghost use Rattle.tree_runs.specs.Tallies.{EndsAt};
-ghost use Rattle.tree_difference.specs.Causes.{IsWalkCause};
-ghost use Rattle.tree_difference.specs.Comparisons.{Compares, Reads, world};
-ghost use Rattle.tree_difference.specs.Differences.{CanCompare, HaveTrees, IsAligned, IsComparisonCause, IsDifference, IsDifferenceCause, IsWalkOf, rest_of, trees_in, trees_of};
-ghost use Rattle.tree_difference.specs.Rests.{last_runs};
-ghost use Rattle.tree_difference.specs.Walks.{sides};
+ghost use Rattle.tree_difference.specs.Causes.{EndsWalk};
+ghost use Rattle.tree_difference.specs.Differences.{Aligns, CanCompare, EndsEarly, HaveTrees, IsDifference, IsDifferenceCause, IsWalkOf, ReadsPairs, ComparesBlocks, last_lines, rest_of, seen, totals_in, trees_of};
 
 use crate::fault::{DifferenceFault, Which};
 use crate::reading::read_down;
@@ -49,8 +45,8 @@ pub fn compare_trees<D: BlockDev, E: BlockDev, L: Listing>(
     most: Option<u64>,
     listing: &mut L,
 ) -> Result<Totals, DifferenceFault>
-    ensures ok { IfOk result (IsDifference (world (D.state first.old) (E.state second.old) (D.state first.new) (E.state second.new) (L.told listing.old) (L.told listing.new)) roots most) }
-    ensures err { IfErr result (IsDifferenceCause (world (D.state first.old) (E.state second.old) (D.state first.new) (E.state second.new) (L.told listing.old) (L.told listing.new)) roots (L.failed listing.new)) }
+    ensures ok { IfOk result (IsDifference (seen D.state E.state L.told first.old second.old first.new second.new listing.old listing.new) roots most) }
+    ensures err { IfErr result (IsDifferenceCause (seen D.state E.state L.told first.old second.old first.new second.new listing.old listing.new) roots (L.failed listing.new)) }
 {
     let one = superblock_of(first, Which::First)?;
     let two = superblock_of(second, Which::Second)?;
@@ -92,8 +88,8 @@ fn align<D: BlockDev, E: BlockDev>(
     second: &mut E,
 ) -> Result<(), DifferenceFault>
     requires { HaveTrees walk.old (D.state first.old) (E.state second.old) }
-    ensures ok { OnOk result (IsAligned (sides walk.old walk.new (D.state first.old) (E.state second.old) (D.state first.new) (E.state second.new))) }
-    ensures err { IfErr result (IsWalkCause walk.old (D.state first.old) (E.state second.old) (D.state first.new) (E.state second.new)) }
+    ensures ok { OnOk result (Aligns D.state E.state walk.old walk.new first.old second.old first.new second.new) }
+    ensures err { IfErr result (EndsWalk D.state E.state walk.old first.old second.old first.new second.new) }
 {
     let levels = walk.levels;
     let top = walk.first.levels();
@@ -111,9 +107,9 @@ fn compare<D: BlockDev, E: BlockDev, L: Listing>(
     listing: &mut L,
 ) -> Result<Totals, DifferenceFault>
     requires { CanCompare walk.old (D.state first.old) (E.state second.old) }
-    ensures ok { IfOk result (Compares (trees_in walk.old) (world (D.state first.old) (E.state second.old) (D.state first.new) (E.state second.new) (L.told listing.old) (L.told listing.new)) most) }
-    ensures reads { OnOk result (Reads (trees_in walk.old) (world (D.state first.old) (E.state second.old) (D.state first.new) (E.state second.new) (L.told listing.old) (L.told listing.new)) 0 0) }
-    ensures err { IfErr result (IsComparisonCause walk.old (world (D.state first.old) (E.state second.old) (D.state first.new) (E.state second.new) (L.told listing.old) (L.told listing.new)) (L.failed listing.new)) }
+    ensures ok { IfOk result (ComparesBlocks D.state E.state L.told walk.old first.old second.old first.new second.new listing.old listing.new most) }
+    ensures reads { OnOk result (ReadsPairs D.state E.state L.told walk.old first.old second.old first.new second.new listing.old listing.new) }
+    ensures err { IfErr result (EndsEarly D.state E.state walk.old first.old second.old first.new second.new (L.failed listing.new)) }
 {
     let mut tally = Tally::new(most);
     let mut changed = 0;
@@ -145,7 +141,7 @@ fn compare<D: BlockDev, E: BlockDev, L: Listing>(
 // Tells the last run, and the data blocks that one of the two trees alone has.
 fn finish<L: Listing>(walk: &Walk, tally: &mut Tally, listing: &mut L) -> Result<(), WriteFault>
     requires { EndsAt tally.old.last walk.now.blocks }
-    ensures { Tells L.told L.failed listing.old listing.new (lines_of tally.old.limit (last_runs tally.old.last (rest_of walk.now))) result }
+    ensures { Tells L.told L.failed listing.old listing.new (last_lines tally.old walk.now) result }
 {
     match rest(walk) {
         Some(run) => {
@@ -161,7 +157,7 @@ fn totals_after(walk: &Walk, changed: u64) -> Totals
     requires few { changed ≤ walk.now.blocks }
     requires first { walk.now.blocks ≤ walk.now.first.shape.blocks }
     requires second { walk.now.blocks ≤ walk.now.second.shape.blocks }
-    ensures { result ≡ record { same = walk.now.blocks - changed; changed = changed; removed = walk.now.first.shape.blocks - walk.now.blocks; added = walk.now.second.shape.blocks - walk.now.blocks } }
+    ensures { result ≡ totals_in walk.now changed }
 {
     Totals {
         same: walk.blocks - changed,

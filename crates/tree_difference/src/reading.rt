@@ -1,8 +1,9 @@
 //! Hash blocks read down to a data block, with the fault that names one that isn't good.
 ghost use Rattle.std.specs.Prelude.{◌≡◌, OnOk, IfErr};
 ghost use Rattle.verity_format.specs.Blocks.{IsOnlyRead};
-ghost use Rattle.tree_path.specs.Steps.{CanDescend, IsDown, steps};
-ghost use Rattle.tree_difference.specs.Causes.{IsReadingCause};
+ghost use Rattle.tree_path.specs.Steps.{CanDescend};
+ghost use Rattle.tree_difference.specs.Causes.{FailsToRead};
+ghost use Rattle.tree_difference.specs.Walks.{ReadsDown};
 
 use crate::fault::{DifferenceFault, Which};
 use block_device::BlockDev;
@@ -20,8 +21,8 @@ pub(crate) fn read_down<H: BlockDev>(
 ) -> Result<(), DifferenceFault>
     requires { CanDescend path.old (H.state device.old) index from to }
     ensures read { IsOnlyRead (H.state device.old) (H.state device.new) }
-    ensures ok { OnOk result (IsDown (steps path.old path.new (H.state device.old) (H.state device.new) index from) to to) }
-    ensures err { IfErr result (IsReadingCause (steps path.old path.new (H.state device.old) (H.state device.new) index from) which to) }
+    ensures ok { OnOk result (ReadsDown H.state path.old path.new device.old device.new index from to) }
+    ensures err { IfErr result (FailsToRead H.state path.old path.new device.old device.new index from which to) }
 {
     match path.descend(device, index, from, to) {
         Ok(None) => Ok(()),

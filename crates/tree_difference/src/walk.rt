@@ -1,8 +1,8 @@
 //! The ways down two trees to one data block.
 ghost use Rattle.std.specs.Prelude.{◌≡◌, ◌≤◌, OnOk, IfOk, IfErr};
 ghost use Rattle.std.specs.Str.{bytes_eq};
-ghost use Rattle.tree_difference.specs.Causes.{IsWalkCause};
-ghost use Rattle.tree_difference.specs.Walks.{CanEnter, CanWalk, HasEntered, HasStopped, sides};
+ghost use Rattle.tree_difference.specs.Causes.{EndsWalk};
+ghost use Rattle.tree_difference.specs.Walks.{CanEnter, CanWalk, Enters, Stops};
 
 use crate::fault::{DifferenceFault, Which};
 use crate::reading::read_down;
@@ -37,8 +37,8 @@ impl Walk {
         top: u32,
     ) -> Result<Stop, DifferenceFault>
         requires { CanWalk self.old (D.state first.old) (E.state second.old) index top }
-        ensures ok { IfOk result (λ stop. HasStopped (sides self.old self.new (D.state first.old) (E.state second.old) (D.state first.new) (E.state second.new)) index top stop.level stop.same) }
-        ensures err { IfErr result (IsWalkCause self.old (D.state first.old) (E.state second.old) (D.state first.new) (E.state second.new)) }
+        ensures ok { IfOk result (Stops D.state E.state self.old self.new first.old second.old first.new second.new index top) }
+        ensures err { IfErr result (EndsWalk D.state E.state self.old first.old second.old first.new second.new) }
     {
         let mut level = top;
         'levels: while !is_same(
@@ -63,8 +63,8 @@ impl Walk {
         level: u32,
     ) -> Result<(), DifferenceFault>
         requires { CanEnter self.old (D.state first.old) (E.state second.old) index level }
-        ensures ok { OnOk result (HasEntered (sides self.old self.new (D.state first.old) (E.state second.old) (D.state first.new) (E.state second.new)) index level) }
-        ensures err { IfErr result (IsWalkCause self.old (D.state first.old) (E.state second.old) (D.state first.new) (E.state second.new)) }
+        ensures ok { OnOk result (Enters D.state E.state self.old self.new first.old second.old first.new second.new index level) }
+        ensures err { IfErr result (EndsWalk D.state E.state self.old first.old second.old first.new second.new) }
     {
         read_down(
             &mut self.first,

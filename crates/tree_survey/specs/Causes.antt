@@ -52,3 +52,13 @@ abbrev pub IsSurveyCause : Device → Device → Device → Device → Bool → 
 IsSurveyCause data_dev hash_dev data_dev' hash_dev' failed (Image (Super f)) = IsImageCause data_dev hash_dev hash_dev' (Image (Super f))
 IsSurveyCause data_dev hash_dev data_dev' hash_dev' failed (Image TooSmall) = IsImageCause data_dev hash_dev hash_dev' (Image TooSmall)
 IsSurveyCause data_dev hash_dev data_dev' hash_dev' failed fault = IsPassCause data_dev hash_dev data_dev' hash_dev' failed fault
+
+-- ---- calls, by what a proof sees of the two devices: as they were before, and then after
+
+-- why data blocks weren't gone over to their end
+abbrev pub EndsPass : {D H : Type 0} → (D → Device) → (H → Device) → D → H → D → H → Bool → SurveyFault → Type 0
+EndsPass data_state hash_state d h d' h' failed fault = IsPassCause (data_state d) (hash_state h) (data_state d') (hash_state h') failed fault
+
+-- why an image wasn't gone over to its end
+abbrev pub EndsSurvey : {D H : Type 0} → (D → Device) → (H → Device) → D → H → D → H → Bool → SurveyFault → Type 0
+EndsSurvey data_state hash_state d h d' h' failed fault = IsSurveyCause (data_state d) (hash_state h) (data_state d') (hash_state h') failed fault

@@ -2,7 +2,8 @@
 use Rattle.std.specs.Prelude.{◌≡◌, ℕ, suc, ◌+◌, ◌^◌, ◌<◌, List, [], ◌∷◌, Option, Some, None}
 use Rattle.tree_runs.specs.declared.run.Kind.TheVariants.{Changed, Unknown}
 use Rattle.tree_runs.specs.declared.run.Run.{Run}
-use Rattle.tree_runs.specs.Limits.{limit_after}
+use Rattle.tree_runs.specs.declared.tally.Tally.{Tally}
+use Rattle.tree_runs.specs.Limits.{begun, limit_after, lines_of}
 use Rattle.tree_runs.specs.Runs.{State, count_of, run}
 use Rattle.tree_runs.specs.Tallies.{closed_by, listed, opened_by}
 use Rattle.tree_survey.specs.declared.counts.Counts.{Counts}
@@ -37,6 +38,14 @@ closed_at last i (Some kind) = closed_by last (run i 1 kind)
 abbrev pub opened_at : Option Run → ℕ → State → Option Run
 opened_at last i None = None
 opened_at last i (Some kind) = Some (opened_by last (run i 1 kind))
+
+-- what is told of the runs that it ends
+abbrev pub lines_at : Tally → ℕ → State → List ℕ
+lines_at tally i state = lines_of tally.limit (closed_at tally.last i state)
+
+-- no data block was added
+abbrev pub none_yet : Counts
+none_yet = record { tally = record { last = None; limit = begun None }; totals = record { good = 0; changed = 0; unknown = 0 } }
 
 -- data block i was added
 pub record IsAdded (old new : Counts) (i : ℕ) (state : State) : Type 0 where

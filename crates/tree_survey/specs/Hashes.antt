@@ -20,6 +20,10 @@ pub record HashBlock : Type 0 where
 abbrev pub hash_line : HashBlock → List ℕ
 hash_line b = hash_text b.level b.number
 
+-- that of one alone
+abbrev pub line_at : ℕ → ℕ → List ℕ
+line_at level number = hash_line (record { level = level; number = number })
+
 abbrev pub hash_lines : List HashBlock → List ℕ
 hash_lines blocks = flat_map hash_line blocks
 
@@ -89,3 +93,7 @@ pub record SaysTree (old : PathRecord) (device : Device) (printed printed' : Opt
   pub found : HashesFound (tree_at old) device
   pub whole_is : whole ≡ is_whole found.bad
   pub printed_are : Appends printed printed' (hash_lines found.bad)
+
+-- the hash blocks of a level that aren't good were told, by what a proof sees of the device and of who is told
+abbrev pub TellsBad : {H L : Type 0} → (H → Device) → (L → Option (List ℕ)) → PathRecord → PathRecord → H → H → ℕ → L → L → Bool → Type 0
+TellsBad state told old new h h' level l l' whole = SaysLevel old new (state h) (state h') level (told l) (told l') whole

@@ -79,3 +79,7 @@ pub record IsSurvey (w : Pass) (root : List ℕ) (found : Survey) : Type 0 where
   pub hashes : HashesFound (tree_of s root) w.hash_dev
   pub whole : found.whole_tree ≡ is_whole hashes.bad
   pub printed_are : Appends between w.printed' (hash_lines hashes.bad)
+
+-- what a proof sees of the devices and of what was told, before and after
+abbrev pub seen : {D H L : Type 0} → (D → Device) → (H → Device) → (L → Option (List ℕ)) → D → H → D → H → L → L → Pass
+seen data_state hash_state told d h d' h' l l' = pass (data_state d) (hash_state h) (data_state d') (hash_state h') (told l) (told l')

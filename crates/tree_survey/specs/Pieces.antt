@@ -1,5 +1,6 @@
 -- Data blocks that are read and digested.
-use Rattle.std.specs.Prelude.{◌≡◌, ℕ, ◌+◌, ◌*◌, ◌/◌, ◌<◌, ◌≤◌, min, ◌^◌, IsTrue, List, length, map}
+use Rattle.std.specs.Prelude.{◌≡◌, ℕ, ◌+◌, ◌*◌, ◌/◌, ◌<◌, ◌≤◌, min, ◌^◌, IsTrue, List, Vec, length, map}
+use Rattle.std.specs.Global.{Global}
 use Rattle.block_device.specs.Device.{Device}
 use Rattle.tree_shape.specs.Digests.{digest}
 use Rattle.tree_shape.specs.Shape.{ShapeRecord, is_block_size}
@@ -32,3 +33,7 @@ pub record IsPieceRead (shape : ShapeRecord) (salt : List ℕ) (old new : Device
   pub some : 0 < length digests
   pub few : first + length digests ≤ shape.blocks
   pub run : IsRunRead old salt shape.data_block first digests new
+
+-- the same, by what a proof sees of the device
+abbrev pub ReadsPiece : {D : Type 0} → (D → Device) → ShapeRecord → List ℕ → D → D → ℕ → Vec (List ℕ) Global → Type 0
+ReadsPiece state shape salt d d' first digests = IsPieceRead shape salt (state d) (state d') first digests.items

@@ -1,9 +1,9 @@
 //! Runs and counts of data blocks, one block after another.
-ghost use Rattle.std.specs.Prelude.{◌≡◌, ◌^◌, ◌<◌, None, OnOk};
-ghost use Rattle.tree_runs.specs.Limits.{begun, limit_after, lines_of};
+ghost use Rattle.std.specs.Prelude.{◌≡◌, ◌^◌, ◌<◌, OnOk};
+ghost use Rattle.tree_runs.specs.Limits.{limit_after};
 ghost use Rattle.tree_runs.specs.Listings.{Tells};
 ghost use Rattle.tree_runs.specs.Tallies.{EndsAt};
-ghost use Rattle.tree_survey.specs.Counts.{AreFew, IsAdded, closed_at, counted, opened_at};
+ghost use Rattle.tree_survey.specs.Counts.{AreFew, IsAdded, closed_at, counted, lines_at, none_yet, opened_at};
 
 use counted_io::WriteFault;
 use tree_runs::{Kind, Listing, Run, Tally};
@@ -26,7 +26,7 @@ pub(crate) struct Counts {
 impl Counts {
     /// No block was gone over.
     pub(crate) fn new() -> Counts
-        ensures { result ≡ record { tally = record { last = None; limit = begun None }; totals = record { good = 0; changed = 0; unknown = 0 } } }
+        ensures { result ≡ none_yet }
     {
         Counts {
             tally: Tally::new(None),
@@ -48,7 +48,7 @@ impl Counts {
         requires ends { EndsAt self.old.tally.last index }
         requires inside { index < 2 ^ 54 }
         requires few { AreFew self.old.totals }
-        ensures text { Tells L.told L.failed listing.old listing.new (lines_of self.old.tally.limit (closed_at self.old.tally.last index state)) result }
+        ensures text { Tells L.told L.failed listing.old listing.new (lines_at self.old.tally index state) result }
         ensures added { OnOk result (IsAdded self.old self.new index state) }
     {
         tally_next(&mut self.tally, listing, index, state)?;
@@ -65,7 +65,7 @@ fn tally_next<L: Listing>(
 ) -> Result<(), WriteFault>
     requires ends { EndsAt tally.old.last index }
     requires inside { index < 2 ^ 54 }
-    ensures text { Tells L.told L.failed listing.old listing.new (lines_of tally.old.limit (closed_at tally.old.last index state)) result }
+    ensures text { Tells L.told L.failed listing.old listing.new (lines_at tally.old index state) result }
     ensures last { OnOk result (tally.new.last ≡ opened_at tally.old.last index state) }
     ensures limit { OnOk result (tally.new.limit ≡ limit_after tally.old.limit (closed_at tally.old.last index state)) }
 {

@@ -6,7 +6,7 @@ ghost use Rattle.verity_format.specs.Blocks.{IsOnlyRead};
 ghost use Rattle.verity_format.specs.Image.{tree_sectors};
 ghost use Rattle.tree_runs.specs.Listings.{Tells};
 ghost use Rattle.tree_survey.specs.Causes.{IsHashCause};
-ghost use Rattle.tree_survey.specs.Hashes.{CanCompare, IsAbove, IsCompared, SaysLevel, SaysTree, hash_line};
+ghost use Rattle.tree_survey.specs.Hashes.{CanCompare, IsAbove, IsCompared, TellsBad, SaysTree, line_at};
 
 use crate::fault::SurveyFault;
 use block_device::{BlockDev, DeviceFault};
@@ -56,7 +56,7 @@ fn say_level<H: BlockDev, L: Listing>(
     requires level { level < levels path.old.shape }
     requires few { level < 14 }
     ensures read { IsOnlyRead (H.state device.old) (H.state device.new) }
-    ensures ok { IfOk result (SaysLevel path.old path.new (H.state device.old) (H.state device.new) level (L.told listing.old) (L.told listing.new)) }
+    ensures ok { IfOk result (TellsBad H.state L.told path.old path.new device.old device.new level listing.old listing.new) }
     ensures err { IfErr result (IsHashCause (H.state device.old) (H.state device.new) (L.failed listing.new)) }
 {
     let width = span(shape, level + 1, shape.blocks());
@@ -117,7 +117,7 @@ fn read_above<H: BlockDev>(
 
 // `hash LEVEL INDEX`
 fn say_hash<L: Listing>(listing: &mut L, level: u32, number: u64) -> Result<(), WriteFault>
-    ensures { Tells L.told L.failed listing.old listing.new (hash_line (record { level = level; number = number })) result }
+    ensures { Tells L.told L.failed listing.old listing.new (line_at level number) result }
 {
     listing.tell(Line::Hash { level, number })
 }

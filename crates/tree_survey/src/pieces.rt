@@ -3,7 +3,7 @@ ghost use Rattle.std.specs.Prelude.{◌≡◌, OnOk, OnErr, IfOk, IfErr, length,
 ghost use Rattle.block_device.specs.Device.{HasFailed};
 ghost use Rattle.verity_format.specs.Blocks.{IsOnlyRead};
 ghost use Rattle.tree_survey.specs.Causes.{IsReadingCause};
-ghost use Rattle.tree_survey.specs.Pieces.{CanRead, IsPieceRead, IsRunOn, IsRunRead};
+ghost use Rattle.tree_survey.specs.Pieces.{CanRead, IsRunOn, IsRunRead, ReadsPiece};
 
 use crate::fault::SurveyFault;
 use block_device::{BlockDev, DeviceFault};
@@ -32,7 +32,7 @@ pub(crate) fn read_piece<D: BlockDev>(
 ) -> Result<Vec<Digest>, SurveyFault>
     requires { CanRead shape.now (D.state device.old) first (length piece.old) }
     ensures read { IsOnlyRead (D.state device.old) (D.state device.new) }
-    ensures ok { IfOk result (λ digests. IsPieceRead shape.now salt.now (D.state device.old) (D.state device.new) first digests.items) }
+    ensures ok { IfOk result (ReadsPiece D.state shape.now salt.now device.old device.new first) }
     ensures err { IfErr result (IsReadingCause (D.state device.old) (D.state device.new)) }
 {
     let size = shape.data_block() as usize;

@@ -1,8 +1,8 @@
 //! All data blocks of an image, gone over once.
 ghost use Rattle.std.specs.Prelude.{◌≡◌, OnOk, IfOk, IfErr};
 ghost use Rattle.verity_format.specs.Blocks.{IsOnlyRead};
-ghost use Rattle.tree_survey.specs.Causes.{IsImageCause, IsPassCause, IsSurveyCause, AreImages};
-ghost use Rattle.tree_survey.specs.Passes.{CanPass, HasPassed, IsSurvey, Surveys, pass, tree_in};
+ghost use Rattle.tree_survey.specs.Causes.{EndsPass, EndsSurvey, IsImageCause, AreImages};
+ghost use Rattle.tree_survey.specs.Passes.{CanPass, HasPassed, IsSurvey, Surveys, seen, tree_in};
 
 use crate::counts::{Counts, Totals};
 use crate::fault::SurveyFault;
@@ -36,8 +36,8 @@ pub fn survey_image<D: BlockDev, H: BlockDev, L: Listing>(
 ) -> Result<Survey, SurveyFault>
     ensures data { IsOnlyRead (D.state data_dev.old) (D.state data_dev.new) }
     ensures hash { IsOnlyRead (H.state hash_dev.old) (H.state hash_dev.new) }
-    ensures ok { IfOk result (IsSurvey (pass (D.state data_dev.old) (H.state hash_dev.old) (D.state data_dev.new) (H.state hash_dev.new) (L.told listing.old) (L.told listing.new)) root.now) }
-    ensures err { IfErr result (IsSurveyCause (D.state data_dev.old) (H.state hash_dev.old) (D.state data_dev.new) (H.state hash_dev.new) (L.failed listing.new)) }
+    ensures ok { IfOk result (IsSurvey (seen D.state H.state L.told data_dev.old hash_dev.old data_dev.new hash_dev.new listing.old listing.new) root.now) }
+    ensures err { IfErr result (EndsSurvey D.state H.state data_dev.old hash_dev.old data_dev.new hash_dev.new (L.failed listing.new)) }
 {
     let superblock = superblock_of(data_dev, hash_dev)?;
     let shape = superblock.shape();
@@ -83,8 +83,8 @@ fn survey_data<D: BlockDev, H: BlockDev, L: Listing>(
     ensures data { IsOnlyRead (D.state data_dev.old) (D.state data_dev.new) }
     ensures hash { IsOnlyRead (H.state hash_dev.old) (H.state hash_dev.new) }
     ensures passed { OnOk result (HasPassed sight.old sight.new (H.state hash_dev.old) (H.state hash_dev.new)) }
-    ensures ok { IfOk result (Surveys (tree_in sight.old) (pass (D.state data_dev.old) (H.state hash_dev.old) (D.state data_dev.new) (H.state hash_dev.new) (L.told listing.old) (L.told listing.new))) }
-    ensures err { IfErr result (IsPassCause (D.state data_dev.old) (H.state hash_dev.old) (D.state data_dev.new) (H.state hash_dev.new) (L.failed listing.new)) }
+    ensures ok { IfOk result (Surveys (tree_in sight.old) (seen D.state H.state L.told data_dev.old hash_dev.old data_dev.new hash_dev.new listing.old listing.new)) }
+    ensures err { IfErr result (EndsPass D.state H.state data_dev.old hash_dev.old data_dev.new hash_dev.new (L.failed listing.new)) }
 {
     let mut memory = zeros(alloc, PIECE)?;
     let piece = memory.as_mut_slice();

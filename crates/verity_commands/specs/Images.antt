@@ -1,15 +1,18 @@
 -- What `format`, `verify`, `dump` and `table` on whole files print where they succeed, and how they end early.
 use Rattle.std.specs.Prelude.{◌≡◌, ◌⊎◌, ℕ, Bool, List, Option}
+use Rattle.block_device.specs.Device.{Device}
+use Rattle.counted_io.specs.Counted.{CountedRecord}
 use Rattle.command_line.specs.declared.image_options.ImageOptions.{ImageOptions}
 use Rattle.command_line.specs.declared.invocation.ImageInvocation.{ImageInvocation}
 use Rattle.command_line.specs.declared.invocation.ImageInvocation.TheVariants.{Dump, Format, Table, Verify}
-use Rattle.command_line.specs.FormatOptions.{AreSaid, OptionTexts}
+use Rattle.command_line.specs.declared.option_words.OptionWords.{OptionWords}
+use Rattle.command_line.specs.FormatOptions.{AreSaid, OptionTexts, option_texts}
 use Rattle.image_commands.specs.declared.fault.ImageFault.{ImageFault}
 use Rattle.image_commands.specs.Drawing.{Drawing}
 use Rattle.image_commands.specs.ImageCommands.{IsFormatFilesEnd, IsSuperblockEnd, IsVerifyFilesEnd, PrintsMade, PrintsMatches, PrintsSuperblock}
 use Rattle.image_commands.specs.Openings.{TwoPaths}
 use Rattle.image_commands.specs.SuperblockTexts.{line_text, superblock_text}
-use Rattle.image_files.specs.Opener.{Calls}
+use Rattle.image_files.specs.Opener.{Calls, Opener, calls}
 use Rattle.verity_commands.specs.declared.fault.VerityFault.{VerityFault}
 use Rattle.verity_commands.specs.Endings.{IsImageEnd, IsQuiet, IsUnsaid}
 
@@ -43,3 +46,13 @@ IsFilesCause texts (Table hash root image_name hash_name) w drawing failed fault
 -- and nothing is printed before
 abbrev pub FailsFiles : {S D T G : Type 0} → OptionTexts → ImageInvocation → Calls S D → Drawing T G → Option (List ℕ) → Option (List ℕ) → Bool → VerityFault → Type 0
 FailsFiles texts invocation w drawing old new failed fault = IsFilesCause texts invocation w drawing failed fault × IsQuiet fault old new
+
+-- ---- as a call sees them, by the program's own words
+
+abbrev pub RunsByWords : {S D T G W : Type 0} → Opener S D → (D → Device) → S → S → Drawing T G → (W → Option (List ℕ)) → CountedRecord W → CountedRecord W → OptionWords → ImageInvocation → Type 0
+RunsByWords relations state images images' d contents writer writer' options invocation =
+    ServesFiles (option_texts options) invocation (calls relations state images images') d (contents writer.inner) (contents writer'.inner)
+
+abbrev pub FailsToRun : {S D T G W : Type 0} → Opener S D → (D → Device) → S → S → Drawing T G → (W → Option (List ℕ)) → CountedRecord W → CountedRecord W → OptionWords → ImageInvocation → VerityFault → Type 0
+FailsToRun relations state images images' d contents writer writer' options invocation =
+    FailsFiles (option_texts options) invocation (calls relations state images images') d (contents writer.inner) (contents writer'.inner) writer'.failed

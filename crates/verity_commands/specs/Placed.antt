@@ -1,22 +1,30 @@
 -- What `format`, `verify`, `dump` and `table` print where superblock and tree have a place in their file, and how they end early.
 use Rattle.std.specs.Borrow.{Bor}
 use Rattle.std.specs.Prelude.{◌≡◌, ◌⊎◌, ℕ, ◌/◌, ◌++◌, Bool, true, false, List, Option}
+use Rattle.block_device.specs.Device.{Device}
+use Rattle.counted_io.specs.Counted.{CountedRecord}
 use Rattle.command_line.specs.declared.image_options.ImageOptions.{ImageOptions}
-use Rattle.command_line.specs.FormatOptions.{AreSaid, OptionTexts, text_of}
-use Rattle.command_line.specs.words.Dump.{DumpRecord}
-use Rattle.command_line.specs.words.Format.{FormatRecord}
-use Rattle.command_line.specs.words.Table.{TableRecord}
-use Rattle.command_line.specs.words.Verify.{VerifyRecord}
+use Rattle.command_line.specs.declared.option_words.OptionWords.{OptionWords}
+use Rattle.command_line.specs.declared.words.dump.DumpWords.{DumpWords}
+use Rattle.command_line.specs.declared.words.format.FormatWords.{FormatWords}
+use Rattle.command_line.specs.declared.words.table.TableWords.{TableWords}
+use Rattle.command_line.specs.declared.words.verify.VerifyWords.{VerifyWords}
+use Rattle.command_line.specs.FormatOptions.{AreSaid, OptionTexts, option_texts, text_of}
+use Rattle.command_line.specs.words.Dump.{DumpRecord, dump_record}
+use Rattle.command_line.specs.words.Format.{FormatRecord, format_record}
+use Rattle.command_line.specs.words.Table.{TableRecord, table_record}
+use Rattle.command_line.specs.words.Verify.{VerifyRecord, verify_record}
 use Rattle.image_commands.specs.declared.fault.ImageFault.{ImageFault}
 use Rattle.image_commands.specs.declared.fault.ImageFault.TheVariants.{Format}
 use Rattle.image_commands.specs.declared.table.LineWords.{LineWords}
+use Rattle.image_commands.specs.declared.watching.WatchedPlaces.{WatchedPlaces}
 use Rattle.image_commands.specs.Drawing.{Drawing}
 use Rattle.image_commands.specs.PlacedFormats.{IsFormatPlacedEnd, PrintsPlaced}
 use Rattle.image_commands.specs.PlacedImages.{IsPlacedImageEnd, IsPlacedMatchesEnd, PrintsPlacedMatches, PrintsPlacedSuper}
 use Rattle.image_commands.specs.PlacedLines.{entry_head, placed_line}
-use Rattle.image_commands.specs.Places.{TwoPlaces, is_aligned}
+use Rattle.image_commands.specs.Places.{TwoPlaces, is_aligned, two_places}
 use Rattle.image_commands.specs.SuperblockJson.{dump_text}
-use Rattle.image_files.specs.Opener.{Calls}
+use Rattle.image_files.specs.Opener.{Calls, Opener, calls}
 use Rattle.verity_commands.specs.declared.fault.VerityFault.{VerityFault}
 use Rattle.verity_commands.specs.declared.fault.VerityFault.TheVariants.{Usage}
 use Rattle.verity_commands.specs.Endings.{IsImageEnd, IsQuiet, IsUnsaid}
@@ -104,3 +112,41 @@ IsDumpEnd w d old new failed fault = IsImageEnd (IsPlacedImageEnd w d.hash_path 
 
 abbrev pub IsTableEnd : {S D : Type 0} → Calls S D → TableRecord → Option (List ℕ) → Option (List ℕ) → Bool → VerityFault → Type 0
 IsTableEnd w t old new failed fault = IsImageEnd (IsEntryEnd w t failed) fault × IsQuiet fault old new
+
+-- ---- as a call sees them
+
+-- once HASH has the sectors that are needed
+abbrev pub MakesGrownImage : {S D T G W : Type 0} → Opener S D → (D → Device) → S → S → Drawing T G → (W → Option (List ℕ)) → CountedRecord W → CountedRecord W → ImageOptions → WatchedPlaces → Type 0
+MakesGrownImage relations state images images' d contents writer writer' options watched =
+    FormatsPlaced true (calls relations state images images') d options (two_places watched.places) (contents writer.inner) (contents writer'.inner)
+
+abbrev pub FailsGrownImage : {S D T G W : Type 0} → Opener S D → (D → Device) → S → S → Drawing T G → CountedRecord W → ImageOptions → WatchedPlaces → ImageFault → Type 0
+FailsGrownImage relations state images images' d writer' options watched =
+    IsFormattingEnd true (calls relations state images images') d options (two_places watched.places) writer'.failed
+
+-- by the program's own words
+abbrev pub FormatsByWords : {S D T G W : Type 0} → Opener S D → (D → Device) → S → S → Drawing T G → (W → Option (List ℕ)) → CountedRecord W → CountedRecord W → OptionWords → FormatWords → Type 0
+FormatsByWords relations state images images' d contents writer writer' options words =
+    FormatsAt (option_texts options) (calls relations state images images') d (format_record words) (contents writer.inner) (contents writer'.inner)
+
+abbrev pub FailsToFormat : {S D T G W : Type 0} → Opener S D → (D → Device) → S → S → Drawing T G → (W → Option (List ℕ)) → CountedRecord W → CountedRecord W → OptionWords → FormatWords → VerityFault → Type 0
+FailsToFormat relations state images images' d contents writer writer' options words =
+    IsFormatEnd (option_texts options) (calls relations state images images') d (format_record words) (contents writer.inner) (contents writer'.inner) writer'.failed
+
+abbrev pub VerifiesByWords : {S D W : Type 0} → Opener S D → (D → Device) → S → S → (W → Option (List ℕ)) → CountedRecord W → CountedRecord W → VerifyWords → Type 0
+VerifiesByWords relations state images images' contents writer writer' words = VerifiesAt (calls relations state images images') (verify_record words) (contents writer.inner) (contents writer'.inner)
+
+abbrev pub FailsToVerify : {S D W : Type 0} → Opener S D → (D → Device) → S → S → (W → Option (List ℕ)) → CountedRecord W → CountedRecord W → VerifyWords → VerityFault → Type 0
+FailsToVerify relations state images images' contents writer writer' words = IsVerifyEnd (calls relations state images images') (verify_record words) (contents writer.inner) (contents writer'.inner) writer'.failed
+
+abbrev pub DumpsByWords : {S D W : Type 0} → Opener S D → (D → Device) → S → S → (W → Option (List ℕ)) → CountedRecord W → CountedRecord W → DumpWords → Type 0
+DumpsByWords relations state images images' contents writer writer' words = DumpsAt (calls relations state images images') (dump_record words) (contents writer.inner) (contents writer'.inner)
+
+abbrev pub FailsToDump : {S D W : Type 0} → Opener S D → (D → Device) → S → S → (W → Option (List ℕ)) → CountedRecord W → CountedRecord W → DumpWords → VerityFault → Type 0
+FailsToDump relations state images images' contents writer writer' words = IsDumpEnd (calls relations state images images') (dump_record words) (contents writer.inner) (contents writer'.inner) writer'.failed
+
+abbrev pub PrintsByWords : {S D W : Type 0} → Opener S D → (D → Device) → S → S → (W → Option (List ℕ)) → CountedRecord W → CountedRecord W → TableWords → Type 0
+PrintsByWords relations state images images' contents writer writer' words = PrintsEntry (calls relations state images images') (table_record words) (contents writer.inner) (contents writer'.inner)
+
+abbrev pub FailsToPrint : {S D W : Type 0} → Opener S D → (D → Device) → S → S → (W → Option (List ℕ)) → CountedRecord W → CountedRecord W → TableWords → VerityFault → Type 0
+FailsToPrint relations state images images' contents writer writer' words = IsTableEnd (calls relations state images images') (table_record words) (contents writer.inner) (contents writer'.inner) writer'.failed

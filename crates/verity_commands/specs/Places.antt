@@ -1,10 +1,12 @@
 -- The root digest of a command on verity images.
 use Rattle.std.specs.Prelude.{◌≡◌, ◌/◌, ℕ, List}
-use Rattle.command_line.specs.Values.{RootRecord, digest, root_file}
+use Rattle.block_device.specs.Device.{Device}
+use Rattle.command_line.specs.declared.values.RootWord.{RootWord}
+use Rattle.command_line.specs.Values.{RootRecord, digest, root_file, root_record}
 use Rattle.image_commands.specs.declared.fault.ImageFault.{ImageFault}
 use Rattle.image_commands.specs.Places.{TwoPlaces}
 use Rattle.image_commands.specs.RootFiles.{IsRootFileEnd, ReadsRoot}
-use Rattle.image_files.specs.Opener.{Calls}
+use Rattle.image_files.specs.Opener.{Calls, Opener, calls}
 use Rattle.verity_commands.specs.Growing.{HashStart}
 
 -- it is the word's, and nothing is opened; or that of the file
@@ -24,3 +26,11 @@ places_of image hash offset = record { paths = record { data_path = image; hash_
 -- the hash image's path and first sector
 abbrev pub start_of : TwoPlaces → HashStart
 start_of places = record { path = places.paths.hash_path; first = places.first }
+
+-- ---- as a call sees them
+
+abbrev pub FindsRoot : {S D : Type 0} → Opener S D → (D → Device) → S → S → RootWord → List ℕ → Type 0
+FindsRoot relations state images images' root = TellsRoot (calls relations state images images') (root_record root)
+
+abbrev pub FindsNoRoot : {S D : Type 0} → Opener S D → (D → Device) → S → S → RootWord → ImageFault → Type 0
+FindsNoRoot relations state images images' root = IsRootEnd (calls relations state images images') (root_record root)

@@ -1,20 +1,27 @@
 -- What the commands on trees without a superblock print where they succeed, and how they end early.
 use Rattle.std.specs.Borrow.{Bor}
 use Rattle.std.specs.Prelude.{◌≡◌, ◌⊎◌, ℕ, ◌/◌, Bool, true, false, List, Option, Some}
+use Rattle.block_device.specs.Device.{Device}
+use Rattle.counted_io.specs.Counted.{CountedRecord}
 use Rattle.command_line.specs.declared.image_options.ImageOptions.{ImageOptions}
-use Rattle.command_line.specs.FormatOptions.{AreSaid, OptionTexts, text_of}
-use Rattle.command_line.specs.words.TreeFormat.{TreeFormatRecord}
-use Rattle.command_line.specs.words.TreeTable.{TreeTableRecord}
-use Rattle.command_line.specs.words.TreeVerify.{TreeVerifyRecord}
+use Rattle.command_line.specs.declared.option_words.OptionWords.{OptionWords}
+use Rattle.command_line.specs.declared.words.tree_format.TreeFormatWords.{TreeFormatWords}
+use Rattle.command_line.specs.declared.words.tree_table.TreeTableWords.{TreeTableWords}
+use Rattle.command_line.specs.declared.words.tree_verify.TreeVerifyWords.{TreeVerifyWords}
+use Rattle.command_line.specs.FormatOptions.{AreSaid, OptionTexts, option_texts, text_of}
+use Rattle.command_line.specs.words.TreeFormat.{TreeFormatRecord, tree_format_record}
+use Rattle.command_line.specs.words.TreeTable.{TreeTableRecord, tree_table_record}
+use Rattle.command_line.specs.words.TreeVerify.{TreeVerifyRecord, tree_verify_record}
 use Rattle.image_commands.specs.declared.fault.ImageFault.{ImageFault}
 use Rattle.image_commands.specs.declared.fault.ImageFault.TheVariants.{Format}
 use Rattle.image_commands.specs.declared.table.LineWords.{LineWords}
+use Rattle.image_commands.specs.declared.watching.WatchedPlaces.{WatchedPlaces}
 use Rattle.image_commands.specs.Drawing.{Drawing}
 use Rattle.image_commands.specs.TreeFormats.{IsFormatTreeEnd as IsTreeFormatEnd, PrintsTree}
 use Rattle.image_commands.specs.TreeImages.{IsTreeLineEnd, IsTreeMatchesEnd, PrintsTreeLine, PrintsTreeMatches}
-use Rattle.image_commands.specs.Places.{TwoPlaces}
+use Rattle.image_commands.specs.Places.{TwoPlaces, two_places}
 use Rattle.image_commands.specs.TreePlaces.{given_options}
-use Rattle.image_files.specs.Opener.{Calls}
+use Rattle.image_files.specs.Opener.{Calls, Opener, calls}
 use Rattle.verity_format.specs.declared.formatting.FormatOptions.{FormatOptions}
 use Rattle.verity_commands.specs.declared.fault.VerityFault.{VerityFault}
 use Rattle.verity_commands.specs.Endings.{IsImageEnd, IsQuiet, IsUnsaid}
@@ -93,3 +100,37 @@ pub record EndsTreeEntry {S D : Type 0} (texts : OptionTexts) (w : Calls S D) (t
 abbrev pub IsTableTreeEnd : {S D : Type 0} → OptionTexts → Calls S D → TreeTableRecord → Option (List ℕ) → Option (List ℕ) → Bool → VerityFault → Type 0
 IsTableTreeEnd texts w t old new failed fault =
     ((IsUnsaid fault × (w.new ≡ w.old)) ⊎ IsImageEnd (λ f. IsRootEnd w t.root f ⊎ EndsTreeEntry texts w t failed f) fault) × IsQuiet fault old new
+
+-- ---- as a call sees them, as in `Placed`
+
+abbrev pub MakesGrownTree : {S D T G W : Type 0} → Opener S D → (D → Device) → S → S → Drawing T G → (W → Option (List ℕ)) → CountedRecord W → CountedRecord W → ImageOptions → WatchedPlaces → Type 0
+MakesGrownTree relations state images images' d contents writer writer' options watched =
+    MakesTreeAt true (calls relations state images images') d options (two_places watched.places) (contents writer.inner) (contents writer'.inner)
+
+abbrev pub FailsGrownTree : {S D T G W : Type 0} → Opener S D → (D → Device) → S → S → Drawing T G → CountedRecord W → ImageOptions → WatchedPlaces → ImageFault → Type 0
+FailsGrownTree relations state images images' d writer' options watched =
+    IsMakingEnd true (calls relations state images images') d options (two_places watched.places) writer'.failed
+
+abbrev pub FormatsTreeByWords : {S D T G W : Type 0} → Opener S D → (D → Device) → S → S → Drawing T G → (W → Option (List ℕ)) → CountedRecord W → CountedRecord W → OptionWords → TreeFormatWords → Type 0
+FormatsTreeByWords relations state images images' d contents writer writer' options words =
+    FormatsTree (option_texts options) (calls relations state images images') d (tree_format_record words) (contents writer.inner) (contents writer'.inner)
+
+abbrev pub FailsToFormatTree : {S D T G W : Type 0} → Opener S D → (D → Device) → S → S → Drawing T G → (W → Option (List ℕ)) → CountedRecord W → CountedRecord W → OptionWords → TreeFormatWords → VerityFault → Type 0
+FailsToFormatTree relations state images images' d contents writer writer' options words =
+    IsFormatTreeEnd (option_texts options) (calls relations state images images') d (tree_format_record words) (contents writer.inner) (contents writer'.inner) writer'.failed
+
+abbrev pub VerifiesTreeByWords : {S D W : Type 0} → Opener S D → (D → Device) → S → S → (W → Option (List ℕ)) → CountedRecord W → CountedRecord W → OptionWords → TreeVerifyWords → Type 0
+VerifiesTreeByWords relations state images images' contents writer writer' options words =
+    VerifiesTree (option_texts options) (calls relations state images images') (tree_verify_record words) (contents writer.inner) (contents writer'.inner)
+
+abbrev pub FailsToVerifyTree : {S D W : Type 0} → Opener S D → (D → Device) → S → S → (W → Option (List ℕ)) → CountedRecord W → CountedRecord W → OptionWords → TreeVerifyWords → VerityFault → Type 0
+FailsToVerifyTree relations state images images' contents writer writer' options words =
+    IsVerifyTreeEnd (option_texts options) (calls relations state images images') (tree_verify_record words) (contents writer.inner) (contents writer'.inner) writer'.failed
+
+abbrev pub PrintsTreeByWords : {S D W : Type 0} → Opener S D → (D → Device) → S → S → (W → Option (List ℕ)) → CountedRecord W → CountedRecord W → OptionWords → TreeTableWords → Type 0
+PrintsTreeByWords relations state images images' contents writer writer' options words =
+    PrintsTreeEntry (option_texts options) (calls relations state images images') (tree_table_record words) (contents writer.inner) (contents writer'.inner)
+
+abbrev pub FailsToPrintTree : {S D W : Type 0} → Opener S D → (D → Device) → S → S → (W → Option (List ℕ)) → CountedRecord W → CountedRecord W → OptionWords → TreeTableWords → VerityFault → Type 0
+FailsToPrintTree relations state images images' contents writer writer' options words =
+    IsTableTreeEnd (option_texts options) (calls relations state images images') (tree_table_record words) (contents writer.inner) (contents writer'.inner) writer'.failed

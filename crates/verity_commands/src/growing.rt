@@ -3,14 +3,13 @@ ghost use Rattle.std.specs.Prelude.{◌≡◌, ◌+◌, true, Err, IfErr, IfSome
 ghost use Rattle.image_commands.specs.declared.fault.ImageFault.TheVariants as image_fault;
 ghost use Rattle.image_commands.specs.Drawing.{drawing};
 ghost use Rattle.image_commands.specs.Endings.{IsQuiet};
-ghost use Rattle.image_commands.specs.PlacedFormats.{IsFormatPlacedEnd, PrintsPlaced};
-ghost use Rattle.image_commands.specs.Places.{two_places};
-ghost use Rattle.image_commands.specs.TreeFormats.{IsFormatTreeEnd, PrintsTree};
+ghost use Rattle.image_commands.specs.PlacedFormats.{FailsToFormatAt, FormatsImagesAt};
+ghost use Rattle.image_commands.specs.TreeFormats.{FailsToFormatTree, FormatsTree};
 ghost use Rattle.image_files.specs.Opener.{calls};
 ghost use Rattle.verity_format.specs.declared.formatting.FormatFault.TheVariants as format_fault;
 ghost use Rattle.verity_commands.specs.Growing.{Grows, IsRoomFor, IsUngrown};
-ghost use Rattle.verity_commands.specs.Placed.{FormatsPlaced, IsFormattingEnd};
-ghost use Rattle.verity_commands.specs.Trees.{IsMakingEnd, MakesTreeAt};
+ghost use Rattle.verity_commands.specs.Placed.{FailsGrownImage, MakesGrownImage};
+ghost use Rattle.verity_commands.specs.Trees.{FailsGrownTree, MakesGrownTree};
 
 use block_device::BlockDev;
 use command_line::ImageOptions;
@@ -65,8 +64,8 @@ fn try_format<'a, I: Images, G: Generators + Watchers, W: Write>(
     watched: &WatchedPlaces<'a>,
     writer: &mut Counted<W>,
 ) -> Result<(), ImageFault<'a>>
-    ensures ok { OnOk result (PrintsPlaced (calls I.relations I.Dev.state images.old images.new) (drawing G.gives G.Generator.stream generators.old generators.new) options.now (two_places watched.now.places) (W.contents writer.old.inner) (W.contents writer.new.inner)) }
-    ensures err { IfErr result (IsFormatPlacedEnd (calls I.relations I.Dev.state images.old images.new) (drawing G.gives G.Generator.stream generators.old generators.new) options.now (two_places watched.now.places) writer.new.failed) }
+    ensures ok { OnOk result (FormatsImagesAt I.relations I.Dev.state images.old images.new G.gives G.Generator.stream generators.old generators.new W.contents writer.old writer.new options.now watched.now) }
+    ensures err { IfErr result (FailsToFormatAt I.relations I.Dev.state images.old images.new G.gives G.Generator.stream generators.old generators.new writer.new options.now watched.now) }
     ensures quiet { IfErr result (λ fault. IsQuiet fault (W.contents writer.old.inner) (W.contents writer.new.inner)) }
 {
     format_placed(alloc, images, generators, *options, *watched, writer)
@@ -81,8 +80,8 @@ pub fn format_growing<'a, I: Images, G: Generators + Watchers, W: Write>(
     watched: &WatchedPlaces<'a>,
     writer: &mut Counted<W>,
 ) -> Result<(), ImageFault<'a>>
-    ensures ok { OnOk result (FormatsPlaced true (calls I.relations I.Dev.state images.old images.new) (drawing G.gives G.Generator.stream generators.old generators.new) options.now (two_places watched.now.places) (W.contents writer.old.inner) (W.contents writer.new.inner)) }
-    ensures err { IfErr result (IsFormattingEnd true (calls I.relations I.Dev.state images.old images.new) (drawing G.gives G.Generator.stream generators.old generators.new) options.now (two_places watched.now.places) writer.new.failed) }
+    ensures ok { OnOk result (MakesGrownImage I.relations I.Dev.state images.old images.new (drawing G.gives G.Generator.stream generators.old generators.new) W.contents writer.old writer.new options.now watched.now) }
+    ensures err { IfErr result (FailsGrownImage I.relations I.Dev.state images.old images.new (drawing G.gives G.Generator.stream generators.old generators.new) writer.new options.now watched.now) }
     ensures quiet { IfErr result (λ fault. IsQuiet fault (W.contents writer.old.inner) (W.contents writer.new.inner)) }
 {
     let ImagePlaces {
@@ -108,8 +107,8 @@ fn try_tree<'a, I: Images, G: Generators + Watchers, W: Write>(
     watched: &WatchedPlaces<'a>,
     writer: &mut Counted<W>,
 ) -> Result<(), ImageFault<'a>>
-    ensures ok { OnOk result (PrintsTree (calls I.relations I.Dev.state images.old images.new) (drawing G.gives G.Generator.stream generators.old generators.new) options.now (two_places watched.now.places) (W.contents writer.old.inner) (W.contents writer.new.inner)) }
-    ensures err { IfErr result (IsFormatTreeEnd (calls I.relations I.Dev.state images.old images.new) (drawing G.gives G.Generator.stream generators.old generators.new) options.now (two_places watched.now.places) writer.new.failed) }
+    ensures ok { OnOk result (FormatsTree I.relations I.Dev.state images.old images.new G.gives G.Generator.stream generators.old generators.new W.contents writer.old writer.new options.now watched.now) }
+    ensures err { IfErr result (FailsToFormatTree I.relations I.Dev.state images.old images.new G.gives G.Generator.stream generators.old generators.new writer.new options.now watched.now) }
     ensures quiet { IfErr result (λ fault. IsQuiet fault (W.contents writer.old.inner) (W.contents writer.new.inner)) }
 {
     format_tree(alloc, images, generators, *options, *watched, writer)
@@ -124,8 +123,8 @@ pub fn format_tree_growing<'a, I: Images, G: Generators + Watchers, W: Write>(
     watched: &WatchedPlaces<'a>,
     writer: &mut Counted<W>,
 ) -> Result<(), ImageFault<'a>>
-    ensures ok { OnOk result (MakesTreeAt true (calls I.relations I.Dev.state images.old images.new) (drawing G.gives G.Generator.stream generators.old generators.new) options.now (two_places watched.now.places) (W.contents writer.old.inner) (W.contents writer.new.inner)) }
-    ensures err { IfErr result (IsMakingEnd true (calls I.relations I.Dev.state images.old images.new) (drawing G.gives G.Generator.stream generators.old generators.new) options.now (two_places watched.now.places) writer.new.failed) }
+    ensures ok { OnOk result (MakesGrownTree I.relations I.Dev.state images.old images.new (drawing G.gives G.Generator.stream generators.old generators.new) W.contents writer.old writer.new options.now watched.now) }
+    ensures err { IfErr result (FailsGrownTree I.relations I.Dev.state images.old images.new (drawing G.gives G.Generator.stream generators.old generators.new) writer.new options.now watched.now) }
     ensures quiet { IfErr result (λ fault. IsQuiet fault (W.contents writer.old.inner) (W.contents writer.new.inner)) }
 {
     let ImagePlaces {

@@ -1,9 +1,7 @@
 //! The commands on verity images of which each is a whole file.
 ghost use Rattle.std.specs.Prelude.{OnOk, IfErr};
-ghost use Rattle.command_line.specs.FormatOptions.{option_texts};
 ghost use Rattle.image_commands.specs.Drawing.{drawing};
-ghost use Rattle.image_files.specs.Opener.{calls};
-ghost use Rattle.verity_commands.specs.Images.{FailsFiles, ServesFiles};
+ghost use Rattle.verity_commands.specs.Images.{FailsToRun, RunsByWords};
 
 use crate::fault::VerityFault;
 use command_line::{ImageInvocation, OptionWords, options_of};
@@ -25,8 +23,8 @@ pub fn invoke_on_images<'a, I: Images, G: Generators, W: Write>(
     options: &OptionWords<'a>,
     writer: &mut Counted<W>,
 ) -> Result<(), VerityFault<'a>>
-    ensures ok { OnOk result (ServesFiles (option_texts options.now) invocation.entry (calls I.relations I.Dev.state images.old images.new) (drawing G.gives G.Generator.stream generators.old generators.new) (W.contents writer.old.inner) (W.contents writer.new.inner)) }
-    ensures err { IfErr result (FailsFiles (option_texts options.now) invocation.entry (calls I.relations I.Dev.state images.old images.new) (drawing G.gives G.Generator.stream generators.old generators.new) (W.contents writer.old.inner) (W.contents writer.new.inner) writer.new.failed) }
+    ensures ok { OnOk result (RunsByWords I.relations I.Dev.state images.old images.new (drawing G.gives G.Generator.stream generators.old generators.new) W.contents writer.old writer.new options.now invocation.entry) }
+    ensures err { IfErr result (FailsToRun I.relations I.Dev.state images.old images.new (drawing G.gives G.Generator.stream generators.old generators.new) W.contents writer.old writer.new options.now invocation.entry) }
 {
     match invocation {
         ImageInvocation::Format { data, hash } => {

@@ -1,13 +1,7 @@
 //! The commands on verity images with a place for superblock and tree.
 ghost use Rattle.std.specs.Prelude.{OnOk, IfErr};
-ghost use Rattle.command_line.specs.FormatOptions.{option_texts};
-ghost use Rattle.command_line.specs.words.Dump.{dump_record};
-ghost use Rattle.command_line.specs.words.Format.{format_record};
-ghost use Rattle.command_line.specs.words.Table.{table_record};
-ghost use Rattle.command_line.specs.words.Verify.{verify_record};
 ghost use Rattle.image_commands.specs.Drawing.{drawing};
-ghost use Rattle.image_files.specs.Opener.{calls};
-ghost use Rattle.verity_commands.specs.Placed.{DumpsAt, FormatsAt, IsDumpEnd, IsFormatEnd, IsTableEnd, IsVerifyEnd, PrintsEntry, VerifiesAt};
+ghost use Rattle.verity_commands.specs.Placed.{DumpsByWords, FailsToDump, FailsToFormat, FailsToPrint, FailsToVerify, FormatsByWords, PrintsByWords, VerifiesByWords};
 
 use crate::fault::VerityFault;
 use crate::growing::format_growing;
@@ -32,8 +26,8 @@ pub fn invoke_format<'a, I: Images, G: Generators + Watchers, W: Write>(
     options: &OptionWords<'a>,
     writer: &mut Counted<W>,
 ) -> Result<(), VerityFault<'a>>
-    ensures ok { OnOk result (FormatsAt (option_texts options.now) (calls I.relations I.Dev.state images.old images.new) (drawing G.gives G.Generator.stream generators.old generators.new) (format_record words.now) (W.contents writer.old.inner) (W.contents writer.new.inner)) }
-    ensures err { IfErr result (IsFormatEnd (option_texts options.now) (calls I.relations I.Dev.state images.old images.new) (drawing G.gives G.Generator.stream generators.old generators.new) (format_record words.now) (W.contents writer.old.inner) (W.contents writer.new.inner) writer.new.failed) }
+    ensures ok { OnOk result (FormatsByWords I.relations I.Dev.state images.old images.new (drawing G.gives G.Generator.stream generators.old generators.new) W.contents writer.old writer.new options.now words.now) }
+    ensures err { IfErr result (FailsToFormat I.relations I.Dev.state images.old images.new (drawing G.gives G.Generator.stream generators.old generators.new) W.contents writer.old writer.new options.now words.now) }
 {
     let options = options_of(alloc, options)?;
     let hash_first = sector_at(words.hash_offset);
@@ -58,8 +52,8 @@ pub fn invoke_verify<'a, I: Images, S: Watchers, W: Write>(
     words: &VerifyWords<'a>,
     writer: &mut Counted<W>,
 ) -> Result<(), VerityFault<'a>>
-    ensures ok { OnOk result (VerifiesAt (calls I.relations I.Dev.state images.old images.new) (verify_record words.now) (W.contents writer.old.inner) (W.contents writer.new.inner)) }
-    ensures err { IfErr result (IsVerifyEnd (calls I.relations I.Dev.state images.old images.new) (verify_record words.now) (W.contents writer.old.inner) (W.contents writer.new.inner) writer.new.failed) }
+    ensures ok { OnOk result (VerifiesByWords I.relations I.Dev.state images.old images.new W.contents writer.old writer.new words.now) }
+    ensures err { IfErr result (FailsToVerify I.relations I.Dev.state images.old images.new W.contents writer.old writer.new words.now) }
 {
     if words.all {
         return Err(VerityFault::Usage);
@@ -83,8 +77,8 @@ pub fn invoke_dump<'a, I: Images, W: Write>(
     words: &DumpWords<'a>,
     writer: &mut Counted<W>,
 ) -> Result<(), VerityFault<'a>>
-    ensures ok { OnOk result (DumpsAt (calls I.relations I.Dev.state images.old images.new) (dump_record words.now) (W.contents writer.old.inner) (W.contents writer.new.inner)) }
-    ensures err { IfErr result (IsDumpEnd (calls I.relations I.Dev.state images.old images.new) (dump_record words.now) (W.contents writer.old.inner) (W.contents writer.new.inner) writer.new.failed) }
+    ensures ok { OnOk result (DumpsByWords I.relations I.Dev.state images.old images.new W.contents writer.old writer.new words.now) }
+    ensures err { IfErr result (FailsToDump I.relations I.Dev.state images.old images.new W.contents writer.old writer.new words.now) }
 {
     let place = HashPlace {
         path: words.hash_path,
@@ -99,8 +93,8 @@ pub fn invoke_table<'a, I: Images, W: Write>(
     words: &TableWords<'a>,
     writer: &mut Counted<W>,
 ) -> Result<(), VerityFault<'a>>
-    ensures ok { OnOk result (PrintsEntry (calls I.relations I.Dev.state images.old images.new) (table_record words.now) (W.contents writer.old.inner) (W.contents writer.new.inner)) }
-    ensures err { IfErr result (IsTableEnd (calls I.relations I.Dev.state images.old images.new) (table_record words.now) (W.contents writer.old.inner) (W.contents writer.new.inner) writer.new.failed) }
+    ensures ok { OnOk result (PrintsByWords I.relations I.Dev.state images.old images.new W.contents writer.old writer.new words.now) }
+    ensures err { IfErr result (FailsToPrint I.relations I.Dev.state images.old images.new W.contents writer.old writer.new words.now) }
 {
     let root = root_in(images, &words.root)?;
     let place = HashPlace {

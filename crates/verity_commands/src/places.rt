@@ -1,8 +1,6 @@
 //! The commands on verity images whose superblock and tree stand at a place of their file.
 ghost use Rattle.std.specs.Prelude.{◌≡◌, ◌/◌, IfErr, IfOk};
-ghost use Rattle.command_line.specs.Values.{root_record};
-ghost use Rattle.image_files.specs.Opener.{calls};
-ghost use Rattle.verity_commands.specs.Places.{IsRootEnd, TellsRoot};
+ghost use Rattle.verity_commands.specs.Places.{FindsNoRoot, FindsRoot};
 
 use command_line::RootWord;
 use image_commands::{ImageFault, read_root};
@@ -20,8 +18,8 @@ pub fn sector_at(offset: u64) -> u64
 
 /// The root digest that words give, by itself or in a file.
 pub fn root_in<'a, I: Images>(images: &mut I, root: &RootWord<'a>) -> Result<Digest, ImageFault<'a>>
-    ensures ok { IfOk result (TellsRoot (calls I.relations I.Dev.state images.old images.new) (root_record root.now)) }
-    ensures err { IfErr result (IsRootEnd (calls I.relations I.Dev.state images.old images.new) (root_record root.now)) }
+    ensures ok { IfOk result (FindsRoot I.relations I.Dev.state images.old images.new root.now) }
+    ensures err { IfErr result (FindsNoRoot I.relations I.Dev.state images.old images.new root.now) }
 {
     match root {
         RootWord::Digest(root) => Ok(*root),

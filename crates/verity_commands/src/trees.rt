@@ -1,13 +1,9 @@
 //! The commands on trees without a superblock.
 ghost use Rattle.std.specs.Prelude.{OnOk, IfErr, IfOk};
 ghost use Rattle.command_line.specs.FormatOptions.{option_texts};
-ghost use Rattle.command_line.specs.words.TreeFormat.{tree_format_record};
-ghost use Rattle.command_line.specs.words.TreeTable.{tree_table_record};
-ghost use Rattle.command_line.specs.words.TreeVerify.{tree_verify_record};
 ghost use Rattle.image_commands.specs.Drawing.{drawing};
-ghost use Rattle.image_files.specs.Opener.{calls};
 ghost use Rattle.verity_commands.specs.Endings.{IsUnsaid};
-ghost use Rattle.verity_commands.specs.Trees.{FormatsTree, IsFormatTreeEnd, IsTableTreeEnd, IsVerifyTreeEnd, PrintsTreeEntry, SaysTree, VerifiesTree};
+ghost use Rattle.verity_commands.specs.Trees.{FailsToFormatTree, FailsToPrintTree, FailsToVerifyTree, FormatsTreeByWords, PrintsTreeByWords, SaysTree, VerifiesTreeByWords};
 
 use crate::fault::VerityFault;
 use crate::growing::format_tree_growing;
@@ -33,8 +29,8 @@ pub fn invoke_format_tree<'a, I: Images, G: Generators + Watchers, W: Write>(
     options: &OptionWords<'a>,
     writer: &mut Counted<W>,
 ) -> Result<(), VerityFault<'a>>
-    ensures ok { OnOk result (FormatsTree (option_texts options.now) (calls I.relations I.Dev.state images.old images.new) (drawing G.gives G.Generator.stream generators.old generators.new) (tree_format_record words.now) (W.contents writer.old.inner) (W.contents writer.new.inner)) }
-    ensures err { IfErr result (IsFormatTreeEnd (option_texts options.now) (calls I.relations I.Dev.state images.old images.new) (drawing G.gives G.Generator.stream generators.old generators.new) (tree_format_record words.now) (W.contents writer.old.inner) (W.contents writer.new.inner) writer.new.failed) }
+    ensures ok { OnOk result (FormatsTreeByWords I.relations I.Dev.state images.old images.new (drawing G.gives G.Generator.stream generators.old generators.new) W.contents writer.old writer.new options.now words.now) }
+    ensures err { IfErr result (FailsToFormatTree I.relations I.Dev.state images.old images.new (drawing G.gives G.Generator.stream generators.old generators.new) W.contents writer.old writer.new options.now words.now) }
 {
     let options = options_of(alloc, options)?;
     let hash_first = sector_at(words.hash_offset);
@@ -60,8 +56,8 @@ pub fn invoke_verify_tree<'a, I: Images, S: Watchers, W: Write>(
     options: &OptionWords<'a>,
     writer: &mut Counted<W>,
 ) -> Result<(), VerityFault<'a>>
-    ensures ok { OnOk result (VerifiesTree (option_texts options.now) (calls I.relations I.Dev.state images.old images.new) (tree_verify_record words.now) (W.contents writer.old.inner) (W.contents writer.new.inner)) }
-    ensures err { IfErr result (IsVerifyTreeEnd (option_texts options.now) (calls I.relations I.Dev.state images.old images.new) (tree_verify_record words.now) (W.contents writer.old.inner) (W.contents writer.new.inner) writer.new.failed) }
+    ensures ok { OnOk result (VerifiesTreeByWords I.relations I.Dev.state images.old images.new W.contents writer.old writer.new options.now words.now) }
+    ensures err { IfErr result (FailsToVerifyTree I.relations I.Dev.state images.old images.new W.contents writer.old writer.new options.now words.now) }
 {
     let options = tree_options(alloc, options)?;
     let root = root_in(images, &words.root)?;
@@ -85,8 +81,8 @@ pub fn invoke_table_tree<'a, I: Images, W: Write>(
     options: &OptionWords<'a>,
     writer: &mut Counted<W>,
 ) -> Result<(), VerityFault<'a>>
-    ensures ok { OnOk result (PrintsTreeEntry (option_texts options.now) (calls I.relations I.Dev.state images.old images.new) (tree_table_record words.now) (W.contents writer.old.inner) (W.contents writer.new.inner)) }
-    ensures err { IfErr result (IsTableTreeEnd (option_texts options.now) (calls I.relations I.Dev.state images.old images.new) (tree_table_record words.now) (W.contents writer.old.inner) (W.contents writer.new.inner) writer.new.failed) }
+    ensures ok { OnOk result (PrintsTreeByWords I.relations I.Dev.state images.old images.new W.contents writer.old writer.new options.now words.now) }
+    ensures err { IfErr result (FailsToPrintTree I.relations I.Dev.state images.old images.new W.contents writer.old writer.new options.now words.now) }
 {
     let given = tree_options(alloc, options)?;
     let root = root_in(images, &words.root)?;

@@ -1,5 +1,5 @@
 -- Blocks of a device, and what calls of read or of write alone do to one.
-use Rattle.std.specs.Prelude.{◌≡◌, ℕ, ◌+◌, ◌*◌, ◌/◌, ◌^◌, ◌<◌, IsTrue, List, map, drop}
+use Rattle.std.specs.Prelude.{◌≡◌, ℕ, ◌+◌, ◌*◌, ◌/◌, ◌^◌, ◌<◌, IsTrue, List, length, map, drop}
 use Rattle.std.specs.List.{concat, range_with_len}
 use Rattle.block_device.specs.Device.{Device, IsSameDevice, run_of}
 
@@ -38,3 +38,16 @@ pub record AreOnlyRead (data_dev hash_dev data_dev' hash_dev' : Device) : Type 0
 pub record IsBlockRead (old : Device) (size i : ℕ) (block : List ℕ) (new : Device) : Type 0 where
   pub bytes : IsTrue old.steady → block ≡ block_at old.image size i
   pub full : IsFullRead old (size / 512) new
+
+-- ---- calls, by what a proof sees of the devices: as they were before, and then after
+
+-- both were only read
+abbrev pub OnlyReads : {D H : Type 0} → (D → Device) → (H → Device) → D → H → D → H → Type 0
+OnlyReads data_state hash_state d h d' h' = AreOnlyRead (data_state d) (hash_state h) (data_state d') (hash_state h')
+
+abbrev pub BothOnlyRead : {D H : Type 0} → (D → Device) → (H → Device) → D → H → D → H → Type 0
+BothOnlyRead data_state hash_state d h d' h' = IsOnlyRead (data_state d) (data_state d') × IsOnlyRead (hash_state h) (hash_state h')
+
+-- a block as long as the buffer was read into it
+abbrev pub ReadsBlock : {D : Type 0} → (D → Device) → D → D → ℕ → List ℕ → List ℕ → Type 0
+ReadsBlock state d d' index buffer block = IsBlockRead (state d) (length buffer) index block (state d')

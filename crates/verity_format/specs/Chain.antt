@@ -1,5 +1,6 @@
 -- The chain of a data block as it stands on two devices.
-use Rattle.std.specs.Prelude.{◌≡◌, ◌⊎◌, ℕ, zero, suc, ◌+◌, ◌*◌, ◌/◌, IsTrue, List, [], ◌∷◌}
+use Rattle.std.specs.Prelude.{◌≡◌, ◌⊎◌, ℕ, zero, suc, ◌+◌, ◌*◌, ◌/◌, IsTrue, List, Vec, [], ◌∷◌, map}
+use Rattle.std.specs.Global.{Global}
 use Rattle.block_device.specs.Device.{Device, HasFailed}
 use Rattle.tree_shape.specs.Shape.{ShapeRecord, levels, position, ancestor}
 use Rattle.hash_tree.specs.Chain.{ChainRecord}
@@ -34,3 +35,22 @@ IsChainCause data_dev hash_dev data_dev' hash_dev' NoMemory = (data_dev' ≡ dat
 pub record IsPathRead (shape : ShapeRecord) (i : ℕ) (old : Device) (blocks : List (List ℕ)) (new : Device) : Type 0 where
   pub path : IsTrue old.steady → blocks ≡ stored_path shape old.image (levels shape) i
   pub full : IsFullRead old (levels shape * (shape.hash_block / 512)) new
+
+-- ---- calls, by what a proof sees of the devices: as they were before, and then after
+
+-- over steady devices it is what stands there
+abbrev pub IsStoredChain : {D H : Type 0} → (D → Device) → (H → Device) → ShapeRecord → D → H → ℕ → ChainRecord → Type 0
+IsStoredChain data_state hash_state shape d h index chain =
+    IsTrue (data_state d).steady → IsTrue (hash_state h).steady → chain ≡ stored_chain shape (data_state d).image (hash_state h).image index
+
+-- its blocks were read, each once, and no call failed
+abbrev pub ReadsChain : {D H : Type 0} → (D → Device) → (H → Device) → ShapeRecord → D → H → D → H → Type 0
+ReadsChain data_state hash_state shape d h d' h' = IsChainRead shape (data_state d) (hash_state h) (data_state d') (hash_state h')
+
+-- why it wasn't read
+abbrev pub FailsToRead : {D H : Type 0} → (D → Device) → (H → Device) → D → H → D → H → ChainFault → Type 0
+FailsToRead data_state hash_state d h d' h' fault = IsChainCause (data_state d) (hash_state h) (data_state d') (hash_state h') fault
+
+-- the hash blocks above a data block were read into these vectors
+abbrev pub ReadsPath : {H : Type 0} → (H → Device) → ShapeRecord → ℕ → H → H → List (Vec ℕ Global) → Type 0
+ReadsPath state shape index h h' path = IsPathRead shape index (state h) (map (λ b. b.items) path) (state h')

@@ -35,3 +35,13 @@ pub record IsTreeCompared (shape : ShapeRecord) (salt : List ℕ) (data_dev hash
   pub hash_read : IsFullRead hash_dev (sectors_of (area_blocks shape) shape.hash_block) hash_dev'
   pub root : IsTrue data_dev.steady → digest ≡ root_over shape salt data_dev.image
   pub found : IsTrue data_dev.steady → IsTrue hash_dev.steady → IsLeastDiffering (block_at hash_dev.image shape.hash_block) (numbered 1 (area_over shape salt data_dev.image)) least
+
+-- ---- calls, by what a proof sees of the devices: as they were before, and then after
+
+-- these blocks were read, each once, and that is the least that differs
+abbrev pub Compares : {H : Type 0} → (H → Device) → H → H → ℕ → List PlacedRecord → Option ℕ → Option ℕ → Type 0
+Compares state h h' size blocks before after = AreCompared (state h) size blocks before after (state h')
+
+-- so were all blocks of the tree
+abbrev pub ComparesTree : {D H : Type 0} → (D → Device) → (H → Device) → ShapeRecord → List ℕ → D → H → D → H → Option ℕ → List ℕ → Type 0
+ComparesTree data_state hash_state shape salt d h d' h' least digest = IsTreeCompared shape salt (data_state d) (hash_state h) (data_state d') (hash_state h') least digest

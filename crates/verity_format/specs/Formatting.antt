@@ -81,3 +81,22 @@ pub record IsFormatting (s : SuperRecord) (data_dev hash_dev data_dev' hash_dev'
   pub ok : IfOk result (IsFormatted s data_dev hash_dev data_dev' hash_dev')
   pub err : IfErr result (IsFormatCause s data_dev hash_dev data_dev' hash_dev')
   pub refused : (f : FormatFault) → format_refusal s data_dev hash_dev ≡ Some f → (result ≡ Err f) × (data_dev' ≡ data_dev) × (hash_dev' ≡ hash_dev)
+
+-- ---- calls, by what a proof sees of the devices: as they were before, and then after
+
+-- the data device was only read, and of the hash device at most the image's sectors were written
+abbrev pub OnlyImageIsWritten : {D H : Type 0} → (D → Device) → (H → Device) → SuperRecord → D → H → D → H → Type 0
+OnlyImageIsWritten data_state hash_state s d h d' h' = IsOnlyRead (data_state d) (data_state d') × IsOnlyWritten (hash_state h) (image_sectors (shape_of s)) (hash_state h')
+
+-- the tree was made, and that is its root
+abbrev pub Formats : {D H : Type 0} → (D → Device) → (H → Device) → SuperRecord → D → H → D → H → List ℕ → Type 0
+Formats data_state hash_state s d h d' h' root = IsFormatted s (data_state d) (hash_state h) (data_state d') (hash_state h') root
+
+-- why it wasn't, and what is left of it
+abbrev pub EndsEarly : {D H : Type 0} → (D → Device) → (H → Device) → SuperRecord → D → H → D → H → FormatFault → Type 0
+EndsEarly data_state hash_state s d h d' h' fault = IsFormatCause s (data_state d) (hash_state h) (data_state d') (hash_state h') fault
+
+-- where a refusal applies it is answered, and neither device was asked
+abbrev pub Refuses : {D H : Type 0} → (D → Device) → (H → Device) → SuperRecord → D → H → D → H → Result (List ℕ) FormatFault → Type 0
+Refuses data_state hash_state s d h d' h' result =
+    (f : FormatFault) → format_refusal s (data_state d) (hash_state h) ≡ Some f → (result ≡ Err f) × (data_state d' ≡ data_state d) × (hash_state h' ≡ hash_state h)

@@ -1,5 +1,6 @@
 -- A tree made of a device's data blocks, run by run.
-use Rattle.std.specs.Prelude.{◌≡◌, ◌⊎◌, ℕ, ◌-◌, ◌*◌, ◌/◌, ◌<◌, ◌≤◌, IsTrue, List, length, map, All}
+use Rattle.std.specs.Prelude.{◌≡◌, ◌⊎◌, ℕ, ◌-◌, ◌*◌, ◌/◌, ◌<◌, ◌≤◌, IsTrue, List, Vec, length, map, All}
+use Rattle.std.specs.Global.{Global}
 use Rattle.block_device.specs.Device.{Device, HasFailed}
 use Rattle.tree_shape.specs.Digests.{digest}
 use Rattle.tree_shape.specs.Shape.{ShapeRecord}
@@ -35,3 +36,13 @@ pub record IsTaken (shape : ShapeRecord) (salt : List ℕ) (old new : Device) (b
 abbrev pub IsPairCause : Device → Device → Device → Device → TreeFault → Type 0
 IsPairCause data_dev hash_dev data_dev' hash_dev' DeviceFailed = HasFailed data_dev data_dev' ⊎ HasFailed hash_dev hash_dev'
 IsPairCause data_dev hash_dev data_dev' hash_dev' NoMemory = (data_dev'.failures ≡ data_dev.failures) × (hash_dev'.failures ≡ hash_dev.failures)
+
+-- ---- calls, by what a proof sees of the devices: as they were before, and then after
+
+-- the next run was read and taken
+abbrev pub TakesRun : {D : Type 0} → (D → Device) → ShapeRecord → List ℕ → D → D → BuilderRecord → BuilderRecord → Vec PlacedRecord Global → Type 0
+TakesRun state shape salt d d' b b' out = IsRunTaken shape salt (state d) (state d') b b' out.items
+
+-- one of the two failed; where memory ran out neither did
+abbrev pub FailsOnEither : {D H : Type 0} → (D → Device) → (H → Device) → D → H → D → H → TreeFault → Type 0
+FailsOnEither data_state hash_state d h d' h' fault = IsPairCause (data_state d) (hash_state h) (data_state d') (hash_state h') fault

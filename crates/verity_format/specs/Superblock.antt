@@ -25,6 +25,10 @@ shape_after data_block hash_block blocks = record { data_block = data_block; has
 abbrev pub shape_of : SuperRecord → ShapeRecord
 shape_of s = shape_after s.data_block s.hash_block s.blocks
 
+-- a superblock of these parts
+abbrev pub super_of : List ℕ → ℕ → ℕ → ℕ → List ℕ → SuperRecord
+super_of uuid data_block hash_block blocks salt = record { uuid = uuid; data_block = data_block; hash_block = hash_block; blocks = blocks; salt = salt }
+
 -- a superblock that can be made
 pub record IsSuperblock (s : SuperRecord) : Type 0 where
   pub uuid : length s.uuid ≡ 16

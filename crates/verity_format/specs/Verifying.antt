@@ -108,3 +108,13 @@ IsSuperCause data_dev hash_dev hash_dev' TooSmall = IsRefused data_dev hash_dev 
 abbrev pub verify_fault_of : TreeFault → VerifyFault
 verify_fault_of tree.Device = DeviceFailed
 verify_fault_of tree.NoMemory = NoMemory
+
+-- ---- calls, by what a proof sees of the devices: as they were before, and then after
+
+-- both were compared, and that was found
+abbrev pub Finds : {D H : Type 0} → (D → Device) → (H → Device) → D → H → D → H → List ℕ → Verdict → Type 0
+Finds data_state hash_state d h d' h' root verdict = IsFound (data_state d) (hash_state h) (data_state d') (hash_state h') root verdict
+
+-- why they weren't
+abbrev pub FailsToVerify : {D H : Type 0} → (D → Device) → (H → Device) → D → H → D → H → VerifyFault → Type 0
+FailsToVerify data_state hash_state d h d' h' fault = IsVerifyCause (data_state d) (hash_state h) (data_state d') (hash_state h') fault

@@ -1,5 +1,5 @@
 -- Hash blocks written to a device.
-use Rattle.std.specs.Prelude.{◌≡◌, ◌⊎◌, ℕ, ◌+◌, ◌*◌, ◌/◌, ◌≤◌, IsTrue, List, length, take, drop}
+use Rattle.std.specs.Prelude.{◌≡◌, ◌⊎◌, ℕ, ◌+◌, ◌*◌, ◌/◌, ◌≤◌, IsTrue, All, List, length, take, drop}
 use Rattle.block_device.specs.Device.{Device, IsSameDevice, HasFailed, capped}
 use Rattle.tree_shape.specs.Shape.{ShapeRecord, sectors_of, area_blocks}
 use Rattle.hash_tree.specs.Building.{BuilderRecord, PlacedRecord, begun_builder, completed}
@@ -61,3 +61,21 @@ pub record IsTreeWritten (shape : ShapeRecord) (salt : List ℕ) (data_dev hash_
 abbrev pub IsWriteCause : Device → Device → Device → Device → TreeFault → Type 0
 IsWriteCause data_dev hash_dev data_dev' hash_dev' DeviceFailed = (HasFailed data_dev data_dev' × (hash_dev'.failures ≡ hash_dev.failures)) ⊎ HasFailed hash_dev hash_dev'
 IsWriteCause data_dev hash_dev data_dev' hash_dev' NoMemory = (data_dev'.failures ≡ data_dev.failures) × (hash_dev'.failures ≡ hash_dev.failures)
+
+-- ---- calls, by what a proof sees of the devices: as they were before, and then after
+
+-- where each of these blocks lies within the first sectors, nothing else was written
+abbrev pub WritesWithin : {H : Type 0} → (H → Device) → ℕ → List PlacedRecord → H → H → Type 0
+WritesWithin state size blocks h h' = (last : ℕ) → All (StandsWithin size last) blocks → IsPartWritten size last (length blocks) (state h) (state h')
+
+-- the data device was only read, and of the other at most the tree's blocks were written
+abbrev pub MovesTree : {D H : Type 0} → (D → Device) → (H → Device) → ShapeRecord → D → H → D → H → Type 0
+MovesTree data_state hash_state shape d h d' h' = IsTreeMoved shape (data_state d) (hash_state h) (data_state d') (hash_state h')
+
+-- the whole tree was written, and that is its root
+abbrev pub WritesTree : {D H : Type 0} → (D → Device) → (H → Device) → ShapeRecord → List ℕ → D → H → D → H → List ℕ → Type 0
+WritesTree data_state hash_state shape salt d h d' h' digest = IsTreeWritten shape salt (data_state d) (hash_state h) (data_state d') (hash_state h') digest
+
+-- why it wasn't
+abbrev pub FailsToWrite : {D H : Type 0} → (D → Device) → (H → Device) → D → H → D → H → TreeFault → Type 0
+FailsToWrite data_state hash_state d h d' h' fault = IsWriteCause (data_state d) (hash_state h) (data_state d') (hash_state h') fault

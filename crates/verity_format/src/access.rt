@@ -1,7 +1,7 @@
 //! Blocks read from a device, and the tree over a device's blocks.
 ghost use Rattle.std.specs.Prelude.{◌≡◌, ◌^◌, ◌≤◌, OnOk, OnErr, IfOk, length, replicate};
 ghost use Rattle.block_device.specs.Device.{HasFailed};
-ghost use Rattle.verity_format.specs.Blocks.{IsBlockRead, IsOnlyRead};
+ghost use Rattle.verity_format.specs.Blocks.{IsOnlyRead, ReadsBlock};
 ghost use Rattle.verity_format.specs.Image.{data_sectors, tree_sectors, image_sectors};
 ghost use Rattle.verity_format.specs.Access.{IsRunRead};
 ghost use Rattle.verity_format.specs.Premises.{IsBlockOn, IsRunOn};
@@ -80,7 +80,7 @@ pub(crate) fn read_block<D: BlockDev>(
 ) -> Result<(), DeviceFault>
     requires { IsBlockOn (D.state device.old) (length block.old) index }
     ensures read { IsOnlyRead (D.state device.old) (D.state device.new) }
-    ensures ok { OnOk result (IsBlockRead (D.state device.old) (length block.old) index block.new (D.state device.new)) }
+    ensures ok { OnOk result (ReadsBlock D.state device.old device.new index block.old block.new) }
     ensures fault { OnErr result (HasFailed (D.state device.old) (D.state device.new)) }
 {
     let sectors = (block.len() / 512) as u64;

@@ -1,9 +1,9 @@
 //! Reading a data block with the hash blocks on the way to it.
-ghost use Rattle.std.specs.Prelude.{◌≡◌, ◌<◌, ◌≤◌, IsTrue, OnOk, OnErr, IfOk, IfErr, All, length, map};
+ghost use Rattle.std.specs.Prelude.{◌≡◌, ◌<◌, ◌≤◌, OnOk, OnErr, IfOk, IfErr, All, length};
 ghost use Rattle.block_device.specs.Device.{HasFailed};
-ghost use Rattle.verity_format.specs.Blocks.{IsOnlyRead};
+ghost use Rattle.verity_format.specs.Blocks.{BothOnlyRead, IsOnlyRead};
 ghost use Rattle.verity_format.specs.Image.{data_sectors, tree_sectors};
-ghost use Rattle.verity_format.specs.Chain.{stored_chain, IsChainRead, IsChainCause, IsPathRead};
+ghost use Rattle.verity_format.specs.Chain.{FailsToRead, IsStoredChain, ReadsChain, ReadsPath};
 ghost use Rattle.verity_format.specs.Premises.{IsPathOn};
 
 use crate::access::{read_block, zeros};
@@ -57,10 +57,10 @@ pub fn read_chain<D: BlockDev, H: BlockDev>(
     requires index { index < shape.now.blocks }
     requires data_fits { data_sectors shape.now ≤ (D.state data_dev.old).size }
     requires tree_fits { tree_sectors shape.now ≤ (H.state hash_dev.old).size }
-    ensures devices { IsOnlyRead (D.state data_dev.old) (D.state data_dev.new) × IsOnlyRead (H.state hash_dev.old) (H.state hash_dev.new) }
-    ensures ok { IfOk result (λ chain. IsTrue (D.state data_dev.old).steady → IsTrue (H.state hash_dev.old).steady → chain ≡ stored_chain shape.now (D.state data_dev.old).image (H.state hash_dev.old).image index) }
-    ensures full { OnOk result (IsChainRead shape.now (D.state data_dev.old) (H.state hash_dev.old) (D.state data_dev.new) (H.state hash_dev.new)) }
-    ensures err { IfErr result (IsChainCause (D.state data_dev.old) (H.state hash_dev.old) (D.state data_dev.new) (H.state hash_dev.new)) }
+    ensures devices { BothOnlyRead D.state H.state data_dev.old hash_dev.old data_dev.new hash_dev.new }
+    ensures ok { IfOk result (IsStoredChain D.state H.state shape.now data_dev.old hash_dev.old index) }
+    ensures full { OnOk result (ReadsChain D.state H.state shape.now data_dev.old hash_dev.old data_dev.new hash_dev.new) }
+    ensures err { IfErr result (FailsToRead D.state H.state data_dev.old hash_dev.old data_dev.new hash_dev.new) }
 {
     let mut content = zeros(alloc, shape.data_block() as usize)?;
     let mut path = zero_blocks(alloc, shape.levels(), shape.hash_block() as usize)?;
@@ -95,7 +95,7 @@ fn read_path<H: BlockDev>(
 ) -> Result<(), DeviceFault>
     requires { IsPathOn shape.now (H.state hash_dev.old) index path.old }
     ensures read { IsOnlyRead (H.state hash_dev.old) (H.state hash_dev.new) }
-    ensures ok { OnOk result (IsPathRead shape.now index (H.state hash_dev.old) (map (λ b. b.items) path.new) (H.state hash_dev.new)) }
+    ensures ok { OnOk result (ReadsPath H.state shape.now index hash_dev.old hash_dev.new path.new) }
     ensures fault { OnErr result (HasFailed (H.state hash_dev.old) (H.state hash_dev.new)) }
 {
     let mut level = shape.levels();

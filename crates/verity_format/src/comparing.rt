@@ -2,9 +2,9 @@
 ghost use Rattle.std.specs.Prelude.{◌≡◌, OnErr, IfOk, IfErr, length};
 ghost use Rattle.block_device.specs.Device.{HasFailed};
 ghost use Rattle.hash_tree.specs.Placing.{lesser};
-ghost use Rattle.verity_format.specs.Blocks.{AreOnlyRead, IsOnlyRead};
-ghost use Rattle.verity_format.specs.Comparing.{AreCompared, IsTreeCompared};
-ghost use Rattle.verity_format.specs.Growth.{IsPairCause};
+ghost use Rattle.verity_format.specs.Blocks.{IsOnlyRead, OnlyReads};
+ghost use Rattle.verity_format.specs.Comparing.{Compares, ComparesTree};
+ghost use Rattle.verity_format.specs.Growth.{FailsOnEither};
 ghost use Rattle.verity_format.specs.Premises.{AreBlocksOn, HaveTree};
 
 use crate::access::{TreeFault, read_block, zeros};
@@ -33,7 +33,7 @@ fn compare_blocks<H: BlockDev>(
 ) -> Result<Option<u64>, DeviceFault>
     requires { AreBlocksOn (H.state hash_dev.old) (length block.old) blocks.now }
     ensures read { IsOnlyRead (H.state hash_dev.old) (H.state hash_dev.new) }
-    ensures ok { IfOk result (λ r. AreCompared (H.state hash_dev.old) (length block.old) blocks.now least r (H.state hash_dev.new)) }
+    ensures ok { IfOk result (Compares H.state hash_dev.old hash_dev.new (length block.old) blocks.now least) }
     ensures fault { OnErr result (HasFailed (H.state hash_dev.old) (H.state hash_dev.new)) }
 {
     let mut least = least;
@@ -56,9 +56,9 @@ pub(crate) fn compare_tree<D: BlockDev, H: BlockDev>(
     salt: &Salt,
 ) -> Result<(Option<u64>, Digest), TreeFault>
     requires { HaveTree shape.now (D.state data_dev.old) (H.state hash_dev.old) }
-    ensures read { AreOnlyRead (D.state data_dev.old) (H.state hash_dev.old) (D.state data_dev.new) (H.state hash_dev.new) }
-    ensures compared { IfOk result (λ r. IsTreeCompared shape.now salt.now (D.state data_dev.old) (H.state hash_dev.old) (D.state data_dev.new) (H.state hash_dev.new) r.0 r.1) }
-    ensures fault { IfErr result (λ f. IsPairCause (D.state data_dev.old) (H.state hash_dev.old) (D.state data_dev.new) (H.state hash_dev.new) f) }
+    ensures read { OnlyReads D.state H.state data_dev.old hash_dev.old data_dev.new hash_dev.new }
+    ensures compared { IfOk result (λ r. ComparesTree D.state H.state shape.now salt.now data_dev.old hash_dev.old data_dev.new hash_dev.new r.0 r.1) }
+    ensures fault { IfErr result (FailsOnEither D.state H.state data_dev.old hash_dev.old data_dev.new hash_dev.new) }
 {
     let mut memory = zeros(alloc, RUN)?;
     let mut block_memory = zeros(alloc, shape.hash_block() as usize)?;

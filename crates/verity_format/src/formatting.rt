@@ -1,12 +1,10 @@
 //! Making a hash image over a data image.
-ghost use Rattle.std.specs.Prelude.{◌≡◌, IfOk, IfErr, length, Some};
+ghost use Rattle.std.specs.Prelude.{◌≡◌, IfOk, IfErr, length};
 ghost use Rattle.std.specs.Result.{result_err};
-ghost use Rattle.verity_format.specs.Superblock.{shape_of};
-ghost use Rattle.verity_format.specs.Blocks.{IsOnlyRead, IsOnlyWritten};
-ghost use Rattle.verity_format.specs.Image.{image_sectors, first_block};
+ghost use Rattle.verity_format.specs.Image.{first_block};
 ghost use Rattle.verity_format.specs.FaultNames.{format_number, format_name};
-ghost use Rattle.verity_format.specs.Options.{superblock_with};
-ghost use Rattle.verity_format.specs.Formatting.{format_refusal, IsFormatCause, IsFormatted, given_blocks, whole_blocks, IsFormatting};
+ghost use Rattle.verity_format.specs.Options.{FormatsWith};
+ghost use Rattle.verity_format.specs.Formatting.{EndsEarly, Formats, OnlyImageIsWritten, Refuses, format_refusal, given_blocks, whole_blocks};
 
 use crate::Superblock;
 use crate::access::{TreeFault, data_sectors, image_sectors, zeros};
@@ -117,11 +115,11 @@ pub fn format<D: BlockDev, H: BlockDev>(
     hash_dev: &mut H,
     params: Superblock,
 ) -> Result<Digest, FormatFault>
-    ensures devices { IsOnlyRead (D.state data_dev.old) (D.state data_dev.new) × IsOnlyWritten (H.state hash_dev.old) (image_sectors (shape_of params)) (H.state hash_dev.new) }
-    ensures ok { IfOk result (IsFormatted params (D.state data_dev.old) (H.state hash_dev.old) (D.state data_dev.new) (H.state hash_dev.new)) }
-    ensures err { IfErr result (IsFormatCause params (D.state data_dev.old) (H.state hash_dev.old) (D.state data_dev.new) (H.state hash_dev.new)) }
+    ensures devices { OnlyImageIsWritten D.state H.state params data_dev.old hash_dev.old data_dev.new hash_dev.new }
+    ensures ok { IfOk result (Formats D.state H.state params data_dev.old hash_dev.old data_dev.new hash_dev.new) }
+    ensures err { IfErr result (EndsEarly D.state H.state params data_dev.old hash_dev.old data_dev.new hash_dev.new) }
     // where a refusal applies it is answered, and neither device was asked
-    ensures refused { (f : FormatFault) → format_refusal params (D.state data_dev.old) (H.state hash_dev.old) ≡ Some f → (result ≡ Err f) × (D.state data_dev.new ≡ D.state data_dev.old) × (H.state hash_dev.new ≡ H.state hash_dev.old) }
+    ensures refused { Refuses D.state H.state params data_dev.old hash_dev.old data_dev.new hash_dev.new result }
 {
     check_devices(data_dev, hash_dev, &params)?;
     let shape = params.shape();
@@ -153,7 +151,7 @@ pub fn format_with<D: BlockDev, H: BlockDev>(
     hash_dev: &mut H,
     options: FormatOptions,
 ) -> Result<Digest, FormatFault>
-    ensures { IsFormatting (superblock_with options (D.state data_dev.old).size) (D.state data_dev.old) (H.state hash_dev.old) (D.state data_dev.new) (H.state hash_dev.new) result }
+    ensures { FormatsWith D.state H.state options data_dev.old hash_dev.old data_dev.new hash_dev.new result }
 {
     let FormatOptions {
         uuid,

@@ -2,7 +2,7 @@
 ghost use Rattle.std.specs.Prelude.{IfOk, IfErr, length};
 ghost use Rattle.verity_format.specs.Access.{IsTreeCause};
 ghost use Rattle.verity_format.specs.Blocks.{IsOnlyRead};
-ghost use Rattle.verity_format.specs.Growth.{IsRunTaken};
+ghost use Rattle.verity_format.specs.Growth.{TakesRun};
 ghost use Rattle.verity_format.specs.Premises.{CanTake};
 
 use crate::access::{TreeFault, read_run};
@@ -25,7 +25,7 @@ pub(crate) fn take_run<D: BlockDev>(
 ) -> Result<Vec<Placed>, TreeFault>
     requires { CanTake shape.now (D.state device.old) builder.old (length run.old) }
     ensures read { IsOnlyRead (D.state device.old) (D.state device.new) }
-    ensures taken { IfOk result (λ out. IsRunTaken shape.now salt.now (D.state device.old) (D.state device.new) builder.old builder.new out.items) }
+    ensures taken { IfOk result (TakesRun D.state shape.now salt.now device.old device.new builder.old builder.new) }
     ensures fault { IfErr result (λ f. IsTreeCause (D.state device.old) (D.state device.new) f) }
 {
     let size = shape.data_block() as usize;

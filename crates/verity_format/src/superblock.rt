@@ -2,7 +2,7 @@
 ghost use Rattle.std.specs.Prelude.{◌≡◌, ◌+◌, ◌≤◌, ◌++◌, length, take, drop, IfOk};
 ghost use Rattle.std.specs.Result.{result_err};
 ghost use Rattle.tree_shape.specs.Shape.{IsShape, first_fault};
-ghost use Rattle.verity_format.specs.Superblock.{shape_of, shape_after, IsSuperblock, Carries, spelling};
+ghost use Rattle.verity_format.specs.Superblock.{shape_of, shape_after, super_of, IsSuperblock, Carries, spelling};
 
 use std::marker::Model;
 use tree_shape::{Salt, Shape, ShapeFault};
@@ -41,7 +41,7 @@ impl Superblock {
         blocks: u64,
         salt: Salt,
     ) -> Result<Superblock, ShapeFault>
-        ensures value { IfOk result (λ s. s ≡ record { uuid = uuid; data_block = data_block; hash_block = hash_block; blocks = blocks; salt = salt }) }
+        ensures value { IfOk result (λ s. s ≡ super_of uuid data_block hash_block blocks salt) }
         ensures fault { result_err result ≡ first_fault (shape_after data_block hash_block blocks) }
     {
         let shape = Shape::new(data_block, hash_block, blocks, 1)?;
@@ -52,7 +52,7 @@ impl Superblock {
     pub(crate) fn with_shape(uuid: [u8; 16], shape: Shape, salt: Salt) -> Superblock
         requires start { shape.start ≡ 1 }
         requires valid { IsShape shape }
-        ensures { result ≡ record { uuid = uuid; data_block = shape.data_block; hash_block = shape.hash_block; blocks = shape.blocks; salt = salt } }
+        ensures { result ≡ super_of uuid shape.data_block shape.hash_block shape.blocks salt }
     {
         Superblock { uuid, shape, salt }
     }

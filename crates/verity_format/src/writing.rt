@@ -1,8 +1,8 @@
 //! A tree written as it grows.
-ghost use Rattle.std.specs.Prelude.{ℕ, All, OnOk, OnErr, IfOk, IfErr, length};
+ghost use Rattle.std.specs.Prelude.{OnOk, OnErr, IfOk, IfErr};
 ghost use Rattle.block_device.specs.Device.{HasFailed};
 ghost use Rattle.verity_format.specs.Premises.{CanPutBlocks, CanWriteTree};
-ghost use Rattle.verity_format.specs.Writing.{StandsWithin, IsPartWritten, AreWritten, IsTreeMoved, IsTreeWritten, IsWriteCause};
+ghost use Rattle.verity_format.specs.Writing.{AreWritten, FailsToWrite, MovesTree, WritesTree, WritesWithin};
 
 use crate::access::{TreeFault, zeros};
 use crate::growth::{RUN, take_run};
@@ -18,7 +18,7 @@ fn write_blocks<H: BlockDev>(
     blocks: &[Placed],
 ) -> Result<(), DeviceFault>
     requires { CanPutBlocks (H.state hash_dev.old) size blocks.now }
-    ensures part { (last : ℕ) → All (StandsWithin size last) blocks.now → IsPartWritten size last (length blocks.now) (H.state hash_dev.old) (H.state hash_dev.new) }
+    ensures part { WritesWithin H.state size blocks.now hash_dev.old hash_dev.new }
     ensures ok { OnOk result (AreWritten size (H.state hash_dev.old) blocks.now (H.state hash_dev.new)) }
     ensures fault { OnErr result (HasFailed (H.state hash_dev.old) (H.state hash_dev.new)) }
 {
@@ -38,9 +38,9 @@ pub(crate) fn write_tree<D: BlockDev, H: BlockDev>(
     salt: &Salt,
 ) -> Result<Digest, TreeFault>
     requires { CanWriteTree shape.now (D.state data_dev.old) (H.state hash_dev.old) }
-    ensures devices { IsTreeMoved shape.now (D.state data_dev.old) (H.state hash_dev.old) (D.state data_dev.new) (H.state hash_dev.new) }
-    ensures written { IfOk result (λ r. IsTreeWritten shape.now salt.now (D.state data_dev.old) (H.state hash_dev.old) (D.state data_dev.new) (H.state hash_dev.new) r) }
-    ensures fault { IfErr result (λ f. IsWriteCause (D.state data_dev.old) (H.state hash_dev.old) (D.state data_dev.new) (H.state hash_dev.new) f) }
+    ensures devices { MovesTree D.state H.state shape.now data_dev.old hash_dev.old data_dev.new hash_dev.new }
+    ensures written { IfOk result (WritesTree D.state H.state shape.now salt.now data_dev.old hash_dev.old data_dev.new hash_dev.new) }
+    ensures fault { IfErr result (FailsToWrite D.state H.state data_dev.old hash_dev.old data_dev.new hash_dev.new) }
 {
     let mut memory = zeros(alloc, RUN)?;
     let run = memory.as_mut_slice();

@@ -1,5 +1,6 @@
 -- What `diff [--blocks N] [--json] HASH1 ROOT1 HASH2 ROOT2` says.
 use Rattle.std.specs.Prelude.{Bool, List, None, Option, Some, [], ℕ, ◌∷◌}
+use Rattle.std.specs.Borrow.{Bor}
 use Rattle.command_line.specs.FormatOptions.{OptionTexts}
 use Rattle.command_line.specs.Values.{runs_of, two_roots, when}
 use Rattle.command_line.specs.declared.words.diff.DiffWords.{DiffWords}
@@ -41,3 +42,6 @@ diff_record w = record {
   blocks = w.blocks;
   json = w.json;
 }
+
+abbrev pub trees_record : Bor (List ℕ) × List ℕ × Bor (List ℕ) × List ℕ → List ℕ × List ℕ × List ℕ × List ℕ
+trees_record trees = (trees.0.now, trees.1, trees.2.now, trees.3)

@@ -1,7 +1,6 @@
 //! `cat [--cache N] [--progress] [--first N] [--count N] STACK NAME BINDING...`
-ghost use Rattle.std.specs.Prelude.{option_map};
 ghost use Rattle.command_line.specs.FurtherRecords.{cat};
-ghost use Rattle.command_line.specs.Reading.{Reads};
+ghost use Rattle.command_line.specs.Reading.{ReadsAs};
 ghost use Rattle.command_line.specs.FormatOptions.{option_texts, texts_of};
 ghost use Rattle.command_line.specs.words.Cat.{cat_said};
 
@@ -32,7 +31,7 @@ pub fn cat_of<'a>(
     options: &OptionWords<'a>,
     words: &[&'a str],
 ) -> Result<Further<'a>, WordsFault>
-    ensures { Reads (option_map cat (cat_said (option_texts options.now) (texts_of words.now))) result }
+    ensures { ReadsAs cat (cat_said (option_texts options.now) (texts_of words.now)) result }
 {
     let [stack, name, rest @ ..] = words else {
         return Err(WordsFault::Usage);

@@ -1,7 +1,6 @@
 //! `copy [--cache N] [--differing] [--map FILE] [--progress] STACK NAME OUT BINDING...`
-ghost use Rattle.std.specs.Prelude.{option_map};
 ghost use Rattle.command_line.specs.FurtherRecords.{copy};
-ghost use Rattle.command_line.specs.Reading.{Reads};
+ghost use Rattle.command_line.specs.Reading.{ReadsAs};
 ghost use Rattle.command_line.specs.FormatOptions.{option_texts, texts_of};
 ghost use Rattle.command_line.specs.words.Copy.{copy_said};
 
@@ -34,7 +33,7 @@ pub fn copy_of<'a>(
     options: &OptionWords<'a>,
     words: &[&'a str],
 ) -> Result<Further<'a>, WordsFault>
-    ensures { Reads (option_map copy (copy_said (option_texts options.now) (texts_of words.now))) result }
+    ensures { ReadsAs copy (copy_said (option_texts options.now) (texts_of words.now)) result }
 {
     let [stack, name, out, rest @ ..] = words else {
         return Err(WordsFault::Usage);

@@ -1,9 +1,9 @@
 //! `diff [--blocks N] [--json] HASH1 ROOT1 HASH2 ROOT2`
 ghost use Rattle.std.specs.Prelude.{◌≡◌, option_map};
 ghost use Rattle.command_line.specs.FurtherRecords.{diff};
-ghost use Rattle.command_line.specs.Reading.{Reads};
+ghost use Rattle.command_line.specs.Reading.{ReadsAs};
 ghost use Rattle.command_line.specs.FormatOptions.{option_texts, texts_of};
-ghost use Rattle.command_line.specs.words.Diff.{diff_said, two_trees};
+ghost use Rattle.command_line.specs.words.Diff.{diff_said, trees_record, two_trees};
 
 use crate::fault::WordsFault;
 use crate::further::Further;
@@ -25,7 +25,7 @@ pub struct DiffWords<'a> {
 /// `[--blocks N] [--json] HASH1 ROOT1 HASH2 ROOT2`
 #[tactic(auto, unfolding(crate::specs::words::Diff::diff_said))]
 pub fn diff_of<'a>(options: &OptionWords<'a>, words: &[&'a str]) -> Result<Further<'a>, WordsFault>
-    ensures { Reads (option_map diff (diff_said (option_texts options.now) (texts_of words.now))) result }
+    ensures { ReadsAs diff (diff_said (option_texts options.now) (texts_of words.now)) result }
 {
     let Some((old_path, old_root, new_path, new_root)) = two_trees(words) else {
         return Err(WordsFault::Usage);
@@ -46,7 +46,7 @@ pub fn diff_of<'a>(options: &OptionWords<'a>, words: &[&'a str]) -> Result<Furth
 // The path and the root of one tree, and those of the other.
 #[tactic(auto, unfolding(crate::specs::words::Diff::two_trees))]
 fn two_trees<'a>(words: &[&'a str]) -> Option<(&'a str, Digest, &'a str, Digest)>
-    ensures { option_map (λ trees. (trees.0.now, trees.1, trees.2.now, trees.3)) result ≡ two_trees (texts_of words.now) }
+    ensures { option_map trees_record result ≡ two_trees (texts_of words.now) }
 {
     let [old_path, old_word, new_path, new_word] = words else {
         return None;

@@ -1,7 +1,6 @@
 //! `dump [--hash-offset BYTES] [--json] HASH`
-ghost use Rattle.std.specs.Prelude.{option_map};
 ghost use Rattle.command_line.specs.FurtherRecords.{dump};
-ghost use Rattle.command_line.specs.Reading.{Reads};
+ghost use Rattle.command_line.specs.Reading.{ReadsAs};
 ghost use Rattle.command_line.specs.FormatOptions.{option_texts, texts_of};
 ghost use Rattle.command_line.specs.words.Dump.{dump_said};
 
@@ -21,7 +20,7 @@ pub struct DumpWords<'a> {
 /// `[--hash-offset BYTES] [--json] HASH`
 #[tactic(auto, unfolding(crate::specs::words::Dump::dump_said))]
 pub fn dump_of<'a>(options: &OptionWords<'a>, words: &[&'a str]) -> Result<Further<'a>, WordsFault>
-    ensures { Reads (option_map dump (dump_said (option_texts options.now) (texts_of words.now))) result }
+    ensures { ReadsAs dump (dump_said (option_texts options.now) (texts_of words.now)) result }
 {
     let [hash_path] = words else {
         return Err(WordsFault::Usage);

@@ -1,7 +1,6 @@
 //! `nbd --all [--cache N] STACK BINDING...`
-ghost use Rattle.std.specs.Prelude.{option_map};
 ghost use Rattle.command_line.specs.FurtherRecords.{exports};
-ghost use Rattle.command_line.specs.Reading.{Reads};
+ghost use Rattle.command_line.specs.Reading.{ReadsAs};
 ghost use Rattle.command_line.specs.FormatOptions.{option_texts, texts_of};
 ghost use Rattle.command_line.specs.words.Exports.{exports_said};
 
@@ -29,7 +28,7 @@ pub fn exports_of<'a>(
     options: &OptionWords<'a>,
     words: &[&'a str],
 ) -> Result<Further<'a>, WordsFault>
-    ensures { Reads (option_map exports (exports_said (option_texts options.now) (texts_of words.now))) result }
+    ensures { ReadsAs exports (exports_said (option_texts options.now) (texts_of words.now)) result }
 {
     let [stack, rest @ ..] = words else {
         return Err(WordsFault::Usage);

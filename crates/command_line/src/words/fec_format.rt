@@ -1,7 +1,6 @@
 //! `format --fec FILE [--fec-roots N] [OPTIONS] DATA HASH`
-ghost use Rattle.std.specs.Prelude.{option_map};
 ghost use Rattle.command_line.specs.FurtherRecords.{format_fec};
-ghost use Rattle.command_line.specs.Reading.{Reads};
+ghost use Rattle.command_line.specs.Reading.{ReadsAs};
 ghost use Rattle.command_line.specs.FormatOptions.{option_texts, texts_of};
 ghost use Rattle.command_line.specs.words.FecFormat.{fec_format_said};
 
@@ -24,7 +23,7 @@ pub fn fec_format_of<'a>(
     options: &OptionWords<'a>,
     words: &[&'a str],
 ) -> Result<Further<'a>, WordsFault>
-    ensures { Reads (option_map format_fec (fec_format_said (option_texts options.now) (texts_of words.now))) result }
+    ensures { ReadsAs format_fec (fec_format_said (option_texts options.now) (texts_of words.now)) result }
 {
     let Some(fec) = fec_file_of(options.fec, options.fec_roots) else {
         return Err(WordsFault::Usage);

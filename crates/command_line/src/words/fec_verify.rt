@@ -1,7 +1,6 @@
 //! `verify --fec FILE [--fec-roots N] [--hash-offset BYTES] [--root-hash-file FILE] [--progress] DATA HASH [ROOT]`
-ghost use Rattle.std.specs.Prelude.{option_map};
 ghost use Rattle.command_line.specs.FurtherRecords.{verify_fec};
-ghost use Rattle.command_line.specs.Reading.{Reads};
+ghost use Rattle.command_line.specs.Reading.{ReadsAs};
 ghost use Rattle.command_line.specs.FormatOptions.{option_texts, texts_of};
 ghost use Rattle.command_line.specs.words.FecVerify.{fec_verify_said};
 
@@ -24,7 +23,7 @@ pub fn fec_verify_of<'a>(
     options: &OptionWords<'a>,
     words: &[&'a str],
 ) -> Result<Further<'a>, WordsFault>
-    ensures { Reads (option_map verify_fec (fec_verify_said (option_texts options.now) (texts_of words.now))) result }
+    ensures { ReadsAs verify_fec (fec_verify_said (option_texts options.now) (texts_of words.now)) result }
 {
     if options.all {
         return Err(WordsFault::Usage);

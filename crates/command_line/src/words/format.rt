@@ -1,7 +1,7 @@
 //! `format [OPTIONS] DATA HASH`
 ghost use Rattle.std.specs.Prelude.{◌≡◌, option_map};
 ghost use Rattle.command_line.specs.FurtherRecords.{format};
-ghost use Rattle.command_line.specs.Reading.{Reads};
+ghost use Rattle.command_line.specs.Reading.{ReadsAs};
 ghost use Rattle.command_line.specs.FormatOptions.{option_texts, texts_of};
 ghost use Rattle.command_line.specs.words.Format.{format_record, format_said};
 
@@ -25,7 +25,7 @@ pub fn format_of<'a>(
     options: &OptionWords<'a>,
     words: &[&'a str],
 ) -> Result<Further<'a>, WordsFault>
-    ensures { Reads (option_map format (format_said (option_texts options.now) (texts_of words.now))) result }
+    ensures { ReadsAs format (format_said (option_texts options.now) (texts_of words.now)) result }
 {
     match format_words(options, words) {
         Some(format) => Ok(Further::Format(format)),

@@ -1,7 +1,6 @@
 //! `load [--json] STACK BINDING...`
-ghost use Rattle.std.specs.Prelude.{option_map};
 ghost use Rattle.command_line.specs.FurtherRecords.{load};
-ghost use Rattle.command_line.specs.Reading.{Reads};
+ghost use Rattle.command_line.specs.Reading.{ReadsAs};
 ghost use Rattle.command_line.specs.FormatOptions.{option_texts, texts_of};
 ghost use Rattle.command_line.specs.words.Load.{load_said};
 
@@ -27,7 +26,7 @@ pub fn load_of<'a>(
     options: &OptionWords<'a>,
     words: &[&'a str],
 ) -> Result<Further<'a>, WordsFault>
-    ensures { Reads (option_map load (load_said (option_texts options.now) (texts_of words.now))) result }
+    ensures { ReadsAs load (load_said (option_texts options.now) (texts_of words.now)) result }
 {
     let [stack, rest @ ..] = words else {
         return Err(WordsFault::Usage);

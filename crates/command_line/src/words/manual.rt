@@ -1,8 +1,7 @@
 //! `manual [COMMAND]` and `version`
-ghost use Rattle.std.specs.Prelude.{option_map};
 ghost use Rattle.command_line.specs.FurtherRecords.{manual, version_said};
-ghost use Rattle.command_line.specs.Reading.{Reads};
-ghost use Rattle.command_line.specs.FormatOptions.{text_of, texts_of};
+ghost use Rattle.command_line.specs.Reading.{Reads, ReadsAs};
+ghost use Rattle.command_line.specs.FormatOptions.{texts_of};
 ghost use Rattle.command_line.specs.words.Manual.{manual_said};
 
 use crate::fault::WordsFault;
@@ -11,7 +10,7 @@ use crate::further::Further;
 /// The page of the program, or of one of its commands.
 #[tactic(auto, unfolding(crate::specs::words::Manual::manual_said))]
 pub fn manual_of<'a>(words: &[&'a str]) -> Result<Further<'a>, WordsFault>
-    ensures { Reads (option_map manual (manual_said (texts_of words.now))) result }
+    ensures { ReadsAs manual (manual_said (texts_of words.now)) result }
 {
     let [command, rest @ ..] = words else {
         return Ok(Further::Manual(None));

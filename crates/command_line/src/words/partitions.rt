@@ -1,7 +1,6 @@
 //! `partitions [--sector-size 512|4096] [--json | --stack | --root ROOT] IMAGE`
-ghost use Rattle.std.specs.Prelude.{option_map};
 ghost use Rattle.command_line.specs.FurtherRecords.{partitions};
-ghost use Rattle.command_line.specs.Reading.{Reads};
+ghost use Rattle.command_line.specs.Reading.{ReadsAs};
 ghost use Rattle.command_line.specs.FormatOptions.{option_texts, texts_of};
 ghost use Rattle.command_line.specs.words.Partitions.{partitions_said};
 
@@ -24,7 +23,7 @@ pub fn partitions_of<'a>(
     options: &OptionWords<'a>,
     words: &[&'a str],
 ) -> Result<Further<'a>, WordsFault>
-    ensures { Reads (option_map partitions (partitions_said (option_texts options.now) (texts_of words.now))) result }
+    ensures { ReadsAs partitions (partitions_said (option_texts options.now) (texts_of words.now)) result }
 {
     let [image] = words else {
         return Err(WordsFault::Usage);

@@ -1,7 +1,6 @@
 //! `repair [OPTIONS] DATA HASH [ROOT] [COPY..]`
-ghost use Rattle.std.specs.Prelude.{option_map};
 ghost use Rattle.command_line.specs.FurtherRecords.{repair};
-ghost use Rattle.command_line.specs.Reading.{Reads};
+ghost use Rattle.command_line.specs.Reading.{ReadsAs};
 ghost use Rattle.command_line.specs.FormatOptions.{option_texts, texts_of};
 ghost use Rattle.command_line.specs.words.Repair.{repair_said};
 
@@ -32,7 +31,7 @@ pub fn repair_of<'a>(
     options: &OptionWords<'a>,
     words: &[&'a str],
 ) -> Result<Further<'a>, WordsFault>
-    ensures { Reads (option_map repair (repair_said (option_texts options.now) (texts_of words.now))) result }
+    ensures { ReadsAs repair (repair_said (option_texts options.now) (texts_of words.now)) result }
 {
     let [data_path, hash_path, behind @ ..] = words else {
         return Err(WordsFault::Usage);

@@ -1,7 +1,6 @@
 //! `scan [--cache N] [--map FILE] [--progress] [--json] STACK NAME BINDING...`
-ghost use Rattle.std.specs.Prelude.{option_map};
 ghost use Rattle.command_line.specs.FurtherRecords.{scan};
-ghost use Rattle.command_line.specs.Reading.{Reads};
+ghost use Rattle.command_line.specs.Reading.{ReadsAs};
 ghost use Rattle.command_line.specs.FormatOptions.{option_texts, texts_of};
 ghost use Rattle.command_line.specs.words.Scan.{scan_said};
 
@@ -32,7 +31,7 @@ pub fn scan_of<'a>(
     options: &OptionWords<'a>,
     words: &[&'a str],
 ) -> Result<Further<'a>, WordsFault>
-    ensures { Reads (option_map scan (scan_said (option_texts options.now) (texts_of words.now))) result }
+    ensures { ReadsAs scan (scan_said (option_texts options.now) (texts_of words.now)) result }
 {
     let [stack, name, rest @ ..] = words else {
         return Err(WordsFault::Usage);

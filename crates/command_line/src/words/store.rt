@@ -1,8 +1,8 @@
 //! `store [--cache N] [--progress] [--first N] STACK NAME SOURCE BINDING...`
-ghost use Rattle.std.specs.Prelude.{◌≡◌, codes, option_map};
+ghost use Rattle.std.specs.Prelude.{◌≡◌, codes};
 ghost use Rattle.std.specs.Str.{bytes_eq};
 ghost use Rattle.command_line.specs.FurtherRecords.{store};
-ghost use Rattle.command_line.specs.Reading.{Reads};
+ghost use Rattle.command_line.specs.Reading.{ReadsAs};
 ghost use Rattle.command_line.specs.FormatOptions.{option_texts, texts_of};
 ghost use Rattle.command_line.specs.words.Store.{store_said};
 
@@ -40,7 +40,7 @@ pub fn store_of<'a>(
     options: &OptionWords<'a>,
     words: &[&'a str],
 ) -> Result<Further<'a>, WordsFault>
-    ensures { Reads (option_map store (store_said (option_texts options.now) (texts_of words.now))) result }
+    ensures { ReadsAs store (store_said (option_texts options.now) (texts_of words.now)) result }
 {
     let [stack, name, source, rest @ ..] = words else {
         return Err(WordsFault::Usage);

@@ -1,7 +1,6 @@
 //! `table [--hash-offset BYTES] [--name NAME] [--root-hash-file FILE] HASH [ROOT] DATANAME HASHNAME`
-ghost use Rattle.std.specs.Prelude.{option_map};
 ghost use Rattle.command_line.specs.FurtherRecords.{table};
-ghost use Rattle.command_line.specs.Reading.{Reads};
+ghost use Rattle.command_line.specs.Reading.{ReadsAs};
 ghost use Rattle.command_line.specs.FormatOptions.{option_texts, texts_of};
 ghost use Rattle.command_line.specs.words.Table.{table_said};
 
@@ -24,7 +23,7 @@ pub struct TableWords<'a> {
 /// `[--hash-offset BYTES] [--name NAME] [--root-hash-file FILE] HASH [ROOT] DATANAME HASHNAME`
 #[tactic(auto, unfolding(crate::specs::words::Table::table_said))]
 pub fn table_of<'a>(options: &OptionWords<'a>, words: &[&'a str]) -> Result<Further<'a>, WordsFault>
-    ensures { Reads (option_map table (table_said (option_texts options.now) (texts_of words.now))) result }
+    ensures { ReadsAs table (table_said (option_texts options.now) (texts_of words.now)) result }
 {
     let [hash_path, rest @ ..] = words else {
         return Err(WordsFault::Usage);

@@ -1,7 +1,6 @@
 //! `format --no-superblock [OPTIONS] DATA HASH`
-ghost use Rattle.std.specs.Prelude.{option_map};
 ghost use Rattle.command_line.specs.FurtherRecords.{format_tree};
-ghost use Rattle.command_line.specs.Reading.{Reads};
+ghost use Rattle.command_line.specs.Reading.{ReadsAs};
 ghost use Rattle.command_line.specs.FormatOptions.{option_texts, texts_of};
 ghost use Rattle.command_line.specs.words.TreeFormat.{tree_format_said};
 
@@ -26,7 +25,7 @@ pub fn tree_format_of<'a>(
     options: &OptionWords<'a>,
     words: &[&'a str],
 ) -> Result<Further<'a>, WordsFault>
-    ensures { Reads (option_map format_tree (tree_format_said (option_texts options.now) (texts_of words.now))) result }
+    ensures { ReadsAs format_tree (tree_format_said (option_texts options.now) (texts_of words.now)) result }
 {
     let [data_path, hash_path] = words else {
         return Err(WordsFault::Usage);

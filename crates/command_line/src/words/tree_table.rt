@@ -1,7 +1,6 @@
 //! `table --no-superblock --blocks N --salt HEX [OPTIONS] HASH [ROOT] DATANAME HASHNAME`
-ghost use Rattle.std.specs.Prelude.{option_map};
 ghost use Rattle.command_line.specs.FurtherRecords.{table_tree};
-ghost use Rattle.command_line.specs.Reading.{Reads};
+ghost use Rattle.command_line.specs.Reading.{ReadsAs};
 ghost use Rattle.command_line.specs.FormatOptions.{option_texts, texts_of};
 ghost use Rattle.command_line.specs.words.TreeTable.{tree_table_said};
 
@@ -27,7 +26,7 @@ pub fn tree_table_of<'a>(
     options: &OptionWords<'a>,
     words: &[&'a str],
 ) -> Result<Further<'a>, WordsFault>
-    ensures { Reads (option_map table_tree (tree_table_said (option_texts options.now) (texts_of words.now))) result }
+    ensures { ReadsAs table_tree (tree_table_said (option_texts options.now) (texts_of words.now)) result }
 {
     let [hash_path, rest @ ..] = words else {
         return Err(WordsFault::Usage);

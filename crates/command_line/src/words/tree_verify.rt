@@ -1,7 +1,6 @@
 //! `verify --no-superblock --salt HEX [OPTIONS] DATA HASH [ROOT]`
-ghost use Rattle.std.specs.Prelude.{option_map};
 ghost use Rattle.command_line.specs.FurtherRecords.{verify_tree};
-ghost use Rattle.command_line.specs.Reading.{Reads};
+ghost use Rattle.command_line.specs.Reading.{ReadsAs};
 ghost use Rattle.command_line.specs.FormatOptions.{option_texts, texts_of};
 ghost use Rattle.command_line.specs.words.TreeVerify.{tree_verify_said};
 
@@ -26,7 +25,7 @@ pub fn tree_verify_of<'a>(
     options: &OptionWords<'a>,
     words: &[&'a str],
 ) -> Result<Further<'a>, WordsFault>
-    ensures { Reads (option_map verify_tree (tree_verify_said (option_texts options.now) (texts_of words.now))) result }
+    ensures { ReadsAs verify_tree (tree_verify_said (option_texts options.now) (texts_of words.now)) result }
 {
     let [data_path, hash_path, rest @ ..] = words else {
         return Err(WordsFault::Usage);

@@ -1,7 +1,7 @@
 //! `verify [--all [--json]] [--hash-offset BYTES] [--root-hash-file FILE] [--progress] DATA HASH [ROOT]`
 ghost use Rattle.std.specs.Prelude.{◌≡◌, option_map};
 ghost use Rattle.command_line.specs.FurtherRecords.{verify};
-ghost use Rattle.command_line.specs.Reading.{Reads};
+ghost use Rattle.command_line.specs.Reading.{ReadsAs};
 ghost use Rattle.command_line.specs.FormatOptions.{option_texts, texts_of};
 ghost use Rattle.command_line.specs.words.Verify.{verify_record, verify_said};
 
@@ -27,7 +27,7 @@ pub fn verify_of<'a>(
     options: &OptionWords<'a>,
     words: &[&'a str],
 ) -> Result<Further<'a>, WordsFault>
-    ensures { Reads (option_map verify (verify_said (option_texts options.now) (texts_of words.now))) result }
+    ensures { ReadsAs verify (verify_said (option_texts options.now) (texts_of words.now)) result }
 {
     match verify_words(options, words) {
         Some(verify) => Ok(Further::Verify(verify)),

@@ -1,7 +1,7 @@
 //! Digests pushed in groups: those of eight whole blocks of the lowest level, which are digested side by side.
 ghost use Rattle.std.specs.Prelude.{true, false, ◌≡◌, ◌+◌, ◌*◌, ◌/◌, ◌^◌, ◌<◌, ◌≤◌, ◌++◌, length, take, All, IfOk, OnOk, OnErr, IsTrue};
 ghost use Rattle.std.specs.List.{concat};
-ghost use Rattle.hash_tree.specs.Building.{completed, HasSome, IsPushed, are_whole_blocks, is_between, grow_block, pushed_block, completed_block};
+ghost use Rattle.hash_tree.specs.Building.{completed, HasSome, IsPushed, PushesBlock, are_whole_blocks, is_between, grow_block, completed_block};
 
 use super::{Level, LevelBuilder, Placed, append, rise};
 use crate::block_digests::eight_digests;
@@ -72,7 +72,7 @@ impl LevelBuilder {
         requires working { self.old.failed ≡ false }
         requires some { 32 ≤ self.old.hash_block }
         requires left { self.old.hash_block / 32 ≤ self.old.left }
-        ensures ok { OnOk result ((self.new ≡ pushed_block self.old block.now digest) × (out.new.items ≡ out.old.items ++ completed_block self.old block.now digest)) }
+        ensures ok { OnOk result (PushesBlock self.old block.now digest self.new out.old.items out.new.items) }
         ensures err { OnErr result (self.new.failed ≡ true) }
         ensures some { HasSome out.old.items (completed_block self.old block.now digest) out.new.items }
     {

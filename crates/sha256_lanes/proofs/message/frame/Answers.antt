@@ -16,7 +16,7 @@ returns-clause-before c = λ b k lt first.
     ∙ sym (get_or-padded_first p b n first)
 
 pub returns-clause-behind : goal.returns-clause-behind
-returns-clause-behind c = λ b k sized lt over.
+returns-clause-behind c = λ b sized k lt over.
     let p : List ℕ = c.args.prefix.now in
     let n : ℕ = c.args.index * 64 + k in
     let len : length (p ++ b) ≡ length p + c.args.size = omega (arith, length-append p b, sized) in

@@ -57,7 +57,6 @@ returns-in_err-stop-clause-err g c =
     let w0 : Walk = c.args.walk.now in
     let d0 : Device = g.D.BlockDev.state c.args.first.now in
     let e0 : Device = g.E.BlockDev.state c.args.second.now in
-    let old : Option (List ℕ) = g.L.Listing.told c.args.listing.now in
     let w : Walk = c.spans.walk in
     let d : Device = g.D.BlockDev.state c.spans.first in
     let e : Device = g.E.BlockDev.state c.spans.second in
@@ -66,7 +65,7 @@ returns-in_err-stop-clause-err g c =
     let d' : Device = g.D.BlockDev.state c.descend.new.first in
     let e' : Device = g.E.BlockDev.state c.descend.new.second in
     err-from c.from_residual.result _ c.in_err-stop.field-0.0 c.from_residual.ensures.1
-    (walk-comparison w0 (world d0 e0 d' e' old (g.L.Listing.told c.spans.listing)) (g.L.Listing.failed c.spans.listing) c.in_err-stop.field-0.0
+    (walk-comparison w0 d0 e0 d' e' (g.L.Listing.failed c.spans.listing) c.in_err-stop.field-0.0
     (cause-then w0 w d0 e0 d e d' e' c.in_err-stop.field-0.0 u.trees u.first_read.read u.second_read.read u.first_read.failures u.second_read.failures c.in_err-stop.ensures.err))
 
 pub overflow_add-changed : goal.overflow_add-changed
