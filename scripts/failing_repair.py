@@ -3,8 +3,8 @@ import os
 from itertools import takewhile
 
 from failing_recovery import Unlike, read_file
-from images import surveyed
-from verity import read_superblock
+from images import told_survey
+from verity import read_superblock, survey
 
 REFUSED = b"refused 10 Device"
 
@@ -82,11 +82,26 @@ class Repair:
         return self.check_again(self.case.run(again=True))
 
     def is_read_around(self, mended, rest, status):
-        """What couldn't be read once, at most one good block, was sought elsewhere, or stays lost: as the model says of what is left."""
+        """What couldn't be read once, at most one good block, was sought elsewhere, or stays lost: as the model says of what is left.
+        A superblock that can't be read ends it."""
         anew = set(map(self.place, mended)) - set(map(self.place, self.mended))
         if len(anew) > 1:
             return False
-        return (rest, status) == ([REFUSED], 1) or (rest, status) == surveyed(*self.left(), self.tree, self.salt, self.root, False)
+        return (rest, status) == ([REFUSED], 1) or (rest, status) in self.told_around()
+
+    def told_around(self):
+        """What may be told of what is left where one read of it failed. Data that can't be read in a piece are read again block by
+        block, so that is what stands there; or the blocks beneath a hash block that couldn't be read aren't known; or one that
+        couldn't be compared with the one above it isn't good."""
+        states, bad = survey(*self.left(), self.tree, self.salt, self.root)
+        told = [told_survey(states, bad, False)]
+        for level, count in enumerate(self.tree.levels):
+            width = self.tree.slots ** (level + 1)
+            for index in range(count):
+                hidden = ["unknown" if at // width == index else it for at, it in enumerate(states)]
+                more = sorted({*bad, (level, index)}, key=lambda it: (-it[0], it[1]))
+                told += [told_survey(hidden, bad, False), told_survey(states, more, False)]
+        return told
 
     def check_again(self, ran):
         """Made again it ends with a whole image."""

@@ -4,8 +4,8 @@
 nbd_clients.py [--no-speed] [PROGRAM]: copies devices out with nbdcopy and qemu-img and compares them, copies an image in through
 a `crypt` line and reads it back by another stack, writes bytes and zeros with qemu-io across the ends of sectors, with FUA too,
 reads a verity volume with one changed block, also by chunks, and single bytes in each strict mode of libnbd, copies each device
-of a stack out by its name, looks at the map of a sparse stack, that copies of it stay sparse, and that reads of it tell of holes,
-looks by strace at what is synced when a write with FUA or a flush is answered, makes, fills and checks a file system through a
+of a stack out by its name, looks at the maps of a sparse stack and of a volume with ignored zeros, that copies of them stay sparse,
+and that reads tell of holes, looks by strace at what is synced when a write with FUA or a flush is answered, makes, fills and checks a file system through a
 `crypt` line, and prints the speed over each kind of line, over four connections and over one, beside nbdkit's and beside
 `scan`'s. What isn't installed, or not allowed (sockets, ptrace, FUSE), is named and left out, and where nothing is left the
 status is 0 too (Debian: libnbd-bin, python3-libnbd, nbdfuse, qemu-utils, socat, nbdkit, strace, e2fsprogs, fuse3).
@@ -73,6 +73,11 @@ def holes_are_kept():
     return os.stat("hollow").st_blocks * 512 < 1 << 20
 
 
+def copies_of(uri):
+    """The clients that copy a device out, with their words."""
+    return [("nbdcopy", ["nbdcopy", uri, "thin"]), ("qemu-img", ["qemu-img", "convert", "-f", "raw", "-O", "raw", "nbd:unix:" + uri.split("=")[1], "thin"])]
+
+
 def sparse():
     """A stack with holes: its map is told, and copies of it have holes there."""
     data = random.Random(9).randbytes(2 << 20)
@@ -87,13 +92,42 @@ def sparse():
             say("sparse: nbdinfo --map", found == extents, str(found))
             told = json.loads(run("nbdinfo", "--json", uri).stdout or "{}")
             say("sparse: nbdinfo", told.get("protocol") is not None and "base:allocation" in told["exports"][0].get("contexts", []), str(told))
-        copies = [("nbdcopy", ["nbdcopy", uri, "thin"]), ("qemu-img", ["qemu-img", "convert", "-f", "raw", "-O", "raw", "nbd:unix:" + uri.split("=")[1], "thin"])]
-        for client, words in copies:
+        for client, words in copies_of(uri):
             if shutil.which(client):
                 done = run(*words)
                 say(f"sparse: {client}", done.returncode == 0 and open("thin", "rb").read() == wanted, done.stderr.decode())
                 if holes_are_kept():
                     say(f"sparse: {client} leaves holes", os.stat("thin").st_blocks * 512 <= len(data) + 65536, str(os.stat("thin").st_blocks))
+                os.remove("thin")
+
+
+def zeros_ignored():
+    """A volume whose line ignores blocks of zeros: its map is told, and copies of it have holes there."""
+    data = random.Random(11).randbytes(1 << 20)
+    wanted = bytes(3 << 20) + data + bytes((30 << 20) + BLOCK) + data[:BLOCK] + bytes(BLOCK)
+    extents = [[0, 3 << 20, 3], [3 << 20, 1 << 20, 0], [4 << 20, (30 << 20) + BLOCK, 3], [(34 << 20) + BLOCK, BLOCK, 0], [(34 << 20) + 2 * BLOCK, BLOCK, 3]]
+    open("data", "wb").write(wanted)
+    nbd_served.format_data(len(wanted))
+    open("verity", "a").write(" 1 ignore_zero_blocks")
+    # what is ignored isn't read
+    with open("data", "r+b") as file:
+        file.seek(5 << 20)
+        file.write(data)
+    with Served(words_for("verity", "v", "D=ro:" + os.path.abspath("data"), "H=ro:" + os.path.abspath("hash"))) as uri:
+        if shutil.which("nbdinfo"):
+            found = []
+            for it in json.loads(run("nbdinfo", "--map", "--json", uri).stdout or "[]"):
+                if found and found[-1][2] == it["type"]:
+                    found[-1][1] += it["length"]
+                else:
+                    found.append([it["offset"], it["length"], it["type"]])
+            say("zeros ignored: nbdinfo --map", found == extents, str(found))
+        for client, words in copies_of(uri):
+            if shutil.which(client):
+                done = run(*words)
+                say(f"zeros ignored: {client}", done.returncode == 0 and open("thin", "rb").read() == wanted, done.stderr.decode())
+                if holes_are_kept():
+                    say(f"zeros ignored: {client} leaves holes", os.stat("thin").st_blocks * 512 <= len(data) + 131072, str(os.stat("thin").st_blocks))
                 os.remove("thin")
 
 
@@ -237,6 +271,7 @@ def main():
     attempt(sparse)
     attempt(holes_read)
     attempt(changed_block, data)
+    attempt(zeros_ignored)
     attempt(any_bytes, data)
     attempt(syncs)
     attempt(file_system_copied)

@@ -21,6 +21,7 @@ sys.dont_write_bytecode = True
 sys.path.insert(0, os.path.join(os.path.dirname(os.path.realpath(__file__)), "model"))
 
 from cipher import xts_encrypt  # noqa: E402
+from verity import Tree, grown  # noqa: E402
 
 MAGIC, OPTION_MAGIC, REPLY_MAGIC = b"NBDMAGIC", b"IHAVEOPT", 0x3E889045565A9
 REQUEST, SIMPLE_REPLY, CHUNK = 0x25609513, 0x67446698, 0x668E33EF
@@ -32,8 +33,9 @@ NONE, OFFSET_DATA, OFFSET_HOLE, BLOCK_STATUS, ERROR, ERROR_OFFSET = 0, 1, 2, 5, 
 HOLE_AND_ZERO = 3
 EPERM, EIO, ENOMEM, EINVAL, ENOSPC = 1, 5, 12, 22, 28
 MOST = 32 << 20
-# where a piece of a READ ends that is answered piece by piece, and the blocks of zeros at its ends that are holes
-PIECE, BLOCK = 256 << 10, 4096
+# where a piece of a READ ends that is answered piece by piece, and the blocks of zeros at its ends that are holes; where what a
+# BLOCK_STATUS reads ends, if it is of one extent
+PIECE, BLOCK, PART = 256 << 10, 4096, 64 << 10
 
 GREETING = MAGIC + OPTION_MAGIC + struct.pack(">H", 3)
 
@@ -83,9 +85,10 @@ def context(number, identity):
 class Export:
     """A device of a stack, as bytes: those that can't be read are None."""
 
-    def __init__(self, name, content, writable=False, lost=(), zeros=()):
+    def __init__(self, name, content, writable=False, lost=(), zeros=(), ignoring=()):
         self.name, self.content, self.writable, self.lost = name, bytearray(content), writable, lost
-        self.zeros = zeros
+        # the sectors of `zero` lines, and of `verity` lines that ignore blocks of zeros
+        self.zeros, self.ignoring = zeros, ignoring
 
     def bits(self, structured=False):
         own = SEND_TRIM | SEND_WRITE_ZEROES if self.writable else READ_ONLY | CAN_MULTI_CONN
@@ -125,6 +128,9 @@ class Export:
 
     def is_zeros(self, sector):
         return any(low <= sector < high for low, high in self.zeros)
+
+    def is_ignoring(self, sector):
+        return any(low <= sector < high for low, high in self.ignoring)
 
     def shown(self, at, stop, cookie, last):
         """A piece that was read: a hole where it is zeros, and where whole blocks at its beginning or its end are."""
@@ -168,18 +174,44 @@ class Export:
                 return
 
     def status(self, offset, length, one=False):
-        """The extents of some bytes: those of zero lines are holes, by ranges of sectors."""
+        """The extents of some bytes: those of zero lines are holes, by ranges of sectors, and those of blocks of zeros that are read."""
         if not length or offset + length > len(self.content):
             return failed(EINVAL)
-        extents = []
-        for at in range(offset, offset + length):
-            zeros = self.is_zeros(at // SECTOR)
-            if extents and extents[-1][1] == zeros:
-                extents[-1][0] += 1
-            else:
-                extents.append([1, zeros])
+        extents = self.extents_read(offset, length, one) if self.is_ignoring(offset // SECTOR) else self.extents(offset, length)
         told = b"".join(struct.pack(">II", count, HOLE_AND_ZERO if zeros else 0) for count, zeros in extents[:1 if one else None])
         return chunk(BLOCK_STATUS, struct.pack(">I", 1) + told)
+
+    def extents(self, offset, length):
+        """Of the lines alone, up to lines that ignore blocks of zeros."""
+        extents, at, end = [], offset, offset + length
+        while at < end and not self.is_ignoring(at // SECTOR):
+            zeros, stop = self.is_zeros(at // SECTOR), min(end, at - at % SECTOR + SECTOR)
+            if extents and extents[-1][1] == zeros:
+                extents[-1][0] += stop - at
+            else:
+                extents.append([stop - at, zeros])
+            at = stop
+        return extents
+
+    def extents_read(self, offset, length, one):
+        """Of bytes that are read: those of one piece at most, which end before other lines. All are data where one can't be read."""
+        piece = PART if one else PIECE
+        end, sector = min(offset + length, offset - offset % piece + piece), offset // SECTOR
+        while sector * SECTOR < end and self.is_ignoring(sector):
+            sector += 1
+        end = min(end, sector * SECTOR)
+        if self.fails(offset, end - offset):
+            return [[end - offset, False]]
+        extents, at = [], offset
+        while at < end:
+            stop = min(end, at - at % BLOCK + BLOCK)
+            zeros = not any(self.content[at:stop])
+            if extents and extents[-1][1] == zeros:
+                extents[-1][0] += stop - at
+            else:
+                extents.append([stop - at, zeros])
+            at = stop
+        return extents
 
     def write(self, offset, data):
         if not self.writable:
@@ -636,6 +668,119 @@ def statuses(runner):
     runner.count("many extents", served.stdout == wanted and served.returncode == 0 and not served.stderr)
 
 
+def ignored_blocks(runner):
+    """The status of a volume whose line ignores blocks of zeros: of good blocks, and where some are changed or can't be read."""
+    data = bytearray(b"".join(struct.pack(">I", k + 1) for k in range(300 * BLOCK // 4)))
+    # runs of zeros at the beginning, between data, over the end of a part and of a piece, at the end, and half a block in one of data
+    for first, last in ((0, 3), (5, 6), (14, 18), (62, 67), (100, 164), (200, 201), (202, 203), (297, 300)):
+        data[first * BLOCK : last * BLOCK] = bytes((last - first) * BLOCK)
+    data[20 * BLOCK : 20 * BLOCK + BLOCK // 2] = bytes(BLOCK // 2)
+    data, sectors = bytes(data), len(data) // SECTOR
+    changed = bytearray(data)
+    for at in (1, 62, 90, 102):
+        changed[at * BLOCK + 7] ^= 1
+    patched = "b,,,ro,0 496 linear D 0,496 16 error,512 208 linear D 512,720 8 error,728 1672 linear D 728;"
+    for block in (SECTOR, BLOCK):
+        tree = Tree(block, BLOCK, len(data) // block)
+        placed, root = grown(tree, b"salt", [data[at : at + block] for at in range(0, len(data), block)])
+        open("H", "wb").write(b"".join(placed[place] for place in range(sum(tree.levels))))
+        line = f"0 {sectors} verity 1 %s H {block} {BLOCK} {len(data) // block} 0 sha256 {root.hex()} {b'salt'.hex()}"
+        ignoring, label = line + " 1 ignore_zero_blocks", f"ignored blocks of {block} bytes"
+        # of these only one isn't zeros: the others are ignored, and so their data aren't read
+        for image, below, bad in ((data, "D", []), (changed, "D", [(720, 720 + block // SECTOR)]), (data, "/dev/mapper/b", [(720, 728)])):
+            open("D", "wb").write(image)
+            open("ignored", "w").write((patched if below != "D" else "") + "v,,,ro," + ignoring % below)
+            ask_statuses(runner, f"{label} of {below}, {bad} lost", "ignored", Export("v", data, lost=bad, ignoring=[(0, sectors)]))
+            if not bad:
+                short_of_memory(runner, label, "ignored", Export("v", data, ignoring=[(0, sectors)]))
+        shortened(runner, f"{label}, over a leaf that fails", Export("v", data, lost=[(164 * 8, 297 * 8)], ignoring=[(0, sectors)]))
+        # without the option nothing is read
+        open("D", "wb").write(data)
+        open("plain", "w").write("v,,,ro," + line % "D")
+        ask_statuses(runner, f"blocks of {block} bytes that aren't ignored", "plain", Export("v", data))
+        # beside other lines, of which one can't be read
+        lines = "0 3 linear D 3,3 1301 linear /dev/mapper/v 5,1304 40 zero,1344 496 linear /dev/mapper/v 1306,1840 1 error,1841 9 linear /dev/mapper/v 9"
+        open("mixed", "w").write("v,,,ro," + ignoring % "D" + ";m,,,ro," + lines)
+        parts = [data[first * SECTOR : (first + count) * SECTOR] for first, count in ((3, 3), (5, 1301), (1306, 496), (9, 9))]
+        content = parts[0] + parts[1] + bytes(40 * SECTOR) + parts[2] + bytes(SECTOR) + parts[3]
+        e = Export("m", content, lost=[(1840, 1841)], zeros=[(1304, 1344)], ignoring=[(3, 1304), (1344, 1840), (1841, 1850)])
+        ask_statuses(runner, f"{label} beside others", "mixed", e)
+
+
+def shortened(runner, label, e):
+    """The image has lost what stands behind its 100th block by the time of the first request; its zeros are told all the same."""
+    open("D", "wb").write(e.content)
+    sent, told = begun_in_chunks(e, True)
+    asked, wanted = b"", b""
+    for at in range(0, len(e.content), PART):
+        for bits in (0, REQ_ONE):
+            asked += request(STATUS, at, len(e.content) - at, bits=bits)
+            wanted += e.status(at, len(e.content) - at, bool(bits))
+    open("short", "w").write(open("ignored").read().split(";")[-1].replace("/dev/mapper/b", "D"))
+    with subprocess.Popen([runner.program, "nbd", "short", "v", "D=ro:D", "H=ro:H"], bufsize=0, stdin=subprocess.PIPE, stdout=subprocess.PIPE) as served:
+        limit = threading.Timer(60, served.kill)
+        limit.start()
+        served.stdin.write(sent)
+        found = b""
+        while len(found) < len(told) and (more := served.stdout.read(len(told) - len(found))):
+            found += more
+        os.truncate("D", 100 * BLOCK)
+        served.stdin.write(asked)
+        served.stdin.close()
+        found += served.stdout.read()
+        status = served.wait(60)
+        limit.cancel()
+    at = next((k for k, (a, b) in enumerate(zip(found, told + wanted)) if a != b), min(len(found), len(told + wanted)))
+    runner.count(label, found == told + wanted and status == 0, f"differs at {at} of {len(told + wanted)}, status {status}")
+
+
+def short_of_memory(runner, label, stack, e):
+    """Each allocation fails in turn: the status is told all the same, as data where there was none for what is read, or is ENOMEM."""
+    library = os.path.join(os.getcwd(), "refuse.so")
+    source = os.path.join(os.path.dirname(os.path.realpath(__file__)), "refuse_alloc.c")
+    subprocess.run(["cc", "-shared", "-fPIC", "-O2", "-o", library, source, "-ldl"], check=True)
+    sent, told = begun_in_chunks(e, True)
+    size = len(e.content)
+    unread = chunk(BLOCK_STATUS, struct.pack(">III", 1, min(size, PIECE), 0))
+    answers = [e.status(0, size), unread, failed(ENOMEM)]
+    for number in range(1, 10000):
+        if os.path.exists("met"):
+            os.remove("met")
+        more = {"LD_PRELOAD": library, "REFUSE": str(number), "REFUSE_MET": "met"}
+        words = [runner.program, "nbd", stack, e.name, "D=ro:D", "H=ro:H"]
+        done = subprocess.run(words, input=sent + request(STATUS, 0, size) + request(READ, 0, 8), env={**os.environ, **more}, capture_output=True, timeout=60)
+        if not os.path.exists("met"):
+            break
+        place = chunk(ERROR_OFFSET, struct.pack(">IHQ", ENOMEM, 0, 0))
+        ends = [told + answer + e.chunks(0, 8) for answer in answers] + [told + answers[0] + place]
+        good = done.stdout in ends and done.returncode == 0 or (done.stdout, done.returncode) in ((b"no memory\n", 1), (GREETING, 1))
+        runner.count(f"{label}: allocation {number} fails", good and not done.stderr, f"status {done.returncode}, {done.stdout[-40:]!r}")
+    runner.count(f"{label}: some allocations failed", number > 1)
+
+
+def ask_statuses(runner, label, stack, e):
+    """Each status at the ends of blocks, pieces and lines, then a walk over the whole export, extent by extent or reply by reply."""
+    size = len(e.content)
+    sent, wanted = begun_in_chunks(e, True)
+    ends = [low * SECTOR for low, _ in (*e.zeros, *e.ignoring)] + [high * SECTOR for _, high in (*e.zeros, *e.ignoring)]
+    places = {0, 1, BLOCK, 3 * BLOCK, 5 * BLOCK + 1, PART, PIECE, 90 * BLOCK, 100 * BLOCK - SECTOR, 131 * BLOCK, size - 1, size - BLOCK}
+    for at in sorted({place + step for place in (*places, *ends) for step in (-1, 0, 513)}):
+        for length in (1, 511, SECTOR, BLOCK, BLOCK + 1, PART, PIECE - 1, PIECE, PIECE + 9, size - at, size - at + 1):
+            if at >= 0 and 0 <= length < 2**32:
+                sent += request(STATUS, at, length) + request(STATUS, at, length, bits=REQ_ONE)
+                wanted += e.status(at, length) + e.status(at, length, True)
+    for bits in (0, REQ_ONE):
+        at = 0
+        while at < size:
+            answer = e.status(at, size - at, bool(bits))
+            sent, wanted = sent + request(STATUS, at, size - at, bits=bits), wanted + answer
+            at += sum(count for count, in struct.iter_unpack(">I4x", answer[24:]))
+    served = subprocess.run([runner.program, "nbd", stack, e.name, "D=ro:D", "H=ro:H"], input=sent + request(READ, 0, 8), capture_output=True, timeout=60)
+    wanted += e.chunks(0, 8)
+    at = next((k for k, (a, b) in enumerate(zip(served.stdout, wanted)) if a != b), min(len(served.stdout), len(wanted)))
+    runner.count(label, served.stdout == wanted and served.returncode == 0 and not served.stderr, f"differs at {at} of {len(wanted)}, status {served.returncode}, {served.stderr[:80]!r}")
+
+
 def writes(runner):
     """Writes, each followed by reads of what it left."""
     e = exports()["file"]
@@ -1067,7 +1212,7 @@ def main():
     runner = Runner(os.path.abspath(given) if os.path.exists(given) else given)
     with tempfile.TemporaryDirectory() as room:
         os.chdir(room)
-        for part in (handshakes, many_exports, transmissions, chunks, gone, contexts, statuses, writes, zeroes, long_runs, crypt, cuts, ahead, gone_within, forced, failures, refusals):
+        for part in (handshakes, many_exports, transmissions, chunks, gone, contexts, statuses, ignored_blocks, writes, zeroes, long_runs, crypt, cuts, ahead, gone_within, forced, failures, refusals):
             part(runner)
     print(f"exchanges: {runner.passed} passed, {runner.failed} failed")
     return 1 if runner.failed or not runner.passed else 0

@@ -102,7 +102,11 @@ def run_verify(options, words, files, _given, _features):
 
 def surveyed(data, image, tree, salt, root, as_json):
     check_sizes(tree, data, image)
-    states, bad = survey(data, image, tree, salt, root)
+    return told_survey(*survey(data, image, tree, salt, root), as_json)
+
+
+def told_survey(states, bad, as_json):
+    """What is told of data blocks in those states, and of those hash blocks."""
     counts = [("good", states.count(None))] + [(kind, states.count(kind)) for kind in ("changed", "unknown")]
     status = DONE if set(states) == {None} and not bad else FAULT
     if as_json:

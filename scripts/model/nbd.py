@@ -2,7 +2,7 @@
 
 import struct
 
-from stack import SECTOR, Fault
+from stack import IGNORES_ZEROS, SECTOR, ZEROS, Fault
 
 OLD_MAGIC, OPTION_MAGIC, OPTION_REPLY_MAGIC = b"NBDMAGIC", b"IHAVEOPT", 0x3E889045565A9
 REQUEST_MAGIC, SIMPLE_REPLY_MAGIC, CHUNK_MAGIC = 0x25609513, 0x67446698, 0x668E33EF
@@ -23,8 +23,9 @@ HOLE_OF_ZEROS = 3
 MOST_EXTENTS, MOST_JOINED = 1024, 4096
 EPERM, EIO, EINVAL, ENOSPC = 1, 5, 22, 28
 MOST_OF_AN_OPTION, MOST_OF_A_REQUEST = 65536, 32 * 1024 * 1024
-# Where the pieces of a READ end, and the blocks at the ends of one that are holes where they are zeros.
-PIECE, BLOCK = 256 * 1024, 4096
+# Where the pieces of a READ end, and the blocks at the ends of one that are holes where they are zeros. A BLOCK_STATUS that
+# reads does so up to the end of a piece, or of a part of one where one extent is asked for, and tells zeros by such blocks.
+PIECE, PART, BLOCK = 256 * 1024, 64 * 1024, 4096
 DONE, BROKEN = 0, 4
 
 
@@ -257,8 +258,8 @@ class Service:
     def zeros_end(self, at, end):
         """Where the sectors end, from that of the byte on, that the lines alone make zeros."""
         first = behind = at // SECTOR
-        for zeros, count in self.stack.zero_runs(self.device, first, -(-end // SECTOR) - first):
-            if not zeros:
+        for known, count in self.stack.known_runs(self.device, first, -(-end // SECTOR) - first):
+            if known != ZEROS:
                 break
             behind += count
         return at if behind == first else min(behind * SECTOR, end)
@@ -309,22 +310,47 @@ class Service:
         return sectors[before:before + length]
 
     def status(self, offset, length, most):
-        """Extents from the first byte on: where each ends, and whether its lines make it zeros."""
+        """Extents from the first byte on, of the lines alone, up to lines that ignore blocks of zeros; of these the bytes are read."""
+        found = self.extents(offset, length, most)
+        end, known = found[0]
+        if known == IGNORES_ZEROS:
+            return self.status_read(offset, end, most)
+        ignores = [place for place, (_, known) in enumerate(found) if known == IGNORES_ZEROS]
+        return extents_told(offset, [(end, known == ZEROS) for end, known in found[:ignores[0] if ignores else None]])
+
+    def extents(self, offset, length, most):
+        """Where each extent ends, and what its lines alone say of it."""
         extents, at, joined = [], offset // SECTOR, 0
         sectors = -(-(offset % SECTOR + length) // SECTOR)
-        for zeros, count in self.stack.zero_runs(self.device, at, sectors):
+        for known, count in self.stack.known_runs(self.device, at, sectors):
             at += count
-            if extents and extents[-1][1] == zeros and joined < MOST_JOINED:
-                extents[-1] = at, zeros
+            if extents and extents[-1][1] == known and joined < MOST_JOINED:
+                extents[-1] = at, known
                 joined += 1
             elif len(extents) == most:
                 break
             else:
-                extents.append((at, zeros))
+                extents.append((at, known))
                 joined = 0
-        ends = [min(at * SECTOR, offset + length) for at, _ in extents]
-        begins = [offset] + ends[:-1]
-        return b"".join(struct.pack(">II", end - begin, HOLE_OF_ZEROS if zeros else 0) for begin, end, (_, zeros) in zip(begins, ends, extents))
+        return [(min(at * SECTOR, offset + length), known) for at, known in extents]
+
+    def status_read(self, offset, end, most):
+        """The extents of bytes that are read, block by block; those that can't be read are data."""
+        piece = PART if most == 1 else PIECE
+        end = min(end, offset - offset % piece + piece)
+        try:
+            octets = self.read(offset, end - offset)
+        except Fault:
+            return extents_told(offset, [(end, False)])
+        extents, at = [], offset
+        while at < end:
+            behind = min(end, at - at % BLOCK + BLOCK)
+            zeros = not any(octets[at - offset:behind - offset])
+            if extents and extents[-1][1] == zeros:
+                extents.pop()
+            extents.append((behind, zeros))
+            at = behind
+        return extents_told(offset, extents[:most])
 
     def write(self, offset, data):
         """Puts whole sectors: what stands around the bytes is read first."""
@@ -336,6 +362,12 @@ class Service:
             count = self.stack.piece(self.device, at, end - at)
             self.stack.write_run(self.device, at, sectors[place:place + count * SECTOR])
             at += count
+
+
+def extents_told(offset, extents):
+    """The descriptors of extents, of which each has its end, and whether it is zeros."""
+    begins = [offset] + [end for end, _ in extents]
+    return b"".join(struct.pack(">II", end - begin, HOLE_OF_ZEROS if zeros else 0) for begin, (end, zeros) in zip(begins, extents))
 
 
 def told(at, octets, last):

@@ -7,6 +7,8 @@ from verity import Tree, digest
 
 SECTOR = 512
 MOST_OF_A_PIECE = 128
+# What the lines alone say of sectors.
+UNKNOWN, ZEROS, IGNORES_ZEROS = range(3)
 
 
 class Fault(Exception):
@@ -150,17 +152,19 @@ class Stack:
             yield lower(device), offset + row * target.chunk + inside, part
             at, count = at + part, count - part
 
-    def zero_runs(self, lower, first, count):
-        """Whether the lines alone make sectors zeros, run by run."""
+    def known_runs(self, lower, first, count):
+        """What the lines alone say of sectors, run by run: that they are zeros, or that blocks of zeros are ignored there."""
         if isinstance(lower, Leaf):
-            yield False, count
+            yield UNKNOWN, count
             return
         for target, at, part in self.runs(lower, first, count):
             if isinstance(target, (Linear, Striped, Unstriped)):
                 for run in self.lower_runs(target, at, part):
-                    yield from self.zero_runs(*run)
+                    yield from self.known_runs(*run)
+            elif isinstance(target, Verity) and ZERO_BLOCKS in target.options:
+                yield IGNORES_ZEROS, part
             else:
-                yield isinstance(target, Zero), part
+                yield ZEROS if isinstance(target, Zero) else UNKNOWN, part
 
     def read_run(self, lower, first, count):
         if isinstance(lower, Leaf):

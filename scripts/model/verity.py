@@ -185,8 +185,9 @@ def verify_images(data, image, tree, salt, root):
     return "matches" if found == root else "root differs"
 
 
-def survey(data, image, tree, salt, root):
-    """Of each data block None, `changed` or `unknown`, and the hash blocks whose digests don't stand above them.
+def survey(data, image, tree, salt, root, lost=(frozenset(), frozenset())):
+    """Of each data block None, `changed` or `unknown`, and the hash blocks whose digests don't stand above them. Data blocks and
+    hash blocks that are lost can't be read: these aren't good, and neither are hash blocks beneath one of them.
 
     Block k of level l has the digest that stands in slot k mod s of block k / s of level l + 1, of s slots each; that of
     the top level is the root. Hash blocks come as they lie in the area: the top level first."""
@@ -201,15 +202,19 @@ def survey(data, image, tree, salt, root):
             return root
         return stored(level, index // tree.slots)[32 * (index % tree.slots):][:32]
 
-    bad = [(level, index) for level in reversed(range(top)) for index in range(tree.levels[level])
-           if digest(salt, stored(level, index)) != above(level + 1, index)]
+    def is_bad(level, index):
+        if {(level, index), (level + 1, index // tree.slots)} & lost[1]:
+            return True
+        return digest(salt, stored(level, index)) != above(level + 1, index)
+
+    bad = [(level, index) for level in reversed(range(top)) for index in range(tree.levels[level]) if is_bad(level, index)]
     states, bad_ones = [], set(bad)
     for at, block in enumerate(data_blocks(data, tree)):
         way, index = [], at
         for level in range(top):
             index //= tree.slots
             way.append((level, index))
-        state = None if digest(salt, block) == above(0, at) else "changed"
+        state = None if at not in lost[0] and digest(salt, block) == above(0, at) else "changed"
         states.append("unknown" if bad_ones.intersection(way) else state)
     return states, bad
 

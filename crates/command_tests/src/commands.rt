@@ -188,9 +188,21 @@ static ROWS: [Row; 30] = [
         ..FORMAT
     },
     REPAIR,
-    // The block is looked at with its row, and alone: where it can't be read it is one that isn't good.
-    Row { call: 1, ..REPAIR },
-    Row { call: 2, ..REPAIR },
+    // The superblock can't be read.
+    Row {
+        call: 1,
+        status: 1,
+        printed: b"refused 10 Device\n",
+        ..REPAIR
+    },
+    // The block is looked at with its row, and alone: where it can't be read it is one that isn't good. Then the superblock's
+    // device isn't put on its medium.
+    Row {
+        call: 2,
+        status: 1,
+        printed: b"repaired data 0 copy 1\nrefused 10 Device\n",
+        ..REPAIR
+    },
     // It isn't written, or not put on its medium.
     Row {
         call: 3,

@@ -4,3 +4,5 @@ pub mod PlaceLemmas
 pub mod RoundLemmas
 pub mod RestoringLemmas
 pub mod WritingLemmas
+pub mod SumLemmas
+pub mod AskingLemmas

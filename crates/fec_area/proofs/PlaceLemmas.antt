@@ -7,14 +7,15 @@ use Rattle.std.proofs.lemmas.List.{get_or-take, get_or-drop, get_or_past, length
 use Rattle.std.proofs.lemmas.Bool.{cases_lt}
 use Rattle.std.proofs.Math.Nat.{mod-lt}
 use Rattle.block_device.specs.Device.{Device, IsInside, run_of}
+use Rattle.reed_solomon.specs.Factors.{AreProducts}
 use Rattle.reed_solomon.specs.Field.{product}
-use Rattle.reed_solomon.proofs.FieldLemmas.{product_zero_r}
+use Rattle.reed_solomon.proofs.FieldLemmas.{product_zero_l, product_zero_r}
 use Rattle.tree_shape.specs.Shape.{is_block_size}
 use Rattle.verity_format.specs.Blocks.{block_at}
 use Rattle.verity_format.proofs.SizeLemmas.{block-size}
 use Rattle.fec_area.specs.declared.layout.Layout.{Layout}
 use Rattle.fec_area.specs.Layouts.{covered, covered_blocks, message, rounds}
-use Rattle.fec_area.specs.Rounds.{IsPlaceAdded}
+use Rattle.fec_area.specs.Rounds.{AreProductsAdded, IsPlaceAdded}
 use Rattle.fec_area.proofs.LayoutLemmas.{block-fits, covered-data, covered-hash, covered-past}
 
 -- a block lies on a device of which that many do
@@ -49,6 +50,16 @@ place-past l d h count products round place sums past =
           sym (ap (λ v. bit_xor (slice_index sums m) (product x v)) (none (m / count)) ∙ ap (λ v. bit_xor (slice_index sums m) v) (product_zero_r x) ∙ xor_zero_r (slice_index sums m));
       bytes = λ c. omega (arith, none c);
     }
+
+-- at a lost place the products are 0, so that there nothing has to be added
+pub place-lost : (l : Layout) (d h : List (List ℕ)) (lost products : List ℕ) (round place k : ℕ) (sums : List ℕ) → AreProducts lost products → k < length lost → slice_index lost k ≡ place
+    → AreProductsAdded l d h (length lost) products round place sums sums
+place-lost l d h lost products round place k sums known lt at m inside =
+    let n = length lost in
+    let some : 0 < n = omega (arith, lt) in
+    let byte = message l d h round (m / n) place in
+    let none : slice_index products (place * n + m % n) ≡ 0 = ap (λ i. slice_index products (i * n + m % n)) (sym at) ∙ (known.each (m % n) (mod-lt m some)).skip k lt in
+    sym (ap (λ x. bit_xor (slice_index sums m) (product x byte)) none ∙ ap (λ v. bit_xor (slice_index sums m) v) (product_zero_l byte) ∙ xor_zero_r (slice_index sums m))
 
 -- the factors of one place
 pub part-products : (products : List ℕ) (count first k : ℕ) → first + count ≤ length products → k < count

@@ -1,7 +1,7 @@
 -- Lost blocks of a round by their places.
 use Rattle.std.proofs.Common.{◌≡◌, ◌≢◌, ℕ, ◌+◌, ◌-◌, ◌*◌, ◌/◌, ◌%◌, ◌<◌, ◌≤◌, true, false, not, ◌&&◌, nat_lt, IsTrue, List, [], ◌∷◌, ◌++◌, length, take, subst, inl, inr, refl, sym, ap, ◌∙◌, arith, length-append}
 use Rattle.std.specs.Prelude.{slice_index, EachIndex, count_by, ◌==◌}
-use Rattle.std.proofs.lemmas.Bool.{and_from, and_parts, cases_lt, eq-eqb, lt-ltb, ltb-true, ne_eqb, not_from_false}
+use Rattle.std.proofs.lemmas.Bool.{and_from, and_parts, cases_lt, eq-eqb, eqb-true, lt-ltb, ltb-true, ne_eqb, not_from_false}
 use Rattle.std.proofs.lemmas.Grind.{div_ceil_times}
 use Rattle.std.proofs.lemmas.List.{get_or_append_left, get_or-append-add, ext_get_or, take_all}
 use Rattle.std.proofs.lemmas.List.Sums.{count_by_more_no, count_by_more_yes}
@@ -11,11 +11,11 @@ use Rattle.verity_format.specs.Blocks.{block_at}
 use Rattle.fec_area.specs.declared.layout.Layout.{Layout}
 use Rattle.fec_area.specs.Layouts.{IsLayout, covered, covered_blocks, round_bytes, rounds}
 use Rattle.fec_area.specs.Rounds.{AreRestored, IsFormerly}
-use Rattle.fec_area.specs.Restoring.{AreLostPlaces, IsAmong, IsBefore, IsFirstRestored, IsMadeAgain, LostBlocksComeBack, is_beside, round_of}
+use Rattle.fec_area.specs.Restoring.{AreLostPlaces, IsAmong, IsBefore, IsFirstRestored, IsLostPlace, IsMadeAgain, LostBlocksComeBack, is_beside, round_of}
 use Rattle.fec_area.proofs.LayoutLemmas.{covered-past}
 
 -- the rounds have room for all blocks
-rounds-room : (l : Layout) → IsLayout l → covered_blocks l ≤ rounds l * (255 - l.roots)
+pub rounds-room : (l : Layout) → IsLayout l → covered_blocks l ≤ rounds l * (255 - l.roots)
 rounds-room l valid =
     let few = valid.few in
     (div_ceil_times (covered_blocks l) (255 - l.roots) (omega (arith, few))).0
@@ -46,7 +46,14 @@ beside-covered l index j e =
     let both = and_parts (front && round) (not (j == index)) e in
     ltb-true j (covered_blocks l) (and_parts front round both.0).0
 
-beside-from : (l : Layout) (index j : ℕ) → j < covered_blocks l → j % rounds l ≡ round_of l index → j ≢ index → is_beside l index j ≡ true
+pub beside-round : (l : Layout) (index j : ℕ) → is_beside l index j ≡ true → j % rounds l ≡ round_of l index
+beside-round l index j e =
+    let front = nat_lt j (covered_blocks l) in
+    let round = j % rounds l == round_of l index in
+    let both = and_parts (front && round) (not (j == index)) e in
+    eqb-true (j % rounds l) (round_of l index) (and_parts front round both.0).1
+
+pub beside-from : (l : Layout) (index j : ℕ) → j < covered_blocks l → j % rounds l ≡ round_of l index → j ≢ index → is_beside l index j ≡ true
 beside-from l index j inside same other =
     let front = nat_lt j (covered_blocks l) in
     let round = j % rounds l == round_of l index in
@@ -61,6 +68,7 @@ pub record ArePlaced (l : Layout) (lost : List ℕ) (index n : ℕ) (places : Li
   pub own : slice_index places 0 ≡ index / rounds l
   pub within : EachIndex places (λ k. slice_index places k < 255 - l.roots)
   pub each : (k : ℕ) → k < n → IsTrue (is_beside l index (slice_index lost k)) → IsAmong places (slice_index lost k / rounds l)
+  pub alone : EachIndex places (λ k. IsLostPlace l lost index (slice_index places k))
 
 pub placed-none : (l : Layout) (lost : List ℕ) (index own : ℕ) → own ≡ index / rounds l → IsLayout l → index < covered_blocks l → ArePlaced l lost index 0 (own ∷ [])
 placed-none l lost index own is valid inside = record {
@@ -70,6 +78,9 @@ placed-none l lost index own is valid inside = record {
       let at : k ≡ 0 = omega (arith, h) in
       rw at (rw is (place-below l index valid inside));
   each = λ k h. absurd (omega (arith, h));
+  alone = λ k h.
+      let at : k ≡ 0 = omega (arith, h) in
+      inl (ap (λ j. slice_index (own ∷ []) j) at ∙ is);
 }
 
 among-more : (places : List ℕ) (place j : ℕ) → IsAmong places j → IsAmong (places ++ place ∷ []) j
@@ -104,6 +115,13 @@ placed-yes l lost index n places place valid inside is beside known =
             let at : n ≡ k = omega (arith, not_less, h) in
             subst (λ j. IsAmong (places ++ place ∷ []) j) (is ∙ ap (λ j. slice_index lost j / rounds l) at) (among-last places place)
       ];
+      alone = λ k h. elim (cases_lt k (length places)) [
+        | inl less ↦ subst (λ p. IsLostPlace l lost index p) (sym (get_or_append_left places (place ∷ []) 0 k less)) (known.alone k less)
+        | inr not_less ↦
+            let at : k ≡ length places + 0 = omega (arith, not_less, h, long) in
+            let value : slice_index (places ++ place ∷ []) k ≡ slice_index lost n / rounds l = ap (λ j. slice_index (places ++ place ∷ []) j) at ∙ get_or-append-add places (place ∷ []) 0 0 ∙ is in
+            inr (n, (inside, (beside, sym value)))
+      ];
     }
 
 pub placed-no : (l : Layout) (lost : List ℕ) (index n : ℕ) (places : List ℕ) → n < length lost → is_beside l index (slice_index lost n) ≡ false
@@ -121,6 +139,7 @@ placed-no l lost index n places inside beside known =
             let here : is_beside l index (slice_index lost k) ≡ false = ap (λ j. is_beside l index (slice_index lost j)) at ∙ beside in
             absurd (cc (here, true_is))
       ];
+      alone = known.alone;
     }
 
 pub placed-all : (l : Layout) (lost : List ℕ) (index n : ℕ) (places : List ℕ) → length lost ≤ n → ArePlaced l lost index n places → AreLostPlaces l lost index places
@@ -129,6 +148,7 @@ placed-all l lost index n places end known = record {
   own = known.own;
   within = known.within;
   each = λ k h. known.each k (omega (arith, h, end));
+  alone = known.alone;
 }
 
 -- ---- what an image was

@@ -15,7 +15,7 @@ use Rattle.reed_solomon.proofs.RestoringLemmas.{codewords_equal}
 use Rattle.reed_solomon.specs.Restoring.{AgreesOutside}
 use Rattle.fec_area.specs.declared.layout.Layout.{Layout}
 use Rattle.fec_area.specs.Layouts.{IsLayout, IsParityOf, codeword, message, round_bytes}
-use Rattle.fec_area.specs.Rounds.{AreRestored, IsPlaceAdded}
+use Rattle.fec_area.specs.Rounds.{AreRestored, AreProductsAdded}
 
 codeword_at : (l : Layout) (d h : List (List ℕ)) (round : ℕ) (parity : List ℕ) (c i : ℕ) → i < 255
     → slice_index (codeword l d h round parity c) i ≡ cond (nat_lt i (255 - l.roots)) (message l d h round c i) (slice_index parity (c * l.roots + (i - (255 - l.roots))))
@@ -226,9 +226,9 @@ column-more l d h products round parity n k block old new few lt size long all c
 
 -- the bytes at a place of the message were added
 pub message-more : (l : Layout) (d h : List (List ℕ)) (products : List ℕ) (round : ℕ) (parity : List ℕ) (n place : ℕ) (old new : List ℕ) → place < 255 - l.roots → length new ≡ length old
-    → IsPlaceAdded l d h n products round place old new → AreSummed (λ c. slice_index (codeword l d h round parity c)) n products old place
+    → AreProductsAdded l d h n products round place old new → AreSummed (λ c. slice_index (codeword l d h round parity c)) n products old place
     → AreSummed (λ c. slice_index (codeword l d h round parity c)) n products new (place + 1)
 message-more l d h products round parity n place old new lt size added known =
     summed-more (λ (c : ℕ). slice_index (codeword l d h round parity c)) n products old new place size
-    (λ m within. added.sums m within ∙ ap (λ v. bit_xor (slice_index old m) (product (slice_index products (place * n + m % n)) v)) (sym (codeword-message l d h round parity (m / n) place lt)))
+    (λ m within. added m within ∙ ap (λ v. bit_xor (slice_index old m) (product (slice_index products (place * n + m % n)) v)) (sym (codeword-message l d h round parity (m / n) place lt)))
     known

@@ -3,3 +3,4 @@ pub mod Rounds
 pub mod Writing
 pub mod Checking
 pub mod Restoring
+pub mod Asking

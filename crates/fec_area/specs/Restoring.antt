@@ -1,5 +1,5 @@
 -- A lost block that is made again.
-use Rattle.std.specs.Prelude.{◌≡◌, ◌==◌, ◌&&◌, ℕ, ◌+◌, ◌-◌, ◌/◌, ◌%◌, ◌<◌, Bool, not, IsTrue, List, length, nat_lt, slice_index, EachIndex, count_by}
+use Rattle.std.specs.Prelude.{◌≡◌, ◌⊎◌, ◌==◌, ◌&&◌, ℕ, ◌+◌, ◌-◌, ◌/◌, ◌%◌, ◌<◌, Bool, not, IsTrue, List, length, nat_lt, slice_index, EachIndex, count_by}
 use Rattle.block_device.specs.Device.{Device}
 use Rattle.verity_format.specs.Blocks.{block_at}
 use Rattle.fec_area.specs.declared.code.Gap.{Gap}
@@ -66,12 +66,17 @@ FailsToRestore l lost index data_state hash_state parity_state d h p d' h' p' = 
 
 -- ---- its parts
 
+-- the place of its block, or of another one of the round that is lost
+abbrev pub IsLostPlace : Layout → List ℕ → ℕ → ℕ → Type 0
+IsLostPlace l lost index place = (place ≡ index / rounds l) ⊎ ((k : ℕ) × ((k < length lost) × (IsTrue (is_beside l index (slice_index lost k)) × (slice_index lost k / rounds l ≡ place))))
+
 -- the places of the blocks of its round that are lost, its own the first
 pub record AreLostPlaces (l : Layout) (lost : List ℕ) (index : ℕ) (places : List ℕ) : Type 0 where
   pub count : length places ≡ lost_count l lost index
   pub own : slice_index places 0 ≡ index / rounds l
   pub within : EachIndex places (λ k. slice_index places k < 255 - l.roots)
   pub each : EachIndex lost (λ k. IsTrue (is_beside l index (slice_index lost k)) → IsAmong places (slice_index lost k / rounds l))
+  pub alone : EachIndex places (λ k. IsLostPlace l lost index (slice_index places k))
 
 -- The bytes are the block at the first of these places, of each image with this parity whose other blocks of the round are these.
 abbrev pub IsFirstRestored : Layout → List (List ℕ) → List (List ℕ) → ℕ → List ℕ → List ℕ → List ℕ → Type 0

@@ -44,8 +44,12 @@ pub record CanAdd (code : Code) (data_dev hash_dev : Device) (round : ℕ) (bloc
   pub sums_are : length sums ≡ code.layout.now.block * code.count
 
 -- To the sums the products of the bytes at one place were added, each to those of its codeword.
+abbrev pub AreProductsAdded : Layout → List (List ℕ) → List (List ℕ) → ℕ → List ℕ → ℕ → ℕ → List ℕ → List ℕ → Type 0
+AreProductsAdded l data_image hash_image count products round place old new =
+    EachIndex new (λ m. slice_index new m ≡ bit_xor (slice_index old m) (product (slice_index products (place * count + m % count)) (message l data_image hash_image round (m / count) place)))
+
 pub record IsPlaceAdded (l : Layout) (data_image hash_image : List (List ℕ)) (count : ℕ) (products : List ℕ) (round place : ℕ) (old new : List ℕ) : Type 0 where
-  pub sums : EachIndex new (λ m. slice_index new m ≡ bit_xor (slice_index old m) (product (slice_index products (place * count + m % count)) (message l data_image hash_image round (m / count) place)))
+  pub sums : AreProductsAdded l data_image hash_image count products round place old new
   pub bytes : (c : ℕ) → message l data_image hash_image round c place < 256
 
 -- over steady devices
@@ -53,6 +57,18 @@ abbrev pub Adds : {D H : Type 0} → Code → (D → Device) → (H → Device) 
 Adds code data_state hash_state d h round place old new =
     IsTrue (data_state d).steady → IsTrue (hash_state h).steady
     → IsPlaceAdded code.layout.now (data_state d).image (hash_state h).image code.count code.products.now round place old new
+
+-- What it stands on where some places are lost: the products are those that make their bytes.
+pub record CanAddKept (gap : Gap) (data_dev hash_dev : Device) (block sums : List ℕ) : Type 0 where
+  pub can : CanAdd gap.code data_dev hash_dev gap.round block sums
+  pub count_is : gap.code.count ≡ length gap.places.now
+  pub products_are : AreProducts gap.places.now gap.code.products.now
+
+-- Over steady devices they were added, of a lost place too: there the products are 0.
+abbrev pub AddsKept : {D H : Type 0} → Gap → (D → Device) → (H → Device) → D → H → ℕ → List ℕ → List ℕ → Type 0
+AddsKept gap data_state hash_state d h place old new =
+    IsTrue (data_state d).steady → IsTrue (hash_state h).steady
+    → AreProductsAdded gap.code.layout.now (data_state d).image (hash_state h).image (length gap.places.now) gap.code.products.now gap.round place old new
 
 -- ---- a round
 

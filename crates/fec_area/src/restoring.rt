@@ -1,6 +1,7 @@
 //! A lost block, made again from the other blocks of its round and the parity.
-ghost use Rattle.std.specs.Prelude.{◌≡◌, ◌<◌, ◌≤◌, ◌/◌, IfErr, IfOk, OnErr, OnOk, length};
+ghost use Rattle.std.specs.Prelude.{◌≡◌, ◌<◌, ◌≤◌, ◌/◌, IfErr, IfOk, OnErr, OnOk, is_ok, length};
 ghost use Rattle.verity_format.specs.Blocks.{IsOnlyRead};
+ghost use Rattle.fec_area.specs.Asking.{AsksForFirst, AsksKept};
 ghost use Rattle.fec_area.specs.Layouts.{IsLaidOn, IsLayout, covered_blocks, parity_sectors};
 ghost use Rattle.fec_area.specs.Restoring.{AreLostPlaces, FailsToRestore, MakesAgain, RestoresFirst, is_beside};
 ghost use Rattle.fec_area.specs.Rounds.{CanRestore, OnlyReads};
@@ -54,8 +55,9 @@ impl From<AllocError> for RestoreFault {
 
 /// Makes the bytes of covered block `index` again, where it is lost and those of `lost` are, each listed once.
 ///
-/// The other blocks of its round and the round's parity are read once. It takes room for the round's parity, as much for
-/// sums, and 64 KiB for each lost block of the round, twice as much while that grows: less than 4 MiB.
+/// The blocks of its round that aren't lost and the round's parity are read once, and no others: lost blocks may stand on
+/// sectors that can't be read. It takes room for the round's parity, as much for sums, and 64 KiB for each lost block of
+/// the round, twice as much while that grows: less than 4 MiB.
 pub fn restore_block<D: BlockDev, H: BlockDev, P: BlockDev>(
     alloc: Global,
     layout: &Layout,
@@ -73,6 +75,7 @@ pub fn restore_block<D: BlockDev, H: BlockDev, P: BlockDev>(
     ensures parity { IsOnlyRead (P.state parity_dev.old) (P.state parity_dev.new) }
     ensures bytes { OnOk result (MakesAgain layout.now (D.state data_dev.old) (H.state hash_dev.old) (P.state parity_dev.old) lost.now index block.new) }
     ensures err { IfErr result (FailsToRestore layout.now lost.now index D.state H.state P.state data_dev.old hash_dev.old parity_dev.old data_dev.new hash_dev.new parity_dev.new) }
+    ensures asks { AsksKept layout.now lost.now index (is_ok result) D.state H.state P.state data_dev.old hash_dev.old parity_dev.old data_dev.new hash_dev.new parity_dev.new }
 {
     let needed = layout.parity_sectors();
     if parity_dev.sectors() < needed {
@@ -158,6 +161,7 @@ fn restore_first<D: BlockDev, H: BlockDev, P: BlockDev>(
     ensures parity { IsOnlyRead (P.state parity_dev.old) (P.state parity_dev.new) }
     ensures first { OnOk result (RestoresFirst gap.now (D.state data_dev.old) (H.state hash_dev.old) (P.state parity_dev.old) block.new) }
     ensures err { OnErr result (AnyFails D.state H.state P.state data_dev.old hash_dev.old parity_dev.old data_dev.new hash_dev.new parity_dev.new) }
+    ensures asks { AsksForFirst gap.now (is_ok result) D.state H.state P.state data_dev.old hash_dev.old parity_dev.old data_dev.new hash_dev.new parity_dev.new }
 {
     let sectors = (parity.len() / 512) as u64;
     parity_dev.read(gap.round * sectors, parity)?;

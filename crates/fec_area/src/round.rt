@@ -1,14 +1,15 @@
 //! A round of codewords, summed up place by place: its parity, or its lost blocks.
-ghost use Rattle.std.specs.Prelude.{◌≡◌, ◌+◌, ◌*◌, ◌<◌, ◌-◌, OnOk, OnErr, EachIndex, length, slice_index};
+ghost use Rattle.std.specs.Prelude.{◌≡◌, ◌+◌, ◌*◌, ◌<◌, ◌-◌, OnOk, OnErr, EachIndex, is_ok, length, slice_index};
+ghost use Rattle.fec_area.specs.Asking.{AsksBlock, AsksPlace, AsksRound, is_among};
 ghost use Rattle.fec_area.specs.Layouts.{rounds};
-ghost use Rattle.fec_area.specs.Rounds.{Adds, CanAdd, CanRestore, CanSum, NeitherFails, OneFails, OnlyReads, Restores, SumsUp};
+ghost use Rattle.fec_area.specs.Rounds.{Adds, AddsKept, CanAdd, CanAddKept, CanRestore, CanSum, NeitherFails, OneFails, OnlyReads, Restores, SumsUp};
 
 use crate::code::{Code, Gap};
 use crate::covered::read_covered;
 use block_device::{BlockDev, DeviceFault};
 use reed_solomon::add_products;
 
-/// Sums up the parity of a round, with `block` to read in. The products are those for lost parity.
+/// Sums up the parity of a round, with `block` to read in.
 pub(crate) fn sum_parity<D: BlockDev, H: BlockDev>(
     code: &Code<'_>,
     round: u64,
@@ -32,8 +33,8 @@ pub(crate) fn sum_parity<D: BlockDev, H: BlockDev>(
     Ok(())
 }
 
-/// Sums up the lost blocks of a round from its other blocks and its parity, with `block` to read in: byte c of the
-/// k-th lost block is at c * n + k, where n are lost. The products are those for the lost places.
+/// Sums up the lost blocks of a round from its other blocks, which alone are read, and its parity, with `block` to read
+/// in: byte c of the k-th lost block is at c * n + k, where n are lost.
 pub(crate) fn restore_blocks<D: BlockDev, H: BlockDev>(
     gap: &Gap<'_>,
     data_dev: &mut D,
@@ -47,12 +48,13 @@ pub(crate) fn restore_blocks<D: BlockDev, H: BlockDev>(
     ensures ok { OnOk result (NeitherFails D.state H.state data_dev.old hash_dev.old data_dev.new hash_dev.new) }
     ensures restored { OnOk result (Restores gap.now (D.state data_dev.old) (H.state hash_dev.old) parity.now sums.new) }
     ensures err { OnErr result (OneFails D.state H.state data_dev.old hash_dev.old data_dev.new hash_dev.new) }
+    ensures asks { AsksRound gap.now (is_ok result) D.state H.state data_dev.old hash_dev.old data_dev.new hash_dev.new }
 {
     let roots = gap.code.layout.roots;
     let count = gap.places.len();
     sums.fill(0);
     for place in 0..255 - roots {
-        add_place(&gap.code, gap.round, place, data_dev, hash_dev, block, sums)?;
+        add_kept(gap, place, data_dev, hash_dev, block, sums)?;
     }
     for k in 0..roots {
         let first = (255 - roots + k) * count;
@@ -60,6 +62,36 @@ pub(crate) fn restore_blocks<D: BlockDev, H: BlockDev>(
         add_products(&gap.code.products[first..first + count], block, sums);
     }
     Ok(())
+}
+
+// Adds the products of the bytes that stand at a place of a round's codewords. A lost block isn't read: its products are 0.
+fn add_kept<D: BlockDev, H: BlockDev>(
+    gap: &Gap<'_>,
+    place: usize,
+    data_dev: &mut D,
+    hash_dev: &mut H,
+    block: &mut [u8],
+    sums: &mut [u8],
+) -> Result<(), DeviceFault>
+    requires can { CanAddKept gap.now (D.state data_dev.old) (H.state hash_dev.old) block.old sums.old }
+    requires place { place < 255 - gap.now.code.layout.now.roots }
+    ensures read { OnlyReads D.state H.state data_dev.old hash_dev.old data_dev.new hash_dev.new }
+    ensures ok { OnOk result (NeitherFails D.state H.state data_dev.old hash_dev.old data_dev.new hash_dev.new) }
+    ensures added { OnOk result (AddsKept gap.now D.state H.state data_dev.old hash_dev.old place sums.old sums.new) }
+    ensures err { OnErr result (OneFails D.state H.state data_dev.old hash_dev.old data_dev.new hash_dev.new) }
+    ensures asks { AsksPlace gap.now place D.state H.state data_dev.old hash_dev.old data_dev.new hash_dev.new }
+{
+    if is_lost(gap.places, place) {
+        return Ok(());
+    }
+    add_place(&gap.code, gap.round, place, data_dev, hash_dev, block, sums)
+}
+
+// Whether this is one of the lost places.
+fn is_lost(places: &[usize], place: usize) -> bool
+    ensures { result ≡ is_among places.now place }
+{
+    places.contains(&place)
 }
 
 // Adds the products of the bytes that stand at a place of a round's codewords.
@@ -78,6 +110,7 @@ fn add_place<D: BlockDev, H: BlockDev>(
     ensures ok { OnOk result (NeitherFails D.state H.state data_dev.old hash_dev.old data_dev.new hash_dev.new) }
     ensures added { OnOk result (Adds code.now D.state H.state data_dev.old hash_dev.old round place sums.old sums.new) }
     ensures err { OnErr result (OneFails D.state H.state data_dev.old hash_dev.old data_dev.new hash_dev.new) }
+    ensures asks { AsksBlock code.now.layout.now (place * rounds code.now.layout.now + round) D.state H.state data_dev.old hash_dev.old data_dev.new hash_dev.new }
 {
     let layout = code.layout;
     let index = place as u64 * layout.rounds() + round;

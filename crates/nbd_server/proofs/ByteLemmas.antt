@@ -1,6 +1,6 @@
 -- Bytes of the export and the sectors that they touch.
 use Rattle.std.proofs.Common.{◌≡◌, ◌≢◌, ◌<◌, ◌≤◌, ℕ, ◌+◌, ◌-◌, ◌*◌, ◌/◌, ◌%◌, ◌^◌, ◌==◌, List, [], ◌∷◌, ◌++◌, length, take, drop, replicate, refl, ap, sym, ◌∙◌, subst, append-nil, append_assoc, arith, inl, inr, Result, Ok, Err}
-use Rattle.std.specs.Prelude.{◌&&◌, Bool, true, false, not, nat_le, nat_lt, IfErr, IfOk, OnOk, if◌then◌else◌}
+use Rattle.std.specs.Prelude.{◌&&◌, ◌⊎◌, Bool, true, false, not, nat_le, nat_lt, IfErr, IfOk, OnOk, if◌then◌else◌}
 use Rattle.std.proofs.lemmas.List.{length-append, length-drop, length-replicate, length-take, length-take-le, drop_all}
 use Rattle.std.proofs.Math.Seq.{take-append-add}
 use borrow.Rule.Slice.PartMut.{put_mid, post_of}
@@ -15,10 +15,10 @@ use Rattle.nbd_protocol.specs.declared.request_error.RequestError.TheVariants.{N
 use Rattle.nbd_protocol.specs.Exports.{ExportRecord}
 use Rattle.nbd_protocol.specs.Headers.{cache_command, command_of, flush_command, has_fua, has_offered, payload_len, most_length, read_command, status_command, trim_command, write_command, zero_command}
 use Rattle.nbd_server.specs.Premises.{IsBare}
-use Rattle.nbd_server.specs.Sectors.{IsStored, FailsToStore}
+use Rattle.nbd_server.specs.Sectors.{IsStored, FailsToStore, FailsToZero}
 use Rattle.nbd_server.specs.Replies.{RequestOutcome}
 use Rattle.nbd_server.specs.Status.{touched}
-use Rattle.nbd_server.specs.Transmission.{FailsToReadEnds, Flushes, IsFramed, IsInside, IsPart, IsSendable, data_of, ReadsBytes, ReadsEnds, Serves, ServesCommand, Settles, Stays, WritesBytes, WritesGiven, WritesSome, room_behind, written}
+use Rattle.nbd_server.specs.Transmission.{FailsToReadEnds, Flushes, IsFramed, IsInside, IsPart, IsSendable, data_of, ReadsBytes, ReadsEnds, Serves, ServesCommand, Settles, Stays, WritesBytes, WritesGiven, WritesPart, WritesSome, room_behind, written}
 
 -- ---- what stands around some bytes
 
@@ -168,24 +168,32 @@ unsettled true Does w' error p = inl p
 
 -- ---- zeros
 
-some-written : (e : ExportRecord) (w : World) (offset : ℕ) (bytes : List ℕ) (outcome : RequestOutcome) (w' : World) → 0 < length bytes → WritesBytes e w offset bytes outcome w' → WritesSome e w offset bytes outcome w'
+some-written : (e : ExportRecord) (w : World) (offset : ℕ) (bytes : List ℕ) (outcome : RequestOutcome) (w' : World) → 0 < length bytes → WritesBytes e w offset bytes outcome w' ⊎ WritesPart e w offset bytes outcome w'
+    → WritesSome e w offset bytes outcome w'
 some-written e w offset [] outcome w' some p = absurd (omega (arith, some))
 some-written e w offset (byte ∷ more) outcome w' some p = p
+
+zeroed : (e : ExportRecord) (w mid w' : World) (offset : ℕ) (bytes sectors : List ℕ) (result : Result Unit RequestError) → IsFramed e w offset bytes sectors mid
+    → OnOk result (IsStored mid e.device (offset / 512) sectors w') → IfErr result (λ error. FailsToZero mid e.device (offset / 512) sectors error w')
+    → WritesBytes e w offset bytes (written result) w' ⊎ WritesPart e w offset bytes (written result) w'
+zeroed e w mid w' offset bytes sectors (Ok done) f ok err = inl (refl, sectors, mid, f, ok)
+zeroed e w mid w' offset bytes sectors (Err error) f ok (inl err) = inl (inr (sectors, mid, f, err))
+zeroed e w mid w' offset bytes sectors (Err error) f ok (inr err) = inr (ap (λ x. Err x) err.0, sectors, mid, f, err.1)
 
 module _ (e : ExportRecord) (w mid w' : World) (offset len : ℕ) (some : 0 < len) where
   zeros-some : 0 < length {A = ℕ} (replicate len 0)
   zeros-some = omega (arith, length-replicate {A = ℕ} len 0, some)
 
   pub zeros-unread : (error : RequestError) → FailsToReadEnds e w offset len error w' → WritesSome e w offset (replicate len 0) (Err error) w'
-  zeros-unread error p = some-written e w offset (replicate len 0) (Err error) w' zeros-some (inl (subst (λ n. FailsToReadEnds e w offset n error w') (sym (length-replicate {A = ℕ} len 0)) p))
+  zeros-unread error p = some-written e w offset (replicate len 0) (Err error) w' zeros-some (inl (inl (subst (λ n. FailsToReadEnds e w offset n error w') (sym (length-replicate {A = ℕ} len 0)) p)))
 
   pub zeros-written : (before behind : List ℕ) (result : Result Unit RequestError) → ReadsEnds e w offset len before behind mid → OnOk result (IsStored mid e.device (offset / 512) (before ++ (replicate len 0 ++ behind)) w')
-      → IfErr result (λ error. FailsToStore mid e.device (offset / 512) (before ++ (replicate len 0 ++ behind)) error w') → WritesSome e w offset (replicate len 0) (written result) w'
+      → IfErr result (λ error. FailsToZero mid e.device (offset / 512) (before ++ (replicate len 0 ++ behind)) error w') → WritesSome e w offset (replicate len 0) (written result) w'
   zeros-written before behind result p ok err =
       let sectors = before ++ (replicate len 0 ++ behind) in
       let framed : IsFramed e w offset (replicate len 0) sectors mid =
       record { before = before; behind = behind; ends = subst (λ n. ReadsEnds e w offset n before behind mid) (sym (length-replicate {A = ℕ} len 0)) p; sectors_are = refl } in
-      some-written e w offset (replicate len 0) (written result) w' zeros-some (writes-ended e w mid w' offset (replicate len 0) sectors result framed ok err)
+      some-written e w offset (replicate len 0) (written result) w' zeros-some (zeroed e w mid w' offset (replicate len 0) sectors result framed ok err)
 
 -- ---- what can be sent
 

@@ -1,5 +1,6 @@
 -- Zeros at the ends of bytes, and what is told of them.
-use Rattle.std.proofs.Common.{◌≡◌, ◌<◌, ◌≤◌, ℕ, ◌+◌, ◌-◌, Bool, true, false, List, ◌++◌, length, take, drop, replicate, refl, ap, sym, ◌∙◌, subst, arith, Option, Result, Ok, Err}
+use Rattle.std.proofs.Common.{◌≡◌, ◌<◌, ◌≤◌, ℕ, ◌+◌, ◌-◌, ◌==◌, Bool, true, false, List, [], ◌++◌, length, take, drop, replicate, refl, ap, sym, ◌∙◌, subst, append-nil, arith, inl, inr, Option, Result, Ok, Err}
+use Rattle.std.specs.Prelude.{◌&&◌, if◌then◌else◌}
 use Rattle.std.specs.Str.{bytes_eq}
 use Rattle.std.specs.Io.KnownBytes.{Appends}
 use Rattle.std.proofs.KnownBytes.{Appends-trans}
@@ -9,7 +10,7 @@ use Rattle.std.proofs.Math.Seq.{take-add, take-length}
 use Rattle.counted_io.specs.Counted.{CountedRecord, Writes, WritesSome}
 use Rattle.counted_io.specs.declared.fault.WriteFault.{WriteFault}
 use Rattle.nbd_chunks.specs.Chunks.{data_chunk, hole_chunk}
-use Rattle.nbd_server.specs.Content.{HaveData, Tells, as_data, as_hole, in_turn}
+use Rattle.nbd_server.specs.Content.{HaveData, Tells, TellsData, some_hole}
 
 -- ---- zeros
 
@@ -76,29 +77,64 @@ rest-is bytes n = ap (λ k. take k (drop n bytes)) (sym (length-drop n bytes)) �
 
 -- ---- what is told
 
+pub hole-some : (last : Bool) (cookie at n : ℕ) → 0 < n → some_hole last cookie at n ≡ hole_chunk last cookie at n
+hole-some last cookie at n some = let more : (n == 0) ≡ false = grind (arith, some) in ap (λ b. if b then [] else hole_chunk last cookie at n) more
+
 -- all are zeros
-pub told-hole : (cookie : ℕ) (last : Bool) (at n : ℕ) (bytes : List ℕ) → 0 < length bytes → take n bytes ≡ zeros n → n ≡ length bytes → Tells cookie last at bytes (hole_chunk last cookie at n)
-told-hole cookie last at n bytes some is all =
+pub told-zeros : (cookie : ℕ) (last : Bool) (at n : ℕ) (bytes : List ℕ) → 0 < length bytes → take n bytes ≡ zeros n → n ≡ length bytes → Tells cookie last at bytes (hole_chunk last cookie at n)
+told-zeros cookie last at n bytes some is all =
     let whole : take n bytes ≡ bytes = ap (λ k. take k bytes) all ∙ take-length bytes in
-    subst (λ l. Tells cookie last at l (hole_chunk last cookie at n)) (sym is ∙ whole) (as_hole (omega (arith, some, all)))
+    inr (record { some = some; bytes_are = sym whole ∙ is ∙ ap zeros all; chunks_are = ap (hole_chunk last cookie at) all })
 
-module _ (cookie : ℕ) (last : Bool) (at n : ℕ) (bytes : List ℕ) (within : n ≤ length bytes) where
-  part-place : at + n ≡ at + length (take n bytes)
-  part-place = let size : length (take n bytes) ≡ n = length-take-le n bytes within in omega (arith, size)
+module _ (cookie : ℕ) (last : Bool) (at : ℕ) where
+  -- data alone
+  pub told-data : (bytes : List ℕ) → HaveData bytes → TellsData cookie last at bytes (data_chunk last cookie at bytes)
+  told-data bytes some = record {
+    content = bytes;
+    behind = 0;
+    some = some;
+    bytes_are = sym (append-nil bytes);
+    chunks_are = sym (append-nil (data_chunk last cookie at bytes));
+  }
 
-  -- zeros, and what stands behind them
-  pub told-behind : (more : List ℕ) → 0 < n → take n bytes ≡ zeros n → Tells cookie last (at + n) (drop n bytes) more → Tells cookie last at bytes (hole_chunk false cookie at n ++ more)
-  told-behind more some is rest =
-      subst (λ l. Tells cookie last at l (hole_chunk false cookie at n ++ more)) (take-append-drop n bytes)
-      (in_turn (subst (λ l. Tells cookie false at l (hole_chunk false cookie at n)) (sym is) (as_hole some))
-      (subst (λ k. Tells cookie last k (drop n bytes) more) part-place rest))
+  -- no zeros before them
+  pub told-none : (bytes chunks : List ℕ) → TellsData cookie last at bytes chunks → Tells cookie last at bytes chunks
+  told-none bytes chunks told = inl (record {
+    before = 0;
+    rest = bytes;
+    more = chunks;
+    told = subst (λ (k : ℕ). TellsData cookie last k bytes chunks) (omega arith) told;
+    bytes_are = refl;
+    chunks_are = refl;
+  })
 
-  -- data, and zeros behind it
-  pub told-before : (behind : ℕ) → 0 < behind → drop n bytes ≡ zeros behind → HaveData (take n bytes) → Tells cookie last at bytes (data_chunk false cookie at (take n bytes) ++ hole_chunk last cookie (at + n) behind)
-  told-before behind some is front =
-      subst (λ l. Tells cookie last at l (data_chunk false cookie at (take n bytes) ++ hole_chunk last cookie (at + n) behind)) (take-append-drop n bytes)
-      (in_turn (as_data front)
-      (subst (λ k. Tells cookie last k (drop n bytes) (hole_chunk last cookie (at + n) behind)) part-place (subst (λ l. Tells cookie last (at + n) l (hole_chunk last cookie (at + n) behind)) (sym is) (as_hole some))))
+  module _ (n : ℕ) (bytes : List ℕ) (within : n ≤ length bytes) where
+    -- zeros, and what stands behind them
+    pub told-behind : (more : List ℕ) → 0 < n → take n bytes ≡ zeros n → TellsData cookie last (at + n) (drop n bytes) more → Tells cookie last at bytes (hole_chunk false cookie at n ++ more)
+    told-behind more some is told = inl (record {
+      before = n;
+      rest = drop n bytes;
+      more = more;
+      told = told;
+      bytes_are = sym (take-append-drop n bytes) ∙ ap (λ l. l ++ drop n bytes) is;
+      chunks_are = ap (λ l. l ++ more) (sym (hole-some false cookie at n some));
+    })
+
+    -- data, and zeros behind it
+    pub told-before : (behind : ℕ) → 0 < behind → drop n bytes ≡ zeros behind → HaveData (take n bytes)
+        → TellsData cookie last at bytes (data_chunk false cookie at (take n bytes) ++ hole_chunk last cookie (at + n) behind)
+    told-before behind some is front =
+        let size : n ≡ length (take n bytes) = sym (length-take-le n bytes within) in
+        let more : false ≡ (behind == 0) && last = grind (arith, some) in
+        record {
+          content = take n bytes;
+          behind = behind;
+          some = front;
+          bytes_are = sym (take-append-drop n bytes) ∙ ap (λ l. take n bytes ++ l) is;
+          chunks_are = ap (λ b. data_chunk b cookie at (take n bytes) ++ hole_chunk last cookie (at + n) behind) more
+              ∙ ap (λ l. data_chunk ((behind == 0) && last) cookie at (take n bytes) ++ l)
+              (sym (hole-some last cookie (at + n) behind some) ∙ ap (λ k. some_hole last cookie (at + k) behind) size);
+        }
 
 -- some chunks tell them
 pub record IsTold (cookie : ℕ) (last : Bool) (at : ℕ) (bytes : List ℕ) : Type 0 where
@@ -109,8 +145,8 @@ pub some-told : (cookie : ℕ) (last : Bool) (at : ℕ) (bytes : List ℕ) → 0
 some-told cookie last at bytes some = by (bytes_eq bytes (zeros (length bytes))) refl
   where
     by : (same : Bool) → same ≡ bytes_eq bytes (zeros (length bytes)) → IsTold cookie last at bytes
-    by true is = record { text = hole_chunk last cookie at (length bytes); tells = subst (λ l. Tells cookie last at l (hole_chunk last cookie at (length bytes))) (sym (compared bytes true is refl)) (as_hole some) }
-    by false is = record { text = data_chunk last cookie at bytes; tells = as_data (differs bytes false is refl) }
+    by true is = record { text = hole_chunk last cookie at (length bytes); tells = inr (record { some = some; bytes_are = compared bytes true is refl; chunks_are = refl }) }
+    by false is = record { text = data_chunk last cookie at bytes; tells = told-none cookie last at bytes (data_chunk last cookie at bytes) (told-data cookie last at bytes (differs bytes false is refl)) }
 
 -- ---- what is written
 
@@ -138,3 +174,13 @@ module _ {T : Type 0} (contents : T → Option (List ℕ)) (P : List ℕ → Typ
       failed = tt;
     }
     writes-some Q (Err fault) holds p = record { ok = tt; kept = tt; failed = p.failed }
+
+-- bytes that begin with data
+pub writes-data : {T : Type 0} (contents : T → Option (List ℕ)) (cookie : ℕ) (last : Bool) (at : ℕ) (bytes : List ℕ) (old new : CountedRecord T) (result : Result Unit WriteFault)
+    → WritesSome contents old new (TellsData cookie last at bytes) result → WritesSome contents old new (Tells cookie last at bytes) result
+writes-data contents cookie last at bytes old new (Ok done) p = record {
+  ok = record { text = p.ok.text; holds = told-none cookie last at bytes p.ok.text p.ok.holds; written = p.ok.written };
+  kept = p.kept;
+  failed = tt;
+}
+writes-data contents cookie last at bytes old new (Err fault) p = record { ok = tt; kept = tt; failed = p.failed }

@@ -1,10 +1,10 @@
 -- A READ that is answered piece by piece.
-use Rattle.std.proofs.Common.{◌≡◌, ◌<◌, ◌≤◌, ℕ, ◌+◌, ◌-◌, ◌*◌, ◌/◌, ◌%◌, List, [], ◌++◌, drop, length, refl, ap, sym, ◌∙◌, subst, arith, inl, inr, Option, Some, None, Result, Ok, Err}
-use Rattle.std.specs.Prelude.{◌⊎◌, ◌==◌, false}
+use Rattle.std.proofs.Common.{◌≡◌, ◌<◌, ◌≤◌, ℕ, ◌+◌, ◌-◌, ◌*◌, ◌/◌, ◌%◌, List, [], ◌++◌, drop, length, refl, take, ap, sym, ◌∙◌, subst, arith, inl, inr, Option, Some, None, Result, Ok, Err}
+use Rattle.std.specs.Prelude.{◌⊎◌, ◌==◌, false, OnOk}
 use Rattle.std.specs.Io.KnownBytes.{Appends, Keeps}
 use Rattle.std.proofs.KnownBytes.{Appends-kept, Appends-nil, Appends-trans}
 use Rattle.std.proofs.lemmas.Bool.{cases_lt}
-use Rattle.std.proofs.lemmas.List.{length-drop, length-take-le}
+use Rattle.std.proofs.lemmas.List.{drop-append-le, length-drop, length-take-le, take-append-le}
 use Rattle.counted_io.specs.Counted.{CountedRecord, Grows, Writes, WritesSome, Writing}
 use Rattle.counted_io.specs.declared.fault.WriteFault.{WriteFault}
 use Rattle.request_queue.specs.Parts.{EachPart}
@@ -14,7 +14,7 @@ use Rattle.request_queue.proofs.lemmas.LedLemmas.{led-none, led-then}
 use Rattle.nbd_protocol.specs.Exports.{ExportRecord}
 use Rattle.nbd_protocol.specs.declared.request_error.RequestError.{RequestError}
 use Rattle.nbd_server.specs.Replies.{RequestOutcome}
-use Rattle.nbd_server.specs.Sectors.{FailsToFetch, EndsIn, HasNoBuffer}
+use Rattle.nbd_server.specs.Sectors.{IsFetched, FailsToFetch, EndsIn, HasNoBuffer}
 use Rattle.nbd_server.specs.Status.{TouchZeros, touched}
 use Rattle.nbd_server.specs.Transmission.{ReadsBytes}
 use Rattle.nbd_server.specs.Premises.{AreBytesOf, IsRest}
@@ -24,8 +24,6 @@ use Rattle.stack_rules.specs.Records.{Configuration}
 use Rattle.nbd_server.specs.Delivery.{AnswersPiece, Delivers, delivers_none, delivers_more, DeliversPart, GoesOn, IsDelivered, IsLost, IsPiece, IsStuck, ReadsPiece, at_first}
 use Rattle.nbd_server.specs.declared.delivery.Delivery.{Delivery}
 use Rattle.nbd_server.specs.declared.delivery.Progress.{Progress}
-use Rattle.nbd_server.specs.declared.reply.Data.{Data}
-use Rattle.nbd_server.specs.Transmission.{data_of}
 use Rattle.nbd_server.proofs.ContentLemmas.{some-told}
 
 -- ---- one read
@@ -102,8 +100,24 @@ piece-part d p size part piece some few = record {
 }
 
 -- the bytes of a piece that was read
-pub part-size : (content : Data) → content.start + content.length ≤ length content.bytes.items → length (data_of content) ≡ content.length
-part-size content inside = length-take-le content.length (drop content.start content.bytes.items) (omega (arith, length-drop content.start content.bytes.items, inside))
+pub part-size : (items : List ℕ) (start size : ℕ) → start + size ≤ length items → length (take size (drop start items)) ≡ size
+part-size items start size inside = length-take-le size (drop start items) (omega (arith, length-drop start items, inside))
+
+-- they lie in the sectors that were read
+pub part-front : (sectors rest : List ℕ) (start size : ℕ) → start + size ≤ length sectors → take size (drop start sectors) ≡ take size (drop start (sectors ++ rest))
+part-front sectors rest start size inside =
+    let there : size ≤ length (drop start sectors) = omega (arith, length-drop start sectors, inside) in
+    sym (ap (take size) (drop-append-le start sectors rest (omega (arith, inside))) ∙ take-append-le size (drop start sectors) rest there)
+
+-- what was read to the beginning of a buffer
+pub read-of : (e : ExportRecord) (w w' : World) (at size : ℕ) (sectors rest : List ℕ) (result : Result Unit RequestError) → length sectors ≡ 512 * touched at size
+    → OnOk result (IsFetched w e.device (at / 512) (touched at size) sectors w') → OnOk result (ReadsBytes e w at size (Ok (take size (drop (at % 512) (sectors ++ rest)))) w')
+read-of e w w' at size sectors rest (Ok done) held p = (sectors, p, sym (part-front sectors rest (at % 512) size (omega (arith, held))))
+read-of e w w' at size sectors rest (Err error) held p = tt
+
+pub then-inside : (result : Result Unit RequestError) (at size : ℕ) (items : List ℕ) → 512 * touched at size ≤ length items → OnOk result (at % 512 + size ≤ length items)
+then-inside (Ok done) at size items room = omega (arith, room)
+then-inside (Err error) at size items room = tt
 
 -- what is left of it has small places
 pub rest-left : (c : Configuration) (e : ExportRecord) (d : Delivery) (p : Progress) → AreBytesOf c e d.offset d.count → p.done ≤ d.count → IsRest d p

@@ -4,6 +4,7 @@ pub mod DeliveryLemmas
 pub mod FetchLemmas
 pub mod ServiceLemmas
 pub mod StatusLemmas
+pub mod ReadStatusLemmas
 pub mod StoreLemmas
 pub mod MessageLemmas
 pub mod RunLemmas

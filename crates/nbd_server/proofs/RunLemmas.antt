@@ -15,11 +15,12 @@ use Rattle.nbd_protocol.specs.declared.request_error.RequestError.{RequestError}
 use Rattle.nbd_protocol.specs.Exports.{ExportRecord, export_at}
 use Rattle.nbd_protocol.specs.Headers.{command_of, header_of}
 use Rattle.nbd_server.specs.Replies.{RequestOutcome}
-use Rattle.nbd_server.specs.Transmission.{FailsToReadEnds, Flushes, IsFramed, ReadsBytes, ServesCommand, Settles, WritesBytes, WritesGiven, WritesSome, room_behind}
+use Rattle.nbd_server.specs.Transmission.{FailsToReadEnds, Flushes, IsFramed, ReadsBytes, ServesCommand, Settles, WritesBytes, WritesGiven, WritesPart, WritesPayload, WritesSome, room_behind}
 use Rattle.nbd_server.specs.Service.{BeginsMessage, Conversation, begins, goes_on, IsLast, IsServed, Replies, TakesMessage}
 use Rattle.nbd_server.specs.Delivery.{delivery_of}
 use Rattle.nbd_server.specs.declared.delivery.Delivery.{Delivery}
 use Rattle.nbd_server.proofs.DeliveryLemmas.{read-led, delivered-led, pieces-led}
+use Rattle.nbd_server.proofs.ReadStatusLemmas.{status-led}
 
 stays-led : (w w' : World) → w' ≡ w → IsLed EachPart w w'
 stays-led w w' same = subst (IsLed EachPart w) (sym same) (led-none EachPart w)
@@ -41,13 +42,21 @@ bytes-led e w offset bytes (Ok content) w' p = led-then EachPart w p.2 w' (frame
 bytes-led e w offset bytes (Err error) w' (inl p) = unread-led e w offset (length bytes) error w' p
 bytes-led e w offset bytes (Err error) w' (inr p) = led-then EachPart w p.1 w' (framed-led e w offset bytes p.0 p.1 p.2) p.3.led
 
+part-led : (e : ExportRecord) (w : World) (offset : ℕ) (bytes : List ℕ) (outcome : RequestOutcome) (w' : World) → WritesPart e w offset bytes outcome w' → IsLed EachPart w w'
+part-led e w offset bytes outcome w' p = led-then EachPart w p.2 w' (framed-led e w offset bytes p.1 p.2 p.3) p.4.put.led
+
 write-led : (e : ExportRecord) (w : World) (offset : ℕ) (bytes : List ℕ) (outcome : RequestOutcome) (w' : World) → WritesSome e w offset bytes outcome w' → IsLed EachPart w w'
 write-led e w offset [] outcome w' p = stays-led w w' p.1
-write-led e w offset (byte ∷ more) outcome w' p = bytes-led e w offset (byte ∷ more) outcome w' p
+write-led e w offset (byte ∷ more) outcome w' (inl p) = bytes-led e w offset (byte ∷ more) outcome w' p
+write-led e w offset (byte ∷ more) outcome w' (inr p) = part-led e w offset (byte ∷ more) outcome w' p
+
+payload-led : (e : ExportRecord) (w : World) (offset : ℕ) (bytes : List ℕ) (outcome : RequestOutcome) (w' : World) → WritesPayload e w offset bytes outcome w' → IsLed EachPart w w'
+payload-led e w offset [] outcome w' p = stays-led w w' p.1
+payload-led e w offset (byte ∷ more) outcome w' p = bytes-led e w offset (byte ∷ more) outcome w' p
 
 given-led : (e : ExportRecord) (w : World) (offset : ℕ) (bytes : List ℕ) (outcome : RequestOutcome) (w' : World) → WritesGiven e w offset bytes outcome w' → IsLed EachPart w w'
 given-led e w offset bytes outcome w' (inl p) = stays-led w w' p.1
-given-led e w offset bytes outcome w' (inr p) = write-led e w offset bytes outcome w' p
+given-led e w offset bytes outcome w' (inr p) = payload-led e w offset bytes outcome w' p
 
 flush-led : (w : World) (outcome : RequestOutcome) (w' : World) → Flushes w outcome w' → IsLed EachPart w w'
 flush-led w (Ok content) w' p = led-one EachPart w (sync (Ok tt)) w' p.1
@@ -67,8 +76,7 @@ command-led e w (Ok (Write offset length fua)) payload outcome w' p = settle-led
 command-led e w (Ok (Zero offset length fua)) payload outcome w' p = settle-led w fua (WritesSome e w offset (replicate length 0)) (λ o v q. write-led e w offset (replicate length 0) o v q) outcome w' p
 command-led e w (Ok Hint) payload outcome w' p = stays-led w w' p.1
 command-led e w (Ok Flush) payload outcome w' p = flush-led w outcome w' p
-command-led e w (Ok (Status offset length one)) payload (Ok content) w' p = stays-led w w' p.1
-command-led e w (Ok (Status offset length one)) payload (Err error) w' p = stays-led w w' p.1
+command-led e w (Ok (Status offset length one)) payload outcome w' p = status-led e w offset length one outcome w' p
 
 replies-led : (e : ExportRecord) (agreed : Agreement) (w : World) (h : Header) (payload : List ℕ) (found : Option Delivery) (reply : List ℕ) (w' : World) → Replies e agreed w h payload found reply w' → IsLed EachPart w w'
 replies-led e agreed w h payload (Some d) reply w' p = delivered-led e d w reply w' p

@@ -22,7 +22,7 @@ use Rattle.nbd_protocol.specs.Numbers.{number32}
 use Rattle.nbd_protocol.specs.Headers.{command_of, header_of}
 use Rattle.nbd_server.specs.Sectors.{EndsPut, StopsPut}
 use Rattle.nbd_server.specs.Replies.{RequestOutcome}
-use Rattle.nbd_server.specs.Transmission.{FailsToReadEnds, Flushes, IsFramed, ServesCommand, Settles, WritesBytes, WritesGiven, WritesSome, room_behind}
+use Rattle.nbd_server.specs.Transmission.{FailsToReadEnds, Flushes, IsFramed, ServesCommand, Settles, WritesBytes, WritesGiven, WritesPart, WritesPayload, WritesSome, room_behind}
 use Rattle.nbd_options.specs.Handshake.{greeting, is_info, name_in, phase_after, serving_at, terms_after, terms_after_long}
 use Rattle.nbd_protocol.proofs.lemmas.ExportLemmas.{asked-inside}
 use Rattle.nbd_server.specs.Premises.{IsPlaced}
@@ -33,6 +33,7 @@ use Rattle.nbd_server.specs.Delivery.{delivery_of}
 use Rattle.nbd_server.specs.declared.delivery.Delivery.{Delivery}
 use Rattle.nbd_server.specs.Service.{AnswersOption, BeginsMessage, Conversation, begins, goes_on, Turns, IsInterrupted, IsService, IsLast, IsServed, IsUnanswered, Replies, TakesMessage}
 use Rattle.nbd_server.proofs.DeliveryLemmas.{delivered-config, read-config}
+use Rattle.nbd_server.proofs.ReadStatusLemmas.{status-config}
 use Rattle.nbd_server.proofs.RunLemmas.{begun-led, talk-led}
 use Rattle.request_queue.proofs.lemmas.LedLemmas.{led-then}
 
@@ -220,20 +221,28 @@ ends-config e w offset length error w' (inr p) =
 
 unstored-config : (w : World) (d first : ℕ) (bytes : List ℕ) (error : RequestError) (w' : World) → EndsPut w d first bytes error w' ⊎ StopsPut w d first bytes error w' → w'.stack.config ≡ w.stack.config
 unstored-config w d first bytes error w' (inl p) = p.3.any.config
-unstored-config w d first bytes error w' (inr p) = p.3.put.any.config
+unstored-config w d first bytes error w' (inr p) = p.2.put.put.any.config
 
 bytes-config : (e : ExportRecord) (w : World) (offset : ℕ) (bytes : List ℕ) (outcome : RequestOutcome) (w' : World) → WritesBytes e w offset bytes outcome w' → w'.stack.config ≡ w.stack.config
 bytes-config e w offset bytes (Ok content) w' p = p.4.put.any.config ∙ framed-config e w offset bytes p.1 p.2 p.3
 bytes-config e w offset bytes (Err error) w' (inl p) = ends-config e w offset (length bytes) error w' p
 bytes-config e w offset bytes (Err error) w' (inr p) = unstored-config p.1 e.device (offset / 512) p.0 error w' p.3.cause ∙ framed-config e w offset bytes p.0 p.1 p.2
 
+part-config : (e : ExportRecord) (w : World) (offset : ℕ) (bytes : List ℕ) (outcome : RequestOutcome) (w' : World) → WritesPart e w offset bytes outcome w' → w'.stack.config ≡ w.stack.config
+part-config e w offset bytes outcome w' p = p.4.put.put.any.config ∙ framed-config e w offset bytes p.1 p.2 p.3
+
 write-config : (e : ExportRecord) (w : World) (offset : ℕ) (bytes : List ℕ) (outcome : RequestOutcome) (w' : World) → WritesSome e w offset bytes outcome w' → w'.stack.config ≡ w.stack.config
 write-config e w offset [] outcome w' p = same-config w w' p.1
-write-config e w offset (byte ∷ more) outcome w' p = bytes-config e w offset (byte ∷ more) outcome w' p
+write-config e w offset (byte ∷ more) outcome w' (inl p) = bytes-config e w offset (byte ∷ more) outcome w' p
+write-config e w offset (byte ∷ more) outcome w' (inr p) = part-config e w offset (byte ∷ more) outcome w' p
+
+payload-config : (e : ExportRecord) (w : World) (offset : ℕ) (bytes : List ℕ) (outcome : RequestOutcome) (w' : World) → WritesPayload e w offset bytes outcome w' → w'.stack.config ≡ w.stack.config
+payload-config e w offset [] outcome w' p = same-config w w' p.1
+payload-config e w offset (byte ∷ more) outcome w' p = bytes-config e w offset (byte ∷ more) outcome w' p
 
 given-config : (e : ExportRecord) (w : World) (offset : ℕ) (bytes : List ℕ) (outcome : RequestOutcome) (w' : World) → WritesGiven e w offset bytes outcome w' → w'.stack.config ≡ w.stack.config
 given-config e w offset bytes outcome w' (inl p) = same-config w w' p.1
-given-config e w offset bytes outcome w' (inr p) = write-config e w offset bytes outcome w' p
+given-config e w offset bytes outcome w' (inr p) = payload-config e w offset bytes outcome w' p
 
 flush-config : (w : World) (outcome : RequestOutcome) (w' : World) → Flushes w outcome w' → w'.stack.config ≡ w.stack.config
 flush-config w (Ok content) w' p = ap (λ (x : World). x.stack.config) p.1
@@ -253,8 +262,7 @@ command-config e w (Ok (Write offset length fua)) payload outcome w' p = settle-
 command-config e w (Ok (Zero offset length fua)) payload outcome w' p = settle-config w fua (WritesSome e w offset (replicate length 0)) (λ o v q. write-config e w offset (replicate length 0) o v q) outcome w' p
 command-config e w (Ok Hint) payload outcome w' p = same-config w w' p.1
 command-config e w (Ok Flush) payload outcome w' p = flush-config w outcome w' p
-command-config e w (Ok (Status offset length one)) payload (Ok content) w' p = same-config w w' p.1
-command-config e w (Ok (Status offset length one)) payload (Err error) w' p = same-config w w' p.1
+command-config e w (Ok (Status offset length one)) payload outcome w' p = status-config e w offset length one outcome w' p
 
 replies-config : (e : ExportRecord) (agreed : Agreement) (w : World) (h : Header) (payload : List ℕ) (found : Option Delivery) (reply : List ℕ) (w' : World) → Replies e agreed w h payload found reply w' → w'.stack.config ≡ w.stack.config
 replies-config e agreed w h payload (Some d) reply w' p = delivered-config e d w reply w' p

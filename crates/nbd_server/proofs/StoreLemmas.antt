@@ -8,9 +8,14 @@ use Rattle.stack_rules.specs.Names.{mapped, may_write, size}
 use Rattle.stack_rules.specs.Records.{Configuration}
 use Rattle.stack_meaning.specs.declared.fault.IoFault.{IoFault}
 use Rattle.stack_meaning.specs.declared.fault.IoFault.TheVariants as io
+use Rattle.stack_meaning.specs.Meaning.{said_at}
+use Rattle.stack_meaning.proofs.lemmas.FoundLemmas.{SomeOf-more}
+use Rattle.stack_lines.specs.Writing.{SomeEncrypt}
 use Rattle.stack_engine.specs.Stacks.{StackRecord}
 use Rattle.stack_engine.specs.WritePieces.{AnyWrite, EachWrite, InTurn, WritesInPieces, nothing, next, ends}
 use Rattle.stack_engine.proofs.lemmas.WritePieceLemmas.{any-then, write-none}
+use Rattle.request_queue.specs.declared.fault.BytesFault.{BytesFault}
+use Rattle.request_queue.specs.declared.fault.BytesFault.TheVariants.{Failed}
 use Rattle.request_queue.specs.declared.fault.SubmitFault.{SubmitFault}
 use Rattle.request_queue.specs.declared.fault.SubmitFault.TheVariants.{NoSuchDevice, OutOfRange, Length, ReadOnly}
 use Rattle.request_queue.specs.declared.range.SectorRange.{SectorRange}
@@ -30,11 +35,15 @@ use Rattle.nbd_protocol.specs.declared.request_error.RequestError.TheVariants.{N
 use Rattle.nbd_protocol.specs.Exports.{ExportRecord, IsExport}
 use Rattle.nbd_protocol.specs.Headers.{error_of}
 use Rattle.nbd_server.specs.Premises.{AreSectors}
-use Rattle.nbd_server.specs.Sectors.{IsStored, FailsToStore, EndsPut, StopsPut}
+use Rattle.nbd_server.specs.Sectors.{IsStored, IsPartPut, FailsToStore, FailsToZero, EndsPut, StopsPut}
 use Rattle.nbd_server.proofs.FetchLemmas.{named-below}
 
 abbrev pub ended : IoFault → Result Unit IoFault
 ended fault = Err fault
+
+-- a write that ended by that fault
+abbrev pub stopped_by : IoFault → Result Unit BytesFault
+stopped_by fault = Err (Failed fault)
 
 -- ---- their pieces
 
@@ -75,11 +84,17 @@ module _ {w v w' : StackRecord} (d first : ℕ) (x y : List ℕ) (even : length 
 pub stored-none : (w : World) (d first : ℕ) → IsStored w d first [] w
 stored-none w d first = record { put = write-none w.stack d first; led = led-none EachPart w }
 
--- memory ran out before the first sector
-pub store-stops : (w : World) (d first : ℕ) (bytes : List ℕ) (w' : World) → w' ≡ w → FailsToStore w d first bytes NoMemory w'
-store-stops w d first bytes w' same =
-    subst (λ (x : World). FailsToStore w d first bytes NoMemory x) (sym same)
-    (record { cause = inr (refl, 0, omega arith, stored-none w d first); led = led-none EachPart w })
+-- there is no memory for the first run
+pub lacks-first : (w : World) (d first : ℕ) (bytes : List ℕ) → 0 < length bytes → FailsToZero w d first bytes NoMemory w
+lacks-first w d first bytes some = inr (refl, record { count = 0; few = some; put = stored-none w d first })
+
+pub zero-fails : (w : World) (d first : ℕ) (bytes : List ℕ) (w' : World) (result : Result Unit RequestError) → IfErr result (λ error. FailsToStore w d first bytes error w') → IfErr result (λ error. FailsToZero w d first bytes error w')
+zero-fails w d first bytes w' (Ok done) p = tt
+zero-fails w d first bytes w' (Err error) p = inl p
+
+-- memory runs out where some sector is encrypted
+abbrev pub EncryptsAt : World → ℕ → ℕ → List ℕ → IoFault → Type 0
+EncryptsAt w d first bytes fault = stopped_by fault ≡ stopped_by io.NoMemory → SomeEncrypt (said_at w.stack.config (mapped d)) first (length bytes / 512)
 
 module _ (w : World) (d first : ℕ) (bytes : List ℕ) (w' : World) where
   range-is : (range : SectorRange) → write_range w.stack.config d first bytes ≡ Ok range → range_at d first (length bytes / 512) ≡ range
@@ -94,18 +109,18 @@ module _ (w : World) (d first : ℕ) (bytes : List ℕ) (w' : World) where
   pub stored-all : BytesWritten w d first bytes (Ok tt) w' → IsStored w d first bytes w'
   stored-all s = record { put = at-place bytes (Ok tt) s.range s.admits s.whole; led = steps-led d first w bytes (Ok tt) w' s.steps }
 
-  put-fails : (fault : IoFault) (range : SectorRange) → write_range w.stack.config d first bytes ≡ Ok range → IsLed EachPart w w'
+  put-fails : (fault : IoFault) (range : SectorRange) → EncryptsAt w d first bytes fault → write_range w.stack.config d first bytes ≡ Ok range → IsLed EachPart w w'
       → WritesWhole w.stack range bytes (Err fault) w'.stack → EndsPut w d first bytes (error_of fault) w' ⊎ StopsPut w d first bytes (error_of fault) w'
-  put-fails (io.Stack fault) range h led p = inl (refl, io.Stack fault, refl, at-place bytes (Err (io.Stack fault)) range h p)
-  put-fails (io.Device i) range h led p = inl (refl, io.Device i, refl, at-place bytes (Err (io.Device i)) range h p)
-  put-fails io.NoMemory range h led p =
+  put-fails (io.Stack fault) range some h led p = inl (refl, io.Stack fault, refl, at-place bytes (Err (io.Stack fault)) range h p)
+  put-fails (io.Device i) range some h led p = inl (refl, io.Device i, refl, at-place bytes (Err (io.Device i)) range h p)
+  put-fails io.NoMemory range some h led p =
       let count : length bytes / 512 ≡ range.count = ap (λ (r : SectorRange). r.count) (range-is range h) in
-      inr (refl, p.0, omega (arith, p.1, count), record { put = at-place (take (512 * p.0) bytes) (Ok tt) range h p.2; led = led })
+      inr (refl, some refl, record { count = p.0; few = omega (arith, p.1, count); put = record { put = at-place (take (512 * p.0) bytes) (Ok tt) range h p.2; led = led } })
 
-  pub unstored : (fault : IoFault) → BytesWritten w d first bytes (Err fault) w' → FailsToStore w d first bytes (error_of fault) w'
-  unstored fault s =
+  pub unstored : (fault : IoFault) → EncryptsAt w d first bytes fault → BytesWritten w d first bytes (Err fault) w' → FailsToStore w d first bytes (error_of fault) w'
+  unstored fault some s =
       let led = steps-led d first w bytes (Err fault) w' s.steps in
-      record { cause = put-fails fault s.range s.admits led s.whole; led = led }
+      record { cause = put-fails fault s.range some s.admits led s.whole; led = led }
 
 -- ---- why none is refused
 
@@ -145,23 +160,36 @@ no-memory (io.Device i) e same = cc
 no-memory io.NoMemory e same = cc
 
 module _ (w v w' : World) (d first : ℕ) (x y z : List ℕ) (even : length x % 512 ≡ 0) (p : IsStored w d first x v) where
+  part-more : IsPartPut v d (first + length x / 512) y w' → IsPartPut w d first (x ++ (y ++ z)) w'
+  part-more q =
+      let n : ℕ = 512 * q.count in
+      let k : ℕ = length x / 512 + q.count in
+      let sum : 512 * k ≡ length x + n = omega (arith, even) in
+      let few : n ≤ length y = omega (arith, q.few) in
+      let front : take (512 * k) (x ++ (y ++ z)) ≡ x ++ take n y =
+      ap (λ m. take m (x ++ (y ++ z))) sum ∙ take-append-add x (y ++ z) n ∙ ap (λ l. x ++ l) (take-append-le n y z few) in
+      record {
+        count = k;
+        few = omega (arith, sum, q.few, length-append x (y ++ z), length-append y z);
+        put = subst (λ l. IsStored w d first l w') (sym front) (stored-more w v w' d first x (take n y) even p q.put);
+      }
+
+  encrypt-more : SomeEncrypt (said_at v.stack.config (mapped d)) (first + length x / 512) (length y / 512) → SomeEncrypt (said_at w.stack.config (mapped d)) first (length (x ++ (y ++ z)) / 512)
+  encrypt-more some =
+      let inside : length x / 512 + length y / 512 ≤ length (x ++ (y ++ z)) / 512 = omega (arith, even, length-append x (y ++ z), length-append y z) in
+      SomeOf-more (λ s. (said_at w.stack.config (mapped d) s).encrypts) first (length x / 512) (length y / 512) (length (x ++ (y ++ z)) / 512) inside
+      (subst (λ (c : Configuration). SomeEncrypt (said_at c (mapped d)) (first + length x / 512) (length y / 512)) p.put.any.config some)
+
   cause-more : (error : RequestError) → EndsPut v d (first + length x / 512) y error w' ⊎ StopsPut v d (first + length x / 512) y error w' → EndsPut w d first (x ++ (y ++ z)) error w' ⊎ StopsPut w d first (x ++ (y ++ z)) error w'
   cause-more error (inl q) = inl (q.0, q.1, q.2, pieces-end d first x y even p.put z q.1 (no-memory q.1 q.2) q.3)
-  cause-more error (inr q) =
-      let n : ℕ = 512 * q.1 in
-      let k : ℕ = length x / 512 + q.1 in
-      let sum : 512 * k ≡ length x + n = omega (arith, even) in
-      let front : take (512 * k) (x ++ (y ++ z)) ≡ x ++ take n y =
-      ap (λ m. take m (x ++ (y ++ z))) sum ∙ take-append-add x (y ++ z) n ∙ ap (λ l. x ++ l) (take-append-le n y z q.2) in
-      inr (
-        q.0,
-        k,
-        omega (arith, sum, q.2, length-append x (y ++ z), length-append y z),
-        subst (λ l. IsStored w d first l w') (sym front) (stored-more w v w' d first x (take n y) even p q.3),
-      )
+  cause-more error (inr q) = inr (q.0, encrypt-more q.1, part-more q.2)
 
-  pub stored-fails : (error : RequestError) → FailsToStore v d (first + length x / 512) y error w' → FailsToStore w d first (x ++ (y ++ z)) error w'
+  stored-fails : (error : RequestError) → FailsToStore v d (first + length x / 512) y error w' → FailsToStore w d first (x ++ (y ++ z)) error w'
   stored-fails error q = record { cause = cause-more error q.cause; led = led-then EachPart w v w' p.led q.led }
+
+  pub zeroed-fails : (error : RequestError) → FailsToZero v d (first + length x / 512) y error w' → FailsToZero w d first (x ++ (y ++ z)) error w'
+  zeroed-fails error (inl q) = inl (stored-fails error q)
+  zeroed-fails error (inr q) = inr (q.0, part-more q.1)
 
 -- ---- what is put, and what is left
 
@@ -186,13 +214,13 @@ module _ (w v w' : World) (d first at : ℕ) (all y : List ℕ) where
     all_is = p.all_is ∙ sym (append_assoc p.front y z);
   }
 
-  pub put-ends : (z : List ℕ) (error : RequestError) → IsPut w d first at all (y ++ z) v → FailsToStore v d at y error w' → FailsToStore w d first all error w'
-  put-ends z error p q = subst (λ l. FailsToStore w d first l error w') (sym p.all_is) (stored-fails w v w' d first p.front y z p.whole p.stored error (subst (λ k. FailsToStore v d k y error w') p.place q))
+  pub put-ends : (z : List ℕ) (error : RequestError) → IsPut w d first at all (y ++ z) v → FailsToZero v d at y error w' → FailsToZero w d first all error w'
+  put-ends z error p q = subst (λ l. FailsToZero w d first l error w') (sym p.all_is) (zeroed-fails w v w' d first p.front y z p.whole p.stored error (subst (λ k. FailsToZero v d k y error w') p.place q))
 
   put-last : IsPut w d first at all y v → IsStored v d at y w' → IsStored w d first all w'
   put-last p q = subst (λ l. IsStored w d first l w') (sym p.all_is) (stored-more w v w' d first p.front y p.whole p.stored (subst (λ k. IsStored v d k y w') p.place q))
 
-  put-last-ends : (error : RequestError) → IsPut w d first at all y v → FailsToStore v d at y error w' → FailsToStore w d first all error w'
+  put-last-ends : (error : RequestError) → IsPut w d first at all y v → FailsToZero v d at y error w' → FailsToZero w d first all error w'
   put-last-ends error p q = put-ends [] error (subst (λ l. IsPut w d first at all l v) (sym (append-nil y)) p) q
 
   -- the last of them
@@ -200,7 +228,7 @@ module _ (w v w' : World) (d first at : ℕ) (all y : List ℕ) where
   put-ok (Ok done) p q = put-last p q
   put-ok (Err error) p q = tt
 
-  pub put-err : (result : Result Unit RequestError) → IsPut w d first at all y v → IfErr result (λ error. FailsToStore v d at y error w') → IfErr result (λ error. FailsToStore w d first all error w')
+  pub put-err : (result : Result Unit RequestError) → IsPut w d first at all y v → IfErr result (λ error. FailsToZero v d at y error w') → IfErr result (λ error. FailsToZero w d first all error w')
   put-err (Ok done) p q = tt
   put-err (Err error) p q = put-last-ends error p q
 

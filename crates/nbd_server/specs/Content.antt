@@ -1,14 +1,38 @@
--- Bytes that were read, told by chunks of data and of holes.
-use Rattle.std.specs.Prelude.{◌≢◌, ◌<◌, ℕ, ◌+◌, Bool, false, List, ◌++◌, length, replicate}
+-- Bytes that were read, told by at most three chunks: a hole, data and a hole.
+use Rattle.std.specs.Prelude.{◌≡◌, ◌≢◌, ◌⊎◌, ◌<◌, ℕ, ◌+◌, ◌==◌, ◌&&◌, Bool, false, List, [], ◌++◌, length, replicate, if◌then◌else◌}
 use Rattle.nbd_chunks.specs.Chunks.{data_chunk, hole_chunk}
 
 -- some of the bytes isn't zero
 abbrev pub HaveData : List ℕ → Type 0
 HaveData bytes = bytes ≢ replicate (length bytes) 0
 
--- Chunks tell these bytes, from a place on: some as data, never zeros alone, and as holes only zeros. The last chunk may be
--- that of the reply.
-pub data Tells (cookie : ℕ) : Bool → ℕ → List ℕ → List ℕ → Type 0 where
-  as_data : {last : Bool} {at : ℕ} {bytes : List ℕ} → HaveData bytes → Tells cookie last at bytes (data_chunk last cookie at bytes)
-  as_hole : {last : Bool} {at n : ℕ} → 0 < n → Tells cookie last at (replicate n 0) (hole_chunk last cookie at n)
-  in_turn : {last : Bool} {at : ℕ} {x y chunk more : List ℕ} → Tells cookie false at x chunk → Tells cookie last (at + length x) y more → Tells cookie last at (x ++ y) (chunk ++ more)
+-- a hole of so many bytes, if there are some
+abbrev pub some_hole : Bool → ℕ → ℕ → ℕ → List ℕ
+some_hole last cookie at n = if n == 0 then [] else hole_chunk last cookie at n
+
+-- data, never zeros alone, and a hole where zeros stand behind it
+pub record TellsData (cookie : ℕ) (last : Bool) (at : ℕ) (bytes chunks : List ℕ) : Type 0 where
+  pub content : List ℕ
+  pub behind : ℕ
+  pub some : HaveData content
+  pub bytes_are : bytes ≡ content ++ replicate behind 0
+  pub chunks_are : chunks ≡ data_chunk ((behind == 0) && last) cookie at content ++ some_hole last cookie (at + length content) behind
+
+-- a hole where zeros stand before the data
+pub record TellsSome (cookie : ℕ) (last : Bool) (at : ℕ) (bytes chunks : List ℕ) : Type 0 where
+  pub before : ℕ
+  pub rest : List ℕ
+  pub more : List ℕ
+  pub told : TellsData cookie last (at + before) rest more
+  pub bytes_are : bytes ≡ replicate before 0 ++ rest
+  pub chunks_are : chunks ≡ some_hole false cookie at before ++ more
+
+-- a hole alone, of zeros alone
+pub record TellsZeros (cookie : ℕ) (last : Bool) (at : ℕ) (bytes chunks : List ℕ) : Type 0 where
+  pub some : 0 < length bytes
+  pub bytes_are : bytes ≡ replicate (length bytes) 0
+  pub chunks_are : chunks ≡ hole_chunk last cookie at (length bytes)
+
+-- These chunks tell these bytes, from a place on. The last one may be that of the reply.
+abbrev pub Tells : ℕ → Bool → ℕ → List ℕ → List ℕ → Type 0
+Tells cookie last at bytes chunks = TellsSome cookie last at bytes chunks ⊎ TellsZeros cookie last at bytes chunks

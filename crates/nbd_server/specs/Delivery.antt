@@ -48,7 +48,7 @@ pub record IsPiece (d : Delivery) (p : Progress) (size : ℕ) : Type 0 where
   pub inside : p.done + size ≤ d.count
   pub single : p.done < p.slow → touched (d.offset + p.done) size ≡ 1
 
--- they were read, and are told by chunks as data and holes, the last of which says whether it is that of the reply
+-- they were read, and are told by a hole, data and a hole at most, the last of which says whether it is that of the reply
 pub record IsSent (e : ExportRecord) (d : Delivery) (p : Progress) (w : World) (chunk : List ℕ) (next : Progress) (w' : World) : Type 0 where
   pub size : ℕ
   pub content : List ℕ

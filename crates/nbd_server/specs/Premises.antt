@@ -1,16 +1,15 @@
 -- What the calls on a client's messages stand on.
-use Rattle.std.specs.Prelude.{◌≡◌, ◌≢◌, ◌<◌, ◌≤◌, ℕ, ◌+◌, ◌*◌, ◌%◌, ◌^◌, IsTrue, List, length}
+use Rattle.std.specs.Prelude.{◌≡◌, ◌≢◌, ◌<◌, ◌≤◌, ℕ, ◌+◌, ◌*◌, ◌%◌, ◌^◌, IsTrue, List, drop, length, take, Ok}
 use Rattle.stack_rules.specs.Names.{mapped, size}
 use Rattle.stack_rules.specs.Records.{Configuration}
 use Rattle.nbd_protocol.specs.Exports.{AreExports, ExportRecord, IsExport, export_records}
 use Rattle.nbd_protocol.specs.declared.export.Export.{Export}
 use Rattle.nbd_protocol.specs.declared.header.Command.{Command}
 use Rattle.nbd_protocol.specs.declared.header.Command.TheVariants.{Write}
-use Rattle.nbd_server.specs.Transmission.{room_behind}
-use Rattle.nbd_server.specs.Delivery.{IsPiece}
+use Rattle.request_queue.specs.World.{World}
+use Rattle.nbd_server.specs.Transmission.{ReadsBytes, room_behind}
 use Rattle.nbd_server.specs.declared.delivery.Delivery.{Delivery}
 use Rattle.nbd_server.specs.declared.delivery.Progress.{Progress}
-use Rattle.nbd_server.specs.declared.reply.Data.{Data}
 use Rattle.nbd_server.specs.declared.zeros.Zeros.{Zeros}
 use Rattle.nbd_protocol.specs.declared.phase.Phase.{Phase}
 use Rattle.nbd_protocol.specs.declared.phase.Phase.TheVariants.{Over, Serving}
@@ -59,13 +58,11 @@ pub record HaveEnds (z : Zeros) : Type 0 where
   pub few : z.count < 2 ^ 32
   pub behind : length z.behind.now < 512
 
+-- bytes of the export were read, with the sectors that they touch, to the beginning of a buffer
+abbrev pub ReadsTo : ExportRecord → World → ℕ → ℕ → List ℕ → World → Type 0
+ReadsTo e w at count buffer w' = ReadsBytes e w at count (Ok (take count (drop (at % 512) buffer))) w'
+
 -- what is left of a READ that is answered piece by piece
 pub record IsRest (d : Delivery) (p : Progress) : Type 0 where
   pub inside : p.done ≤ d.count
   pub small : d.offset + d.count < 2 ^ 64
-
--- its next piece, as it was read
-pub record IsNextPiece (d : Delivery) (p : Progress) (content : Data) : Type 0 where
-  pub rest : IsRest d p
-  pub piece : IsPiece d p content.length
-  pub inside : content.start + content.length ≤ length content.bytes.items

@@ -1,11 +1,12 @@
 -- Sectors of the export, read and written at once.
-use Rattle.std.specs.Prelude.{◌≡◌, ◌⊎◌, ◌≤◌, ℕ, ◌*◌, All, List, length, take, Ok, Err}
+use Rattle.std.specs.Prelude.{◌≡◌, ◌⊎◌, ◌<◌, ℕ, ◌*◌, ◌/◌, All, List, length, take, Ok, Err}
 use Rattle.stack_rules.specs.Names.{mapped}
 use Rattle.stack_meaning.specs.declared.fault.IoFault.{IoFault}
 use Rattle.stack_meaning.specs.declared.fault.IoFault.TheVariants as io
 use Rattle.stack_meaning.specs.Found.{FoundRecord}
 use Rattle.stack_meaning.specs.Meaning.{said_at}
 use Rattle.stack_meaning.specs.Reading.{MeetVerity}
+use Rattle.stack_lines.specs.Writing.{SomeEncrypt}
 use Rattle.stack_engine.specs.Bytes.{IsGoodChain}
 use Rattle.stack_engine.specs.WritePieces.{WritesInPieces}
 use Rattle.request_queue.specs.Parts.{EachPart}
@@ -55,11 +56,26 @@ abbrev pub EndsPut : World → ℕ → ℕ → List ℕ → RequestError → Wor
 EndsPut w d first bytes error w' =
     (error ≡ InputOutput) × (fault : IoFault) × (error_of fault ≡ InputOutput) × WritesInPieces w.stack d first bytes (Err fault) w'.stack
 
--- memory ran out after the first of them were put and no others
+-- the first of them were put, and no others
+pub record IsPartPut (w : World) (d first : ℕ) (bytes : List ℕ) (w' : World) : Type 0 where
+  pub count : ℕ
+  pub few : 512 * count < length bytes
+  pub put : IsStored w d first (take (512 * count) bytes) w'
+
+-- memory ran out behind the first of them, which is where some of them are encrypted
 abbrev pub StopsPut : World → ℕ → ℕ → List ℕ → RequestError → World → Type 0
-StopsPut w d first bytes error w' = (error ≡ NoMemory) × (k : ℕ) × (512 * k ≤ length bytes) × IsStored w d first (take (512 * k) bytes) w'
+StopsPut w d first bytes error w' =
+    (error ≡ NoMemory) × SomeEncrypt (said_at w.stack.config (mapped d)) first (length bytes / 512) × IsPartPut w d first bytes w'
 
 -- not all of them were put
 pub record FailsToStore (w : World) (d first : ℕ) (bytes : List ℕ) (error : RequestError) (w' : World) : Type 0 where
   pub cause : EndsPut w d first bytes error w' ⊎ StopsPut w d first bytes error w'
   pub led : IsLed EachPart w w'
+
+-- zeros and what stands around them, put run by run: there was no memory for a run, and those before it were put
+abbrev pub LacksRun : World → ℕ → ℕ → List ℕ → RequestError → World → Type 0
+LacksRun w d first bytes error w' = (error ≡ NoMemory) × IsPartPut w d first bytes w'
+
+-- not all of these were put
+abbrev pub FailsToZero : World → ℕ → ℕ → List ℕ → RequestError → World → Type 0
+FailsToZero w d first bytes error w' = FailsToStore w d first bytes error w' ⊎ LacksRun w d first bytes error w'

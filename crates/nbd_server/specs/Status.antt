@@ -1,13 +1,16 @@
 -- Block status by the context base:allocation (in the protocol's document NBD_CMD_BLOCK_STATUS and
 -- NBD_REPLY_TYPE_BLOCK_STATUS).
-use Rattle.std.specs.Prelude.{◌≡◌, ◌<◌, ◌≤◌, ℕ, ◌+◌, ◌-◌, ◌/◌, ◌%◌, Bool, IsTrue, List, [], ◌++◌, length, if◌then◌else◌}
+use Rattle.std.specs.Prelude.{◌≡◌, ◌<◌, ◌≤◌, ℕ, ◌+◌, ◌-◌, ◌/◌, ◌%◌, Bool, IsTrue, List, [], ◌++◌, length, take, drop, replicate, Ok, Err, if◌then◌else◌}
 use Rattle.stack_rules.specs.Names.{mapped}
 use Rattle.stack_rules.specs.Records.{Configuration}
 use Rattle.stack_meaning.specs.Meaning.{said_at}
-use Rattle.stack_extents.specs.Extents.{AreZeros}
+use Rattle.stack_extents.specs.Extents.{AreZeros, IgnoresZeros}
+use Rattle.stack_extents.specs.declared.extent.ExtentKind.TheVariants as known
 use Rattle.nbd_protocol.specs.Exports.{ExportRecord}
 use Rattle.nbd_protocol.specs.Numbers.{bytes32}
+use Rattle.nbd_server.specs.Replies.{RequestOutcome}
 use Rattle.nbd_server.specs.declared.status.BlockStatus.{BlockStatus}
+use Rattle.nbd_server.specs.declared.status.ByteExtent.{ByteExtent}
 
 -- how many sectors some bytes touch
 abbrev pub touched : ℕ → ℕ → ℕ
@@ -25,21 +28,38 @@ descriptor s = bytes32 s.count ++ bytes32 (status_flags s.zeros)
 abbrev pub TouchZeros : Configuration → ExportRecord → ℕ → ℕ → Type 0
 TouchZeros c e at count = AreZeros (said_at c (mapped e.device)) (at / 512) (touched at count)
 
--- the status of bytes from a place on, at least one of so many
-pub record IsStatus (c : Configuration) (e : ExportRecord) (at left : ℕ) (s : BlockStatus) : Type 0 where
+-- each of them lies on a verity line that ignores blocks of zeros
+abbrev pub TouchIgnoring : Configuration → ExportRecord → ℕ → ℕ → Type 0
+TouchIgnoring c e at count = (j : ℕ) → j < touched at count → IgnoresZeros c (mapped e.device) (at / 512 + j)
+
+-- what is known of bytes from a place on, at least one of so many, while nothing is read
+pub record IsByteExtent (c : Configuration) (e : ExportRecord) (at left : ℕ) (extent : ByteExtent) : Type 0 where
+  pub some : 0 < extent.count
+  pub few : extent.count ≤ left
+  pub zeros : extent.kind ≡ known.Zeros → TouchZeros c e at extent.count
+  pub ignores : extent.kind ≡ known.IgnoresZeros → TouchIgnoring c e at extent.count
+
+-- n bytes from a place on are zeros, as the bytes from the first place on were read
+abbrev pub AreReadAsZeros : ℕ → RequestOutcome → ℕ → ℕ → Type 0
+AreReadAsZeros first (Ok content) at n = take n (drop (at - first) content) ≡ replicate n 0
+AreReadAsZeros first (Err error) at n = ⊥
+
+-- the status of bytes from a place on, at least one of so many, where `Null` says of how many from a place on it is known
+-- that they are zeros
+pub record IsStatus (Null : ℕ → ℕ → Type 0) (at left : ℕ) (s : BlockStatus) : Type 0 where
   pub some : 0 < s.count
   pub few : s.count ≤ left
-  pub zeros : IsTrue s.zeros → TouchZeros c e at s.count
+  pub zeros : IsTrue s.zeros → Null at s.count
 
 -- extents one after another from a place on: how many bytes they have, and what is told of them
-pub data Tells (c : Configuration) (e : ExportRecord) (offset count : ℕ) : ℕ → List ℕ → Type 0 where
-  tells_none : Tells c e offset count 0 []
-  tells_more : {done : ℕ} {told : List ℕ} (s : BlockStatus) → Tells c e offset count done told → done ≤ count → IsStatus c e (offset + done) (count - done) s → Tells c e offset count (done + s.count) (told ++ descriptor s)
+pub data Tells (Null : ℕ → ℕ → Type 0) (offset count : ℕ) : ℕ → List ℕ → Type 0 where
+  tells_none : Tells Null offset count 0 []
+  tells_more : {done : ℕ} {told : List ℕ} (s : BlockStatus) → Tells Null offset count done told → done ≤ count → IsStatus Null (offset + done) (count - done) s → Tells Null offset count (done + s.count) (told ++ descriptor s)
 
 -- The status of bytes that were asked for: that of the first of them at least, and of one extent where that was asked.
-pub record HasStatus (c : Configuration) (e : ExportRecord) (offset count : ℕ) (one : Bool) (told : List ℕ) : Type 0 where
+pub record HasStatus (Null : ℕ → ℕ → Type 0) (offset count : ℕ) (one : Bool) (told : List ℕ) : Type 0 where
   pub done : ℕ
-  pub tells : Tells c e offset count done told
+  pub tells : Tells Null offset count done told
   pub some : 0 < done
   pub few : done ≤ count
   pub small : length told ≤ 8192

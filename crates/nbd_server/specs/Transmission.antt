@@ -8,8 +8,8 @@ use Rattle.nbd_protocol.specs.Exports.{ExportRecord}
 use Rattle.nbd_protocol.specs.Headers.{command_of, most_length, payload_len}
 use Rattle.nbd_protocol.specs.declared.phase.Agreement.{Agreement}
 use Rattle.nbd_server.specs.Replies.{RequestOutcome}
-use Rattle.nbd_server.specs.Status.{HasStatus, touched}
-use Rattle.nbd_server.specs.Sectors.{IsFetched, FailsToFetch, IsStored, FailsToStore}
+use Rattle.nbd_server.specs.Status.{AreReadAsZeros, HasStatus, TouchIgnoring, TouchZeros, touched}
+use Rattle.nbd_server.specs.Sectors.{IsFetched, FailsToFetch, IsStored, IsPartPut, FailsToStore}
 use Rattle.nbd_protocol.specs.declared.header.Header.{Header}
 use Rattle.nbd_protocol.specs.declared.header.Command.{Command}
 use Rattle.nbd_protocol.specs.declared.header.Command.TheVariants.{Read, Write, Zero, Hint, Flush, Status}
@@ -61,9 +61,19 @@ WritesBytes e w offset bytes (Err error) w' =
     ⊎ ((sectors : List ℕ) × (mid : World) × IsFramed e w offset bytes sectors mid × FailsToStore mid e.device (offset / 512) sectors error w')
 
 -- a write of no bytes does nothing
+abbrev pub WritesPayload : ExportRecord → World → ℕ → List ℕ → RequestOutcome → World → Type 0
+WritesPayload e w offset [] outcome w' = Stays w outcome w'
+WritesPayload e w offset (byte ∷ more) outcome w' = WritesBytes e w offset (byte ∷ more) outcome w'
+
+-- there was no memory for a run of them, and those before it were put
+abbrev pub WritesPart : ExportRecord → World → ℕ → List ℕ → RequestOutcome → World → Type 0
+WritesPart e w offset bytes outcome w' =
+    (outcome ≡ Err NoMemory) × (sectors : List ℕ) × (mid : World) × IsFramed e w offset bytes sectors mid × IsPartPut mid e.device (offset / 512) sectors w'
+
+-- the same of bytes that are put run by run
 abbrev pub WritesSome : ExportRecord → World → ℕ → List ℕ → RequestOutcome → World → Type 0
 WritesSome e w offset [] outcome w' = Stays w outcome w'
-WritesSome e w offset (byte ∷ more) outcome w' = WritesBytes e w offset (byte ∷ more) outcome w'
+WritesSome e w offset (byte ∷ more) outcome w' = WritesBytes e w offset (byte ∷ more) outcome w' ⊎ WritesPart e w offset (byte ∷ more) outcome w'
 
 -- ---- flushes
 
@@ -78,22 +88,47 @@ Settles false Does outcome w' = Does outcome w'
 Settles true Does (Ok content) w' = (mid : World) × Does (Ok []) mid × Flushes mid (Ok content) w'
 Settles true Does (Err error) w' = Does (Err error) w' ⊎ ((mid : World) × Does (Ok []) mid × Flushes mid (Err error) w')
 
+-- ---- block status
+
+-- Of some bytes the first ones, at most 256 KiB, were read with that outcome: they lie on verity lines that ignore blocks
+-- of zeros.
+pub record ReadsIgnoring (e : ExportRecord) (w : World) (offset count size : ℕ) (outcome : RequestOutcome) (w' : World) : Type 0 where
+  pub few : size ≤ count
+  pub small : size ≤ 262144
+  pub ignoring : TouchIgnoring w.stack.config e offset size
+  pub reads : ReadsBytes e w offset size outcome w'
+
+-- their status is told: zeros are those that were read so, and all are data where they couldn't be read
+pub record ReadsStatus (e : ExportRecord) (w : World) (offset count : ℕ) (one : Bool) (told : List ℕ) (w' : World) : Type 0 where
+  pub size : ℕ
+  pub outcome : RequestOutcome
+  pub reads : ReadsIgnoring e w offset count size outcome w'
+  pub status : HasStatus (AreReadAsZeros offset outcome) offset size one told
+
+-- the status of bytes is told: of their lines alone, and then nothing is read, or of those that were read
+abbrev pub TellsExtents : ExportRecord → World → ℕ → ℕ → Bool → List ℕ → World → Type 0
+TellsExtents e w offset count one told w' = (HasStatus (TouchZeros w.stack.config e) offset count one told × (w' ≡ w)) ⊎ ReadsStatus e w offset count one told w'
+
+-- nothing was read, or such bytes were
+abbrev pub StaysOrReads : ExportRecord → World → ℕ → ℕ → World → Type 0
+StaysOrReads e w offset count w' = (w' ≡ w) ⊎ ((size : ℕ) × (outcome : RequestOutcome) × ReadsIgnoring e w offset count size outcome w')
+
+-- the status of bytes is told, or memory ran out
+abbrev pub TellsStatus : ExportRecord → World → ℕ → ℕ → Bool → RequestOutcome → World → Type 0
+TellsStatus e w offset count one (Ok told) w' = TellsExtents e w offset count one told w'
+TellsStatus e w offset count one (Err error) w' = (error ≡ NoMemory) × StaysOrReads e w offset count w'
+
 -- ---- requests
 
 -- this outcome, and nothing happened
 abbrev pub Refuses : World → RequestError → RequestOutcome → World → Type 0
 Refuses w error outcome w' = (outcome ≡ Err error) × (w' ≡ w)
 
--- a write of bytes that follow the request, for which memory may run out
+-- a write of bytes that follow the request; where there is no memory for them nothing is done
 abbrev pub WritesGiven : ExportRecord → World → ℕ → List ℕ → RequestOutcome → World → Type 0
-WritesGiven e w offset bytes outcome w' = Refuses w NoMemory outcome w' ⊎ WritesSome e w offset bytes outcome w'
+WritesGiven e w offset bytes outcome w' = Refuses w NoMemory outcome w' ⊎ WritesPayload e w offset bytes outcome w'
 
--- the status of bytes is told, of which nothing is read, or memory ran out
-abbrev pub TellsStatus : ExportRecord → World → ℕ → ℕ → Bool → RequestOutcome → World → Type 0
-TellsStatus e w offset length one (Ok content) w' = HasStatus w.stack.config e offset length one content × (w' ≡ w)
-TellsStatus e w offset length one (Err error) w' = (error ≡ NoMemory) × (w' ≡ w)
-
--- How a request ends that asks for this, or has that fault. WRITE_ZEROES is a write of as many zeros.
+-- How a request ends that asks for this, or has that fault. WRITE_ZEROES is a write of as many zeros, run by run.
 abbrev pub ServesCommand : ExportRecord → World → Result Command RequestError → List ℕ → RequestOutcome → World → Type 0
 ServesCommand e w (Err error) payload outcome w' = Refuses w error outcome w'
 ServesCommand e w (Ok (Read offset length)) payload outcome w' = ReadsBytes e w offset length outcome w'

@@ -1,23 +1,24 @@
 //! A READ that is answered piece by piece.
-ghost use Rattle.std.specs.Prelude.{◌≡◌, ◌<◌, ◌≤◌, ◌+◌, ◌%◌, ◌^◌, ◌==◌, true, IsTrue, IfOk, IfSome, OnErr};
+ghost use Rattle.std.specs.Prelude.{◌≡◌, ◌<◌, ◌≤◌, ◌+◌, ◌*◌, ◌%◌, ◌^◌, ◌==◌, length, true, IsTrue, Err, IfErr, IfOk, IfSome, OnErr, OnOk};
 ghost use Rattle.counted_io.specs.Counted.{Writes, WritesSome};
 ghost use Rattle.nbd_protocol.specs.Exports.{export_record};
 ghost use Rattle.nbd_chunks.specs.Chunks.{hole_chunk};
 ghost use Rattle.nbd_server.specs.Content.{Tells};
-ghost use Rattle.nbd_server.specs.Premises.{AreBytesOf, IsNextPiece, IsRest};
-ghost use Rattle.nbd_server.specs.Transmission.{data_of};
+ghost use Rattle.nbd_server.specs.Premises.{AreBytesOf, IsRest, ReadsTo};
+ghost use Rattle.nbd_server.specs.Status.{touched};
+ghost use Rattle.nbd_server.specs.Transmission.{ReadsBytes};
 ghost use Rattle.nbd_server.specs.Delivery.{AnswersPiece, IsDelivered, IsPiece, IsStuck, ReadsPiece, delivery_of, has_df, most_piece};
 
-use crate::byte_range::{read_bytes, touched};
+use crate::byte_range::touched;
 use crate::content::say_content;
-use crate::reply::Data;
+use crate::fetch::read_into;
+use crate::room::Room;
 use crate::status::status_at;
 use block_device::BlockDev;
 use counted_io::{Counted, WriteFault};
 use nbd_chunks::{say_error_at, say_hole};
 use nbd_protocol::{Agreement, Command, Export, Header, RequestError};
 use request_queue::Queue;
-use std::alloc::Global;
 use std::io::Write;
 
 // A piece ends where a multiple of so many bytes does.
@@ -110,16 +111,17 @@ fn say_piece<W: Write>(
     writer: &mut Counted<W>,
     delivery: Delivery,
     progress: Progress,
-    content: &Data,
+    content: &[u8],
 ) -> Result<(), WriteFault>
-    requires { IsNextPiece delivery progress content.now }
+    requires rest { IsRest delivery progress }
+    requires piece { IsPiece delivery progress (length content.now) }
     ensures { WritesSome W.contents writer.old writer.new
-        (Tells delivery.cookie (progress.done + content.now.length == delivery.count) (delivery.offset + progress.done) (data_of content.now)) result }
+        (Tells delivery.cookie (progress.done + length content.now == delivery.count) (delivery.offset + progress.done) content.now) result }
 {
-    let done = progress.done + content.length as u32;
+    let done = progress.done + content.len() as u32;
     let at = delivery.at(progress);
     let last = done == delivery.count;
-    say_content(writer, last, delivery.cookie, at, content.part())?;
+    say_content(writer, last, delivery.cookie, at, content)?;
     writer.flush()
 }
 
@@ -141,9 +143,49 @@ fn say_zeros<W: Write>(
     writer.flush()
 }
 
+// Reads the sectors that some bytes touch to the beginning of a buffer.
+fn read_to<D: BlockDev>(
+    queue: &mut Queue<D>,
+    export: &Export<'_>,
+    at: u64,
+    size: u32,
+    out: &mut [u8],
+) -> Result<(), RequestError>
+    requires bytes { AreBytesOf queue.old.stack.config (export_record export.now) at size }
+    requires room { 512 * touched at size ≤ length out.old }
+    ensures ok { OnOk result (ReadsTo (export_record export.now) queue.old at size out.new queue.new) }
+    ensures err { IfErr result (λ error. ReadsBytes (export_record export.now) queue.old at size (Err error) queue.new) }
+{
+    let count = touched(at, size);
+    read_into(
+        queue,
+        export,
+        at / 512,
+        count as u64,
+        &mut out[..512 * count],
+    )
+}
+
+// The same to the beginning of a buffer that grows where it is too short.
+fn read_piece<D: BlockDev>(
+    room: &mut Room,
+    queue: &mut Queue<D>,
+    export: &Export<'_>,
+    at: u64,
+    size: u32,
+) -> Result<(), RequestError>
+    requires { AreBytesOf queue.old.stack.config (export_record export.now) at size }
+    ensures ok { OnOk result (ReadsTo (export_record export.now) queue.old at size room.new.bytes.items queue.new) }
+    ensures inside { OnOk result (at % 512 + size ≤ length room.new.bytes.items) }
+    ensures err { IfErr result (λ error. ReadsBytes (export_record export.now) queue.old at size (Err error) queue.new) }
+{
+    room.grow(512 * touched(at, size))?;
+    read_to(queue, export, at, size, room.bytes.as_mut_slice())
+}
+
 // Reads a piece, and answers it. `None`: it lies in a sector that can't be read, and the reply has ended.
 fn deliver_piece<D: BlockDev, W: Write>(
-    alloc: Global,
+    room: &mut Room,
     queue: &mut Queue<D>,
     export: &Export<'_>,
     delivery: Delivery,
@@ -159,9 +201,10 @@ fn deliver_piece<D: BlockDev, W: Write>(
 {
     let size = delivery.piece_len(progress);
     let at = delivery.at(progress);
-    match read_bytes(alloc, queue, export, at, size) {
-        Ok(data) => {
-            say_piece(writer, delivery, progress, &data)?;
+    match read_piece(room, queue, export, at, size) {
+        Ok(()) => {
+            let content = room.part((at % SECTOR) as usize, size as usize);
+            say_piece(writer, delivery, progress, content)?;
             Ok(Some(Progress {
                 done: progress.done + size,
                 slow: progress.slow,
@@ -182,7 +225,7 @@ fn deliver_piece<D: BlockDev, W: Write>(
 
 // Answers the next piece: its beginning unread, where the lines alone make that zeros.
 fn deliver_next<D: BlockDev, W: Write>(
-    alloc: Global,
+    room: &mut Room,
     queue: &mut Queue<D>,
     export: &Export<'_>,
     delivery: Delivery,
@@ -206,15 +249,15 @@ fn deliver_next<D: BlockDev, W: Write>(
             slow: progress.slow,
         }));
     }
-    deliver_piece(alloc, queue, export, delivery, progress, writer)
+    deliver_piece(room, queue, export, delivery, progress, writer)
 }
 
 /// Answers a READ piece by piece, each as soon as it is read, up to the first sector that can't be read.
 ///
 /// A piece that fails is read again sector by sector. Zeros are told as holes; those of `zero` lines with which a piece
-/// begins aren't read.
+/// begins aren't read. The buffer is kept, and as long as the longest piece so far.
 pub(crate) fn deliver<D: BlockDev, W: Write>(
-    alloc: Global,
+    room: &mut Room,
     queue: &mut Queue<D>,
     export: &Export<'_>,
     delivery: Delivery,
@@ -226,7 +269,7 @@ pub(crate) fn deliver<D: BlockDev, W: Write>(
 {
     let mut progress = Progress { done: 0, slow: 0 };
     'pieces: while progress.done < delivery.count {
-        match deliver_next(alloc, queue, export, delivery, progress, writer)? {
+        match deliver_next(room, queue, export, delivery, progress, writer)? {
             Some(next) => progress = next,
             None => return Ok(()),
         }

@@ -9,8 +9,8 @@ use nbd_protocol::{Export, RequestError, zeros};
 use request_queue::{BytesFault, Queue};
 use std::alloc::Global;
 
-// Reads the sectors from `first` on into a buffer that they fill.
-fn read_into<D: BlockDev>(
+/// Reads the sectors from `first` on into a buffer that they fill.
+pub(crate) fn read_into<D: BlockDev>(
     queue: &mut Queue<D>,
     export: &Export<'_>,
     first: u64,

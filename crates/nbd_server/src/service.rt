@@ -8,6 +8,7 @@ ghost use Rattle.nbd_protocol.specs.Streaming.{HasRead, HasWritten, fault_of};
 ghost use Rattle.nbd_protocol.specs.declared.phase.Phase.TheVariants.{Over};
 
 use crate::haggling::{take_flags, take_option};
+use crate::room::Room;
 use crate::transmission::take_request;
 use block_device::SyncDev;
 use counted_io::Counted;
@@ -20,7 +21,7 @@ const GREETING: [u8; 18] = *b"NBDMAGICIHAVEOPT\0\x03";
 
 // Takes one message, and replies to it.
 fn take_message<D: SyncDev, R: Read, W: Write>(
-    alloc: Global,
+    room: &mut Room,
     queue: &mut Queue<D>,
     exports: &[Export<'_>],
     phase: Phase,
@@ -38,7 +39,7 @@ fn take_message<D: SyncDev, R: Read, W: Write>(
         Phase::Haggling { terms } => take_option(exports, terms, reader, writer),
         Phase::Serving { agreed } => {
             let export = export_at(exports, agreed.place);
-            take_request(alloc, queue, export, agreed, reader, writer)
+            take_request(room, queue, export, agreed, reader, writer)
         }
         Phase::Over => unreachable!(),
     }
@@ -61,12 +62,13 @@ pub fn serve<D: SyncDev, R: Read, W: Write>(
     ensures writer { HasWritten writer.old writer.new (fault_of result) }
 {
     writer.put(&GREETING)?;
+    let mut room = Room::new(alloc);
     let mut phase = Phase::Greeted;
     for _turn in 0..u64::MAX {
         writer.flush()?;
         match phase {
             Phase::Over => return Ok(()),
-            _ => match take_message(alloc, queue, exports, phase, reader, writer)? {
+            _ => match take_message(&mut room, queue, exports, phase, reader, writer)? {
                 Some(next) => phase = next,
                 None => return Ok(()),
             },

@@ -1,26 +1,27 @@
-//! Block status: which bytes of the export are zeros because of its lines.
-ghost use Rattle.std.specs.Prelude.{◌≡◌, ◌<◌, ◌≤◌, ◌++◌, length, IfOk, OnOk};
+//! Block status: which bytes of the export are zeros because of its lines, and which may be ignored.
+ghost use Rattle.std.specs.Prelude.{◌≡◌, ◌<◌, ◌≤◌, ◌++◌, length, IfOk, IsTrue, OnOk};
 ghost use Rattle.nbd_protocol.specs.Exports.{export_record};
 ghost use Rattle.nbd_protocol.specs.Numbers.{bytes32};
 ghost use Rattle.stack_rules.specs.Rules.{IsLoaded};
+ghost use Rattle.stack_extents.specs.declared.extent.ExtentKind.TheVariants as known;
 ghost use Rattle.nbd_server.specs.Premises.{AreBytesOf};
-ghost use Rattle.nbd_server.specs.Status.{HasStatus, IsStatus, descriptor, status_flags};
+ghost use Rattle.nbd_server.specs.Status.{HasStatus, IsByteExtent, IsStatus, TouchZeros, descriptor, status_flags};
 
 use crate::byte_range::touched;
 use nbd_protocol::Export;
 use stack_config::Config;
-use stack_extents::extent_at;
+use stack_extents::{ExtentKind, extent_at};
 use std::alloc::{AllocError, Global};
 
-// The most extents of one reply.
-const MOST_EXTENTS: usize = 1024;
+/// The most extents of one reply.
+pub(crate) const MOST_EXTENTS: usize = 1024;
 
 // The flags of an extent.
 const HOLE: u32 = 1;
 
 const ZERO: u32 = 2;
 
-/// So many bytes, all of which are zeros because of the lines, or not known to be.
+/// So many bytes, all of which are zeros, or not known to be.
 #[derive(Clone, Copy, Debug, PartialEq, Eq)]
 pub(crate) struct BlockStatus {
     pub(crate) count: u32,
@@ -35,20 +36,54 @@ impl BlockStatus {
     }
 }
 
-/// The status of bytes from a place on, of so many at most.
-pub(crate) fn status_at(config: &Config, export: &Export<'_>, at: u64, left: u32) -> BlockStatus
+/// So many bytes, and what is known of all of them while nothing is read.
+#[derive(Clone, Copy, Debug, PartialEq, Eq)]
+pub(crate) struct ByteExtent {
+    pub(crate) count: u32,
+    pub(crate) kind: ExtentKind,
+}
+
+impl ByteExtent {
+    // What is told of them: zeros are those of the lines alone.
+    fn status(self) -> BlockStatus
+        ensures count { result.count ≡ self.count }
+        ensures zeros { IsTrue result.zeros → self.kind ≡ known.Zeros }
+    {
+        let zeros = match self.kind {
+            ExtentKind::Zeros => true,
+            ExtentKind::IgnoresZeros | ExtentKind::Unknown => false,
+        };
+        BlockStatus {
+            count: self.count,
+            zeros,
+        }
+    }
+}
+
+/// What is known of bytes from a place on, of so many at most.
+pub(crate) fn bytes_at(config: &Config, export: &Export<'_>, at: u64, left: u32) -> ByteExtent
     requires loaded { IsLoaded config.now }
     requires bytes { AreBytesOf config.now (export_record export.now) at left }
     requires some { 0 < left }
-    ensures { IsStatus config.now (export_record export.now) at left result }
+    ensures { IsByteExtent config.now (export_record export.now) at left result }
 {
     let sectors = touched(at, left) as u64;
     let extent = extent_at(config, export.device, at / 512, sectors);
     let count = (512 * extent.count - at % 512).min(u64::from(left));
-    BlockStatus {
+    ByteExtent {
         count: count as u32,
-        zeros: extent.zeros,
+        kind: extent.kind,
     }
+}
+
+/// The status of bytes from a place on, of so many at most, of which nothing is read.
+pub(crate) fn status_at(config: &Config, export: &Export<'_>, at: u64, left: u32) -> BlockStatus
+    requires loaded { IsLoaded config.now }
+    requires bytes { AreBytesOf config.now (export_record export.now) at left }
+    requires some { 0 < left }
+    ensures { IsStatus (TouchZeros config.now (export_record export.now)) at left result }
+{
+    bytes_at(config, export, at, left).status()
 }
 
 // A number in network byte order.
@@ -59,16 +94,16 @@ fn bytes_of(number: u32) -> [u8; 4]
     number.to_be_bytes()
 }
 
-// Adds what is told of an extent.
-fn push_status(told: &mut Vec<u8>, status: BlockStatus) -> Result<(), AllocError>
+/// Adds what is told of an extent.
+pub(crate) fn push_status(told: &mut Vec<u8>, status: BlockStatus) -> Result<(), AllocError>
     ensures { OnOk result (told.new.items ≡ told.old.items ++ descriptor status) }
 {
     told.extend_from_slice(&bytes_of(status.count))?;
     told.extend_from_slice(&bytes_of(status.flags()))
 }
 
-// What is told of the first extent.
-fn first_status(alloc: Global, status: BlockStatus) -> Result<Vec<u8>, AllocError>
+/// What is told of the first extent.
+pub(crate) fn first_status(alloc: Global, status: BlockStatus) -> Result<Vec<u8>, AllocError>
     ensures { IfOk result (λ told. told.items ≡ descriptor status) }
 {
     let mut told = Vec::new(alloc);
@@ -76,7 +111,9 @@ fn first_status(alloc: Global, status: BlockStatus) -> Result<Vec<u8>, AllocErro
     Ok(told)
 }
 
-/// What is told of some bytes: extent by extent, of the first alone if only `one` is asked for.
+/// What is told of some bytes, of which nothing is read: extent by extent, of the first alone if only `one` is asked for.
+///
+/// Those behind the first end before `verity` lines that ignore blocks of zeros.
 pub(crate) fn status_of(
     alloc: Global,
     config: &Config,
@@ -88,7 +125,7 @@ pub(crate) fn status_of(
     requires loaded { IsLoaded config.now }
     requires bytes { AreBytesOf config.now (export_record export.now) offset len }
     requires some { 0 < len }
-    ensures { IfOk result (λ told. HasStatus config.now (export_record export.now) offset len one told.items) }
+    ensures { IfOk result (λ told. HasStatus (TouchZeros config.now (export_record export.now)) offset len one told.items) }
 {
     let first = status_at(config, export, offset, len);
     let mut told = first_status(alloc, first)?;
@@ -100,7 +137,11 @@ pub(crate) fn status_of(
         if done == len {
             return Ok(told);
         }
-        let status = status_at(config, export, offset + u64::from(done), len - done);
+        let extent = bytes_at(config, export, offset + u64::from(done), len - done);
+        if extent.kind == ExtentKind::IgnoresZeros {
+            return Ok(told);
+        }
+        let status = extent.status();
         push_status(&mut told, status)?;
         done += status.count;
     }

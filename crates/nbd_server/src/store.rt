@@ -1,6 +1,6 @@
 //! Puts sectors of the export.
-ghost use Rattle.std.specs.Prelude.{◌≡◌, ◌≤◌, ◌+◌, ◌/◌, ◌%◌, ◌^◌, length, IfErr, OnOk};
-ghost use Rattle.nbd_server.specs.Sectors.{FailsToStore, IsStored};
+ghost use Rattle.std.specs.Prelude.{◌≡◌, ◌<◌, ◌≤◌, ◌+◌, ◌/◌, ◌%◌, ◌^◌, length, IfErr, OnOk};
+ghost use Rattle.nbd_server.specs.Sectors.{FailsToStore, FailsToZero, IsStored};
 ghost use Rattle.nbd_protocol.specs.Exports.{IsExport, export_record};
 ghost use Rattle.nbd_server.specs.Premises.{AreSectors, HaveEnds};
 ghost use Rattle.nbd_server.specs.Zeros.{zeros_of};
@@ -43,9 +43,10 @@ fn zero_run<D: BlockDev>(
 ) -> Result<(), RequestError>
     requires export { IsExport queue.old.stack.config (export_record export.now) }
     requires ends { HaveEnds zeros.now }
+    requires some { 0 < zeros.now.count }
     requires sectors { AreSectors (export_record export.now) first (zeros_of zeros.now) }
     ensures ok { OnOk result (IsStored queue.old export.now.device.0 first (zeros_of zeros.now) queue.new) }
-    ensures err { IfErr result (λ error. FailsToStore queue.old export.now.device.0 first (zeros_of zeros.now) error queue.new) }
+    ensures err { IfErr result (λ error. FailsToZero queue.old export.now.device.0 first (zeros_of zeros.now) error queue.new) }
 {
     let bytes = zeros.bytes(alloc)?;
     store(queue, export, first, bytes.as_slice())
@@ -61,9 +62,10 @@ pub(crate) fn store_zeros<D: BlockDev>(
 ) -> Result<(), RequestError>
     requires export { IsExport queue.old.stack.config (export_record export.now) }
     requires ends { HaveEnds zeros.now }
+    requires some { 0 < zeros.now.count }
     requires sectors { AreSectors (export_record export.now) first (zeros_of zeros.now) }
     ensures ok { OnOk result (IsStored queue.old export.now.device.0 first (zeros_of zeros.now) queue.new) }
-    ensures err { IfErr result (λ error. FailsToStore queue.old export.now.device.0 first (zeros_of zeros.now) error queue.new) }
+    ensures err { IfErr result (λ error. FailsToZero queue.old export.now.device.0 first (zeros_of zeros.now) error queue.new) }
 {
     let mut at = first;
     let mut rest = *zeros;

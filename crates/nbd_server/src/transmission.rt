@@ -1,5 +1,5 @@
 //! The requests of the transmission phase.
-ghost use Rattle.std.specs.Prelude.{◌≡◌, ◌<◌, ◌≤◌, ◌+◌, ◌^◌, ℕ, List, [], length, replicate, Ok, IfOk, IfErr, IsTrue};
+ghost use Rattle.std.specs.Prelude.{◌≡◌, ◌<◌, ◌≤◌, ◌+◌, ◌^◌, ℕ, List, [], length, replicate, Ok, IfOk, IfErr, IsTrue, OnErr};
 ghost use Rattle.std.specs.Io.KnownBytes.{Consumes};
 ghost use Rattle.counted_io.specs.Streams.{streams};
 ghost use Rattle.nbd_protocol.specs.Exports.{ExportRecord, IsExport, export_at, export_record};
@@ -7,13 +7,15 @@ ghost use Rattle.nbd_protocol.specs.Headers.{IsWithin, most_length, payload_len}
 ghost use Rattle.nbd_server.specs.Premises.{AreBytesOf, IsBare};
 ghost use Rattle.nbd_server.specs.Service.{Turns};
 ghost use Rattle.nbd_protocol.specs.Streaming.{HasRead, HasWritten, IsShort, fault_of};
-ghost use Rattle.nbd_server.specs.Transmission.{Flushes, IsSendable, IsServed, ReadsBytes, ServesCommand, Settles, Stays, TellsStatus, WritesGiven, WritesSome, outcome_of, written};
+ghost use Rattle.nbd_server.specs.Transmission.{Flushes, IsSendable, IsServed, ReadsBytes, ServesCommand, Settles, Stays, StaysOrReads, TellsExtents, TellsStatus, WritesGiven, WritesSome, outcome_of, written};
 ghost use Rattle.nbd_protocol.specs.declared.phase.Phase.TheVariants.{Serving};
 
 use crate::byte_range::{read_bytes, touched, write_bytes, write_zeros};
 use crate::delivery::{Delivery, deliver};
+use crate::read_status::read_status;
 use crate::reply::{Data, say_reply};
-use crate::status::status_of;
+use crate::room::Room;
+use crate::status::{bytes_at, status_of};
 use block_device::{BlockDev, SyncDev};
 use counted_io::Counted;
 use nbd_protocol::{
@@ -21,7 +23,8 @@ use nbd_protocol::{
     number32, skip, take_sectors,
 };
 use request_queue::Queue;
-use std::alloc::Global;
+use stack_extents::ExtentKind;
+use std::alloc::{AllocError, Global};
 use std::io::{Read, Write};
 
 const MAGIC: u32 = 0x2560_9513;
@@ -109,23 +112,46 @@ fn zero<D: SyncDev>(
     settle(alloc, queue, fua)
 }
 
-// Tells the status of bytes.
-fn tell_status<D: SyncDev>(
+// What is told of extents, of the first alone if only `one` is asked for. Where the bytes begin on `verity` lines that ignore
+// blocks of zeros, the first of them are read.
+fn told_of<D: BlockDev>(
     alloc: Global,
-    queue: &Queue<D>,
+    queue: &mut Queue<D>,
+    export: &Export<'_>,
+    offset: u64,
+    len: u32,
+    one: bool,
+) -> Result<Vec<u8>, AllocError>
+    requires bytes { AreBytesOf queue.old.stack.config (export_record export.now) offset len }
+    requires some { 0 < len }
+    ensures ok { IfOk result (λ told. TellsExtents (export_record export.now) queue.old offset len one told.items queue.new) }
+    ensures err { OnErr result (StaysOrReads (export_record export.now) queue.old offset len queue.new) }
+{
+    let extent = bytes_at(queue.stack().config(), export, offset, len);
+    match extent.kind {
+        ExtentKind::IgnoresZeros => read_status(alloc, queue, export, offset, extent.count, one),
+        _ => status_of(alloc, queue.stack().config(), export, offset, len, one),
+    }
+}
+
+// Tells the status of bytes.
+fn tell_status<D: BlockDev>(
+    alloc: Global,
+    queue: &mut Queue<D>,
     export: &Export<'_>,
     offset: u64,
     len: u32,
     one: bool,
 ) -> Result<Data, RequestError>
-    requires bytes { AreBytesOf queue.now.stack.config (export_record export.now) offset len }
+    requires bytes { AreBytesOf queue.old.stack.config (export_record export.now) offset len }
     requires some { 0 < len }
-    ensures value { TellsStatus (export_record export.now) queue.now offset len one (outcome_of result) queue.now }
+    ensures value { TellsStatus (export_record export.now) queue.old offset len one (outcome_of result) queue.new }
     ensures inside { IsSendable result }
 {
-    let config = queue.stack().config();
-    let told = status_of(alloc, config, export, offset, len, one)?;
-    Ok(Data::all(told))
+    match told_of(alloc, queue, export, offset, len, one) {
+        Ok(told) => Ok(Data::all(told)),
+        Err(_none) => Err(RequestError::NoMemory),
+    }
 }
 
 // Serves a command that no bytes follow.
@@ -198,7 +224,7 @@ fn serve_request<D: SyncDev, R: Read>(
 
 /// Takes a request, and replies to it.
 pub(crate) fn take_request<D: SyncDev, R: Read, W: Write>(
-    alloc: Global,
+    room: &mut Room,
     queue: &mut Queue<D>,
     export: &Export<'_>,
     agreed: Agreement,
@@ -224,12 +250,12 @@ pub(crate) fn take_request<D: SyncDev, R: Read, W: Write>(
     }
     match Delivery::of(export, agreed, header) {
         Some(delivery) => {
-            deliver(alloc, queue, export, delivery, writer)?;
+            deliver(room, queue, export, delivery, writer)?;
             return Ok(Some(Phase::Serving { agreed }));
         }
         None => {}
     }
-    let outcome = serve_request(alloc, queue, export, agreed, header, reader)?;
+    let outcome = serve_request(room.alloc, queue, export, agreed, header, reader)?;
     say_reply(writer, agreed, header, outcome)?;
     Ok(Some(Phase::Serving { agreed }))
 }

@@ -4,6 +4,8 @@
 #[cfg(test)]
 mod damages;
 #[cfg(test)]
+mod losing;
+#[cfg(test)]
 mod parity;
 #[cfg(test)]
 mod remaking;
@@ -11,3 +13,5 @@ mod remaking;
 mod repairing;
 #[cfg(test)]
 mod restoring;
+#[cfg(test)]
+mod unreadable;

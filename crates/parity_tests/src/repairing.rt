@@ -3,8 +3,8 @@ ghost use Rattle.std.specs.Prelude.{◌≤◌, ◌^◌};
 ghost use Rattle.fec_area.specs.Layouts.{IsLayout};
 
 use crate::damages::{DAMAGES, Damage};
+use crate::losing::{overwrite, place_of, spoil};
 use crate::parity::{CASES, Protected, protect};
-use crate::restoring::{overwrite, place_of, spoil};
 use block_device::{BlockDev, MemoryDev};
 use counted_io::Counted;
 use fec_area::Layout;

@@ -1,7 +1,8 @@
 //! Blocks brought back by the parity that is veritysetup's.
+use crate::losing::{block_of, lose, spoil};
 use crate::parity::{CASES, Protected, protect};
 use block_device::MemoryDev;
-use fec_area::{Layout, RestoreFault, restore_block};
+use fec_area::{RestoreFault, restore_block};
 use std::alloc::Global;
 use std::process::Abort;
 use std::test::Fail;
@@ -197,36 +198,6 @@ static LOSSES: [Loss; 18] = [
     },
 ];
 
-/// Where a covered block stands: on the hash device or not, and from which byte on.
-pub(crate) fn place_of(layout: &Layout, index: u64) -> (bool, usize) {
-    let size = layout.block as usize;
-    let data_blocks = layout.data_blocks;
-    if index < data_blocks {
-        return (false, (index as usize).saturating_mul(size));
-    }
-    let behind = index.saturating_sub(data_blocks);
-    let number = layout.hash_first.saturating_add(behind);
-    (true, (number as usize).saturating_mul(size))
-}
-
-/// Fills a block with bytes that it hadn't before.
-pub(crate) fn overwrite(bytes: &mut [u8], first: usize, size: usize) -> Result<(), Fail> {
-    let end = first.saturating_add(size);
-    let block = bytes.get_mut(first..end).ok_or("no block")?;
-    for byte in block.iter_mut() {
-        *byte ^= 0x5a;
-    }
-    Ok(())
-}
-
-/// Overwrites bytes of parity.
-pub(crate) fn spoil(parity: &mut [u8], places: &[usize]) -> Result<(), Fail> {
-    for place in places {
-        overwrite(parity, *place, 1)?;
-    }
-    Ok(())
-}
-
 /// Overwrites what is lost, and brings the first of it back.
 fn loses<R: Abort>(rt: &R, alloc: Global, loss: &Loss) -> Result<(), Fail> {
     let case = CASES.get(loss.case).ok_or("no case")?;
@@ -241,25 +212,13 @@ fn loses<R: Abort>(rt: &R, alloc: Global, loss: &Loss) -> Result<(), Fail> {
     let mut hash_bytes = hash.into_bytes();
     let mut parity_bytes = parity.into_bytes();
     let sought = *loss.lost.first().ok_or("nothing is lost")?;
-    let size = layout.block as usize;
-    let (in_tree, first) = place_of(&layout, sought);
-    let image = if in_tree { &hash_bytes } else { &data_bytes };
-    let end = first.saturating_add(size);
-    let mut before = Vec::new(alloc);
-    before.extend_from_slice(image.get(first..end).ok_or("no block")?)?;
-    for index in loss.lost {
-        let (in_tree, first) = place_of(&layout, *index);
-        if in_tree {
-            overwrite(&mut hash_bytes, first, size)?;
-        } else {
-            overwrite(&mut data_bytes, first, size)?;
-        }
-    }
+    let before = block_of(alloc, &layout, sought, &data_bytes, &hash_bytes)?;
+    lose(&layout, loss.lost, &mut data_bytes, &mut hash_bytes)?;
     spoil(&mut parity_bytes, loss.spoiled)?;
     let mut data = MemoryDev::new(data_bytes, false);
     let mut hash = MemoryDev::new(hash_bytes, false);
     let mut parity = MemoryDev::new(parity_bytes, false);
-    let mut block = vec![in alloc; 0u8; size]?;
+    let mut block = vec![in alloc; 0u8; layout.block as usize]?;
     assert!(rt; layout.is_laid_on(&data, &hash));
     assert!(rt; sought < layout.covered_blocks());
     let done = restore_block(

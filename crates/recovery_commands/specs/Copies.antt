@@ -3,7 +3,7 @@ use Rattle.std.specs.Prelude.{◌≡◌, ◌⊎◌, ℕ, ◌<◌, Bool, true, fa
 use Rattle.block_device.specs.Device.{Device, synced}
 use Rattle.differing_device.specs.Differing.{differing}
 use Rattle.image_files.specs.declared.images.OpenImage.{OpenImage}
-use Rattle.image_files.specs.Opener.{Calls}
+use Rattle.image_files.specs.Opener.{Calls, Opener, calls}
 use Rattle.stack_rules.specs.Names.{mapped, size}
 use Rattle.stack_engine.specs.Stacks.{StackRecord}
 use Rattle.stack_making.specs.declared.device.NamedDevice.{NamedDevice}
@@ -121,3 +121,9 @@ pub record LosesInCopy {S D : Type 0} (w : Calls S D) (words : CopyWords) (old n
 abbrev pub IsCopyEnd : {S D : Type 0} → Calls S D → CopyWords → Option (List ℕ) → Option (List ℕ) → Bool → RecoveringFault → Type 0
 IsCopyEnd w words old new failed fault =
     ((new ≡ old) × IsUncopied w words.words words.out fault) ⊎ (FailsToCopy w words old new failed fault ⊎ LosesInCopy w words old new failed fault)
+
+-- ---- the same by the opener, before and after its calls, and by the words of the program
+
+-- there is no such device, or no image with room for it
+abbrev pub FailsTo : {S D : Type 0} → Opener S D → (D → Device) → S → S → StackFile → NamedDevice → List ℕ → RecoveringFault → Type 0
+FailsTo relations state old new file device out = IsUncopied (calls relations state old new) (words_for file device) out

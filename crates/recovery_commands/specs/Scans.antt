@@ -1,15 +1,19 @@
 -- Which sectors of a device are lost, and how the going over ends early.
-use Rattle.std.specs.Prelude.{◌≡◌, ◌⊎◌, ℕ, Bool, IsTrue, List, [], Option, Some}
+use Rattle.std.specs.Global.{Global}
+use Rattle.std.specs.Prelude.{◌≡◌, ◌⊎◌, ℕ, Bool, IsTrue, List, [], Option, Some, Vec}
 use Rattle.block_device.specs.Device.{Device}
-use Rattle.image_files.specs.Opener.{Calls}
-use Rattle.stack_making.specs.NamedDevices.{DeviceWords, FailsToFindDevice, Finds, Place}
+use Rattle.image_files.specs.Opener.{Calls, Opener, calls}
+use Rattle.stack_making.specs.NamedDevices.{DeviceWords, FailsToFindDevice, Finds, Place, words_for}
+use Rattle.stack_making.specs.declared.device.NamedDevice.{NamedDevice}
 use Rattle.stack_recovery.specs.declared.listing.KeptRuns.{KeptRuns}
+use Rattle.stack_recovery.specs.declared.lost_run.LostRun.{LostRun}
 use Rattle.stack_recovery.specs.declared.recovery.Counts.{Counts}
 use Rattle.stack_recovery.specs.Recoveries.{Recovers, Sides, sides}
 use Rattle.stack_recovery.specs.Texts.{runs_text}
 use Rattle.recovery_commands.specs.declared.fault.RecoveringFault.{RecoveringFault}
 use Rattle.recovery_commands.specs.declared.fault.RecoveringFault.TheVariants.{NoMemory, Write}
 use Rattle.recovery_commands.specs.Recovering.{IsCountsEnd, IsRecoverEnd, IsStackless, TellsCounts}
+use Rattle.stack_opening.specs.declared.stack_file.StackFile.{StackFile}
 
 -- A device was gone over: a line was told for each longest lost run.
 pub record Scans {S D : Type 0} (w : Calls S D) (words : DeviceWords) (old : Option (List ℕ)) (counts : Counts) (printed : Option (List ℕ)) : Type 0 where
@@ -77,3 +81,14 @@ pub record CutsScan {S D : Type 0} (w : Calls S D) (words : DeviceWords) (fault 
 
 abbrev pub IsLostEnd : {S D : Type 0} → Calls S D → DeviceWords → RecoveringFault → Type 0
 IsLostEnd w words fault = IsStackless (FailsToFindDevice w words) fault ⊎ CutsScan w words fault
+
+-- ---- the same by the opener, before and after its calls, and by the words of the program
+
+-- the lost runs of a device, and how many sectors were had and lost
+abbrev pub FindsLost : {S D : Type 0} → Opener S D → (D → Device) → S → S → StackFile → NamedDevice → Vec LostRun Global × Counts → Type 0
+FindsLost relations state old new file device =
+    λ found. Scans (calls relations state old new) (words_for file device) (Some []) found.1 (Some (runs_text found.0.items))
+
+-- they are not all found
+abbrev pub FailsToFindLost : {S D : Type 0} → Opener S D → (D → Device) → S → S → StackFile → NamedDevice → RecoveringFault → Type 0
+FailsToFindLost relations state old new file device = IsLostEnd (calls relations state old new) (words_for file device)

@@ -1,12 +1,9 @@
 //! The lost sectors of a device, kept in memory.
-ghost use Rattle.std.specs.Prelude.{◌≡◌, ◌≤◌, ◌<◌, [], length, Some, IfOk, IfErr};
-ghost use Rattle.image_files.specs.Opener.{calls};
+ghost use Rattle.std.specs.Prelude.{◌≡◌, ◌≤◌, ◌<◌, length, IfOk, IfErr};
 ghost use Rattle.stack_rules.specs.Names.{mapped, size};
-ghost use Rattle.stack_making.specs.NamedDevices.{words_for};
 ghost use Rattle.stack_recovery.specs.Recoveries.{RecoversBy, parties};
-ghost use Rattle.stack_recovery.specs.Texts.{runs_text};
 ghost use Rattle.recovery_commands.specs.Recovering.{EndsRecovering};
-ghost use Rattle.recovery_commands.specs.Scans.{IsLostEnd, IsUnkept, Scans, is_refused, kept_text, unkept};
+ghost use Rattle.recovery_commands.specs.Scans.{FailsToFindLost, FindsLost, IsUnkept, is_refused, kept_text, unkept};
 
 use crate::fault::RecoveringFault;
 use crate::recovering::recover_device;
@@ -28,8 +25,8 @@ pub fn find_lost<'a, I: Images, P: Progress>(
     device: NamedDevice<'_>,
     progress: &mut P,
 ) -> Result<(Vec<LostRun>, Counts), RecoveringFault<'a>>
-    ensures ok { IfOk result (λ found. Scans (calls I.relations I.Dev.state images.old images.new) (words_for file.entry device.entry) (Some []) found.1 (Some (runs_text found.0.items))) }
-    ensures err { IfErr result (IsLostEnd (calls I.relations I.Dev.state images.old images.new) (words_for file.entry device.entry)) }
+    ensures ok { IfOk result (FindsLost I.relations I.Dev.state images.old images.new file.entry device.entry) }
+    ensures err { IfErr result (FailsToFindLost I.relations I.Dev.state images.old images.new file.entry device.entry) }
 {
     let (mut stack, device) = open_device(alloc, images, file, device)?;
     let mut out = Discard::new(stack.config().sectors(device));

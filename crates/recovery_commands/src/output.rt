@@ -1,9 +1,8 @@
 //! The image to which a device is copied.
 ghost use Rattle.std.specs.Prelude.{◌≡◌, ◌≤◌, ◌<◌, length, true, IfOk, IfErr};
-ghost use Rattle.image_files.specs.Opener.{calls};
 ghost use Rattle.stack_rules.specs.Names.{mapped, size};
-ghost use Rattle.stack_making.specs.NamedDevices.{FindsOutput, place_of, words_for};
-ghost use Rattle.recovery_commands.specs.Copies.{IsUncopied};
+ghost use Rattle.stack_making.specs.NamedDevices.{FindsTo};
+ghost use Rattle.recovery_commands.specs.Copies.{FailsTo};
 
 use crate::fault::RecoveringFault;
 use block_device::BlockDev;
@@ -29,11 +28,11 @@ pub fn open_with_room<'a, I: Images>(
     device: NamedDevice<'_>,
     out: &'a str,
 ) -> Result<(Stack<I::Dev>, DevId, OpenImage<I::Dev>), RecoveringFault<'a>>
-    ensures ok { IfOk result (λ found. FindsOutput (calls I.relations I.Dev.state images.old images.new) (words_for file.entry device.entry) out.now (place_of found.0 found.1.0) found.2) }
+    ensures ok { IfOk result (FindsTo I.relations I.Dev.state images.old images.new file.entry device.entry out.now) }
     ensures there { IfOk result (λ found. found.1.0 < length found.0.config.devices) }
     ensures room { IfOk result (λ found. size found.0.config (mapped found.1.0) ≤ (I.Dev.state found.2.device).size) }
     ensures writable { IfOk result (λ found. (I.Dev.state found.2.device).may_write ≡ true) }
-    ensures err { IfErr result (IsUncopied (calls I.relations I.Dev.state images.old images.new) (words_for file.entry device.entry) out.now) }
+    ensures err { IfErr result (FailsTo I.relations I.Dev.state images.old images.new file.entry device.entry out.now) }
 {
     let (stack, device, image) = open_device_and_output(alloc, images, file, device, out)?;
     let needed = stack.config().sectors(device);

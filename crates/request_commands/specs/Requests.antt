@@ -40,3 +40,7 @@ read_request sectors = a_read sectors.name.now sectors.first sectors.count
 -- the request to put bytes where a transfer's go
 abbrev pub write_request : Transfer → List ℕ → RequestRecord
 write_request transfer bytes = a_write transfer.name.now transfer.first bytes
+
+-- a request isn't served, between these worlds
+abbrev pub FailsServing : World → RequestRecord → World → RequestFault → Type 0
+FailsServing w r w' = λ fault. FailsToServe w r fault w'

@@ -1,11 +1,14 @@
 -- What is done where a file's bytes are written to a stack file's device, and why it isn't.
 use Rattle.std.specs.Prelude.{◌⊎◌, ℕ, List, Result, Ok, Err}
+use Rattle.block_device.specs.Device.{Device}
+use Rattle.command_line.specs.declared.invocation.Transfer.{Transfer}
 use Rattle.image_files.specs.declared.images.FileText.{FileText}
-use Rattle.image_files.specs.Opener.{Calls}
+use Rattle.image_files.specs.Opener.{Calls, Opener, calls}
 use Rattle.stack_meaning.specs.declared.fault.IoFault.{IoFault}
 use Rattle.stack_engine.specs.Stacks.{StackRecord}
 use Rattle.stack_opening.specs.declared.stack_file.OpenStack.{OpenStack}
-use Rattle.stack_opening.specs.OpenStacks.{FailsToOpenSource, OpensSource, StackWords}
+use Rattle.stack_opening.specs.OpenStacks.{FailsToOpenSource, OpensSource, StackWords, stack_words}
+use Rattle.stack_opening.specs.declared.stack_file.StackFile.{StackFile}
 use Rattle.stack_making.specs.declared.fault.StackFault.{StackFault}
 use Rattle.stack_making.specs.Closings.{GivesBack, IsGivenBack}
 use Rattle.stack_making.specs.Endings.{IsOpeningEnd}
@@ -16,7 +19,7 @@ use Rattle.request_queue.specs.World.{World}
 use Rattle.request_commands.specs.declared.fault.RequestFault.{RequestFault}
 use Rattle.request_commands.specs.declared.fault.RequestFault.TheVariants.{Io}
 use Rattle.request_commands.specs.Reads.{IsStackless}
-use Rattle.request_commands.specs.Requests.{FailsToServe, IsServed, new_world}
+use Rattle.request_commands.specs.Requests.{FailsToServe, IsServed, new_world, write_request}
 
 -- a stack file, a source, bindings, how many hash blocks are kept, and the request to put some bytes
 pub record PutWords : Type 0 where
@@ -76,3 +79,17 @@ IsUnsynced Done fault = ⊥
 -- nothing was put, or not all, or it isn't synced
 abbrev pub IsPutEnd : {S D : Type 0} → Calls S D → PutWords → RequestFault → Type 0
 IsPutEnd w words fault = IsStackless (FailsToLoadSource w words) fault ⊎ (FailsToPut w words fault ⊎ IsUnsynced (PutsBack w words) fault)
+
+-- ---- the same by the opener, before and after its calls, and by the words of the program
+
+-- the source's bytes go where a transfer says
+abbrev pub words_to_put : StackFile → ℕ → Transfer → PutWords
+words_to_put file cache transfer = put_words (stack_words file) cache transfer.source.now (write_request transfer)
+
+-- the source's bytes were put, and the images synced and given back
+abbrev pub PutsBy : {S D : Type 0} → Opener S D → (D → Device) → S → S → StackFile → ℕ → Transfer → Type 0
+PutsBy relations state old new file cache transfer = PutsBack (calls relations state old new) (words_to_put file cache transfer) (Ok tt)
+
+-- they were not
+abbrev pub UnputBy : {S D : Type 0} → Opener S D → (D → Device) → S → S → StackFile → ℕ → Transfer → RequestFault → Type 0
+UnputBy relations state old new file cache transfer = IsPutEnd (calls relations state old new) (words_to_put file cache transfer)

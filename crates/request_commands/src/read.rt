@@ -1,9 +1,7 @@
 //! Sectors of a device are read by one request.
 ghost use Rattle.std.specs.Prelude.{IfOk, IfErr};
-ghost use Rattle.image_files.specs.Opener.{calls};
-ghost use Rattle.stack_opening.specs.OpenStacks.{stack_words};
-ghost use Rattle.request_commands.specs.Reads.{FailsToRead, ReadsSectors};
-ghost use Rattle.request_commands.specs.Requests.{FailsToServe, IsServed, read_request};
+ghost use Rattle.request_commands.specs.Reads.{ReadsBy, UnreadBy};
+ghost use Rattle.request_commands.specs.Requests.{FailsServing, IsServed, read_request};
 
 use crate::fault::RequestFault;
 use crate::request::serve_request;
@@ -23,8 +21,8 @@ pub fn read_sectors<'a, I: Images>(
     cache: u32,
     sectors: Sectors<'_>,
 ) -> Result<Reply, RequestFault<'a>>
-    ensures ok { IfOk result (ReadsSectors (calls I.relations I.Dev.state images.old images.new) (stack_words file.entry) cache (read_request sectors.entry)) }
-    ensures err { IfErr result (FailsToRead (calls I.relations I.Dev.state images.old images.new) (stack_words file.entry) cache (read_request sectors.entry)) }
+    ensures ok { IfOk result (ReadsBy I.relations I.Dev.state images.old images.new file.entry cache sectors.entry) }
+    ensures err { IfErr result (UnreadBy I.relations I.Dev.state images.old images.new file.entry cache sectors.entry) }
 {
     let stack = open_loaded(alloc, images, file, cache)?;
     let mut queue = Queue::new(alloc, stack);
@@ -38,7 +36,7 @@ fn fetch<'a, D: BlockDev + Drop>(
     sectors: Sectors<'_>,
 ) -> Result<Reply, RequestFault<'a>>
     ensures ok { IfOk result (λ reply. IsServed queue.old (read_request sectors.entry) reply queue.new) }
-    ensures err { IfErr result (λ fault. FailsToServe queue.old (read_request sectors.entry) fault queue.new) }
+    ensures err { IfErr result (FailsServing queue.old (read_request sectors.entry) queue.new) }
 {
     let Sectors { name, first, count } = sectors;
     let device = Vec::from_slice(alloc, name.as_bytes())?;

@@ -1,9 +1,7 @@
 //! A file's bytes are written to a device by one request.
 ghost use Rattle.std.specs.Prelude.{OnOk, Ok, IfOk, IfErr};
-ghost use Rattle.image_files.specs.Opener.{calls};
-ghost use Rattle.stack_opening.specs.OpenStacks.{stack_words};
-ghost use Rattle.request_commands.specs.Requests.{FailsToServe, IsServed, write_request};
-ghost use Rattle.request_commands.specs.Writes.{IsPutEnd, PutsBack, put_words};
+ghost use Rattle.request_commands.specs.Requests.{FailsServing, IsServed, write_request};
+ghost use Rattle.request_commands.specs.Writes.{PutsBy, UnputBy};
 
 use crate::fault::RequestFault;
 use crate::request::serve_request;
@@ -23,8 +21,8 @@ pub fn write_source<'a, I: Images>(
     cache: u32,
     transfer: Transfer<'a>,
 ) -> Result<(), RequestFault<'a>>
-    ensures ok { OnOk result (PutsBack (calls I.relations I.Dev.state images.old images.new) (put_words (stack_words file.entry) cache transfer.entry.source.now (write_request transfer.entry)) (Ok tt)) }
-    ensures err { IfErr result (IsPutEnd (calls I.relations I.Dev.state images.old images.new) (put_words (stack_words file.entry) cache transfer.entry.source.now (write_request transfer.entry))) }
+    ensures ok { OnOk result (PutsBy I.relations I.Dev.state images.old images.new file.entry cache transfer.entry) }
+    ensures err { IfErr result (UnputBy I.relations I.Dev.state images.old images.new file.entry cache transfer.entry) }
 {
     let (over, source) = open_with_source(alloc, images, file, transfer.source)?;
     let stack = load_stack(alloc, over, cache)?;
@@ -48,7 +46,7 @@ fn store<'a, D: BlockDev + Drop>(
     bytes: Vec<u8>,
 ) -> Result<Reply, RequestFault<'a>>
     ensures ok { IfOk result (λ reply. IsServed queue.old (write_request transfer.entry bytes.items) reply queue.new) }
-    ensures err { IfErr result (λ fault. FailsToServe queue.old (write_request transfer.entry bytes.items) fault queue.new) }
+    ensures err { IfErr result (FailsServing queue.old (write_request transfer.entry bytes.items) queue.new) }
 {
     let device = Vec::from_slice(alloc, transfer.name.as_bytes())?;
     let request = Request::Write {

@@ -1,9 +1,10 @@
 -- The map file of a device.
 use Rattle.std.specs.Prelude.{◌≡◌, ◌⊎◌, ℕ, ◌<◌, Bool, true, false, List, length, replicate, Ok, Err}
+use Rattle.block_device.specs.Device.{Device}
 use Rattle.block_device.specs.declared.open_fault.OpenFault.{OpenFault}
 use Rattle.block_device.specs.declared.open_fault.OpenFault.TheVariants.{NotFound}
 use Rattle.image_files.specs.declared.images.FileText.{FileText}
-use Rattle.image_files.specs.Opener.{Calls}
+use Rattle.image_files.specs.Opener.{Calls, Opener, calls}
 use Rattle.rescue_map.specs.declared.fault.MapFault.TheVariants as map_fault
 use Rattle.rescue_map.specs.declared.map.Run.{Run}
 use Rattle.rescue_map.specs.Maps.{marks}
@@ -53,3 +54,9 @@ abbrev pub recovery_ending : RecoveryFault → RescueFault
 recovery_ending recovery.NoMemory = NoMemory
 recovery_ending recovery.Output = Output
 recovery_ending recovery.Write = Write
+
+-- ---- the same by the opener, before and after its calls
+
+-- the map under a path
+abbrev pub ReadsMap : {S D : Type 0} → Opener S D → (D → Device) → S → S → List ℕ → ℕ → List Run → Type 0
+ReadsMap relations state old new path sectors = λ runs. IsMapRead (calls relations state old new) path sectors runs

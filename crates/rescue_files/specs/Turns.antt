@@ -136,3 +136,7 @@ RescuesByFile replaces state told d file images old images' new totals =
 abbrev pub StopsByFile : {S O L : Type 0} → Replaces S → (O → Device) → (L → Option (List ℕ)) → (L → Bool) → ℕ → MapFile → S → Parties O L → S → Parties O L → RescueFault → Type 0
 StopsByFile replaces state told failed d file images old images' new fault =
     IsTurnsEnd (kept replaces file.path.now d (size old.stack.config (mapped d))) (progressed images (seen state told old) file.map 0) images' (seen state told new) (failed new.listing) fault
+
+-- the map of a file isn't replaced by this one
+abbrev pub LeavesMap : {S : Type 0} → Replaces S → List ℕ → S → Option ℕ → List Run → S → RescueFault → Type 0
+LeavesMap replaces path images tried map images' = IsUnwritten replaces path images (map_text tried map) images'

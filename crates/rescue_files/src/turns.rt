@@ -4,7 +4,7 @@ ghost use Rattle.rescue_map.specs.Maps.{marks};
 ghost use Rattle.rescue_map.specs.MapText.{map_text};
 ghost use Rattle.stack_rules.specs.Names.{mapped, size};
 ghost use Rattle.stack_recovery.specs.Recoveries.{parties};
-ghost use Rattle.rescue_files.specs.Turns.{IsSpan, IsUnwritten, RescuesByFile, StopsByFile, StopsTurn, TakesTurn, asked, tried_before, turn_len};
+ghost use Rattle.rescue_files.specs.Turns.{IsSpan, LeavesMap, RescuesByFile, StopsByFile, StopsTurn, TakesTurn, asked, tried_before, turn_len};
 
 use crate::fault::RescueFault;
 use crate::map_file::MapFile;
@@ -58,7 +58,7 @@ fn write_map<I: Images>(
     tried: Option<u64>,
 ) -> Result<(), RescueFault>
     ensures ok { OnOk result (I.relations.replaces images.old path.now (map_text tried map.now) (Ok tt) images.new) }
-    ensures err { IfErr result (IsUnwritten I.relations.replaces path.now images.old (map_text tried map.now) images.new) }
+    ensures err { IfErr result (LeavesMap I.relations.replaces path.now images.old tried map.now images.new) }
 {
     let text = print_map(alloc, map, tried)?;
     Ok(images.replace(path, text.as_slice())?)

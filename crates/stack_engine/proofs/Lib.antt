@@ -8,6 +8,7 @@ pub mod BlocksLemmas
 pub mod NextBlockLemmas
 pub mod SpentLemmas
 pub mod UncutLemmas
+pub mod PaidLemmas
 pub mod KeepingLemmas
 pub mod BytesLemmas
 pub mod StackLemmas

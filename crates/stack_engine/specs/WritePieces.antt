@@ -13,6 +13,7 @@ use Rattle.stack_meaning.specs.Changes.{LeafSectors, reached, AreWritten, NoneRe
 use Rattle.stack_lines.specs.Writing.{AreSectors, SomeEncrypt, MayEnd, IsPut, destination_of, StopsAtFault, StopsBehindPut, sectors_in}
 use Rattle.stack_lines.specs.Touches.{EndsAtFailure, leaves_of}
 use Rattle.stack_lines.specs.Forgetting.{Forgets}
+use Rattle.stack_lines.specs.WriteBudgets.{Counter, of_reads, of_writes, CountsAtMost, write_budget}
 use Rattle.stack_engine.specs.Stacks.{StackRecord}
 use Rattle.stack_engine.specs.Uncut.{CutsNone}
 
@@ -32,6 +33,17 @@ MeetsCrypt w d first n = SomeEncrypt (said_at w.config (mapped d)) first n
 -- where the write of these cuts no unit, nothing is read
 abbrev pub UncutPiece : StackRecord → ℕ → ℕ → ℕ → StackRecord → Type 0
 UncutPiece w d first n w' = CutsNone w.config (mapped d) first n → NoneRead w.leaves w'.leaves
+
+-- no more of a counter than what the units cost that the write of these touches, each of them once
+abbrev pub PaysPiece : Counter → StackRecord → ℕ → ℕ → ℕ → StackRecord → Type 0
+PaysPiece k w d first n w' = CountsAtMost k (write_budget w.config k (mapped d) first n) w.leaves w'.leaves
+
+-- the leaf sectors that are written, and those that are read to be changed
+abbrev pub PieceWrote : StackRecord → ℕ → ℕ → ℕ → StackRecord → Type 0
+PieceWrote = PaysPiece of_writes
+
+abbrev pub PieceNeeded : StackRecord → ℕ → ℕ → ℕ → StackRecord → Type 0
+PieceNeeded = PaysPiece of_reads
 
 -- How a piece is written, these bytes to mapped device d from its sector first on, with the stack that it leaves:
 -- whatever the leaves answer

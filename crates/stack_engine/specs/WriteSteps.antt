@@ -7,6 +7,7 @@ use Rattle.stack_rules.specs.Records.{Configuration}
 use Rattle.stack_meaning.specs.declared.fault.IoFault.{IoFault}
 use Rattle.stack_meaning.specs.Changes.{NoneRead}
 use Rattle.stack_lines.specs.declared.source.Source.{Source}
+use Rattle.stack_lines.specs.WriteBudgets.{Counter, CountsAtMost, write_budget, source_write_budget}
 use Rattle.stack_lines.specs.Writing.{sectors_in, destination_of, Writes, source_destination}
 use Rattle.stack_engine.specs.declared.backing.Backing.{Backing}
 use Rattle.stack_engine.specs.Backings.{leaves_in}
@@ -26,6 +27,10 @@ PutTo state c source bytes old new result = Writes (source_destination c source)
 abbrev pub UncutTo : {D : Type 0} → (D → Device) → Configuration → Source → List ℕ → Backing D → Backing D → Type 0
 UncutTo state c source bytes old new = SourceCutsNone c source (length bytes / 512) → NoneRead (leaves_in state old) (leaves_in state new)
 
+-- no more is read, nor written, than what it costs
+abbrev pub PaidTo : {D : Type 0} → (D → Device) → Configuration → Source → List ℕ → Backing D → Backing D → Type 0
+PaidTo state c source bytes old new = (k : Counter) → CountsAtMost k (source_write_budget c k source (length bytes / 512)) (leaves_in state old) (leaves_in state new)
+
 -- ---- to a leaf or a device
 
 abbrev pub PutAt : {D : Type 0} → (D → Device) → Configuration → Lower → ℕ → List ℕ → Backing D → Backing D → Result Unit IoFault → Type 0
@@ -33,3 +38,6 @@ PutAt state c lower first bytes old new result = Writes (destination_of c lower)
 
 abbrev pub UncutAt : {D : Type 0} → (D → Device) → Configuration → Lower → ℕ → List ℕ → Backing D → Backing D → Type 0
 UncutAt state c lower first bytes old new = CutsNone c lower first (length bytes / 512) → NoneRead (leaves_in state old) (leaves_in state new)
+
+abbrev pub PaidAt : {D : Type 0} → (D → Device) → Configuration → Lower → ℕ → List ℕ → Backing D → Backing D → Type 0
+PaidAt state c lower first bytes old new = (k : Counter) → CountsAtMost k (write_budget c k lower first (length bytes / 512)) (leaves_in state old) (leaves_in state new)

@@ -13,7 +13,7 @@ ghost use Rattle.stack_meaning.specs.Reading.{buffer_answer};
 ghost use Rattle.stack_engine.specs.Syncs.{FailsToSync, NeverFail};
 ghost use Rattle.stack_lines.specs.Budgets.{ReadsAtMost};
 ghost use Rattle.stack_engine.specs.Pieces.{AnyPiece, SteadyPiece, stack_over, AreSteadyBeneath, MeetsVerity, piece_budget, PieceStops};
-ghost use Rattle.stack_engine.specs.WritePieces.{ArePiece, AnyWrite, SteadyWrite, MeetsCrypt, UncutPiece};
+ghost use Rattle.stack_engine.specs.WritePieces.{ArePiece, AnyWrite, SteadyWrite, MeetsCrypt, UncutPiece, PieceWrote, PieceNeeded};
 
 use crate::answer::Answer;
 use crate::backing::Backing;
@@ -144,7 +144,8 @@ impl<D: BlockDev> Stack<D> {
     /// `any` says that nothing behind it was asked for, `behind` in `steady` that what stands before it is put. They lie
     /// inside the device, which may be written. `exact` in `steady` is what the stack means; `any` holds whatever the
     /// leaves answer. It takes memory only where a `crypt` line is on the way, once and before the first access.
-    /// Where it cuts no unit of a `crypt` line, nothing is read (`uncut`).
+    /// Where it cuts no unit of a `crypt` line, nothing is read (`uncut`). Each unit that it touches is written once
+    /// (`wrote`), and read once where it is cut (`needed`).
     pub fn write_piece(&mut self, d: DevId, first: u64, bytes: &[u8]) -> Result<(), IoFault>
         requires piece { ArePiece bytes.now }
         requires inside { first + length bytes.now / 512 ≤ size self.old.config (mapped d.0) }
@@ -153,6 +154,8 @@ impl<D: BlockDev> Stack<D> {
         ensures steady { AreSteadyBeneath self.old d.0 → SteadyWrite self.old d.0 first bytes.now result self.new }
         ensures memory { result ≡ Err IoFault.NoMemory → MeetsCrypt self.old d.0 first (length bytes.now / 512) }
         ensures uncut { UncutPiece self.old d.0 first (length bytes.now / 512) self.new }
+        ensures wrote { PieceWrote self.old d.0 first (length bytes.now / 512) self.new }
+        ensures needed { PieceNeeded self.old d.0 first (length bytes.now / 512) self.new }
         ensures checked { AreChecked self.new }
         ensures piece { ArePiece bytes.now }
     {

@@ -9,7 +9,7 @@ ghost use Rattle.stack_lines.specs.Touches.{leaves_of, source_leaves};
 ghost use Rattle.stack_engine.specs.Stacks.{IsSound};
 ghost use Rattle.stack_engine.specs.Premises.{FitsIn};
 ghost use Rattle.stack_engine.specs.Backings.{StaysSound, ForgetsOn};
-ghost use Rattle.stack_engine.specs.WriteSteps.{CanPut, PutTo, UncutTo, PutAt, UncutAt};
+ghost use Rattle.stack_engine.specs.WriteSteps.{CanPut, PutTo, UncutTo, PaidTo, PutAt, UncutAt, PaidAt};
 
 use crate::backing::Backing;
 use crate::read::read_units;
@@ -49,6 +49,7 @@ fn write_leaf<D: BlockDev>(
 ) -> Result<(), IoFault>
     requires { CanPut D.state config.now backing.old (Below (Lower.Leaf leaf) first) bytes.now }
     ensures writes { PutAt D.state config.now (Lower.Leaf leaf) first bytes.now backing.old backing.new result }
+    ensures paid { PaidAt D.state config.now (Lower.Leaf leaf) first bytes.now backing.old backing.new }
     ensures cached { StaysSound D.state config.now backing.old backing.new }
     ensures forgets { ForgetsOn D.state config.now (leaves_of config.now (Lower.Leaf leaf)) backing.old backing.new }
 {
@@ -89,6 +90,7 @@ fn write_lower<D: BlockDev>(
     requires bytes { AreHeld (said_at config.now lower) first plain.now buffer.old }
     ensures writes { PutAt D.state config.now lower first (plain.now ++ buffer.old) backing.old backing.new result }
     ensures uncut { UncutAt D.state config.now lower first (plain.now ++ buffer.old) backing.old backing.new }
+    ensures paid { PaidAt D.state config.now lower first (plain.now ++ buffer.old) backing.old backing.new }
     ensures cached { StaysSound D.state config.now backing.old backing.new }
     ensures forgets { ForgetsOn D.state config.now (leaves_of config.now lower) backing.old backing.new }
 {
@@ -111,6 +113,7 @@ fn write_run<D: BlockDev>(
     requires bytes { AreHeld (source_said config.now source) 0 plain.now buffer.old }
     ensures writes { PutTo D.state config.now source (plain.now ++ buffer.old) backing.old backing.new result }
     ensures uncut { UncutTo D.state config.now source (plain.now ++ buffer.old) backing.old backing.new }
+    ensures paid { PaidTo D.state config.now source (plain.now ++ buffer.old) backing.old backing.new }
     ensures cached { StaysSound D.state config.now backing.old backing.new }
     ensures forgets { ForgetsOn D.state config.now (source_leaves config.now source) backing.old backing.new }
 {
@@ -136,6 +139,7 @@ fn write_units<D: BlockDev>(
     requires { CanPut D.state config.now backing.old (Source.Units part) units.old }
     ensures writes { PutTo D.state config.now (Source.Units part) units.old backing.old backing.new result }
     ensures uncut { UncutTo D.state config.now (Source.Units part) units.old backing.old backing.new }
+    ensures paid { PaidTo D.state config.now (Source.Units part) units.old backing.old backing.new }
     ensures cached { StaysSound D.state config.now backing.old backing.new }
     ensures forgets { ForgetsOn D.state config.now (leaves_of config.now (mapped part.device.0)) backing.old backing.new }
 {
@@ -182,6 +186,7 @@ fn write_unit_part<D: BlockDev>(
 ) -> Result<(), IoFault>
     requires { CanPut D.state config.now backing.old (Source.UnitPart part) bytes.now }
     ensures writes { PutTo D.state config.now (Source.UnitPart part) bytes.now backing.old backing.new result }
+    ensures paid { PaidTo D.state config.now (Source.UnitPart part) bytes.now backing.old backing.new }
     ensures cached { StaysSound D.state config.now backing.old backing.new }
     ensures forgets { ForgetsOn D.state config.now (leaves_of config.now (mapped part.device.0)) backing.old backing.new }
 {
@@ -212,6 +217,7 @@ pub(crate) fn write_device<D: BlockDev>(
     requires bytes { AreHeld (said_at config.now (mapped d.0)) first plain.now buffer.old }
     ensures writes { PutAt D.state config.now (mapped d.0) first (plain.now ++ buffer.old) backing.old backing.new result }
     ensures uncut { UncutAt D.state config.now (mapped d.0) first (plain.now ++ buffer.old) backing.old backing.new }
+    ensures paid { PaidAt D.state config.now (mapped d.0) first (plain.now ++ buffer.old) backing.old backing.new }
     ensures cached { StaysSound D.state config.now backing.old backing.new }
     ensures forgets { ForgetsOn D.state config.now (leaves_of config.now (mapped d.0)) backing.old backing.new }
 {

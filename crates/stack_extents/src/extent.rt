@@ -1,22 +1,68 @@
-//! A run of sectors, and whether its lines alone make it zeros.
-ghost use Rattle.std.specs.Prelude.{◌≡◌, ◌<◌, ◌≤◌, ◌+◌, IsTrue};
+//! A run of sectors, and what its lines alone say of them.
+ghost use Rattle.std.specs.Prelude.{◌≡◌, ◌<◌, ◌≤◌, ◌+◌};
 ghost use Rattle.stack_rules.specs.Names.{mapped, size};
 ghost use Rattle.stack_rules.specs.Rules.{IsLoaded};
 ghost use Rattle.stack_meaning.specs.Meaning.{said_at};
 ghost use Rattle.stack_lines.specs.Sources.{SourceHolds, source_said};
-ghost use Rattle.stack_extents.specs.Extents.{IsExtent};
+ghost use Rattle.stack_lines.specs.Walks.{IsOnVerity};
+ghost use Rattle.stack_lines.specs.declared.source.Source.TheVariants.{Block};
+ghost use Rattle.stack_extents.specs.Extents.{IgnoresZeros, IsExtent, SourceIgnores, is_same_kind};
 
 use stack_config::{Config, DevId, Lower};
-use stack_lines::{Source, run_at};
+use stack_lines::tree::verity_at;
+use stack_lines::{BlockPart, Source, run_at};
 
 // The most runs that are joined in one extent.
 const MOST_RUNS: u32 = 4096;
 
-/// So many sectors, all of which are zeros because of the lines alone, or not known to be.
+/// What is known of sectors while nothing is read.
+#[derive(Clone, Copy, Debug, PartialEq, Eq)]
+pub enum ExtentKind {
+    /// They are zeros because of the lines alone.
+    Zeros,
+    /// They lie on `verity` lines that ignore blocks of zeros: a read tells these, and asks for the data of the others alone.
+    IgnoresZeros,
+    /// Nothing.
+    Unknown,
+}
+
+/// So many sectors, of all of which the same is known.
 #[derive(Clone, Copy, Debug, PartialEq, Eq)]
 pub struct Extent {
     pub count: u64,
-    pub zeros: bool,
+    pub kind: ExtentKind,
+}
+
+/// Whether the same is known.
+fn is_same_kind(a: ExtentKind, b: ExtentKind) -> bool
+    ensures { result ≡ is_same_kind a b }
+{
+    match (a, b) {
+        (ExtentKind::Zeros, ExtentKind::Zeros)
+        | (ExtentKind::IgnoresZeros, ExtentKind::IgnoresZeros)
+        | (ExtentKind::Unknown, ExtentKind::Unknown) => true,
+        _ => false,
+    }
+}
+
+/// The extent of so many sectors of a `verity` line.
+fn verity_extent(config: &Config, part: BlockPart, most: u64) -> Extent
+    requires loaded { IsLoaded config.now }
+    requires some { 0 < most }
+    requires line { IsOnVerity config.now part.device.0 part.line }
+    ensures { IsExtent (source_said config.now (Block part)) (SourceIgnores config.now (Block part)) 0 most result }
+{
+    let verity = verity_at(config, part.device, part.line);
+    if verity.ignore_zero_blocks {
+        return Extent {
+            count: most,
+            kind: ExtentKind::IgnoresZeros,
+        };
+    }
+    Extent {
+        count: most,
+        kind: ExtentKind::Unknown,
+    }
 }
 
 /// The extent of so many sectors of a source at most, from its first on.
@@ -25,17 +71,19 @@ fn source_extent(config: &Config, source: Source, most: u64) -> Extent
     requires loaded { IsLoaded config.now }
     requires some { 0 < most }
     requires inside { SourceHolds config.now source most }
-    ensures { IsExtent (source_said config.now source) 0 most result }
+    ensures { IsExtent (source_said config.now source) (SourceIgnores config.now source) 0 most result }
 {
     match source {
         Source::Zeros => Extent {
             count: most,
-            zeros: true,
+            kind: ExtentKind::Zeros,
         },
         Source::Below { lower, first } => lower_extent(config, lower, first, most),
+        Source::Block(part) => verity_extent(config, part, most),
+        Source::Blocks(part) => verity_extent(config, part, most),
         _ => Extent {
             count: most,
-            zeros: false,
+            kind: ExtentKind::Unknown,
         },
     }
 }
@@ -46,12 +94,12 @@ fn lower_extent(config: &Config, lower: Lower, first: u64, most: u64) -> Extent
     requires loaded { IsLoaded config.now }
     requires some { 0 < most }
     requires inside { first + most ≤ size config.now lower }
-    ensures { IsExtent (said_at config.now lower) first most result }
+    ensures { IsExtent (said_at config.now lower) (IgnoresZeros config.now lower) first most result }
 {
     match lower {
         Lower::Leaf(_) => Extent {
             count: most,
-            zeros: false,
+            kind: ExtentKind::Unknown,
         },
         Lower::Device(d) => device_extent(config, d, first, most),
     }
@@ -63,18 +111,19 @@ fn device_extent(config: &Config, d: DevId, first: u64, most: u64) -> Extent
     requires loaded { IsLoaded config.now }
     requires some { 0 < most }
     requires inside { first + most ≤ size config.now (mapped d.0) }
-    ensures { IsExtent (said_at config.now (mapped d.0)) first most result }
+    ensures { IsExtent (said_at config.now (mapped d.0)) (IgnoresZeros config.now (mapped d.0)) first most result }
 {
     let run = run_at(config, d, first, most);
     source_extent(config, run.source, run.count)
 }
 
-/// Sectors of a mapped device from that one on, at most so many, that are alike: as many as are found in some runs.
+/// Sectors of a mapped device from that one on, at most so many, of which the same is known: as many as are found in some
+/// runs.
 pub fn extent_at(config: &Config, d: DevId, first: u64, most: u64) -> Extent
     requires loaded { IsLoaded config.now }
     requires some { 0 < most }
     requires inside { first + most ≤ size config.now (mapped d.0) }
-    ensures { IsExtent (said_at config.now (mapped d.0)) first most result }
+    ensures { IsExtent (said_at config.now (mapped d.0)) (IgnoresZeros config.now (mapped d.0)) first most result }
 {
     let mut extent = device_extent(config, d, first, most);
     for _run in 0..MOST_RUNS {
@@ -83,7 +132,7 @@ pub fn extent_at(config: &Config, d: DevId, first: u64, most: u64) -> Extent
         }
         let at = first + extent.count;
         let next = device_extent(config, d, at, most - extent.count);
-        if next.zeros != extent.zeros {
+        if !is_same_kind(next.kind, extent.kind) {
             return extent;
         }
         extent.count += next.count;

@@ -1,6 +1,6 @@
-//! Which runs of a mapped device are zeros because of its lines alone.
+//! What the lines of a mapped device alone say of its runs.
 #![tactic(auto)]
 
 mod extent;
 
-pub use extent::{Extent, extent_at};
+pub use extent::{Extent, ExtentKind, extent_at};

@@ -1,4 +1,6 @@
 pub mod lemmas
+pub mod RunCostLemmas
+pub mod SideLemmas
 pub mod StripeLemmas
 pub mod UnstripedLemmas
 pub mod ClearLemmas

@@ -4,6 +4,7 @@ pub mod BudgetLemmas
 pub mod EncryptLemmas
 pub mod ForgetLemmas
 pub mod KeptLemmas
+pub mod PriceLemmas
 pub mod PutLemmas
 pub mod ReadRunLemmas
 pub mod SizeLemmas
@@ -17,6 +18,7 @@ pub mod UnitReadLemmas
 pub mod UnitSourceLemmas
 pub mod VerityLineLemmas
 pub mod WritableLemmas
+pub mod WriteBudgetLemmas
 pub mod WriteLeafLemmas
 pub mod WriteRunLemmas
 pub mod WriteSourceLemmas

@@ -9,4 +9,6 @@ pub mod Writing
 pub mod Cuts
 pub mod AtOnce
 pub mod Touches
+pub mod Prices
 pub mod Budgets
+pub mod WriteBudgets

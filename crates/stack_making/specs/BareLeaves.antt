@@ -1,7 +1,9 @@
 -- The stack of no mapped device over the leaves of bindings.
 use Rattle.std.specs.Prelude.{◌≡◌, ◌⊎◌, ℕ, List, [], map, Some}
-use Rattle.command_line.specs.Bindings.{BindingRecord}
-use Rattle.image_files.specs.Opener.{Calls}
+use Rattle.block_device.specs.Device.{Device}
+use Rattle.command_line.specs.Bindings.{BindingRecord, binding_record}
+use Rattle.command_line.specs.declared.bindings.Binding.{Binding}
+use Rattle.image_files.specs.Opener.{Calls, Opener, calls}
 use Rattle.stack_rules.specs.Leaves.{first_fault}
 use Rattle.stack_rules.specs.Records.{LeafRecord}
 use Rattle.stack_engine.specs.Pieces.{stack_over}
@@ -35,3 +37,13 @@ pub record FailsToTake {S D : Type 0} (w : Calls S D) (bindings : List BindingRe
 -- that, or an image isn't opened
 abbrev pub FailsToStand : {S D : Type 0} → Calls S D → List BindingRecord → StackFault → Type 0
 FailsToStand w bindings fault = IsOpeningEnd (IsBindingEnd w [] bindings) fault ⊎ FailsToTake w bindings fault
+
+-- ---- the same by the opener, before and after its calls, and by the words of the program
+
+-- the stack on the leaves of bindings
+abbrev pub StandsBy : {S D : Type 0} → Opener S D → (D → Device) → S → S → List Binding → ℕ → StackRecord → Type 0
+StandsBy relations state old new bindings cache = StandsOnLeaves (calls relations state old new) (map binding_record bindings) cache
+
+-- there is none
+abbrev pub FailsStanding : {S D : Type 0} → Opener S D → (D → Device) → S → S → List Binding → StackFault → Type 0
+FailsStanding relations state old new bindings = FailsToStand (calls relations state old new) (map binding_record bindings)

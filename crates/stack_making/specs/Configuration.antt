@@ -1,5 +1,5 @@
 -- The configuration that a stack text makes of leaves.
-use Rattle.std.specs.Prelude.{ℕ, List, [], Option, Some, None, Result, Ok, Err}
+use Rattle.std.specs.Prelude.{◌≡◌, ◌⊎◌, ℕ, List, [], Option, Some, None, Result, Ok, Err}
 use Rattle.dm_table.specs.declared.stack.Entry.{Entry}
 use Rattle.dm_table.specs.declared.fault.TextFault.{TextFault}
 use Rattle.dm_table.specs.StackText.{stack_of}
@@ -9,7 +9,7 @@ use Rattle.stack_rules.specs.Records.{Configuration, LeafRecord}
 use Rattle.stack_rules.specs.Leaves.{first_fault}
 use Rattle.stack_rules.specs.Rules.{first_refusal, after_load}
 use Rattle.stack_making.specs.declared.fault.StackFault.{StackFault}
-use Rattle.stack_making.specs.declared.fault.StackFault.TheVariants.{Leaves, Text, Load}
+use Rattle.stack_making.specs.declared.fault.StackFault.TheVariants.{Leaves, Load, NoMemory, Text}
 
 -- leaves with no mapped device
 abbrev pub leaves_alone : List LeafRecord → Configuration
@@ -32,3 +32,7 @@ with_leaves leaves (Some fault) entries = Err (Leaves fault)
 -- the configuration that a stack text makes of leaves, or the first fault: of the leaves, the text, the load
 unfoldable pub configuration_of : List LeafRecord → List ℕ → Result Configuration StackFault
 configuration_of leaves text = with_leaves leaves (first_fault leaves) (stack_of text)
+
+-- the first fault, or memory ran out
+abbrev pub FailsToConfigure : List LeafRecord → List ℕ → StackFault → Type 0
+FailsToConfigure leaves text = λ fault. (configuration_of leaves text ≡ Err fault) ⊎ (fault ≡ NoMemory)

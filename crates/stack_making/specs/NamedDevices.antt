@@ -2,7 +2,7 @@
 use Rattle.std.specs.Prelude.{◌≡◌, ◌⊎◌, ℕ, List, Some, None, Ok}
 use Rattle.block_device.specs.Device.{Device}
 use Rattle.image_files.specs.declared.images.OpenImage.{OpenImage}
-use Rattle.image_files.specs.Opener.{Calls}
+use Rattle.image_files.specs.Opener.{Calls, Opener, calls}
 use Rattle.stack_rules.specs.Names.{device_named}
 use Rattle.stack_rules.specs.Records.{Configuration}
 use Rattle.stack_engine.specs.Stacks.{StackRecord}
@@ -15,6 +15,7 @@ use Rattle.stack_making.specs.declared.fault.StackFault.TheVariants.{NoSuchDevic
 use Rattle.stack_making.specs.Configuration.{configuration_of}
 use Rattle.stack_making.specs.Endings.{IsOpeningEnd}
 use Rattle.stack_making.specs.StacksOfTexts.{FailsBehind, FailsToLoad, IsStackOf, Loads}
+use Rattle.stack_rules.specs.declared.lower.DevId.{DevId}
 
 -- a mapped device of a stack
 pub record Place : Type 0 where
@@ -80,3 +81,26 @@ pub record FindsNone {S D : Type 0} (w : Calls S D) (words : DeviceWords) (out :
 
 abbrev pub FailsToFindOutput : {S D : Type 0} → Calls S D → DeviceWords → List ℕ → StackFault → Type 0
 FailsToFindOutput w words out fault = IsOpeningEnd (FailsToOpenOutput w words.words out) fault ⊎ FindsNone w words out fault
+
+-- ---- the same by the opener, before and after its calls, and by the words of the program
+
+-- a device by its name, in the stack of a text over open leaves
+abbrev pub HasNamed : {D : Type 0} → (D → Device) → OpenStack D → NamedDevice → StackRecord × DevId → Type 0
+HasNamed state over device = λ found. HasDevice state device.name.now over device.cache (place_of found.0 found.1.0)
+
+-- a device by its name, in the stack of a stack file
+abbrev pub FindsBy : {S D : Type 0} → Opener S D → (D → Device) → S → S → StackFile → NamedDevice → StackRecord × DevId → Type 0
+FindsBy relations state old new file device = λ found. Finds (calls relations state old new) (words_for file device) (place_of found.0 found.1.0)
+
+-- there is none
+abbrev pub FailsToFindBy : {S D : Type 0} → Opener S D → (D → Device) → S → S → StackFile → NamedDevice → StackFault → Type 0
+FailsToFindBy relations state old new file device = FailsToFindDevice (calls relations state old new) (words_for file device)
+
+-- a device, and beside it the image that it is copied to
+abbrev pub FindsTo : {S D : Type 0} → Opener S D → (D → Device) → S → S → StackFile → NamedDevice → List ℕ → StackRecord × DevId × OpenImage D → Type 0
+FindsTo relations state old new file device out =
+    λ found. FindsOutput (calls relations state old new) (words_for file device) out (place_of found.0 found.1.0) found.2
+
+-- one of them is missing
+abbrev pub LacksTo : {S D : Type 0} → Opener S D → (D → Device) → S → S → StackFile → NamedDevice → List ℕ → StackFault → Type 0
+LacksTo relations state old new file device out = FailsToFindOutput (calls relations state old new) (words_for file device) out

@@ -1,12 +1,13 @@
 -- The stack that a text makes of open leaves, and of a stack file's bindings.
 use Rattle.std.specs.Prelude.{◌≡◌, ◌⊎◌, ℕ, map, Ok, Err}
 use Rattle.block_device.specs.Device.{Device}
-use Rattle.image_files.specs.Opener.{Calls}
+use Rattle.image_files.specs.Opener.{Calls, Opener, calls}
 use Rattle.stack_rules.specs.Records.{Configuration}
 use Rattle.stack_engine.specs.Pieces.{stack_over}
 use Rattle.stack_engine.specs.Stacks.{StackRecord}
 use Rattle.stack_opening.specs.declared.stack_file.OpenStack.{OpenStack}
-use Rattle.stack_opening.specs.OpenStacks.{FailsToOpen, OpensStack, StackWords}
+use Rattle.stack_opening.specs.OpenStacks.{FailsToOpen, OpensStack, StackWords, stack_words}
+use Rattle.stack_opening.specs.declared.stack_file.StackFile.{StackFile}
 use Rattle.stack_making.specs.declared.fault.StackFault.{StackFault}
 use Rattle.stack_making.specs.declared.fault.StackFault.TheVariants.{NoMemory}
 use Rattle.stack_making.specs.Configuration.{configuration_of}
@@ -44,3 +45,17 @@ FailsBehind {S} {D} w words Fails fault =
 
 abbrev pub FailsToLoadFile : {S D : Type 0} → Calls S D → StackWords → StackFault → Type 0
 FailsToLoadFile w words fault = FailsBehind w words FailsToLoad fault
+
+-- ---- the same by the opener, before and after its calls, and by the words of the program
+
+-- the configuration that the text makes
+abbrev pub ConfiguresBy : {S D : Type 0} → Opener S D → (D → Device) → S → S → StackFile → Configuration → Type 0
+ConfiguresBy relations state old new file = λ config. Configures (calls relations state old new) (stack_words file) config
+
+-- the stack that it makes
+abbrev pub LoadsBy : {S D : Type 0} → Opener S D → (D → Device) → S → S → StackFile → ℕ → StackRecord → Type 0
+LoadsBy relations state old new file cache = Loads (calls relations state old new) (stack_words file) cache
+
+-- it makes none
+abbrev pub FailsLoading : {S D : Type 0} → Opener S D → (D → Device) → S → S → StackFile → StackFault → Type 0
+FailsLoading relations state old new file = FailsToLoadFile (calls relations state old new) (stack_words file)

@@ -1,8 +1,5 @@
 //! Gives back the images that a stack stands on.
-ghost use Rattle.std.specs.Prelude.{map};
-ghost use Rattle.command_line.specs.Bindings.{binding_record};
-ghost use Rattle.image_files.specs.Opener.{calls};
-ghost use Rattle.stack_making.specs.Closings.{GivesBack, IsGivenBack};
+ghost use Rattle.stack_making.specs.Closings.{GivesStackBack, SyncsAndGivesBack};
 
 use block_device::BlockDev;
 use command_line::Binding;
@@ -12,7 +9,7 @@ use stack_opening::close_each;
 
 /// The images of the bindings, as the leaves of the stack are.
 pub fn close_stack<I: Images>(images: &mut I, bindings: &[Binding<'_>], stack: Stack<I::Dev>)
-    ensures { IsGivenBack (calls I.relations I.Dev.state images.old images.new) (map binding_record bindings.now) stack.leaves }
+    ensures { GivesStackBack I.relations I.Dev.state images.old images.new bindings.now stack.leaves }
 {
     let (_, devices) = stack.into_parts();
     close_each(images, bindings, devices);
@@ -24,7 +21,7 @@ pub fn sync_and_close<I: Images>(
     bindings: &[Binding<'_>],
     mut stack: Stack<I::Dev>,
 ) -> Result<(), IoFault>
-    ensures { GivesBack (calls I.relations I.Dev.state images.old images.new) (map binding_record bindings.now) stack.leaves result }
+    ensures { SyncsAndGivesBack I.relations I.Dev.state images.old images.new bindings.now stack.leaves result }
 {
     let synced = stack.sync();
     close_stack(images, bindings, stack);

@@ -1,9 +1,7 @@
 //! Configurations from stack texts over leaves.
-ghost use Rattle.std.specs.Prelude.{◌≡◌, ◌⊎◌, ◌≤◌, ◌^◌, length, Ok, Err, IfOk, IfErr};
-ghost use Rattle.image_files.specs.Opener.{calls};
-ghost use Rattle.stack_opening.specs.OpenStacks.{stack_words};
-ghost use Rattle.stack_making.specs.Configuration.{configuration_of};
-ghost use Rattle.stack_making.specs.StacksOfTexts.{Configures, FailsToLoadFile};
+ghost use Rattle.std.specs.Prelude.{◌≡◌, ◌≤◌, ◌^◌, length, Ok, IfOk, IfErr};
+ghost use Rattle.stack_making.specs.Configuration.{FailsToConfigure, configuration_of};
+ghost use Rattle.stack_making.specs.StacksOfTexts.{ConfiguresBy, FailsLoading};
 
 use crate::fault::StackFault;
 use image_files::Images;
@@ -19,8 +17,8 @@ pub fn open_configuration<'a, I: Images>(
     images: &mut I,
     file: StackFile<'a, '_>,
 ) -> Result<Config, StackFault<'a>>
-    ensures ok { IfOk result (λ config. Configures (calls I.relations I.Dev.state images.old images.new) (stack_words file.entry) config) }
-    ensures err { IfErr result (FailsToLoadFile (calls I.relations I.Dev.state images.old images.new) (stack_words file.entry)) }
+    ensures ok { IfOk result (ConfiguresBy I.relations I.Dev.state images.old images.new file.entry) }
+    ensures err { IfErr result (FailsLoading I.relations I.Dev.state images.old images.new file.entry) }
 {
     let OpenStack {
         text,
@@ -39,7 +37,7 @@ pub fn configuration_of<'a>(
     requires { length text.now ≤ 2 ^ 20 }
     ensures ok { IfOk result (λ config. configuration_of leaves.items text.now ≡ Ok config) }
     ensures leaves { IfOk result (λ config. config.leaves ≡ leaves.items) }
-    ensures err { IfErr result (λ fault. (configuration_of leaves.items text.now ≡ Err fault) ⊎ (fault ≡ StackFault.NoMemory)) }
+    ensures err { IfErr result (FailsToConfigure leaves.items text.now) }
 {
     let mut config = config_over(alloc, leaves)?;
     let entries = parse_stack(alloc, text)?;

@@ -1,8 +1,7 @@
 //! A mapped device of a stack, by its name.
 ghost use Rattle.std.specs.Prelude.{◌≡◌, ◌≤◌, ◌<◌, ◌^◌, length, map, true, IfOk, IfErr};
-ghost use Rattle.image_files.specs.Opener.{calls};
 ghost use Rattle.stack_meaning.specs.Leaves.{ServeLeaves};
-ghost use Rattle.stack_making.specs.NamedDevices.{FailsToFind, FailsToFindDevice, FailsToFindOutput, Finds, FindsOutput, HasDevice, place_of, words_for};
+ghost use Rattle.stack_making.specs.NamedDevices.{FailsToFind, FailsToFindBy, FindsBy, FindsTo, HasNamed, LacksTo};
 
 use crate::configuration::configuration_of;
 use crate::fault::StackFault;
@@ -28,9 +27,9 @@ pub fn open_device<'a, I: Images>(
     file: StackFile<'a, '_>,
     device: NamedDevice<'_>,
 ) -> Result<(Stack<I::Dev>, DevId), StackFault<'a>>
-    ensures ok { IfOk result (λ found. Finds (calls I.relations I.Dev.state images.old images.new) (words_for file.entry device.entry) (place_of found.0 found.1.0)) }
+    ensures ok { IfOk result (FindsBy I.relations I.Dev.state images.old images.new file.entry device.entry) }
     ensures there { IfOk result (λ found. found.1.0 < length found.0.config.devices) }
-    ensures err { IfErr result (FailsToFindDevice (calls I.relations I.Dev.state images.old images.new) (words_for file.entry device.entry)) }
+    ensures err { IfErr result (FailsToFindBy I.relations I.Dev.state images.old images.new file.entry device.entry) }
 {
     let over = open_stack(alloc, images, file)?;
     find_device(alloc, over, device)
@@ -44,10 +43,10 @@ pub fn open_device_and_output<'a, I: Images>(
     device: NamedDevice<'_>,
     out: &'a str,
 ) -> Result<(Stack<I::Dev>, DevId, OpenImage<I::Dev>), StackFault<'a>>
-    ensures ok { IfOk result (λ found. FindsOutput (calls I.relations I.Dev.state images.old images.new) (words_for file.entry device.entry) out.now (place_of found.0 found.1.0) found.2) }
+    ensures ok { IfOk result (FindsTo I.relations I.Dev.state images.old images.new file.entry device.entry out.now) }
     ensures there { IfOk result (λ found. found.1.0 < length found.0.config.devices) }
     ensures writable { IfOk result (λ found. (I.Dev.state found.2.device).may_write ≡ true) }
-    ensures err { IfErr result (FailsToFindOutput (calls I.relations I.Dev.state images.old images.new) (words_for file.entry device.entry) out.now) }
+    ensures err { IfErr result (LacksTo I.relations I.Dev.state images.old images.new file.entry device.entry out.now) }
 {
     let (over, image) = open_with_output(alloc, images, file, out)?;
     let (stack, device) = find_device(alloc, over, device)?;
@@ -62,7 +61,7 @@ pub fn find_device<'a, D: BlockDev + Drop>(
 ) -> Result<(Stack<D>, DevId), StackFault<'a>>
     requires text { length over.text.bytes.items ≤ 2 ^ 20 }
     requires served { ServeLeaves over.leaves.items (map D.state over.devices.items) }
-    ensures ok { IfOk result (λ found. HasDevice D.state device.entry.name.now over device.entry.cache (place_of found.0 found.1.0)) }
+    ensures ok { IfOk result (HasNamed D.state over device.entry) }
     ensures there { IfOk result (λ found. found.1.0 < length found.0.config.devices) }
     ensures err { IfErr result (FailsToFind device.entry.name.now over) }
 {

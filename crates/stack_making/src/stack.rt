@@ -1,12 +1,9 @@
 //! Stacks of configurations, with a cache of so many hash blocks.
 ghost use Rattle.std.specs.Prelude.{◌≡◌, ◌≤◌, ◌^◌, length, map, IfOk, IfErr};
-ghost use Rattle.command_line.specs.Bindings.{binding_record};
-ghost use Rattle.image_files.specs.Opener.{calls};
 ghost use Rattle.stack_meaning.specs.Leaves.{ServeLeaves};
 ghost use Rattle.stack_engine.specs.Pieces.{stack_over};
-ghost use Rattle.stack_opening.specs.OpenStacks.{stack_words};
-ghost use Rattle.stack_making.specs.BareLeaves.{FailsToStand, StandsOnLeaves};
-ghost use Rattle.stack_making.specs.StacksOfTexts.{FailsToLoad, FailsToLoadFile, IsStackOf, Loads};
+ghost use Rattle.stack_making.specs.BareLeaves.{FailsStanding, StandsBy};
+ghost use Rattle.stack_making.specs.StacksOfTexts.{FailsLoading, FailsToLoad, IsStackOf, LoadsBy};
 
 use crate::configuration::configuration_of;
 use crate::fault::StackFault;
@@ -26,8 +23,8 @@ pub fn open_loaded<'a, I: Images>(
     file: StackFile<'a, '_>,
     cache: u32,
 ) -> Result<Stack<I::Dev>, StackFault<'a>>
-    ensures ok { IfOk result (Loads (calls I.relations I.Dev.state images.old images.new) (stack_words file.entry) cache) }
-    ensures err { IfErr result (FailsToLoadFile (calls I.relations I.Dev.state images.old images.new) (stack_words file.entry)) }
+    ensures ok { IfOk result (LoadsBy I.relations I.Dev.state images.old images.new file.entry cache) }
+    ensures err { IfErr result (FailsLoading I.relations I.Dev.state images.old images.new file.entry) }
 {
     let over = open_stack(alloc, images, file)?;
     load_stack(alloc, over, cache)
@@ -40,8 +37,8 @@ pub fn open_leaves<'a, I: Images>(
     bindings: &[Binding<'a>],
     cache: u32,
 ) -> Result<Stack<I::Dev>, StackFault<'a>>
-    ensures ok { IfOk result (StandsOnLeaves (calls I.relations I.Dev.state images.old images.new) (map binding_record bindings.now) cache) }
-    ensures err { IfErr result (FailsToStand (calls I.relations I.Dev.state images.old images.new) (map binding_record bindings.now)) }
+    ensures ok { IfOk result (StandsBy I.relations I.Dev.state images.old images.new bindings.now cache) }
+    ensures err { IfErr result (FailsStanding I.relations I.Dev.state images.old images.new bindings.now) }
 {
     let OpenLeaves { leaves, devices } = open_all(alloc, images, &[], bindings)?;
     let config = config_over(alloc, leaves)?;

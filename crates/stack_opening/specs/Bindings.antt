@@ -1,17 +1,21 @@
 -- The leaves and devices to which names are bound.
-use Rattle.std.specs.Prelude.{◌≡◌, ℕ, Bool, true, List, [], ◌∷◌, ◌++◌, map}
+use Rattle.std.specs.Global.{Global}
+use Rattle.std.specs.Prelude.{◌≡◌, ℕ, Bool, true, List, [], ◌∷◌, ◌++◌, map, Vec}
 use Rattle.block_device.specs.Device.{Device, in_memory, zeros_image, ramp_image}
-use Rattle.command_line.specs.Bindings.{BackingRecord, BindingRecord, file, part, ramp, zeros}
+use Rattle.command_line.specs.Bindings.{BackingRecord, BindingRecord, backing_record, binding_record, file, part, ramp, zeros}
 use Rattle.command_line.specs.PartBindings.{PartRecord}
+use Rattle.command_line.specs.declared.bindings.Backing.{Backing}
+use Rattle.command_line.specs.declared.bindings.Binding.{Binding}
 use Rattle.device_window.specs.declared.part.Part.{Part}
 use Rattle.image_files.specs.Apart.{OpensApart}
 use Rattle.image_files.specs.declared.file_use.FileUse.{FileUse}
 use Rattle.image_files.specs.declared.images.OpenImage.{OpenImage}
 use Rattle.image_files.specs.FileUses.{image_use, part_use}
-use Rattle.image_files.specs.Opener.{Calls}
+use Rattle.image_files.specs.Opener.{Calls, Opener, calls}
 use Rattle.image_files.specs.OpenParts.{OpensPart}
 use Rattle.stack_rules.specs.Records.{LeafRecord}
 use Rattle.stack_meaning.specs.Leaves.{ServeLeaves}
+use Rattle.stack_opening.specs.declared.leaves.OpenLeaves.{OpenLeaves}
 
 -- an image was opened under its path, clashes with none of the files that are open, and is one of them from then on
 pub record OpensFile {S D : Type 0} (w : Calls S D) (files : List FileUse) (path : List ℕ) (writable : Bool) (device : D) (files' : List FileUse) : Type 0 where
@@ -76,3 +80,26 @@ ClosesEach w [] devices = w.new ≡ w.old
 ClosesEach w (backing ∷ backings) [] = w.new ≡ w.old
 ClosesEach {S} w (backing ∷ backings) (device ∷ devices) =
     (between : S) × ClosesEach (record w { new = between }) backings devices × ClosesBacking (record w { old = between }) backing device
+
+-- the names of leaves
+abbrev pub names_in : List LeafRecord → List (List ℕ)
+names_in leaves = map (λ leaf. leaf.name) leaves
+
+-- ---- the same by the opener, before and after its calls, and by what the program names
+
+-- the device behind a name is opened beside some files, and its file is one of them then
+abbrev pub Backs : {S D : Type 0} → Opener S D → (D → Device) → S → S → Vec FileUse Global → Vec FileUse Global → Backing → D → Type 0
+Backs relations state old new files files' backing = λ device. OpensBacking (calls relations state old new) files.items (backing_record backing) device files'.items
+
+-- the leaves of the bindings and their devices
+abbrev pub BindsAll : {S D : Type 0} → Opener S D → (D → Device) → S → S → List FileUse → List Binding → OpenLeaves D → Type 0
+BindsAll relations state old new files bindings =
+    λ over. AreBound (calls relations state old new) files (map binding_record bindings) over.leaves.items over.devices.items
+
+-- the device behind a name is given back
+abbrev pub ClosesBy : {S D : Type 0} → Opener S D → (D → Device) → S → S → Backing → D → Type 0
+ClosesBy relations state old new backing device = ClosesBacking (calls relations state old new) (backing_record backing) device
+
+-- the devices of the bindings are
+abbrev pub ClosesAll : {S D : Type 0} → Opener S D → (D → Device) → S → S → List Binding → List D → Type 0
+ClosesAll relations state old new bindings devices = ClosesEach (calls relations state old new) (backings_of (map binding_record bindings)) devices

@@ -1,12 +1,13 @@
 -- What a command on a stack file opens, in this order: the stack text, what stands beside it, and the bindings.
-use Rattle.std.specs.Prelude.{◌⊎◌, ℕ, Bool, true, List, [], ◌∷◌, map}
+use Rattle.std.specs.Prelude.{◌⊎◌, ℕ, Bool, true, List, [], ◌∷◌, map, false}
+use Rattle.block_device.specs.Device.{Device}
 use Rattle.command_line.specs.Bindings.{BindingRecord, binding_record}
 use Rattle.image_files.specs.Apart.{OpensApart, RefusesApart}
 use Rattle.image_files.specs.declared.images.FileText.{FileText}
 use Rattle.image_files.specs.declared.images.OpenImage.{OpenImage}
 use Rattle.image_files.specs.FileUses.{image_use, text_use}
 use Rattle.image_files.specs.Opened.{RefusesText, Tells}
-use Rattle.image_files.specs.Opener.{Calls}
+use Rattle.image_files.specs.Opener.{Calls, Opener, calls}
 use Rattle.stack_opening.specs.declared.fault.OpeningFault.{OpeningFault}
 use Rattle.stack_opening.specs.declared.stack_file.OpenStack.{OpenStack}
 use Rattle.stack_opening.specs.declared.stack_file.StackFile.{StackFile}
@@ -106,3 +107,45 @@ OpensOutput w words out over image = OpensBeside w words out true over image
 
 abbrev pub FailsToOpenOutput : {S D : Type 0} → Calls S D → StackWords → List ℕ → OpeningFault → Type 0
 FailsToOpenOutput w words out fault = FailsToOpenBeside w words out true fault
+
+-- ---- the same by the opener, before and after its calls, and by the words of the program
+
+-- STACK and the bindings are opened
+abbrev pub OpensByFile : {S D : Type 0} → Opener S D → (D → Device) → S → S → StackFile → OpenStack D → Type 0
+OpensByFile relations state old new file = OpensStack (calls relations state old new) (stack_words file)
+
+-- they are not
+abbrev pub FailsByFile : {S D : Type 0} → Opener S D → (D → Device) → S → S → StackFile → OpeningFault → Type 0
+FailsByFile relations state old new file = FailsToOpen (calls relations state old new) (stack_words file)
+
+-- STACK, SOURCE's text and the bindings are
+abbrev pub OpensWithSource : {S D : Type 0} → Opener S D → (D → Device) → S → S → StackFile → List ℕ → OpenStack D × FileText → Type 0
+OpensWithSource relations state old new file source = λ both. OpensSource (calls relations state old new) (stack_words file) source both.0 both.1
+
+-- they are not
+abbrev pub FailsWithSource : {S D : Type 0} → Opener S D → (D → Device) → S → S → StackFile → List ℕ → OpeningFault → Type 0
+FailsWithSource relations state old new file source = FailsToOpenSource (calls relations state old new) (stack_words file) source
+
+-- STACK, an image and the bindings are
+abbrev pub OpensWith : {S D : Type 0} → Opener S D → (D → Device) → S → S → StackFile → List ℕ → Bool → OpenStack D × OpenImage D → Type 0
+OpensWith relations state old new file path writable = λ both. OpensBeside (calls relations state old new) (stack_words file) path writable both.0 both.1
+
+-- they are not
+abbrev pub FailsWith : {S D : Type 0} → Opener S D → (D → Device) → S → S → StackFile → List ℕ → Bool → OpeningFault → Type 0
+FailsWith relations state old new file path writable = FailsToOpenBeside (calls relations state old new) (stack_words file) path writable
+
+-- the same of an image that is only read
+abbrev pub OpensWithInput : {S D : Type 0} → Opener S D → (D → Device) → S → S → StackFile → List ℕ → OpenStack D × OpenImage D → Type 0
+OpensWithInput relations state old new file source = OpensWith relations state old new file source false
+
+-- they are not
+abbrev pub FailsWithInput : {S D : Type 0} → Opener S D → (D → Device) → S → S → StackFile → List ℕ → OpeningFault → Type 0
+FailsWithInput relations state old new file source = FailsWith relations state old new file source false
+
+-- the same of OUT, which is written
+abbrev pub OpensWithOutput : {S D : Type 0} → Opener S D → (D → Device) → S → S → StackFile → List ℕ → OpenStack D × OpenImage D → Type 0
+OpensWithOutput relations state old new file out = λ both. OpensOutput (calls relations state old new) (stack_words file) out both.0 both.1
+
+-- they are not
+abbrev pub FailsWithOutput : {S D : Type 0} → Opener S D → (D → Device) → S → S → StackFile → List ℕ → OpeningFault → Type 0
+FailsWithOutput relations state old new file out = FailsToOpenOutput (calls relations state old new) (stack_words file) out

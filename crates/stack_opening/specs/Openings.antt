@@ -1,6 +1,10 @@
 -- How a command ends where what it names isn't opened or read.
-use Rattle.std.specs.Prelude.{◌≡◌, ◌⊎◌, ℕ, ◌+◌, ◌*◌, ◌^◌, ◌<◌, ◌≤◌, Bool, List, [], ◌∷◌, ◌++◌, length}
-use Rattle.command_line.specs.Bindings.{BackingRecord, BindingRecord, file, part, ramp, zeros}
+use Rattle.std.specs.Global.{Global}
+use Rattle.std.specs.Prelude.{◌≡◌, ◌⊎◌, ℕ, ◌+◌, ◌*◌, ◌^◌, ◌<◌, ◌≤◌, Bool, List, [], ◌∷◌, ◌++◌, length, map, Vec}
+use Rattle.block_device.specs.Device.{Device}
+use Rattle.command_line.specs.Bindings.{BackingRecord, BindingRecord, backing_record, binding_record, file, part, ramp, zeros}
+use Rattle.command_line.specs.declared.bindings.Backing.{Backing}
+use Rattle.command_line.specs.declared.bindings.Binding.{Binding}
 use Rattle.image_files.specs.Apart.{RefusesApart}
 use Rattle.image_files.specs.declared.file_use.FileUse.{FileUse}
 use Rattle.image_files.specs.declared.images.FileText.{FileText}
@@ -8,7 +12,7 @@ use Rattle.image_files.specs.declared.opening.UnopenedFile.{UnopenedFile}
 use Rattle.image_files.specs.Opened.{RefusesText, Tells}
 use Rattle.image_files.specs.declared.parts.UnopenedPart.{UnopenedPart}
 use Rattle.image_files.specs.declared.parts.UnopenedPart.TheVariants as unopened_part
-use Rattle.image_files.specs.Opener.{Calls}
+use Rattle.image_files.specs.Opener.{Calls, Opener, calls}
 use Rattle.image_files.specs.OpenParts.{RefusesPart}
 use Rattle.stack_opening.specs.declared.fault.OpeningFault.{OpeningFault}
 use Rattle.stack_opening.specs.declared.fault.OpeningFault.TheVariants.{NoMemory, Open, Outside, TooLong}
@@ -85,3 +89,17 @@ pub record RunsOut {S D : Type 0} (w : Calls S D) (files : List FileUse) (backin
 abbrev pub IsBindingEnd : {S D : Type 0} → Calls S D → List FileUse → List BindingRecord → OpeningFault → Type 0
 IsBindingEnd w files bindings NoMemory = RunsOut w files (backings_of bindings)
 IsBindingEnd w files bindings fault = RefusesBinding w files (backings_of bindings) fault
+
+-- ---- the same by the opener, before and after its calls, and by what the program names
+
+-- what is written to a device isn't told
+abbrev pub RefusesSource : {S D : Type 0} → Opener S D → (D → Device) → S → S → List ℕ → UnopenedFile → Type 0
+RefusesSource relations state old new path = RefusesText (calls relations state old new) path most_source
+
+-- the device behind a name isn't opened
+abbrev pub FailsToBack : {S D : Type 0} → Opener S D → (D → Device) → S → S → Vec FileUse Global → Backing → OpeningFault → Type 0
+FailsToBack relations state old new files backing = IsBackingEnd (calls relations state old new) files.items (backing_record backing)
+
+-- one of the bindings isn't
+abbrev pub FailsToBindAll : {S D : Type 0} → Opener S D → (D → Device) → S → S → List FileUse → List Binding → OpeningFault → Type 0
+FailsToBindAll relations state old new files bindings = IsBindingEnd (calls relations state old new) files (map binding_record bindings)

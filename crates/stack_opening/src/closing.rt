@@ -1,8 +1,5 @@
 //! Gives back what was opened.
-ghost use Rattle.std.specs.Prelude.{map};
-ghost use Rattle.command_line.specs.Bindings.{backing_record, binding_record};
-ghost use Rattle.image_files.specs.Opener.{calls};
-ghost use Rattle.stack_opening.specs.Bindings.{ClosesBacking, ClosesEach, backings_of};
+ghost use Rattle.stack_opening.specs.Bindings.{ClosesAll, ClosesBy};
 
 use crate::part::device_part;
 use block_device::BlockDev;
@@ -11,7 +8,7 @@ use image_files::Images;
 
 // The image of a binding. What is in memory alone is under no path.
 fn close_backing<I: Images>(images: &mut I, backing: Backing<'_>, device: I::Dev)
-    ensures { ClosesBacking (calls I.relations I.Dev.state images.old images.new) (backing_record backing.entry) device }
+    ensures { ClosesBy I.relations I.Dev.state images.old images.new backing.entry device }
 {
     match backing {
         Backing::File { path, writable: _ } => images.close(path, device),
@@ -26,7 +23,7 @@ fn close_backing<I: Images>(images: &mut I, backing: Backing<'_>, device: I::Dev
 
 /// Gives the images of the bindings back, from the last one to the first.
 pub fn close_each<I: Images>(images: &mut I, bindings: &[Binding<'_>], mut devices: Vec<I::Dev>)
-    ensures { ClosesEach (calls I.relations I.Dev.state images.old images.new) (backings_of (map binding_record bindings.now)) devices.items }
+    ensures { ClosesAll I.relations I.Dev.state images.old images.new bindings.now devices.items }
 {
     'devices: while let Some(device) = devices.pop() {
         if let Some(binding) = bindings.get(devices.len()) {

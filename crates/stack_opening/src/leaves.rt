@@ -1,10 +1,8 @@
 //! The leaves of the bindings that a command line names, opened in their order.
 ghost use Rattle.std.specs.Prelude.{◌≡◌, ◌++◌, [], ◌∷◌, map, IfOk, IfErr, OnOk};
 ghost use Rattle.stack_meaning.specs.Leaves.{ServeLeaves};
-ghost use Rattle.command_line.specs.Bindings.{backing_record, binding_record};
-ghost use Rattle.image_files.specs.Opener.{calls};
-ghost use Rattle.stack_opening.specs.Bindings.{AreBound, OpensBacking};
-ghost use Rattle.stack_opening.specs.Openings.{IsBackingEnd, IsBindingEnd};
+ghost use Rattle.stack_opening.specs.Bindings.{Backs, BindsAll, names_in};
+ghost use Rattle.stack_opening.specs.Openings.{FailsToBack, FailsToBindAll};
 
 use crate::fault::OpeningFault;
 use crate::part::device_part;
@@ -36,7 +34,7 @@ impl<D: BlockDev + Drop> OpenLeaves<D> {
     fn bind(&mut self, alloc: Global, name: &str, device: D) -> Result<(), AllocError>
         requires { ServeLeaves self.old.leaves.items (map D.state self.old.devices.items) }
         ensures served { OnOk result (ServeLeaves self.new.leaves.items (map D.state self.new.devices.items)) }
-        ensures names { OnOk result (map (λ leaf. leaf.name) self.new.leaves.items ≡ map (λ leaf. leaf.name) self.old.leaves.items ++ name.now ∷ []) }
+        ensures names { OnOk result (names_in self.new.leaves.items ≡ names_in self.old.leaves.items ++ name.now ∷ []) }
         ensures devices { OnOk result (self.new.devices.items ≡ self.old.devices.items ++ device ∷ []) }
     {
         let leaf = Leaf {
@@ -58,8 +56,8 @@ fn open_backing<'a, I: Images>(
     files: &mut Vec<FileUse>,
     backing: Backing<'a>,
 ) -> Result<I::Dev, OpeningFault<'a>>
-    ensures ok { IfOk result (λ device. OpensBacking (calls I.relations I.Dev.state images.old images.new) files.old.items (backing_record backing.entry) device files.new.items) }
-    ensures err { IfErr result (IsBackingEnd (calls I.relations I.Dev.state images.old images.new) files.old.items (backing_record backing.entry)) }
+    ensures ok { IfOk result (Backs I.relations I.Dev.state images.old images.new files.old files.new backing.entry) }
+    ensures err { IfErr result (FailsToBack I.relations I.Dev.state images.old images.new files.old backing.entry) }
 {
     match backing {
         Backing::File { path, writable } => {
@@ -96,8 +94,8 @@ pub fn open_all<'a, I: Images>(
     files: &[FileUse],
     bindings: &[Binding<'a>],
 ) -> Result<OpenLeaves<I::Dev>, OpeningFault<'a>>
-    ensures ok { IfOk result (λ over. AreBound (calls I.relations I.Dev.state images.old images.new) files.now (map binding_record bindings.now) over.leaves.items over.devices.items) }
-    ensures err { IfErr result (IsBindingEnd (calls I.relations I.Dev.state images.old images.new) files.now (map binding_record bindings.now)) }
+    ensures ok { IfOk result (BindsAll I.relations I.Dev.state images.old images.new files.now bindings.now) }
+    ensures err { IfErr result (FailsToBindAll I.relations I.Dev.state images.old images.new files.now bindings.now) }
 {
     let mut open_leaves = OpenLeaves::new(alloc);
     let mut open_files = Vec::from_slice(alloc, files)?;

@@ -1,8 +1,8 @@
 //! The texts that a command takes: stack texts, and what is written.
 ghost use Rattle.std.specs.Prelude.{IfOk, IfErr};
-ghost use Rattle.image_files.specs.Opened.{RefusesText, Tells};
+ghost use Rattle.image_files.specs.Opened.{Tells};
 ghost use Rattle.image_files.specs.Opener.{calls};
-ghost use Rattle.stack_opening.specs.Openings.{IsTextEnd, TellsStack, most_source};
+ghost use Rattle.stack_opening.specs.Openings.{IsTextEnd, RefusesSource, TellsStack, most_source};
 
 use crate::fault::OpeningFault;
 use block_device::BlockDev;
@@ -34,7 +34,7 @@ pub fn read_source<'a, I: Images>(
     path: &'a str,
 ) -> Result<FileText, UnopenedFile<'a>>
     ensures ok { IfOk result (Tells (calls I.relations I.Dev.state images.old images.new) path.now most_source) }
-    ensures err { IfErr result (RefusesText (calls I.relations I.Dev.state images.old images.new) path.now most_source) }
+    ensures err { IfErr result (RefusesSource I.relations I.Dev.state images.old images.new path.now) }
 {
     read_text(images, path, MOST_BYTES)
 }

@@ -1,8 +1,7 @@
 //! What a command on a stack file opens, in this order: the stack text, what stands beside it, and the bindings.
-ghost use Rattle.std.specs.Prelude.{◌≡◌, false, true, map, IfOk, IfErr};
+ghost use Rattle.std.specs.Prelude.{◌≡◌, false, true, IfOk, IfErr};
 ghost use Rattle.image_files.specs.FileUses.{text_use};
-ghost use Rattle.image_files.specs.Opener.{calls};
-ghost use Rattle.stack_opening.specs.OpenStacks.{FailsToOpen, FailsToOpenBeside, FailsToOpenOutput, FailsToOpenSource, OpensBeside, OpensOutput, OpensSource, OpensStack, stack_words};
+ghost use Rattle.stack_opening.specs.OpenStacks.{FailsByFile, FailsWith, FailsWithInput, FailsWithOutput, FailsWithSource, OpensByFile, OpensWith, OpensWithInput, OpensWithOutput, OpensWithSource};
 
 use crate::fault::OpeningFault;
 use crate::leaves::{OpenLeaves, open_all};
@@ -45,8 +44,8 @@ pub fn open_stack<'a, I: Images>(
     images: &mut I,
     file: StackFile<'a, '_>,
 ) -> Result<OpenStack<I::Dev>, OpeningFault<'a>>
-    ensures ok { IfOk result (OpensStack (calls I.relations I.Dev.state images.old images.new) (stack_words file.entry)) }
-    ensures err { IfErr result (FailsToOpen (calls I.relations I.Dev.state images.old images.new) (stack_words file.entry)) }
+    ensures ok { IfOk result (OpensByFile I.relations I.Dev.state images.old images.new file.entry) }
+    ensures err { IfErr result (FailsByFile I.relations I.Dev.state images.old images.new file.entry) }
 {
     let text = read_stack(images, file.path)?;
     let OpenLeaves { leaves, devices } = open_all(
@@ -69,8 +68,8 @@ pub fn open_with_source<'a, I: Images>(
     file: StackFile<'a, '_>,
     source: &'a str,
 ) -> Result<(OpenStack<I::Dev>, FileText), OpeningFault<'a>>
-    ensures ok { IfOk result (λ both. OpensSource (calls I.relations I.Dev.state images.old images.new) (stack_words file.entry) source.now both.0 both.1) }
-    ensures err { IfErr result (FailsToOpenSource (calls I.relations I.Dev.state images.old images.new) (stack_words file.entry) source.now) }
+    ensures ok { IfOk result (OpensWithSource I.relations I.Dev.state images.old images.new file.entry source.now) }
+    ensures err { IfErr result (FailsWithSource I.relations I.Dev.state images.old images.new file.entry source.now) }
 {
     let text = read_stack(images, file.path)?;
     let source = read_source(images, source)?;
@@ -91,9 +90,9 @@ pub fn open_with_output<'a, I: Images>(
     file: StackFile<'a, '_>,
     out: &'a str,
 ) -> Result<(OpenStack<I::Dev>, OpenImage<I::Dev>), OpeningFault<'a>>
-    ensures ok { IfOk result (λ both. OpensOutput (calls I.relations I.Dev.state images.old images.new) (stack_words file.entry) out.now both.0 both.1) }
+    ensures ok { IfOk result (OpensWithOutput I.relations I.Dev.state images.old images.new file.entry out.now) }
     ensures writable { IfOk result (λ both. (I.Dev.state both.1.device).may_write ≡ true) }
-    ensures err { IfErr result (FailsToOpenOutput (calls I.relations I.Dev.state images.old images.new) (stack_words file.entry) out.now) }
+    ensures err { IfErr result (FailsWithOutput I.relations I.Dev.state images.old images.new file.entry out.now) }
 {
     open_beside(alloc, images, file, out, true)
 }
@@ -105,8 +104,8 @@ pub fn open_with_input<'a, I: Images>(
     file: StackFile<'a, '_>,
     source: &'a str,
 ) -> Result<(OpenStack<I::Dev>, OpenImage<I::Dev>), OpeningFault<'a>>
-    ensures ok { IfOk result (λ both. OpensBeside (calls I.relations I.Dev.state images.old images.new) (stack_words file.entry) source.now false both.0 both.1) }
-    ensures err { IfErr result (FailsToOpenBeside (calls I.relations I.Dev.state images.old images.new) (stack_words file.entry) source.now false) }
+    ensures ok { IfOk result (OpensWithInput I.relations I.Dev.state images.old images.new file.entry source.now) }
+    ensures err { IfErr result (FailsWithInput I.relations I.Dev.state images.old images.new file.entry source.now) }
 {
     open_beside(alloc, images, file, source, false)
 }
@@ -119,9 +118,9 @@ fn open_beside<'a, I: Images>(
     path: &'a str,
     writable: bool,
 ) -> Result<(OpenStack<I::Dev>, OpenImage<I::Dev>), OpeningFault<'a>>
-    ensures ok { IfOk result (λ both. OpensBeside (calls I.relations I.Dev.state images.old images.new) (stack_words file.entry) path.now writable both.0 both.1) }
+    ensures ok { IfOk result (OpensWith I.relations I.Dev.state images.old images.new file.entry path.now writable) }
     ensures writable { IfOk result (λ both. (I.Dev.state both.1.device).may_write ≡ writable) }
-    ensures err { IfErr result (FailsToOpenBeside (calls I.relations I.Dev.state images.old images.new) (stack_words file.entry) path.now writable) }
+    ensures err { IfErr result (FailsWith I.relations I.Dev.state images.old images.new file.entry path.now writable) }
 {
     let text = read_stack(images, file.path)?;
     let image = open_apart(images, &[text_use(&text)], path, writable)?;

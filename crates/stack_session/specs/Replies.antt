@@ -1,5 +1,5 @@
 -- What a queue replies to the lines of a session, and how they leave it.
-use Rattle.std.specs.Prelude.{◌≡◌, ◌⊎◌, ℕ, false, List, [], length, Result, Ok, Err}
+use Rattle.std.specs.Prelude.{◌≡◌, ◌⊎◌, ℕ, false, List, [], length, Result, Ok, Err, Option}
 use Rattle.std.specs.Option.{option_map_or}
 use Rattle.block_device.specs.Device.{Device, capped}
 use Rattle.dm_table.specs.declared.stack.Entry.{Entry}
@@ -26,9 +26,13 @@ use Rattle.request_queue.specs.WholeRuns.{RunAnswers}
 use Rattle.request_queue.specs.World.{World, Event, Step}
 use Rattle.request_queue.specs.World as event
 use Rattle.io_fault_text.specs.Texts.{no_memory}
-use Rattle.stack_session.specs.Accesses.{first_of}
+use Rattle.stack_session.specs.Accesses.{access_record, first_of}
 use Rattle.stack_session.specs.Commands.{CommandRecord, nothing, load, run, submit, step, remove, cost, table, moved, usage, command_of}
+use Rattle.stack_session.specs.Session.{WritesReply}
 use Rattle.stack_session.specs.Texts.{usage_text, fault_text, submit_text, load_text, remove_text, submission_text, run_text, step_text, cost_text, moved_text}
+use Rattle.stack_session.specs.declared.access.Access.{Access}
+use Rattle.counted_io.specs.Counted.{CountedRecord}
+use Rattle.counted_io.specs.declared.fault.WriteFault.{WriteFault}
 
 -- How an event leads from one world of a queue to the next.
 abbrev pub Stepping : Type 1
@@ -106,3 +110,17 @@ pub record WholeStep (w : World) (e : Event) (w' : World) : Type 0 where
 -- of a text that is the reply to a command: all that is known
 abbrev pub IsReplyTo : World → CommandRecord → World → List ℕ → Type 0
 IsReplyTo w command w' reply = RepliesTo WholeStep w command reply w'
+
+-- ---- as a call sees them
+
+-- the reply to a command was written, or the writer failed in it
+abbrev pub RepliesBy : {T : Type 0} → (T → Option (List ℕ)) → CountedRecord T → CountedRecord T → World → World → CommandRecord → Result Unit WriteFault → Type 0
+RepliesBy contents old new w w' command result = WritesReply contents old new (IsReplyTo w command w') result
+
+-- the command that runs what a line asks for
+abbrev pub runs_access : Access → CommandRecord
+runs_access access = run (access_record access)
+
+-- the command that begins it
+abbrev pub submits_access : Access → CommandRecord
+submits_access access = submit (access_record access)

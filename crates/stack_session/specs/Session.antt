@@ -1,6 +1,7 @@
 -- A whole session: the lines of an input, and the replies to them, one after another. How one line is
 -- replied to is a parameter, `replies`: from the first state, the line may get the reply and leave the second.
-use Rattle.std.specs.Prelude.{◌≡◌, ◌≢◌, ◌≤◌, ◌<◌, ◌+◌, ◌⊎◌, true, false, ℕ, List, [], ◌∷◌, ◌++◌, length, take, All, flat_map, Option, Result, Err, OnOk, IsErrOf}
+use Rattle.std.specs.Global.{Global}
+use Rattle.std.specs.Prelude.{◌≡◌, ◌≢◌, ◌≤◌, ◌<◌, ◌+◌, ◌⊎◌, true, false, ℕ, List, [], ◌∷◌, ◌++◌, length, take, All, flat_map, Option, Result, Err, OnOk, IsErrOf, Vec}
 use Rattle.std.specs.Io.KnownBytes.{Consumes, IsAtEnd}
 use Rattle.block_device.specs.Device.{capped}
 use Rattle.stack_session.specs.declared.fault.SessionFault.{SessionFault}
@@ -148,3 +149,7 @@ pub record IsEnding {R W : Type 0} (reader reader' : CountedRecord R) (writer' :
 pub record IsRemembered {T W : Type 0} (old new : CountedRecord W) (result : Result T SessionFault) : Type 0 where
   pub kept : OnOk result (new.failed ≡ old.failed)
   pub failed : IsErrOf result WriteFault → new.failed ≡ true
+
+-- the lines of what was kept and of more bytes were served, as far as the server's calls went
+abbrev pub StopsLine : {S T A : Type 0} → Replying S → S → S → (T → Option (List ℕ)) → CountedRecord T → CountedRecord T → Vec ℕ Global → List ℕ → Result A SessionFault → Type 0
+StopsLine replies first last contents old new rest more result = StopsWriting contents old new (ServesFront replies first (rest.items ++ more) last) result

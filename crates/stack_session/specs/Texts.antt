@@ -126,3 +126,13 @@ cost_text sectors depth read write =
 -- how many sectors the leaves have read and written
 abbrev pub moved_text : ℕ → ℕ → List ℕ
 moved_text reads writes = codes "moved " ++ (decimal reads ++ (codes " " ++ (decimal writes ++ codes "\n")))
+
+-- ---- as a call sees them
+
+-- the whole sectors of these bytes, the first of them under that number
+abbrev pub sectors_text : ℕ → List ℕ → List ℕ
+sectors_text first bytes = sector_lines (length bytes / 512) first bytes
+
+-- a number, a text and digits
+abbrev pub digits_line : ℕ → List ℕ → List ℕ → List ℕ
+digits_line number between digits = decimal number ++ (between ++ (digits ++ codes "\n"))

@@ -1,8 +1,8 @@
 //! Writes the replies.
-ghost use Rattle.std.specs.Prelude.{◌≡◌, ◌+◌, ◌*◌, ◌/◌, ◌%◌, ◌<◌, decimal, ◌^◌, ◌==◌, ◌++◌, codes, length, slice_index};
+ghost use Rattle.std.specs.Prelude.{◌≡◌, ◌+◌, ◌*◌, ◌<◌, decimal, ◌==◌, length, slice_index};
 ghost use Rattle.std.specs.List.{list_all};
 ghost use Rattle.counted_io.specs.Counted.{Writes};
-ghost use Rattle.stack_session.specs.Texts.{busy_text, loaded_text, fault_text, refusal_text, removed_text, removal_text, ticket_text, more_text, no_ticket_text, written_text, submit_text, reply_text, sector_line, sector_lines, moved_text};
+ghost use Rattle.stack_session.specs.Texts.{busy_text, loaded_text, fault_text, refusal_text, removed_text, removal_text, ticket_text, more_text, no_ticket_text, written_text, submit_text, reply_text, sector_line, moved_text, digits_line, sectors_text};
 ghost use Rattle.stack_session.specs.Replies.{cost_of};
 
 use counted_io::{Counted, WriteFault};
@@ -128,7 +128,7 @@ fn say_digits<W: Write>(
     between: &[u8],
     digits: &[u8],
 ) -> Result<(), WriteFault>
-    ensures { Writes W.contents writer.old writer.new (decimal number ++ (between.now ++ (digits.now ++ codes "\n"))) result }
+    ensures { Writes W.contents writer.old writer.new (digits_line number between.now digits.now) result }
 {
     say_number(writer, number)?;
     writer.put(between)?;
@@ -162,7 +162,7 @@ pub fn say_sectors<W: Write>(
     first: u64,
     bytes: &[u8],
 ) -> Result<(), WriteFault>
-    ensures { Writes W.contents writer.old writer.new (sector_lines (length bytes.now / 512) first bytes.now) result }
+    ensures { Writes W.contents writer.old writer.new (sectors_text first bytes.now) result }
 {
     // No number of a sector wraps, whatever the first is.
     let mut number = u128::from(first);

@@ -1,10 +1,10 @@
 //! The lines of a session, served by a queue over a stack.
 ghost use Rattle.std.specs.Prelude.{false, ◌≡◌, ◌≤◌, length};
-ghost use Rattle.stack_session.specs.Accesses.{IsSmall, access_record};
+ghost use Rattle.stack_session.specs.Accesses.{IsSmall};
 ghost use Rattle.stack_session.specs.Commands.{load, run, submit, step, remove, cost, table, moved};
-ghost use Rattle.stack_session.specs.Replies.{IsReplyTo, Replies, WholeStep};
+ghost use Rattle.stack_session.specs.Replies.{Replies, RepliesBy, WholeStep, runs_access, submits_access};
 ghost use Rattle.stack_session.specs.QueueSessions.{IsQueueSessionOf};
-ghost use Rattle.stack_session.specs.Session.{IsEnding, WritesReply};
+ghost use Rattle.stack_session.specs.Session.{IsEnding};
 
 use crate::access::Access;
 use crate::command::{Command, command_of};
@@ -33,7 +33,7 @@ fn reply_to_load<D: BlockDev, W: Write>(
     writer: &mut Counted<W>,
 ) -> Result<(), WriteFault>
     requires { length text.now ≤ LIMIT }
-    ensures { WritesReply W.contents writer.old writer.new (IsReplyTo queue.old (load text.now) queue.new) result }
+    ensures { RepliesBy W.contents writer.old writer.new queue.old queue.new (load text.now) result }
 {
     let entries = match parse_stack(alloc, text) {
         Ok(entries) => entries,
@@ -56,7 +56,7 @@ fn reply_to_run<D: BlockDev, W: Write>(
     writer: &mut Counted<W>,
 ) -> Result<(), WriteFault>
     requires { IsSmall access }
-    ensures { WritesReply W.contents writer.old writer.new (IsReplyTo queue.old (run (access_record access.entry)) queue.new) result }
+    ensures { RepliesBy W.contents writer.old writer.new queue.old queue.new (runs_access access.entry) result }
 {
     let Ok(request) = access.request(alloc) else {
         return say_no_memory(writer);
@@ -79,7 +79,7 @@ fn reply_to_submit<D: BlockDev, W: Write>(
     writer: &mut Counted<W>,
 ) -> Result<(), WriteFault>
     requires { IsSmall access }
-    ensures { WritesReply W.contents writer.old writer.new (IsReplyTo queue.old (submit (access_record access.entry)) queue.new) result }
+    ensures { RepliesBy W.contents writer.old writer.new queue.old queue.new (submits_access access.entry) result }
 {
     let Ok(request) = access.request(alloc) else {
         return say_no_memory(writer);
@@ -99,7 +99,7 @@ fn reply_to_step<D: BlockDev, W: Write>(
     ticket: u64,
     writer: &mut Counted<W>,
 ) -> Result<(), WriteFault>
-    ensures { WritesReply W.contents writer.old writer.new (IsReplyTo queue.old (step ticket) queue.new) result }
+    ensures { RepliesBy W.contents writer.old writer.new queue.old queue.new (step ticket) result }
 {
     let first = queue.first_sector(Ticket(ticket)).unwrap_or(0);
     match queue.step(Ticket(ticket)) {
@@ -116,7 +116,7 @@ fn reply_to_remove<D: BlockDev, W: Write>(
     name: &[u8],
     writer: &mut Counted<W>,
 ) -> Result<(), WriteFault>
-    ensures { WritesReply W.contents writer.old writer.new (IsReplyTo queue.old (remove name.now) queue.new) result }
+    ensures { RepliesBy W.contents writer.old writer.new queue.old queue.new (remove name.now) result }
 {
     match queue.remove(name) {
         Ok(()) => say_removed(writer),
@@ -131,7 +131,7 @@ fn reply_to_cost<D: BlockDev, W: Write>(
     name: &[u8],
     writer: &mut Counted<W>,
 ) -> Result<(), WriteFault>
-    ensures { WritesReply W.contents writer.old writer.new (IsReplyTo queue.now (cost name.now) queue.now) result }
+    ensures { RepliesBy W.contents writer.old writer.new queue.now queue.now (cost name.now) result }
 {
     let config = queue.stack().config();
     match config.device(name) {
@@ -147,7 +147,7 @@ fn reply_to_table<D: BlockDev, W: Write>(
     name: &[u8],
     writer: &mut Counted<W>,
 ) -> Result<(), WriteFault>
-    ensures { WritesReply W.contents writer.old writer.new (IsReplyTo queue.now (table name.now) queue.now) result }
+    ensures { RepliesBy W.contents writer.old writer.new queue.now queue.now (table name.now) result }
 {
     let config = queue.stack().config();
     let Some(d) = config.device(name) else {
@@ -164,7 +164,7 @@ fn reply_to_moved<D: BlockDev, W: Write>(
     queue: &Queue<D>,
     writer: &mut Counted<W>,
 ) -> Result<(), WriteFault>
-    ensures { WritesReply W.contents writer.old writer.new (IsReplyTo queue.now moved queue.now) result }
+    ensures { RepliesBy W.contents writer.old writer.new queue.now queue.now moved result }
 {
     let (reads, writes) = queue.stack().moved();
     say_moved(writer, reads, writes)

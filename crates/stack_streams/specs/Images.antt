@@ -53,3 +53,13 @@ abbrev pub IsImageEnd : ℕ → ℕ → StackRecord → Device → StackRecord �
 IsImageEnd d first w source w' source' fault =
     IsImageRefused d first w source w' source' fault
     ⊎ (ImageStopsAt d first fault.written w source w' source' fault.cause ⊎ IsImageSyncStop d first w source w' fault)
+
+-- ---- as a call sees them
+
+-- all sectors of the source were written, and nothing is synced yet
+abbrev pub HasStoredAll : ℕ → ℕ → StackRecord → Device → StackRecord → ℕ → Type 0
+HasStoredAll d first w source w' = λ n. HasStoredImage d first n w source w' × (n ≡ source.size)
+
+-- or not all were, by the source before and after
+abbrev pub StopsImage : {T : Type 0} → (T → Device) → ℕ → ℕ → StackRecord → T → StackRecord → T → StoreFault → Type 0
+StopsImage state d first w source w' source' = λ fault. ImageStopsAt d first fault.written w (state source) w' (state source') fault.cause

@@ -113,3 +113,9 @@ IsUnstored w words fault =
 abbrev pub IsFileEnd : {S D : Type 0} → Calls S D → FileWords → Option (List ℕ) → Option (List ℕ) → Bool → StreamFault → Type 0
 IsFileEnd w words old new failed fault =
     ((new ≡ old) × IsStackless (IsUnstored w words) fault) ⊎ (FailsToStoreFile w words old new fault ⊎ ((n : ℕ) × StoresFile w words n × IsUnwritten failed fault))
+
+-- ---- as a call sees them
+
+-- the same of a source by what a proof sees of it
+abbrev pub EndsWhole : {T : Type 0} → (T → Device) → Bool → ℕ → ℕ → StackRecord → T → StackRecord → T → StoreFault → Type 0
+EndsWhole state part d first stack source stack' source' = IsWholeEnd part d first stack (state source) stack' (state source')

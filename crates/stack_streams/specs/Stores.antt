@@ -154,3 +154,18 @@ HasStoredBy remaining d place stack reader stack' reader' n =
 abbrev pub StopsStoreBy : {T : Type 0} → (T → Option (List ℕ)) → ℕ → StorePlace → StackRecord → CountedRecord T → StackRecord → CountedRecord T → StoreFault → Type 0
 StopsStoreBy remaining d place stack reader stack' reader' fault =
     IsStoreStop d place.first (store_side stack (remaining reader.inner)) (store_side stack' (remaining reader'.inner)) (IsBroken reader') fault
+
+-- the reader ends there, behind so many sectors
+abbrev pub EndsThere : {T : Type 0} → (T → Option (List ℕ)) → CountedRecord T → CountedRecord T → ℕ → ℕ → Type 0
+EndsThere remaining reader reader' written =
+    λ n. (n ≡ written) × Consumes (remaining reader.inner) (remaining reader'.inner) [] × IsAtEnd (remaining reader'.inner)
+
+-- or it doesn't
+abbrev pub GoesFurther : {T : Type 0} → (T → Option (List ℕ)) → CountedRecord T → CountedRecord T → ℕ → StoreFault → Type 0
+GoesFurther remaining reader reader' written =
+    λ fault. (fault.written ≡ written) × IsProbeEnd (remaining reader.inner) (remaining reader'.inner) (IsBroken reader') fault.cause
+
+-- the last bytes are whole sectors, and were written behind so many others
+abbrev pub StoresLast : ℕ → ℕ → ℕ → List ℕ → StackRecord → StackRecord → ℕ → Type 0
+StoresLast d at written bytes w w' =
+    λ n. (n ≡ written + length bytes / 512) × (length bytes % 512 ≡ 0) × StoresPiece w d at (whole_of bytes) w'

@@ -2,7 +2,7 @@
 ghost use Rattle.std.specs.Prelude.{◌≡◌, ◌<◌, false, length, IsOk, OnOk, IfOk, IfErr};
 ghost use Rattle.image_files.specs.Opener.{calls};
 ghost use Rattle.stack_streams.specs.Images.{StoresImage};
-ghost use Rattle.stack_streams.specs.StoredFiles.{IsFileEnd, IsWholeEnd, PrintsFileStored, words_to_store};
+ghost use Rattle.stack_streams.specs.StoredFiles.{EndsWhole, IsFileEnd, PrintsFileStored, words_to_store};
 ghost use Rattle.stack_streams.specs.Streaming.{EndsPrinting, Printing};
 
 use crate::device_in::Target;
@@ -69,7 +69,7 @@ fn store_whole<D: SyncDev + Drop, S: BlockDev, P: Progress>(
     requires { device.0 < length stack.old.config.devices }
     ensures ok { IfOk result (StoresImage device.0 first stack.old (S.state source.old) stack.new) }
     ensures whole { IsOk result → part ≡ false }
-    ensures err { IfErr result (IsWholeEnd part device.0 first stack.old (S.state source.old) stack.new (S.state source.new)) }
+    ensures err { IfErr result (EndsWhole S.state part device.0 first stack.old source.old stack.new source.new) }
 {
     if part {
         return Err(StoreFault {

@@ -1,7 +1,7 @@
 //! Writes the sectors of another device to a mapped device.
-ghost use Rattle.std.specs.Prelude.{◌≡◌, ◌≢◌, ◌+◌, ◌≤◌, ◌<◌, length, IsTrue, None, IsOk, IfOk, IfErr};
+ghost use Rattle.std.specs.Prelude.{◌≡◌, ◌+◌, ◌≤◌, ◌<◌, length, IsTrue, None, IsOk, IfOk, IfErr};
 ghost use Rattle.stack_rules.specs.Names.{mapped, may_write, size};
-ghost use Rattle.stack_streams.specs.Images.{HasStoredImage, ImageStopsAt, IsImageEnd, StoresImage, image_place};
+ghost use Rattle.stack_streams.specs.Images.{HasStoredAll, IsImageEnd, StopsImage, StoresImage, image_place};
 ghost use Rattle.stack_streams.specs.Stores.{refusal_of};
 
 use crate::fault::{StoreCause, StoreFault};
@@ -55,8 +55,8 @@ fn store_image_by<D: BlockDev, S: BlockDev, P: Progress>(
     requires inside { first + (S.state source.old).size ≤ size stack.old.config (mapped d.0) }
     requires allowed { IsTrue (may_write stack.old.config (mapped d.0)) }
     requires buffer { length room.old ≡ 65536 }
-    ensures ok { IfOk result (λ n. HasStoredImage d.0 first n stack.old (S.state source.old) stack.new × (n ≡ (S.state source.old).size)) }
-    ensures err { IfErr result (λ fault. ImageStopsAt d.0 first fault.written stack.old (S.state source.old) stack.new (S.state source.new) fault.cause) }
+    ensures ok { IfOk result (HasStoredAll d.0 first stack.old (S.state source.old) stack.new) }
+    ensures err { IfErr result (StopsImage S.state d.0 first stack.old source.old stack.new source.new) }
 {
     // How many sectors the device has is learned from a call.
     let _sectors = stack.config().sectors(d);

@@ -1,10 +1,8 @@
 //! Writes the bytes of a reader to a mapped device.
-ghost use Rattle.std.specs.Prelude.{◌≡◌, ◌≢◌, ◌+◌, ◌/◌, ◌%◌, ◌≤◌, ◌<◌, ◌^◌, [], length, IsTrue, None, Err, IsOk, OnOk, IfOk, IfErr};
-ghost use Rattle.std.specs.Io.KnownBytes.{Consumes, IsAtEnd};
+ghost use Rattle.std.specs.Prelude.{◌≡◌, ◌≢◌, ◌+◌, ◌/◌, ◌%◌, ◌≤◌, ◌<◌, ◌^◌, length, IsTrue, None, Err, IsOk, OnOk, IfOk, IfErr};
 ghost use Rattle.stack_rules.specs.Names.{mapped, may_write, size};
 ghost use Rattle.stack_engine.specs.WritePieces.{EachWrite};
-ghost use Rattle.stack_streams.specs.Filling.{IsBroken};
-ghost use Rattle.stack_streams.specs.Stores.{EndsStoreBy, HasStoredBy, IsLastEnd, IsProbeEnd, IsSynced, IsUnsynced, StopsStoreBy, StoresBy, StoresPiece, refusal_of, whole_of};
+ghost use Rattle.stack_streams.specs.Stores.{EndsStoreBy, EndsThere, GoesFurther, HasStoredBy, IsLastEnd, IsSynced, IsUnsynced, StopsStoreBy, StoresBy, StoresLast, StoresPiece, refusal_of};
 
 use crate::fault::{StoreCause, StoreFault};
 use crate::filling::fill;
@@ -134,8 +132,8 @@ fn store_by<D: BlockDev, R: Read, P: Progress>(
 
 // The device is full: whether the reader ends here.
 fn probe<R: Read>(reader: &mut Counted<R>, written: u64) -> Result<u64, StoreFault>
-    ensures ok { IfOk result (λ n. (n ≡ written) × Consumes (R.remaining reader.old.inner) (R.remaining reader.new.inner) [] × IsAtEnd (R.remaining reader.new.inner)) }
-    ensures err { IfErr result (λ fault. (fault.written ≡ written) × IsProbeEnd (R.remaining reader.old.inner) (R.remaining reader.new.inner) (IsBroken reader.new) fault.cause) }
+    ensures ok { IfOk result (EndsThere R.remaining reader.old reader.new written) }
+    ensures err { IfErr result (GoesFurther R.remaining reader.old reader.new written) }
 {
     let mut byte = [0u8; 1];
     match fill(reader, byte.as_mut_slice()) {
@@ -183,7 +181,7 @@ fn store_last<D: BlockDev>(
     requires inside { at + length bytes.now / 512 ≤ size stack.old.config (mapped d.0) }
     requires allowed { IsTrue (may_write stack.old.config (mapped d.0)) }
     requires room { written + length bytes.now / 512 < 2 ^ 64 }
-    ensures ok { IfOk result (λ n. (n ≡ written + length bytes.now / 512) × (length bytes.now % 512 ≡ 0) × StoresPiece stack.old d.0 at (whole_of bytes.now) stack.new) }
+    ensures ok { IfOk result (StoresLast d.0 at written bytes.now stack.old stack.new) }
     ensures err { IfErr result (IsLastEnd d.0 at written bytes.now stack.old stack.new) }
 {
     let whole = bytes.len() / 512;

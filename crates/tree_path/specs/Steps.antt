@@ -53,3 +53,7 @@ pub record IsStopped (w : Steps) (to level : ℕ) : Type 0 where
 abbrev pub HasCome : Steps → ℕ → Option ℕ → Type 0
 HasCome w to None = IsDown w to to
 HasCome w to (Some level) = IsStopped w to level
+
+-- at most n sectors were read, in failed calls too
+abbrev pub HasReadAtMost : Device → ℕ → Device → Type 0
+HasReadAtMost old n new = new.reads ≤ old.reads + n

@@ -1,12 +1,12 @@
 //! The hash blocks on the way to a data block.
-ghost use Rattle.std.specs.Prelude.{◌≡◌, ◌≤◌, ◌<◌, ◌+◌, OnErr, IfOk};
+ghost use Rattle.std.specs.Prelude.{◌≡◌, ◌≤◌, ◌<◌, ◌+◌, ◌-◌, ◌*◌, ◌/◌, OnErr, IfOk};
 ghost use Rattle.std.specs.Str.{bytes_eq};
 ghost use Rattle.block_device.specs.Device.{HasFailed};
 ghost use Rattle.tree_shape.specs.Shape.{ancestor, levels};
 ghost use Rattle.verity_format.specs.Blocks.{IsOnlyRead};
 ghost use Rattle.verity_format.specs.Image.{tree_sectors};
 ghost use Rattle.tree_path.specs.Path.{IsPathOf, digest_on};
-ghost use Rattle.tree_path.specs.Steps.{CanDescend, HasCome, IsLoaded, steps};
+ghost use Rattle.tree_path.specs.Steps.{CanDescend, HasCome, HasReadAtMost, IsLoaded, steps};
 
 use crate::reading::{read_block, zero_blocks};
 use block_device::{BlockDev, DeviceFault};
@@ -101,6 +101,7 @@ impl TreePath {
         ensures read { IsOnlyRead (H.state device.old) (H.state device.new) }
         ensures ok { IfOk result (HasCome (steps self.old self.new (H.state device.old) (H.state device.new) index from) to) }
         ensures fault { OnErr result (HasFailed (H.state device.old) (H.state device.new)) }
+        ensures asked { HasReadAtMost (H.state device.old) ((from - to) * (self.old.shape.hash_block / 512)) (H.state device.new) }
     {
         let mut level = from;
         'levels: while level > to {
@@ -125,6 +126,7 @@ impl TreePath {
         ensures read { IsOnlyRead (H.state device.old) (H.state device.new) }
         ensures ok { IfOk result (IsLoaded (steps self.old self.new (H.state device.old) (H.state device.new) index level)) }
         ensures fault { OnErr result (HasFailed (H.state device.old) (H.state device.new)) }
+        ensures asked { HasReadAtMost (H.state device.old) (self.old.shape.hash_block / 512) (H.state device.new) }
     {
         let place = self
             .shape

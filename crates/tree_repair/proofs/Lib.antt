@@ -1,8 +1,12 @@
 mod FormedLemmas
 mod GoodLemmas
 mod LawLemmas
+mod AskedLemmas
+mod BillLemmas
+mod HeightLemmas
 mod LookLemmas
 mod MakeLemmas
+mod OverLemmas
 mod ParityLemmas
 mod PassLemmas
 mod PieceLemmas

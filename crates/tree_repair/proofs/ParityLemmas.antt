@@ -8,7 +8,6 @@ use Rattle.tree_shape.specs.Shape.{ShapeRecord, IsShape, ancestor, position, are
 use Rattle.tree_path.specs.Path.{PathRecord, digest_on}
 use Rattle.tree_path.proofs.lemmas.DeviceLemmas.{IsBlock, block-inside, block-size, only_read-none}
 use Rattle.tree_survey.specs.Surveys.{IsWay}
-use Rattle.verity_format.specs.Blocks.{AreOnlyRead}
 use Rattle.tree_repair.specs.declared.mending.Mended.TheVariants as mended
 use Rattle.tree_repair.specs.Mending.{IsReplaced}
 use Rattle.tree_repair.specs.Parity.{FailsToPlace, IsGoodNow, IsPlace, IsPlaced, IsPutOr, end_at}
@@ -17,9 +16,6 @@ use Rattle.tree_repair.specs.Worlds.{world}
 use Rattle.tree_repair.specs.Sources.{IsThere, wanted}
 use Rattle.tree_repair.specs.Tries.{IsCoveredOr}
 use Rattle.tree_repair.proofs.SourceLemmas.{each-none}
-
-pub read-none : (a b : Device) → AreOnlyRead a b a b
-read-none a b = record { data_read = only_read-none a; hash_read = only_read-none b }
 
 -- what holds of a result that is a fault
 pub if_ok-from : {T E : Type 0} (r : Result T E) (P : E → Type 0) (Q : T → Type 0) → IsErrAnd r P → IfOk r Q

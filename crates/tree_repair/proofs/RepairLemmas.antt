@@ -25,7 +25,7 @@ module _ (s : SuperRecord) (plan : Plan) (parity : Bool) (j : Job) (w b : World)
   pub can-begin : IsShape (shape_of s) → IsAllowed plan.write w.data_dev w.hash_dev → plan.copy_first ≤ 2 ^ 55 → CanRun j b
   can-begin valid allowed small = subst (λ (x : Job). CanRun x b) (sym same) (begin-of valid allowed small)
 
-  repairs-of : (w' : World) (old new : Option (List ℕ)) (ok : Bool) → HasRun j b w' old new ok → Repairs plan parity w w' old new ok
+  abbrev pub repairs-of : (w' : World) (old new : Option (List ℕ)) (ok : Bool) → HasRun j b w' old new ok → Repairs plan parity w w' old new ok
   repairs-of w' old new ok run = record { s = s; images = images; run = subst (λ (x : Job). HasRun x w w' old new ok) same (has-behind read run) }
 
   pub whole-ok : (w' : World) (old new : Option (List ℕ)) (r : Result (Unit {0}) RepairFault) → HasRun j b w' old new (is_ok r) → OnOk r (Repairs plan parity w w' old new true)
@@ -40,3 +40,8 @@ module _ (s : SuperRecord) (plan : Plan) (parity : Bool) (j : Job) (w b : World)
 pub err-from : {T E : Type 0} (r : Result T E) (P : E → Type 0) (fault : E) → IsErrAnd r (λ e. e ≡ fault) → P fault → IfErr r P
 err-from (Ok done) P fault is holds = tt
 err-from (Err e) P fault is holds = subst P (sym is) holds
+
+-- the same of a result that is known to be a fault
+pub is_err-from : {T E : Type 0} (r : Result T E) (P : E → Type 0) (fault : E) → IsErrAnd r (λ e. e ≡ fault) → P fault → IsErrAnd r P
+is_err-from (Ok done) P fault is holds = absurd is
+is_err-from (Err e) P fault is holds = subst P (sym is) holds

@@ -11,7 +11,7 @@ use Rattle.std.proofs.lemmas.List.Elements.{All-append, All-cons, All-nil}
 use Rattle.block_device.specs.Device.{Device, IsSameDevice}
 use Rattle.fec_area.specs.declared.layout.Layout.{Layout}
 use Rattle.fec_area.specs.Layouts.{IsLaidOn}
-use Rattle.verity_format.specs.Blocks.{AreOnlyRead, IsOnlyRead}
+use Rattle.verity_format.specs.Blocks.{IsOnlyRead}
 use Rattle.tree_path.proofs.lemmas.DeviceLemmas.{only_read-none, only_read-then, same-none, same-then}
 use Rattle.tree_repair.specs.declared.mending.Mended.{Mended}
 use Rattle.tree_repair.specs.declared.mending.Mended.TheVariants as mended
@@ -167,10 +167,6 @@ tree-read w d read = record { data_read = only_read-none w.data_dev; hash_read =
 -- the data device alone was
 pub data-read : (w : World) (d : Device) → IsOnlyRead w.data_dev d → IsWorldRead w (world d w.hash_dev w.data_copies w.hash_copies)
 data-read w d read = record { data_read = read; hash_read = only_read-none w.hash_dev; data_copies_read = each-none w.data_copies; hash_copies_read = each-none w.hash_copies }
-
--- both were
-pub both-read : (w : World) (d h : Device) → AreOnlyRead w.data_dev w.hash_dev d h → IsWorldRead w (world d h w.data_copies w.hash_copies)
-both-read w d h read = record { data_read = read.data_read; hash_read = read.hash_read; data_copies_read = each-none w.data_copies; hash_copies_read = each-none w.hash_copies }
 
 -- covered blocks still lie on the devices
 laid-same : (l : Layout) (a b : World) → AreSame a b → IsLaidOn l a.data_dev a.hash_dev → IsLaidOn l b.data_dev b.hash_dev

@@ -8,6 +8,8 @@ pub mod Jobs
 pub mod Grounds
 pub mod Visits
 pub mod Repairs
+pub mod Bounds
+pub mod Bills
 pub mod Laws
 pub mod Parity
 pub mod Tries

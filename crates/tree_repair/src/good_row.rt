@@ -1,16 +1,18 @@
 //! Rows of data blocks that are good, seen at once.
-ghost use Rattle.std.specs.Prelude.{◌≡◌, ◌≤◌, ◌<◌, ◌+◌, ◌-◌, ◌^◌, IfSome, IsTrue, length};
-ghost use Rattle.std.specs.Str.{bytes_eq};
+ghost use Rattle.std.specs.Prelude.{◌≡◌, ◌≤◌, ◌<◌, ◌+◌, ◌-◌, ◌*◌, ◌/◌, ◌^◌, IfSome, IsTrue, length};
 ghost use Rattle.tree_shape.specs.Shape.{IsShape};
 ghost use Rattle.tree_survey.specs.Pieces.{IsRunOn, IsRunRead};
 ghost use Rattle.verity_format.specs.Blocks.{IsOnlyRead};
 ghost use Rattle.verity_format.specs.Image.{data_sectors};
+ghost use Rattle.tree_path.specs.Steps.{HasReadAtMost};
+ghost use Rattle.tree_repair.specs.Bills.{Leaves, data_over, nothing_due, piece_of, reading};
 ghost use Rattle.tree_repair.specs.Coverage.{AreDigestsOn, AreGoodFrom, IsGoodRow};
 ghost use Rattle.tree_repair.specs.Jobs.{job};
 ghost use Rattle.tree_repair.specs.Worlds.{IsWorldRead};
 
 use crate::image::DamagedImage;
 use crate::place::{ROOM, Repair, Row};
+use crate::seeking::is_same;
 use block_device::BlockDev;
 use hash_tree::digest_blocks;
 use tree_path::TreePath;
@@ -33,6 +35,7 @@ pub(crate) fn is_good_row<D: BlockDev, H: BlockDev, C: BlockDev>(
     requires room { 65536 ≤ length memory.old }
     ensures read { IsWorldRead image.old image.new }
     ensures good { IsTrue result → IsGoodRow (job repair.now) path.now row image.old.data_dev }
+    ensures asked { Leaves (reading (data_over repair.now.shape row.height (row.end - row.first)) 0) nothing_due image.old image.new }
 {
     if row.height > 0 {
         return false;
@@ -54,6 +57,7 @@ fn are_good<D: BlockDev>(
     requires room { 65536 ≤ length memory.old }
     ensures read { IsOnlyRead (D.state data_dev.old) (D.state data_dev.new) }
     ensures good { IsTrue result → AreGoodFrom (job repair.now) path.now (D.state data_dev.old) row.first (row.end - row.first) }
+    ensures asked { HasReadAtMost (D.state data_dev.old) ((row.end - row.first) * (repair.now.shape.data_block / 512)) (D.state data_dev.new) }
 {
     let mut index = row.first;
     'pieces: while index < row.end {
@@ -83,6 +87,7 @@ fn good_piece<D: BlockDev>(
     ensures some { IfSome result (λ count. 0 < count) }
     ensures few { IfSome result (λ count. first + count ≤ end) }
     ensures good { IfSome result (AreGoodFrom (job repair.now) path.now (D.state data_dev.old) first) }
+    ensures asked { HasReadAtMost (D.state data_dev.old) (piece_of (end - first) result * (repair.now.shape.data_block / 512)) (D.state data_dev.new) }
 {
     let size = repair.shape.data_block() as usize;
     let count = (end - first).min((ROOM / size) as u64);
@@ -111,6 +116,7 @@ fn read_run<D: BlockDev>(
     requires { IsRunOn (D.state device.old) size first (length digests.old) (length run.old) }
     ensures read { IsOnlyRead (D.state device.old) (D.state device.new) }
     ensures good { IsTrue result → IsRunRead (D.state device.old) salt.now size first digests.new (D.state device.new) }
+    ensures asked { HasReadAtMost (D.state device.old) (length digests.old * (size / 512)) (D.state device.new) }
 {
     match device.read(first * (size / 512) as u64, run) {
         Ok(()) => {
@@ -132,10 +138,4 @@ fn are_digests(path: &TreePath, first: u64, digests: &[Digest]) -> bool
         }
     }
     true
-}
-
-fn is_same(a: &Digest, b: &Digest) -> bool
-    ensures { result ≡ bytes_eq a.now b.now }
-{
-    a == b
 }

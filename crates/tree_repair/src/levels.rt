@@ -1,7 +1,9 @@
 //! The blocks of a height, gone over row by row.
-ghost use Rattle.std.specs.Prelude.{◌≡◌, ◌<◌, ◌≤◌, IfOk, length, replicate};
+ghost use Rattle.std.specs.Prelude.{◌≡◌, ◌<◌, ◌≤◌, ◌-◌, ◌*◌, ◌/◌, IfOk, length, replicate};
 ghost use Rattle.tree_shape.specs.Shape.{levels};
 ghost use Rattle.tree_survey.specs.Surveys.{IsWay};
+ghost use Rattle.tree_path.specs.Steps.{HasReadAtMost};
+ghost use Rattle.tree_repair.specs.Bills.{Leaves, LeavesRow, LeavesVisit, height_over, nothing_due, reading, rows_over, visits_over};
 ghost use Rattle.tree_repair.specs.Coverage.{IsBlockAt, IsFromTo, IsOfRow};
 ghost use Rattle.tree_repair.specs.Jobs.{IsRow, job};
 ghost use Rattle.tree_repair.specs.Passes.{Notes};
@@ -37,7 +39,8 @@ pub(crate) fn repair_height<D: BlockDev, H: BlockDev, C: BlockDev, W: Write>(
     requires height { height ≤ levels repair.now.shape }
     requires few { height ≤ 14 }
     requires room { 65536 ≤ length memory.old }
-    ensures { Notes W.contents (job repair.now) (IsFromTo height 0 repair.now.shape.blocks) image.old image.new bad.old bad.new writer.old writer.new result }
+    ensures notes { Notes W.contents (job repair.now) (IsFromTo height 0 repair.now.shape.blocks) image.old image.new bad.old bad.new writer.old writer.new result }
+    ensures asked { Leaves (height_over repair.now.shape height repair.now.shape.blocks) nothing_due image.old image.new }
 {
     let blocks = repair.shape.blocks();
     let width = span(&repair.shape, height + 1, blocks);
@@ -70,7 +73,8 @@ fn repair_row<D: BlockDev, H: BlockDev, C: BlockDev, W: Write>(
     requires row { IsRow repair.now.shape row }
     requires some { row.first < repair.now.shape.blocks }
     requires room { 65536 ≤ length memory.old }
-    ensures { Notes W.contents (job repair.now) (IsOfRow row) image.old image.new bad.old bad.new writer.old writer.new result }
+    ensures notes { Notes W.contents (job repair.now) (IsOfRow row) image.old image.new bad.old bad.new writer.old writer.new result }
+    ensures asked { LeavesRow height_over repair.now.shape row image.old image.new }
 {
     let found = way_to(repair, image, row.first, row.height)?;
     match found {
@@ -93,7 +97,8 @@ fn repair_unless_good<D: BlockDev, H: BlockDev, C: BlockDev, W: Write>(
     requires row { IsRow repair.now.shape row }
     requires way { IsWay (job repair.now).tree row.first row.height path.now }
     requires room { 65536 ≤ length memory.old }
-    ensures { Notes W.contents (job repair.now) (IsOfRow row) image.old image.new bad.old bad.new writer.old writer.new result }
+    ensures notes { Notes W.contents (job repair.now) (IsOfRow row) image.old image.new bad.old bad.new writer.old writer.new result }
+    ensures asked { LeavesRow rows_over repair.now.shape row image.old image.new }
 {
     if is_good_row(path, repair, row, image, memory) {
         return Ok(());
@@ -113,6 +118,7 @@ pub(crate) fn way_to<D: BlockDev, H: BlockDev, C: BlockDev>(
     requires fits { tree_sectors repair.now.shape ≤ image.old.hash_dev.size }
     ensures read { IsWorldRead image.old image.new }
     ensures way { IfOk result (IsWayOr (job repair.now).tree index height image.old.hash_dev image.new.hash_dev) }
+    ensures asked { Leaves (reading 0 ((levels repair.now.shape - height) * (repair.now.shape.hash_block / 512))) nothing_due image.old image.new }
 {
     way_on(repair, &mut image.hash, index, height)
 }
@@ -129,6 +135,7 @@ fn way_on<H: BlockDev>(
     requires fits { tree_sectors repair.now.shape ≤ (H.state device.old).size }
     ensures read { IsOnlyRead (H.state device.old) (H.state device.new) }
     ensures way { IfOk result (IsWayOr (job repair.now).tree index height (H.state device.old) (H.state device.new)) }
+    ensures asked { HasReadAtMost (H.state device.old) ((levels repair.now.shape - height) * (repair.now.shape.hash_block / 512)) (H.state device.new) }
 {
     let mut path = TreePath::new(repair.alloc, repair.shape, repair.salt, repair.root)?;
     let top = path.levels();
@@ -160,7 +167,8 @@ fn repair_blocks<D: BlockDev, H: BlockDev, C: BlockDev, W: Write>(
     requires row { IsRow repair.now.shape row }
     requires way { IsWay (job repair.now).tree row.first row.height path.now }
     requires room { 65536 ≤ length memory.old }
-    ensures { Notes W.contents (job repair.now) (IsOfRow row) image.old image.new bad.old bad.new writer.old writer.new result }
+    ensures notes { Notes W.contents (job repair.now) (IsOfRow row) image.old image.new bad.old bad.new writer.old writer.new result }
+    ensures asked { LeavesRow visits_over repair.now.shape row image.old image.new }
 {
     let Row {
         height,
@@ -191,7 +199,8 @@ fn repair_block<D: BlockDev, H: BlockDev, C: BlockDev, W: Write>(
     requires inside { place.index < repair.now.shape.blocks }
     requires way { IsWay (job repair.now).tree place.index place.height path.now }
     requires room { 65536 ≤ length memory.old }
-    ensures { Notes W.contents (job repair.now) (IsBlockAt repair.now.shape place) image.old image.new bad.old bad.new writer.old writer.new result }
+    ensures notes { Notes W.contents (job repair.now) (IsBlockAt repair.now.shape place) image.old image.new bad.old bad.new writer.old writer.new result }
+    ensures asked { LeavesVisit repair.now.shape place.height place.index image.old image.new }
 {
     let mended = visit(path, repair, place, image, memory)?;
     say_mended(writer, repair, place, mended)?;

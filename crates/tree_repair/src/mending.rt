@@ -1,6 +1,7 @@
 //! A block that is looked at, and written where it isn't good and was found elsewhere.
 ghost use Rattle.std.specs.Prelude.{◌≡◌, ◌/◌, ◌+◌, ◌<◌, ◌^◌, ℕ, List, true, IfOk, IsTrue, OnErr, OnOk, is_ok, length, map};
 ghost use Rattle.block_device.specs.Device.{IsInside};
+ghost use Rattle.tree_repair.specs.Bills.{IsAskedOnce};
 ghost use Rattle.tree_repair.specs.Mending.{IsMended, IsNotRemade, IsPutAt, IsUnmended};
 ghost use Rattle.tree_repair.specs.Looks.{look};
 
@@ -46,6 +47,7 @@ pub(crate) fn mend<B: BlockDev, C: BlockDev>(
     ensures ok { IfOk result (λ m. (bytes : List ℕ) × IsMended (look sought.now salt.now (length block.old / 512) write (B.state device.old) (B.state device.new) (map C.state copies.old.items) (map C.state copies.new.items)) bytes true m) }
     ensures plain { IfOk result IsNotRemade }
     ensures err { OnErr result (IsUnmended (look sought.now salt.now (length block.old / 512) write (B.state device.old) (B.state device.new) (map C.state copies.old.items) (map C.state copies.new.items))) }
+    ensures asked { IsAskedOnce (length block.old / 512) (B.state device.old) (B.state device.new) (map C.state copies.old.items) (map C.state copies.new.items) }
 {
     let Sought {
         first,

@@ -1,6 +1,5 @@
 //! Blocks brought back by parity.
 ghost use Rattle.std.specs.Prelude.{◌≡◌, ◌<◌, ◌≤◌, ◌+◌, ◌/◌, ◌++◌, false, IfOk, IsTrue, OnErr, OnOk, length};
-ghost use Rattle.std.specs.Str.{bytes_eq};
 ghost use Rattle.block_device.specs.Device.{IsInside};
 ghost use Rattle.fec_area.specs.Layouts.{IsLaidOn, IsLayout, covered_blocks};
 ghost use Rattle.tree_shape.specs.Digests.{digest};
@@ -22,7 +21,7 @@ use crate::levels::{way_to, zeros};
 use crate::mending::{Mended, put};
 use crate::place::{Place, Repair, block_size};
 use crate::saying::say_mended;
-use crate::seeking::is_there;
+use crate::seeking::{is_same, is_there};
 use block_device::{BlockDev, DeviceFault};
 use counted_io::Counted;
 use fec_area::{Layout, RestoreFault, restore_block};
@@ -254,12 +253,6 @@ fn restore<D: BlockDev, H: BlockDev, C: BlockDev, P: BlockDev>(
         Err(RestoreFault::TooSmall { needed: _ }) => Ok(false),
         Err(RestoreFault::Device) => Ok(false),
     }
-}
-
-fn is_same(a: &Digest, b: &Digest) -> bool
-    ensures { result ≡ bytes_eq a.now b.now }
-{
-    a == b
 }
 
 // Puts the bytes of a block where it stands, and prints its line.

@@ -1,12 +1,13 @@
 //! Hash blocks made again from the blocks beneath them.
-ghost use Rattle.std.specs.Prelude.{◌≡◌, ◌≤◌, ◌<◌, ◌+◌, ◌-◌, ◌*◌, ◌++◌, ◌^◌, false, min, drop, take, IsTrue, length};
-ghost use Rattle.std.specs.Str.{bytes_eq};
+ghost use Rattle.std.specs.Prelude.{◌≡◌, ◌≤◌, ◌<◌, ◌+◌, ◌-◌, ◌*◌, ◌/◌, ◌++◌, ◌^◌, false, min, drop, take, IsTrue, length};
 ghost use Rattle.tree_shape.specs.Digests.{digest};
 ghost use Rattle.tree_shape.specs.Shape.{IsShape, level_blocks, levels, per_block, position};
 ghost use Rattle.verity_format.specs.Blocks.{IsOnlyRead};
 ghost use Rattle.verity_format.specs.Image.{data_sectors, tree_sectors};
 ghost use Rattle.tree_path.specs.Path.{digest_on};
+ghost use Rattle.tree_path.specs.Steps.{HasReadAtMost};
 ghost use Rattle.tree_survey.specs.Surveys.{IsWay};
+ghost use Rattle.tree_repair.specs.Bills.{LeavesBeneath, LeavesBlock, made_over};
 ghost use Rattle.tree_repair.specs.Grounds.{IsMadeIn, IsNowhereIn, IsOverIn, IsUnlikeIn, made_in, stands_in};
 ghost use Rattle.tree_repair.specs.Jobs.{job};
 ghost use Rattle.tree_repair.specs.Remaking.{HaveBlocks, IsBlockOf, IsSure, count_at};
@@ -15,6 +16,7 @@ ghost use Rattle.tree_repair.specs.Worlds.{AreBothRead};
 
 use crate::image::DamagedImage;
 use crate::place::{Repair, block_size, count_at};
+use crate::seeking::is_same;
 use block_device::BlockDev;
 use tree_path::TreePath;
 use tree_shape::{Digest, Shape};
@@ -42,6 +44,7 @@ pub(crate) fn remake<D: BlockDev, H: BlockDev, C: BlockDev>(
     ensures good { IsTrue result → digest repair.now.salt block.new ≡ digest_on path.now index (level + 1) }
     ensures made { IsTrue result → IsMadeIn repair.now image.old level index block.new }
     ensures none { result ≡ false → IsNowhereIn repair.now image.old level index (digest_on path.now index (level + 1)) }
+    ensures asked { LeavesBeneath repair.now.shape level index image.old image.new }
 {
     let number = repair.shape.block_on_path(level, index);
     let digest = path.digest_at(level + 1, index);
@@ -87,17 +90,12 @@ fn is_made<D: BlockDev, H: BlockDev, C: BlockDev>(
     ensures good { IsTrue result → digest repair.now.salt block.new ≡ expected.now }
     ensures stand { IsTrue result → IsOverIn image.old (made_in repair.now image.old making) block.new }
     ensures none { result ≡ false → IsUnlikeIn repair.now image.old expected.now (made_in repair.now image.old making) }
+    ensures asked { LeavesBlock (made_over repair.now.shape making.from) repair.now.shape (making.from + making.steps) making.number image.old image.new }
 {
     if !make(repair, making, image, block, memory) {
         return false;
     }
     is_same(&repair.salt.digest(block), expected)
-}
-
-fn is_same(a: &Digest, b: &Digest) -> bool
-    ensures { result ≡ bytes_eq a.now b.now }
-{
-    a == b
 }
 
 // Makes a block, and tells whether those that it is made of could be read.
@@ -116,6 +114,7 @@ fn make<D: BlockDev, H: BlockDev, C: BlockDev>(
     ensures read { AreBothRead image.old image.new }
     ensures made { IsTrue result → IsOverIn image.old (made_in repair.now image.old making) block.new }
     ensures sure { IsSure image.old.data_dev image.old.hash_dev result }
+    ensures asked { LeavesBlock (made_over repair.now.shape making.from) repair.now.shape (making.from + making.steps) making.number image.old image.new }
 {
     let Making {
         from,
@@ -189,6 +188,7 @@ fn read_at<D: BlockDev, H: BlockDev, C: BlockDev>(
     ensures read { AreBothRead image.old image.new }
     ensures stands { IsTrue result → IsOverIn image.old (stands_in shape.now image.old height number) block.new }
     ensures sure { IsSure image.old.data_dev image.old.hash_dev result }
+    ensures asked { LeavesBlock (made_over shape.now height) shape.now height number image.old image.new }
 {
     if height == 0 {
         return read_data(shape, number, &mut image.data, block);
@@ -205,6 +205,7 @@ fn read_data<D: BlockDev>(shape: &Shape, number: u64, data_dev: &mut D, block: &
     ensures read { IsOnlyRead (D.state data_dev.old) (D.state data_dev.new) }
     ensures stands { IsTrue result → IsBlockOf (D.state data_dev.old) shape.now.data_block number block.new }
     ensures sure { IsTrue (D.state data_dev.old).never_fails → IsTrue result }
+    ensures asked { HasReadAtMost (D.state data_dev.old) (shape.now.data_block / 512) (D.state data_dev.new) }
 {
     let size = block.len();
     let first = number * (size / 512) as u64;
@@ -227,6 +228,7 @@ fn read_hash<H: BlockDev>(
     ensures read { IsOnlyRead (H.state hash_dev.old) (H.state hash_dev.new) }
     ensures stands { IsTrue result → IsBlockOf (H.state hash_dev.old) shape.now.hash_block (position shape.now level number) block.new }
     ensures sure { IsTrue (H.state hash_dev.old).never_fails → IsTrue result }
+    ensures asked { HasReadAtMost (H.state hash_dev.old) (shape.now.hash_block / 512) (H.state hash_dev.new) }
 {
     let size = block.len();
     let place = shape.position(level, number);

@@ -1,9 +1,12 @@
 //! An image, repaired from the root down.
-ghost use Rattle.std.specs.Prelude.{◌≡◌, ◌≤◌, ◌^◌, IfErr, IfOk, OnOk};
+ghost use Rattle.std.specs.Prelude.{◌≡◌, ◌<◌, ◌≤◌, ◌^◌, IfErr, IfOk, OnOk};
 ghost use Rattle.tree_shape.specs.Shape.{IsShape};
 ghost use Rattle.verity_format.specs.Blocks.{IsOnlyRead};
 ghost use Rattle.verity_format.specs.Superblock.{shape_of};
 ghost use Rattle.tree_survey.specs.Causes.{AreImages};
+ghost use Rattle.tree_path.specs.Steps.{HasReadAtMost};
+ghost use Rattle.tree_repair.specs.Bills.{Leaves, nothing_due, pass_over, reading};
+ghost use Rattle.tree_repair.specs.Bounds.{IsHashReadAlone, IsRepairWithin};
 ghost use Rattle.tree_repair.specs.Coverage.{IsFromUp};
 ghost use Rattle.tree_repair.specs.Jobs.{job};
 ghost use Rattle.tree_repair.specs.Passes.{Notes};
@@ -44,6 +47,7 @@ pub fn repair_image<D: BlockDev, H: BlockDev, C: BlockDev, W: Write>(
     requires allowed { IsAllowed plan.write image.old.data_dev image.old.hash_dev }
     ensures ok { OnOk result (IsRepair W.contents plan image.old image.new writer.old writer.new) }
     ensures err { IfErr result (IsUnrepaired W.contents plan image.old image.new writer.old writer.new) }
+    ensures within { IsRepairWithin W.contents plan image.old image.new writer.old writer.new result }
 {
     let superblock = superblock_of(image)?;
     let repair = repair_of(alloc, &superblock, &plan, false);
@@ -76,6 +80,8 @@ pub(crate) fn superblock_of<D: BlockDev, H: BlockDev, C: BlockDev>(
     ensures read { IsWorldRead image.old image.new }
     ensures ok { IfOk result (AreImages image.old.data_dev image.old.hash_dev) }
     ensures err { IfErr result (IsImageCause image.old.data_dev image.old.hash_dev image.new.hash_dev) }
+    ensures asked { OnOk result (Leaves (reading 0 1) nothing_due image.old image.new) }
+    ensures alone { IsHashReadAlone image.old image.new }
 {
     superblock_on(&image.data, &mut image.hash)
 }
@@ -88,8 +94,10 @@ fn superblock_on<D: BlockDev, H: BlockDev>(
     ensures read { IsOnlyRead (H.state hash_dev.old) (H.state hash_dev.new) }
     ensures ok { IfOk result (AreImages (D.state data_dev.now) (H.state hash_dev.old)) }
     ensures err { IfErr result (IsImageCause (D.state data_dev.now) (H.state hash_dev.old) (H.state hash_dev.new)) }
+    ensures asked { OnOk result (HasReadAtMost (H.state hash_dev.old) 1 (H.state hash_dev.new)) }
 {
     let superblock = read_superblock(hash_dev)?;
+    let _reads = count_of_reads(hash_dev);
     let shape = superblock.shape();
     if data_dev.sectors() < data_sectors(&shape) {
         return Err(RepairFault::Image(VerifyFault::TooSmall));
@@ -100,6 +108,14 @@ fn superblock_on<D: BlockDev, H: BlockDev>(
     Ok(superblock)
 }
 
+// How many sectors of a device were read, as far as its counter tells.
+fn count_of_reads<H: BlockDev>(device: &H) -> u64
+    ensures value { result ≡ (H.state device.now).reads }
+    ensures small { result < 2 ^ 64 }
+{
+    device.reads()
+}
+
 /// Goes over all heights, from the top one down to the data.
 pub(crate) fn repair_heights<D: BlockDev, H: BlockDev, C: BlockDev, W: Write>(
     repair: &Repair,
@@ -108,7 +124,8 @@ pub(crate) fn repair_heights<D: BlockDev, H: BlockDev, C: BlockDev, W: Write>(
     writer: &mut Counted<W>,
 ) -> Result<(), RepairFault>
     requires { CanRun (job repair.now) image.old }
-    ensures { Notes W.contents (job repair.now) (IsFromUp repair.now.shape 0) image.old image.new bad.old bad.new writer.old writer.new result }
+    ensures notes { Notes W.contents (job repair.now) (IsFromUp repair.now.shape 0) image.old image.new bad.old bad.new writer.old writer.new result }
+    ensures asked { Leaves (pass_over repair.now.shape) nothing_due image.old image.new }
 {
     let mut room = zeros(repair.alloc, ROOM)?;
     let memory = room.as_mut_slice();

@@ -3,6 +3,8 @@ ghost use Rattle.std.specs.Prelude.{◌≡◌, ◌/◌, ◌%◌, ◌+◌, ◌<�
 ghost use Rattle.std.specs.Str.{bytes_eq};
 ghost use Rattle.block_device.specs.Device.{IsInside};
 ghost use Rattle.verity_format.specs.Blocks.{IsOnlyRead};
+ghost use Rattle.tree_path.specs.Steps.{HasReadAtMost};
+ghost use Rattle.tree_repair.specs.Bounds.{AreReadAtMost};
 ghost use Rattle.tree_repair.specs.Sources.{AreEachRead, AreIn, AreInNone, AreNotIn, IsBad, IsThere, IsWithout, due};
 
 use block_device::BlockDev;
@@ -21,6 +23,7 @@ pub(crate) fn is_there<B: BlockDev>(
     ensures good { IsTrue result → IsThere (B.state device.old) first (due salt.now digest.now block.old) block.new }
     ensures bad { result ≡ false → IsBad (B.state device.old) first (due salt.now digest.now block.old) (B.state device.new) }
     ensures sure { result ≡ false → IsWithout (B.state device.old) first (due salt.now digest.now block.old) }
+    ensures asked { HasReadAtMost (B.state device.old) (length block.old / 512) (B.state device.new) }
 {
     match device.read(first, block) {
         Ok(()) => is_same(&salt.digest(block), digest),
@@ -28,7 +31,8 @@ pub(crate) fn is_there<B: BlockDev>(
     }
 }
 
-fn is_same(a: &Digest, b: &Digest) -> bool
+/// Whether two digests are the same.
+pub(crate) fn is_same(a: &Digest, b: &Digest) -> bool
     ensures { result ≡ bytes_eq a.now b.now }
 {
     a == b
@@ -48,6 +52,7 @@ fn has<B: BlockDev>(
     ensures read { IsOnlyRead (B.state device.old) (B.state device.new) }
     ensures good { IsTrue result → IsThere (B.state device.old) first (due salt.now digest.now block.old) block.new }
     ensures sure { result ≡ false → IsWithout (B.state device.old) first (due salt.now digest.now block.old) }
+    ensures asked { HasReadAtMost (B.state device.old) (length block.old / 512) (B.state device.new) }
 {
     let sectors = (block.len() / 512) as u64;
     if device.sectors() < first + sectors {
@@ -71,6 +76,7 @@ pub(crate) fn seek<C: BlockDev>(
     ensures read { AreEachRead (map C.state copies.old.items) (map C.state copies.new.items) }
     ensures found { IfSome result (λ n. AreIn (map C.state copies.old.items) first (due salt.now digest.now block.old) n block.new) }
     ensures none { IfNone result (AreInNone (map C.state copies.old.items) first (due salt.now digest.now block.old)) }
+    ensures asked { AreReadAtMost (map C.state copies.old.items) (length block.old / 512) (map C.state copies.new.items) }
 {
     seek_copies(copies.as_mut_slice(), first, salt, digest, block)
 }
@@ -89,6 +95,7 @@ fn seek_copies<C: BlockDev>(
     ensures read { AreEachRead (map C.state copies.old) (map C.state copies.new) }
     ensures found { IfSome result (λ n. AreIn (map C.state copies.old) first (due salt.now digest.now block.old) n block.new) }
     ensures none { IfNone result (AreNotIn (map C.state copies.old) first (due salt.now digest.now block.old) (length copies.old)) }
+    ensures asked { AreReadAtMost (map C.state copies.old) (length block.old / 512) (map C.state copies.new) }
 {
     'copies: for k in 0..copies.len() {
         if has(&mut copies[k], first, salt, digest, block) {

@@ -5,6 +5,7 @@ ghost use Rattle.tree_shape.specs.Shape.{IsShape, levels};
 ghost use Rattle.verity_format.specs.Image.{tree_sectors};
 ghost use Rattle.tree_path.specs.Path.{digest_on};
 ghost use Rattle.tree_survey.specs.Surveys.{IsWay};
+ghost use Rattle.tree_repair.specs.Bills.{IsAskedOnce, LeavesHashVisit, LeavesVisit};
 ghost use Rattle.tree_repair.specs.Jobs.{job};
 ghost use Rattle.tree_repair.specs.Looks.{tree_look};
 ghost use Rattle.tree_repair.specs.Mending.{IsNotRemade, IsUnmended};
@@ -32,6 +33,7 @@ pub(crate) fn visit<D: BlockDev, H: BlockDev, C: BlockDev>(
     requires room { 65536 ≤ length memory.old }
     ensures ok { IfOk result (IsMade (job repair.now) place.height place.index image.old image.new) }
     ensures err { OnErr result (FailsToMake (job repair.now) place.height place.index image.old image.new) }
+    ensures asked { LeavesVisit repair.now.shape place.height place.index image.old image.new }
 {
     let Place { height, index } = place;
     let size = block_size(&repair.shape, height);
@@ -56,6 +58,7 @@ fn visit_data<D: BlockDev, H: BlockDev, C: BlockDev>(
     requires size { length block.old ≡ size_at repair.now.shape 0 }
     ensures ok { IfOk result (IsMade (job repair.now) 0 index image.old image.new) }
     ensures err { OnErr result (FailsToMake (job repair.now) 0 index image.old image.new) }
+    ensures asked { LeavesVisit repair.now.shape 0 index image.old image.new }
 {
     let size = block.len();
     let first = index * (size / 512) as u64;
@@ -94,6 +97,7 @@ fn visit_hash<D: BlockDev, H: BlockDev, C: BlockDev>(
     requires room { 4096 * (level + 1) ≤ length memory.old }
     ensures ok { IfOk result (IsHashLooked (job repair.now) path.now level index image.old image.new) }
     ensures err { OnErr result (IsHashUnmended (job repair.now) path.now level index image.old image.new) }
+    ensures asked { LeavesHashVisit repair.now.shape level index image.old image.new }
 {
     let size = block.len();
     let sought = hash_sought(path, repair, level, index, size);
@@ -126,6 +130,7 @@ fn mend_hash<D: BlockDev, H: BlockDev, C: BlockDev>(
     ensures plain { IfOk result IsNotRemade }
     ensures err { OnErr result (IsUnmended (tree_look sought.now repair.now block.old image.old image.new)) }
     ensures kept { KeepsData image.old image.new }
+    ensures asked { IsAskedOnce (length block.old / 512) image.old.hash_dev image.new.hash_dev image.old.hash_copies image.new.hash_copies }
 {
     let copies = &mut image.hash_copies;
     mend(

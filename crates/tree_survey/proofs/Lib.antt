@@ -1,5 +1,8 @@
+mod FailingLemmas
 mod HashLemmas
 mod LawLemmas
+mod PieceLemmas
+mod ReachLemmas
 mod RunLemmas
 mod SayingLemmas
 mod SightLemmas

@@ -1,63 +1,82 @@
 -- Hash blocks that are gone over, while some are left.
-use Rattle.std.proofs.Common.{◌≡◌, ◌≤◌, ◌<◌, ◌+◌, ◌-◌, ◌*◌, ◌/◌, ◌^◌, ℕ, suc, min, Bool, true, false, IsTrue, List, [], ◌∷◌, ◌++◌, Option, refl, sym, ap, ◌∙◌, subst, arith, inl, inr}
+use Rattle.std.proofs.Common.{◌≡◌, ◌≤◌, ◌<◌, ◌+◌, ◌-◌, ◌*◌, ◌/◌, ◌^◌, ℕ, suc, min, Bool, true, false, IsTrue, List, [], ◌∷◌, ◌++◌, Option, ◌⊎◌, refl, sym, ap, ◌∙◌, subst, arith, inl, inr}
 use Rattle.std.specs.Prelude.{◌&&◌}
 use Rattle.std.specs.Io.KnownBytes.{Appends}
 use Rattle.std.proofs.KnownBytes.{Appends-nil, Appends-trans}
 use Rattle.std.proofs.Math.Nat.{mul-le-mul_right, zero-mul}
 use Rattle.std.proofs.lemmas.Nat.{div-add-mod', div-mul-add}
-use Rattle.std.proofs.lemmas.Bool.{cases_lt}
+use Rattle.std.proofs.lemmas.Bool.{cases_lt, false≢true}
 use Rattle.std.proofs.lemmas.List.{append-nil, append_assoc}
 use Rattle.block_device.specs.Device.{Device}
 use Rattle.tree_shape.specs.Shape.{ShapeRecord, IsShape, level_blocks, levels, per_block}
 use Rattle.tree_shape.proofs.lemmas.ShapeFactLemmas.{level_blocks-is, two}
 use Rattle.tree_shape.proofs.lemmas.ShapeLemmas.{pow_pos}
-use Rattle.verity_format.specs.Blocks.{IsOnlyRead}
 use Rattle.tree_path.specs.Path.{PathRecord, IsPathOf}
-use Rattle.tree_path.proofs.lemmas.DeviceLemmas.{only_read-none, only_read-then, steady-then}
-use Rattle.tree_survey.specs.Hashes.{HashBlock, IsCompared, SaysLevel, SaysTree, bad_of_level, bad_of_levels, first_below, hash_line, hash_lines, is_good_on, is_whole, tree_at, with_bad}
+use Rattle.tree_path.proofs.lemmas.DeviceLemmas.{steady-then}
+use Rattle.tree_survey.specs.Failing.{HasFailedRead, IsReadOver}
+use Rattle.tree_survey.specs.Hashes.{AreBad, HashBlock, IsCompared, IsWithin, SaysLevel, SaysTree, bad_of_level, bad_of_levels, first_below, hash_line, hash_lines, is_good_on, is_whole, tree_at, with_bad}
 use Rattle.tree_survey.specs.Surveys.{Tree}
+use Rattle.tree_survey.proofs.FailingLemmas.{failed-later, failed-more, over-none, over-then}
 use Rattle.tree_survey.proofs.HashLemmas.{path-none, path-then}
 
 -- the hash blocks of the levels from that one up were gone over
 pub record IsSayingTree (p q : PathRecord) (d d' : Device) (level : ℕ) (old new : Option (List ℕ)) (whole : Bool) : Type 0 where
   pub high : level ≤ levels p.shape
   pub same : IsPathOf p.shape p.salt p.root q
-  pub read : IsOnlyRead d d'
-  pub failures : d'.failures ≡ d.failures
+  pub over : IsReadOver d d'
   pub bad : List HashBlock
-  pub stored : IsTrue d.steady → bad ≡ bad_of_levels (tree_at p) d.image (levels p.shape - level)
+  pub are : AreBad (λ image. bad_of_levels (tree_at p) image (levels p.shape - level)) d d' bad
   pub whole_is : whole ≡ is_whole bad
   pub printed_are : Appends old new (hash_lines bad)
 
 -- the first n hash blocks of a level were
 pub record IsSayingLevel (p q : PathRecord) (d d' : Device) (level n : ℕ) (old new : Option (List ℕ)) (whole : Bool) : Type 0 where
   pub same : IsPathOf p.shape p.salt p.root q
-  pub read : IsOnlyRead d d'
-  pub failures : d'.failures ≡ d.failures
+  pub over : IsReadOver d d'
   pub bad : List HashBlock
-  pub stored : IsTrue d.steady → bad ≡ bad_of_level (tree_at p) d.image level n
+  pub are : AreBad (λ image. bad_of_level (tree_at p) image level n) d d' bad
   pub whole_is : whole ≡ is_whole bad
   pub printed_are : Appends old new (hash_lines bad)
 
+-- ---- lists within others
+
+within-cons : (xs : List HashBlock) (y : HashBlock) (ys : List HashBlock) → IsWithin xs ys → IsWithin xs (y ∷ ys)
+within-cons [] y ys h = tt
+within-cons (x ∷ xs) y ys h = inr h
+
+within-append : (xs xs' ys ys' : List HashBlock) → IsWithin xs ys → IsWithin xs' ys' → IsWithin (xs ++ xs') (ys ++ ys')
+within-append [] xs' [] ys' u v = v
+within-append [] xs' (y ∷ ys) ys' u v = within-cons xs' y (ys ++ ys') (within-append [] xs' ys ys' tt v)
+within-append (x ∷ xs) xs' [] ys' u v = absurd u
+within-append (x ∷ xs) xs' (y ∷ ys) ys' (inl (same, u)) v = inl (same, within-append xs xs' ys ys' u v)
+within-append (x ∷ xs) xs' (y ∷ ys) ys' (inr u) v = inr (within-append (x ∷ xs) xs' ys ys' u v)
+
+within-next : (good : Bool) (x : HashBlock) (xs ys : List HashBlock) → IsWithin xs ys → IsWithin (with_bad good x xs) (ys ++ x ∷ [])
+within-next true x xs ys h = subst (λ (zs : List HashBlock). IsWithin zs (ys ++ x ∷ [])) (append-nil xs) (within-append xs [] ys (x ∷ []) h tt)
+within-next false x xs ys h = within-append xs (x ∷ []) ys (x ∷ []) h (inl (refl, tt))
+
 pub saying-none : (p : PathRecord) (d : Device) (level : ℕ) (old : Option (List ℕ)) → level ≡ levels p.shape → IsSayingTree p p d d level old old true
-saying-none p d level old top = record {
-  high = omega (arith, top);
-  same = path-none p;
-  read = only_read-none d;
-  failures = refl;
-  bad = [];
-  stored = λ steady. (let none : levels p.shape - level ≡ 0 = omega (arith, top) in sym (ap (bad_of_levels (tree_at p) d.image) none));
-  whole_is = refl;
-  printed_are = Appends-nil old;
-}
+saying-none p d level old top =
+    let none : levels p.shape - level ≡ 0 = omega (arith, top) in
+    record {
+      high = omega (arith, top);
+      same = path-none p;
+      over = over-none d;
+      bad = [];
+      are = record {
+        all = λ steady. subst (λ (n : ℕ). IsWithin (bad_of_levels (tree_at p) d.image n) []) (sym none) tt;
+        stored = λ steady. inl (sym (ap (bad_of_levels (tree_at p) d.image) none));
+      };
+      whole_is = refl;
+      printed_are = Appends-nil old;
+    }
 
 pub level-none : (p : PathRecord) (d : Device) (level : ℕ) (old : Option (List ℕ)) → IsSayingLevel p p d d level 0 old old true
 level-none p d level old = record {
   same = path-none p;
-  read = only_read-none d;
-  failures = refl;
+  over = over-none d;
   bad = [];
-  stored = λ steady. refl;
+  are = record { all = λ steady. tt; stored = λ steady. inl refl };
   whole_is = refl;
   printed_are = Appends-nil old;
 }
@@ -78,37 +97,64 @@ tree-same p q is =
 
 -- ---- one hash block more of a level
 
-module _ (p q r : PathRecord) (d d' d'' : Device) (level n i : ℕ) (old now : Option (List ℕ)) (whole : Bool) (u : IsSayingLevel p q d d' level n old now whole) (at : i ≡ first_below p.shape level n) (read : IsOnlyRead d' d'') where
-  here : HashBlock
+module _ (p q r : PathRecord) (d d' d'' : Device) (level n i : ℕ) (old now : Option (List ℕ)) (whole : Bool) (u : IsSayingLevel p q d d' level n old now whole) (at : i ≡ first_below p.shape level n) (over : IsReadOver d' d'') where
+  abbrev here : HashBlock
   here = record { level = level; number = n }
 
-  is-good : (good : Bool) → IsCompared q r d' d'' level i good → IsTrue d.steady → good ≡ is_good_on (tree_at p) d.image level (first_below p.shape level n)
-  is-good good h steady =
-      h.stored (steady-then u.read.same steady)
-      ∙ ap (λ (t : Tree). is_good_on t d'.image level i) (tree-same p q u.same)
-      ∙ ap (λ (im : List (List ℕ)). is_good_on (tree_at p) im level i) (u.read.image steady)
-      ∙ ap (is_good_on (tree_at p) d.image level) at
+  abbrev before : List HashBlock
+  before = bad_of_level (tree_at p) d.image level n
+
+  is-good : (good : Bool) → IsCompared q r d' d'' level i good → IsTrue d.steady
+      → (good ≡ is_good_on (tree_at p) d.image level (first_below p.shape level n)) ⊎ ((good ≡ false) × HasFailedRead d d'')
+  is-good good h steady = elim (h.stored (steady-then u.over.read.same steady)) [
+    | inl e ↦
+        inl (e ∙ ap (λ (t : Tree). is_good_on t d'.image level i) (tree-same p q u.same)
+        ∙ ap (λ (im : List (List ℕ)). is_good_on (tree_at p) im level i) (u.over.read.image steady)
+        ∙ ap (is_good_on (tree_at p) d.image level) at)
+    | inr unread ↦ inr (unread.0, failed-later u.over over unread.1)
+  ]
+
+  seen-good : IsCompared q r d' d'' level i true → IsTrue d.steady → true ≡ is_good_on (tree_at p) d.image level (first_below p.shape level n)
+  seen-good h steady = elim (is-good true h steady) [
+    | inl e ↦ e
+    | inr unread ↦ absurd (false≢true (sym unread.0))
+  ]
 
   pub level-good : IsCompared q r d' d'' level i true → IsSayingLevel p r d d'' level (suc n) old now whole
-  unfolding here
   level-good h = record {
     same = path-then p q r u.same h.same;
-    read = only_read-then u.read read;
-    failures = h.failures ∙ u.failures;
+    over = over-then u.over over;
     bad = u.bad;
-    stored = λ steady. u.stored steady ∙ ap (λ (b : Bool). with_bad b here (bad_of_level (tree_at p) d.image level n)) (is-good true h steady);
+    are = record {
+      all = λ steady. subst (λ (b : Bool). IsWithin (with_bad b here before) u.bad) (seen-good h steady) (u.are.all steady);
+      stored = λ steady. elim (u.are.stored steady) [
+        | inl e ↦ inl (e ∙ ap (λ (b : Bool). with_bad b here before) (seen-good h steady))
+        | inr failed ↦ inr (failed-more d failed over)
+      ];
+    };
     whole_is = u.whole_is;
     printed_are = u.printed_are;
   }
 
+  bad-stored : IsCompared q r d' d'' level i false → IsTrue d.steady → (u.bad ++ here ∷ [] ≡ bad_of_level (tree_at p) d.image level (suc n)) ⊎ HasFailedRead d d''
+  bad-stored h steady = elim (u.are.stored steady) [
+    | inr failed ↦ inr (failed-more d failed over)
+    | inl e ↦
+        elim (is-good false h steady) [
+          | inr unread ↦ inr unread.1
+          | inl bad ↦ inl (ap (λ (xs : List HashBlock). xs ++ here ∷ []) e ∙ ap (λ (b : Bool). with_bad b here before) bad)
+        ]
+  ]
+
   pub level-bad : (new : Option (List ℕ)) → IsCompared q r d' d'' level i false → Appends now new (hash_line (record { level = level; number = n })) → IsSayingLevel p r d d'' level (suc n) old new false
-  unfolding here
   level-bad new h told = record {
     same = path-then p q r u.same h.same;
-    read = only_read-then u.read read;
-    failures = h.failures ∙ u.failures;
+    over = over-then u.over over;
     bad = u.bad ++ here ∷ [];
-    stored = λ steady. ap (λ (xs : List HashBlock). xs ++ here ∷ []) (u.stored steady) ∙ ap (λ (b : Bool). with_bad b here (bad_of_level (tree_at p) d.image level n)) (is-good false h steady);
+    are = record {
+      all = λ steady. within-next (is_good_on (tree_at p) d.image level (first_below p.shape level n)) here before u.bad (u.are.all steady);
+      stored = bad-stored h;
+    };
     whole_is = last u.bad;
     printed_are = subst (Appends old new) (ap (λ (l : List ℕ). hash_lines u.bad ++ l) (sym (append-nil (hash_line here))) ∙ sym (lines-append u.bad (here ∷ [])))
         (Appends-trans old now new (hash_lines u.bad) (hash_line here) u.printed_are told);
@@ -121,48 +167,68 @@ module _ (p q r : PathRecord) (d d' d'' : Device) (level n i : ℕ) (old now : O
 pub level-all : (p q : PathRecord) (d d' : Device) (level n : ℕ) (old new : Option (List ℕ)) (whole : Bool) → n ≡ level_blocks p.shape level → IsSayingLevel p q d d' level n old new whole → SaysLevel p q d d' level old new whole
 level-all p q d d' level n old new whole all u = record {
   same = u.same;
-  failures = u.failures;
   bad = u.bad;
-  stored = λ steady. u.stored steady ∙ ap (bad_of_level (tree_at p) d.image level) all;
+  are = subst (λ (m : ℕ). AreBad (λ image. bad_of_level (tree_at p) image level m) d d' u.bad) all u.are;
   whole_is = u.whole_is;
   printed_are = u.printed_are;
 }
 
 -- ---- one level more
 
-pub tree-next : (p q r : PathRecord) (d d' d'' : Device) (above l : ℕ) (old now new : Option (List ℕ)) (whole good : Bool) → above ≡ l + 1 → IsSayingTree p q d d' above old now whole → IsOnlyRead d' d'' → SaysLevel q r d' d'' l now new good
-    → IsSayingTree p r d d'' l old new (whole && good)
-tree-next p q r d d' d'' above l old now new whole good is u read h = record {
-  high = omega (arith, u.high, is);
-  same = path-then p q r u.same h.same;
-  read = only_read-then u.read read;
-  failures = h.failures ∙ u.failures;
-  bad = u.bad ++ h.bad;
-  stored = λ steady.
-      let levels-more : levels p.shape - l ≡ suc (levels p.shape - above) = omega (arith, u.high, is) in
-      let down : levels p.shape - suc (levels p.shape - above) ≡ l = omega (arith, u.high, is) in
-      let level-is : h.bad ≡ bad_of_level (tree_at p) d.image l (level_blocks p.shape l) =
-      h.stored (steady-then u.read.same steady)
-      ∙ ap (λ (s : ShapeRecord). bad_of_level (tree_at q) d'.image l (level_blocks s l)) u.same.shape_is
-      ∙ ap (λ (t : Tree). bad_of_level t d'.image l (level_blocks p.shape l)) (tree-same p q u.same)
-      ∙ ap (λ (im : List (List ℕ)). bad_of_level (tree_at p) im l (level_blocks p.shape l)) (u.read.image steady) in
-      ap (λ (xs : List HashBlock). xs ++ h.bad) (u.stored steady)
-      ∙ ap (λ (ys : List HashBlock). bad_of_levels (tree_at p) d.image (levels p.shape - above) ++ ys) level-is
-      ∙ sym (ap (λ (m : ℕ). bad_of_levels (tree_at p) d.image (levels p.shape - above) ++ bad_of_level (tree_at p) d.image m (level_blocks p.shape m)) down)
-      ∙ sym (ap (bad_of_levels (tree_at p) d.image) levels-more);
-  whole_is = ap (λ (b : Bool). b && good) u.whole_is ∙ ap (λ (b : Bool). is_whole u.bad && b) h.whole_is ∙ sym (whole-append u.bad h.bad);
-  printed_are = subst (Appends old new) (sym (lines-append u.bad h.bad)) (Appends-trans old now new (hash_lines u.bad) (hash_lines h.bad) u.printed_are h.printed_are);
-}
+module _ (p q r : PathRecord) (d d' d'' : Device) (above l : ℕ) (old now new : Option (List ℕ)) (whole good : Bool) (is : above ≡ l + 1) (u : IsSayingTree p q d d' above old now whole) (over : IsReadOver d' d'') (h : SaysLevel q r d' d'' l now new good) where
+  abbrev higher : List HashBlock
+  higher = bad_of_levels (tree_at p) d.image (levels p.shape - above)
 
-pub tree-all : (p q : PathRecord) (d d' : Device) (level : ℕ) (old new : Option (List ℕ)) (whole : Bool) → level ≡ 0 → IsSayingTree p q d d' level old new whole → SaysTree p d old new whole
-tree-all p q d d' level old new whole none u = record {
-  found = record {
-    bad = u.bad;
-    stored = λ steady. u.stored steady ∙ (let all : levels p.shape - level ≡ levels p.shape = omega (arith, none) in ap (bad_of_levels (tree_at p) d.image) all);
-  };
-  whole_is = u.whole_is;
-  printed_are = u.printed_are;
-}
+  abbrev there : List HashBlock
+  there = bad_of_level (tree_at p) d.image l (level_blocks p.shape l)
+
+  levels-more : bad_of_levels (tree_at p) d.image (levels p.shape - l) ≡ higher ++ there
+  levels-more =
+      let more : levels p.shape - l ≡ suc (levels p.shape - above) = omega (arith, u.high, is) in
+      let down : levels p.shape - suc (levels p.shape - above) ≡ l = omega (arith, u.high, is) in
+      ap (bad_of_levels (tree_at p) d.image) more
+      ∙ ap (λ (m : ℕ). bad_of_levels (tree_at p) d.image (levels p.shape - above) ++ bad_of_level (tree_at p) d.image m (level_blocks p.shape m)) down
+
+  level-same : IsTrue d.steady → bad_of_level (tree_at q) d'.image l (level_blocks q.shape l) ≡ there
+  level-same steady =
+      ap (λ (s : ShapeRecord). bad_of_level (tree_at q) d'.image l (level_blocks s l)) u.same.shape_is
+      ∙ ap (λ (t : Tree). bad_of_level t d'.image l (level_blocks p.shape l)) (tree-same p q u.same)
+      ∙ ap (λ (im : List (List ℕ)). bad_of_level (tree_at p) im l (level_blocks p.shape l)) (u.over.read.image steady)
+
+  tree-stored : IsTrue d.steady → (u.bad ++ h.bad ≡ bad_of_levels (tree_at p) d.image (levels p.shape - l)) ⊎ HasFailedRead d d''
+  tree-stored steady = elim (u.are.stored steady) [
+    | inr failed ↦ inr (failed-more d failed over)
+    | inl e ↦
+        elim (h.are.stored (steady-then u.over.read.same steady)) [
+          | inr failed ↦ inr (failed-later u.over over failed)
+          | inl f ↦ inl (ap (λ (xs : List HashBlock). xs ++ h.bad) e ∙ ap (λ (ys : List HashBlock). higher ++ ys) (f ∙ level-same steady) ∙ sym levels-more)
+        ]
+  ]
+
+  tree-within : IsTrue d.steady → IsWithin (bad_of_levels (tree_at p) d.image (levels p.shape - l)) (u.bad ++ h.bad)
+  tree-within steady =
+      subst (λ (xs : List HashBlock). IsWithin xs (u.bad ++ h.bad)) (sym levels-more)
+      (within-append higher there u.bad h.bad (u.are.all steady) (subst (λ (xs : List HashBlock). IsWithin xs h.bad) (level-same steady) (h.are.all (steady-then u.over.read.same steady))))
+
+  pub tree-next : IsSayingTree p r d d'' l old new (whole && good)
+  tree-next = record {
+    high = omega (arith, u.high, is);
+    same = path-then p q r u.same h.same;
+    over = over-then u.over over;
+    bad = u.bad ++ h.bad;
+    are = record { all = tree-within; stored = tree-stored };
+    whole_is = ap (λ (b : Bool). b && good) u.whole_is ∙ ap (λ (b : Bool). is_whole u.bad && b) h.whole_is ∙ sym (whole-append u.bad h.bad);
+    printed_are = subst (Appends old new) (sym (lines-append u.bad h.bad)) (Appends-trans old now new (hash_lines u.bad) (hash_lines h.bad) u.printed_are h.printed_are);
+  }
+
+pub tree-all : (p q : PathRecord) (d d' : Device) (level : ℕ) (old new : Option (List ℕ)) (whole : Bool) → level ≡ 0 → IsSayingTree p q d d' level old new whole → SaysTree p d d' old new whole
+tree-all p q d d' level old new whole none u =
+    let all : levels p.shape - level ≡ levels p.shape = omega (arith, none) in
+    record {
+      found = record { bad = u.bad; are = subst (λ (m : ℕ). AreBad (λ image. bad_of_levels (tree_at p) image m) d d' u.bad) all u.are };
+      whole_is = u.whole_is;
+      printed_are = u.printed_are;
+    }
 
 -- ---- where the hash blocks of a level begin
 

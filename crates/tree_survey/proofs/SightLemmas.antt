@@ -1,5 +1,5 @@
 -- The hash blocks on the way to a data block, and to the next one.
-use Rattle.std.proofs.Common.{◌≡◌, ◌≢◌, ◌≤◌, ◌<◌, ◌+◌, ◌-◌, ◌*◌, ◌/◌, ◌%◌, ◌^◌, ℕ, zero, suc, Bool, true, false, cond, ltb, IsTrue, List, [], refl, sym, ap, ◌∙◌, subst, arith, inl, inr, Some, None}
+use Rattle.std.proofs.Common.{◌≡◌, ◌≢◌, ◌≤◌, ◌<◌, ◌+◌, ◌-◌, ◌*◌, ◌/◌, ◌%◌, ◌^◌, ℕ, zero, suc, Bool, true, false, cond, ltb, IsTrue, List, [], Option, ◌⊎◌, refl, sym, ap, ◌∙◌, subst, arith, inl, inr, Some, None}
 use Rattle.std.specs.Str.{bytes_eq}
 use Rattle.std.proofs.Math.Nat.{pow-zero, zero-mul, zero-mod}
 use Rattle.std.proofs.lemmas.Nat.{div-add-mod', div-mul-add, mod_below}
@@ -20,30 +20,36 @@ use Rattle.tree_path.proofs.lemmas.PathLemmas.{digest_on-along, digest_on-stored
 use Rattle.tree_path.proofs.lemmas.SpanLemmas.{behind, lower-mod, power-least}
 use Rattle.tree_runs.specs.declared.run.Kind.TheVariants.{Changed, Unknown}
 use Rattle.tree_survey.specs.declared.sight.Sight.{Sight}
-use Rattle.tree_survey.specs.Sights.{CanGo, HasGone, IsOn, IsReady, state_at}
-use Rattle.tree_survey.specs.Surveys.{AllStand, IsSeenBy, IsStoredBy, IsWay, Tree}
+use Rattle.tree_survey.specs.Paths.{IsCutOff}
+use Rattle.tree_survey.specs.Sights.{CanGo, HasGone, IsOn, IsReady, read_to, state_at, state_with}
+use Rattle.tree_survey.specs.Surveys.{AllStand, IsLedTo, IsSeenAs, IsStoredBy, IsUnknownAt, IsUnreadAs, IsWay, Tree}
 
 -- ---- the hash blocks that were read
 
+-- the level down to which they were read is that of the good ones, or one lower
+read-between : (unread : Bool) (n : ℕ) → (n - 1 ≤ cond unread n (n - 1)) × (cond unread n (n - 1) ≤ n)
+read-between true n = (omega arith, omega arith)
+read-between false n = (omega arith, omega arith)
+
 module _ (w : Sight) (q : PathRecord) (d d' : Device) (i top : ℕ) where
   -- all of them are good
-  pub gone-down : (good : ℕ) → CanGo w d i → IsTopAt (per_block w.path.shape) (levels w.path.shape) i top → w.good ≤ top → IsDown (steps w.path q d d' i top) 0 0
-      → HasGone w (record { path = q; shape = w.shape; good = 0 }) d d' i
-  gone-down good can is low down = record {
+  pub gone-down : CanGo w d i → IsTopAt (per_block w.path.shape) (levels w.path.shape) i top → w.good ≤ top → IsDown (steps w.path q d d' i top) 0 0
+      → HasGone w (record { path = q; shape = w.shape; good = 0; unread = false }) d d' i
+  gone-down can is low down = record {
     same = down.same;
     shape = refl;
     on = record {
       few = omega arith;
       leads = leads-down w.path q d d' i top 0 0 down (can.ready.leads top is low);
-      bad = λ none. absurd (omega (arith, none));
+      bad = λ none read. absurd (omega (arith, none));
       stored = λ steady. stored-down w.path q d d' i top 0 0 down steady (can.ready.stored steady top is low);
     };
-    failures = down.full.failures;
+    failed = λ unread. absurd (false≢true unread);
   }
 
   -- one of them isn't
   pub gone-stopped : (level : ℕ) → CanGo w d i → IsTopAt (per_block w.path.shape) (levels w.path.shape) i top → w.good ≤ top → IsStopped (steps w.path q d d' i top) 0 level
-      → HasGone w (record { path = q; shape = w.shape; good = level + 1 }) d d' i
+      → HasGone w (record { path = q; shape = w.shape; good = level + 1; unread = false }) d d' i
   gone-stopped level can is low stopped =
       let same : level + 1 - 1 ≡ level = omega arith in
       record {
@@ -52,11 +58,26 @@ module _ (w : Sight) (q : PathRecord) (d d' : Device) (i top : ℕ) where
         on = record {
           few = omega (arith, stopped.between.1, is.few, ap levels stopped.down.same.shape_is);
           leads = leads-down w.path q d d' i top (level + 1) level stopped.down (can.ready.leads top is low);
-          bad = λ some. subst (λ (k : ℕ). digest q.salt (block_of q k) ≢ digest_on q i (level + 1)) (sym same) stopped.bad;
+          bad = λ some read. subst (λ (k : ℕ). digest q.salt (block_of q k) ≢ digest_on q i (level + 1)) (sym same) stopped.bad;
           stored = λ steady. subst (AreStored q d.image i) (sym same) (stored-down w.path q d d' i top (level + 1) level stopped.down steady (can.ready.stored steady top is low));
         };
-        failures = stopped.down.full.failures;
+        failed = λ unread. absurd (false≢true unread);
       }
+
+  -- one of them couldn't be read
+  pub gone-cut : (level : ℕ) → CanGo w d i → IsTopAt (per_block w.path.shape) (levels w.path.shape) i top → w.good ≤ top → IsCutOff (steps w.path q d d' i top) level
+      → HasGone w (record { path = q; shape = w.shape; good = level + 1; unread = true }) d d' i
+  gone-cut level can is low cut = record {
+    same = cut.down.same;
+    shape = refl;
+    on = record {
+      few = omega (arith, cut.low, is.few, ap levels cut.down.same.shape_is);
+      leads = leads-down w.path q d cut.between i top (level + 1) (level + 1) cut.down (can.ready.leads top is low);
+      bad = λ some read. absurd (false≢true (sym read));
+      stored = λ steady. stored-down w.path q d cut.between i top (level + 1) (level + 1) cut.down steady (can.ready.stored steady top is low);
+    };
+    failed = λ unread. inr cut.failed;
+  }
 
 -- ---- a device that was read
 
@@ -65,7 +86,7 @@ on-was w d d' i read on = record {
   few = on.few;
   leads = on.leads;
   bad = on.bad;
-  stored = λ steady. subst (λ (im : List (List ℕ)). AreStored w.path im i (w.good - 1)) (read.image steady) (on.stored (steady-then read.same steady));
+  stored = λ steady. subst (λ (im : List (List ℕ)). AreStored w.path im i (read_to w)) (read.image steady) (on.stored (steady-then read.same steady));
 }
 
 pub on-read : (w : Sight) (d d' : Device) (i : ℕ) → IsOnlyRead d d' → IsOn w d i → IsOn w d' i
@@ -73,7 +94,7 @@ on-read w d d' i read on = record {
   few = on.few;
   leads = on.leads;
   bad = on.bad;
-  stored = λ steady. let was : IsTrue d.steady = subst IsTrue read.same.steady steady in subst (λ (im : List (List ℕ)). AreStored w.path im i (w.good - 1)) (sym (read.image was)) (on.stored was);
+  stored = λ steady. let was : IsTrue d.steady = subst IsTrue read.same.steady steady in subst (λ (im : List (List ℕ)). AreStored w.path im i (read_to w)) (sym (read.image was)) (on.stored was);
 }
 
 pub ready-read : (w : Sight) (d d' : Device) (i : ℕ) → IsOnlyRead d d' → IsReady w d i → IsReady w d' i
@@ -135,11 +156,11 @@ module _ (w : Sight) (valid : IsShape w.path.shape) (d : Device) (i : ℕ) (insi
         record {
           few = on.few;
           leads = leads-along w.path i (i + 1) w.good (λ m high. same m (omega (arith, high, low))) on.leads;
-          bad = λ some. subst (λ (x : List ℕ). digest w.path.salt (block_of w.path (w.good - 1)) ≢ x) (digest_on-along w.path i (i + 1) w.good (same w.good low)) (on.bad some);
-          stored = λ steady. stored-along w.path i (i + 1) (w.good - 1) (λ m high. same m (omega (arith, high, low))) d.image (on.stored steady);
+          bad = λ some read. subst (λ (x : List ℕ). digest w.path.salt (block_of w.path (w.good - 1)) ≢ x) (digest_on-along w.path i (i + 1) w.good (same w.good low)) (on.bad some read);
+          stored = λ steady. stored-along w.path i (i + 1) (read_to w) (λ m high. same m (omega (arith, high, low, (read-between w.unread w.good).0))) d.image (on.stored steady);
         };
     leads = λ top is low. leads-along w.path i (i + 1) top (same-above w.path.shape valid i top inside is) (leads-higher w.path i w.good top low on.leads);
-    stored = λ steady top is low. stored-along w.path i (i + 1) top (same-above w.path.shape valid i top inside is) d.image (stored-higher w.path d.image i (w.good - 1) top (omega (arith, low)) (on.stored steady));
+    stored = λ steady top is low. stored-along w.path i (i + 1) top (same-above w.path.shape valid i top inside is) d.image (stored-higher w.path d.image i (read_to w) top (omega (arith, low, (read-between w.unread w.good).1)) (on.stored steady));
   }
 
 -- the first one
@@ -152,14 +173,32 @@ ready-none w d none = record {
 
 -- ---- what is said of the data block
 
-module _ (t : Tree) (w : Sight) (d : Device) (i : ℕ) (is : IsPathOf t.shape t.salt t.root w.path) (on : IsOn w d i) where
+-- it has the digest of that content, or couldn't be read
+abbrev pub IsDigestOr : Type 0 → List ℕ → List ℕ → Option (List ℕ) → Type 0
+IsDigestOr failed salt content (Some found) = found ≡ digest salt content
+IsDigestOr failed salt content None = failed
+
+positive : (n : ℕ) → ltb 0 n ≡ true → 0 < n
+positive zero e = absurd (false≢true e)
+positive (suc n) e = omega arith
+
+not-positive : (n : ℕ) → ltb 0 n ≡ false → n ≡ 0
+not-positive n e = elim (cases_lt 0 n) [
+  | inl some ↦ absurd (false≢true (sym e ∙ lt-ltb 0 n some))
+  | inr not ↦ omega (arith, not)
+]
+
+module _ (t : Tree) (w : Sight) (d : Device) (i : ℕ) (is : IsPathOf t.shape t.salt t.root w.path) (on : IsOn w d i) (data_failed hash_failed : Type 0) (unread : w.unread ≡ true → hash_failed) (content : List ℕ) where
   way : IsWay t i w.good w.path
   way = record { is = is; few = omega (arith, on.few, ap levels is.shape_is); leads = on.leads }
 
-  unknown-seen : 0 < w.good → IsSeenBy t i [] (Some Unknown)
-  unknown-seen some =
+  many : 0 < w.good → 0 < levels t.shape
+  many some = omega (arith, some, way.few)
+
+  unknown-read : 0 < w.good → w.unread ≡ false → IsUnknownAt t i
+  unknown-read some read =
       let next : w.good - 1 + 1 ≡ w.good = omega (arith, some) in
-      let bad : digest t.salt (block_of w.path (w.good - 1)) ≢ digest_on w.path i w.good = subst (λ (z : List ℕ). digest z (block_of w.path (w.good - 1)) ≢ digest_on w.path i w.good) is.salt_is (on.bad some) in (
+      let bad : digest t.salt (block_of w.path (w.good - 1)) ≢ digest_on w.path i w.good = subst (λ (z : List ℕ). digest z (block_of w.path (w.good - 1)) ≢ digest_on w.path i w.good) is.salt_is (on.bad some read) in (
         w.good - 1,
         (
           w.path,
@@ -173,43 +212,40 @@ module _ (t : Tree) (w : Sight) (d : Device) (i : ℕ) (is : IsPathOf t.shape t.
         ),
       )
 
-  seen-by : (found : List ℕ) (b e : Bool) → ltb 0 w.good ≡ b → bytes_eq found (digest_on w.path i 0) ≡ e → IsSeenBy t i found (cond b (Some Unknown) (cond e None (Some Changed)))
-  seen-by found true e bad test = unknown-seen (positive w.good bad)
+  unknown-seen : (b : Bool) → w.unread ≡ b → 0 < w.good → IsUnknownAt t i ⊎ ((0 < levels t.shape) × hash_failed)
+  unknown-seen true e some = inr (many some, unread e)
+  unknown-seen false e some = inl (unknown-read some e)
+
+  way0 : w.good ≡ 0 → IsWay t i 0 w.path
+  way0 none = subst (λ (k : ℕ). IsWay t i k w.path) none way
+
+  digest-seen : (found : List ℕ) (e : Bool) → w.good ≡ 0 → found ≡ digest t.salt content → bytes_eq found (digest_on w.path i 0) ≡ e → IsSeenAs t i content (cond e None (Some Changed))
+  digest-seen found true none h e = (w.path, (way0 none, sym h ∙ (bytes_eq-Decides found (digest_on w.path i 0)).0 e))
+  digest-seen found false none h e = (w.path, (way0 none, λ same. false≢true (sym e ∙ (bytes_eq-Decides found (digest_on w.path i 0)).1 (h ∙ same))))
+
+  seen-by : (found : Option (List ℕ)) (b : Bool) → IsDigestOr data_failed t.salt content found → ltb 0 w.good ≡ b
+      → IsSeenAs t i content (cond b (Some Unknown) (state_with w.path i found)) ⊎ IsUnreadAs t (IsLedTo t i) data_failed hash_failed (cond b (Some Unknown) (state_with w.path i found))
+  seen-by found true h bad = unknown-seen w.unread refl (positive w.good bad)
+  seen-by (Some x) false h bad = digest-told (bytes_eq x (digest_on w.path i 0)) refl
     where
-      positive : (n : ℕ) → ltb 0 n ≡ true → 0 < n
-      positive zero e = absurd (false≢true e)
-      positive (suc n) e = omega arith
-  seen-by found false e bad test = by-test e test
-    where
-      none : w.good ≡ 0
-      none = elim (cases_lt 0 w.good) [
-        | inl some ↦ absurd (false≢true (sym bad ∙ lt-ltb 0 w.good some))
-        | inr not ↦ omega (arith, not)
-      ]
+      digest-told : (e : Bool) → bytes_eq x (digest_on w.path i 0) ≡ e → IsSeenAs t i content (cond e None (Some Changed)) ⊎ IsUnreadAs t (IsLedTo t i) data_failed hash_failed (cond e None (Some Changed))
+      digest-told e test = inl (digest-seen x e (not-positive w.good bad) h test)
+  seen-by None false h bad = inr ((w.path, way0 (not-positive w.good bad)), h)
 
-      way0 : IsWay t i 0 w.path
-      way0 = subst (λ (k : ℕ). IsWay t i k w.path) none way
-
-      by-test : (e : Bool) → bytes_eq found (digest_on w.path i 0) ≡ e → IsSeenBy t i found (cond e None (Some Changed))
-      by-test true e = (w.path, (way0, (bytes_eq-Decides found (digest_on w.path i 0)).0 e))
-      by-test false e = (w.path, (way0, λ same. false≢true (sym e ∙ (bytes_eq-Decides found (digest_on w.path i 0)).1 same)))
-
-  pub seen-at : (found : List ℕ) → IsSeenBy t i found (state_at w i found)
-  seen-at found = seen-by found (ltb 0 w.good) (bytes_eq found (digest_on w.path i 0)) refl refl
+  pub seen-at : (found : Option (List ℕ)) → IsDigestOr data_failed t.salt content found
+      → IsSeenAs t i content (state_at w i found) ⊎ IsUnreadAs t (IsLedTo t i) data_failed hash_failed (state_at w i found)
+  seen-at found h = seen-by found (ltb 0 w.good) h refl
 
   -- ---- over a steady device
 
   module _ (steady : IsTrue d.steady) where
-    few : (k : ℕ) → k < w.good → k < levels w.path.shape
-    few k low = omega (arith, low, on.few)
-
-    digest-stored : (m : ℕ) → m ≤ levels w.path.shape → w.good - 1 ≤ m → digest_on w.path i m ≡ stored_digest t.shape t.root d.image i m
+    digest-stored : (m : ℕ) → m ≤ levels w.path.shape → read_to w ≤ m → digest_on w.path i m ≡ stored_digest t.shape t.root d.image i m
     digest-stored m few high =
         digest_on-stored w.path d.image i m few (λ low. (on.stored steady).up m high low)
         ∙ ap (λ (s : ShapeRecord). stored_digest s w.path.root d.image i m) is.shape_is
         ∙ ap (λ (r : List ℕ). stored_digest t.shape r d.image i m) is.root_is
 
-    block-stored : (l : ℕ) → w.good - 1 ≤ l → l < levels w.path.shape → digest w.path.salt (block_of w.path l) ≡ digest t.salt (stored_block t.shape d.image l i)
+    block-stored : (l : ℕ) → read_to w ≤ l → l < levels w.path.shape → digest w.path.salt (block_of w.path l) ≡ digest t.salt (stored_block t.shape d.image l i)
     block-stored l high low =
         ap (digest w.path.salt) ((on.stored steady).up l high low)
         ∙ ap (λ (z : List ℕ). digest z (stored_block w.path.shape d.image l i)) is.salt_is
@@ -218,40 +254,42 @@ module _ (t : Tree) (w : Sight) (d : Device) (i : ℕ) (is : IsPathOf t.shape t.
     all-stand : w.good ≡ 0 → AllStand t d.image i
     all-stand none l low =
         let low' : l < levels w.path.shape = omega (arith, low, ap levels is.shape_is) in
-        sym (block-stored l (omega (arith, none)) low') ∙ on.leads.up l (omega (arith, none)) low' ∙ digest-stored (l + 1) (omega (arith, low')) (omega (arith, none))
+        let under : read_to w ≤ 0 = omega (arith, none, (read-between w.unread w.good).1) in
+        sym (block-stored l (omega (arith, under)) low') ∙ on.leads.up l (omega (arith, none)) low' ∙ digest-stored (l + 1) (omega (arith, low')) (omega (arith, under))
 
-    unknown-stored : 0 < w.good → IsStoredBy t d.image i [] (Some Unknown)
-    unknown-stored some =
+    bad-stored : 0 < w.good → w.unread ≡ false → IsStoredBy t d.image i [] (Some Unknown)
+    bad-stored some read =
         let next : w.good - 1 + 1 ≡ w.good = omega (arith, some) in
-        let low : w.good - 1 < levels w.path.shape = omega (arith, some, on.few) in (
+        let low : w.good - 1 < levels w.path.shape = omega (arith, some, on.few) in
+        let here : read_to w ≡ w.good - 1 = ap (λ (b : Bool). cond b w.good (w.good - 1)) read in (
           w.good - 1,
           (
             omega (arith, low, ap levels is.shape_is),
-            λ stands. on.bad some
-                (block-stored (w.good - 1) (omega arith) low ∙ stands ∙ sym (digest-stored (w.good - 1 + 1) (omega (arith, low)) (omega arith)) ∙ ap (digest_on w.path i) next),
+            λ stands. on.bad some read
+                (block-stored (w.good - 1) (omega (arith, here)) low ∙ stands ∙ sym (digest-stored (w.good - 1 + 1) (omega (arith, low)) (omega (arith, here))) ∙ ap (digest_on w.path i) next),
           ),
         )
 
-    stored-by : (found : List ℕ) (b e : Bool) → ltb 0 w.good ≡ b → bytes_eq found (digest_on w.path i 0) ≡ e → IsStoredBy t d.image i found (cond b (Some Unknown) (cond e None (Some Changed)))
-    stored-by found true e bad test = unknown-stored (positive w.good bad)
+    unknown-stored : (b : Bool) → w.unread ≡ b → 0 < w.good → IsStoredBy t d.image i [] (Some Unknown) ⊎ ((0 < levels t.shape) × hash_failed)
+    unknown-stored true e some = inr (many some, unread e)
+    unknown-stored false e some = inl (bad-stored some e)
+
+    digest-stands : w.good ≡ 0 → digest_on w.path i 0 ≡ stored_digest t.shape t.root d.image i 0
+    digest-stands none = digest-stored 0 (omega arith) (omega (arith, none, (read-between w.unread w.good).1))
+
+    stands-by : (found : List ℕ) (e : Bool) → w.good ≡ 0 → found ≡ digest t.salt content → bytes_eq found (digest_on w.path i 0) ≡ e → IsStoredBy t d.image i (digest t.salt content) (cond e None (Some Changed))
+    stands-by found true none h e = (all-stand none, sym h ∙ (bytes_eq-Decides found (digest_on w.path i 0)).0 e ∙ digest-stands none)
+    stands-by found false none h e = (all-stand none, λ same. false≢true (sym e ∙ (bytes_eq-Decides found (digest_on w.path i 0)).1 (h ∙ same ∙ sym (digest-stands none))))
+
+    stored-by : (found : Option (List ℕ)) (b : Bool) → IsDigestOr data_failed t.salt content found → ltb 0 w.good ≡ b
+        → IsStoredBy t d.image i (digest t.salt content) (cond b (Some Unknown) (state_with w.path i found)) ⊎ IsUnreadAs t (AllStand t d.image i) data_failed hash_failed (cond b (Some Unknown) (state_with w.path i found))
+    stored-by found true h bad = unknown-stored w.unread refl (positive w.good bad)
+    stored-by (Some x) false h bad = stands-told (bytes_eq x (digest_on w.path i 0)) refl
       where
-        positive : (n : ℕ) → ltb 0 n ≡ true → 0 < n
-        positive zero e = absurd (false≢true e)
-        positive (suc n) e = omega arith
-    stored-by found false e bad test = by-test e test
-      where
-        none : w.good ≡ 0
-        none = elim (cases_lt 0 w.good) [
-          | inl some ↦ absurd (false≢true (sym bad ∙ lt-ltb 0 w.good some))
-          | inr not ↦ omega (arith, not)
-        ]
+        stands-told : (e : Bool) → bytes_eq x (digest_on w.path i 0) ≡ e → IsStoredBy t d.image i (digest t.salt content) (cond e None (Some Changed)) ⊎ IsUnreadAs t (AllStand t d.image i) data_failed hash_failed (cond e None (Some Changed))
+        stands-told e test = inl (stands-by x e (not-positive w.good bad) h test)
+    stored-by None false h bad = inr (all-stand (not-positive w.good bad), h)
 
-        here : digest_on w.path i 0 ≡ stored_digest t.shape t.root d.image i 0
-        here = digest-stored 0 (omega arith) (omega (arith, none))
-
-        by-test : (e : Bool) → bytes_eq found (digest_on w.path i 0) ≡ e → IsStoredBy t d.image i found (cond e None (Some Changed))
-        by-test true e = (all-stand none, (bytes_eq-Decides found (digest_on w.path i 0)).0 e ∙ here)
-        by-test false e = (all-stand none, λ same. false≢true (sym e ∙ (bytes_eq-Decides found (digest_on w.path i 0)).1 (same ∙ sym here)))
-
-    pub stored-at : (found : List ℕ) → IsStoredBy t d.image i found (state_at w i found)
-    stored-at found = stored-by found (ltb 0 w.good) (bytes_eq found (digest_on w.path i 0)) refl refl
+    pub stored-at : (found : Option (List ℕ)) → IsDigestOr data_failed t.salt content found
+        → IsStoredBy t d.image i (digest t.salt content) (state_at w i found) ⊎ IsUnreadAs t (AllStand t d.image i) data_failed hash_failed (state_at w i found)
+    stored-at found h = stored-by found (ltb 0 w.good) h refl

@@ -1,15 +1,22 @@
 -- What was found behind the superblock stands of the devices before.
-use Rattle.std.proofs.Common.{◌≡◌, ℕ, List, Option, None, IsTrue, get_or, ap, ◌∙◌, subst}
+use Rattle.std.proofs.Common.{◌≡◌, ◌⊎◌, ℕ, Bool, List, Option, Some, None, get_or, ap, ◌∙◌, subst}
 use Rattle.block_device.specs.Device.{Device}
 use Rattle.tree_shape.specs.Shape.{ShapeRecord, levels}
-use Rattle.verity_format.specs.Blocks.{IsOnlyRead}
+use Rattle.verity_format.specs.declared.verifying.VerifyFault.TheVariants.{Super, TooSmall, Device as DeviceFailed, NoMemory}
 use Rattle.verity_format.specs.Superblock.{SuperRecord, shape_of}
 use Rattle.tree_path.specs.Path.{PathRecord, IsPathOf}
 use Rattle.tree_path.proofs.lemmas.DeviceLemmas.{steady-then}
+use Rattle.tree_runs.specs.declared.run.Kind.TheVariants.{Changed, Unknown, Removed, Added}
+use Rattle.tree_runs.specs.Runs.{State}
 use Rattle.tree_survey.specs.declared.counts.Totals.{Totals}
-use Rattle.tree_survey.specs.Hashes.{HashBlock, bad_of_levels, tree_at}
-use Rattle.tree_survey.specs.Passes.{Surveys, pass, tree_of}
-use Rattle.tree_survey.specs.Surveys.{IsStoredAs, Tree}
+use Rattle.tree_survey.specs.declared.fault.SurveyFault.{SurveyFault}
+use Rattle.tree_survey.specs.declared.fault.SurveyFault.TheVariants.{Image, Write}
+use Rattle.tree_survey.specs.Causes.{IsImageCause, IsPassCause, IsSurveyCause}
+use Rattle.tree_survey.specs.Failing.{HasFailedRead, IsReadOver}
+use Rattle.tree_survey.specs.Hashes.{AreBad, HashesFound, IsWithin, bad_of_levels, tree_at}
+use Rattle.tree_survey.specs.Passes.{IsHidden, Surveys, pass, tree_of}
+use Rattle.tree_survey.specs.Surveys.{AllStand, IsLedTo, IsStoredAs, Tree}
+use Rattle.tree_survey.proofs.FailingLemmas.{failed-later, failed-more, or-more}
 
 -- the tree of a path
 pub tree-of : (s : SuperRecord) (root : List ℕ) (p : PathRecord) → IsPathOf (shape_of s) s.salt root p → tree_at p ≡ tree_of s root
@@ -17,26 +24,61 @@ tree-of s root p is =
     let f : ShapeRecord → List ℕ → List ℕ → Tree = λ h x r. record { shape = h; salt = x; root = r } in
     ap (λ (h : ShapeRecord). f h p.salt p.root) is.shape_is ∙ ap (λ (x : List ℕ). f (shape_of s) x p.root) is.salt_is ∙ ap (f (shape_of s) s.salt) is.root_is
 
-pub surveys-were : (t u : Tree) (d h h' d' h'' last : Device) (old new : Option (List ℕ)) (totals : Totals) → u ≡ t → IsOnlyRead h h' → Surveys u (pass d h' d' h'' old new) totals → Surveys t (pass d h d' last old new) totals
-surveys-were t u d h h' d' h'' last old new totals same read was =
-    let s : Surveys t (pass d h' d' h'' old new) totals = subst (λ (x : Tree). Surveys x (pass d h' d' h'' old new) totals) same was in
+module _ (t u : Tree) (d h h' d' h'' last : Device) (same : u ≡ t) (read : IsReadOver h h') (behind : IsReadOver h' h'') (later : IsReadOver h'' last) where
+  failed-was : HasFailedRead h' h'' → HasFailedRead h last
+  failed-was failed = failed-more h (failed-later read behind failed) later
+
+  hidden-was : (old new : Option (List ℕ)) (above : Type 0) (state : State) → IsHidden t (pass d h' d' h'' old new) above state → IsHidden t (pass d h d' last old new) above state
+  hidden-was old new above None h = absurd h
+  hidden-was old new above (Some Changed) h = h
+  hidden-was old new above (Some Unknown) (some, failed) = (some, failed-was failed)
+  hidden-was old new above (Some Removed) h = absurd h
+  hidden-was old new above (Some Added) h = absurd h
+
+  pub surveys-were : (old new : Option (List ℕ)) (totals : Totals) → Surveys u (pass d h' d' h'' old new) totals → Surveys t (pass d h d' last old new) totals
+  surveys-were old new totals was =
+      let s : Surveys t (pass d h' d' h'' old new) totals = subst (λ (x : Tree). Surveys x (pass d h' d' h'' old new) totals) same was in
+      record {
+        states = s.states;
+        seen = record {
+          count = s.seen.count;
+          contents = s.seen.contents;
+          all = s.seen.all;
+          over = s.seen.over;
+          seen = λ i low. or-more _ _ _ (hidden-was old new (IsLedTo t i) (get_or s.states i None)) (s.seen.seen i low);
+          stored = λ steady steady' i low.
+              or-more _ _ _ (hidden-was old new (AllStand t h.image i) (get_or s.states i None))
+              (subst (λ (im : List (List ℕ)). IsStoredAs t d.image im i (get_or s.states i None) ⊎ IsHidden t (pass d h' d' h'' old new) (AllStand t im i) (get_or s.states i None)) (read.read.image steady')
+              (s.seen.stored steady (steady-then read.read.same steady') i low));
+        };
+        totals_are = s.totals_are;
+        printed_are = s.printed_are;
+        data_read = s.data_read;
+      }
+
+-- hash blocks that were found behind reads of the device
+pub hashes-were : (t u : Tree) (h h' last : Device) → u ≡ t → IsReadOver h h' → IsReadOver h' last → (f : HashesFound u h' last) → AreBad (λ image. bad_of_levels t image (levels t.shape)) h last f.bad
+hashes-were t u h h' last same read behind f =
+    let bads : AreBad (λ image. bad_of_levels t image (levels t.shape)) h' last f.bad = subst (λ (x : Tree). AreBad (λ image. bad_of_levels x image (levels x.shape)) h' last f.bad) same f.are in
     record {
-      states = s.states;
-      seen = record {
-        count = s.seen.count;
-        contents = s.seen.contents;
-        all = s.seen.all;
-        over = s.seen.over;
-        seen = s.seen.seen;
-        stored = λ steady steady' i low. subst (λ (im : List (List ℕ)). IsStoredAs t d.image im i (get_or s.states i None)) (read.image steady') (s.seen.stored steady (steady-then read.same steady') i low);
-      };
-      totals_are = s.totals_are;
-      printed_are = s.printed_are;
-      data_read = s.data_read;
+      all = λ steady. subst (λ (im : List (List ℕ)). IsWithin (bad_of_levels t im (levels t.shape)) f.bad) (read.read.image steady) (bads.all (steady-then read.read.same steady));
+      stored = λ steady. subst (λ (im : List (List ℕ)). (f.bad ≡ bad_of_levels t im (levels t.shape)) ⊎ HasFailedRead h last) (read.read.image steady)
+          (or-more _ _ _ (λ failed. failed-later read behind failed) (bads.stored (steady-then read.read.same steady)));
     }
 
-pub bad-were : (t u : Tree) (h h' : Device) (bad : List HashBlock) → u ≡ t → IsOnlyRead h h' → (IsTrue h'.steady → bad ≡ bad_of_levels u h'.image (levels u.shape)) → IsTrue h.steady → bad ≡ bad_of_levels t h.image (levels t.shape)
-bad-were t u h h' bad same read stored steady =
-    stored (steady-then read.same steady)
-    ∙ ap (λ (x : Tree). bad_of_levels x h'.image (levels x.shape)) same
-    ∙ ap (λ (im : List (List ℕ)). bad_of_levels t im (levels t.shape)) (read.image steady)
+-- ---- why it ends
+
+pub image_ends : (d h d' h' : Device) (failed : Bool) (fault : SurveyFault) → IsImageCause d h h' fault → d' ≡ d → IsSurveyCause d h d' h' failed fault
+image_ends d h d' h' failed (Image (Super f)) cause same = (cause, same)
+image_ends d h d' h' failed (Image TooSmall) cause same = (cause, same)
+image_ends d h d' h' failed (Image DeviceFailed) cause same = (cause, same)
+image_ends d h d' h' failed (Image NoMemory) cause same = absurd cause
+image_ends d h d' h' failed Write cause same = absurd cause
+
+-- behind reads of which none failed
+pub pass_ends : (d h h' d' h'' : Device) (failed : Bool) (fault : SurveyFault) → h'.failures ≡ h.failures → IsPassCause d h' d' h'' failed fault → IsSurveyCause d h d' h'' failed fault
+pass_ends d h h' d' h'' failed (Image (Super f)) same cause = absurd cause
+pass_ends d h h' d' h'' failed (Image TooSmall) same cause = absurd cause
+pass_ends d h h' d' h'' failed (Image DeviceFailed) same cause = absurd cause
+pass_ends d h h' d' h'' failed (Image NoMemory) same cause = (cause.0, cause.1 ∙ same)
+pass_ends d h h' d' h'' failed Write same cause = cause

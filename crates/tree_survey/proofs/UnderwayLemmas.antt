@@ -1,17 +1,16 @@
 -- Data blocks that are gone over, while some are left.
-use Rattle.std.proofs.Common.{◌≡◌, ◌≤◌, ◌<◌, ◌+◌, ◌*◌, ◌/◌, ◌^◌, ℕ, Bool, true, false, IsTrue, List, [], ◌∷◌, ◌++◌, length, get_or, Option, Some, None, refl, sym, ap, ◌∙◌, subst, arith, inl, inr}
+use Rattle.std.proofs.Common.{◌≡◌, ◌≤◌, ◌<◌, ◌+◌, ◌*◌, ◌/◌, ◌^◌, ◌⊎◌, ℕ, Bool, true, false, IsTrue, List, [], ◌∷◌, ◌++◌, length, get_or, Option, Some, None, refl, sym, ap, ◌∙◌, subst, arith, inl, inr}
 use Rattle.std.specs.Io.KnownBytes.{Appends}
-use Rattle.std.proofs.lemmas.Bool.{cases_lt}
+use Rattle.std.proofs.lemmas.Bool.{cases_lt, false≢true}
 use Rattle.std.proofs.lemmas.List.{get_or-append-add, get_or_append_left, get_or-map, length-append, length-map}
 use Rattle.std.proofs.lemmas.List.FromFn.{get_or-map-range_with_len, map-range_with_len_more}
 use Rattle.block_device.specs.Device.{Device}
 use Rattle.tree_shape.specs.Digests.{digest}
 use Rattle.tree_shape.specs.Shape.{ShapeRecord, IsShape}
 use Rattle.tree_shape.proofs.lemmas.ShapeFaultLemmas.{blocks-le}
-use Rattle.verity_format.specs.Blocks.{IsFullRead, IsOnlyRead, block_at, blocks_at}
+use Rattle.verity_format.specs.Blocks.{block_at, blocks_at}
 use Rattle.verity_format.specs.Image.{tree_sectors}
 use Rattle.tree_path.specs.Path.{IsPathOf}
-use Rattle.tree_path.proofs.lemmas.DeviceLemmas.{only_read-none, only_read-then, steady-then}
 use Rattle.tree_runs.specs.declared.run.Kind.{Kind}
 use Rattle.tree_runs.specs.declared.run.Kind.TheVariants.{Changed, Unknown, Removed, Added}
 use Rattle.tree_runs.specs.Limits.{begun, lines_of}
@@ -24,14 +23,15 @@ use Rattle.tree_survey.specs.declared.counts.Totals.{Totals}
 use Rattle.tree_survey.specs.declared.sight.Sight.{Sight}
 use Rattle.tree_survey.specs.Counts.{AreFew, IsAdded, closed_at, counted, good_of, totals_of}
 use Rattle.tree_survey.specs.Passes.{CanPass, Surveys, pass, tree_in}
-use Rattle.tree_survey.specs.Pieces.{IsPieceRead}
-use Rattle.tree_survey.specs.Sights.{CanGo, HasGone, IsReady, state_at}
-use Rattle.tree_survey.specs.Surveys.{IsSeenAs, IsSeenBy, IsStoredBy, Tree}
+use Rattle.tree_survey.specs.Failing.{HasFailedRead, IsReadOver, IsReadThrough}
+use Rattle.tree_survey.specs.Sights.{CanGo, HasGone, IsOn, IsReady, state_at}
+use Rattle.tree_survey.specs.Surveys.{AllStand, IsLedTo, IsSeenAs, IsStoredBy, IsUnreadAs, Tree}
+use Rattle.tree_survey.proofs.FailingLemmas.{failed-later, failed-more, or-more, over-none, over-then}
 use Rattle.tree_survey.proofs.HashLemmas.{path-none}
-use Rattle.tree_survey.proofs.SightLemmas.{on-was, ready-next, ready-none, ready-read, seen-at, stored-at}
+use Rattle.tree_survey.proofs.SightLemmas.{IsDigestOr, on-was, ready-next, ready-none, ready-read, seen-at, stored-at}
 
 -- the data blocks before that one were gone over
-pub record IsUnderway (t : Tree) (data_dev hash_dev hash_dev' : Device) (old now : Option (List ℕ)) (w : Sight) (g : Counts) (at : ℕ) : Type 0 where
+pub record IsUnderway (t : Tree) (data_dev hash_dev data_dev' hash_dev' : Device) (old now : Option (List ℕ)) (w : Sight) (g : Counts) (at : ℕ) : Type 0 where
   pub is_of : IsPathOf t.shape t.salt t.root w.path
   pub shape : w.shape ≡ w.path.shape
   pub within : at ≤ t.shape.blocks
@@ -41,15 +41,19 @@ pub record IsUnderway (t : Tree) (data_dev hash_dev hash_dev' : Device) (old now
   pub here : at ≡ length contents
   pub also : at ≡ length states
   pub over : IsTrue data_dev.steady → contents ≡ blocks_at data_dev.image t.shape.data_block 0 at
-  pub seen : (i : ℕ) → i < at → IsSeenAs t i (get_or contents i []) (get_or states i None)
-  pub stored : IsTrue hash_dev.steady → (i : ℕ) → i < at → IsStoredBy t hash_dev.image i (digest t.salt (get_or contents i [])) (get_or states i None)
-  pub read : IsOnlyRead hash_dev hash_dev'
-  pub failures : hash_dev'.failures ≡ hash_dev.failures
+  pub seen : (i : ℕ) → i < at
+      → IsSeenAs t i (get_or contents i []) (get_or states i None) ⊎ IsUnreadAs t (IsLedTo t i) (HasFailedRead data_dev data_dev') (HasFailedRead hash_dev hash_dev') (get_or states i None)
+  pub stored : IsTrue hash_dev.steady → (i : ℕ) → i < at
+      → IsStoredBy t hash_dev.image i (digest t.salt (get_or contents i [])) (get_or states i None)
+      ⊎ IsUnreadAs t (AllStand t hash_dev.image i) (HasFailedRead data_dev data_dev') (HasFailedRead hash_dev hash_dev') (get_or states i None)
+  pub data_over : IsReadOver data_dev data_dev'
+  pub hash_over : IsReadOver hash_dev hash_dev'
+  pub unread : w.unread ≡ true → HasFailedRead hash_dev hash_dev'
   pub listed : IsListed None states g.tally old now
   pub totals : g.totals ≡ totals_of states
 
 pub underway-none : (w : Sight) (salt : List ℕ) (data_dev hash_dev : Device) (old : Option (List ℕ)) (g : Counts) → CanPass w salt data_dev hash_dev
-    → g ≡ record { tally = record { last = None; limit = begun None }; totals = record { good = 0; changed = 0; unknown = 0 } } → IsUnderway (tree_in w) data_dev hash_dev hash_dev old old w g 0
+    → g ≡ record { tally = record { last = None; limit = begun None }; totals = record { good = 0; changed = 0; unknown = 0 } } → IsUnderway (tree_in w) data_dev hash_dev data_dev hash_dev old old w g 0
 underway-none w salt data_dev hash_dev old g can is = record {
   is_of = path-none w.path;
   shape = can.shape;
@@ -62,11 +66,48 @@ underway-none w salt data_dev hash_dev old g can is = record {
   over = λ steady. refl;
   seen = λ i low. absurd (omega (arith, low));
   stored = λ steady i low. absurd (omega (arith, low));
-  read = only_read-none hash_dev;
-  failures = refl;
+  data_over = over-none data_dev;
+  hash_over = over-none hash_dev;
+  unread = λ unread. absurd (false≢true (sym can.all_read ∙ unread));
   listed = listed-none None old g.tally (ap (λ (x : Counts). x.tally) is);
   totals = ap (λ (x : Counts). x.totals) is;
 }
+
+-- ---- reads behind
+
+unread-more : (t : Tree) (above data_failed hash_failed data_failed' hash_failed' : Type 0) (state : State) → (data_failed → data_failed') → (hash_failed → hash_failed') → IsUnreadAs t above data_failed hash_failed state
+    → IsUnreadAs t above data_failed' hash_failed' state
+unread-more t above a b a' b' None f g h = absurd h
+unread-more t above a b a' b' (Some Changed) f g (good, failed) = (good, f failed)
+unread-more t above a b a' b' (Some Unknown) f g (some, failed) = (some, g failed)
+unread-more t above a b a' b' (Some Removed) f g h = absurd h
+unread-more t above a b a' b' (Some Added) f g h = absurd h
+
+-- the two devices were read further
+module _ (t : Tree) (data_dev hash_dev data_dev' hash_dev' data_dev'' hash_dev'' : Device) (old now : Option (List ℕ)) (w : Sight) (g : Counts) (at : ℕ) (u : IsUnderway t data_dev hash_dev data_dev' hash_dev' old now w g at) (data_read : IsReadOver data_dev' data_dev'') (hash_read : IsReadOver hash_dev' hash_dev'') where
+  hidden-more : (above : Type 0) (state : State) → IsUnreadAs t above (HasFailedRead data_dev data_dev') (HasFailedRead hash_dev hash_dev') state
+      → IsUnreadAs t above (HasFailedRead data_dev data_dev'') (HasFailedRead hash_dev hash_dev'') state
+  hidden-more above state = unread-more t above _ _ _ _ state (λ failed. failed-more data_dev failed data_read) (λ failed. failed-more hash_dev failed hash_read)
+
+  pub underway-more : IsUnderway t data_dev hash_dev data_dev'' hash_dev'' old now w g at
+  underway-more = record {
+    is_of = u.is_of;
+    shape = u.shape;
+    within = u.within;
+    ready = u.ready;
+    contents = u.contents;
+    states = u.states;
+    here = u.here;
+    also = u.also;
+    over = u.over;
+    seen = λ i low. or-more _ _ _ (hidden-more (IsLedTo t i) (get_or u.states i None)) (u.seen i low);
+    stored = λ steady i low. or-more _ _ _ (hidden-more (AllStand t hash_dev.image i) (get_or u.states i None)) (u.stored steady i low);
+    data_over = over-then u.data_over data_read;
+    hash_over = over-then u.hash_over hash_read;
+    unread = λ unread. failed-more hash_dev (u.unread unread) hash_read;
+    listed = u.listed;
+    totals = u.totals;
+  }
 
 -- ---- lists with one element more
 
@@ -119,7 +160,7 @@ listed-next : (states : List State) (state : State) (g g' : Counts) (old now new
 listed-next states None g g' old now new at is t told added = listed-had None states g.tally g'.tally old now new 1 (omega arith) t told added.last added.limit
 listed-next states (Some kind) g g' old now new at is t told added = listed-run None states g.tally g'.tally old now new at 1 kind is (omega arith) t told added.last added.limit
 
-module _ (t : Tree) (valid : IsShape t.shape) (data_dev hash_dev hash_dev' : Device) (old now : Option (List ℕ)) (w : Sight) (g : Counts) (at : ℕ) (u : IsUnderway t data_dev hash_dev hash_dev' old now w g at) where
+module _ (t : Tree) (valid : IsShape t.shape) (data_dev hash_dev data_dev' hash_dev' : Device) (old now : Option (List ℕ)) (w : Sight) (g : Counts) (at : ℕ) (u : IsUnderway t data_dev hash_dev data_dev' hash_dev' old now w g at) where
   pub ends-at : EndsAt g.tally.last at
   ends-at = subst (EndsAt g.tally.last) (sym u.also) (listed-ends None u.states g.tally old now u.listed)
 
@@ -137,22 +178,54 @@ module _ (t : Tree) (valid : IsShape t.shape) (data_dev hash_dev hash_dev' : Dev
     pub can-go : tree_sectors t.shape ≤ hash_dev.size → CanGo w hash_dev' at
     can-go fits = record {
       index = omega (arith, low, ap (λ (s : ShapeRecord). s.blocks) u.is_of.shape_is);
-      fits = omega (arith, fits, u.read.same.size, ap tree_sectors u.is_of.shape_is);
+      fits = omega (arith, fits, u.hash_over.read.same.size, ap tree_sectors u.is_of.shape_is);
       shape = u.shape;
-      ready = ready-read w hash_dev hash_dev' at u.read (u.ready low);
+      ready = ready-read w hash_dev hash_dev' at u.hash_over.read (u.ready low);
     }
 
-    module _ (w' : Sight) (hash_dev'' : Device) (gone : HasGone w w' hash_dev' hash_dev'' at) (read : IsOnlyRead hash_dev' hash_dev'') where
+    module _ (w' : Sight) (data_dev'' hash_dev'' : Device) (gone : HasGone w w' hash_dev' hash_dev'' at) (data_read : IsReadOver data_dev' data_dev'') (hash_read : IsReadOver hash_dev' hash_dev'') (content : List ℕ) (found : Option (List ℕ)) (told : IsDigestOr (HasFailedRead data_dev data_dev'') t.salt content found) where
       is_of' : IsPathOf t.shape t.salt t.root w'.path
       is_of' = record { shape_is = gone.same.shape_is ∙ u.is_of.shape_is; salt_is = gone.same.salt_is ∙ u.is_of.salt_is; root_is = gone.same.root_is ∙ u.is_of.root_is }
 
+      later : IsUnderway t data_dev hash_dev data_dev'' hash_dev'' old now w g at
+      later = underway-more t data_dev hash_dev data_dev' hash_dev' data_dev'' hash_dev'' old now w g at u data_read hash_read
+
+      unread' : w'.unread ≡ true → HasFailedRead hash_dev hash_dev''
+      unread' e = elim (gone.failed e) [
+        | inl before ↦ later.unread before
+        | inr failed ↦ failed-later u.hash_over hash_read failed
+      ]
+
+      on : IsOn w' hash_dev at
+      on = on-was w' hash_dev hash_dev' at u.hash_over.read gone.on
+
+      abbrev Seen : ℕ → List ℕ → State → Type 0
+      Seen i x state = IsSeenAs t i x state ⊎ IsUnreadAs t (IsLedTo t i) (HasFailedRead data_dev data_dev'') (HasFailedRead hash_dev hash_dev'') state
+
+      abbrev Stored : ℕ → List ℕ → State → Type 0
+      Stored i x state = IsStoredBy t hash_dev.image i (digest t.salt x) state ⊎ IsUnreadAs t (AllStand t hash_dev.image i) (HasFailedRead data_dev data_dev'') (HasFailedRead hash_dev hash_dev'') state
+
+      -- what holds of each data block before, and of this one, holds of each with it
+      each-next : (P : ℕ → List ℕ → State → Type 0) (state : State) → ((i : ℕ) → i < at → P i (get_or u.contents i []) (get_or u.states i None)) → P at content state
+          → (i : ℕ) → i < at + 1 → P i (get_or (u.contents ++ content ∷ []) i []) (get_or (u.states ++ state ∷ []) i None)
+      each-next P state before here i less = elim (cases_lt i at) [
+        | inl low ↦
+            subst (λ (x : List ℕ). P i x (get_or (u.states ++ state ∷ []) i None)) (sym (get_or_append_left u.contents (content ∷ []) [] i (omega (arith, low, u.here))))
+            (subst (P i (get_or u.contents i [])) (sym (get_or_append_left u.states (state ∷ []) None i (omega (arith, low, u.also)))) (before i low))
+        | inr not ↦
+            let last : i ≡ at = omega (arith, less, not) in
+            subst (λ (k : ℕ). P k (get_or (u.contents ++ content ∷ []) k []) (get_or (u.states ++ state ∷ []) k None)) (sym last)
+            (subst (λ (x : List ℕ). P at x (get_or (u.states ++ state ∷ []) at None)) (sym (get_or-last u.contents content [] at u.here))
+            (subst (P at content) (sym (get_or-last u.states state None at u.also)) here))
+      ]
+
       -- one data block more
-      pub underway-next : (content found : List ℕ) (g' : Counts) (new : Option (List ℕ)) → found ≡ digest t.salt content → (IsTrue data_dev.steady → content ≡ block_at data_dev.image t.shape.data_block at)
+      pub underway-next : (g' : Counts) (new : Option (List ℕ)) → (IsTrue data_dev.steady → content ≡ block_at data_dev.image t.shape.data_block at)
           → Appends now new (lines_of g.tally.limit (closed_at g.tally.last at (state_at w' at found))) → IsAdded g g' at (state_at w' at found)
-          → IsUnderway t data_dev hash_dev hash_dev'' old new w' g' (at + 1)
-      underway-next content found g' new is over told added =
+          → IsUnderway t data_dev hash_dev data_dev'' hash_dev'' old new w' g' (at + 1)
+      unfolding later underway-more
+      underway-next g' new over printed added =
           let state : State = state_at w' at found in
-          let on = on-was w' hash_dev hash_dev' at u.read gone.on in
           record {
             is_of = is_of';
             shape = gone.shape ∙ u.shape ∙ sym gone.same.shape_is;
@@ -166,38 +239,19 @@ module _ (t : Tree) (valid : IsShape t.shape) (data_dev hash_dev hash_dev' : Dev
                 ap (λ (xs : List (List ℕ)). xs ++ content ∷ []) (u.over steady)
                 ∙ ap (λ (x : List ℕ). blocks_at data_dev.image t.shape.data_block 0 at ++ x ∷ []) (over steady)
                 ∙ sym (map-range_with_len_more (block_at data_dev.image t.shape.data_block) 0 at at (omega arith));
-            seen = λ i less. elim (cases_lt i at) [
-              | inl before ↦
-                  subst (λ (x : List ℕ). IsSeenAs t i x (get_or (u.states ++ state ∷ []) i None)) (sym (get_or_append_left u.contents (content ∷ []) [] i (omega (arith, before, u.here))))
-                  (subst (IsSeenAs t i (get_or u.contents i [])) (sym (get_or_append_left u.states (state ∷ []) None i (omega (arith, before, u.also)))) (u.seen i before))
-              | inr not ↦
-                  let last : i ≡ at = omega (arith, less, not) in
-                  subst (λ (k : ℕ). IsSeenAs t k (get_or (u.contents ++ content ∷ []) k []) (get_or (u.states ++ state ∷ []) k None)) (sym last)
-                  (subst (λ (x : List ℕ). IsSeenAs t at x (get_or (u.states ++ state ∷ []) at None)) (sym (get_or-last u.contents content [] at u.here))
-                  (subst (IsSeenAs t at content) (sym (get_or-last u.states state None at u.also))
-                  (subst (λ (x : List ℕ). IsSeenBy t at x state) is (seen-at t w' hash_dev at is_of' on found))))
-            ];
-            stored = λ steady i less. elim (cases_lt i at) [
-              | inl before ↦
-                  subst (λ (x : List ℕ). IsStoredBy t hash_dev.image i (digest t.salt x) (get_or (u.states ++ state ∷ []) i None)) (sym (get_or_append_left u.contents (content ∷ []) [] i (omega (arith, before, u.here))))
-                  (subst (IsStoredBy t hash_dev.image i (digest t.salt (get_or u.contents i []))) (sym (get_or_append_left u.states (state ∷ []) None i (omega (arith, before, u.also)))) (u.stored steady i before))
-              | inr not ↦
-                  let last : i ≡ at = omega (arith, less, not) in
-                  subst (λ (k : ℕ). IsStoredBy t hash_dev.image k (digest t.salt (get_or (u.contents ++ content ∷ []) k [])) (get_or (u.states ++ state ∷ []) k None)) (sym last)
-                  (subst (λ (x : List ℕ). IsStoredBy t hash_dev.image at (digest t.salt x) (get_or (u.states ++ state ∷ []) at None)) (sym (get_or-last u.contents content [] at u.here))
-                  (subst (IsStoredBy t hash_dev.image at (digest t.salt content)) (sym (get_or-last u.states state None at u.also))
-                  (subst (λ (x : List ℕ). IsStoredBy t hash_dev.image at x state) is (stored-at t w' hash_dev at is_of' on steady found))))
-            ];
-            read = only_read-then u.read read;
-            failures = gone.failures ∙ u.failures;
-            listed = listed-next u.states state g g' old now new at u.also u.listed told added;
+            seen = each-next Seen state later.seen (seen-at t w' hash_dev at is_of' on (HasFailedRead data_dev data_dev'') (HasFailedRead hash_dev hash_dev'') unread' content found told);
+            stored = λ steady. each-next Stored state (later.stored steady) (stored-at t w' hash_dev at is_of' on (HasFailedRead data_dev data_dev'') (HasFailedRead hash_dev hash_dev'') unread' content steady found told);
+            data_over = later.data_over;
+            hash_over = later.hash_over;
+            unread = unread';
+            listed = listed-next u.states state g g' old now new at u.also u.listed printed added;
             totals = added.totals ∙ ap (λ (x : Totals). counted x state) u.totals ∙ totals-next u.states state;
           }
 
   -- all of them
-  pub underway-all : (data_dev' : Device) (new : Option (List ℕ)) → at ≡ t.shape.blocks → IsFullRead data_dev (at * (t.shape.data_block / 512)) data_dev' → Appends now new (lines_of g.tally.limit (listed g.tally.last))
+  pub underway-all : (new : Option (List ℕ)) → at ≡ t.shape.blocks → IsReadThrough data_dev (at * (t.shape.data_block / 512)) data_dev' → Appends now new (lines_of g.tally.limit (listed g.tally.last))
       → Surveys t (pass data_dev hash_dev data_dev' hash_dev' old new) g.totals
-  underway-all data_dev' new all full told =
+  underway-all new all full told =
       let over' : IsTrue data_dev.steady → u.contents ≡ blocks_at data_dev.image t.shape.data_block 0 t.shape.blocks = λ steady. u.over steady ∙ ap (blocks_at data_dev.image t.shape.data_block 0) all in
       record {
         states = u.states;
@@ -208,23 +262,12 @@ module _ (t : Tree) (valid : IsShape t.shape) (data_dev hash_dev hash_dev' : Dev
           over = over';
           seen = λ i low. u.seen i (omega (arith, low, all));
           stored = λ steady steady' i low.
-              subst (λ (x : List ℕ). IsStoredBy t hash_dev.image i (digest t.salt x) (get_or u.states i None))
+              subst (λ (x : List ℕ). IsStoredBy t hash_dev.image i (digest t.salt x) (get_or u.states i None)
+              ⊎ IsUnreadAs t (AllStand t hash_dev.image i) (HasFailedRead data_dev data_dev') (HasFailedRead hash_dev hash_dev') (get_or u.states i None))
               (ap (λ (xs : List (List ℕ)). get_or xs i []) (over' steady) ∙ get_or-map-range_with_len (block_at data_dev.image t.shape.data_block) 0 t.shape.blocks i i [] low (omega arith))
               (u.stored steady' i (omega (arith, low, all)));
         };
         totals_are = u.totals;
         printed_are = listed-all None u.states g.tally old now new u.listed told;
-        data_read = subst (λ (n : ℕ). IsFullRead data_dev (n * (t.shape.data_block / 512)) data_dev') all full;
+        data_read = subst (λ (n : ℕ). IsReadThrough data_dev (n * (t.shape.data_block / 512)) data_dev') all full;
       }
-
--- the data block of a piece that was read behind others
-pub in-piece : (t : Tree) (data_dev data_dev' data_dev'' : Device) (n at k : ℕ) (digests : List (List ℕ)) (d : List ℕ) → IsFullRead data_dev n data_dev' → (p : IsPieceRead t.shape t.salt data_dev' data_dev'' at digests) → k < length digests
-    → (get_or digests k d ≡ digest t.salt (get_or p.run.contents k [])) × (IsTrue data_dev.steady → get_or p.run.contents k [] ≡ block_at data_dev.image t.shape.data_block (at + k))
-in-piece t data_dev data_dev' data_dev'' n at k digests d full p low =
-    let low' : k < length p.run.contents = omega (arith, low, ap length p.run.are, length-map p.run.contents (digest t.salt)) in (
-      ap (λ (xs : List (List ℕ)). get_or xs k d) p.run.are ∙ get_or-map (digest t.salt) p.run.contents k [] d low',
-      λ steady.
-          ap (λ (xs : List (List ℕ)). get_or xs k []) (p.run.over (steady-then full.read.same steady))
-          ∙ get_or-map-range_with_len (block_at data_dev'.image t.shape.data_block) at (length digests) k (at + k) [] low refl
-          ∙ ap (λ (im : List (List ℕ)). block_at im t.shape.data_block (at + k)) (full.read.image steady),
-    )

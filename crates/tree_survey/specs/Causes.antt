@@ -1,31 +1,18 @@
 -- Why an image isn't gone over to its end.
 use Rattle.std.specs.Prelude.{◌≡◌, ◌⊎◌, ℕ, ◌<◌, ◌≤◌, Bool, true, List}
-use Rattle.block_device.specs.Device.{Device, HasFailed}
-use Rattle.verity_format.specs.declared.verifying.VerifyFault.TheVariants.{Super, TooSmall, Device as DeviceFailed, NoMemory}
+use Rattle.block_device.specs.Device.{Device}
+use Rattle.verity_format.specs.declared.verifying.VerifyFault.TheVariants.{TooSmall, NoMemory}
 use Rattle.verity_format.specs.Image.{data_sectors, tree_sectors}
 use Rattle.verity_format.specs.Superblock.{SuperRecord, shape_of}
 use Rattle.verity_format.specs.Verifying.{IsReadCause, IsReadFrom}
 use Rattle.tree_survey.specs.declared.fault.SurveyFault.{SurveyFault}
 use Rattle.tree_survey.specs.declared.fault.SurveyFault.TheVariants.{Image, Write}
 
--- a device that is read failed in the call; where memory ran out it didn't
-abbrev pub IsReadingCause : Device → Device → SurveyFault → Type 0
-IsReadingCause old new (Image DeviceFailed) = HasFailed old new
-IsReadingCause old new (Image NoMemory) = new.failures ≡ old.failures
-IsReadingCause old new fault = ⊥
-
--- one of the two devices failed, where memory ran out neither did, or a line can't be written
+-- memory ran out, and neither device has failed, or a line can't be written
 abbrev pub IsPassCause : Device → Device → Device → Device → Bool → SurveyFault → Type 0
-IsPassCause data_dev hash_dev data_dev' hash_dev' failed (Image DeviceFailed) = HasFailed data_dev data_dev' ⊎ HasFailed hash_dev hash_dev'
 IsPassCause data_dev hash_dev data_dev' hash_dev' failed (Image NoMemory) = (data_dev'.failures ≡ data_dev.failures) × (hash_dev'.failures ≡ hash_dev.failures)
 IsPassCause data_dev hash_dev data_dev' hash_dev' failed Write = failed ≡ true
 IsPassCause data_dev hash_dev data_dev' hash_dev' failed fault = ⊥
-
--- the hash device failed, or a line can't be written
-abbrev pub IsHashCause : Device → Device → Bool → SurveyFault → Type 0
-IsHashCause old new failed (Image DeviceFailed) = HasFailed old new
-IsHashCause old new failed Write = failed ≡ true
-IsHashCause old new failed fault = ⊥
 
 -- a superblock was read from the hash device, and data and tree lie on the devices
 pub record AreImages (data_dev hash_dev : Device) (s : SuperRecord) : Type 0 where
@@ -47,11 +34,11 @@ IsImageCause data_dev hash_dev hash_dev' (Image TooSmall) = IsReadCause hash_dev
 IsImageCause data_dev hash_dev hash_dev' (Image fault) = IsReadCause hash_dev hash_dev' fault
 IsImageCause data_dev hash_dev hash_dev' Write = ⊥
 
--- all of them
+-- All of them. A device ends it only where the hash device failed, and then nothing was read of the data.
 abbrev pub IsSurveyCause : Device → Device → Device → Device → Bool → SurveyFault → Type 0
-IsSurveyCause data_dev hash_dev data_dev' hash_dev' failed (Image (Super f)) = IsImageCause data_dev hash_dev hash_dev' (Image (Super f))
-IsSurveyCause data_dev hash_dev data_dev' hash_dev' failed (Image TooSmall) = IsImageCause data_dev hash_dev hash_dev' (Image TooSmall)
-IsSurveyCause data_dev hash_dev data_dev' hash_dev' failed fault = IsPassCause data_dev hash_dev data_dev' hash_dev' failed fault
+IsSurveyCause data_dev hash_dev data_dev' hash_dev' failed (Image NoMemory) = IsPassCause data_dev hash_dev data_dev' hash_dev' failed (Image NoMemory)
+IsSurveyCause data_dev hash_dev data_dev' hash_dev' failed (Image fault) = IsImageCause data_dev hash_dev hash_dev' (Image fault) × (data_dev' ≡ data_dev)
+IsSurveyCause data_dev hash_dev data_dev' hash_dev' failed Write = failed ≡ true
 
 -- ---- calls, by what a proof sees of the two devices: as they were before, and then after
 

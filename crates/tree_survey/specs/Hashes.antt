@@ -1,5 +1,5 @@
 -- Hash blocks whose digests don't stand above them.
-use Rattle.std.specs.Prelude.{◌≡◌, ℕ, zero, suc, ◌+◌, ◌-◌, ◌*◌, ◌^◌, ◌<◌, ◌≤◌, Bool, true, false, IsTrue, List, [], ◌∷◌, ◌++◌, Option}
+use Rattle.std.specs.Prelude.{◌≡◌, ◌⊎◌, ℕ, zero, suc, ◌+◌, ◌-◌, ◌*◌, ◌^◌, ◌<◌, ◌≤◌, Bool, true, false, IsTrue, List, [], ◌∷◌, ◌++◌, Option}
 use Rattle.std.specs.List.{flat_map}
 use Rattle.std.specs.Str.{bytes_eq}
 use Rattle.std.specs.Io.KnownBytes.{Appends}
@@ -9,6 +9,7 @@ use Rattle.tree_shape.specs.Shape.{ShapeRecord, IsShape, level_blocks, levels, p
 use Rattle.verity_format.specs.Image.{tree_sectors}
 use Rattle.tree_path.specs.Path.{PathRecord, IsPathOf, block_of, stored_block, stored_digest}
 use Rattle.tree_runs.specs.Texts.{hash_text}
+use Rattle.tree_survey.specs.Failing.{HasFailedRead}
 use Rattle.tree_survey.specs.Surveys.{Tree}
 
 -- a hash block by its level, counted from the data up, and its number within that
@@ -54,10 +55,23 @@ abbrev pub bad_of_levels : Tree → List (List ℕ) → ℕ → List HashBlock
 bad_of_levels t image zero = []
 bad_of_levels t image (suc k) = bad_of_levels t image k ++ bad_of_level t image (levels t.shape - suc k) (level_blocks t.shape (levels t.shape - suc k))
 
--- Hash blocks of the tree. Over a steady device they are those whose digest doesn't stand above them.
-pub record HashesFound (t : Tree) (device : Device) : Type 0 where
+-- one list has all that another has, in that order
+abbrev pub IsWithin : List HashBlock → List HashBlock → Type 0
+IsWithin [] ys = Unit {0}
+IsWithin (x ∷ xs) [] = ⊥
+IsWithin (x ∷ xs) (y ∷ ys) = ((x ≡ y) × IsWithin xs ys) ⊎ IsWithin (x ∷ xs) ys
+
+-- Hash blocks of those that were read. Over a steady device each of the bad ones is among them; they are exactly these, or
+-- a read failed.
+pub record AreBad (bad_ones : List (List ℕ) → List HashBlock) (device device' : Device) (bad : List HashBlock) : Type 0 where
+  pub all : IsTrue device.steady → IsWithin (bad_ones device.image) bad
+  pub stored : IsTrue device.steady → (bad ≡ bad_ones device.image) ⊎ HasFailedRead device device'
+
+-- Hash blocks of the tree. Over a steady device all are there whose digest doesn't stand above them, and no others unless a
+-- read failed.
+pub record HashesFound (t : Tree) (device device' : Device) : Type 0 where
   pub bad : List HashBlock
-  pub stored : IsTrue device.steady → bad ≡ bad_of_levels t device.image (levels t.shape)
+  pub are : AreBad (λ image. bad_of_levels t image (levels t.shape)) device device' bad
 
 -- ---- one after another
 
@@ -69,31 +83,32 @@ pub record CanCompare (p : PathRecord) (shape : ShapeRecord) (device : Device) :
   pub shape_is : shape ≡ p.shape
   pub fits : tree_sectors p.shape ≤ device.size
 
--- the hash block above that of level l on the way to data block i was read, where there is one
-pub record IsAbove (old new : PathRecord) (device device' : Device) (l i : ℕ) : Type 0 where
+-- The hash block above that of level l on the way to data block i was read, where there is one, or couldn't be.
+pub record IsAbove (old new : PathRecord) (device device' : Device) (l i : ℕ) (read : Bool) : Type 0 where
   pub same : IsPathOf old.shape old.salt old.root new
-  pub failures : device'.failures ≡ device.failures
-  pub stored : IsTrue device.steady → l + 1 < levels old.shape → block_of new (l + 1) ≡ stored_block old.shape device.image (l + 1) i
+  pub stored : read ≡ true → IsTrue device.steady → l + 1 < levels old.shape → block_of new (l + 1) ≡ stored_block old.shape device.image (l + 1) i
+  pub failed : read ≡ false → HasFailedRead device device'
 
--- and that of level l, which is good, or not
+-- And that of level l, which is good, or not; where one of the two couldn't be read it isn't seen to be good.
 pub record IsCompared (old new : PathRecord) (device device' : Device) (l i : ℕ) (good : Bool) : Type 0 where
   pub same : IsPathOf old.shape old.salt old.root new
-  pub failures : device'.failures ≡ device.failures
-  pub stored : IsTrue device.steady → good ≡ is_good_on (tree_at old) device.image l i
+  pub stored : IsTrue device.steady → (good ≡ is_good_on (tree_at old) device.image l i) ⊎ ((good ≡ false) × HasFailedRead device device')
 
 pub record SaysLevel (old new : PathRecord) (device device' : Device) (l : ℕ) (printed printed' : Option (List ℕ)) (whole : Bool) : Type 0 where
   pub same : IsPathOf old.shape old.salt old.root new
-  pub failures : device'.failures ≡ device.failures
   pub bad : List HashBlock
-  pub stored : IsTrue device.steady → bad ≡ bad_of_level (tree_at old) device.image l (level_blocks old.shape l)
+  pub are : AreBad (λ image. bad_of_level (tree_at old) image l (level_blocks old.shape l)) device device' bad
   pub whole_is : whole ≡ is_whole bad
   pub printed_are : Appends printed printed' (hash_lines bad)
 
-pub record SaysTree (old : PathRecord) (device : Device) (printed printed' : Option (List ℕ)) (whole : Bool) : Type 0 where
-  pub found : HashesFound (tree_at old) device
+pub record SaysTree (old : PathRecord) (device device' : Device) (printed printed' : Option (List ℕ)) (whole : Bool) : Type 0 where
+  pub found : HashesFound (tree_at old) device device'
   pub whole_is : whole ≡ is_whole found.bad
   pub printed_are : Appends printed printed' (hash_lines found.bad)
 
--- the hash blocks of a level that aren't good were told, by what a proof sees of the device and of who is told
+-- the hash blocks of a level, or of the tree, that aren't good were told, by what a proof sees of the device and of who is told
 abbrev pub TellsBad : {H L : Type 0} → (H → Device) → (L → Option (List ℕ)) → PathRecord → PathRecord → H → H → ℕ → L → L → Bool → Type 0
 TellsBad state told old new h h' level l l' whole = SaysLevel old new (state h) (state h') level (told l) (told l') whole
+
+abbrev pub TellsTree : {H L : Type 0} → (H → Device) → (L → Option (List ℕ)) → PathRecord → H → H → L → L → Bool → Type 0
+TellsTree state told old h h' l l' whole = SaysTree old (state h) (state h') (told l) (told l') whole

@@ -1,3 +1,6 @@
+pub mod Failing
+pub mod Seen
+pub mod Paths
 pub mod Surveys
 pub mod Laws
 pub mod Sights

@@ -1,10 +1,10 @@
 -- What going over an image finds, prints and reads.
-use Rattle.std.specs.Prelude.{◌≡◌, ℕ, ◌<◌, ◌≤◌, IsTrue, List, [], length, Option, None}
+use Rattle.std.specs.Prelude.{◌≡◌, ◌⊎◌, ℕ, ◌<◌, ◌≤◌, false, IsTrue, List, [], length, Option, None}
 use Rattle.std.specs.List.{slice_index_or}
 use Rattle.std.specs.Io.KnownBytes.{Appends}
 use Rattle.block_device.specs.Device.{Device}
 use Rattle.tree_shape.specs.Shape.{IsShape, levels}
-use Rattle.verity_format.specs.Blocks.{IsFullRead, blocks_at}
+use Rattle.verity_format.specs.Blocks.{blocks_at}
 use Rattle.verity_format.specs.Image.{data_sectors, tree_sectors}
 use Rattle.verity_format.specs.Superblock.{SuperRecord, shape_of}
 use Rattle.tree_path.specs.Path.{IsPathOf}
@@ -15,8 +15,9 @@ use Rattle.tree_survey.specs.declared.sight.Sight.{Sight}
 use Rattle.tree_survey.specs.declared.survey.Survey.{Survey}
 use Rattle.tree_survey.specs.Causes.{AreImages}
 use Rattle.tree_survey.specs.Counts.{totals_of}
+use Rattle.tree_survey.specs.Failing.{HasFailedRead, IsReadOver, IsReadThrough}
 use Rattle.tree_survey.specs.Hashes.{HashesFound, hash_lines, is_whole}
-use Rattle.tree_survey.specs.Surveys.{IsSeenAs, IsStoredAs, Tree}
+use Rattle.tree_survey.specs.Surveys.{AllStand, IsLedTo, IsSeenAs, IsStoredAs, IsUnreadAs, Tree}
 
 -- two devices before and after, and what was printed, where that is known
 pub record Pass : Type 0 where
@@ -40,30 +41,37 @@ pub record CanPass (w : Sight) (salt : List ℕ) (data_dev hash_dev : Device) : 
   pub shape : w.shape ≡ w.path.shape
   pub salt_is : salt ≡ w.path.salt
   pub none : w.good ≡ levels w.path.shape
+  pub all_read : w.unread ≡ false
   pub data_fits : data_sectors w.path.shape ≤ data_dev.size
   pub tree_fits : tree_sectors w.path.shape ≤ hash_dev.size
 
-pub record HasPassed (old new : Sight) (hash_dev hash_dev' : Device) : Type 0 where
+pub record HasPassed (old new : Sight) : Type 0 where
   pub same : IsPathOf old.path.shape old.path.salt old.path.root new.path
-  pub failures : hash_dev'.failures ≡ hash_dev.failures
 
--- The states of all data blocks, each with the content that was read and the way that shows it. Over a steady data device
--- the contents are the blocks that stand there; over steady devices the states are those of what stands there.
+-- a data block is told as one that isn't good since a read of one of the two devices failed
+abbrev pub IsHidden : Tree → Pass → Type 0 → State → Type 0
+IsHidden t w above_good state = IsUnreadAs t above_good (HasFailedRead w.data_dev w.data_dev') (HasFailedRead w.hash_dev w.hash_dev') state
+
+-- The states of all data blocks, each with the content that was read and the way that shows it, unless a read failed. One
+-- that is good was read. Over a steady data device the contents are the blocks that stand there; over steady devices the
+-- states are those of what stands there, again unless a read failed.
 pub record AreSeen (t : Tree) (w : Pass) (states : List State) : Type 0 where
   pub count : length states ≡ t.shape.blocks
   pub contents : List (List ℕ)
   pub all : length contents ≡ t.shape.blocks
   pub over : IsTrue w.data_dev.steady → contents ≡ blocks_at w.data_dev.image t.shape.data_block 0 t.shape.blocks
-  pub seen : (i : ℕ) → i < t.shape.blocks → IsSeenAs t i (slice_index_or contents i []) (slice_index_or states i None)
-  pub stored : IsTrue w.data_dev.steady → IsTrue w.hash_dev.steady → (i : ℕ) → i < t.shape.blocks → IsStoredAs t w.data_dev.image w.hash_dev.image i (slice_index_or states i None)
+  pub seen : (i : ℕ) → i < t.shape.blocks
+      → IsSeenAs t i (slice_index_or contents i []) (slice_index_or states i None) ⊎ IsHidden t w (IsLedTo t i) (slice_index_or states i None)
+  pub stored : IsTrue w.data_dev.steady → IsTrue w.hash_dev.steady → (i : ℕ) → i < t.shape.blocks
+      → IsStoredAs t w.data_dev.image w.hash_dev.image i (slice_index_or states i None) ⊎ IsHidden t w (AllStand t w.hash_dev.image i) (slice_index_or states i None)
 
--- Each data block was read once. A line was printed for each longest run of those that aren't good.
+-- Each data block was read once, or a read failed. A line was printed for each longest run of those that aren't good.
 pub record Surveys (t : Tree) (w : Pass) (totals : Totals) : Type 0 where
   pub states : List State
   pub seen : AreSeen t w states
   pub totals_are : totals ≡ totals_of states
   pub printed_are : Appends w.printed w.printed' (runs_text (runs_of 0 states))
-  pub data_read : IsFullRead w.data_dev (data_sectors t.shape) w.data_dev'
+  pub data_read : IsReadThrough w.data_dev (data_sectors t.shape) w.data_dev'
 
 -- the tree of a superblock under a root
 abbrev pub tree_of : SuperRecord → List ℕ → Tree
@@ -76,7 +84,8 @@ pub record IsSurvey (w : Pass) (root : List ℕ) (found : Survey) : Type 0 where
   pub images : AreImages w.data_dev w.hash_dev s
   pub between : Option (List ℕ)
   pub surveys : Surveys (tree_of s root) (record w { printed' = between }) found.totals
-  pub hashes : HashesFound (tree_of s root) w.hash_dev
+  pub hashes : HashesFound (tree_of s root) w.hash_dev w.hash_dev'
+  pub hash_read : IsReadOver w.hash_dev w.hash_dev'
   pub whole : found.whole_tree ≡ is_whole hashes.bad
   pub printed_are : Appends between w.printed' (hash_lines hashes.bad)
 

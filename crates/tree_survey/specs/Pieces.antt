@@ -1,11 +1,10 @@
 -- Data blocks that are read and digested.
-use Rattle.std.specs.Prelude.{◌≡◌, ℕ, ◌+◌, ◌*◌, ◌/◌, ◌<◌, ◌≤◌, min, ◌^◌, IsTrue, List, Vec, length, map}
-use Rattle.std.specs.Global.{Global}
+use Rattle.std.specs.Prelude.{◌≡◌, ℕ, ◌+◌, ◌-◌, ◌*◌, ◌/◌, ◌<◌, ◌≤◌, min, ◌^◌, Bool, true, false, IsTrue, List, length, map, Option, Some, None}
 use Rattle.block_device.specs.Device.{Device}
 use Rattle.tree_shape.specs.Digests.{digest}
 use Rattle.tree_shape.specs.Shape.{ShapeRecord, is_block_size}
-use Rattle.verity_format.specs.Blocks.{IsFullRead, blocks_at}
-use Rattle.verity_format.specs.Image.{data_sectors}
+use Rattle.verity_format.specs.Blocks.{IsFullRead, block_at, blocks_at}
+use Rattle.tree_survey.specs.Failing.{HasFailedRead}
 
 -- n blocks of that size, of so many bytes in all, lie on the device from block first on
 pub record IsRunOn (device : Device) (block first n bytes : ℕ) : Type 0 where
@@ -22,18 +21,22 @@ pub record IsRunRead (old : Device) (salt : List ℕ) (size first : ℕ) (digest
   pub over : IsTrue old.steady → contents ≡ blocks_at old.image size first (length digests)
   pub full : IsFullRead old (length digests * (size / 512)) new
 
--- data blocks are left, which lie on the device, and at least one fits into so many bytes
-pub record CanRead (shape : ShapeRecord) (device : Device) (first bytes : ℕ) : Type 0 where
-  pub left : first < shape.blocks
-  pub room : shape.data_block ≤ bytes
-  pub fits : data_sectors shape ≤ device.size
+-- so they were, or a call failed
+abbrev pub IsRunTried : Device → List ℕ → ℕ → ℕ → List (List ℕ) → Bool → Device → Type 0
+IsRunTried old salt size first digests true new = IsRunRead old salt size first digests new
+IsRunTried old salt size first digests false new = HasFailedRead old new
 
--- some of the next data blocks were read
-pub record IsPieceRead (shape : ShapeRecord) (salt : List ℕ) (old new : Device) (first : ℕ) (digests : List (List ℕ)) : Type 0 where
-  pub some : 0 < length digests
-  pub few : first + length digests ≤ shape.blocks
-  pub run : IsRunRead old salt shape.data_block first digests new
+-- how many data blocks from that one on fill a piece of 64 KiB, or all that are left
+abbrev pub blocks_of : ShapeRecord → ℕ → ℕ
+blocks_of shape first = min (65536 / shape.data_block) (shape.blocks - first)
 
--- the same, by what a proof sees of the device
-abbrev pub ReadsPiece : {D : Type 0} → (D → Device) → ShapeRecord → List ℕ → D → D → ℕ → Vec (List ℕ) Global → Type 0
-ReadsPiece state shape salt d d' first digests = IsPieceRead shape salt (state d) (state d') first digests.items
+-- the digest of block i of that size, which was read by itself, over a steady device as it stands there; none where it
+-- couldn't be
+abbrev pub IsDigestRead : Device → List ℕ → ℕ → ℕ → Option (List ℕ) → Device → Type 0
+IsDigestRead old salt size i (Some found) new = (content : List ℕ) × ((found ≡ digest salt content) × (IsTrue old.steady → content ≡ block_at old.image size i))
+IsDigestRead old salt size i None new = HasFailedRead old new
+
+-- the same; a digest that is known is given, and nothing is read
+abbrev pub IsDigestFound : Device → List ℕ → ℕ → ℕ → List ℕ → Bool → Option (List ℕ) → Device → Type 0
+IsDigestFound old salt size i known true found new = (found ≡ Some known) × (new ≡ old)
+IsDigestFound old salt size i known false found new = IsDigestRead old salt size i found new

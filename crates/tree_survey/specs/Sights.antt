@@ -1,23 +1,32 @@
 -- The hash blocks on the way to a data block, while data blocks are gone over.
-use Rattle.std.specs.Prelude.{◌≡◌, ◌≢◌, ℕ, ◌-◌, ◌<◌, ◌≤◌, nat_lt, IsTrue, List, Some, None, if◌then◌else◌}
+use Rattle.std.specs.Prelude.{◌≡◌, ◌≢◌, ◌⊎◌, ℕ, ◌-◌, ◌<◌, ◌≤◌, nat_lt, true, false, IsTrue, List, Option, Some, None, if◌then◌else◌}
 use Rattle.std.specs.Str.{bytes_eq}
 use Rattle.block_device.specs.Device.{Device}
 use Rattle.tree_shape.specs.Digests.{digest}
-use Rattle.tree_shape.specs.Shape.{levels, per_block}
+use Rattle.tree_shape.specs.Shape.{ShapeRecord, levels, per_block}
 use Rattle.verity_format.specs.Image.{tree_sectors}
-use Rattle.tree_path.specs.Path.{IsPathOf, LeadsTo, AreStored, block_of, digest_on}
+use Rattle.tree_path.specs.Path.{PathRecord, IsPathOf, LeadsTo, AreStored, block_of, digest_on}
 use Rattle.tree_path.specs.Spans.{IsTopAt}
 use Rattle.tree_runs.specs.declared.run.Kind.TheVariants.{Changed, Unknown}
 use Rattle.tree_runs.specs.Runs.{State}
 use Rattle.tree_survey.specs.declared.sight.Sight.{Sight}
+use Rattle.tree_survey.specs.Failing.{HasFailedRead}
 
--- From a level up the hash blocks on the way to data block i are good, and the one below that level, where there is one,
--- isn't. Over a steady device they are those that stand there.
+-- nothing was read
+abbrev pub none_read : PathRecord → ShapeRecord → Sight
+none_read path shape = record { path = path; shape = shape; good = levels path.shape; unread = false }
+
+-- the level down to which hash blocks were read: that below the good ones, if it could be
+abbrev pub read_to : Sight → ℕ
+read_to w = if w.unread then w.good else w.good - 1
+
+-- From a level up the hash blocks on the way to data block i are good, and the one below that level, where there is one and
+-- it could be read, isn't. Over a steady device those that were read are those that stand there.
 pub record IsOn (w : Sight) (device : Device) (i : ℕ) : Type 0 where
   pub few : w.good ≤ levels w.path.shape
   pub leads : LeadsTo w.path i w.good
-  pub bad : 0 < w.good → digest w.path.salt (block_of w.path (w.good - 1)) ≢ digest_on w.path i w.good
-  pub stored : IsTrue device.steady → AreStored w.path device.image i (w.good - 1)
+  pub bad : 0 < w.good → w.unread ≡ false → digest w.path.salt (block_of w.path (w.good - 1)) ≢ digest_on w.path i w.good
+  pub stored : IsTrue device.steady → AreStored w.path device.image i (read_to w)
 
 -- Data block i is the next one, and the greatest subtree that begins there has `top` levels: the hash blocks of the
 -- levels from there up stay. If one of them isn't good, the way ends there as before.
@@ -32,13 +41,22 @@ pub record CanGo (w : Sight) (device : Device) (i : ℕ) : Type 0 where
   pub shape : w.shape ≡ w.path.shape
   pub ready : IsReady w device i
 
--- the hash blocks on the way to data block i were read, down to the first that isn't good
+-- The hash blocks on the way to data block i were read, down to the first that isn't good. Where that couldn't be read, a
+-- read failed here, or it is the one that couldn't be read before.
 pub record HasGone (old new : Sight) (device device' : Device) (i : ℕ) : Type 0 where
   pub same : IsPathOf old.path.shape old.path.salt old.path.root new.path
   pub shape : new.shape ≡ old.shape
   pub on : IsOn new device i
-  pub failures : device'.failures ≡ device.failures
+  pub failed : new.unread ≡ true → (old.unread ≡ true) ⊎ HasFailedRead device device'
 
--- what is said of a data block of that digest
-abbrev pub state_at : Sight → ℕ → List ℕ → State
-state_at w i found = if nat_lt 0 w.good then Some Unknown else if bytes_eq found (digest_on w.path i 0) then None else Some Changed
+-- what is said of a data block of that digest, if it could be read, to which good hash blocks lead
+abbrev pub state_by : PathRecord → ℕ → List ℕ → State
+state_by p i found = if bytes_eq found (digest_on p i 0) then None else Some Changed
+
+abbrev pub state_with : PathRecord → ℕ → Option (List ℕ) → State
+state_with p i (Some found) = state_by p i found
+state_with p i None = Some Changed
+
+-- and to which a sight leads
+abbrev pub state_at : Sight → ℕ → Option (List ℕ) → State
+state_at w i found = if nat_lt 0 w.good then Some Unknown else state_with w.path i found

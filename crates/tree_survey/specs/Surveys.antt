@@ -70,3 +70,17 @@ IsStoredBy t image i found (Some kind) = ⊥
 -- the same of what stands on the data device
 abbrev pub IsStoredAs : Tree → List (List ℕ) → List (List ℕ) → ℕ → State → Type 0
 IsStoredAs t data_image hash_image i state = IsStoredBy t hash_image i (digest t.salt (block_at data_image t.shape.data_block i)) state
+
+-- ---- where reads failed
+
+-- a way from the root leads down to the digest of the block
+abbrev pub IsLedTo : Tree → ℕ → Type 0
+IsLedTo t i = (p : PathRecord) × IsWay t i 0 p
+
+-- Why a data block is told as one that isn't good, though nothing was seen of it: a read of the data failed, and all hash
+-- blocks above it are good; or a read of the tree, which has hash blocks.
+abbrev pub IsUnreadAs : Tree → Type 0 → Type 0 → Type 0 → State → Type 0
+IsUnreadAs t above_good data_failed hash_failed None = ⊥
+IsUnreadAs t above_good data_failed hash_failed (Some Changed) = above_good × data_failed
+IsUnreadAs t above_good data_failed hash_failed (Some Unknown) = (0 < levels t.shape) × hash_failed
+IsUnreadAs t above_good data_failed hash_failed (Some kind) = ⊥

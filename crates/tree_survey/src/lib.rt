@@ -1,10 +1,12 @@
 //! An image gone over whole: which of its data blocks are good under a root digest.
 #![tactic(auto)]
 
+mod attempt;
 mod counts;
 mod fault;
 mod hashes;
 pub mod laws;
+mod path;
 mod pieces;
 mod sight;
 mod survey;

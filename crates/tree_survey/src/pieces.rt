@@ -1,12 +1,11 @@
 //! Data blocks, read in large pieces and digested.
-ghost use Rattle.std.specs.Prelude.{◌≡◌, OnOk, OnErr, IfOk, IfErr, length, replicate};
-ghost use Rattle.block_device.specs.Device.{HasFailed};
-ghost use Rattle.verity_format.specs.Blocks.{IsOnlyRead};
-ghost use Rattle.tree_survey.specs.Causes.{IsReadingCause};
-ghost use Rattle.tree_survey.specs.Pieces.{CanRead, IsRunOn, IsRunRead, ReadsPiece};
+ghost use Rattle.std.specs.Prelude.{◌≡◌, ◌≤◌, ◌<◌, ◌*◌, IfOk, length, take};
+ghost use Rattle.verity_format.specs.Premises.{IsBlockOn};
+ghost use Rattle.tree_survey.specs.Failing.{IsReadOver};
+ghost use Rattle.tree_survey.specs.Pieces.{IsDigestFound, IsDigestRead, IsRunOn, IsRunTried, blocks_of};
 
-use crate::fault::SurveyFault;
-use block_device::{BlockDev, DeviceFault};
+use crate::attempt::{attempt, read_block};
+use block_device::BlockDev;
 use hash_tree::digest_blocks;
 use std::alloc::{AllocError, Global};
 use tree_shape::{Digest, Salt, Shape};
@@ -14,43 +13,45 @@ use tree_shape::{Digest, Salt, Shape};
 /// How many bytes of the data are read in one call.
 pub(crate) const PIECE: usize = 1 << 16;
 
-/// So many zero bytes.
-pub(crate) fn zeros(alloc: Global, size: usize) -> Result<Vec<u8>, AllocError>
-    ensures { IfOk result (λ v. v.items ≡ replicate size 0) }
+/// Room for the digests of a piece of the smallest blocks.
+pub(crate) fn digest_room(alloc: Global) -> Result<Vec<Digest>, AllocError>
+    ensures { IfOk result (λ v. length v.items ≡ 128) }
 {
-    vec![in alloc; 0u8; size]
+    vec![in alloc; Digest::new([0; Digest::SIZE]); PIECE / 512]
 }
 
-/// Reads the next data blocks, as many as fit `piece`, and gives their digests.
-pub(crate) fn read_piece<D: BlockDev>(
-    alloc: Global,
-    device: &mut D,
-    shape: &Shape,
-    salt: &Salt,
-    first: u64,
-    piece: &mut [u8],
-) -> Result<Vec<Digest>, SurveyFault>
-    requires { CanRead shape.now (D.state device.old) first (length piece.old) }
-    ensures read { IsOnlyRead (D.state device.old) (D.state device.new) }
-    ensures ok { IfOk result (ReadsPiece D.state shape.now salt.now device.old device.new first) }
-    ensures err { IfErr result (IsReadingCause (D.state device.old) (D.state device.new)) }
+/// How many of the data blocks from that one on fill a piece, or all that are left.
+pub(crate) fn blocks_of(shape: &Shape, first: u64) -> usize
+    requires { first < shape.now.blocks }
+    ensures { result ≡ blocks_of shape.now first }
 {
     let size = shape.data_block() as usize;
     let left = shape.blocks() - first;
-    let count = (piece.len() / size).min(left as usize);
-    let mut digests = vec![in alloc; Digest::new([0; Digest::SIZE]); count]?;
-    read_run(
-        device,
-        salt,
-        size,
-        first,
-        &mut piece[..count * size],
-        &mut digests,
-    )?;
-    Ok(digests)
+    (PIECE / size).min(left as usize)
 }
 
-/// Reads blocks of that size into `run`, from block `first` on, and writes their digests.
+/// Reads so many blocks of that size from one on, writes their digests, and tells whether they could be read.
+pub(crate) fn read_piece<D: BlockDev>(
+    device: &mut D,
+    salt: &Salt,
+    size: usize,
+    first: u64,
+    count: usize,
+    piece: &mut [u8],
+    digests: &mut [Digest],
+) -> bool
+    requires run { IsRunOn (D.state device.old) size first count (count * size) }
+    requires room { count * size ≤ length piece.old }
+    requires few { count ≤ length digests.old }
+    ensures over { IsReadOver (D.state device.old) (D.state device.new) }
+    ensures ends { IsRunTried (D.state device.old) salt.now size first (take count digests.new) result (D.state device.new) }
+{
+    let run = &mut piece[..count * size];
+    let found = &mut digests[..count];
+    read_run(device, salt, size, first, run, found)
+}
+
+// So where they fill `run`.
 fn read_run<D: BlockDev>(
     device: &mut D,
     salt: &Salt,
@@ -58,13 +59,52 @@ fn read_run<D: BlockDev>(
     first: u64,
     run: &mut [u8],
     digests: &mut [Digest],
-) -> Result<(), DeviceFault>
+) -> bool
     requires { IsRunOn (D.state device.old) size first (length digests.old) (length run.old) }
-    ensures read { IsOnlyRead (D.state device.old) (D.state device.new) }
-    ensures ok { OnOk result (IsRunRead (D.state device.old) salt.now size first digests.new (D.state device.new)) }
-    ensures fault { OnErr result (HasFailed (D.state device.old) (D.state device.new)) }
+    ensures over { IsReadOver (D.state device.old) (D.state device.new) }
+    ensures ends { IsRunTried (D.state device.old) salt.now size first digests.new result (D.state device.new) }
 {
-    device.read(first * (size / 512) as u64, run)?;
+    if !attempt(device, first * (size / 512) as u64, run) {
+        return false;
+    }
     digest_blocks(salt, size, run, digests);
-    Ok(())
+    true
+}
+
+/// The digest of a block of that size: the one that is known, where its piece was read whole; else it is read by itself.
+pub(crate) fn digest_of<D: BlockDev>(
+    device: &mut D,
+    salt: &Salt,
+    size: usize,
+    index: u64,
+    whole: bool,
+    known: &Digest,
+    piece: &mut [u8],
+) -> Option<Digest>
+    requires run { IsBlockOn (D.state device.old) size index }
+    requires room { size ≤ length piece.old }
+    ensures over { IsReadOver (D.state device.old) (D.state device.new) }
+    ensures ends { IsDigestFound (D.state device.old) salt.now size index known.now whole result (D.state device.new) }
+{
+    if whole {
+        return Some(*known);
+    }
+    read_digest(device, salt, index, &mut piece[..size])
+}
+
+// The digest of a block as long as `block`, if it can be read.
+fn read_digest<D: BlockDev>(
+    device: &mut D,
+    salt: &Salt,
+    index: u64,
+    block: &mut [u8],
+) -> Option<Digest>
+    requires { IsBlockOn (D.state device.old) (length block.old) index }
+    ensures over { IsReadOver (D.state device.old) (D.state device.new) }
+    ensures ends { IsDigestRead (D.state device.old) salt.now (length block.old) index result (D.state device.new) }
+{
+    if !read_block(device, index, block) {
+        return None;
+    }
+    Some(salt.digest(block))
 }

@@ -2,16 +2,17 @@
 ghost use Rattle.std.specs.Prelude.{◌≡◌, OnOk, IfOk, IfErr};
 ghost use Rattle.verity_format.specs.Blocks.{IsOnlyRead};
 ghost use Rattle.tree_survey.specs.Causes.{EndsPass, EndsSurvey, IsImageCause, AreImages};
+ghost use Rattle.tree_survey.specs.Failing.{IsReadOver};
 ghost use Rattle.tree_survey.specs.Passes.{CanPass, HasPassed, IsSurvey, Surveys, seen, tree_in};
 
 use crate::counts::{Counts, Totals};
 use crate::fault::SurveyFault;
 use crate::hashes::say_hashes;
-use crate::pieces::{PIECE, read_piece, zeros};
+use crate::path::{ReadPath, zeros};
+use crate::pieces::{PIECE, blocks_of, digest_of, digest_room, read_piece};
 use crate::sight::Sight;
 use block_device::BlockDev;
 use std::alloc::Global;
-use tree_path::TreePath;
 use tree_runs::Listing;
 use tree_shape::{Digest, Salt};
 use verity_format::{Superblock, VerifyFault, data_sectors, read_superblock, tree_sectors};
@@ -26,7 +27,9 @@ pub struct Survey {
 /// Goes over an image: tells a line for each longest run of data blocks that aren't good, in rising order, and then one
 /// for each hash block whose digest doesn't stand above it, in the order in which they lie on the hash device.
 ///
-/// Each data block is read once, in large pieces.
+/// Data blocks are read once, in large pieces; where a piece can't be read, one by one. A block that can't be read is one that
+/// isn't good.
+#[tactic(auto, using(crate::proofs::SurveyLemmas::image_ends, crate::proofs::SurveyLemmas::pass_ends))]
 pub fn survey_image<D: BlockDev, H: BlockDev, L: Listing>(
     alloc: Global,
     data_dev: &mut D,
@@ -42,7 +45,7 @@ pub fn survey_image<D: BlockDev, H: BlockDev, L: Listing>(
     let superblock = superblock_of(data_dev, hash_dev)?;
     let shape = superblock.shape();
     let salt = superblock.salt();
-    let path = TreePath::new(alloc, shape, salt, *root)?;
+    let path = ReadPath::new(alloc, shape, salt, *root)?;
     let mut sight = Sight::new(path, shape);
     let totals = survey_data(alloc, &mut sight, &salt, data_dev, hash_dev, listing)?;
     let whole_tree = say_hashes(&mut sight.path, &shape, hash_dev, listing)?;
@@ -80,25 +83,30 @@ fn survey_data<D: BlockDev, H: BlockDev, L: Listing>(
     listing: &mut L,
 ) -> Result<Totals, SurveyFault>
     requires { CanPass sight.old salt.now (D.state data_dev.old) (H.state hash_dev.old) }
-    ensures data { IsOnlyRead (D.state data_dev.old) (D.state data_dev.new) }
-    ensures hash { IsOnlyRead (H.state hash_dev.old) (H.state hash_dev.new) }
-    ensures passed { OnOk result (HasPassed sight.old sight.new (H.state hash_dev.old) (H.state hash_dev.new)) }
+    ensures data { IsReadOver (D.state data_dev.old) (D.state data_dev.new) }
+    ensures hash { IsReadOver (H.state hash_dev.old) (H.state hash_dev.new) }
+    ensures passed { OnOk result (HasPassed sight.old sight.new) }
     ensures ok { IfOk result (Surveys (tree_in sight.old) (seen D.state H.state L.told data_dev.old hash_dev.old data_dev.new hash_dev.new listing.old listing.new)) }
     ensures err { IfErr result (EndsPass D.state H.state data_dev.old hash_dev.old data_dev.new hash_dev.new (L.failed listing.new)) }
 {
     let mut memory = zeros(alloc, PIECE)?;
+    let mut room = digest_room(alloc)?;
     let piece = memory.as_mut_slice();
+    let digests = room.as_mut_slice();
     let shape = sight.shape;
+    let size = shape.data_block() as usize;
     let mut counts = Counts::new();
     let mut at = 0;
     'pieces: while at < shape.blocks() {
-        let digests = read_piece(alloc, data_dev, &shape, salt, at, piece)?;
-        'run: for k in 0..digests.len() {
+        let count = blocks_of(&shape, at);
+        let whole = read_piece(data_dev, salt, size, at, count, piece, digests);
+        'run: for k in 0..count {
             let index = at + k as u64;
-            sight.go_to(hash_dev, index)?;
-            counts.add(listing, index, sight.state(index, &digests[k]))?;
+            let found = digest_of(data_dev, salt, size, index, whole, &digests[k], piece);
+            sight.go_to(hash_dev, index);
+            counts.add(listing, index, sight.state(index, found))?;
         }
-        at += digests.len() as u64;
+        at += count as u64;
     }
     counts.tally.close(listing)?;
     Ok(counts.totals)

@@ -21,7 +21,7 @@ use Rattle.stack_meaning.proofs.lemmas.LineLemmas.{found-more}
 use Rattle.stack_lines.specs.Sources.{AreBlocks, EndsRun, IsServed}
 use Rattle.stack_lines.specs.Walks.{HasVerity}
 use Rattle.stack_meaning.specs.Places.{Place}
-use Rattle.stack_lines.proofs.lemmas.BudgetLemmas.{within-step}
+use Rattle.stack_lines.proofs.lemmas.PriceLemmas.{within-step}
 use Rattle.stack_lines.proofs.lemmas.SourceLemmas.{served-holds}
 use Rattle.stack_lines.proofs.lemmas.VerityLineLemmas.{line-facts, same-verity, place-named}
 

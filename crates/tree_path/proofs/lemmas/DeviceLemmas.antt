@@ -1,10 +1,11 @@
 -- Calls that read a device, one after another.
-use Rattle.std.proofs.Common.{◌≡◌, ◌≤◌, ◌<◌, ◌+◌, ◌*◌, ◌/◌, ◌%◌, ◌^◌, ℕ, suc, add-zero, IsTrue, refl, sym, ap, ◌∙◌, subst, arith, inl, inr}
+use Rattle.std.proofs.Common.{◌≡◌, ◌≤◌, ◌<◌, ◌+◌, ◌-◌, ◌*◌, ◌/◌, ◌%◌, ◌^◌, ℕ, suc, add-zero, IsTrue, refl, sym, ap, ◌∙◌, subst, arith, inl, inr}
 use Rattle.std.proofs.Math.Nat.{mul-le-mul_right}
 use Rattle.block_device.specs.Device.{Device, IsSameDevice, HasFailed}
 use Rattle.tree_shape.specs.Shape.{is_block_size}
 use Rattle.tree_shape.proofs.lemmas.ShapeFaultLemmas.{is_block_size-cases}
 use Rattle.verity_format.specs.Blocks.{IsOnlyRead, IsFullRead}
+use Rattle.tree_path.specs.Steps.{HasReadAtMost}
 
 pub same-none : (d : Device) → IsSameDevice d d
 same-none d = record { size = refl; may_write = refl; steady = refl; never_fails = λ h. h }
@@ -71,3 +72,17 @@ block-inside i n k below =
     let most : suc i * k ≤ n * k = mul-le-mul_right k below in
     let next : suc i * k ≡ i * k + k = grind arith in
     omega (arith, most, next)
+
+-- ---- at most so many sectors
+
+pub at_most-more : (a b c : Device) (n from l : ℕ) → l < from → HasReadAtMost a ((from - suc l) * n) b → HasReadAtMost b n c → HasReadAtMost a ((from - l) * n) c
+at_most-more a b c n from l low p q =
+    let less : from - l ≡ suc (from - suc l) = omega (arith, low) in
+    let next : suc (from - suc l) * n ≡ (from - suc l) * n + n = grind arith in
+    let more : (from - l) * n ≡ (from - suc l) * n + n = ap (λ (k : ℕ). k * n) less ∙ next in
+    omega (arith, p, q, more)
+
+pub at_most-fewer : (a b : Device) (n m k : ℕ) → m ≤ k → HasReadAtMost a (m * n) b → HasReadAtMost a (k * n) b
+at_most-fewer a b n m k few p =
+    let most : m * n ≤ k * n = mul-le-mul_right n few in
+    omega (arith, most, p)

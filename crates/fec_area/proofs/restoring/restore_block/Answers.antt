@@ -1,7 +1,10 @@
-use Rattle.std.proofs.Common.{◌≡◌, ◌%◌, ℕ, List, ap, ◌∙◌, subst}
+use Rattle.std.proofs.Common.{◌≡◌, ◌*◌, ◌/◌, ◌%◌, ℕ, true, false, List, refl, ap, ◌∙◌, subst}
+use Rattle.std.proofs.lemmas.Result.{err_from_is_err_and}
 use Rattle.verity_format.specs.Blocks.{block_at}
+use Rattle.fec_area.specs.Asking.{kept_data, kept_hash}
 use Rattle.fec_area.specs.Layouts.{round_bytes}
 use Rattle.fec_area.specs.Restoring.{IsFirstRestored, round_of}
+use Rattle.fec_area.proofs.AskingLemmas.{first-kept, none-asked}
 use Rattle.fec_area.proofs.RestoringLemmas.{made-again}
 use Rattle.fec_area.proofs.restoring.restore_block.Goals as goal
 
@@ -17,3 +20,44 @@ returns-clause-bytes g c one other third =
     let first = subst (λ (r : ℕ). IsFirstRestored l a.image b.image r (block_at image (round_bytes l) r) c.deref-3.result.now block) round (c.in_ok-restore_first.ensures.first one other third) in
     made-again l a.image b.image image c.args.lost.now c.in_ok-places.places.items index block c.requires.laid.layout c.requires.index (c.restore_first.auto.block ∙ c.requires.size) c.in_ok-places.ensures
     (subst (λ (ps : List ℕ). IsFirstRestored l a.image b.image (round_of l index) (block_at image (round_bytes l) (round_of l index)) ps block) c.deref-3.ensures.value first)
+
+pub returns-then-sectors-needed-clause-asks : goal.returns-then-sectors-needed-clause-asks
+returns-then-sectors-needed-clause-asks g c = none-asked (kept_data c.args.layout.now c.args.lost.now c.args.index * (c.args.layout.now.block / 512)) (kept_hash c.args.layout.now c.args.lost.now c.args.index * (c.args.layout.now.block / 512)) (c.args.layout.now.roots * (c.args.layout.now.block / 512)) false (g.D.BlockDev.state c.args.data_dev.now) (g.H.BlockDev.state c.args.hash_dev.now) (g.P.BlockDev.state c.args.parity_dev.now) refl
+
+pub returns-in_err-places-clause-asks : goal.returns-in_err-places-clause-asks
+returns-in_err-places-clause-asks g c =
+    let p = err_from_is_err_and c.from_residual.result c.from_residual.ensures.1 in
+    rw p.1 (none-asked (kept_data c.args.layout.now c.args.lost.now c.args.index * (c.args.layout.now.block / 512)) (kept_hash c.args.layout.now c.args.lost.now c.args.index * (c.args.layout.now.block / 512)) (c.args.layout.now.roots * (c.args.layout.now.block / 512)) false (g.D.BlockDev.state c.args.data_dev.now) (g.H.BlockDev.state c.args.hash_dev.now) (g.P.BlockDev.state c.args.parity_dev.now) refl)
+
+pub returns-then-count-layout-clause-asks : goal.returns-then-count-layout-clause-asks
+returns-then-count-layout-clause-asks g c = none-asked (kept_data c.args.layout.now c.args.lost.now c.args.index * (c.args.layout.now.block / 512)) (kept_hash c.args.layout.now c.args.lost.now c.args.index * (c.args.layout.now.block / 512)) (c.args.layout.now.roots * (c.args.layout.now.block / 512)) false (g.D.BlockDev.state c.args.data_dev.now) (g.H.BlockDev.state c.args.hash_dev.now) (g.P.BlockDev.state c.args.parity_dev.now) refl
+
+pub returns-in_err-products-clause-asks : goal.returns-in_err-products-clause-asks
+returns-in_err-products-clause-asks g c =
+    let p = err_from_is_err_and c.from_residual-in_err-products.result c.from_residual-in_err-products.ensures.1 in
+    rw p.1 (none-asked (kept_data c.args.layout.now c.args.lost.now c.args.index * (c.args.layout.now.block / 512)) (kept_hash c.args.layout.now c.args.lost.now c.args.index * (c.args.layout.now.block / 512)) (c.args.layout.now.roots * (c.args.layout.now.block / 512)) false (g.D.BlockDev.state c.args.data_dev.now) (g.H.BlockDev.state c.args.hash_dev.now) (g.P.BlockDev.state c.args.parity_dev.now) refl)
+
+pub returns-in_err-parity-clause-asks : goal.returns-in_err-parity-clause-asks
+returns-in_err-parity-clause-asks g c =
+    let p = err_from_is_err_and c.from_residual-in_err-parity.result c.from_residual-in_err-parity.ensures.1 in
+    rw p.1 (none-asked (kept_data c.args.layout.now c.args.lost.now c.args.index * (c.args.layout.now.block / 512)) (kept_hash c.args.layout.now c.args.lost.now c.args.index * (c.args.layout.now.block / 512)) (c.args.layout.now.roots * (c.args.layout.now.block / 512)) false (g.D.BlockDev.state c.args.data_dev.now) (g.H.BlockDev.state c.args.hash_dev.now) (g.P.BlockDev.state c.args.parity_dev.now) refl)
+
+pub returns-in_err-sums-clause-asks : goal.returns-in_err-sums-clause-asks
+returns-in_err-sums-clause-asks g c =
+    let p = err_from_is_err_and c.from_residual-in_err-sums.result c.from_residual-in_err-sums.ensures.1 in
+    rw p.1 (none-asked (kept_data c.args.layout.now c.args.lost.now c.args.index * (c.args.layout.now.block / 512)) (kept_hash c.args.layout.now c.args.lost.now c.args.index * (c.args.layout.now.block / 512)) (c.args.layout.now.roots * (c.args.layout.now.block / 512)) false (g.D.BlockDev.state c.args.data_dev.now) (g.H.BlockDev.state c.args.hash_dev.now) (g.P.BlockDev.state c.args.parity_dev.now) refl)
+
+pub returns-in_err-restore_first-clause-asks : goal.returns-in_err-restore_first-clause-asks
+returns-in_err-restore_first-clause-asks g c =
+    let l = c.args.layout.now in
+    let index = c.args.index in
+    let p = err_from_is_err_and c.from_residual-in_err-restore_first.result c.from_residual-in_err-restore_first.ensures.1 in
+    let round : index % c.rounds.result ≡ round_of l index = ap (λ (n : ℕ). index % n) c.rounds.ensures.value in
+    rw p.1 (first-kept l c.args.lost.now c.in_ok-places.places.items c.deref-3.result.now index (index % c.rounds.result) (l.roots * (l.block / 512)) false c.requires.laid.layout c.requires.index c.in_ok-places.ensures round c.deref-3.ensures.value c.in_err-restore_first.ensures.asks)
+
+pub returns-clause-asks : goal.returns-clause-asks
+returns-clause-asks g c =
+    let l = c.args.layout.now in
+    let index = c.args.index in
+    let round : index % c.rounds.result ≡ round_of l index = ap (λ (n : ℕ). index % n) c.rounds.ensures.value in
+    first-kept l c.args.lost.now c.in_ok-places.places.items c.deref-3.result.now index (index % c.rounds.result) (l.roots * (l.block / 512)) true c.requires.laid.layout c.requires.index c.in_ok-places.ensures round c.deref-3.ensures.value c.in_ok-restore_first.ensures.asks

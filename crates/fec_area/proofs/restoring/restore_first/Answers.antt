@@ -1,8 +1,10 @@
-use Rattle.std.proofs.Common.{◌≡◌, ◌*◌, ◌/◌, ℕ, List, length, sym, ap, ◌∙◌, subst, refl, inl, inr, arith}
+use Rattle.std.proofs.Common.{◌≡◌, ◌*◌, ◌/◌, ℕ, true, false, List, length, sym, ap, ◌∙◌, subst, refl, inl, inr, arith}
 use Rattle.std.proofs.lemmas.Result.{err_from_is_err_and}
 use Rattle.verity_format.specs.Blocks.{block_at}
+use Rattle.fec_area.specs.Asking.{kept_of, sectors_on_data, sectors_on_hash}
 use Rattle.fec_area.specs.Layouts.{round_bytes}
 use Rattle.fec_area.specs.Rounds.{AreRestored}
+use Rattle.fec_area.proofs.AskingLemmas.{asked-for-read, first-again, parity-asked}
 use Rattle.fec_area.proofs.CallLemmas.{call-read, read-none}
 use Rattle.fec_area.proofs.LayoutLemmas.{parity-small, round-quotient}
 use Rattle.fec_area.proofs.RestoringLemmas.{first-restored}
@@ -62,6 +64,29 @@ pub returns-in_err-restore_blocks-clause-err : goal.returns-in_err-restore_block
 returns-in_err-restore_blocks-clause-err g c =
     let p = err_from_is_err_and c.from_residual-in_err-restore_blocks.result c.from_residual-in_err-restore_blocks.ensures.1 in
     rw p.1 (inl c.in_err-restore_blocks.ensures.err)
+
+pub returns-in_err-read-clause-asks : goal.returns-in_err-read-clause-asks
+returns-in_err-read-clause-asks g c =
+    let l = c.args.gap.now.code.layout.now in
+    let p = err_from_is_err_and c.from_residual.result c.from_residual.ensures.1 in
+    let parity = round-quotient l (length c.args.parity.now) c.requires.can.laid.layout c.requires.can.parity_is in
+    rw p.1 (parity-asked (g.D.BlockDev.state c.args.data_dev.now) (g.H.BlockDev.state c.args.hash_dev.now) (kept_of (sectors_on_data l) l c.args.gap.now.round c.args.gap.now.places.now) (kept_of (sectors_on_hash l) l c.args.gap.now.round c.args.gap.now.places.now) (l.roots * (l.block / 512)) (length c.args.parity.now / 512) false false parity refl c.in_err-read.ensures.moved)
+
+pub returns-in_err-restore_blocks-clause-asks : goal.returns-in_err-restore_blocks-clause-asks
+returns-in_err-restore_blocks-clause-asks g c =
+    let l = c.args.gap.now.code.layout.now in
+    let p = err_from_is_err_and c.from_residual-in_err-restore_blocks.result c.from_residual-in_err-restore_blocks.ensures.1 in
+    let parity = round-quotient l (length c.args.parity.now) c.requires.can.laid.layout c.requires.can.parity_is in
+    rw p.1 (first-again (kept_of (sectors_on_data l) l c.args.gap.now.round c.args.gap.now.places.now) (kept_of (sectors_on_hash l) l c.args.gap.now.round c.args.gap.now.places.now) (l.roots * (l.block / 512)) (length c.args.parity.now / 512) false false true parity refl c.in_err-restore_blocks.ensures.asks c.in_ok-read.ensures.moved)
+
+pub returns-clause-asks : goal.returns-clause-asks
+returns-clause-asks g c =
+    let l = c.args.gap.now.code.layout.now in
+    record {
+      of_data = c.in_ok-restore_blocks.ensures.asks.0;
+      of_hash = c.in_ok-restore_blocks.ensures.asks.1;
+      of_parity = asked-for-read (l.roots * (l.block / 512)) true (round-quotient l (length c.args.parity.now) c.requires.can.laid.layout c.requires.can.parity_is) c.in_ok-read.ensures.moved;
+    }
 
 pub returns-clause-parity : goal.returns-clause-parity
 returns-clause-parity g c = call-read c.in_ok-read.ensures.moved

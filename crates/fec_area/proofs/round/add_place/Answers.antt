@@ -2,6 +2,7 @@ use Rattle.std.proofs.Common.{◌≡◌, ◌+◌, ◌*◌, ◌/◌, ◌%◌, ◌
 use Rattle.std.specs.Prelude.{slice_index}
 use Rattle.reed_solomon.specs.Field.{product}
 use Rattle.fec_area.specs.Layouts.{covered, covered_blocks, rounds}
+use Rattle.fec_area.proofs.AskingLemmas.{asked-at, past-asked}
 use Rattle.fec_area.proofs.PlaceLemmas.{place-fits, place-past, products-added}
 use Rattle.fec_area.proofs.round.add_place.Goals as goal
 
@@ -13,6 +14,23 @@ returns-then-index-covered_blocks-clause-added g c one other =
     let index : c.args.place * c.rounds.result ≡ c.args.place * rounds l = ap (λ n. c.args.place * n) c.rounds.ensures.value in
     let past : covered_blocks l ≤ c.args.place * rounds l + c.args.round = omega (arith, c.if-index-covered_blocks.true, c.covered_blocks.ensures.value, index) in
     place-past l a.image b.image c.args.code.now.count c.args.code.now.products.now c.args.round c.args.place c.args.sums.now past
+
+pub returns-then-index-covered_blocks-clause-asks : goal.returns-then-index-covered_blocks-clause-asks
+returns-then-index-covered_blocks-clause-asks g c =
+    let l = c.args.code.now.layout.now in
+    let index : c.args.place * c.rounds.result ≡ c.args.place * rounds l = ap (λ n. c.args.place * n) c.rounds.ensures.value in
+    past-asked l (c.args.place * rounds l + c.args.round) (g.D.BlockDev.state c.args.data_dev.now) (g.H.BlockDev.state c.args.hash_dev.now)
+    (omega (arith, c.if-index-covered_blocks.true, c.covered_blocks.ensures.value, index))
+
+pub returns-in_err-read_covered-clause-asks : goal.returns-in_err-read_covered-clause-asks
+returns-in_err-read_covered-clause-asks g c =
+    let l = c.args.code.now.layout.now in
+    asked-at l (ap (λ n. c.args.place * n + c.args.round) c.rounds.ensures.value) c.read_covered.ensures.asks
+
+pub returns-clause-asks : goal.returns-clause-asks
+returns-clause-asks g c =
+    let l = c.args.code.now.layout.now in
+    asked-at l (ap (λ n. c.args.place * n + c.args.round) c.rounds.ensures.value) c.read_covered.ensures.asks
 
 pub returns-clause-added : goal.returns-clause-added
 returns-clause-added g c one other =

@@ -1,34 +1,43 @@
-use Rattle.std.proofs.Common.{◌≡◌, ◌+◌, ◌-◌, ◌*◌, ◌≤◌, ℕ, IsTrue, List, length, replicate, sym, ap, ◌∙◌, arith, subst}
+use Rattle.std.proofs.Common.{◌≡◌, ◌+◌, ◌-◌, ◌*◌, ◌≤◌, ℕ, true, false, List, length, replicate, refl, sym, ap, ◌∙◌, arith, subst}
 use Rattle.std.specs.Prelude.{slice_index}
 use Rattle.std.proofs.lemmas.List.{get_or-replicate}
 use Rattle.std.proofs.lemmas.Result.{err_from_is_err_and}
+use Rattle.fec_area.specs.Asking.{kept_at, sectors_on_data, sectors_on_hash, sum_to}
 use Rattle.fec_area.specs.Layouts.{codeword}
-use Rattle.fec_area.specs.Rounds.{IsPlaceAdded}
+use Rattle.fec_area.specs.Rounds.{AreProductsAdded}
+use Rattle.fec_area.proofs.AskingLemmas.{asked-all, both-some, places-more, places-none}
 use Rattle.fec_area.proofs.CallLemmas.{read-none, read-then, unfailed-none, unfailed-then, one_failed-then, laid-then, image-then}
 use Rattle.fec_area.proofs.PlaceLemmas.{place-fits, products-added}
 use Rattle.fec_area.proofs.RoundLemmas.{AreSummed, column-more, message-more, summed-none, summed-restored}
+use Rattle.fec_area.proofs.SumLemmas.{sum-le}
 use Rattle.fec_area.proofs.round.restore_blocks.Goals as goal
 
 pub loop-place-init : goal.loop-place-init
 loop-place-init g c =
+    let l = c.args.gap.now.code.layout.now in
     let sums = c.fill.new.self in
     let zeros : sums ≡ replicate (length c.args.sums.now) 0 = c.fill.ensures.after (λ y h. h) in
     record {
       read = read-none (g.D.BlockDev.state c.args.data_dev.now) (g.H.BlockDev.state c.args.hash_dev.now);
       unfailed = unfailed-none (g.D.BlockDev.state c.args.data_dev.now) (g.H.BlockDev.state c.args.hash_dev.now);
       sums = λ one other. summed-none (λ c'. slice_index (codeword c.args.gap.now.code.layout.now (g.D.BlockDev.state c.args.data_dev.now).image (g.H.BlockDev.state c.args.hash_dev.now).image c.args.gap.now.round c.args.parity.now c')) (length c.args.gap.now.places.now) c.args.gap.now.code.products.now sums (λ m lt. ap (λ xs. slice_index xs m) zeros ∙ get_or-replicate {A = ℕ} (length c.args.sums.now) m 0 0 (omega (arith, lt, c.fill.ensures.len)));
+      asked = places-none (kept_at (sectors_on_data l) l c.args.gap.now.round c.args.gap.now.places.now) (kept_at (sectors_on_hash l) l c.args.gap.now.round c.args.gap.now.places.now) (g.D.BlockDev.state c.args.data_dev.now) (g.H.BlockDev.state c.args.hash_dev.now);
     }
 
-pub add_place-requires-clause-can : goal.add_place-requires-clause-can
-add_place-requires-clause-can g c =
+pub add_kept-requires-clause-can : goal.add_kept-requires-clause-can
+add_kept-requires-clause-can g c =
     let valid = c.requires.laid.layout in
     record {
-      laid = laid-then c.args.gap.now.code.layout.now c.loop-place.invariant.read c.requires.laid;
-      few = omega (arith, c.requires.enough, valid.few, c.requires.count_is);
-      products_are = c.requires.products_are.len ∙ ap (λ n. 255 * n) (sym c.requires.count_is);
-      round_is = c.requires.round_is;
-      block_is = c.loop-place.auto.block ∙ c.requires.block_is;
-      sums_are = c.loop-place.auto.sums ∙ c.fill.ensures.len ∙ c.requires.sums_are ∙ ap (λ n. c.args.gap.now.code.layout.now.block * n) (sym c.requires.count_is);
+      can = record {
+        laid = laid-then c.args.gap.now.code.layout.now c.loop-place.invariant.read c.requires.laid;
+        few = omega (arith, c.requires.enough, valid.few, c.requires.count_is);
+        products_are = c.requires.products_are.len ∙ ap (λ n. 255 * n) (sym c.requires.count_is);
+        round_is = c.requires.round_is;
+        block_is = c.loop-place.auto.block ∙ c.requires.block_is;
+        sums_are = c.loop-place.auto.sums ∙ c.fill.ensures.len ∙ c.requires.sums_are ∙ ap (λ n. c.args.gap.now.code.layout.now.block * n) (sym c.requires.count_is);
+      };
+      count_is = c.requires.count_is;
+      products_are = c.requires.products_are;
     }
 
 pub loop-place-preserved : goal.loop-place-preserved
@@ -36,28 +45,53 @@ loop-place-preserved g c =
     let l = c.args.gap.now.code.layout.now in
     let here = c.loop-place.invariant in
     let old = c.loop-place.sums in
-    let new = c.add_place.new.sums in
+    let new = c.add_kept.new.sums in
     let products = c.args.gap.now.code.products.now in
     let n = length c.args.gap.now.places.now in
     let place = c.loop-place.place in
     let a = g.D.BlockDev.state c.args.data_dev.now in
     let b = g.H.BlockDev.state c.args.hash_dev.now in
-    let counted = image-then here.read (λ (x y : List (List ℕ)). IsPlaceAdded l x y c.args.gap.now.code.count products c.args.gap.now.round place old new) c.in_ok-add_place.ensures.added in
-    let added : IsTrue a.steady → IsTrue b.steady → IsPlaceAdded l a.image b.image n products c.args.gap.now.round place old new
-    = λ one other. subst (λ (m : ℕ). IsPlaceAdded l a.image b.image m products c.args.gap.now.round place old new) c.requires.count_is (counted one other) in
+    let added = image-then here.read (λ (x y : List (List ℕ)). AreProductsAdded l x y n products c.args.gap.now.round place old new) c.in_ok-add_kept.ensures.added in
+    let at = λ (f : ℕ → ℕ). kept_at f l c.args.gap.now.round c.args.gap.now.places.now in
     record {
-      read = read-then here.read c.add_place.ensures.read;
-      unfailed = unfailed-then here.unfailed c.in_ok-add_place.ensures.ok;
-      sums = λ one other. message-more l a.image b.image products c.args.gap.now.round c.args.parity.now n place old new c.loop-place-test.true c.add_place.auto.sums (added one other) (here.sums one other);
+      read = read-then here.read c.add_kept.ensures.read;
+      unfailed = unfailed-then here.unfailed c.in_ok-add_kept.ensures.ok;
+      sums = λ one other. message-more l a.image b.image products c.args.gap.now.round c.args.parity.now n place old new c.loop-place-test.true c.add_kept.auto.sums (added one other) (here.sums one other);
+      asked = places-more (at (sectors_on_data l)) (at (sectors_on_hash l)) place here.asked c.add_kept.ensures.asks;
     }
 
-pub returns-in_err-add_place-clause-read : goal.returns-in_err-add_place-clause-read
-returns-in_err-add_place-clause-read g c = read-then c.loop-place.invariant.read c.add_place.ensures.read
+pub returns-in_err-add_kept-clause-read : goal.returns-in_err-add_kept-clause-read
+returns-in_err-add_kept-clause-read g c = read-then c.loop-place.invariant.read c.add_kept.ensures.read
 
-pub returns-in_err-add_place-clause-err : goal.returns-in_err-add_place-clause-err
-returns-in_err-add_place-clause-err g c =
+pub returns-in_err-add_kept-clause-err : goal.returns-in_err-add_kept-clause-err
+returns-in_err-add_kept-clause-err g c =
     let p = err_from_is_err_and c.from_residual.result c.from_residual.ensures.1 in
-    rw p.1 (one_failed-then (g.D.BlockDev.state c.args.data_dev.now) (g.H.BlockDev.state c.args.hash_dev.now) (g.D.BlockDev.state c.loop-place.data_dev) (g.H.BlockDev.state c.loop-place.hash_dev) (g.D.BlockDev.state c.add_place.new.data_dev) (g.H.BlockDev.state c.add_place.new.hash_dev) c.loop-place.invariant.unfailed c.in_err-add_place.ensures.err)
+    rw p.1 (one_failed-then (g.D.BlockDev.state c.args.data_dev.now) (g.H.BlockDev.state c.args.hash_dev.now) (g.D.BlockDev.state c.loop-place.data_dev) (g.H.BlockDev.state c.loop-place.hash_dev) (g.D.BlockDev.state c.add_kept.new.data_dev) (g.H.BlockDev.state c.add_kept.new.hash_dev) c.loop-place.invariant.unfailed c.in_err-add_kept.ensures.err)
+
+pub returns-in_err-add_kept-clause-asks : goal.returns-in_err-add_kept-clause-asks
+returns-in_err-add_kept-clause-asks g c =
+    let l = c.args.gap.now.code.layout.now in
+    let p = err_from_is_err_and c.from_residual.result c.from_residual.ensures.1 in
+    let place = c.loop-place.place in
+    let m : ℕ = 255 - l.roots in
+    let on_data = kept_at (sectors_on_data l) l c.args.gap.now.round c.args.gap.now.places.now in
+    let on_hash = kept_at (sectors_on_hash l) l c.args.gap.now.round c.args.gap.now.places.now in
+    let within : place + 1 ≤ m = omega (arith, c.loop-place-test.true) in
+    rw p.1 (both-some (sum_to on_data (place + 1)) (sum_to on_hash (place + 1)) (sum_to on_data m) (sum_to on_hash m) false (sum-le on_data (place + 1) m within) (sum-le on_hash (place + 1) m within) refl
+    (places-more on_data on_hash place c.loop-place.invariant.asked c.add_kept.ensures.asks))
+
+pub returns-clause-asks : goal.returns-clause-asks
+returns-clause-asks g c =
+    let l = c.args.gap.now.code.layout.now in
+    let here = c.loop-place.invariant in
+    let place = c.loop-place.place in
+    let m : ℕ = 255 - l.roots in
+    let on_data = kept_at (sectors_on_data l) l c.args.gap.now.round c.args.gap.now.places.now in
+    let on_hash = kept_at (sectors_on_hash l) l c.args.gap.now.round c.args.gap.now.places.now in
+    let end : place ≡ m = omega (arith, c.loop-place-test.false, c.loop-place.auto.place-end) in (
+      asked-all (sum_to on_data place) (sum_to on_data m) true (ap (λ n. sum_to on_data n) end) here.read.data_read here.unfailed.data_kept here.asked.of_data,
+      asked-all (sum_to on_hash place) (sum_to on_hash m) true (ap (λ n. sum_to on_hash n) end) here.read.hash_read here.unfailed.hash_kept here.asked.of_hash,
+    )
 
 pub loop-k-init : goal.loop-k-init
 loop-k-init g c one other =

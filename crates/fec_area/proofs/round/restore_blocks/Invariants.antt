@@ -1,6 +1,7 @@
 use Rattle.std.proofs.Common.{◌+◌, ◌-◌, IsTrue, length}
 use Rattle.std.specs.Prelude.{slice_index}
 use Rattle.verity_format.specs.Blocks.{AreOnlyRead}
+use Rattle.fec_area.specs.Asking.{AreAsked, kept_at, sectors_on_data, sectors_on_hash, sum_to}
 use Rattle.fec_area.specs.Layouts.{codeword}
 use Rattle.fec_area.specs.Rounds.{AreUnfailed}
 use Rattle.fec_area.proofs.RoundLemmas.{AreSummed}
@@ -13,6 +14,8 @@ invariant-loop-place g l = record {
   unfailed : AreUnfailed (g.D.BlockDev.state l.fn.data_dev) (g.H.BlockDev.state l.fn.hash_dev) (g.D.BlockDev.state l.data_dev) (g.H.BlockDev.state l.hash_dev);
   sums : IsTrue (g.D.BlockDev.state l.fn.data_dev).steady → IsTrue (g.H.BlockDev.state l.fn.hash_dev).steady
       → AreSummed (λ c. slice_index (codeword l.gap.code.layout.now (g.D.BlockDev.state l.fn.data_dev).image (g.H.BlockDev.state l.fn.hash_dev).image l.gap.round l.parity c)) (length l.gap.places.now) l.gap.code.products.now l.sums l.place;
+  asked : AreAsked (sum_to (kept_at (sectors_on_data l.gap.code.layout.now) l.gap.code.layout.now l.gap.round l.gap.places.now) l.place) (sum_to (kept_at (sectors_on_hash l.gap.code.layout.now) l.gap.code.layout.now l.gap.round l.gap.places.now) l.place)
+      (g.D.BlockDev.state l.fn.data_dev) (g.H.BlockDev.state l.fn.hash_dev) (g.D.BlockDev.state l.data_dev) (g.H.BlockDev.state l.hash_dev);
 }
 
 -- those of the parity so far

@@ -1,4 +1,4 @@
-use Rattle.std.proofs.Common.{◌≡◌, ◌≤◌, ℕ, ◌+◌, ◌-◌, ◌/◌, List, [], ◌++◌, arith, length, replicate, sym, subst}
+use Rattle.std.proofs.Common.{◌≡◌, ◌<◌, ◌≤◌, ℕ, ◌+◌, ◌-◌, ◌/◌, List, [], ◌++◌, arith, length, replicate, sym, subst}
 use Rattle.std.proofs.lemmas.Result.{err_from_is_err_and}
 use Rattle.nbd_protocol.specs.Exports.{IsExport, export_record}
 use Rattle.nbd_server.specs.Zeros.{zeros_of}
@@ -10,6 +10,7 @@ runs-init g c = record {
   put = put-none c.args.queue.now c.args.export.now.device.0 c.args.first (zeros_of c.args.zeros.now);
   export = c.requires.export;
   ends = c.requires.ends;
+  some = c.requires.some;
   sectors = c.requires.sectors;
 }
 
@@ -57,9 +58,11 @@ runs-preserved g c =
     let sectors : length run / 512 ≡ 2048 = omega (arith, size) in
     let left : length rest ≡ n - m + length behind = omega (arith, length-zeros [] behind (n - m)) in
     let more : IsPut first d c.args.first (c.runs.at + length run / 512) all rest now = put-more first c.runs.queue now d c.args.first c.runs.at all run rest (omega (arith, size)) put c.in_ok-zero_run.ensures.ok in
+    let more_left : 0 < n - m = omega (arith, c.len.ensures.value, c.len.ensures.sum, c.runs-test.true, c.runs.invariant.sectors.whole, c.runs.invariant.ends.before, c.runs.invariant.ends.behind) in
     record {
       put = subst (λ (k : ℕ). IsPut first d c.args.first (c.runs.at + k) all rest now) sectors more;
       export = subst (λ x. IsExport x (export_record c.args.export.now)) (sym c.in_ok-zero_run.ensures.ok.put.any.config) c.runs.invariant.export;
+      some = more_left;
       ends = record { before = omega arith; few = omega (arith, c.runs.invariant.ends.few); behind = c.runs.invariant.ends.behind };
       sectors = record {
         whole = omega (arith, left, few, c.len.ensures.value, c.len.ensures.sum, c.runs.invariant.sectors.whole, c.runs.invariant.ends.before);

@@ -1,3 +1,4 @@
+use Rattle.std.proofs.Common.{◌<◌}
 use Rattle.nbd_protocol.specs.Exports.{IsExport, export_record}
 use Rattle.nbd_server.specs.Premises.{AreSectors, HaveEnds}
 use Rattle.nbd_server.specs.Zeros.{zeros_of}
@@ -10,6 +11,7 @@ invariant-runs g l = record {
   put : IsPut l.fn.queue l.export.device.0 l.first l.at (zeros_of l.zeros) (zeros_of l.rest) l.queue;
   export : IsExport l.queue.stack.config (export_record l.export);
   ends : HaveEnds l.rest;
+  some : 0 < l.rest.count;
   sectors : AreSectors (export_record l.export) l.at (zeros_of l.rest);
 }
 

@@ -14,6 +14,9 @@ use Rattle.stack_engine.specs.Premises.{FitsIn, CanWrite}
 use Rattle.stack_engine.proofs.SpentLemmas.{IsCutBehind, cut-behind}
 use Rattle.stack_engine.proofs.UncutLemmas.{device-uncut, leaf-plain, units-plain-below, unread-then}
 use Rattle.stack_engine.specs.Uncut.{SourceCutsNone}
+use Rattle.stack_lines.specs.Budgets.{ReadsAtMost, source_budget}
+use Rattle.stack_lines.specs.WriteBudgets.{CountsAtMost, write_budget, part_write_budget, source_write_budget}
+use Rattle.stack_engine.proofs.PaidLemmas.{paid-all, paid-run, once-paid, step-paid, units-paid, part-unpaid, part-paid}
 use Rattle.stack_engine.proofs.StackLemmas.{stack-later}
 use Rattle.stack_lines.specs.Caches.{StackCache}
 use Rattle.stack_lines.specs.Forgetting.{Forgets}
@@ -47,7 +50,7 @@ use Rattle.stack_meaning.proofs.lemmas.LeafLemmas.{all-whole}
 use Rattle.stack_engine.proofs.UnitChangeLemmas.{none-meets, part-ended, part-written}
 use Rattle.stack_engine.proofs.UnitWriteLemmas.{lower-written, units-none, units-more, units-ended}
 use Rattle.stack_engine.proofs.RunBytesLemmas.{room_length, room_sectors, run_length, run_sectors, front_whole, with_run, with_rest, run_served, ends_before, ends_after, ends_behind}
-use Rattle.stack_engine.proofs.UnitStepLemmas.{step-at, step-width, step-written}
+use Rattle.stack_engine.proofs.UnitStepLemmas.{step-at, step-width, step-written, step-sectors, step-behind, step-sectors-behind, step-within, step-one}
 use Rattle.stack_engine.proofs.HeldLemmas.{rest-later, one-none, none-of_units, none-of_part, IsCut, cut-bytes, cut-rest, cut-held}
 use Rattle.stack_engine.proofs.write.+write.Goals as goal
 
@@ -64,6 +67,7 @@ write_device-loop-at-init g t c =
       so_far = subst (λ (l : List (List ℕ)). Writes to c.args.first l leaves leaves (Ok tt)) (sym sectors_in-none) (write_none to c.args.first leaves (put-none c.args.config.now (mapped c.args.d.0) c.args.first));
       ends = inl (inl refl);
       uncut = λ cuts. refl;
+      paid = λ k. omega arith;
       forgets = forgets-none c.args.backing.now.cache.blocks.blocks (AreRead-none 0 leaves);
       cut = inl refl;
       cached = record { capacity = refl; sound = c.requires.can.stack.cached };
@@ -138,6 +142,9 @@ write_device-loop-at-preserved g t c =
       forgets = forgets-then c.loop-at.invariant.forgets (forgets-up (served-within config c.args.d.0 (c.args.first + at / 512) count source c.requires.can.stack.sound.loaded c.run_at-run.ensures.some c.run_at-run.ensures.served) c.in-Ok.ensures.forgets);
       uncut = λ cuts. unread-then (map g.D.BlockDev.state c.args.backing.now.devices.items) (map g.D.BlockDev.state c.loop-at.backing.devices.items) (map g.D.BlockDev.state c.write_run.new.backing.devices.items) (c.loop-at.invariant.uncut cuts) (c.in-Ok.ensures.uncut (subst (SourceCutsNone config source) number
           (device-uncut config c.args.d.0 c.args.first (at / 512) count ((length c.held-len.result.now - at) / 512) (length bytes / 512) source c.requires.can.stack.sound.loaded c.run_at-run.ensures.some (omega (arith, fits)) (omega (arith, c.loop-at.invariant.whole, fits, ap (λ (l : List ℕ). length l) c.held-len.ensures)) c.loop-at.invariant.cut c.run_at-run.ensures.longest c.run_at-run.ensures.served cuts)));
+      paid = λ k. subst (λ (j : ℕ). CountsAtMost k (write_budget config k (mapped c.args.d.0) c.args.first j) (map state c.args.backing.now.devices.items) (map state c.write_run.new.backing.devices.items)) ends_at
+          (paid-run config k c.args.d.0 c.args.first (at / 512) (length bytes / 512) c.requires.can.stack.sound.loaded c.loop-at.invariant.cut (map state c.args.backing.now.devices.items) (map state c.loop-at.backing.devices.items) (c.loop-at.invariant.paid k) count source (map state c.write_run.new.backing.devices.items) c.run_at-run.ensures.some (omega (arith, fits)) c.run_at-run.ensures.served
+          (subst (λ (j : ℕ). CountsAtMost k (source_write_budget config k source j) (map state c.loop-at.backing.devices.items) (map state c.write_run.new.backing.devices.items)) (sym number) (c.in-Ok.ensures.paid k)));
       cut = subst (λ (k : ℕ). IsCutBehind config c.args.d.0 c.args.first k (length bytes / 512)) ends_at
           (cut-behind config c.args.d.0 c.args.first (at / 512) count ((length c.held-len.result.now - at) / 512) (length bytes / 512) (omega (arith, c.loop-at.invariant.whole, fits, ap (λ (l : List ℕ). length l) c.held-len.ensures)) c.run_at-run.ensures.some c.run_at-run.ensures.longest);
       within = fits;
@@ -388,6 +395,7 @@ write_units-loop-at-init g t c =
     record {
       even = omega arith;
       uncut = λ cuts. refl;
+      paid = λ k. omega arith;
       forgets = forgets-none c.args.backing.now.cache.blocks.blocks (AreRead-none 0 leaves);
       within = omega arith;
       rest = refl;
@@ -419,6 +427,9 @@ write_units-loop-at-preserved g t c =
     let all = units-more config p bytes n crypt c.requires.stack.sound.loaded has c.requires.fits.holds lower unit.ensures.lower long (at / size) step.fits so_far wrote in
     record {
       even = ap (λ (k : ℕ). k % size) step.end_is ∙ step.even;
+      paid = λ k. subst (λ (j : ℕ). CountsAtMost k (part_write_budget config k p j) old (map state c.write_lower-in-loop-at.new.backing.devices.items)) (step-behind step)
+          (step-paid config k p n crypt lower c.requires.stack.sound.loaded has c.requires.fits.holds unit.ensures.lower (at / 512) (unit.result.first + at / 512) (length (take (c.min-end.result - at) (drop at now)) / 512) old (map state c.loop-at.backing.devices.items) (map state c.write_lower-in-loop-at.new.backing.devices.items)
+          (step-sectors step) (omega (arith, unit.ensures.first)) (step-one step now (omega (arith, long, c.loop-at.auto.units, c.encrypt.auto.units))) (c.loop-at.invariant.paid k) (c.in-Ok.ensures.paid k));
       forgets = forgets-then c.loop-at.invariant.forgets (forgets-up (crypt-within config p.device.0 p.line 0 crypt lower c.requires.stack.sound.loaded has unit.ensures.lower) c.in-Ok.ensures.forgets);
       uncut = λ cuts. unread-then (map g.D.BlockDev.state c.args.backing.now.devices.items) (map g.D.BlockDev.state c.loop-at.backing.devices.items) (map g.D.BlockDev.state c.write_lower-in-loop-at.new.backing.devices.items) (c.loop-at.invariant.uncut cuts) (c.in-Ok.ensures.writes.unread (units-plain-below config p n crypt lower (unit.result.first + at / 512) has unit.ensures.lower cuts (at / 512) (length (sectors_in (take (c.min-end.result - at) (drop at now)))) (omega (arith, unit.ensures.first))
           (omega (arith, long, c.min-end.ensures, c.loop-at.auto.units, c.encrypt.auto.units, length-sectors_in (take (c.min-end.result - at) (drop at now)), length-take (c.min-end.result - at) (drop at now), length-drop at now))));
@@ -726,3 +737,135 @@ write_device-returns-in-Err-clause-forgets g t c =
 
 pub write_device-returns-clause-forgets : goal.write_device-returns-clause-forgets
 write_device-returns-clause-forgets g t c = c.loop-at.invariant.forgets
+
+-- ---- what is counted
+
+pub write_lower-returns-in-Leaf-clause-paid : goal.write_lower-returns-in-Leaf-clause-paid
+write_lower-returns-in-Leaf-clause-paid g t c =
+    let config = c.args.config.now in
+    let old = map g.D.BlockDev.state c.args.backing.now.devices.items in
+    let new = map g.D.BlockDev.state c.write_leaf.new.backing.devices.items in
+    λ k. subst (λ (x : Lower). CountsAtMost k (write_budget config k x c.args.first (length (c.args.plain.now ++ c.args.buffer.now) / 512)) old new) (sym c.in-Leaf.is)
+    (subst (λ (b : List ℕ). CountsAtMost k (write_budget config k (Leaf c.in-Leaf.leaf) c.args.first (length b / 512)) old new) c.held.ensures (c.write_leaf.ensures.paid k))
+
+pub write_lower-returns-in-Device-clause-paid : goal.write_lower-returns-in-Device-clause-paid
+write_lower-returns-in-Device-clause-paid g t c = rw c.in-Device.is c.write_device.ensures.paid
+
+pub write_run-returns-in-Below-clause-paid : goal.write_run-returns-in-Below-clause-paid
+write_run-returns-in-Below-clause-paid g t c = rw c.in-Below.is c.write_lower.ensures.paid
+
+pub write_run-returns-in-Units-clause-paid : goal.write_run-returns-in-Units-clause-paid
+write_run-returns-in-Units-clause-paid g t c =
+    let run = c.in-Units in
+    let none = none-of_units c.args.config.now run.part c.args.source c.args.plain.now c.args.buffer.now c.requires.can.fits c.requires.bytes run.is in
+    rw (run.is, none) c.write_units.ensures.paid
+
+pub write_run-returns-in-UnitPart-clause-paid : goal.write_run-returns-in-UnitPart-clause-paid
+write_run-returns-in-UnitPart-clause-paid g t c =
+    let run = c.in-UnitPart in
+    let none = none-of_part c.args.config.now run.part c.args.source c.args.plain.now c.args.buffer.now c.requires.can.fits c.requires.bytes run.is in
+    rw (run.is, none) c.write_unit_part.ensures.paid
+
+pub write_run-returns-in-Zeros-clause-paid : goal.write_run-returns-in-Zeros-clause-paid
+write_run-returns-in-Zeros-clause-paid g t c = λ k. omega arith
+
+pub write_run-returns-in-Fails-clause-paid : goal.write_run-returns-in-Fails-clause-paid
+write_run-returns-in-Fails-clause-paid g t c = λ k. omega arith
+
+pub write_units-returns-then-lower_cuts-clause-paid : goal.write_units-returns-then-lower_cuts-clause-paid
+write_units-returns-then-lower_cuts-clause-paid g t c =
+    let n : ℕ = length c.args.units.now / 512 in
+    let unit = c.unit_at-unit in
+    λ k. once-paid c.args.config.now k c.args.part n c.crypt_at-crypt.result.now unit.result.lower c.requires.stack.sound.loaded c.crypt_at-crypt.ensures c.requires.fits.holds unit.ensures.lower unit.result.first (length c.encrypt.new.units / 512)
+    (map g.D.BlockDev.state c.args.backing.now.devices.items) (map g.D.BlockDev.state c.write_lower.new.backing.devices.items) unit.ensures.first (omega (arith, c.encrypt.auto.units)) (omega (arith, c.requires.fits.sectors.some, c.requires.fits.sectors.whole)) (c.write_lower.ensures.paid k)
+
+pub write_units-returns-in-Err-clause-paid : goal.write_units-returns-in-Err-clause-paid
+write_units-returns-in-Err-clause-paid g t c =
+    let state = g.D.BlockDev.state in
+    let config = c.args.config.now in
+    let p = c.args.part in
+    let bytes = c.args.units.now in
+    let n : ℕ = length bytes / 512 in
+    let crypt = c.crypt_at-crypt.result.now in
+    let has = c.crypt_at-crypt.ensures in
+    let unit = c.unit_at-unit in
+    let size : ℕ = c.unit_sectors-sectors.result * 512 in
+    let at = c.loop-at.at in
+    let long : length bytes ≡ 512 * n = omega (arith, c.requires.fits.sectors.whole) in
+    let step = step-at crypt (length bytes) n at size c.min-end.result (omega (arith, c.unit_sectors-sectors.ensures.value, unit-bytes crypt)) long
+    (units-whole config p.device.0 p.line p.first n crypt c.requires.stack.sound.loaded has c.requires.fits.holds) c.loop-at.invariant.even (omega (arith, c.loop-at-test.true, c.encrypt.auto.units)) (omega (arith, c.min-end.ensures, c.encrypt.auto.units)) in
+    let lower = unit.result.lower in
+    let now = c.loop-at.units in
+    let old = map state c.args.backing.now.devices.items in
+    let new = map state c.write_lower-in-loop-at.new.backing.devices.items in
+    λ k. units-paid config k p n crypt lower c.requires.stack.sound.loaded has c.requires.fits.holds unit.ensures.lower (at / 512 + unit_sectors crypt) old new (step-sectors-behind step) (step-within step)
+    (step-paid config k p n crypt lower c.requires.stack.sound.loaded has c.requires.fits.holds unit.ensures.lower (at / 512) (unit.result.first + at / 512) (length (take (c.min-end.result - at) (drop at now)) / 512) old (map state c.loop-at.backing.devices.items) new
+    (step-sectors step) (omega (arith, unit.ensures.first)) (step-one step now (omega (arith, long, c.loop-at.auto.units, c.encrypt.auto.units))) (c.loop-at.invariant.paid k) (c.in-Err.ensures.paid k))
+
+pub write_units-returns-clause-paid : goal.write_units-returns-clause-paid
+write_units-returns-clause-paid g t c =
+    let state = g.D.BlockDev.state in
+    let config = c.args.config.now in
+    let n : ℕ = length c.args.units.now / 512 in
+    let all : c.loop-at.at / 512 ≡ n = omega (arith, c.loop-at-test.false, c.loop-at.invariant.within, c.encrypt.auto.units) in
+    λ k. subst (λ (j : ℕ). CountsAtMost k (part_write_budget config k c.args.part j) (map state c.args.backing.now.devices.items) (map state c.loop-at.backing.devices.items)) all (c.loop-at.invariant.paid k)
+
+pub write_unit_part-returns-in-Err-clause-paid : goal.write_unit_part-returns-in-Err-clause-paid
+write_unit_part-returns-in-Err-clause-paid g t c =
+    let config = c.args.config.now in
+    let state = g.D.BlockDev.state in
+    let whole = c.whole_unit-whole in
+    let count = room_sectors c.as_mut_slice-all.result.now whole.result.sectors (ap (λ (l : List ℕ). length l) c.as_mut_slice-all.ensures.value) whole.ensures.few in
+    let old = map state c.args.backing.now.devices.items in
+    let mid = map state c.read_units.new.backing.devices.items in
+    λ k. part-unpaid config c.args.part whole.result (length c.args.bytes.now / 512) c.requires.stack.sound.loaded whole.ensures.whole c.requires.fits.holds (omega (arith, c.requires.fits.sectors.some, c.requires.fits.sectors.whole)) k old mid c.in-Err.ensures.reads.got.moved
+    (subst (λ (j : ℕ). ReadsAtMost (source_budget config (Units whole.result.from) j) old mid) count c.in-Err.ensures.spent)
+
+pub write_unit_part-returns-clause-paid : goal.write_unit_part-returns-clause-paid
+write_unit_part-returns-clause-paid g t c =
+    let config = c.args.config.now in
+    let state = g.D.BlockDev.state in
+    let whole = c.whole_unit-whole in
+    let count = room_sectors c.as_mut_slice-all.result.now whole.result.sectors (ap (λ (l : List ℕ). length l) c.as_mut_slice-all.ensures.value) whole.ensures.few in
+    let old = map state c.args.backing.now.devices.items in
+    let mid = map state c.read_units.new.backing.devices.items in
+    let new = map state c.write_units.new.backing.devices.items in
+    let same : length c.put_sectors.new.unit / 512 ≡ whole.result.sectors = ap (λ (j : ℕ). j / 512) (c.put_sectors.auto.unit ∙ c.read_units.auto.out) ∙ count in
+    λ k. part-paid config c.args.part whole.result (length c.args.bytes.now / 512) c.requires.stack.sound.loaded whole.ensures.whole c.requires.fits.holds (omega (arith, c.requires.fits.sectors.some, c.requires.fits.sectors.whole)) k old mid new c.in-Ok.ensures.reads.got.moved
+    (subst (λ (j : ℕ). ReadsAtMost (source_budget config (Units whole.result.from) j) old mid) count c.in-Ok.ensures.spent)
+    (subst (λ (j : ℕ). CountsAtMost k (source_write_budget config k (Units whole.result.from) j) mid new) same (c.write_units.ensures.paid k))
+
+pub write_device-returns-in-Err-clause-paid : goal.write_device-returns-in-Err-clause-paid
+write_device-returns-in-Err-clause-paid g t c =
+    let config = c.args.config.now in
+    let state = g.D.BlockDev.state in
+    let plain = c.args.plain.now in
+    let buffer = c.args.buffer.now in
+    let bytes = plain ++ buffer in
+    let at = c.loop-at.at in
+    let run = c.run_at-run in
+    let source = run.result.source in
+    let count = run.result.count in
+    let part = c.between-part.result.now in
+    let room = take (c.min-to.result - c.min-from.result) (drop c.min-from.result c.loop-at.buffer) in
+    let all : ℕ = length bytes / 512 in
+    let fits : at + count * 512 ≤ length bytes = omega (arith, run.ensures.most, c.loop-at-test.true, ap (λ (l : List ℕ). length l) c.held-len.ensures) in
+    let len = run_length bytes at count fits in
+    let cut : IsCut plain buffer c.loop-at.buffer part at (at + count * 512) c.min-from.result c.min-to.result =
+    record { part_is = c.between-part.ensures; from_is = c.min-from.ensures; to_is = c.min-to.ensures; same_len = c.loop-at.auto.buffer; same_rest = c.loop-at.invariant.rest; order = omega arith } in
+    let same : part ++ room ≡ take (at + count * 512 - at) (drop at bytes) = cut-bytes cut (one-none (said_at config (mapped c.args.d.0)) c.args.first plain buffer c.requires.bytes) in
+    let number : length (part ++ room) / 512 ≡ count = omega (arith, len, ap (λ (l : List ℕ). length l) same) in
+    let old = map state c.args.backing.now.devices.items in
+    let mid = map state c.loop-at.backing.devices.items in
+    let new = map state c.write_run.new.backing.devices.items in
+    let behind = cut-behind config c.args.d.0 c.args.first (at / 512) count ((length c.held-len.result.now - at) / 512) all (omega (arith, c.loop-at.invariant.whole, fits, ap (λ (l : List ℕ). length l) c.held-len.ensures)) run.ensures.some run.ensures.longest in
+    λ k.
+    let more = subst (λ (j : ℕ). CountsAtMost k (source_write_budget config k source j) mid new) number (c.in-Err.ensures.paid k) in
+    let one = paid-run config k c.args.d.0 c.args.first (at / 512) all c.requires.can.stack.sound.loaded c.loop-at.invariant.cut old mid (c.loop-at.invariant.paid k) count source new run.ensures.some (omega (arith, fits)) run.ensures.served more in
+    paid-all config k c.args.d.0 c.args.first (at / 512 + count) all c.requires.can.stack.sound.loaded behind old new one (omega (arith, fits))
+
+pub write_device-returns-clause-paid : goal.write_device-returns-clause-paid
+write_device-returns-clause-paid g t c =
+    let state = g.D.BlockDev.state in
+    λ k. paid-all c.args.config.now k c.args.d.0 c.args.first (c.loop-at.at / 512) (length (c.args.plain.now ++ c.args.buffer.now) / 512) c.requires.can.stack.sound.loaded c.loop-at.invariant.cut (map state c.args.backing.now.devices.items) (map state c.loop-at.backing.devices.items) (c.loop-at.invariant.paid k)
+    (omega (arith, c.loop-at.invariant.within))

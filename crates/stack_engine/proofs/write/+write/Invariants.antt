@@ -8,6 +8,7 @@ use Rattle.stack_lines.specs.Sources.{source_depth}
 use Rattle.stack_lines.specs.Caches.{KeepsCache}
 use Rattle.stack_lines.specs.Forgetting.{Forgets}
 use Rattle.stack_lines.specs.Touches.{leaves_of}
+use Rattle.stack_lines.specs.WriteBudgets.{Counter, CountsAtMost, write_budget, part_write_budget}
 use Rattle.stack_engine.specs.Uncut.{CutsNone, SourceCutsNone}
 use Rattle.stack_meaning.specs.Changes.{NoneRead}
 use Rattle.stack_engine.proofs.SpentLemmas.{IsCutBehind}
@@ -32,6 +33,7 @@ invariant-write_device-loop-at g l = record {
   rest : drop l.at l.buffer ≡ drop l.at l.fn.buffer;
   so_far : Writes (destination_of l.config (mapped l.d.0)) l.first (sectors_in (take l.at (l.plain ++ l.fn.buffer))) (map g.D.BlockDev.state l.fn.backing.devices.items) (map g.D.BlockDev.state l.backing.devices.items) (Ok tt);
   uncut : CutsNone l.config (mapped l.d.0) l.first (length (l.plain ++ l.fn.buffer) / 512) → NoneRead (map g.D.BlockDev.state l.fn.backing.devices.items) (map g.D.BlockDev.state l.backing.devices.items);
+  paid : (k : Counter) → CountsAtMost k (write_budget l.config k (mapped l.d.0) l.first (l.at / 512)) (map g.D.BlockDev.state l.fn.backing.devices.items) (map g.D.BlockDev.state l.backing.devices.items);
   cut : IsCutBehind l.config l.d.0 l.first (l.at / 512) (length (l.plain ++ l.fn.buffer) / 512);
   ends : EndsBefore l.config l.d.0 (l.first + l.at / 512) (take l.at (l.plain ++ l.fn.buffer)) ⊎ (l.at ≡ length (l.plain ++ l.fn.buffer));
   forgets : Forgets l.config (leaves_of l.config (mapped l.d.0)) (map g.D.BlockDev.state l.fn.backing.devices.items) (map g.D.BlockDev.state l.backing.devices.items) l.fn.backing.cache.blocks.blocks l.backing.cache.blocks.blocks;
@@ -54,6 +56,7 @@ invariant-write_units-loop-at g l = record {
   within : l.at ≤ length l.fn.units;
   rest : drop l.at l.units ≡ drop l.at l.initial.units;
   uncut : SourceCutsNone l.config (Units l.fn.part) (length l.fn.units / 512) → NoneRead (map g.D.BlockDev.state l.fn.backing.devices.items) (map g.D.BlockDev.state l.backing.devices.items);
+  paid : (k : Counter) → CountsAtMost k (part_write_budget l.config k l.fn.part (l.at / 512)) (map g.D.BlockDev.state l.fn.backing.devices.items) (map g.D.BlockDev.state l.backing.devices.items);
   forgets : Forgets l.config (leaves_of l.config (mapped l.fn.part.device.0)) (map g.D.BlockDev.state l.fn.backing.devices.items) (map g.D.BlockDev.state l.backing.devices.items) l.fn.backing.cache.blocks.blocks l.backing.cache.blocks.blocks;
   so_far : Writes (source_destination l.config (Units l.fn.part)) 0 (sectors_in (take l.at l.fn.units)) (map g.D.BlockDev.state l.fn.backing.devices.items) (map g.D.BlockDev.state l.backing.devices.items) (Ok tt);
   cached : KeepsCache l.config (map g.D.BlockDev.state l.backing.devices.items) l.fn.backing.cache l.backing.cache;

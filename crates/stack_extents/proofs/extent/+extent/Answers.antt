@@ -1,6 +1,9 @@
 use Rattle.std.proofs.Common.{arith}
+use Rattle.stack_meaning.specs.Meaning.{said_at}
+use Rattle.stack_lines.specs.Sources.{source_said}
+use Rattle.stack_extents.specs.Extents.{IgnoresZeros, SourceIgnores}
 use Rattle.stack_lines.proofs.lemmas.SourceLemmas.{served-depth, served-holds}
-use Rattle.stack_extents.proofs.ExtentLemmas.{zeros-extent, below-extent, device-extent}
+use Rattle.stack_extents.proofs.ExtentLemmas.{zeros-extent, unknown-extent, block-line, blocks-line, below-extent, device-extent}
 use Rattle.stack_extents.proofs.extent.+extent.Goals as goal
 
 pub device_extent-source_extent-requires : goal.device_extent-source_extent-requires
@@ -26,3 +29,21 @@ source_extent-returns-in-Below t c =
 
 pub lower_extent-returns-in-Device : goal.lower_extent-returns-in-Device
 lower_extent-returns-in-Device t c = rw c.in-Device.is c.device_extent.ensures
+
+pub source_extent-verity_extent-requires-clause-line : goal.source_extent-verity_extent-requires-clause-line
+source_extent-verity_extent-requires-clause-line t c = block-line c.args.config.now c.in-Block.part c.args.most (rw c.in-Block.is at c.requires.inside)
+
+pub source_extent-verity_extent-requires-in-Blocks-clause-line : goal.source_extent-verity_extent-requires-in-Blocks-clause-line
+source_extent-verity_extent-requires-in-Blocks-clause-line t c = blocks-line c.args.config.now c.in-Blocks.part c.args.most (rw c.in-Blocks.is at c.requires.inside)
+
+pub source_extent-returns-in-Block : goal.source_extent-returns-in-Block
+source_extent-returns-in-Block t c = rw c.in-Block.is c.verity_extent.ensures
+
+pub source_extent-returns-in-Blocks : goal.source_extent-returns-in-Blocks
+source_extent-returns-in-Blocks t c = rw c.in-Blocks.is c.verity_extent-in-Blocks.ensures
+
+pub source_extent-returns-in_default : goal.source_extent-returns-in_default
+source_extent-returns-in_default t c = unknown-extent (source_said c.args.config.now c.args.source) (SourceIgnores c.args.config.now c.args.source) 0 c.args.most c.requires.some
+
+pub lower_extent-returns-in-Leaf : goal.lower_extent-returns-in-Leaf
+lower_extent-returns-in-Leaf t c = unknown-extent (said_at c.args.config.now c.args.lower) (IgnoresZeros c.args.config.now c.args.lower) c.args.first c.args.most c.requires.some

@@ -1,8 +1,9 @@
-use Rattle.std.proofs.Common.{arith}
+use Rattle.std.proofs.Common.{arith, sym, ◌∙◌}
 use Rattle.stack_rules.specs.Names.{mapped}
 use Rattle.stack_meaning.specs.Meaning.{said_at}
 use Rattle.stack_meaning.proofs.lemmas.LoadedLemmas.{size-small}
-use Rattle.stack_extents.proofs.ExtentLemmas.{alike, joined-extent}
+use Rattle.stack_extents.specs.Extents.{IgnoresZeros}
+use Rattle.stack_extents.proofs.ExtentLemmas.{joined-extent, kind-same}
 use Rattle.stack_extents.proofs.extent.extent_at.Goals as goal
 
 pub overflow_add-at : goal.overflow_add-at
@@ -10,8 +11,12 @@ overflow_add-at c = let small = size-small c.args.config.now (mapped c.args.d.0)
 
 pub loop-run-preserved : goal.loop-run-preserved
 loop-run-preserved c =
-    let said = said_at c.args.config.now (mapped c.args.d.0) in
+    let config = c.args.config.now in
+    let d = mapped c.args.d.0 in
+    let extent = c.loop-run.extent in
+    let next = c.device_extent-next in
+    let alike = kind-same next.result.kind extent.kind (sym c.is_same_kind.ensures ∙ c.if-not-is_same_kind.false) in
     record {
-      extent = joined-extent said c.args.first c.args.most c.loop-run.extent c.device_extent-next.result c.loop-run.invariant.extent
-          (omega (arith, c.loop-run.invariant.extent.few, c.if-extent-most.false)) c.device_extent-next.ensures (alike c.device_extent-next.result.zeros c.loop-run.extent.zeros c.if-next-extent.false);
+      extent = joined-extent (said_at config d) (IgnoresZeros config d) c.args.first c.args.most extent next.result c.loop-run.invariant.extent
+          (omega (arith, c.loop-run.invariant.extent.few, c.if-extent-most.false)) next.ensures alike;
     }

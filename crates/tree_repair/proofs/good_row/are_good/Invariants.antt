@@ -1,5 +1,6 @@
-use Rattle.std.proofs.Common.{◌≤◌, ◌-◌}
+use Rattle.std.proofs.Common.{◌≤◌, ◌-◌, ◌*◌, ◌/◌}
 use Rattle.verity_format.specs.Blocks.{IsOnlyRead}
+use Rattle.tree_path.specs.Steps.{HasReadAtMost}
 use Rattle.tree_repair.specs.Coverage.{AreGoodFrom}
 use Rattle.tree_repair.specs.Jobs.{job}
 use Rattle.tree_repair.proofs.good_row.are_good.Given as goal
@@ -10,6 +11,7 @@ invariant-pieces g l = record {
   read : IsOnlyRead (g.D.BlockDev.state l.fn.data_dev) (g.D.BlockDev.state l.data_dev);
   low : l.fn.row.first ≤ l.index;
   most : l.index - l.fn.row.first ≤ l.fn.row.end - l.fn.row.first;
+  asked : HasReadAtMost (g.D.BlockDev.state l.fn.data_dev) ((l.index - l.fn.row.first) * (l.fn.repair.shape.data_block / 512)) (g.D.BlockDev.state l.data_dev);
   good : AreGoodFrom (job l.fn.repair) l.fn.path (g.D.BlockDev.state l.fn.data_dev) l.fn.row.first (l.index - l.fn.row.first);
 }
 

@@ -1,8 +1,12 @@
-use Rattle.std.proofs.Common.{◌≤◌, ◌-◌, arith, map, subst, sym}
+use Rattle.std.proofs.Common.{◌≡◌, ◌≤◌, ◌-◌, ◌*◌, ◌/◌, ℕ, arith, map, refl, subst, sym}
 use Rattle.verity_format.specs.Image.{data_sectors}
+use Rattle.tree_path.proofs.lemmas.DeviceLemmas.{only_read-none}
+use Rattle.tree_repair.specs.Bills.{Leaves, data_over, nothing_due, reading}
 use Rattle.tree_repair.specs.Coverage.{AreGoodFrom}
 use Rattle.tree_repair.specs.Jobs.{job}
 use Rattle.tree_repair.specs.Worlds.{IsWorldRead, World, world}
+use Rattle.tree_repair.proofs.BillLemmas.{leaves-end, leaves-none, leaves-read}
+use Rattle.tree_repair.proofs.OverLemmas.{data-all}
 use Rattle.tree_repair.proofs.RunLemmas.{data-read, world-none}
 use Rattle.tree_repair.proofs.good_row.is_good_row.Goals as goal
 
@@ -24,3 +28,21 @@ returns-clause-good g c = λ ok. record {
   height_is = omega (arith, c.if-row-gt0.false);
   good = subst (λ (w : World). AreGoodFrom (job c.args.repair.now) c.args.path.now w.data_dev c.args.row.first (c.args.row.end - c.args.row.first)) c.image.view_is (c.are_good.ensures.good ok);
 }
+
+pub returns-then-row-gt0-clause-asked : goal.returns-then-row-gt0-clause-asked
+returns-then-row-gt0-clause-asked g c =
+    leaves-end (leaves-none (reading (data_over c.args.repair.now.shape c.args.row.height (c.args.row.end - c.args.row.first)) 0) c.args.image.now)
+
+pub returns-clause-asked : goal.returns-clause-asked
+returns-clause-asked g c =
+    let s = c.args.repair.now.shape in
+    let n = c.args.row.end - c.args.row.first in
+    let i = c.image.inside in
+    let a = world (g.D.BlockDev.state i.data) (g.H.BlockDev.state i.hash) (map g.C.BlockDev.state i.data_copies.items) (map g.C.BlockDev.state i.hash_copies.items) in
+    let b = world (g.D.BlockDev.state c.are_good.new.data_dev) a.hash_dev a.data_copies a.hash_copies in
+    let none : c.args.row.height ≡ 0 = omega (arith, c.if-row-gt0.false) in
+    subst (λ (w : World). Leaves (reading (data_over s c.args.row.height n) 0) nothing_due w b) c.image.view_is
+    (subst (λ (h : ℕ). Leaves (reading (data_over s h n) 0) nothing_due a b) (sym none)
+    (subst (λ (k : ℕ). Leaves (reading k 0) nothing_due a b) (sym (data-all s c.requires.valid n))
+    (leaves-read (n * (s.data_block / 512)) 0 a b
+    (record { devices = record { data_read = c.are_good.ensures.read; hash_read = only_read-none a.hash_dev }; data_copies_are = refl; hash_copies_are = refl }) c.are_good.ensures.asked (omega arith))))

@@ -1,4 +1,4 @@
-use Rattle.std.proofs.Common.{◌*◌, ◌/◌, ◌∙◌, ap, sym, arith, refl, length, rules}
+use Rattle.std.proofs.Common.{◌≡◌, ◌*◌, ◌/◌, ◌∙◌, ap, sym, arith, refl, length, rules}
 use Rattle.hash_tree.specs.Tree.{cut}
 use Rattle.verity_format.specs.Blocks.{blocks_at}
 use Rattle.tree_repair.proofs.PieceLemmas.{run-cut, run-sectors}
@@ -22,3 +22,15 @@ returns-in-Ok-clause-good g c = λ ok.
           ∙ ap (λ k. blocks_at old.image size c.args.first k) (sym c.digest_blocks.auto.out);
       full = search rules;
     }
+
+pub returns-in-Ok-clause-asked : goal.returns-in-Ok-clause-asked
+returns-in-Ok-clause-asked g c =
+    let n = length c.args.digests.now in
+    let sectors : length c.args.run.now / 512 ≡ n * (c.args.size / 512) = ap (λ k. k / 512) c.requires.run ∙ run-sectors c.args.size n c.requires.size in
+    omega (arith, sectors, c.read.ensures.moved.reads)
+
+pub returns-in-Err-clause-asked : goal.returns-in-Err-clause-asked
+returns-in-Err-clause-asked g c =
+    let n = length c.args.digests.now in
+    let sectors : length c.args.run.now / 512 ≡ n * (c.args.size / 512) = ap (λ k. k / 512) c.requires.run ∙ run-sectors c.args.size n c.requires.size in
+    omega (arith, sectors, c.read.ensures.moved.reads)

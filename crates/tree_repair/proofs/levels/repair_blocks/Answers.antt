@@ -1,8 +1,11 @@
-use Rattle.std.proofs.Common.{◌≡◌, ℕ, arith, inl, inr, subst}
+use Rattle.std.proofs.Common.{◌≡◌, ◌+◌, ◌-◌, ◌^◌, ℕ, sym, arith, inl, inr, subst}
 use Rattle.std.proofs.lemmas.Bool.{cases_lt}
 use Rattle.tree_shape.specs.Shape.{ancestor, per_block}
 use Rattle.tree_repair.proofs.LookLemmas.{first-begins, next-begins, same-above}
 use Rattle.tree_shape.proofs.lemmas.ShapeFaultLemmas.{blocks-le}
+use Rattle.tree_repair.specs.Bills.{Leaves, visits_over}
+use Rattle.tree_repair.proofs.BillLemmas.{leaves-none, leaves-then}
+use Rattle.tree_repair.proofs.HeightLemmas.{next-left, row-left, visit-at, visits-fewer}
 use Rattle.tree_repair.specs.Jobs.{job}
 use Rattle.tree_repair.proofs.RowLemmas.{way-along}
 use Rattle.tree_repair.proofs.PassLemmas.{noted-ends, noted-fewer, noted-from, noted-none, noted-then}
@@ -13,6 +16,8 @@ pub places-init : goal.places-init
 places-init g c = record {
   from = omega arith;
   begins = λ less. first-begins c.args.repair.now.shape c.args.row c.requires.can.valid c.requires.row;
+  asked = leaves-none (visits_over c.args.repair.now.shape c.args.row.height (c.args.repair.now.shape.blocks - c.args.row.first)) c.args.image.now;
+  enough = omega arith;
   run = noted-none (λ h i due. omega (arith, due.0.1.0, due.1));
 }
 
@@ -37,7 +42,10 @@ places-preserved g c =
     record {
       from = omega (arith, c.places.invariant.from);
       begins = λ less. next-begins (per_block s) row.height c.places.index row.step s.blocks row.end (c.places.invariant.begins c.places-test.true) c.requires.row.step_is c.requires.row.inside less;
-      run = noted-then c.places.invariant.run c.in_ok-repair_block.ensures
+      asked = subst (λ (n : ℕ). Leaves (visits_over s row.height (s.blocks - row.first)) (visits_over s row.height n) c.args.image.now c.repair_block.new.image) (sym (next-left s c.requires.can.valid row c.requires.row c.places.index))
+          (leaves-then c.places.invariant.asked (visit-at s c.requires.can.valid row.height c.places.index (c.places.invariant.begins c.places-test.true) c.places.image c.repair_block.new.image c.repair_block.ensures.asked));
+      enough = omega (arith, next-left s c.requires.can.valid row c.requires.row c.places.index, row-left s c.requires.can.valid row c.requires.row c.places.index (c.places.invariant.begins c.places-test.true) c.places-test.true);
+      run = noted-then c.places.invariant.run c.in_ok-repair_block.ensures.notes
           (λ h i due.
           elim (cases_lt i c.places.index) [
             | inl before ↦ inl (due.0, before)
@@ -49,8 +57,24 @@ places-preserved g c =
           ]);
     }
 
-pub returns-in_err-repair_block : goal.returns-in_err-repair_block
-returns-in_err-repair_block g c = noted-from c.from_residual.result _ c.from_residual.ensures.1 (noted-ends c.places.invariant.run c.in_err-repair_block.ensures)
+pub returns-in_err-repair_block-clause-notes : goal.returns-in_err-repair_block-clause-notes
+returns-in_err-repair_block-clause-notes g c = noted-from c.from_residual.result _ c.from_residual.ensures.1 (noted-ends c.places.invariant.run c.in_err-repair_block.ensures.notes)
 
-pub returns : goal.returns
-returns g c = noted-fewer c.places.invariant.run (λ h i due. (due, omega (arith, due.1.1, c.places-test.false)))
+pub returns-clause-notes : goal.returns-clause-notes
+returns-clause-notes g c = noted-fewer c.places.invariant.run (λ h i due. (due, omega (arith, due.1.1, c.places-test.false)))
+
+pub returns-in_err-repair_block-clause-asked : goal.returns-in_err-repair_block-clause-asked
+returns-in_err-repair_block-clause-asked g c =
+    let s = c.args.repair.now.shape in
+    let row = c.args.row in
+    let valid = c.requires.can.valid in
+    let begins = c.places.invariant.begins c.places-test.true in
+    visits-fewer s valid row.height (s.blocks - c.places.index - per_block s ^ row.height) (s.blocks - row.first - per_block s ^ (row.height + 1)) c.args.image.now c.repair_block.new.image
+    (row-left s valid row c.requires.row c.places.index begins c.places-test.true)
+    (leaves-then c.places.invariant.asked (visit-at s valid row.height c.places.index begins c.places.image c.repair_block.new.image c.repair_block.ensures.asked))
+
+pub returns-clause-asked : goal.returns-clause-asked
+returns-clause-asked g c =
+    let s = c.args.repair.now.shape in
+    let row = c.args.row in
+    visits-fewer s c.requires.can.valid row.height (s.blocks - c.places.index) (s.blocks - row.first - per_block s ^ (row.height + 1)) c.args.image.now c.places.image c.places.invariant.enough c.places.invariant.asked

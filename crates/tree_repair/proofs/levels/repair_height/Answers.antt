@@ -1,9 +1,12 @@
-use Rattle.std.proofs.Common.{◌+◌, ◌^◌, ◌∙◌, ap, arith, inl, inr, min}
+use Rattle.std.proofs.Common.{◌≡◌, ◌+◌, ◌-◌, ◌^◌, ◌∙◌, ℕ, sym, subst, ap, arith, inl, inr, min}
 use Rattle.std.proofs.Math.Nat.{zero-mod}
 use Rattle.std.proofs.lemmas.Bool.{cases_lt}
 use Rattle.tree_shape.specs.Shape.{per_block}
 use Rattle.tree_shape.proofs.lemmas.ShapeFaultLemmas.{blocks-le}
 use Rattle.tree_shape.proofs.lemmas.ShapeLemmas.{pow_pos}
+use Rattle.tree_repair.specs.Bills.{Leaves, height_over}
+use Rattle.tree_repair.proofs.BillLemmas.{leaves-end, leaves-none, leaves-then}
+use Rattle.tree_repair.proofs.HeightLemmas.{rows-next}
 use Rattle.tree_repair.proofs.RowLemmas.{per_block-some, row-next}
 use Rattle.tree_repair.proofs.PassLemmas.{noted-ends, noted-fewer, noted-from, noted-none, noted-then}
 use Rattle.tree_repair.proofs.RunLemmas.{can-later}
@@ -16,7 +19,7 @@ pub span-step-requires : goal.span-step-requires
 span-step-requires g c = omega (arith, c.blocks-blocks.ensures.value, (blocks-le c.args.repair.now.shape c.requires.can.valid).0)
 
 pub rows-init : goal.rows-init
-rows-init g c = record { begins = λ some. zero-mod (per_block c.args.repair.now.shape ^ (c.args.height + 1)); run = noted-none (λ h i due. omega (arith, due.1.1)) }
+rows-init g c = record { begins = λ some. zero-mod (per_block c.args.repair.now.shape ^ (c.args.height + 1)); asked = (let s = c.args.repair.now.shape in let all : s.blocks ≡ s.blocks - 0 = omega arith in subst (λ (n : ℕ). Leaves (height_over s c.args.height s.blocks) (height_over s c.args.height n) c.args.image.now c.args.image.now) all (leaves-none (height_over s c.args.height s.blocks) c.args.image.now)); run = noted-none (λ h i due. omega (arith, due.1.1)) }
 
 pub repair_row-requires-clause-can : goal.repair_row-requires-clause-can
 repair_row-requires-clause-can g c = can-later c.rows.invariant.run.run c.requires.can
@@ -46,7 +49,12 @@ pub rows-preserved : goal.rows-preserved
 rows-preserved g c = record {
   begins = λ less. row-next (per_block c.args.repair.now.shape) c.args.height c.rows.first c.span-width.result c.blocks-blocks.result c.min-end.result
       (c.rows.invariant.begins (omega (arith, c.rows-test.true, c.blocks-blocks.ensures.value))) c.span-width.ensures c.min-end.ensures (omega (arith, less, c.blocks-blocks.ensures.value));
-  run = noted-then c.rows.invariant.run c.in_ok-repair_row.ensures
+  asked =
+      let s = c.args.repair.now.shape in
+      let next : s.blocks - c.rows.first - per_block s ^ (c.args.height + 1) ≡ s.blocks - c.min-end.result =
+      sym (rows-next s.blocks c.rows.first c.span-width.result (per_block s ^ (c.args.height + 1)) c.min-end.result (c.span-width.ensures ∙ ap (min (per_block s ^ (c.args.height + 1))) c.blocks-blocks.ensures.value) (c.min-end.ensures ∙ ap (min (c.rows.first + c.span-width.result)) c.blocks-blocks.ensures.value)) in
+      subst (λ (n : ℕ). Leaves (height_over s c.args.height s.blocks) (height_over s c.args.height n) c.args.image.now c.repair_row.new.image) next (leaves-then c.rows.invariant.asked c.repair_row.ensures.asked);
+  run = noted-then c.rows.invariant.run c.in_ok-repair_row.ensures.notes
       (λ h i due.
       elim (cases_lt i c.rows.first) [
         | inl before ↦ inl (due.0, (due.1.0, before))
@@ -60,8 +68,14 @@ rows-smaller g c =
     let high = pow_pos (per_block s) (c.args.height + 1) (per_block-some s c.requires.can.valid) in
     omega (arith, c.rows-test.true, c.blocks-blocks.ensures.value, c.span-width.ensures, c.min-end.ensures, high, c.requires.can.valid.some)
 
-pub returns-in_err-repair_row : goal.returns-in_err-repair_row
-returns-in_err-repair_row g c = noted-from c.from_residual.result _ c.from_residual.ensures.1 (noted-ends c.rows.invariant.run c.in_err-repair_row.ensures)
+pub returns-in_err-repair_row-clause-notes : goal.returns-in_err-repair_row-clause-notes
+returns-in_err-repair_row-clause-notes g c = noted-from c.from_residual.result _ c.from_residual.ensures.1 (noted-ends c.rows.invariant.run c.in_err-repair_row.ensures.notes)
 
-pub returns : goal.returns
-returns g c = noted-fewer c.rows.invariant.run (λ h i due. (due.0, (due.1.0, omega (arith, due.1.1, c.rows-test.false, c.blocks-blocks.ensures.value))))
+pub returns-clause-notes : goal.returns-clause-notes
+returns-clause-notes g c = noted-fewer c.rows.invariant.run (λ h i due. (due.0, (due.1.0, omega (arith, due.1.1, c.rows-test.false, c.blocks-blocks.ensures.value))))
+
+pub returns-in_err-repair_row-clause-asked : goal.returns-in_err-repair_row-clause-asked
+returns-in_err-repair_row-clause-asked g c = leaves-end (leaves-then c.rows.invariant.asked c.repair_row.ensures.asked)
+
+pub returns-clause-asked : goal.returns-clause-asked
+returns-clause-asked g c = leaves-end c.rows.invariant.asked

@@ -1,13 +1,14 @@
 use Rattle.std.proofs.Common.{arith}
 use Rattle.tree_repair.specs.Jobs.{job}
 use Rattle.tree_repair.proofs.GoodLemmas.{noted-good}
+use Rattle.tree_repair.proofs.HeightLemmas.{row-seen, row-visited}
 use Rattle.tree_repair.proofs.PassLemmas.{noted-behind}
 use Rattle.tree_repair.proofs.RowLemmas.{way-along}
 use Rattle.tree_repair.proofs.RunLemmas.{can-read}
 use Rattle.tree_repair.proofs.levels.repair_unless_good.Goals as goal
 
-pub returns-then-is_good_row : goal.returns-then-is_good_row
-returns-then-is_good_row g c =
+pub returns-then-is_good_row-clause-notes : goal.returns-then-is_good_row-clause-notes
+returns-then-is_good_row-clause-notes g c =
     noted-good c.args.path.now c.args.row c.is_good_row.ensures.read (c.is_good_row.ensures.good c.if-is_good_row.true)
     (λ k from below. (
       omega (arith, below, c.requires.row.inside),
@@ -17,5 +18,13 @@ returns-then-is_good_row g c =
 pub repair_blocks-requires-clause-can : goal.repair_blocks-requires-clause-can
 repair_blocks-requires-clause-can g c = can-read c.is_good_row.ensures.read c.requires.can
 
-pub returns : goal.returns
-returns g c = noted-behind c.is_good_row.ensures.read c.repair_blocks.ensures
+pub returns-clause-notes : goal.returns-clause-notes
+returns-clause-notes g c = noted-behind c.is_good_row.ensures.read c.repair_blocks.ensures.notes
+
+pub returns-then-is_good_row-clause-asked : goal.returns-then-is_good_row-clause-asked
+returns-then-is_good_row-clause-asked g c =
+    row-seen c.args.repair.now.shape c.requires.can.valid c.args.row c.requires.row c.args.image.now c.is_good_row.new.image c.is_good_row.ensures.asked
+
+pub returns-clause-asked : goal.returns-clause-asked
+returns-clause-asked g c =
+    row-visited c.args.repair.now.shape c.requires.can.valid c.args.row c.requires.row c.args.image.now c.is_good_row.new.image c.repair_blocks.new.image c.is_good_row.ensures.asked c.repair_blocks.ensures.asked

@@ -1,6 +1,7 @@
-use Rattle.std.proofs.Common.{arith, ap, inl, inr}
+use Rattle.std.proofs.Common.{◌-◌, ◌*◌, ◌/◌, ℕ, arith, ap, inl, inr, subst}
 use Rattle.tree_shape.specs.Shape.{ShapeRecord, levels}
 use Rattle.verity_format.specs.Image.{tree_sectors}
+use Rattle.tree_path.specs.Steps.{HasReadAtMost}
 use Rattle.tree_repair.specs.Jobs.{job}
 use Rattle.tree_repair.proofs.RowLemmas.{cut-off, way-down}
 use Rattle.tree_repair.proofs.levels.way_on.Goals as goal
@@ -27,3 +28,21 @@ returns-in-Ok-Some-clause-way g c =
 
 pub returns-in-Err-clause-way : goal.returns-in-Err-clause-way
 returns-in-Err-clause-way g c = inl c.in-Err.ensures.fault
+
+pub returns-in-Ok-None-clause-asked : goal.returns-in-Ok-None-clause-asked
+returns-in-Ok-None-clause-asked g c =
+    let same = c.in_ok-path.ensures.shape_is in
+    subst (λ (s : ShapeRecord). HasReadAtMost (g.H.BlockDev.state c.args.device.now) ((levels s - c.args.height) * (s.hash_block / 512)) (g.H.BlockDev.state c.descend.new.device)) same
+    (subst (λ (n : ℕ). HasReadAtMost (g.H.BlockDev.state c.args.device.now) ((n - c.args.height) * (c.in_ok-path.path.shape.hash_block / 512)) (g.H.BlockDev.state c.descend.new.device)) c.levels-top.ensures c.descend.ensures.asked)
+
+pub returns-in-Ok-Some-clause-asked : goal.returns-in-Ok-Some-clause-asked
+returns-in-Ok-Some-clause-asked g c =
+    let same = c.in_ok-path.ensures.shape_is in
+    subst (λ (s : ShapeRecord). HasReadAtMost (g.H.BlockDev.state c.args.device.now) ((levels s - c.args.height) * (s.hash_block / 512)) (g.H.BlockDev.state c.descend.new.device)) same
+    (subst (λ (n : ℕ). HasReadAtMost (g.H.BlockDev.state c.args.device.now) ((n - c.args.height) * (c.in_ok-path.path.shape.hash_block / 512)) (g.H.BlockDev.state c.descend.new.device)) c.levels-top.ensures c.descend.ensures.asked)
+
+pub returns-in-Err-clause-asked : goal.returns-in-Err-clause-asked
+returns-in-Err-clause-asked g c =
+    let same = c.in_ok-path.ensures.shape_is in
+    subst (λ (s : ShapeRecord). HasReadAtMost (g.H.BlockDev.state c.args.device.now) ((levels s - c.args.height) * (s.hash_block / 512)) (g.H.BlockDev.state c.descend.new.device)) same
+    (subst (λ (n : ℕ). HasReadAtMost (g.H.BlockDev.state c.args.device.now) ((n - c.args.height) * (c.in_ok-path.path.shape.hash_block / 512)) (g.H.BlockDev.state c.descend.new.device)) c.levels-top.ensures c.descend.ensures.asked)

@@ -1,9 +1,13 @@
-use Rattle.std.proofs.Common.{◌≤◌, map, subst, sym}
+use Rattle.std.proofs.Common.{◌≤◌, ◌-◌, ◌*◌, ◌/◌, ℕ, arith, refl, map, subst, sym}
 use Rattle.std.specs.Prelude.{IfOk}
 use Rattle.verity_format.specs.Image.{tree_sectors}
+use Rattle.tree_shape.specs.Shape.{levels}
+use Rattle.tree_path.proofs.lemmas.DeviceLemmas.{only_read-none}
+use Rattle.tree_repair.specs.Bills.{Leaves, nothing_due, reading}
 use Rattle.tree_repair.specs.Jobs.{job}
 use Rattle.tree_repair.specs.Tries.{IsWayOr}
 use Rattle.tree_repair.specs.Worlds.{IsWorldRead, World, world}
+use Rattle.tree_repair.proofs.BillLemmas.{leaves-read}
 use Rattle.tree_repair.proofs.RunLemmas.{tree-read}
 use Rattle.tree_repair.proofs.levels.way_to.Goals as goal
 
@@ -20,3 +24,13 @@ returns-clause-read g c =
 pub returns-clause-way : goal.returns-clause-way
 returns-clause-way g c =
     subst (λ (w : World). IfOk c.way_on.result (IsWayOr (job c.args.repair.now).tree c.args.index c.args.height w.hash_dev (g.H.BlockDev.state c.way_on.new.device))) c.image.view_is c.way_on.ensures.way
+
+pub returns-clause-asked : goal.returns-clause-asked
+returns-clause-asked g c =
+    let s = c.args.repair.now.shape in
+    let n : ℕ = (levels s - c.args.height) * (s.hash_block / 512) in
+    let i = c.image.inside in
+    let a = world (g.D.BlockDev.state i.data) (g.H.BlockDev.state i.hash) (map g.C.BlockDev.state i.data_copies.items) (map g.C.BlockDev.state i.hash_copies.items) in
+    let b = world a.data_dev (g.H.BlockDev.state c.way_on.new.device) a.data_copies a.hash_copies in
+    subst (λ (w : World). Leaves (reading 0 n) nothing_due w b) c.image.view_is
+    (leaves-read 0 n a b (record { devices = record { data_read = only_read-none a.data_dev; hash_read = c.way_on.ensures.read }; data_copies_are = refl; hash_copies_are = refl }) (omega arith) c.way_on.ensures.asked)

@@ -2,6 +2,7 @@ use Rattle.std.proofs.Common.{◌≡◌, ◌/◌, ℕ, [], true, false, length, 
 use Rattle.tree_path.proofs.lemmas.DeviceLemmas.{only_read-none}
 use Rattle.tree_repair.specs.Mending.{IsPut}
 use Rattle.tree_repair.specs.Sources.{AreIn, AreInNone, wanted}
+use Rattle.tree_repair.proofs.BillLemmas.{at_most-none, put-once}
 use Rattle.tree_repair.proofs.SourceLemmas.{each-none, on_err-from}
 use Rattle.tree_repair.proofs.mending.mend.Goals as goal
 
@@ -77,3 +78,43 @@ returns-in_err-put-in-Some-clause-err g c =
         },
       ),
     )
+
+pub returns-then-is_there-clause-asked : goal.returns-then-is_there-clause-asked
+returns-then-is_there-clause-asked g c = record {
+  reads = c.is_there.ensures.asked;
+  writes = omega (arith, c.is_there.ensures.read.writes);
+  copies_read = at_most-none (map g.C.BlockDev.state c.args.copies.now.items) (length c.args.block.now / 512);
+}
+
+pub returns-in-None-clause-asked : goal.returns-in-None-clause-asked
+returns-in-None-clause-asked g c =
+    let long : length c.is_there.new.block / 512 ≡ length c.args.block.now / 512 = ap (λ (n : ℕ). n / 512) c.is_there.auto.block in
+    record { reads = c.is_there.ensures.asked; writes = omega (arith, c.is_there.ensures.read.writes); copies_read = rw long at c.seek.ensures.asked }
+
+pub returns-in_ok-put-in-Some-clause-asked : goal.returns-in_ok-put-in-Some-clause-asked
+returns-in_ok-put-in-Some-clause-asked g c =
+    let between = g.B.BlockDev.state c.is_there.new.device in
+    let new = g.B.BlockDev.state c.put.new.device in
+    let sectors : ℕ = length c.seek.new.block / 512 in
+    let long : length c.is_there.new.block / 512 ≡ length c.args.block.now / 512 = ap (λ (n : ℕ). n / 512) c.is_there.auto.block in
+    let same : sectors ≡ length c.args.block.now / 512 = ap (λ (n : ℕ). n / 512) (c.seek.auto.block ∙ c.is_there.auto.block) in
+    let once = put-once c.args.write between c.args.sought.now.first sectors c.seek.new.block true new c.in_ok-put-in-Some.ensures in
+    record {
+      reads = omega (arith, c.is_there.ensures.asked, once.reads);
+      writes = omega (arith, c.is_there.ensures.read.writes, once.writes, same);
+      copies_read = rw long at c.seek.ensures.asked;
+    }
+
+pub returns-in_err-put-in-Some-clause-asked : goal.returns-in_err-put-in-Some-clause-asked
+returns-in_err-put-in-Some-clause-asked g c =
+    let between = g.B.BlockDev.state c.is_there.new.device in
+    let new = g.B.BlockDev.state c.put.new.device in
+    let sectors : ℕ = length c.seek.new.block / 512 in
+    let long : length c.is_there.new.block / 512 ≡ length c.args.block.now / 512 = ap (λ (n : ℕ). n / 512) c.is_there.auto.block in
+    let same : sectors ≡ length c.args.block.now / 512 = ap (λ (n : ℕ). n / 512) (c.seek.auto.block ∙ c.is_there.auto.block) in
+    let once = put-once c.args.write between c.args.sought.now.first sectors c.seek.new.block false new c.in_err-put-in-Some.ensures in
+    record {
+      reads = omega (arith, c.is_there.ensures.asked, once.reads);
+      writes = omega (arith, c.is_there.ensures.read.writes, once.writes, same);
+      copies_read = rw long at c.seek.ensures.asked;
+    }

@@ -1,7 +1,10 @@
-use Rattle.std.proofs.Common.{◌≡◌, ◌<◌, ◌+◌, ◌-◌, ◌*◌, ◌++◌, ℕ, List, length, take, drop, replicate, refl, ap, sym, ◌∙◌, arith}
+use Rattle.std.proofs.Common.{◌≡◌, ◌<◌, ◌+◌, ◌-◌, ◌*◌, ◌++◌, ℕ, List, length, take, drop, replicate, refl, subst, ap, sym, ◌∙◌, arith}
 use Rattle.tree_shape.specs.Digests.{digest}
 use Rattle.tree_shape.proofs.lemmas.ShapeFactLemmas.{levels-few}
 use Rattle.hash_tree.specs.Tree.{filled}
+use Rattle.tree_repair.specs.Bills.{Leaves, LeavesBlock, left_of, made_over}
+use Rattle.tree_repair.proofs.AskedLemmas.{make-ends}
+use Rattle.tree_repair.proofs.BillLemmas.{leaves-none, leaves-then}
 use Rattle.tree_repair.specs.Remaking.{ground}
 use Rattle.tree_repair.specs.Runs.{size_at}
 use Rattle.tree_repair.proofs.MakeLemmas.{above, block-next, both-none, both-then, digests, made-all, made-none, none-yet, over-before}
@@ -25,6 +28,12 @@ each-init g t c =
     let long : length c.args.block.now ≡ s.hash_block = c.requires.size ∙ ap (size_at s) (above c.args.making.from c.args.making.steps some) in
     record {
       read = both-none c.args.image.now;
+      asked =
+          let low : ℕ = c.args.making.from + (c.args.making.steps - 1) in
+          let first : ℕ = c.children_of-beneath.result.first in
+          let same : first ≡ first + 0 = omega arith in
+          subst (λ (n : ℕ). Leaves (made_over s c.args.making.from (left_of s low first)) (made_over s c.args.making.from (left_of s low n)) c.args.image.now c.args.image.now) same
+          (leaves-none (made_over s c.args.making.from (left_of s low first)) c.args.image.now);
       written = λ steady steadily. c.fill.ensures.after (λ y h. h) ∙ ap (λ (n : ℕ). replicate n 0) long ∙ sym (none-yet here (c.args.making.steps - 1) c.children_of-beneath.result.first s.hash_block);
     }
 
@@ -45,6 +54,11 @@ each-preserved g t c =
     let so_far : List ℕ = filled s.hash_block (digests here (c.args.making.steps - 1) first slot) in
     record {
       read = both-then c.args.image.now c.each.image c.make.new.image c.each.invariant.read c.make.ensures.read;
+      asked =
+          let low : ℕ = c.args.making.from + (c.args.making.steps - 1) in
+          let same : first + slot + 1 ≡ first + (slot + 1) = omega arith in
+          subst (λ (n : ℕ). Leaves (made_over s c.args.making.from (left_of s low first)) (made_over s c.args.making.from (left_of s low n)) c.args.image.now c.make.new.image) same
+          (leaves-then c.each.invariant.asked c.make.ensures.asked);
       written = λ steady steadily.
           let child = over-before s salt d h d1 h1 c.each.invariant.read.devices c.args.making.from (c.args.making.steps - 1) (first + slot) c.make.new.block (c.make.ensures.made c.if-not-make.false) steady steadily in
           c.put_digest.ensures
@@ -63,3 +77,32 @@ returns-clause-made g t c = λ ok steady steadily.
     c.each.invariant.written steady steadily
     ∙ ap (λ (k : ℕ). filled s.hash_block (digests here (c.args.making.steps - 1) first k)) all
     ∙ sym (made-all here c.args.making.steps c.args.making.number first c.children_of-beneath.result.count some c.children_of-beneath.ensures.first c.children_of-beneath.ensures.count)
+
+pub returns-then-steps-eq0-clause-asked : goal.returns-then-steps-eq0-clause-asked
+returns-then-steps-eq0-clause-asked g t c =
+    let s = c.args.repair.now.shape in
+    let m = c.args.making in
+    let same : m.from ≡ m.from + m.steps = omega (arith, c.if-steps-eq0.true) in
+    subst (λ (h : ℕ). LeavesBlock (made_over s m.from) s h m.number c.args.image.now c.read_at.new.image) same c.read_at.ensures.asked
+
+pub returns-then-not-make-clause-asked : goal.returns-then-not-make-clause-asked
+returns-then-not-make-clause-asked g t c =
+    let s = c.args.repair.now.shape in
+    let m = c.args.making in
+    let low : ℕ = m.from + (m.steps - 1) in
+    let first = c.children_of-beneath.result.first in
+    let slot = c.each.slot in
+    let same : first + slot + 1 ≡ first + (slot + 1) = omega arith in
+    make-ends s c.requires.have.valid m.from low (m.from + m.steps) m.number first (slot + 1) (above m.from m.steps (omega (arith, c.if-steps-eq0.false))) c.children_of-beneath.ensures.first
+    (omega (arith, c.each-test.true, c.children_of-beneath.ensures.count)) c.args.image.now c.make.new.image
+    (subst (λ (n : ℕ). Leaves (made_over s m.from (left_of s low first)) (made_over s m.from (left_of s low n)) c.args.image.now c.make.new.image) same
+    (leaves-then c.each.invariant.asked c.make.ensures.asked))
+
+pub returns-clause-asked : goal.returns-clause-asked
+returns-clause-asked g t c =
+    let s = c.args.repair.now.shape in
+    let m = c.args.making in
+    let low : ℕ = m.from + (m.steps - 1) in
+    let first = c.children_of-beneath.result.first in
+    make-ends s c.requires.have.valid m.from low (m.from + m.steps) m.number first c.each.slot (above m.from m.steps (omega (arith, c.if-steps-eq0.false))) c.children_of-beneath.ensures.first
+    (omega (arith, c.each.auto.slot-end, c.children_of-beneath.ensures.count)) c.args.image.now c.each.image c.each.invariant.asked

@@ -1,6 +1,8 @@
 use Rattle.std.proofs.Common.{◌≡◌, ◌≤◌, ◌-◌, IsTrue, map, suc, ap, refl, subst, sym, ◌∙◌, arith}
 use Rattle.verity_format.specs.Image.{data_sectors, tree_sectors}
 use Rattle.tree_path.proofs.lemmas.DeviceLemmas.{only_read-none}
+use Rattle.tree_repair.specs.Bills.{LeavesBlock, made_over}
+use Rattle.tree_repair.proofs.AskedLemmas.{made-data, made-hash}
 use Rattle.tree_repair.specs.Grounds.{IsOverIn, stands_in}
 use Rattle.tree_repair.specs.Remaking.{IsSure, count_at}
 use Rattle.tree_repair.specs.Runs.{size_at}
@@ -63,3 +65,22 @@ returns-clause-stands g c =
 pub returns-clause-sure : goal.returns-clause-sure
 returns-clause-sure g c =
     subst (λ (w : World). IsSure w.data_dev w.hash_dev c.read_hash.result) c.image.view_is (λ never none. c.read_hash.ensures.sure none)
+
+pub returns-then-height-eq0-clause-asked : goal.returns-then-height-eq0-clause-asked
+returns-then-height-eq0-clause-asked g c =
+    let s = c.args.shape.now in
+    let i = c.image.inside in
+    let a = world (g.D.BlockDev.state i.data) (g.H.BlockDev.state i.hash) (map g.C.BlockDev.state i.data_copies.items) (map g.C.BlockDev.state i.hash_copies.items) in
+    let d' = g.D.BlockDev.state c.read_data.new.data_dev in
+    subst (λ (w : World). LeavesBlock (made_over s c.args.height) s c.args.height c.args.number w (world d' a.hash_dev a.data_copies a.hash_copies)) c.image.view_is
+    (made-data s c.requires.have.valid c.args.height c.args.number c.if-height-eq0.true c.requires.inside a d' c.read_data.ensures.read c.read_data.ensures.asked)
+
+pub returns-clause-asked : goal.returns-clause-asked
+returns-clause-asked g c =
+    let s = c.args.shape.now in
+    let some : c.args.height ≡ suc (c.args.height - 1) = omega (arith, c.if-height-eq0.false) in
+    let i = c.image.inside in
+    let a = world (g.D.BlockDev.state i.data) (g.H.BlockDev.state i.hash) (map g.C.BlockDev.state i.data_copies.items) (map g.C.BlockDev.state i.hash_copies.items) in
+    let d' = g.H.BlockDev.state c.read_hash.new.hash_dev in
+    subst (λ (w : World). LeavesBlock (made_over s c.args.height) s c.args.height c.args.number w (world a.data_dev d' a.data_copies a.hash_copies)) c.image.view_is
+    (made-hash s c.requires.have.valid c.args.height (c.args.height - 1) c.args.number some c.requires.inside a d' c.read_hash.ensures.read c.read_hash.ensures.asked)

@@ -1,5 +1,14 @@
-use Rattle.std.proofs.Common.{arith}
+use Rattle.std.proofs.Common.{◌≡◌, ◌+◌, ◌-◌, ℕ, suc, inl, inr, ap, sym, subst, add-one, arith}
+use Rattle.std.proofs.lemmas.Bool.{cases_lt}
+use Rattle.tree_shape.specs.Shape.{ancestor}
 use Rattle.tree_shape.proofs.lemmas.ShapeFactLemmas.{levels-few}
+use Rattle.tree_path.specs.Path.{digest_on}
+use Rattle.tree_repair.specs.Bills.{Leaves}
+use Rattle.tree_repair.specs.Remaking.{IsUnlike, count_at, ground, made_on}
+use Rattle.tree_repair.specs.Runs.{size_at}
+use Rattle.tree_repair.proofs.AskedLemmas.{tried-all, tried-at, untried_of}
+use Rattle.tree_repair.proofs.BillLemmas.{leaves-none}
+use Rattle.tree_repair.proofs.MakeLemmas.{both-none, both-then, unlike-before}
 use Rattle.tree_repair.proofs.remaking.remake.Goals as goal
 
 pub overflow_add-level : goal.overflow_add-level
@@ -10,3 +19,63 @@ overflow_add-from g c = omega (arith, c.requires.level, levels-few c.args.repair
 
 pub overflow_add-steps : goal.overflow_add-steps
 overflow_add-steps g c = omega (arith, c.requires.level, levels-few c.args.repair.now.shape c.requires.have.valid)
+
+pub returns-then-is_made-clause-asked : goal.returns-then-is_made-clause-asked
+returns-then-is_made-clause-asked g c =
+    let s = c.args.repair.now.shape in
+    tried-all s c.requires.have.valid c.args.level c.args.index c.args.image.now c.is_made.new.image
+    (tried-at s c.args.level c.args.index (c.heights.from - 1) c.heights.from (c.args.level + 1 - (c.heights.from - 1)) c.block_on_path-number.result (omega (arith, c.heights-test.true)) (omega (arith, c.heights.invariant.high)) c.block_on_path-number.ensures.value
+    c.args.image.now c.heights.image c.is_made.new.image c.heights.invariant.asked c.is_made.ensures.asked)
+
+pub returns-clause-asked : goal.returns-clause-asked
+returns-clause-asked g c = tried-all c.args.repair.now.shape c.requires.have.valid c.args.level c.args.index c.args.image.now c.heights.image c.heights.invariant.asked
+
+pub is_made-requires-clause-inside : goal.is_made-requires-clause-inside
+is_made-requires-clause-inside g c =
+    let high : c.heights.from - 1 + (c.args.level + 1 - (c.heights.from - 1)) ≡ suc c.args.level = omega (arith, c.heights.invariant.high) in
+    omega (arith, c.block_on_path-number.ensures.inside, ap (count_at c.args.repair.now.shape) high)
+
+pub is_made-requires-clause-size : goal.is_made-requires-clause-size
+is_made-requires-clause-size g c =
+    let high : c.heights.from - 1 + (c.args.level + 1 - (c.heights.from - 1)) ≡ suc c.args.level = omega (arith, c.heights.invariant.high) in
+    omega (arith, c.heights.auto.block, c.requires.size, ap (size_at c.args.repair.now.shape) high)
+
+pub returns-then-is_made-clause-read : goal.returns-then-is_made-clause-read
+returns-then-is_made-clause-read g c = both-then c.args.image.now c.heights.image c.is_made.new.image c.heights.invariant.read c.is_made.ensures.read
+
+pub heights-init : goal.heights-init
+heights-init g c =
+    let s = c.args.repair.now.shape in
+    let number = ancestor s (suc c.args.level) c.args.index in
+    let due = untried_of s (suc c.args.level) number in
+    record {
+      high = omega arith;
+      read = both-none c.args.image.now;
+      asked = subst (λ (n : ℕ). Leaves (due (suc c.args.level)) (due n) c.args.image.now c.args.image.now) (sym (add-one c.args.level)) (leaves-none (due (suc c.args.level)) c.args.image.now);
+      none = λ k low high. absurd (omega (arith, low, high));
+    }
+
+pub heights-preserved : goal.heights-preserved
+heights-preserved g c =
+    let s = c.args.repair.now.shape in
+    let salt = c.args.repair.now.salt in
+    let d = c.args.image.now.data_dev in
+    let h = c.args.image.now.hash_dev in
+    let d1 = c.heights.image.data_dev in
+    let h1 = c.heights.image.hash_dev in
+    let from : ℕ = c.heights.from - 1 in
+    let level = c.args.level in
+    let unlike = rw (c.digest_at-digest.ensures, c.block_on_path-number.ensures.value) at c.is_made.ensures.none c.if-is_made.false in
+    record {
+      high = omega (arith, c.heights.invariant.high);
+      read = both-then c.args.image.now c.heights.image c.is_made.new.image c.heights.invariant.read c.is_made.ensures.read;
+      asked = tried-at s level c.args.index from c.heights.from (level + 1 - from) c.block_on_path-number.result (omega (arith, c.heights-test.true)) (omega (arith, c.heights.invariant.high)) c.block_on_path-number.ensures.value
+          c.args.image.now c.heights.image c.is_made.new.image c.heights.invariant.asked c.is_made.ensures.asked;
+      none = λ k low high. elim (cases_lt k c.heights.from) [
+        | inl new ↦
+            let here : k ≡ from = omega (arith, low, new) in
+            subst (λ (m : ℕ). IsUnlike salt d h (digest_on c.args.path.now c.args.index (level + 1)) (made_on (ground s salt d h m) level c.args.index)) (sym here)
+            (unlike-before s salt d h d1 h1 c.heights.invariant.read.devices from (level + 1 - from) (ancestor s (level + 1) c.args.index) (digest_on c.args.path.now c.args.index (level + 1)) unlike)
+        | inr old ↦ c.heights.invariant.none k old high
+      ];
+    }

@@ -1,16 +1,27 @@
-use Rattle.std.proofs.Common.{ℕ, List, length, ap, refl, ◌∙◌, arith, inl, inr}
+use Rattle.std.proofs.Common.{◌≡◌, ◌+◌, ◌-◌, ℕ, sym, subst, List, length, ap, refl, ◌∙◌, arith, inl, inr}
 use Rattle.std.proofs.lemmas.Bool.{cases_lt}
 use Rattle.std.proofs.lemmas.List.{length-replicate}
 use Rattle.tree_shape.proofs.lemmas.ShapeFactLemmas.{levels-few}
+use Rattle.tree_shape.specs.Shape.{levels}
+use Rattle.tree_repair.specs.Bills.{Leaves, pass_over}
+use Rattle.tree_repair.proofs.BillLemmas.{leaves-end, leaves-none}
+use Rattle.tree_repair.proofs.HeightLemmas.{heights-next, heights-pass, heights_over}
 use Rattle.tree_repair.proofs.PassLemmas.{noted-ends, noted-fewer, noted-from, noted-none, noted-not, noted-then}
 use Rattle.tree_repair.proofs.RunLemmas.{can-later, ends-read, world-none}
 use Rattle.tree_repair.proofs.repair.repair_heights.Goals as goal
 
-pub returns-in_err-room : goal.returns-in_err-room
-returns-in_err-room g c = noted-from c.from_residual.result _ c.from_residual.ensures.1 (noted-not (ends-read (world-none c.args.image.now)) refl)
+pub returns-in_err-room-clause-notes : goal.returns-in_err-room-clause-notes
+returns-in_err-room-clause-notes g c = noted-from c.from_residual.result _ c.from_residual.ensures.1 (noted-not (ends-read (world-none c.args.image.now)) refl)
 
 pub heights-init : goal.heights-init
-heights-init g c = record { low = omega (arith, c.levels-levels.ensures.value); run = noted-none (λ h i due. omega (arith, due.0, due.1.0, c.levels-levels.ensures.value)) }
+heights-init g c = record {
+  low = omega (arith, c.levels-levels.ensures.value);
+  asked =
+      let s = c.args.repair.now.shape in
+      let top : levels s + 1 ≡ c.levels-levels.result + 1 = ap (λ (n : ℕ). n + 1) (sym c.levels-levels.ensures.value) in
+      subst (λ (n : ℕ). Leaves (heights_over s (levels s + 1)) (heights_over s n) c.args.image.now c.args.image.now) top (leaves-none (heights_over s (levels s + 1)) c.args.image.now);
+  run = noted-none (λ h i due. omega (arith, due.0, due.1.0, c.levels-levels.ensures.value));
+}
 
 pub repair_height-requires-clause-can : goal.repair_height-requires-clause-can
 repair_height-requires-clause-can g c = can-later c.heights.invariant.run.run c.requires
@@ -28,7 +39,8 @@ repair_height-requires-clause-room g c =
 pub heights-preserved : goal.heights-preserved
 heights-preserved g c = record {
   low = omega (arith, c.heights.invariant.low);
-  run = noted-then c.heights.invariant.run c.in_ok-repair_height.ensures
+  asked = heights-next c.args.repair.now.shape c.heights.height (c.heights.height - 1) (omega (arith, c.heights-test.true)) c.args.image.now c.heights.image c.repair_height.new.image c.heights.invariant.asked c.repair_height.ensures.asked;
+  run = noted-then c.heights.invariant.run c.in_ok-repair_height.ensures.notes
       (λ h i due.
       elim (cases_lt h c.heights.height) [
         | inl below ↦ inr (omega (arith, below, due.0, c.heights-test.true), (omega arith, due.1.1))
@@ -36,9 +48,20 @@ heights-preserved g c = record {
       ]);
 }
 
-pub returns-in_err-repair_height : goal.returns-in_err-repair_height
-returns-in_err-repair_height g c =
-    noted-from c.from_residual-in_err-repair_height.result _ c.from_residual-in_err-repair_height.ensures.1 (noted-ends c.heights.invariant.run c.in_err-repair_height.ensures)
+pub returns-in_err-repair_height-clause-notes : goal.returns-in_err-repair_height-clause-notes
+returns-in_err-repair_height-clause-notes g c =
+    noted-from c.from_residual-in_err-repair_height.result _ c.from_residual-in_err-repair_height.ensures.1 (noted-ends c.heights.invariant.run c.in_err-repair_height.ensures.notes)
 
-pub returns : goal.returns
-returns g c = noted-fewer c.heights.invariant.run (λ h i due. (omega (arith, c.heights-test.false), due.1))
+pub returns-clause-notes : goal.returns-clause-notes
+returns-clause-notes g c = noted-fewer c.heights.invariant.run (λ h i due. (omega (arith, c.heights-test.false), due.1))
+
+pub returns-in_err-room-clause-asked : goal.returns-in_err-room-clause-asked
+returns-in_err-room-clause-asked g c = leaves-end (leaves-none (pass_over c.args.repair.now.shape) c.args.image.now)
+
+pub returns-in_err-repair_height-clause-asked : goal.returns-in_err-repair_height-clause-asked
+returns-in_err-repair_height-clause-asked g c =
+    heights-pass c.args.repair.now.shape c.requires.valid c.args.image.now c.repair_height.new.image
+    (heights-next c.args.repair.now.shape c.heights.height (c.heights.height - 1) (omega (arith, c.heights-test.true)) c.args.image.now c.heights.image c.repair_height.new.image c.heights.invariant.asked c.repair_height.ensures.asked)
+
+pub returns-clause-asked : goal.returns-clause-asked
+returns-clause-asked g c = heights-pass c.args.repair.now.shape c.requires.valid c.args.image.now c.heights.image c.heights.invariant.asked

@@ -1,6 +1,12 @@
-use Rattle.std.proofs.Common.{inl, false}
+use Rattle.std.proofs.Common.{ap, inl, inr, false, subst}
+use Rattle.std.specs.Prelude.{is_ok}
+use Rattle.tree_shape.specs.Shape.{ShapeRecord}
+use Rattle.verity_format.specs.Superblock.{shape_of}
+use Rattle.tree_repair.specs.Bills.{Leaves, nothing_due, pass_over}
+use Rattle.tree_repair.specs.Runs.{Job}
+use Rattle.tree_repair.proofs.BillLemmas.{one-pass}
 use Rattle.tree_repair.specs.Jobs.{job}
-use Rattle.tree_repair.proofs.RepairLemmas.{can-begin, err-from, whole-err, whole-ok}
+use Rattle.tree_repair.proofs.RepairLemmas.{can-begin, err-from, is_err-from, repairs-of, whole-err, whole-ok}
 use Rattle.tree_repair.proofs.repair.repair_image.Goals as goal
 
 pub repair_heights-requires : goal.repair_heights-requires
@@ -15,9 +21,24 @@ returns-in_err-superblock-clause-err g c =
 pub returns-clause-ok : goal.returns-clause-ok
 returns-clause-ok g c =
     whole-ok c.in_ok-superblock.superblock c.args.plan false (job c.repair_of-repair.result) c.args.image.now c.superblock_of.new.image c.repair_of-repair.ensures.job c.superblock_of.ensures.read
-    c.in_ok-superblock.ensures.ok c.repair_heights.new.image (g.W.Write.contents c.args.writer.now.inner) (g.W.Write.contents c.repair_heights.new.writer.inner) c.repair_heights.result c.repair_heights.ensures.run
+    c.in_ok-superblock.ensures.ok c.repair_heights.new.image (g.W.Write.contents c.args.writer.now.inner) (g.W.Write.contents c.repair_heights.new.writer.inner) c.repair_heights.result c.repair_heights.ensures.notes.run
 
 pub returns-clause-err : goal.returns-clause-err
 returns-clause-err g c =
     whole-err c.in_ok-superblock.superblock c.args.plan false (job c.repair_of-repair.result) c.args.image.now c.superblock_of.new.image c.repair_of-repair.ensures.job c.superblock_of.ensures.read
-    c.in_ok-superblock.ensures.ok c.repair_heights.new.image (g.W.Write.contents c.args.writer.now.inner) (g.W.Write.contents c.repair_heights.new.writer.inner) c.repair_heights.result c.repair_heights.ensures.run
+    c.in_ok-superblock.ensures.ok c.repair_heights.new.image (g.W.Write.contents c.args.writer.now.inner) (g.W.Write.contents c.repair_heights.new.writer.inner) c.repair_heights.result c.repair_heights.ensures.notes.run
+
+pub returns-in_err-superblock-clause-within : goal.returns-in_err-superblock-clause-within
+returns-in_err-superblock-clause-within g c = inl (is_err-from c.from_residual.result _ c.in_err-superblock.field-0.0 c.from_residual.ensures.1 c.in_err-superblock.ensures.err, c.superblock_of.ensures.alone)
+
+pub returns-clause-within : goal.returns-clause-within
+returns-clause-within g c =
+    let s = c.in_ok-superblock.superblock in
+    let old = g.W.Write.contents c.args.writer.now.inner in
+    let new = g.W.Write.contents c.repair_heights.new.writer.inner in
+    inr (record {
+      repairs = repairs-of s c.args.plan false (job c.repair_of-repair.result) c.args.image.now c.superblock_of.new.image c.repair_of-repair.ensures.job c.superblock_of.ensures.read
+          c.in_ok-superblock.ensures.ok c.repair_heights.new.image old new (is_ok c.repair_heights.result) c.repair_heights.ensures.notes.run;
+      within = one-pass (shape_of s) c.args.image.now c.superblock_of.new.image c.repair_heights.new.image c.in_ok-superblock.ensures.asked
+          (subst (λ (x : ShapeRecord). Leaves (pass_over x) nothing_due c.superblock_of.new.image c.repair_heights.new.image) (ap (λ (j : Job). j.tree.shape) c.repair_of-repair.ensures.job) c.repair_heights.ensures.asked);
+    })

@@ -1,8 +1,13 @@
-use Rattle.std.proofs.Common.{map, subst}
-use Rattle.std.specs.Prelude.{IfErr, IfOk}
+use Rattle.std.proofs.Common.{arith, map, refl, subst}
+use Rattle.std.specs.Prelude.{IfErr, IfOk, OnOk}
 use Rattle.tree_survey.specs.Causes.{AreImages}
+use Rattle.tree_path.proofs.lemmas.DeviceLemmas.{only_read-none}
+use Rattle.tree_path.specs.Steps.{HasReadAtMost}
+use Rattle.tree_repair.specs.Bills.{Leaves, nothing_due, reading}
+use Rattle.tree_repair.specs.Bounds.{IsHashReadAlone}
 use Rattle.tree_repair.specs.Repairs.{IsImageCause}
 use Rattle.tree_repair.specs.Worlds.{IsWorldRead, World, world}
+use Rattle.tree_repair.proofs.BillLemmas.{leaves-read, on_ok-map}
 use Rattle.tree_repair.proofs.RunLemmas.{tree-read}
 use Rattle.tree_repair.proofs.repair.superblock_of.Goals as goal
 
@@ -19,3 +24,20 @@ returns-clause-ok g c = subst (λ (w : World). IfOk c.superblock_on.result (AreI
 pub returns-clause-err : goal.returns-clause-err
 returns-clause-err g c =
     subst (λ (w : World). IfErr c.superblock_on.result (IsImageCause w.data_dev w.hash_dev (g.H.BlockDev.state c.superblock_on.new.hash_dev))) c.image.view_is c.superblock_on.ensures.err
+
+pub returns-clause-asked : goal.returns-clause-asked
+returns-clause-asked g c =
+    let i = c.image.inside in
+    let a = world (g.D.BlockDev.state i.data) (g.H.BlockDev.state i.hash) (map g.C.BlockDev.state i.data_copies.items) (map g.C.BlockDev.state i.hash_copies.items) in
+    let b = world a.data_dev (g.H.BlockDev.state c.superblock_on.new.hash_dev) a.data_copies a.hash_copies in
+    subst (λ (w : World). OnOk c.superblock_on.result (Leaves (reading 0 1) nothing_due w b)) c.image.view_is
+    (on_ok-map c.superblock_on.result (HasReadAtMost a.hash_dev 1 b.hash_dev) (Leaves (reading 0 1) nothing_due a b)
+    (leaves-read 0 1 a b (record { devices = record { data_read = only_read-none a.data_dev; hash_read = c.superblock_on.ensures.read }; data_copies_are = refl; hash_copies_are = refl }) (omega arith))
+    c.superblock_on.ensures.asked)
+
+pub returns-clause-alone : goal.returns-clause-alone
+returns-clause-alone g c =
+    let i = c.image.inside in
+    let a = world (g.D.BlockDev.state i.data) (g.H.BlockDev.state i.hash) (map g.C.BlockDev.state i.data_copies.items) (map g.C.BlockDev.state i.hash_copies.items) in
+    let h' = g.H.BlockDev.state c.superblock_on.new.hash_dev in
+    subst (λ (w : World). IsHashReadAlone w (world a.data_dev h' a.data_copies a.hash_copies)) c.image.view_is (record { data_is = refl; read = c.superblock_on.ensures.read; data_copies_are = refl; hash_copies_are = refl })

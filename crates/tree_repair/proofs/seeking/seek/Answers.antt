@@ -1,6 +1,7 @@
 use Rattle.std.proofs.Common.{◌≡◌, ◌/◌, ℕ, length, map, ap, sym, ◌∙◌, subst}
 use Rattle.std.specs.Prelude.{IfNone}
 use Rattle.std.proofs.lemmas.List.{length-map, with_items_is}
+use Rattle.tree_repair.specs.Bounds.{AreReadAtMost}
 use Rattle.tree_repair.specs.Sources.{AreEachRead, AreNotIn, wanted}
 use Rattle.tree_repair.proofs.seeking.seek.Goals as goal
 
@@ -20,3 +21,10 @@ returns-clause-none g c =
     let copies = c.args.copies.now in
     subst (λ (n : ℕ). IfNone c.seek_copies.result (AreNotIn (map state copies.items) c.args.first (wanted c.args.salt.now c.args.digest.now (length c.args.block.now / 512)) n)) (sym (length-map copies.items state))
     (rw c.as_mut_slice.ensures.value at c.seek_copies.ensures.none)
+
+pub returns-clause-asked : goal.returns-clause-asked
+returns-clause-asked g c =
+    let state = g.C.BlockDev.state in
+    let copies = c.args.copies.now in
+    let held : length c.seek_copies.new.copies ≡ copies.len = c.seek_copies.auto.copies ∙ ap (λ l. length l) c.as_mut_slice.ensures.value ∙ sym copies.ok.0 in
+    subst (λ l. AreReadAtMost (map state copies.items) (length c.args.block.now / 512) (map state l)) (sym (with_items_is copies c.seek_copies.new.copies held)) (rw c.as_mut_slice.ensures.value at c.seek_copies.ensures.asked)

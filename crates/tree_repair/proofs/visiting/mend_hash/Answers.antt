@@ -1,6 +1,7 @@
-use Rattle.std.proofs.Common.{length, IsTrue, map, subst, sym, ap}
+use Rattle.std.proofs.Common.{◌/◌, length, IsTrue, map, subst, sym, ap}
 use Rattle.std.specs.Prelude.{IfOk, OnErr}
 use Rattle.block_device.specs.Device.{IsInside}
+use Rattle.tree_repair.specs.Bills.{IsAskedOnce}
 use Rattle.tree_repair.specs.Looks.{tree_look}
 use Rattle.tree_repair.specs.Mending.{IsUnmended}
 use Rattle.tree_repair.specs.Visits.{IsLooked}
@@ -29,3 +30,10 @@ returns-clause-err g c =
 
 pub returns-clause-kept : goal.returns-clause-kept
 returns-clause-kept g c = record { device_is = ap (λ (w : World). w.data_dev) c.image.view_is; copies_are = ap (λ (w : World). w.data_copies) c.image.view_is }
+
+pub returns-clause-asked : goal.returns-clause-asked
+returns-clause-asked g c =
+    let i = c.image.inside in
+    let a = world (g.D.BlockDev.state i.data) (g.H.BlockDev.state i.hash) (map g.C.BlockDev.state i.data_copies.items) (map g.C.BlockDev.state i.hash_copies.items) in
+    let b = world a.data_dev (g.H.BlockDev.state c.mend.new.device) a.data_copies (map g.C.BlockDev.state c.mend.new.copies.items) in
+    subst (λ (w : World). IsAskedOnce (length c.args.block.now / 512) w.hash_dev b.hash_dev w.hash_copies b.hash_copies) c.image.view_is c.mend.ensures.asked

@@ -2,6 +2,7 @@ use Rattle.std.proofs.Common.{◌≡◌, ◌+◌, ◌-◌, ℕ, suc, ap, subst, 
 use Rattle.std.specs.Prelude.{IfOk, OnErr}
 use Rattle.tree_shape.proofs.lemmas.ShapeFactLemmas.{levels-few}
 use Rattle.tree_survey.specs.Surveys.{IsWay}
+use Rattle.tree_repair.specs.Bills.{LeavesVisit}
 use Rattle.tree_repair.specs.Jobs.{job}
 use Rattle.tree_repair.specs.Runs.{size_at}
 use Rattle.tree_repair.specs.Visits.{FailsToMake, IsMade}
@@ -55,3 +56,12 @@ returns-clause-err g c =
     let some : c.args.place.height ≡ suc (c.args.place.height - 1) = omega (arith, c.if-height-eq0.false) in
     hash-fails (job c.args.repair.now) c.args.path.now c.args.place.height c.args.place.index c.requires.inside c.requires.way (c.args.place.height - 1) some
     c.args.image.now c.visit_hash.new.image c.visit_hash.result c.visit_hash.ensures.err
+
+pub returns-then-height-eq0-clause-asked : goal.returns-then-height-eq0-clause-asked
+returns-then-height-eq0-clause-asked g c =
+    subst (λ (n : ℕ). LeavesVisit c.args.repair.now.shape n c.args.place.index c.args.image.now c.visit_data.new.image) (sym c.if-height-eq0.true) c.visit_data.ensures.asked
+
+pub returns-clause-asked : goal.returns-clause-asked
+returns-clause-asked g c =
+    let some : c.args.place.height ≡ suc (c.args.place.height - 1) = omega (arith, c.if-height-eq0.false) in
+    subst (λ (n : ℕ). LeavesVisit c.args.repair.now.shape n c.args.place.index c.args.image.now c.visit_hash.new.image) (sym some) c.visit_hash.ensures.asked

@@ -1,10 +1,12 @@
 use Rattle.std.proofs.Common.{◌/◌, map, refl, subst, sym, arith}
 use Rattle.std.specs.Prelude.{IfOk, OnErr}
 use Rattle.tree_path.proofs.lemmas.DeviceLemmas.{block-inside, block-size}
+use Rattle.tree_repair.specs.Bills.{LeavesVisit}
 use Rattle.tree_repair.specs.Jobs.{job}
 use Rattle.tree_repair.specs.Runs.{CanRun}
 use Rattle.tree_repair.specs.Visits.{FailsToMake, IsMade}
 use Rattle.tree_repair.specs.Worlds.{World, world}
+use Rattle.tree_repair.proofs.AskedLemmas.{visit-data}
 use Rattle.tree_repair.proofs.VisitLemmas.{data-fails, data-made}
 use Rattle.tree_repair.proofs.visiting.visit_data.Goals as goal
 
@@ -50,3 +52,13 @@ returns-clause-err g c =
     subst (λ (w : World). OnErr c.mend.result (FailsToMake (job c.args.repair.now) 0 c.args.index w (world d' a.hash_dev cs' a.hash_copies))) c.image.view_is
     (data-fails (job c.args.repair.now) c.args.path.now 0 c.args.index c.requires.inside c.requires.way refl a.data_dev d' a.hash_dev a.data_copies cs' a.hash_copies c.mend.result
     (rw (c.digest_at-digest.ensures, c.requires.size) at c.mend.ensures.err))
+
+pub returns-clause-asked : goal.returns-clause-asked
+returns-clause-asked g c =
+    let s = c.args.repair.now.shape in
+    let i = c.image.inside in
+    let a = world (g.D.BlockDev.state i.data) (g.H.BlockDev.state i.hash) (map g.C.BlockDev.state i.data_copies.items) (map g.C.BlockDev.state i.hash_copies.items) in
+    let d' = g.D.BlockDev.state c.mend.new.device in
+    let cs' = map g.C.BlockDev.state c.mend.new.copies.items in
+    subst (λ (w : World). LeavesVisit s 0 c.args.index w (world d' a.hash_dev cs' a.hash_copies)) c.image.view_is
+    (visit-data s c.requires.can.valid c.args.index c.requires.inside a d' cs' (rw c.requires.size at c.mend.ensures.asked))

@@ -4,6 +4,8 @@ use Rattle.tree_path.proofs.lemmas.DeviceLemmas.{block-size}
 use Rattle.tree_repair.specs.declared.mending.Mended.TheVariants as mended
 use Rattle.tree_repair.specs.Jobs.{job}
 use Rattle.tree_repair.proofs.SourceLemmas.{on_err-from}
+use Rattle.tree_repair.specs.Visits.{hash_look}
+use Rattle.tree_repair.proofs.AskedLemmas.{nowhere-unwritten, visit-found, visit-lost, visit-made}
 use Rattle.tree_repair.proofs.VisitLemmas.{hash-same, lost-seen, remade-seen}
 use Rattle.tree_repair.proofs.visiting.visit_hash.Goals as goal
 
@@ -79,3 +81,57 @@ returns-in_ok-put_hash-in-Lost-clause-ok g c =
       remade-seen (job c.args.repair.now) c.args.path.now c.args.level c.args.index c.args.image.now c.mend_hash.new.image c.remake.new.image c.mend_hash.ensures.kept f.1 c.remake.ensures.read
           c.remake.new.block true c.put_hash.new.image (c.remake.ensures.good c.if-not-remake.false) (c.remake.ensures.made c.if-not-remake.false) long (rw s.first at c.in_ok-put_hash-in-Lost.ensures),
     )
+
+pub returns-in_err-mend_hash-clause-asked : goal.returns-in_err-mend_hash-clause-asked
+returns-in_err-mend_hash-clause-asked g c =
+    visit-found c.args.repair.now.shape c.requires.can.valid c.args.level c.args.index c.requires.inside c.args.image.now c.mend_hash.new.image c.mend_hash.ensures.kept (rw c.requires.size at c.mend_hash.ensures.asked)
+
+pub returns-in-Good-clause-asked : goal.returns-in-Good-clause-asked
+returns-in-Good-clause-asked g c =
+    visit-found c.args.repair.now.shape c.requires.can.valid c.args.level c.args.index c.requires.inside c.args.image.now c.mend_hash.new.image c.mend_hash.ensures.kept (rw c.requires.size at c.mend_hash.ensures.asked)
+
+pub returns-in-Copy-clause-asked : goal.returns-in-Copy-clause-asked
+returns-in-Copy-clause-asked g c =
+    visit-found c.args.repair.now.shape c.requires.can.valid c.args.level c.args.index c.requires.inside c.args.image.now c.mend_hash.new.image c.mend_hash.ensures.kept (rw c.requires.size at c.mend_hash.ensures.asked)
+
+pub returns-in-Remade-clause-asked : goal.returns-in-Remade-clause-asked
+returns-in-Remade-clause-asked g c =
+    visit-found c.args.repair.now.shape c.requires.can.valid c.args.level c.args.index c.requires.inside c.args.image.now c.mend_hash.new.image c.mend_hash.ensures.kept (rw c.requires.size at c.mend_hash.ensures.asked)
+
+pub returns-in-Parity-clause-asked : goal.returns-in-Parity-clause-asked
+returns-in-Parity-clause-asked g c =
+    visit-found c.args.repair.now.shape c.requires.can.valid c.args.level c.args.index c.requires.inside c.args.image.now c.mend_hash.new.image c.mend_hash.ensures.kept (rw c.requires.size at c.mend_hash.ensures.asked)
+
+pub returns-then-not-remake-clause-asked : goal.returns-then-not-remake-clause-asked
+returns-then-not-remake-clause-asked g c =
+    let s = c.hash_sought-sought.ensures in
+    let shape = c.args.repair.now.shape in
+    let f = rw (c.in-Lost.is, s.copy, s.first, s.digest, c.requires.size) at c.in_ok-mend_hash.ensures.ok in
+    let a = c.args.image.now in
+    let m = c.mend_hash.new.image in
+    let unwritten = nowhere-unwritten (hash_look (job c.args.repair.now) c.args.path.now c.args.level c.args.index a.hash_dev m.hash_dev a.hash_copies m.hash_copies) f.1 in
+    visit-lost shape c.requires.can.valid c.args.level c.args.index c.requires.inside a m c.remake.new.image c.mend_hash.ensures.kept (rw c.requires.size at c.mend_hash.ensures.asked) unwritten c.remake.ensures.read c.remake.ensures.asked
+
+pub returns-in_err-put_hash-in-Lost-clause-asked : goal.returns-in_err-put_hash-in-Lost-clause-asked
+returns-in_err-put_hash-in-Lost-clause-asked g c =
+    let s = c.hash_sought-sought.ensures in
+    let shape = c.args.repair.now.shape in
+    let f = rw (c.in-Lost.is, s.copy, s.first, s.digest, c.requires.size) at c.in_ok-mend_hash.ensures.ok in
+    let a = c.args.image.now in
+    let m = c.mend_hash.new.image in
+    let unwritten = nowhere-unwritten (hash_look (job c.args.repair.now) c.args.path.now c.args.level c.args.index a.hash_dev m.hash_dev a.hash_copies m.hash_copies) f.1 in
+    let long : length c.remake.new.block ≡ c.args.repair.now.shape.hash_block = c.remake.auto.block ∙ c.mend_hash.auto.block ∙ c.requires.size in
+    visit-made shape c.requires.can.valid c.args.level c.args.index c.requires.inside a m c.remake.new.image c.mend_hash.ensures.kept (rw c.requires.size at c.mend_hash.ensures.asked) unwritten c.remake.ensures.read c.remake.ensures.asked
+    c.args.repair.now.write false _ c.remake.new.block c.put_hash.new.image long c.in_err-put_hash-in-Lost.ensures
+
+pub returns-in_ok-put_hash-in-Lost-clause-asked : goal.returns-in_ok-put_hash-in-Lost-clause-asked
+returns-in_ok-put_hash-in-Lost-clause-asked g c =
+    let s = c.hash_sought-sought.ensures in
+    let shape = c.args.repair.now.shape in
+    let f = rw (c.in-Lost.is, s.copy, s.first, s.digest, c.requires.size) at c.in_ok-mend_hash.ensures.ok in
+    let a = c.args.image.now in
+    let m = c.mend_hash.new.image in
+    let unwritten = nowhere-unwritten (hash_look (job c.args.repair.now) c.args.path.now c.args.level c.args.index a.hash_dev m.hash_dev a.hash_copies m.hash_copies) f.1 in
+    let long : length c.remake.new.block ≡ c.args.repair.now.shape.hash_block = c.remake.auto.block ∙ c.mend_hash.auto.block ∙ c.requires.size in
+    visit-made shape c.requires.can.valid c.args.level c.args.index c.requires.inside a m c.remake.new.image c.mend_hash.ensures.kept (rw c.requires.size at c.mend_hash.ensures.asked) unwritten c.remake.ensures.read c.remake.ensures.asked
+    c.args.repair.now.write true _ c.remake.new.block c.put_hash.new.image long c.in_ok-put_hash-in-Lost.ensures

@@ -12,7 +12,7 @@ levels-preserved g c =
           (sym c.both-whole.ensures)
           (tree-next c.args.path.now c.levels.path c.say_level.new.path (g.H.BlockDev.state c.args.device.now) (g.H.BlockDev.state c.levels.device) (g.H.BlockDev.state c.say_level.new.device)
           c.levels.level l (g.L.Listing.told c.args.listing.now) (g.L.Listing.told c.levels.listing) (g.L.Listing.told c.say_level.new.listing) c.levels.whole c.in_ok-good.good above
-          c.levels.invariant.said c.say_level.ensures.read c.in_ok-good.ensures.ok);
+          c.levels.invariant.said c.say_level.ensures.over c.in_ok-good.ensures.ok);
     }
 
 pub returns-clause-ok : goal.returns-clause-ok

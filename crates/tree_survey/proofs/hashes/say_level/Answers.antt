@@ -3,7 +3,7 @@ use Rattle.tree_shape.specs.Shape.{ShapeRecord}
 use Rattle.tree_shape.proofs.lemmas.ShapeFaultLemmas.{blocks-le}
 use Rattle.tree_survey.proofs.SayingLemmas.{first-at, level-bad, level-good}
 use Rattle.tree_survey.proofs.hashes.say_level.Goals as goal
-use Rattle.tree_survey.proofs.hashes.say_level.Goals.{then-not-branch+in_ok-say_hash, else-not-branch}
+use Rattle.tree_survey.proofs.hashes.say_level.Goals.{then-not-is_good+in_ok-say_hash, else-not-is_good}
 
 pub overflow_mul-number : goal.overflow_mul-number
 overflow_mul-number g c =
@@ -29,13 +29,13 @@ numbers-preserved g c =
     let p = c.args.path.now in
     let q = c.numbers.path in
     let r = c.is_good.new.path in
-    elim c.if-not-branch.branch [
-      | then-not-branch+in_ok-say_hash v ↦
+    elim c.if-not-is_good.branch [
+      | then-not-is_good+in_ok-say_hash v ↦
           rw (v.listing-is, v.whole-is, add-one c.numbers.number)
-          (level-bad p q r d d' d'' c.args.level c.numbers.number (c.numbers.number * c.span-width.result) old now c.numbers.whole c.numbers.invariant at.0 c.is_good.ensures.read (g.L.Listing.told v.say_hash.new.listing)
-          (rw v.if-not-branch.true at c.in_ok-is_good.ensures.ok) v.in_ok-say_hash.ensures.ok)
-      | else-not-branch v ↦
+          (level-bad p q r d d' d'' c.args.level c.numbers.number (c.numbers.number * c.span-width.result) old now c.numbers.whole c.numbers.invariant at.0 c.is_good.ensures.over (g.L.Listing.told v.say_hash.new.listing)
+          (rw v.if-not-is_good.true at c.is_good.ensures.ends) v.in_ok-say_hash.ensures.ok)
+      | else-not-is_good v ↦
           rw (v.listing-is, v.whole-is, add-one c.numbers.number)
-          (level-good p q r d d' d'' c.args.level c.numbers.number (c.numbers.number * c.span-width.result) old now c.numbers.whole c.numbers.invariant at.0 c.is_good.ensures.read
-          (rw v.if-not-branch.false at c.in_ok-is_good.ensures.ok))
+          (level-good p q r d d' d'' c.args.level c.numbers.number (c.numbers.number * c.span-width.result) old now c.numbers.whole c.numbers.invariant at.0 c.is_good.ensures.over
+          (rw v.if-not-is_good.false at c.is_good.ensures.ends))
     ]

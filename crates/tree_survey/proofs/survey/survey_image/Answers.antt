@@ -3,12 +3,13 @@ use Rattle.block_device.specs.Device.{Device}
 use Rattle.tree_shape.specs.Shape.{ShapeRecord}
 use Rattle.verity_format.specs.Superblock.{shape_of}
 use Rattle.tree_path.specs.Path.{IsPathOf}
-use Rattle.tree_path.proofs.lemmas.DeviceLemmas.{only_read-then}
 use Rattle.tree_survey.specs.Hashes.{tree_at}
 use Rattle.tree_survey.specs.Passes.{tree_in, tree_of}
 use Rattle.tree_survey.specs.Surveys.{Tree}
 use Rattle.tree_survey.proofs.SayingLemmas.{tree-same}
-use Rattle.tree_survey.proofs.SurveyLemmas.{bad-were, surveys-were, tree-of}
+use Rattle.tree_survey.specs.Failing.{IsReadOver}
+use Rattle.tree_survey.proofs.FailingLemmas.{over-same, over-then}
+use Rattle.tree_survey.proofs.SurveyLemmas.{hashes-were, surveys-were, tree-of}
 use Rattle.tree_survey.proofs.survey.survey_image.Goals as goal
 
 pub returns-clause-ok : goal.returns-clause-ok
@@ -28,15 +29,17 @@ returns-clause-ok g c =
     let begun : tree_in c.new-sight.result ≡ t = ap tree_in c.new-sight.ensures ∙ tree-of c.in_ok-superblock.superblock c.args.root.now c.in_ok-path.path path in
     let later : tree_at c.survey_data.new.sight.path ≡ t = tree-same c.new-sight.result.path c.survey_data.new.sight.path c.in_ok-totals.ensures.passed.same ∙ begun in
     let found = c.in_ok-whole_tree.ensures.ok in
+    let first : IsReadOver h0 h1 = over-same c.superblock_of.ensures.read c.in_ok-superblock.ensures.failures in
     record {
       s = c.in_ok-superblock.superblock;
       images = c.in_ok-superblock.ensures.ok;
       between = between;
-      surveys = surveys-were t (tree_in c.new-sight.result) d0 h0 h1 d1 h2 h3 old between c.in_ok-totals.totals begun c.superblock_of.ensures.read c.in_ok-totals.ensures.ok;
+      surveys = surveys-were t (tree_in c.new-sight.result) d0 h0 h1 d1 h2 h3 begun first c.survey_data.ensures.hash c.say_hashes.ensures.over old between c.in_ok-totals.totals c.in_ok-totals.ensures.ok;
       hashes = record {
         bad = found.found.bad;
-        stored = bad-were t (tree_at c.survey_data.new.sight.path) h0 h2 found.found.bad later (only_read-then c.superblock_of.ensures.read c.survey_data.ensures.hash) found.found.stored;
+        are = hashes-were t (tree_at c.survey_data.new.sight.path) h0 h2 h3 later (over-then first c.survey_data.ensures.hash) c.say_hashes.ensures.over found.found;
       };
+      hash_read = over-then first (over-then c.survey_data.ensures.hash c.say_hashes.ensures.over);
       whole = found.whole_is;
       printed_are = found.printed_are;
     }

@@ -5,6 +5,8 @@ use Rattle.stack_engine.specs.Stacks.{StackRecord}
 use Rattle.stack_engine.specs.Pieces.{stack_with}
 use Rattle.stack_meaning.specs.Changes.{NoneRead}
 use Rattle.stack_engine.specs.Uncut.{CutsNone}
+use Rattle.stack_lines.specs.WriteBudgets.{Counter, of_reads, of_writes, CountsAtMost, write_budget}
+use Rattle.stack_engine.specs.WritePieces.{PaysPiece}
 use Rattle.stack_lines.specs.Writing.{sectors_in, destination_of, Writes}
 use Rattle.stack_engine.specs.WritePieces.{EachWrite}
 use Rattle.stack_engine.proofs.CachedLemmas.{cached-checked}
@@ -68,6 +70,27 @@ returns-clause-uncut g c =
 
 pub returns-in-Err-clause-uncut : goal.returns-in-Err-clause-uncut
 returns-in-Err-clause-uncut g c = λ cuts. refl
+
+-- what is counted, of the stack as it was
+pays : (g : given.Over) (c : goal.After-drop-buffer g) (k : Counter)
+    → PaysPiece k c.args.self.now c.args.d.0 c.args.first (length c.args.bytes.now / 512) (stack_with c.self.inside.config (map g.D.BlockDev.state c.write_device.new.backing.devices.items) c.write_device.new.backing.cache.blocks)
+pays g c k =
+    let state = g.D.BlockDev.state in
+    let new = map state c.write_device.new.backing.devices.items in
+    let own = subst (λ (b : List ℕ). CountsAtMost k (write_budget c.self.inside.config k (mapped c.args.d.0) c.args.first (length b / 512)) (map state c.self.inside.backing.devices.items) new) (bytes_of g c) (c.write_device.ensures.paid k) in
+    subst (λ (w : StackRecord). CountsAtMost k (write_budget w.config k (mapped c.args.d.0) c.args.first (length c.args.bytes.now / 512)) w.leaves new) c.self.view_is own
+
+pub returns-clause-wrote : goal.returns-clause-wrote
+returns-clause-wrote g c = pays g c of_writes
+
+pub returns-clause-needed : goal.returns-clause-needed
+returns-clause-needed g c = pays g c of_reads
+
+pub returns-in-Err-clause-wrote : goal.returns-in-Err-clause-wrote
+returns-in-Err-clause-wrote g c = omega arith
+
+pub returns-in-Err-clause-needed : goal.returns-in-Err-clause-needed
+returns-in-Err-clause-needed g c = omega arith
 
 -- the blocks that are kept
 

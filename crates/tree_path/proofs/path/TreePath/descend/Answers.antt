@@ -1,7 +1,9 @@
-use Rattle.std.proofs.Common.{◌≡◌, ◌-◌, ◌+◌, ◌<◌, ℕ, suc, sym, arith, subst, true, false, add-one}
+use Rattle.std.proofs.Common.{◌≡◌, ◌-◌, ◌+◌, ◌*◌, ◌/◌, ◌<◌, ℕ, suc, sym, arith, subst, true, false, add-one}
 use Rattle.block_device.specs.Device.{Device}
 use Rattle.tree_path.specs.Path.{PathRecord}
-use Rattle.tree_path.specs.Steps.{IsDown, steps}
+use Rattle.tree_shape.specs.Shape.{ShapeRecord}
+use Rattle.tree_path.specs.Steps.{HasReadAtMost, IsDown, steps}
+use Rattle.tree_path.proofs.lemmas.DeviceLemmas.{at_most-fewer, at_most-more}
 use Rattle.tree_path.proofs.lemmas.PathLemmas.{down-bad, down-good, down-read}
 use Rattle.tree_path.proofs.path.TreePath.descend.Goals as goal
 
@@ -40,4 +42,41 @@ levels-preserved g c =
       down = down-good old mid new d dm d' c.args.index c.args.from l low down c.in_ok-load.field-0 c.in_ok-load.ensures.ok c.if-not-branch.false;
       low = omega (arith, c.levels-test.true);
       high = omega (arith, low);
+      asked =
+          let n : ℕ = old.shape.hash_block / 512 in
+          let here : HasReadAtMost dm n d' = subst (λ (s : ShapeRecord). HasReadAtMost dm (s.hash_block / 512) d') c.levels.invariant.down.same.shape_is c.load.ensures.asked in
+          at_most-more d dm d' n c.args.from l low (subst (λ (k : ℕ). HasReadAtMost d ((c.args.from - k) * n) dm) level c.levels.invariant.asked) here;
     }
+
+pub returns-in_err-load-clause-asked : goal.returns-in_err-load-clause-asked
+returns-in_err-load-clause-asked g c =
+    let l : ℕ = c.levels.level - 1 in
+    let level : c.levels.level ≡ suc l = omega (arith, c.levels-test.true) in
+    let old : PathRecord = c.args.self.now in
+    let d : Device = g.H.BlockDev.state c.args.device.now in
+    let dm : Device = g.H.BlockDev.state c.levels.device in
+    let d' : Device = g.H.BlockDev.state c.load.new.device in
+    let n : ℕ = old.shape.hash_block / 512 in
+    let low : l < c.args.from = omega (arith, level, c.levels.invariant.high) in
+    let here : HasReadAtMost dm n d' = subst (λ (s : ShapeRecord). HasReadAtMost dm (s.hash_block / 512) d') c.levels.invariant.down.same.shape_is c.load.ensures.asked in
+    let all : HasReadAtMost d ((c.args.from - l) * n) d' = at_most-more d dm d' n c.args.from l low (subst (λ (k : ℕ). HasReadAtMost d ((c.args.from - k) * n) dm) level c.levels.invariant.asked) here in
+    at_most-fewer d d' n (c.args.from - l) (c.args.from - c.args.to) (omega (arith, c.levels-test.true)) all
+
+pub returns-then-not-branch-clause-asked : goal.returns-then-not-branch-clause-asked
+returns-then-not-branch-clause-asked g c =
+    let l : ℕ = c.levels.level - 1 in
+    let level : c.levels.level ≡ suc l = omega (arith, c.levels-test.true) in
+    let old : PathRecord = c.args.self.now in
+    let d : Device = g.H.BlockDev.state c.args.device.now in
+    let dm : Device = g.H.BlockDev.state c.levels.device in
+    let d' : Device = g.H.BlockDev.state c.load.new.device in
+    let n : ℕ = old.shape.hash_block / 512 in
+    let low : l < c.args.from = omega (arith, level, c.levels.invariant.high) in
+    let here : HasReadAtMost dm n d' = subst (λ (s : ShapeRecord). HasReadAtMost dm (s.hash_block / 512) d') c.levels.invariant.down.same.shape_is c.load.ensures.asked in
+    let all : HasReadAtMost d ((c.args.from - l) * n) d' = at_most-more d dm d' n c.args.from l low (subst (λ (k : ℕ). HasReadAtMost d ((c.args.from - k) * n) dm) level c.levels.invariant.asked) here in
+    at_most-fewer d d' n (c.args.from - l) (c.args.from - c.args.to) (omega (arith, c.levels-test.true)) all
+
+pub returns-clause-asked : goal.returns-clause-asked
+returns-clause-asked g c =
+    at_most-fewer (g.H.BlockDev.state c.args.device.now) (g.H.BlockDev.state c.levels.device) (c.args.self.now.shape.hash_block / 512) (c.args.from - c.levels.level) (c.args.from - c.args.to)
+    (omega (arith, c.levels.invariant.low)) c.levels.invariant.asked

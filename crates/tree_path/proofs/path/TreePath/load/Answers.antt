@@ -94,3 +94,25 @@ returns-clause-ok g c =
           subst (λ (n : ℕ). IsBlockRead (g.H.BlockDev.state c.args.device.now) s.hash_block n b (g.H.BlockDev.state c.read_block.new.device)) place
           (subst (λ (n : ℕ). IsBlockRead (g.H.BlockDev.state c.args.device.now) n c.position-place.result b (g.H.BlockDev.state c.read_block.new.device)) size c.in_ok-read_block.ensures.ok);
     })
+
+pub returns-clause-asked : goal.returns-clause-asked
+returns-clause-asked g c =
+    let s = c.self.inside.shape in
+    let blocks = c.self.inside.blocks.items in
+    let v : Vec ℕ Global = c.index_mut.result.now in
+    let low = rw (← c.self.view_is) at c.requires.level in
+    let inside : c.args.level < length blocks = omega (arith, low, c.self.invariant.count, length-map blocks (λ b. b.items)) in
+    let sized : length v.items ≡ s.hash_block = read-sized blocks s.hash_block c.args.level v c.self.invariant.sized c.index_mut.ensures.value inside in
+    let size : length c.deref_mut.result.now ≡ s.hash_block = ap length c.deref_mut.ensures.value ∙ sized in
+    rw (← c.self.view_is) (rw size at c.read_block.ensures.asked)
+
+pub returns-in_err-read_block-clause-asked : goal.returns-in_err-read_block-clause-asked
+returns-in_err-read_block-clause-asked g c =
+    let s = c.self.inside.shape in
+    let blocks = c.self.inside.blocks.items in
+    let v : Vec ℕ Global = c.index_mut.result.now in
+    let low = rw (← c.self.view_is) at c.requires.level in
+    let inside : c.args.level < length blocks = omega (arith, low, c.self.invariant.count, length-map blocks (λ b. b.items)) in
+    let sized : length v.items ≡ s.hash_block = read-sized blocks s.hash_block c.args.level v c.self.invariant.sized c.index_mut.ensures.value inside in
+    let size : length c.deref_mut.result.now ≡ s.hash_block = ap length c.deref_mut.ensures.value ∙ sized in
+    rw (← c.self.view_is) (rw size at c.read_block.ensures.asked)

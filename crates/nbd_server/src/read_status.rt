@@ -1,0 +1,126 @@
+//! The status of bytes that are read for it: those of `verity` lines that ignore blocks of zeros.
+ghost use Rattle.std.specs.Prelude.{◌≡◌, ◌<◌, ◌≤◌, ◌+◌, ◌^◌, length, replicate, take, Ok, IfOk, IsTrue, OnErr};
+ghost use Rattle.std.specs.Str.{bytes_eq};
+ghost use Rattle.nbd_protocol.specs.Exports.{export_record};
+ghost use Rattle.nbd_server.specs.Premises.{AreBytesOf};
+ghost use Rattle.nbd_server.specs.Status.{AreReadAsZeros, HasStatus, TouchIgnoring};
+ghost use Rattle.nbd_server.specs.Transmission.{ReadsStatus, StaysOrReads};
+
+use crate::byte_range::read_bytes;
+use crate::status::{BlockStatus, MOST_EXTENTS, first_status, push_status};
+use block_device::BlockDev;
+use nbd_protocol::Export;
+use request_queue::Queue;
+use std::alloc::{AllocError, Global};
+
+// What is read ends at a multiple of so many bytes; where one extent is asked for at the next of fewer, since the rest of
+// them would be read for nothing.
+const LARGE: u64 = 262_144;
+
+const SMALL: u64 = 65_536;
+
+// Zeros are told by blocks, which end at multiples of so many bytes.
+const BLOCK: usize = 4096;
+
+static ZEROS: [u8; 4096] = [0; 4096];
+
+// How many bytes there are from a place on up to the end of what is read.
+fn room_at(at: u64, one: bool) -> u64
+    ensures some { 0 < result }
+    ensures few { result ≤ 262144 }
+{
+    if one {
+        return SMALL - at % SMALL;
+    }
+    LARGE - at % LARGE
+}
+
+// Whether the bytes of a block are zeros.
+fn are_zeros(block: &[u8]) -> bool
+    requires { length block.now ≤ 4096 }
+    ensures { result ≡ bytes_eq block.now (replicate (length block.now) 0) }
+{
+    block == &ZEROS[..block.len()]
+}
+
+// The first of these bytes, block by block, that are all zeros or have no block of zeros.
+fn first_run(at: u64, bytes: &[u8]) -> BlockStatus
+    requires some { 0 < length bytes.now }
+    requires few { length bytes.now ≤ 262144 }
+    ensures some { 0 < result.count }
+    ensures few { result.count ≤ length bytes.now }
+    ensures zeros { IsTrue result.zeros → take result.count bytes.now ≡ replicate result.count 0 }
+{
+    let mut done = bytes.len().min(BLOCK - (at % 4096) as usize);
+    let zeros = are_zeros(&bytes[..done]);
+    'run: while done < bytes.len() {
+        let end = bytes.len().min(done + BLOCK);
+        let same = are_zeros(&bytes[done..end]);
+        if same != zeros {
+            return BlockStatus {
+                count: done as u32,
+                zeros,
+            };
+        }
+        done = end;
+    }
+    BlockStatus {
+        count: done as u32,
+        zeros,
+    }
+}
+
+// What is told of bytes that were read, from a place on: of the first run alone if only `one` is asked for.
+fn tell_runs(alloc: Global, at: u64, bytes: &[u8], one: bool) -> Result<Vec<u8>, AllocError>
+    requires some { 0 < length bytes.now }
+    requires few { length bytes.now ≤ 262144 }
+    requires place { at + length bytes.now < 2 ^ 64 }
+    ensures { IfOk result (λ told. HasStatus (AreReadAsZeros at (Ok bytes.now)) at (length bytes.now) one told.items) }
+{
+    let first = first_run(at, bytes);
+    let mut told = first_status(alloc, first)?;
+    if one {
+        return Ok(told);
+    }
+    let mut done = first.count as usize;
+    for _extent in 1..MOST_EXTENTS {
+        if done == bytes.len() {
+            return Ok(told);
+        }
+        let run = first_run(at + done as u64, &bytes[done..]);
+        push_status(&mut told, run)?;
+        done += run.count as usize;
+    }
+    Ok(told)
+}
+
+/// Reads bytes of lines that ignore blocks of zeros, the first of so many, and tells which of them were read as zeros.
+///
+/// Bytes that can't be read are told as data: a READ of them says why, and a client that doesn't want them goes on.
+pub(crate) fn read_status<D: BlockDev>(
+    alloc: Global,
+    queue: &mut Queue<D>,
+    export: &Export<'_>,
+    offset: u64,
+    count: u32,
+    one: bool,
+) -> Result<Vec<u8>, AllocError>
+    requires bytes { AreBytesOf queue.old.stack.config (export_record export.now) offset count }
+    requires some { 0 < count }
+    requires ignoring { TouchIgnoring queue.old.stack.config (export_record export.now) offset count }
+    ensures ok { IfOk result (λ told. ReadsStatus (export_record export.now) queue.old offset count one told.items queue.new) }
+    ensures err { OnErr result (StaysOrReads (export_record export.now) queue.old offset count queue.new) }
+{
+    let room = room_at(offset, one).min(u64::from(count));
+    let size = room as u32;
+    match read_bytes(alloc, queue, export, offset, size) {
+        Ok(content) => tell_runs(alloc, offset, content.part(), one),
+        Err(_error) => {
+            let unknown = BlockStatus {
+                count: size,
+                zeros: false,
+            };
+            first_status(alloc, unknown)
+        }
+    }
+}

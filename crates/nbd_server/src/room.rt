@@ -1,0 +1,41 @@
+//! Where the pieces of a reply are read.
+ghost use Rattle.std.specs.Prelude.{◌≡◌, ◌≤◌, ◌+◌, drop, length, take, OnOk};
+
+use nbd_protocol::zeros;
+use std::alloc::{AllocError, Global};
+
+/// Memory, and a buffer of it that is kept from one piece to the next.
+#[derive(Drop)]
+pub(crate) struct Room {
+    pub(crate) alloc: Global,
+    pub(crate) bytes: Vec<u8>,
+}
+
+impl Room {
+    /// A buffer of no bytes.
+    pub(crate) fn new(alloc: Global) -> Room {
+        Room {
+            alloc,
+            bytes: Vec::new(alloc),
+        }
+    }
+
+    /// Sees to it that the buffer has so many bytes at least. What it had isn't kept where it grows.
+    pub(crate) fn grow(&mut self, count: usize) -> Result<(), AllocError>
+        ensures { OnOk result (count ≤ length self.new.bytes.items) }
+    {
+        if count <= self.bytes.len() {
+            return Ok(());
+        }
+        self.bytes = zeros(self.alloc, count)?;
+        Ok(())
+    }
+
+    /// Some bytes of the buffer.
+    pub(crate) fn part(&self, start: usize, count: usize) -> &[u8]
+        requires { start + count ≤ length self.now.bytes.items }
+        ensures { result.now ≡ take count (drop start self.now.bytes.items) }
+    {
+        &self.bytes[start..start + count]
+    }
+}

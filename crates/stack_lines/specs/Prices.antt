@@ -1,0 +1,76 @@
+-- What some sectors of a device cost, where each run of them has a price.
+use Rattle.std.specs.Prelude.{ℕ, zero, suc, ◌+◌, Bool, List, slice_get, Option, Some, None, if◌then◌else◌}
+use Rattle.dm_table.specs.declared.table.Line.{Line}
+use Rattle.stack_rules.specs.declared.lower.Lower.{Lower}
+use Rattle.stack_rules.specs.declared.lower.Lower.TheVariants.{Leaf as leaf, Device as device}
+use Rattle.stack_rules.specs.Records.{Configuration}
+use Rattle.stack_rules.specs.Names.{lines_of}
+use Rattle.stack_rules.specs.Descend.{descend, by_name}
+use Rattle.stack_meaning.specs.Puts.{together, in_one_run}
+use Rattle.stack_meaning.specs.Sectors.{OnLine, sector_rule}
+use Rattle.stack_meaning.specs.TargetMeaning.{Meant, handed, own}
+use Rattle.stack_lines.specs.declared.source.BlockPart.{BlockPart}
+use Rattle.stack_lines.specs.declared.source.Source.{Source}
+use Rattle.stack_lines.specs.declared.source.Source.TheVariants.{Below, Units, UnitPart, Zeros, Fails, Block, Blocks}
+
+-- ---- runs
+
+-- what n sectors from one on cost
+abbrev pub Pricing : Type 0
+Pricing = ℕ → ℕ → ℕ
+
+-- a run from sector s on that has k sectors more, and n sectors behind it, where those that go down together are one run
+abbrev pub run_and_behind : (ℕ → Bool) → Pricing → ℕ → ℕ → ℕ → ℕ
+run_and_behind together price s k zero = price s (suc k)
+run_and_behind together price s k (suc n) =
+    if together (s + k) then run_and_behind together price s (suc k) n
+    else price s (suc k) + run_and_behind together price (s + suc k) 0 n
+
+-- n sectors from s on, each of their runs at its price
+abbrev pub by_runs : (ℕ → Bool) → Pricing → Pricing
+by_runs together price s zero = 0
+by_runs together price s (suc n) = run_and_behind together price s 0 n
+
+-- ---- devices
+
+-- what n sectors of a leaf cost, and what n sectors of a line do that go down together, where at says it of those beneath
+pub record Prices : Type 0 where
+  pub leaf : ℕ → ℕ
+  pub line : OnLine (ℕ → ℕ)
+
+-- a run that is handed on costs what it does beneath; one of another line what is said of it
+abbrev pub price_as : Meant → (ℕ → ℕ) → ℕ → ℕ → ℕ
+price_as handed beneath once n = beneath n
+price_as (own m) beneath once n = once
+
+-- a device's sectors cost what each run of them does
+abbrev pub price_rule : Configuration → Prices → (Lower → Pricing) → Lower → Pricing
+price_rule c p below (leaf i) s n = p.leaf n
+price_rule c p below (device d) s n = by_runs (in_one_run c d.0) (sector_rule c (λ n. 0) (λ i s n. n) p.line below (device d)) s n
+
+-- what n sectors from s of a leaf or device on cost
+abbrev pub priced : Configuration → Prices → Lower → Pricing
+priced c p = descend (λ s n. 0) (price_rule c p)
+
+abbrev pub priced_by_name : Configuration → Prices → List ℕ → Pricing
+priced_by_name c p = by_name c (λ s n. 0) (priced c p)
+
+-- ---- where the sectors come from and go to
+
+-- of line l of device d, where the line was looked for
+abbrev pub price_of_line : Configuration → Prices → ℕ → ℕ → Option Line → Pricing
+price_of_line c p d l None s n = 0
+price_of_line c p d l (Some line) s n = by_runs (together line.target) (p.line (priced_by_name c p) d l line.target) s n
+
+abbrev pub part_price : Configuration → Prices → BlockPart → ℕ → ℕ
+part_price c p b n = price_of_line c p b.device.0 b.line (slice_get (lines_of c b.device.0) b.line) b.first n
+
+-- of the first n sectors of a source
+abbrev pub source_price : Configuration → Prices → Source → ℕ → ℕ
+source_price c p (Below lower first) n = priced c p lower first n
+source_price c p (Units b) n = part_price c p b n
+source_price c p (UnitPart b) n = part_price c p b n
+source_price c p Zeros n = 0
+source_price c p Fails n = 0
+source_price c p (Block b) n = part_price c p b n
+source_price c p (Blocks b) n = part_price c p b n

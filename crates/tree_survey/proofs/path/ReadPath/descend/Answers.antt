@@ -1,0 +1,78 @@
+use Rattle.std.proofs.Common.{◌≡◌, ◌-◌, ◌+◌, ◌<◌, ℕ, suc, refl, sym, arith, subst, true, false, add-one, rules}
+use Rattle.block_device.specs.Device.{Device}
+use Rattle.tree_path.specs.Path.{PathRecord}
+use Rattle.tree_path.specs.Steps.{IsDown, IsLoaded, steps}
+use Rattle.tree_path.proofs.lemmas.PathLemmas.{down-bad, down-good, down-read}
+use Rattle.tree_survey.proofs.FailingLemmas.{over-full, over-then}
+use Rattle.tree_survey.proofs.ReachLemmas.{cut-off}
+use Rattle.tree_survey.proofs.path.ReadPath.descend.Goals as goal
+
+pub returns-in-Some-false-clause-over : goal.returns-in-Some-false-clause-over
+returns-in-Some-false-clause-over g c = over-then (over-full _ c.levels.invariant.down.full) c.load.ensures.over
+
+pub returns-in-None-clause-over : goal.returns-in-None-clause-over
+returns-in-None-clause-over g c = over-then (over-full _ c.levels.invariant.down.full) c.load.ensures.over
+
+pub returns-clause-over : goal.returns-clause-over
+returns-clause-over g c = over-full _ c.levels.invariant.down.full
+
+pub returns-in-Some-false-clause-ends : goal.returns-in-Some-false-clause-ends
+returns-in-Some-false-clause-ends g c =
+    let l : ℕ = c.levels.level - 1 in
+    let level : c.levels.level ≡ suc l = omega (arith, c.levels-test.true) in
+    let next : suc l ≡ l + 1 = sym (add-one l) in
+    let old : PathRecord = c.args.self.now in
+    let mid : PathRecord = c.levels.self in
+    let new : PathRecord = c.load.new.self in
+    let d : Device = g.H.BlockDev.state c.args.device.now in
+    let dm : Device = g.H.BlockDev.state c.levels.device in
+    let d' : Device = g.H.BlockDev.state c.load.new.device in
+    let low : l < c.args.from = omega (arith, level, c.levels.invariant.high) in
+    let down : IsDown (steps old mid d dm c.args.index c.args.from) (suc l) (suc l) = subst (λ (n : ℕ). IsDown (steps old mid d dm c.args.index c.args.from) n n) level c.levels.invariant.down in
+    let good = c.in-Some-false.field-0 in
+    let is : good ≡ false = search rules in
+    let loaded : IsLoaded (steps mid new dm d' c.args.index l) good = rw c.in-Some-false.is at c.load.ensures.ends in
+    record {
+      between = (omega arith, low);
+      down = subst (λ (n : ℕ). IsDown (steps old new d d' c.args.index c.args.from) n l) next (down-read old mid new d dm d' c.args.index c.args.from l low down good loaded);
+      bad = down-bad old mid new d dm d' c.args.index c.args.from l low down good loaded is;
+    }
+
+pub returns-in-None-clause-ends : goal.returns-in-None-clause-ends
+returns-in-None-clause-ends g c =
+    let l : ℕ = c.levels.level - 1 in
+    let level : c.levels.level ≡ suc l = omega (arith, c.levels-test.true) in
+    let old : PathRecord = c.args.self.now in
+    let mid : PathRecord = c.levels.self in
+    let new : PathRecord = c.load.new.self in
+    let d : Device = g.H.BlockDev.state c.args.device.now in
+    let dm : Device = g.H.BlockDev.state c.levels.device in
+    let d' : Device = g.H.BlockDev.state c.load.new.device in
+    let low : l < c.args.from = omega (arith, level, c.levels.invariant.high) in
+    let down : IsDown (steps old mid d dm c.args.index c.args.from) (suc l) (suc l) = subst (λ (n : ℕ). IsDown (steps old mid d dm c.args.index c.args.from) n n) level c.levels.invariant.down in
+    cut-off old mid new d dm d' c.args.index c.args.from l low down (rw c.in-None.is at c.load.ensures.ends) c.load.ensures.over
+
+pub levels-preserved : goal.levels-preserved
+levels-preserved g c =
+    let l : ℕ = c.levels.level - 1 in
+    let level : c.levels.level ≡ suc l = omega (arith, c.levels-test.true) in
+    let old : PathRecord = c.args.self.now in
+    let mid : PathRecord = c.levels.self in
+    let new : PathRecord = c.load.new.self in
+    let d : Device = g.H.BlockDev.state c.args.device.now in
+    let dm : Device = g.H.BlockDev.state c.levels.device in
+    let d' : Device = g.H.BlockDev.state c.load.new.device in
+    let low : l < c.args.from = omega (arith, level, c.levels.invariant.high) in
+    let down : IsDown (steps old mid d dm c.args.index c.args.from) (suc l) (suc l) = subst (λ (n : ℕ). IsDown (steps old mid d dm c.args.index c.args.from) n n) level c.levels.invariant.down in
+    let good = c.in-Some-true.field-0 in
+    let is : good ≡ true = search rules in
+    let loaded : IsLoaded (steps mid new dm d' c.args.index l) good = rw c.in-Some-true.is at c.load.ensures.ends in
+    record {
+      down = down-good old mid new d dm d' c.args.index c.args.from l low down good loaded is;
+      high = omega (arith, low);
+    }
+
+pub returns-clause-ends : goal.returns-clause-ends
+returns-clause-ends g c =
+    let none : c.levels.level ≡ 0 = omega (arith, c.levels-test.false) in
+    subst (λ (n : ℕ). IsDown (steps c.args.self.now c.levels.self (g.H.BlockDev.state c.args.device.now) (g.H.BlockDev.state c.levels.device) c.args.index c.args.from) n n) none c.levels.invariant.down

@@ -1,0 +1,114 @@
+use Rattle.std.proofs.Common.{◌≡◌, ◌≢◌, ◌≤◌, ◌<◌, ◌+◌, ◌/◌, ℕ, List, Vec, Global, arith, ap, refl, sym, subst, ◌∙◌, [], length, get_or, get_or-set_same, get_or-set_other, map}
+use Rattle.std.specs.Prelude.{slice_set}
+use Rattle.std.specs.Str.{bytes_eq}
+use Rattle.std.specs.Vec.{with_items}
+use Rattle.std.proofs.lemmas.List.{length-map, with_items_is}
+use Rattle.block_device.specs.Device.{Device}
+use Rattle.tree_shape.specs.Digests.{digest}
+use Rattle.tree_shape.specs.Shape.{levels, ancestor, position, area_end}
+use Rattle.tree_shape.proofs.lemmas.ShapeFactLemmas.{levels-few}
+use Rattle.verity_format.specs.Blocks.{IsBlockRead}
+use Rattle.tree_path.specs.Path.{IsPath, PathRecord, digest_on}
+use Rattle.tree_survey.specs.Seen.{seen}
+use Rattle.tree_path.specs.Steps.{IsLoaded, steps}
+use Rattle.tree_path.proofs.MemoryLemmas.{bytes_of, path-put, put-is, read-is, read-sized, with_block}
+use Rattle.tree_path.proofs.lemmas.DeviceLemmas.{block-size, block-inside}
+use Rattle.tree_path.proofs.lemmas.PathLemmas.{digest_on-same}
+use Rattle.tree_survey.proofs.path.ReadPath.load.Goals as goal
+
+pub read_block-requires : goal.read_block-requires
+read_block-requires g c =
+    let s = c.self.inside.shape in
+    let blocks = c.self.inside.blocks.items in
+    let low = rw (← c.self.view_is) at c.requires.level in
+    let fits = rw (← c.self.view_is) at c.requires.fits in
+    let inside : c.args.level < length blocks = omega (arith, low, c.self.invariant.count, length-map blocks (λ b. b.items)) in
+    let size : length c.deref_mut.result.now ≡ s.hash_block = ap length c.deref_mut.ensures.value ∙ read-sized blocks s.hash_block c.args.level c.index_mut.result.now c.self.invariant.sized c.index_mut.ensures.value inside in
+    let block = block-size s.hash_block c.self.invariant.valid.hash_size in
+    let room = block-inside c.position-place.result (area_end s) (s.hash_block / 512) c.position-place.ensures.inside in
+    record {
+      some = omega (arith, size, block.some);
+      whole = rw size block.whole;
+      inside = rw size (omega (arith, room, fits));
+      few = rw size (omega (arith, room, c.self.invariant.valid.tree_fits));
+    }
+
+pub overflow_add-level : goal.overflow_add-level
+overflow_add-level g c =
+    let low = rw (← c.self.view_is) at c.requires.level in
+    omega (arith, low, levels-few c.self.inside.shape c.self.invariant.valid)
+
+pub invariant_of-self : goal.invariant_of-self
+invariant_of-self g c =
+    let s = c.self.inside.shape in
+    let blocks = c.self.inside.blocks.items in
+    let v : Vec ℕ Global = c.index_mut.result.now in
+    let low = rw (← c.self.view_is) at c.requires.level in
+    let inside : c.args.level < length blocks = omega (arith, low, c.self.invariant.count, length-map blocks (λ b. b.items)) in
+    let sized : length v.items ≡ s.hash_block = read-sized blocks s.hash_block c.args.level v c.self.invariant.sized c.index_mut.ensures.value inside in
+    let long : length c.read_block.new.block ≡ length v.items = c.read_block.auto.block ∙ ap length c.deref_mut.ensures.value in
+    subst (λ (bs : List (List ℕ)). IsPath (record { shape = s; salt = c.self.inside.salt; root = c.self.inside.root; blocks = bs }))
+    (sym (put-is blocks c.args.level v c.read_block.new.block (long ∙ sym v.ok.0)))
+    (path-put (seen c.self.inside) c.args.level c.read_block.new.block c.self.invariant (long ∙ sized))
+
+pub invariant_of-self-2 : goal.invariant_of-self-2
+invariant_of-self-2 g c =
+    let s = c.self.inside.shape in
+    let blocks = c.self.inside.blocks.items in
+    let v : Vec ℕ Global = c.index_mut.result.now in
+    let low = rw (← c.self.view_is) at c.requires.level in
+    let inside : c.args.level < length blocks = omega (arith, low, c.self.invariant.count, length-map blocks (λ b. b.items)) in
+    let sized : length v.items ≡ s.hash_block = read-sized blocks s.hash_block c.args.level v c.self.invariant.sized c.index_mut.ensures.value inside in
+    let long : length c.read_block.new.block ≡ length v.items = c.read_block.auto.block ∙ ap length c.deref_mut.ensures.value in
+    subst (λ (bs : List (List ℕ)). IsPath (record { shape = s; salt = c.self.inside.salt; root = c.self.inside.root; blocks = bs }))
+    (sym (put-is blocks c.args.level v c.read_block.new.block (long ∙ sym v.ok.0)))
+    (path-put (seen c.self.inside) c.args.level c.read_block.new.block c.self.invariant (long ∙ sized))
+
+pub returns-then-not-read_block-clause-ends : goal.returns-then-not-read_block-clause-ends
+returns-then-not-read_block-clause-ends g c =
+    let s = c.self.inside.shape in
+    let blocks = c.self.inside.blocks.items in
+    let v : Vec ℕ Global = c.index_mut.result.now in
+    let b : List ℕ = c.read_block.new.block in
+    let l : ℕ = c.args.level in
+    let low = rw (← c.self.view_is) at c.requires.level in
+    let inside : l < length blocks = omega (arith, low, c.self.invariant.count, length-map blocks (λ b. b.items)) in
+    let long : length b ≡ v.len = c.read_block.auto.block ∙ ap length c.deref_mut.ensures.value ∙ sym v.ok.0 in
+    let put : bytes_of (slice_set blocks l (with_items v b)) ≡ slice_set (bytes_of blocks) l b = put-is blocks l v b long in
+    rw (← c.self.view_is) (record {
+      block = b;
+      inside = omega (arith, inside, length-map blocks (λ b. b.items));
+      is = ap (λ (bs : List (List ℕ)). record { shape = s; salt = c.self.inside.salt; root = c.self.inside.root; blocks = bs }) put;
+      failed = rw c.if-not-read_block.true at c.read_block.ensures.ends;
+    })
+
+pub returns-clause-ends : goal.returns-clause-ends
+returns-clause-ends g c =
+    let s = c.self.inside.shape in
+    let blocks = c.self.inside.blocks.items in
+    let v : Vec ℕ Global = c.index_mut.result.now in
+    let b : List ℕ = c.read_block.new.block in
+    let l : ℕ = c.args.level in
+    let low = rw (← c.self.view_is) at c.requires.level in
+    let inside : l < length blocks = omega (arith, low, c.self.invariant.count, length-map blocks (λ b. b.items)) in
+    let sized : length v.items ≡ s.hash_block = read-sized blocks s.hash_block l v c.self.invariant.sized c.index_mut.ensures.value inside in
+    let size : length c.deref_mut.result.now ≡ s.hash_block = ap length c.deref_mut.ensures.value ∙ sized in
+    let long : length b ≡ v.len = c.read_block.auto.block ∙ ap length c.deref_mut.ensures.value ∙ sym v.ok.0 in
+    let put : bytes_of (slice_set blocks l (with_items v b)) ≡ slice_set (bytes_of blocks) l b = put-is blocks l v b long in
+    let found : c.deref.result.now ≡ b =
+    c.deref.ensures.value ∙ ap (λ (x : Vec ℕ Global). x.items) (c.index.ensures ∙ get_or-set_same blocks l (with_items v b) c.index.result.now inside) ∙ with_items_is v b long in
+    let old : PathRecord = seen c.self.inside in
+    let new : PathRecord = record { shape = s; salt = c.self.inside.salt; root = c.self.inside.root; blocks = bytes_of (slice_set blocks l (with_items v b)) } in
+    let next : l + 1 ≢ l = omega arith in
+    let expected : digest_on new c.args.index (l + 1) ≡ digest_on old c.args.index (l + 1) =
+    digest_on-same new old c.args.index (l + 1) refl refl (ap (λ (bs : List (List ℕ)). get_or bs (l + 1) []) put ∙ get_or-set_other (bytes_of blocks) l (l + 1) b [] next) in
+    rw (← c.self.view_is) (record {
+      block = b;
+      inside = omega (arith, inside, length-map blocks (λ b. b.items));
+      is = ap (λ (bs : List (List ℕ)). record { shape = s; salt = c.self.inside.salt; root = c.self.inside.root; blocks = bs }) put;
+      test = c.is_same.ensures ∙ ap (λ (x : List ℕ). bytes_eq x c.digest_at.result) (c.digest-found.ensures ∙ ap (digest c.self.inside.salt) found) ∙ ap (bytes_eq (digest c.self.inside.salt b)) (c.digest_at.ensures ∙ expected);
+      read =
+          let place : c.position-place.result ≡ position s l (ancestor s (l + 1) c.args.index) = c.position-place.ensures.value ∙ ap (position s l) c.block_on_path.ensures.value in
+          subst (λ (n : ℕ). IsBlockRead (g.H.BlockDev.state c.args.device.now) s.hash_block n b (g.H.BlockDev.state c.read_block.new.device)) place
+          (subst (λ (n : ℕ). IsBlockRead (g.H.BlockDev.state c.args.device.now) n c.position-place.result b (g.H.BlockDev.state c.read_block.new.device)) size (rw c.if-not-read_block.false at c.read_block.ensures.ends));
+    })

@@ -1,0 +1,32 @@
+-- Hash blocks that are read on the way down to a data block, of which some may be unreadable.
+use Rattle.std.specs.Prelude.{◌≡◌, ℕ, ◌+◌, ◌<◌, Bool, List, length, Option, Some, None, slice_set}
+use Rattle.block_device.specs.Device.{Device}
+use Rattle.tree_path.specs.Steps.{IsDown, IsLoaded, IsStopped, Steps}
+use Rattle.tree_survey.specs.declared.path.Reach.{Reach}
+use Rattle.tree_survey.specs.declared.path.Reach.TheVariants.{All, Bad, Unread}
+use Rattle.tree_survey.specs.Failing.{HasFailedRead}
+
+-- the hash block of level `from` couldn't be read, and what is kept for it is anything
+pub record IsUnloaded (w : Steps) : Type 0 where
+  pub block : List ℕ
+  pub inside : w.from < length w.old.blocks
+  pub is : w.new ≡ record w.old { blocks = slice_set w.old.blocks w.from block }
+  pub failed : HasFailedRead w.device w.device'
+
+-- it was read, and is good or not; or it couldn't be
+abbrev pub IsLoadedOr : Steps → Option Bool → Type 0
+IsLoadedOr w (Some good) = IsLoaded w good
+IsLoadedOr w None = IsUnloaded w
+
+-- the hash blocks of the levels below `from` down to one are good, and the one beneath that couldn't be read
+pub record IsCutOff (w : Steps) (level : ℕ) : Type 0 where
+  pub low : level < w.from
+  pub between : Device
+  pub down : IsDown (record w { device' = between }) (level + 1) (level + 1)
+  pub failed : HasFailedRead w.device w.device'
+
+-- all of them are good, or those above one that isn't, or above one that couldn't be read
+abbrev pub HasReached : Steps → Reach → Type 0
+HasReached w All = IsDown w 0 0
+HasReached w (Bad level) = IsStopped w 0 level
+HasReached w (Unread level) = IsCutOff w level
