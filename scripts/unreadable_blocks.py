@@ -4,7 +4,8 @@
 unreadable_blocks.py [--cases N] [--seed S] [PROGRAM]: formats images by the model of scripts/model, changes blocks of the data and
 of the tree, and has reads of other sectors fail (scripts/unreadable_sectors.c). What `verify --all` prints must be what the model says
 of blocks that can't be read or aren't good. A `repair` by a whole copy must leave the formatted block wherever all hash blocks above
-it can be read, each other one as it was, and print at its end what `verify --all` prints of that; so must `repair --check` of the image as it stands. Where the superblock can't be read each ends so.
+it can be read, each other one as it was, and print at its end what `verify --all` prints of that; of a round with parity as many blocks come
+back as a codeword has bytes of it. So must `repair --check` of the image as it stands. Where the superblock can't be read each ends so.
 """
 import argparse
 import os
@@ -19,6 +20,7 @@ TOP = os.path.dirname(os.path.dirname(os.path.realpath(__file__)))
 sys.path.insert(0, f"{TOP}/scripts/model")
 
 from images import told_survey  # noqa: E402
+from parity import covered, parity_of, rounds_of  # noqa: E402
 from verity import format_images, read_superblock, survey  # noqa: E402
 
 SECTOR = 512
@@ -139,6 +141,41 @@ class Case:
                 raise Wrong(f"repair: another {name} is left; unreadable: {self.bad}")
 
 
+class ParityCase(Case):
+    """An image with parity, of which data blocks of one round can't be read."""
+
+    def __init__(self, dice, room, library):
+        super().__init__(dice, room, library)
+        block, self.roots = dice.choice([512, 1024]), dice.choice([2, 3, 8])
+        blocks = dice.choice([dice.randint(40, 200), dice.randint(400, 600)])
+        data = b"".join(dice.randbytes(8) * (block // 8) for _ in range(blocks))
+        image = bytearray()
+        self.root, _ = format_images(data, image, (block, block, None, dice.randbytes(8)), bytes(16), is_grown=True)
+        self.whole = data, bytes(image)
+        superblock = read_superblock(self.whole[1])
+        self.tree, self.salt, self.headless = superblock.tree(), superblock.salt, False
+        area = covered(*self.whole, block, blocks, self.tree.start)
+        rounds = rounds_of(area, block, self.roots)
+        turn = dice.randrange(rounds)
+        self.gone = sorted(dice.sample(range(turn, blocks, rounds), dice.choice([1, self.roots, self.roots + 1])))
+        self.bad = [[it * block // SECTOR + dice.randrange(block // SECTOR) for it in self.gone], []]
+        data = bytearray(data)
+        for it in self.gone:
+            data[it * block] ^= 1
+        self.stands, self.parity = (bytes(data), self.whole[1]), parity_of(area, block, self.roots)
+
+    def tried(self):
+        """As many blocks of a round as a codeword has bytes of parity come back, and of one more none is written."""
+        for name, content in zip(("data", "hash", "parity"), (*self.stands, self.parity)):
+            save(self.room, name, content)
+        lines, status = self.run("repair", "--fec", "parity", "--fec-roots", str(self.roots), "data", "hash", self.root.hex())
+        left = load(self.room, "data"), load(self.room, "hash")
+        comes_back = len(self.gone) <= self.roots
+        self.check("repair --fec: what is left", left == (self.whole if comes_back else self.stands), True)
+        told = [b"repaired data %d parity" % it for it in self.gone] if comes_back else []
+        self.check("repair --fec", (lines, status), (told + self.told(*left)[0], 3))
+
+
 def main():
     passed = failed = 0
     built = tempfile.mkdtemp(prefix="unreadable.")
@@ -149,7 +186,8 @@ def main():
         subprocess.run(["cc", "-shared", "-fPIC", "-O2", "-o", library, source, "-ldl"], check=True)
         for number in range(WORDS.cases):
             try:
-                Case(random.Random(WORDS.seed * 1000003 + number), place, library).tried()
+                kind = ParityCase if number % 4 == 3 else Case
+                kind(random.Random(WORDS.seed * 1000003 + number), place, library).tried()
                 passed += 1
             except Wrong as wrong:
                 print(f"case {number} of seed {WORDS.seed}: {wrong}", flush=True)
