@@ -48,7 +48,7 @@ loop-extent-preserved c =
     let count = run.result.count in
     let few : count ≤ length (drop done bytes) = subst (λ (l : List ℕ). count ≤ length l) (rest-is bytes done) run.ensures.few in
     let zeros : IsTrue run.result.zeros → take count (drop done bytes) ≡ replicate count 0 =
-        subst (λ (l : List ℕ). IsTrue run.result.zeros → take count l ≡ replicate count 0) (rest-is bytes done) run.ensures.zeros in
+    subst (λ (l : List ℕ). IsTrue run.result.zeros → take count l ≡ replicate count 0) (rest-is bytes done) run.ensures.zeros in
     let status = run-status c.args.at done bytes run.result run.ensures.some (omega (arith, few, length-drop done bytes)) zeros in
     record { told = rw c.in_ok-push_status.ensures (told-next null c.args.at (length bytes) c.loop-extent._extent done c.loop-extent.told.items run.result c.loop-extent.invariant.told status) }
 
