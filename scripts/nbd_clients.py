@@ -78,6 +78,18 @@ def copies_of(uri):
     return [("nbdcopy", ["nbdcopy", uri, "thin"]), ("qemu-img", ["qemu-img", "convert", "-f", "raw", "-O", "raw", "nbd:unix:" + uri.split("=")[1], "thin"])]
 
 
+def try_copies(label, uri, wanted, room):
+    """Each client's copy has these bytes, and where the file system keeps holes takes no more room."""
+    for client, words in copies_of(uri):
+        if shutil.which(client):
+            done = run(*words)
+            say(f"{label}: {client}", done.returncode == 0 and open("thin", "rb").read() == wanted, done.stderr.decode())
+            if holes_are_kept():
+                taken = os.stat("thin").st_blocks * 512
+                say(f"{label}: {client} leaves holes", taken <= room, str(taken))
+            os.remove("thin")
+
+
 def sparse():
     """A stack with holes: its map is told, and copies of it have holes there."""
     data = random.Random(9).randbytes(2 << 20)
@@ -92,13 +104,7 @@ def sparse():
             say("sparse: nbdinfo --map", found == extents, str(found))
             told = json.loads(run("nbdinfo", "--json", uri).stdout or "{}")
             say("sparse: nbdinfo", told.get("protocol") is not None and "base:allocation" in told["exports"][0].get("contexts", []), str(told))
-        for client, words in copies_of(uri):
-            if shutil.which(client):
-                done = run(*words)
-                say(f"sparse: {client}", done.returncode == 0 and open("thin", "rb").read() == wanted, done.stderr.decode())
-                if holes_are_kept():
-                    say(f"sparse: {client} leaves holes", os.stat("thin").st_blocks * 512 <= len(data) + 65536, str(os.stat("thin").st_blocks))
-                os.remove("thin")
+        try_copies("sparse", uri, wanted, len(data) + 65536)
 
 
 def zeros_ignored():
@@ -122,13 +128,7 @@ def zeros_ignored():
                 else:
                     found.append([it["offset"], it["length"], it["type"]])
             say("zeros ignored: nbdinfo --map", found == extents, str(found))
-        for client, words in copies_of(uri):
-            if shutil.which(client):
-                done = run(*words)
-                say(f"zeros ignored: {client}", done.returncode == 0 and open("thin", "rb").read() == wanted, done.stderr.decode())
-                if holes_are_kept():
-                    say(f"zeros ignored: {client} leaves holes", os.stat("thin").st_blocks * 512 <= len(data) + 131072, str(os.stat("thin").st_blocks))
-                os.remove("thin")
+        try_copies("zeros ignored", uri, wanted, len(data) + 131072)
 
 
 def holes_read():

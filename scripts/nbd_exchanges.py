@@ -82,6 +82,14 @@ def context(number, identity):
     return option_reply(number, REP_META, struct.pack(">I", identity) + b"base:allocation")
 
 
+def go_on(extents, count, zeros):
+    """Some more bytes, of the last extent if they are like it."""
+    if extents and extents[-1][1] == zeros:
+        extents[-1][0] += count
+    else:
+        extents.append([count, zeros])
+
+
 class Export:
     """A device of a stack, as bytes: those that can't be read are None."""
 
@@ -186,10 +194,7 @@ class Export:
         extents, at, end = [], offset, offset + length
         while at < end and not self.is_ignoring(at // SECTOR):
             zeros, stop = self.is_zeros(at // SECTOR), min(end, at - at % SECTOR + SECTOR)
-            if extents and extents[-1][1] == zeros:
-                extents[-1][0] += stop - at
-            else:
-                extents.append([stop - at, zeros])
+            go_on(extents, stop - at, zeros)
             at = stop
         return extents
 
@@ -205,11 +210,7 @@ class Export:
         extents, at = [], offset
         while at < end:
             stop = min(end, at - at % BLOCK + BLOCK)
-            zeros = not any(self.content[at:stop])
-            if extents and extents[-1][1] == zeros:
-                extents[-1][0] += stop - at
-            else:
-                extents.append([stop - at, zeros])
+            go_on(extents, stop - at, not any(self.content[at:stop]))
             at = stop
         return extents
 
