@@ -6,12 +6,12 @@ use Rattle.aes_block.specs.Rounds.{inv_mix_columns}
 use Rattle.aes_block.specs.KeyExpansion.{key_schedule, round_key}
 
 -- the key: the first Nk = Nr - 6 words of the schedule
-abbrev pub key_of : Inside → List ℕ
-key_of k = take (4 * (k.rounds - 6)) k.schedule
+abbrev pub schedule_key : Inside → List ℕ
+schedule_key k = take (4 * (k.rounds - 6)) k.schedule
 
 -- 10 or 14 rounds; the first bytes of one array are the key's schedule, and each round key of the other is unmixed
 pub record HoldsSchedule (k : Inside) : Type 0 where
   pub rounds : (k.rounds ≡ 10) ⊎ (k.rounds ≡ 14)
   pub bytes : IsBytes k.schedule
-  pub schedule : take (16 * (k.rounds + 1)) k.schedule ≡ key_schedule (key_of k)
+  pub schedule : take (16 * (k.rounds + 1)) k.schedule ≡ key_schedule (schedule_key k)
   pub unmixed : (r : ℕ) → r < 15 → round_key k.unmixed r ≡ inv_mix_columns (round_key k.schedule r)

@@ -25,9 +25,9 @@ impl Model for AesKey {
 
     ghost Value = { List ℕ };
 
-    ghost use Rattle.aes_block.specs.AesKey.{key_of, HoldsSchedule};
+    ghost use Rattle.aes_block.specs.AesKey.{schedule_key, HoldsSchedule};
 
-    ghost view = { key_of };
+    ghost view = { schedule_key };
 
     ghost invariant = { HoldsSchedule };
 }

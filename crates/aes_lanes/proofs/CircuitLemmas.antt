@@ -7,9 +7,9 @@ use Rattle.aes_block.specs.Rounds.{sub_bytes, inv_sub_bytes}
 use Rattle.aes_block.specs.State.{byte_at, state_of}
 use Rattle.aes_block.proofs.lemmas.ByteLemmas.{all_below, same_below}
 use Rattle.aes_block.proofs.lemmas.StateLemmas.{byte_at-state_of, state_of-same}
-use Rattle.aes_lanes.specs.Planes.{ArePlanes, plane, lane, byte_of, block_of}
-use Rattle.aes_lanes.specs.Circuit.{Carries, CarryEach, sums, combined, products, substituted}
-use Rattle.aes_lanes.specs.Circuit.{inverse as inverse_bits}
+use Rattle.aes_lanes.specs.Planes.{ArePlanes, plane, lane, byte_of, lane_block}
+use Rattle.aes_lanes.specs.Circuit.{CarriesBit, CarryEach, sums, combined, products, substituted}
+use Rattle.aes_lanes.specs.Circuit.{inverse_bits}
 use Rattle.aes_lanes.specs.Constant.{add_constant}
 use Rattle.aes_lanes.specs.InverseCircuit.{inverse_sums, inverse_substituted}
 use Rattle.aes_lanes.proofs.ConstantLemmas.{byte_at-add_constant}
@@ -77,7 +77,7 @@ inverse_outputs-computed = refl
 
 module _ (q : List (List ℕ)) (planes : ArePlanes q) (p b : ℕ) where
   -- the planes carry the inputs
-  pub input_carried : (k : ℕ) → k < 8 → Carries p b (byte_of q p b) (plane q k) (slice_index inputs k)
+  pub input_carried : (k : ℕ) → k < 8 → CarriesBit p b (byte_of q p b) (plane q k) (slice_index inputs k)
   input_carried k h = record {
     len = planes k h;
     bit = sym (inputs_are k (byte_of q p b) h (byte_of_lt q p b) ∙ bit_at-byte_of q p b k h);
@@ -89,7 +89,7 @@ module _ (q : List (List ℕ)) (planes : ArePlanes q) (p b : ℕ) where
       ((((((((tt, input_carried 0 (omega arith)), input_carried 1 (omega arith)), input_carried 2 (omega arith)), input_carried 3 (omega arith)), input_carried 4 (omega arith)), input_carried 5 (omega arith)), input_carried 6 (omega arith)), input_carried 7 (omega arith))
 
 -- each of eight that carry
-carried : (p b v : ℕ) (x : List (List ℕ)) (ts : List ℕ) → CarryEach 8 p b v x ts → (k : ℕ) → k < 8 → Carries p b v (plane x k) (slice_index ts k)
+carried : (p b v : ℕ) (x : List (List ℕ)) (ts : List ℕ) → CarryEach 8 p b v x ts → (k : ℕ) → k < 8 → CarriesBit p b v (plane x k) (slice_index ts k)
 unfolding CarryEach
 carried p b v x ts all = below_eight _ all.0.0.0.0.0.0.0.1 all.0.0.0.0.0.0.1 all.0.0.0.0.0.1 all.0.0.0.0.1 all.0.0.0.1 all.0.0.1 all.0.1 all.1
 
@@ -115,24 +115,24 @@ ArePlanes-carried p b v r ts all k h = (carried p b v r ts all k h).len
 
 -- bytes that went through a map make blocks whose bytes did
 module _ (f : ℕ → ℕ) (q r : List (List ℕ)) (same : (p b : ℕ) → p < 32 → b < 8 → byte_of r p b ≡ f (byte_of q p b)) where
-  block_of-each : (j : ℕ) → j < 16 → block_of r j ≡ state_of (λ row c. f (byte_at (block_of q j) row c))
+  block_of-each : (j : ℕ) → j < 16 → lane_block r j ≡ state_of (λ row c. f (byte_at (lane_block q j) row c))
   block_of-each j h =
-      block_of-is r (λ row c. f (byte_at (block_of q j) row c)) j (λ row c hr hc.
+      block_of-is r (λ row c. f (byte_at (lane_block q j) row c)) j (λ row c hr hc.
       same (16 * (j % 2) + (4 * c + row)) (j / 2) (lane_lt j row c hr hc) (omega arith)
       ∙ ap f (sym (byte_at-block_of q j row c hr hc)))
 
-pub block_of-constant : (q r : List (List ℕ)) → ((p b : ℕ) → p < 32 → b < 8 → byte_of r p b ≡ bit_xor (byte_of q p b) 0x63) → (j : ℕ) → j < 16 → block_of r j ≡ add_constant (block_of q j)
+pub block_of-constant : (q r : List (List ℕ)) → ((p b : ℕ) → p < 32 → b < 8 → byte_of r p b ≡ bit_xor (byte_of q p b) 0x63) → (j : ℕ) → j < 16 → lane_block r j ≡ add_constant (lane_block q j)
 unfolding add_constant
 block_of-constant q r same = block_of-each (λ b. bit_xor b 0x63) q r same
 
-pub block_of-sub_bytes : (q r : List (List ℕ)) → ((p b : ℕ) → p < 32 → b < 8 → byte_of r p b ≡ bit_xor (sub_byte (byte_of q p b)) 0x63) → (j : ℕ) → j < 16 → block_of r j ≡ add_constant (sub_bytes (block_of q j))
+pub block_of-sub_bytes : (q r : List (List ℕ)) → ((p b : ℕ) → p < 32 → b < 8 → byte_of r p b ≡ bit_xor (sub_byte (byte_of q p b)) 0x63) → (j : ℕ) → j < 16 → lane_block r j ≡ add_constant (sub_bytes (lane_block q j))
 unfolding add_constant sub_bytes
 block_of-sub_bytes q r same j h =
     block_of-each (λ b. bit_xor (sub_byte b) 0x63) q r same j h
-    ∙ state_of-same _ _ (λ row c hr hc. ap (λ b. bit_xor b 0x63) (sym (byte_at-state_of (λ r c. sub_byte (byte_at (block_of q j) r c)) row c hr hc)))
+    ∙ state_of-same _ _ (λ row c hr hc. ap (λ b. bit_xor b 0x63) (sym (byte_at-state_of (λ r c. sub_byte (byte_at (lane_block q j) r c)) row c hr hc)))
 
-pub block_of-inv_sub_bytes : (q r : List (List ℕ)) → ((p b : ℕ) → p < 32 → b < 8 → byte_of r p b ≡ inv_sub_byte (bit_xor (byte_of q p b) 0x63)) → (j : ℕ) → j < 16 → block_of r j ≡ inv_sub_bytes (add_constant (block_of q j))
+pub block_of-inv_sub_bytes : (q r : List (List ℕ)) → ((p b : ℕ) → p < 32 → b < 8 → byte_of r p b ≡ inv_sub_byte (bit_xor (byte_of q p b) 0x63)) → (j : ℕ) → j < 16 → lane_block r j ≡ inv_sub_bytes (add_constant (lane_block q j))
 unfolding inv_sub_bytes
 block_of-inv_sub_bytes q r same j h =
     block_of-each (λ b. inv_sub_byte (bit_xor b 0x63)) q r same j h
-    ∙ state_of-same _ _ (λ row c hr hc. ap inv_sub_byte (sym (byte_at-add_constant (block_of q j) row c hr hc)))
+    ∙ state_of-same _ _ (λ row c hr hc. ap inv_sub_byte (sym (byte_at-add_constant (lane_block q j) row c hr hc)))

@@ -8,7 +8,7 @@ use Rattle.std.proofs.lemmas.Simd.{length-replicate, get_or-replicate}
 use Rattle.std.proofs.lemmas.Nat.{xor_lt, and_le_r}
 use Rattle.std.proofs.lemmas.Nat.Bits.{bit_at_and, bit_at_xor, bit_at-lt}
 use Rattle.aes_block.proofs.lemmas.ByteLemmas.{all_below, same_below}
-use Rattle.aes_lanes.specs.Planes.{lane, differing, first_swapped, second_swapped, exchanged, AreExchanged, AreTurned}
+use Rattle.aes_lanes.specs.Planes.{lane, differing_bits, first_swapped, second_swapped, exchanged, AreExchanged, AreTurned}
 use Rattle.aes_lanes.proofs.LaneLemmas.{below_eight, length-zipped, slice_index-zipped}
 
 -- ---- the vectors
@@ -45,7 +45,7 @@ module _ (x y : List ℕ) (by mask : ℕ) (left : length x ≡ 32) (right : leng
   unfolding raised shifts
   length-raised = length-zipped (λ a n. a * 2 ^ n % 2 ^ 8) kept (replicate 32 by) length-kept (length-replicate 32 by)
 
-  kept-at : (p : ℕ) → p < 32 → slice_index kept p ≡ differing by mask (slice_index x p) (slice_index y p)
+  kept-at : (p : ℕ) → p < 32 → slice_index kept p ≡ differing_bits by mask (slice_index x p) (slice_index y p)
   unfolding kept differ lower shifts masks
   kept-at p h =
       let shift = get_or-replicate 32 p by 0 h in
@@ -77,10 +77,10 @@ module _ (x y : List ℕ) (by mask : ℕ) (left : length x ≡ 32) (right : leng
 
 module _ (by mask a b : ℕ) where
   pub first_swapped_lt : a < 256 → first_swapped by mask a b < 256
-  first_swapped_lt h = xor_lt 8 a (differing by mask a b * 2 ^ by % 2 ^ 8) h (omega arith)
+  first_swapped_lt h = xor_lt 8 a (differing_bits by mask a b * 2 ^ by % 2 ^ 8) h (omega arith)
 
   pub second_swapped_lt : mask < 256 → b < 256 → second_swapped by mask a b < 256
-  second_swapped_lt hm h = xor_lt 8 b (differing by mask a b) h (omega (arith, hm, and_le_r (bit_xor (a / 2 ^ by) b) mask))
+  second_swapped_lt hm h = xor_lt 8 b (differing_bits by mask a b) h (omega (arith, hm, and_le_r (bit_xor (a / 2 ^ by) b) mask))
 
 -- ---- the bits of two numbers
 
@@ -96,23 +96,23 @@ pub record Swaps (s : ℕ) (first second : ℕ → ℕ → ℕ) : Type 0 where
 
 module _ (by mask a b : ℕ) where
   -- a bit of what differs
-  differing-at : (i : ℕ) → bit_at (differing by mask a b) i ≡ min ((bit_at (a / 2 ^ by) i + bit_at b i) % 2) (bit_at mask i)
+  differing-at : (i : ℕ) → bit_at (differing_bits by mask a b) i ≡ min ((bit_at (a / 2 ^ by) i + bit_at b i) % 2) (bit_at mask i)
   differing-at i = bit_at_and (bit_xor (a / 2 ^ by) b) mask i ∙ ap (λ n. min n (bit_at mask i)) (bit_at_xor (a / 2 ^ by) b i)
 
   -- a bit of the second number
   second_kept : (i : ℕ) → bit_at mask i ≡ 0 → bit_at (second_swapped by mask a b) i ≡ bit_at b i
-  second_kept i out = omega (arith, out, differing-at i, bit_at_xor b (differing by mask a b) i, bit_at-lt b i)
+  second_kept i out = omega (arith, out, differing-at i, bit_at_xor b (differing_bits by mask a b) i, bit_at-lt b i)
 
   second_taken : (i j : ℕ) → bit_at mask i ≡ 1 → bit_at (a / 2 ^ by) i ≡ bit_at a j → bit_at (second_swapped by mask a b) i ≡ bit_at a j
-  second_taken i j in_mask at = omega (arith, in_mask, at, differing-at i, bit_at_xor b (differing by mask a b) i, bit_at-lt b i, bit_at-lt a j)
+  second_taken i j in_mask at = omega (arith, in_mask, at, differing-at i, bit_at_xor b (differing_bits by mask a b) i, bit_at-lt b i, bit_at-lt a j)
 
   -- a bit of the first
-  first_kept : (i : ℕ) → bit_at (differing by mask a b * 2 ^ by % 2 ^ 8) i ≡ 0 → bit_at (first_swapped by mask a b) i ≡ bit_at a i
-  first_kept i out = omega (arith, out, bit_at_xor a (differing by mask a b * 2 ^ by % 2 ^ 8) i, bit_at-lt a i)
+  first_kept : (i : ℕ) → bit_at (differing_bits by mask a b * 2 ^ by % 2 ^ 8) i ≡ 0 → bit_at (first_swapped by mask a b) i ≡ bit_at a i
+  first_kept i out = omega (arith, out, bit_at_xor a (differing_bits by mask a b * 2 ^ by % 2 ^ 8) i, bit_at-lt a i)
 
-  first_taken : (i j : ℕ) → bit_at (differing by mask a b * 2 ^ by % 2 ^ 8) i ≡ bit_at (differing by mask a b) j → bit_at mask j ≡ 1 → bit_at (a / 2 ^ by) j ≡ bit_at a i
+  first_taken : (i j : ℕ) → bit_at (differing_bits by mask a b * 2 ^ by % 2 ^ 8) i ≡ bit_at (differing_bits by mask a b) j → bit_at mask j ≡ 1 → bit_at (a / 2 ^ by) j ≡ bit_at a i
       → bit_at (first_swapped by mask a b) i ≡ bit_at b j
-  first_taken i j up in_mask at = omega (arith, up, in_mask, at, differing-at j, bit_at_xor a (differing by mask a b * 2 ^ by % 2 ^ 8) i, bit_at-lt a i, bit_at-lt b j)
+  first_taken i j up in_mask at = omega (arith, up, in_mask, at, differing-at j, bit_at_xor a (differing_bits by mask a b * 2 ^ by % 2 ^ 8) i, bit_at-lt a i, bit_at-lt b j)
 
 pub Swaps_1 : Swaps 1 (first_swapped 1 0x55) (second_swapped 1 0x55)
 Swaps_1 = record {

@@ -5,11 +5,11 @@ use Rattle.std.specs.Prelude.{replicate}
 use Rattle.std.specs.Simd.Lanes.{zip2}
 use Rattle.std.proofs.lemmas.Simd.{length-replicate, get_or-replicate}
 use Rattle.std.proofs.lemmas.Nat.Bits.{bit_at_and, bit_at_or, bit_at_xor, bit_at_ones}
-use Rattle.aes_lanes.specs.Circuit.{Carries}
+use Rattle.aes_lanes.specs.Circuit.{CarriesBit}
 use Rattle.aes_lanes.proofs.LaneLemmas.{length-zipped, slice_index-zipped}
 
 module _ {p b v : ℕ} (lane : p < 32) where
-  pub Carries-xor : {x y : List ℕ} {s t : ℕ} → Carries p b v x s → Carries p b v y t → Carries p b v (zip2 bit_xor x y) (bit_xor s t)
+  pub Carries-xor : {x y : List ℕ} {s t : ℕ} → CarriesBit p b v x s → CarriesBit p b v y t → CarriesBit p b v (zip2 bit_xor x y) (bit_xor s t)
   Carries-xor {x} {y} {s} {t} left right = record {
     len = length-zipped bit_xor x y left.len right.len;
     bit =
@@ -20,7 +20,7 @@ module _ {p b v : ℕ} (lane : p < 32) where
         ∙ sym (bit_at_xor s t v);
   }
 
-  pub Carries-and : {x y : List ℕ} {s t : ℕ} → Carries p b v x s → Carries p b v y t → Carries p b v (zip2 bit_and x y) (bit_and s t)
+  pub Carries-and : {x y : List ℕ} {s t : ℕ} → CarriesBit p b v x s → CarriesBit p b v y t → CarriesBit p b v (zip2 bit_and x y) (bit_and s t)
   Carries-and {x} {y} {s} {t} left right = record {
     len = length-zipped bit_and x y left.len right.len;
     bit =
@@ -31,7 +31,7 @@ module _ {p b v : ℕ} (lane : p < 32) where
         ∙ sym (bit_at_and s t v);
   }
 
-  pub Carries-or : {x y : List ℕ} {s t : ℕ} → Carries p b v x s → Carries p b v y t → Carries p b v (zip2 bit_or x y) (bit_or s t)
+  pub Carries-or : {x y : List ℕ} {s t : ℕ} → CarriesBit p b v x s → CarriesBit p b v y t → CarriesBit p b v (zip2 bit_or x y) (bit_or s t)
   Carries-or {x} {y} {s} {t} left right = record {
     len = length-zipped bit_or x y left.len right.len;
     bit =
@@ -43,7 +43,7 @@ module _ {p b v : ℕ} (lane : p < 32) where
   }
 
   -- all bits set
-  pub Carries-ones : b < 8 → v < 256 → Carries p b v (replicate {A = ℕ} 32 255) (2 ^ 256 - 1)
+  pub Carries-ones : b < 8 → v < 256 → CarriesBit p b v (replicate {A = ℕ} 32 255) (2 ^ 256 - 1)
   Carries-ones low byte =
       let ones : ℕ = 255 in
       record {

@@ -6,17 +6,17 @@ use Rattle.aes_block.specs.State.{byte_at}
 use Rattle.aes_block.proofs.lemmas.ByteLemmas.{all_below, same_below}
 use Rattle.aes_block.proofs.lemmas.FieldLemmas.{xtimes-xor}
 use Rattle.std.specs.Int.Bits.{xor_assoc}
-use Rattle.aes_lanes.specs.Planes.{byte_of, block_of, shifted, AreMoved, AreSums, lane_below, lane_shifted, lane_unshifted}
-use Rattle.aes_lanes.specs.Keys.{AreCopies}
+use Rattle.aes_lanes.specs.Planes.{byte_of, lane_block, shifted, AreMoved, AreSums, lane_below, lane_shifted, lane_unshifted}
+use Rattle.aes_lanes.specs.Keys.{AreOneBlock}
 use Rattle.aes_lanes.proofs.ShiftLemmas.{below_four, lane_ahead, lane_ahead_lt, byte_at-ahead, ahead-is}
 use Rattle.aes_lanes.proofs.PlaneLemmas.{byte_of_lt, byte_of-moved, byte_of-sums, lane_lt, byte_at-block_of, block_of-is}
 
 -- ---- ShiftRows
 
-pub block_of-shifted : (q r : List (List ℕ)) → AreMoved lane_shifted q r → (j : ℕ) → j < 16 → block_of r j ≡ shift_rows (block_of q j)
+pub block_of-shifted : (q r : List (List ℕ)) → AreMoved lane_shifted q r → (j : ℕ) → j < 16 → lane_block r j ≡ shift_rows (lane_block q j)
 unfolding shift_rows
 block_of-shifted q r moved j h =
-    block_of-is r (λ r c. byte_at (block_of q j) r ((c + r) % 4)) j (λ row c hr hc.
+    block_of-is r (λ r c. byte_at (lane_block q j) r ((c + r) % 4)) j (λ row c hr hc.
     let p = 16 * (j % 2) + (4 * c + row) in
     let column = (c + row) % 4 in
     let from : lane_shifted p ≡ 16 * (j % 2) + (4 * column + row) = omega arith in
@@ -24,10 +24,10 @@ block_of-shifted q r moved j h =
     ∙ ap (λ n. byte_of q n (j / 2)) from
     ∙ sym (byte_at-block_of q j row column hr (omega arith)))
 
-pub block_of-unshifted : (q r : List (List ℕ)) → AreMoved lane_unshifted q r → (j : ℕ) → j < 16 → block_of r j ≡ inv_shift_rows (block_of q j)
+pub block_of-unshifted : (q r : List (List ℕ)) → AreMoved lane_unshifted q r → (j : ℕ) → j < 16 → lane_block r j ≡ inv_shift_rows (lane_block q j)
 unfolding inv_shift_rows
 block_of-unshifted q r moved j h =
-    block_of-is r (λ r c. byte_at (block_of q j) r ((c + 4 - r) % 4)) j (λ row c hr hc.
+    block_of-is r (λ r c. byte_at (lane_block q j) r ((c + 4 - r) % 4)) j (λ row c hr hc.
     let p = 16 * (j % 2) + (4 * c + row) in
     let column = (c + 4 - row) % 4 in
     let from : lane_unshifted p ≡ 16 * (j % 2) + (4 * column + row) = omega arith in
@@ -65,16 +65,16 @@ below-lane s n m j r c hr hn row =
     (λ row. rw row (below_four (λ r. lane_below 3 s (lane_ahead s j r c) ≡ lane_ahead s j ((r + 3) % 4) c) (omega arith) (omega arith) (omega arith) (omega arith) r hr))
     n hn row
 
-pub below-at : (q : List (List ℕ)) (s n m j r c : ℕ) → r < 4 → c < 4 → n < 4 → m ≡ (r + n) % 4 → byte_of q (lane_below n s (lane_ahead s j r c)) (j / 2) ≡ byte_at (shifted s (block_of q j)) m c
+pub below-at : (q : List (List ℕ)) (s n m j r c : ℕ) → r < 4 → c < 4 → n < 4 → m ≡ (r + n) % 4 → byte_of q (lane_below n s (lane_ahead s j r c)) (j / 2) ≡ byte_at (shifted s (lane_block q j)) m c
 below-at q s n m j r c hr hc hn row = ap (λ x. byte_of q x (j / 2)) (below-lane s n m j r c hr hn row) ∙ sym (byte_at-ahead q s j m c (omega (arith, row)) hc)
 
 module _ (s : ℕ) (q next pairs doubled three others mixed : List (List ℕ)) (moved_1 : AreMoved (lane_below 1 s) q next) (paired : AreSums q next pairs)
     (twice : (p b : ℕ) → p < 32 → b < 8 → byte_of doubled p b ≡ xtimes (byte_of pairs p b)) (thrice : AreSums doubled next three)
     (moved_2 : AreMoved (lane_below 2 s) pairs others) (summed : AreSums three others mixed) where
-  pub block_of-mixed : (j : ℕ) → j < 16 → shifted s (block_of mixed j) ≡ mix_columns (shifted s (block_of q j))
+  pub block_of-mixed : (j : ℕ) → j < 16 → shifted s (lane_block mixed j) ≡ mix_columns (shifted s (lane_block q j))
   unfolding mix_columns
   block_of-mixed j h =
-      let x = shifted s (block_of q j) in
+      let x = shifted s (lane_block q j) in
       ahead-is mixed (λ r c. mixed_byte (byte_at x r c) (byte_at x ((r + 1) % 4) c) (byte_at x ((r + 2) % 4) c) (byte_at x ((r + 3) % 4) c)) s j (λ r c hr hc.
       let p = lane_ahead s j r c in
       let b = j / 2 in
@@ -101,11 +101,11 @@ module _ (s : ℕ) (q next pairs doubled three others mixed : List (List ℕ)) (
 
 -- ---- AddRoundKey
 
-pub block_of-added : (q key r : List (List ℕ)) (s : ℕ) (k : List ℕ) → AreSums q key r → AreCopies s k key → (j : ℕ) → j < 16 → shifted s (block_of r j) ≡ add_round_key (shifted s (block_of q j)) k
+pub block_of-added : (q key r : List (List ℕ)) (s : ℕ) (k : List ℕ) → AreSums q key r → AreOneBlock s k key → (j : ℕ) → j < 16 → shifted s (lane_block r j) ≡ add_round_key (shifted s (lane_block q j)) k
 unfolding add_round_key
 block_of-added q key r s k sums copies j h =
-    ahead-is r (λ r c. bit_xor (byte_at (shifted s (block_of q j)) r c) (byte_at k r c)) s j (λ row c hr hc.
+    ahead-is r (λ r c. bit_xor (byte_at (shifted s (lane_block q j)) r c) (byte_at k r c)) s j (λ row c hr hc.
     let p = lane_ahead s j row c in
     byte_of-sums q key r p (j / 2) (lane_ahead_lt s j row c hr) sums
     ∙ ap (λ x. bit_xor x (byte_of key p (j / 2))) (sym (byte_at-ahead q s j row c hr hc))
-    ∙ ap (bit_xor (byte_at (shifted s (block_of q j)) row c)) (sym (byte_at-ahead key s j row c hr hc) ∙ ap (λ b. byte_at b row c) (copies.blocks j h)))
+    ∙ ap (bit_xor (byte_at (shifted s (lane_block q j)) row c)) (sym (byte_at-ahead key s j row c hr hc) ∙ ap (λ b. byte_at b row c) (copies.blocks j h)))

@@ -6,7 +6,7 @@ use Rattle.std.proofs.lemmas.Nat.{xor_lt}
 use Rattle.aes_block.specs.Field.{parities}
 use Rattle.aes_block.specs.State.{byte_at, state_of}
 use Rattle.aes_block.proofs.lemmas.StateLemmas.{byte_at-state_of, state_of-same}
-use Rattle.aes_lanes.specs.Planes.{lane, byte_of, block_of, AreSums}
+use Rattle.aes_lanes.specs.Planes.{lane, byte_of, lane_block, AreSums}
 use Rattle.aes_lanes.proofs.LaneLemmas.{below_eight}
 
 -- ---- a number by its bits
@@ -63,11 +63,11 @@ byte_of-sums x y z p b hp sums =
 pub lane_lt : (j r c : ℕ) → r < 4 → c < 4 → 16 * (j % 2) + (4 * c + r) < 32
 lane_lt j r c hr hc = omega arith
 
-pub byte_at-block_of : (q : List (List ℕ)) (j r c : ℕ) → r < 4 → c < 4 → byte_at (block_of q j) r c ≡ byte_of q (16 * (j % 2) + (4 * c + r)) (j / 2)
-unfolding block_of
+pub byte_at-block_of : (q : List (List ℕ)) (j r c : ℕ) → r < 4 → c < 4 → byte_at (lane_block q j) r c ≡ byte_of q (16 * (j % 2) + (4 * c + r)) (j / 2)
+unfolding lane_block
 byte_at-block_of q j r c hr hc = byte_at-state_of (λ r c. byte_of q (16 * (j % 2) + (4 * c + r)) (j / 2)) r c hr hc
 
 -- a block whose bytes are known
-pub block_of-is : (q : List (List ℕ)) (f : ℕ → ℕ → ℕ) (j : ℕ) → ((r c : ℕ) → r < 4 → c < 4 → byte_of q (16 * (j % 2) + (4 * c + r)) (j / 2) ≡ f r c) → block_of q j ≡ state_of f
-unfolding block_of
+pub block_of-is : (q : List (List ℕ)) (f : ℕ → ℕ → ℕ) (j : ℕ) → ((r c : ℕ) → r < 4 → c < 4 → byte_of q (16 * (j % 2) + (4 * c + r)) (j / 2) ≡ f r c) → lane_block q j ≡ state_of f
+unfolding lane_block
 block_of-is q f j same = state_of-same (λ r c. byte_of q (16 * (j % 2) + (4 * c + r)) (j / 2)) f same

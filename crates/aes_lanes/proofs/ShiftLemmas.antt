@@ -5,7 +5,7 @@ use Rattle.aes_block.specs.Rounds.{sub_bytes, shift_rows, inv_shift_rows, inv_su
 use Rattle.aes_block.specs.State.{byte_at, state_of}
 use Rattle.aes_block.proofs.lemmas.StateLemmas.{length-state_of, byte_at-state_of, same_state, state_of-byte_at}
 use Rattle.aes_lanes.specs.Constant.{add_constant}
-use Rattle.aes_lanes.specs.Planes.{byte_of, block_of, shifted}
+use Rattle.aes_lanes.specs.Planes.{byte_of, lane_block, shifted}
 use Rattle.aes_lanes.proofs.PlaneLemmas.{lane_lt, byte_of_lt, byte_at-block_of}
 
 pub below_four : (P : ℕ → Type 0) → P 0 → P 1 → P 2 → P 3 → (r : ℕ) → r < 4 → P r
@@ -42,8 +42,8 @@ same_bytes x y long_x long_y same = same_state x (byte_at y) long_x same ∙ sta
 
 -- ---- a block of planes
 
-pub length-block_of : (q : List (List ℕ)) (j : ℕ) → length (block_of q j) ≡ 16
-unfolding block_of
+pub length-block_of : (q : List (List ℕ)) (j : ℕ) → length (lane_block q j) ≡ 16
+unfolding lane_block
 length-block_of q j = length-state_of (λ r c. byte_of q (16 * (j % 2) + (4 * c + r)) (j / 2))
 
 -- the lane of a byte of block j, s ShiftRows ahead
@@ -53,15 +53,15 @@ lane_ahead s j r c = 16 * (j % 2) + (4 * ((c + s * r) % 4) + r)
 pub lane_ahead_lt : (s j r c : ℕ) → r < 4 → lane_ahead s j r c < 32
 lane_ahead_lt s j r c hr = lane_lt j r ((c + s * r) % 4) hr (omega arith)
 
-pub byte_at-ahead : (q : List (List ℕ)) (s j r c : ℕ) → r < 4 → c < 4 → byte_at (shifted s (block_of q j)) r c ≡ byte_of q (lane_ahead s j r c) (j / 2)
-byte_at-ahead q s j r c hr hc = byte_at-shifted s (block_of q j) r c hr hc ∙ byte_at-block_of q j r ((c + s * r) % 4) hr (omega arith)
+pub byte_at-ahead : (q : List (List ℕ)) (s j r c : ℕ) → r < 4 → c < 4 → byte_at (shifted s (lane_block q j)) r c ≡ byte_of q (lane_ahead s j r c) (j / 2)
+byte_at-ahead q s j r c hr hc = byte_at-shifted s (lane_block q j) r c hr hc ∙ byte_at-block_of q j r ((c + s * r) % 4) hr (omega arith)
 
-pub ahead_lt : (q : List (List ℕ)) (s j r c : ℕ) → r < 4 → c < 4 → byte_at (shifted s (block_of q j)) r c < 256
+pub ahead_lt : (q : List (List ℕ)) (s j r c : ℕ) → r < 4 → c < 4 → byte_at (shifted s (lane_block q j)) r c < 256
 ahead_lt q s j r c hr hc = rw (byte_at-ahead q s j r c hr hc) (byte_of_lt q (lane_ahead s j r c) (j / 2))
 
 -- such a block whose bytes are known
-pub ahead-is : (q : List (List ℕ)) (f : ℕ → ℕ → ℕ) (s j : ℕ) → ((r c : ℕ) → r < 4 → c < 4 → byte_of q (lane_ahead s j r c) (j / 2) ≡ f r c) → shifted s (block_of q j) ≡ state_of f
-ahead-is q f s j same = same_state (shifted s (block_of q j)) f (length-shifted s (block_of q j) (length-block_of q j)) (λ r c hr hc. byte_at-ahead q s j r c hr hc ∙ same r c hr hc)
+pub ahead-is : (q : List (List ℕ)) (f : ℕ → ℕ → ℕ) (s j : ℕ) → ((r c : ℕ) → r < 4 → c < 4 → byte_of q (lane_ahead s j r c) (j / 2) ≡ f r c) → shifted s (lane_block q j) ≡ state_of f
+ahead-is q f s j same = same_state (shifted s (lane_block q j)) f (length-shifted s (lane_block q j) (length-block_of q j)) (λ r c hr hc. byte_at-ahead q s j r c hr hc ∙ same r c hr hc)
 
 -- ---- one ShiftRows more or less
 

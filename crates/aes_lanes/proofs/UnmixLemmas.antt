@@ -8,7 +8,7 @@ use Rattle.aes_block.proofs.lemmas.ByteLemmas.{all_below, same_below}
 use Rattle.aes_block.proofs.lemmas.ColumnLemmas.{combined, combined-xor, mixed_is}
 use Rattle.aes_block.proofs.lemmas.FieldLemmas.{xtimes-xor, xtimes_lt, xor_swap, xor_byte}
 use Rattle.aes_block.proofs.lemmas.StateLemmas.{state_of-same}
-use Rattle.aes_lanes.specs.Planes.{byte_of, block_of, shifted, AreMoved, AreSums, lane_below}
+use Rattle.aes_lanes.specs.Planes.{byte_of, lane_block, shifted, AreMoved, AreSums, lane_below}
 use Rattle.aes_lanes.proofs.PlaneLemmas.{byte_of-moved, byte_of-sums}
 use Rattle.aes_lanes.proofs.ShiftLemmas.{lane_ahead, lane_ahead_lt, ahead_lt, byte_at-ahead}
 use Rattle.aes_lanes.proofs.MoveLemmas.{below-at}
@@ -99,9 +99,9 @@ unmixed-same w x y z a b c d e0 e1 e2 e3 = cc (e0, e1, e2, e3)
 
 module _ (s : ℕ) (q others pairs twice four sums mixed : List (List ℕ)) (moved : AreMoved (lane_below 2 s) q others) (paired : AreSums q others pairs)
     (doubled : (p b : ℕ) → p < 32 → b < 8 → byte_of twice p b ≡ xtimes (byte_of pairs p b)) (again : (p b : ℕ) → p < 32 → b < 8 → byte_of four p b ≡ xtimes (byte_of twice p b))
-    (summed : AreSums q four sums) (columns : (j : ℕ) → j < 16 → shifted s (block_of mixed j) ≡ mix_columns (shifted s (block_of sums j))) where
+    (summed : AreSums q four sums) (columns : (j : ℕ) → j < 16 → shifted s (lane_block mixed j) ≡ mix_columns (shifted s (lane_block sums j))) where
   -- a byte after the first step, where the one two rows below is in row m
-  prepared-at : (j r m c : ℕ) → j < 16 → r < 4 → c < 4 → m ≡ (r + 2) % 4 → byte_at (shifted s (block_of sums j)) r c ≡ prepared (byte_at (shifted s (block_of q j)) r c) (byte_at (shifted s (block_of q j)) m c)
+  prepared-at : (j r m c : ℕ) → j < 16 → r < 4 → c < 4 → m ≡ (r + 2) % 4 → byte_at (shifted s (lane_block sums j)) r c ≡ prepared (byte_at (shifted s (lane_block q j)) r c) (byte_at (shifted s (lane_block q j)) m c)
   unfolding prepared fourfold
   prepared-at j r m c h hr hc row =
       let p = lane_ahead s j r c in
@@ -116,11 +116,11 @@ module _ (s : ℕ) (q others pairs twice four sums mixed : List (List ℕ)) (mov
       ∙ ap (bit_xor (byte_of q p b)) (again p b hp hb ∙ ap xtimes (doubled p b hp hb ∙ ap xtimes pair))
       ∙ cc (here, there)
 
-  pub block_of-unmixed : (j : ℕ) → j < 16 → shifted s (block_of mixed j) ≡ inv_mix_columns (shifted s (block_of q j))
+  pub block_of-unmixed : (j : ℕ) → j < 16 → shifted s (lane_block mixed j) ≡ inv_mix_columns (shifted s (lane_block q j))
   unfolding mix_columns inv_mix_columns
   block_of-unmixed j h =
-      let x = shifted s (block_of sums j) in
-      let t = shifted s (block_of q j) in
+      let x = shifted s (lane_block sums j) in
+      let t = shifted s (lane_block q j) in
       columns j h
       ∙ state_of-same _ _ (λ r c hr hc.
       let r1 = (r + 1) % 4 in

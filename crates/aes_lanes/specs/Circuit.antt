@@ -4,14 +4,14 @@ use Rattle.std.specs.Int.{bit_at}
 use Rattle.aes_lanes.specs.Planes.{plane}
 
 -- in lane p and bit b a plane has what the number t has in bit v
-pub record Carries (p b v : ℕ) (x : List ℕ) (t : ℕ) : Type 0 where
+pub record CarriesBit (p b v : ℕ) (x : List ℕ) (t : ℕ) : Type 0 where
   pub len : length x ≡ 32
   pub bit : bit_at (slice_index x p) b ≡ bit_at t v
 
 -- and so has each of the first n planes
 unfoldable pub CarryEach : ℕ → ℕ → ℕ → ℕ → List (List ℕ) → List ℕ → Type 0
 CarryEach zero p b v xs ts = Unit
-CarryEach (suc n) p b v xs ts = CarryEach n p b v xs ts × Carries p b v (plane xs n) (slice_index ts n)
+CarryEach (suc n) p b v xs ts = CarryEach n p b v xs ts × CarriesBit p b v (plane xs n) (slice_index ts n)
 
 -- n planes have, in each lane and bit, what a map makes of the numbers that m planes have there
 abbrev pub Computes : (List ℕ → List ℕ) → ℕ → List (List ℕ) → ℕ → List (List ℕ) → Type 0
@@ -103,8 +103,8 @@ combined y =
     t21 ∷ t18 ∷ t19 ∷ t24 ∷ []
 
 -- the inverse in the subfield of 16 elements, and the sums of its bits
-unfoldable pub inverse : List ℕ → List ℕ
-inverse t =
+unfoldable pub inverse_bits : List ℕ → List ℕ
+inverse_bits t =
     let t21 = slice_index t 0 in
     let t22 = slice_index t 1 in
     let t23 = slice_index t 2 in

@@ -3,12 +3,12 @@ use Rattle.std.specs.Prelude.{◌≡◌, ℕ, zero, suc, ◌%◌, ◌<◌, ◌�
 use Rattle.aes_block.specs.KeyExpansion.{round_key}
 use Rattle.aes_lanes.specs.declared.keys.KeyPlanes.{KeyPlanes}
 use Rattle.aes_lanes.specs.Constant.{add_constant}
-use Rattle.aes_lanes.specs.Planes.{ArePlanes, block_of, shifted}
+use Rattle.aes_lanes.specs.Planes.{ArePlanes, lane_block, shifted}
 
 -- each of the sixteen blocks of these planes is this one, s ShiftRows ahead of how it stands
-pub record AreCopies (s : ℕ) (key : List ℕ) (q : List (List ℕ)) : Type 0 where
+pub record AreOneBlock (s : ℕ) (key : List ℕ) (q : List (List ℕ)) : Type 0 where
   pub planes : ArePlanes q
-  pub blocks : (j : ℕ) → j < 16 → shifted s (block_of q j) ≡ key
+  pub blocks : (j : ℕ) → j < 16 → shifted s (lane_block q j) ≡ key
 
 -- the planes of a round key's record
 abbrev pub planes_in : KeyPlanes → List (List ℕ)
@@ -28,4 +28,4 @@ kept_key w (suc r) = add_constant (round_key w (suc r))
 
 -- the round keys 0 to n of the key schedule w, each as many ShiftRows ahead as the state where it is added; four are none
 abbrev pub HoldKeys : ℕ → List ℕ → List KeyPlanes → Type 0
-HoldKeys n w keys = (r : ℕ) → r ≤ n → AreCopies (r % 4) (kept_key w r) (key_planes keys r)
+HoldKeys n w keys = (r : ℕ) → r ≤ n → AreOneBlock (r % 4) (kept_key w r) (key_planes keys r)

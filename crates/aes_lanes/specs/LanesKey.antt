@@ -5,8 +5,8 @@ use Rattle.aes_lanes.specs.declared.lanes_key.LanesKey.TheInside.{Inside}
 use Rattle.aes_lanes.specs.Keys.{HoldKeys}
 
 -- the key's bytes
-abbrev pub key_of : Inside → List ℕ
-key_of k = k.key
+abbrev pub key_of_lanes : Inside → List ℕ
+key_of_lanes k = k.key
 
 -- the planes of its round keys
 abbrev pub HoldsPlanes : Inside → Type 0

@@ -27,8 +27,8 @@ unfoldable pub byte_of : List (List ℕ) → ℕ → ℕ → ℕ
 byte_of planes p b = parities (λ k. bit_at (lane planes k p) b) 8
 
 -- block j
-unfoldable pub block_of : List (List ℕ) → ℕ → List ℕ
-block_of planes j = state_of (λ r c. byte_of planes (16 * (j % 2) + (4 * c + r)) (j / 2))
+unfoldable pub lane_block : List (List ℕ) → ℕ → List ℕ
+lane_block planes j = state_of (λ r c. byte_of planes (16 * (j % 2) + (4 * c + r)) (j / 2))
 
 -- a block after n ShiftRows (FIPS 197, 5.1.2)
 unfoldable pub shifted : ℕ → List ℕ → List ℕ
@@ -38,14 +38,14 @@ shifted (suc n) s = shift_rows (shifted n s)
 -- ---- from vectors of bytes to planes and back
 
 -- the bits of a, moved down, and b in which they differ, where the mask has them
-abbrev pub differing : ℕ → ℕ → ℕ → ℕ → ℕ
-differing by mask a b = bit_and (bit_xor (a / 2 ^ by) b) mask
+abbrev pub differing_bits : ℕ → ℕ → ℕ → ℕ → ℕ
+differing_bits by mask a b = bit_and (bit_xor (a / 2 ^ by) b) mask
 
 abbrev pub first_swapped : ℕ → ℕ → ℕ → ℕ → ℕ
-first_swapped by mask a b = bit_xor a (differing by mask a b * 2 ^ by % 2 ^ 8)
+first_swapped by mask a b = bit_xor a (differing_bits by mask a b * 2 ^ by % 2 ^ 8)
 
 abbrev pub second_swapped : ℕ → ℕ → ℕ → ℕ → ℕ
-second_swapped by mask a b = bit_xor b (differing by mask a b)
+second_swapped by mask a b = bit_xor b (differing_bits by mask a b)
 
 -- m with its bit of weight s replaced by that of n
 abbrev pub exchanged : ℕ → ℕ → ℕ → ℕ

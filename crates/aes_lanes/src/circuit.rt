@@ -2,8 +2,8 @@
 //! the affine map but for its constant is part of the last sums. A gate works on one bit each of 256 bytes.
 
 ghost use Rattle.std.specs.Prelude.{◌≡◌, ℕ, ◌<◌};
-ghost use Rattle.aes_lanes.specs.Planes.{ArePlanes, block_of};
-ghost use Rattle.aes_lanes.specs.Circuit.{Computes, ComputesOfBoth, sums, combined, inverse, products, substituted};
+ghost use Rattle.aes_lanes.specs.Planes.{ArePlanes, lane_block};
+ghost use Rattle.aes_lanes.specs.Circuit.{Computes, ComputesOfBoth, sums, combined, inverse_bits, products, substituted};
 ghost use Rattle.aes_block.specs.Rounds.{sub_bytes};
 ghost use Rattle.aes_lanes.specs.Constant.{add_constant};
 
@@ -75,7 +75,7 @@ pub(crate) fn combined(sums: &[u8x32; 20]) -> [u8x32; 4]
 // The inverse in the subfield of 16 elements, and the sums of its bits: 19 gates, found by a search.
 #[inline(always)]
 pub(crate) fn inverse(combined: &[u8x32; 4]) -> [u8x32; 9]
-    ensures { Computes inverse 4 combined.now 9 result }
+    ensures { Computes inverse_bits 4 combined.now 9 result }
 {
     let [t21, t22, t23, t24] = *combined;
     let t25 = t23 ^ t24;
@@ -172,7 +172,7 @@ fn substituted(products: &[u8x32; 18]) -> Planes
 pub(crate) fn sub_bytes_without_constant(q: &Planes) -> Planes
     requires { ArePlanes q.now }
     ensures planes { ArePlanes result }
-    ensures blocks { (j : ℕ) → j < 16 → block_of result j ≡ add_constant (sub_bytes (block_of q.now j)) }
+    ensures blocks { (j : ℕ) → j < 16 → lane_block result j ≡ add_constant (sub_bytes (lane_block q.now j)) }
 {
     let sums = sums(q);
     let combined = combined(&sums);

@@ -2,7 +2,7 @@
 //! inverse of the affine map, and whose last give the inverse's bits.
 
 ghost use Rattle.std.specs.Prelude.{◌≡◌, ℕ, ◌<◌};
-ghost use Rattle.aes_lanes.specs.Planes.{ArePlanes, block_of};
+ghost use Rattle.aes_lanes.specs.Planes.{ArePlanes, lane_block};
 ghost use Rattle.aes_lanes.specs.Circuit.{Computes};
 ghost use Rattle.aes_lanes.specs.Constant.{add_constant};
 ghost use Rattle.aes_lanes.specs.InverseCircuit.{inverse_sums, inverse_substituted};
@@ -92,7 +92,7 @@ fn inverse_substituted(products: &[u8x32; 18]) -> Planes
 pub(crate) fn inv_sub_bytes_with_constant(q: &Planes) -> Planes
     requires { ArePlanes q.now }
     ensures planes { ArePlanes result }
-    ensures blocks { (j : ℕ) → j < 16 → block_of result j ≡ inv_sub_bytes (add_constant (block_of q.now j)) }
+    ensures blocks { (j : ℕ) → j < 16 → lane_block result j ≡ inv_sub_bytes (add_constant (lane_block q.now j)) }
 {
     let sums = inverse_sums(q);
     let combined = combined(&sums);

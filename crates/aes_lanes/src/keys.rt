@@ -2,7 +2,7 @@
 
 ghost use Rattle.std.specs.Prelude.{◌≡◌, ◌+◌, ◌*◌, ◌%◌, ◌≤◌, length};
 ghost use Rattle.aes_block.specs.KeyExpansion.{rounds, key_schedule, round_key};
-ghost use Rattle.aes_lanes.specs.Keys.{AreCopies, HoldKeys, kept_key, planes_in};
+ghost use Rattle.aes_lanes.specs.Keys.{AreOneBlock, HoldKeys, kept_key, planes_in};
 
 use crate::planes::{Planes, turn};
 use crate::rows::inv_shift_rows;
@@ -57,7 +57,7 @@ impl KeyPlanes {
 // Sixteen copies of a round key.
 fn copies(schedule: &[u8], round: usize) -> Planes
     requires { 16 * round + 16 ≤ length schedule.now }
-    ensures { AreCopies 0 (round_key schedule.now round) result }
+    ensures { AreOneBlock 0 (round_key schedule.now round) result }
 {
     let key = u8x16::from_slice(&schedule[16 * round..16 * round + 16]);
     let twice = key.shuffle(
@@ -74,7 +74,7 @@ fn copies(schedule: &[u8], round: usize) -> Planes
 // round finds those of its state.
 fn kept_planes(schedule: &[u8], round: usize) -> Planes
     requires { 16 * round + 16 ≤ length schedule.now }
-    ensures { AreCopies (round % 4) (kept_key schedule.now round) result }
+    ensures { AreOneBlock (round % 4) (kept_key schedule.now round) result }
 {
     let plain = copies(schedule, round);
     let mut planes = if round == 0 {

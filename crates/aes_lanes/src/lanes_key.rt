@@ -21,9 +21,9 @@ impl Model for LanesKey {
 
     ghost Value = { List ℕ };
 
-    ghost use Rattle.aes_lanes.specs.LanesKey.{key_of, HoldsPlanes};
+    ghost use Rattle.aes_lanes.specs.LanesKey.{key_of_lanes, HoldsPlanes};
 
-    ghost view = { key_of };
+    ghost view = { key_of_lanes };
 
     ghost invariant = { HoldsPlanes };
 }

@@ -2,7 +2,7 @@
 
 ghost use Rattle.std.specs.Prelude.{◌≡◌, ℕ, ◌+◌, ◌*◌, ◌<◌, ◌≤◌, length, slice_index};
 ghost use Rattle.aes_block.specs.Blocks.{block, joined};
-ghost use Rattle.aes_lanes.specs.Planes.{plane, lane, ArePlanes, IsVector, first_swapped, second_swapped, AreExchanged, AreTurned, block_of};
+ghost use Rattle.aes_lanes.specs.Planes.{plane, lane, ArePlanes, IsVector, first_swapped, second_swapped, AreExchanged, AreTurned, lane_block};
 
 use std::simd::prelude::*;
 
@@ -94,7 +94,7 @@ fn vector_at(blocks: &[u8], i: usize) -> u8x32
 pub(crate) fn planes_of(blocks: &[u8]) -> Planes
     requires { length blocks.now ≡ 256 }
     ensures planes { ArePlanes result }
-    ensures blocks { (j : ℕ) → j < 16 → block_of result j ≡ block blocks.now j }
+    ensures blocks { (j : ℕ) → j < 16 → lane_block result j ≡ block blocks.now j }
 {
     let v0 = vector_at(blocks, 0);
     let v1 = vector_at(blocks, 1);
@@ -119,7 +119,7 @@ fn write_vector(x: u8x32, bytes: &mut [u8])
 #[inline(always)]
 pub(crate) fn write_blocks(planes: &Planes, blocks: &mut [u8])
     requires { length blocks.old ≡ 256 }
-    ensures { blocks.new ≡ joined (block_of planes.now) 16 }
+    ensures { blocks.new ≡ joined (lane_block planes.now) 16 }
 {
     let vectors = turn(planes);
     for i in 0..8_usize {

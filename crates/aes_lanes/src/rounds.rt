@@ -5,7 +5,7 @@
 
 ghost use Rattle.std.specs.Prelude.{◌≡◌, ℕ, ◌+◌, ◌%◌, ◌<◌, List};
 ghost use Rattle.aes_lanes.specs.Planes.{ArePlanes};
-ghost use Rattle.aes_lanes.specs.Keys.{AreCopies};
+ghost use Rattle.aes_lanes.specs.Keys.{AreOneBlock};
 ghost use Rattle.aes_lanes.specs.Rounds.{HoldKey, IsRound, IsLastRound, IsInverseStart, IsInverseRound, IsLastInverseRound};
 
 use crate::circuit::sub_bytes_without_constant;
@@ -72,7 +72,7 @@ pub(crate) fn inverse_round(q: &Planes, key: &Planes, shifts: usize) -> Planes
 pub(crate) fn last_inverse_round(q: &Planes, key: &Planes) -> Planes
     requires { ArePlanes q.now }
     ensures planes { ArePlanes result }
-    ensures blocks { (k : List ℕ) → AreCopies 0 k key.now → IsLastInverseRound k q.now result }
+    ensures blocks { (k : List ℕ) → AreOneBlock 0 k key.now → IsLastInverseRound k q.now result }
 {
     let substituted = inv_sub_bytes_with_constant(q);
     add_round_key(&substituted, key)

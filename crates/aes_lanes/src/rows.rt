@@ -2,7 +2,7 @@
 
 ghost use Rattle.std.specs.Prelude.{◌≡◌, ℕ, ◌<◌, length, slice_index};
 ghost use Rattle.aes_block.specs.Rounds.{shift_rows, inv_shift_rows};
-ghost use Rattle.aes_lanes.specs.Planes.{ArePlanes, block_of, AreMoved, lane_shifted, lane_unshifted};
+ghost use Rattle.aes_lanes.specs.Planes.{ArePlanes, lane_block, AreMoved, lane_shifted, lane_unshifted};
 
 use crate::planes::{Planes, each};
 use std::simd::prelude::*;
@@ -47,7 +47,7 @@ fn move_unshifted(q: &Planes) -> Planes
 #[inline(always)]
 pub(crate) fn shift_rows(q: &Planes) -> Planes
     ensures planes { ArePlanes result }
-    ensures blocks { (j : ℕ) → j < 16 → block_of result j ≡ shift_rows (block_of q.now j) }
+    ensures blocks { (j : ℕ) → j < 16 → lane_block result j ≡ shift_rows (lane_block q.now j) }
 {
     move_shifted(q)
 }
@@ -56,7 +56,7 @@ pub(crate) fn shift_rows(q: &Planes) -> Planes
 #[inline(always)]
 pub(crate) fn inv_shift_rows(q: &Planes) -> Planes
     ensures planes { ArePlanes result }
-    ensures blocks { (j : ℕ) → j < 16 → block_of result j ≡ inv_shift_rows (block_of q.now j) }
+    ensures blocks { (j : ℕ) → j < 16 → lane_block result j ≡ inv_shift_rows (lane_block q.now j) }
 {
     move_unshifted(q)
 }

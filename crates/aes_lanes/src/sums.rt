@@ -1,9 +1,9 @@
 //! Sums of planes: AddRoundKey (FIPS 197, 5.1.4), and the constant of SubBytes.
 
 ghost use Rattle.std.specs.Prelude.{◌≡◌, ℕ, ◌<◌, List, length, slice_index, bit_xor};
-ghost use Rattle.aes_lanes.specs.Planes.{ArePlanes, block_of, AreSums};
+ghost use Rattle.aes_lanes.specs.Planes.{ArePlanes, lane_block, AreSums};
 ghost use Rattle.aes_lanes.specs.Constant.{add_constant};
-ghost use Rattle.aes_lanes.specs.Keys.{AreCopies};
+ghost use Rattle.aes_lanes.specs.Keys.{AreOneBlock};
 ghost use Rattle.aes_lanes.specs.Rounds.{IsKeyed};
 
 use crate::planes::Planes;
@@ -36,7 +36,7 @@ pub(crate) fn add(a: &Planes, b: &Planes) -> Planes
 #[inline(always)]
 pub(crate) fn add_round_key(q: &Planes, key: &Planes) -> Planes
     ensures planes { ArePlanes result }
-    ensures blocks { (s : ℕ) (k : List ℕ) → AreCopies s k key.now → IsKeyed s k q.now result }
+    ensures blocks { (s : ℕ) (k : List ℕ) → AreOneBlock s k key.now → IsKeyed s k q.now result }
 {
     add(q, key)
 }
@@ -46,7 +46,7 @@ pub(crate) fn add_round_key(q: &Planes, key: &Planes) -> Planes
 pub(crate) fn add_constant(q: &Planes) -> Planes
     requires { ArePlanes q.now }
     ensures planes { ArePlanes result }
-    ensures blocks { (j : ℕ) → j < 16 → block_of result j ≡ add_constant (block_of q.now j) }
+    ensures blocks { (j : ℕ) → j < 16 → lane_block result j ≡ add_constant (lane_block q.now j) }
 {
     let ones = u8x32::splat(0xff);
     [

@@ -1,5 +1,6 @@
 pub mod Device
 pub mod Failing
+pub mod Calls
 pub mod OpenFault
 pub mod File
 pub mod FileId

@@ -1,7 +1,7 @@
 //! A device in memory or in a file.
-ghost use Rattle.std.specs.Prelude.{◌≡◌, ◌/◌, length, refl, IsOk, IsTrue, OnErr, OnOk};
+ghost use Rattle.std.specs.Prelude.{◌≡◌, refl, IsOk, IsTrue, OnErr, OnOk};
+ghost use Rattle.block_device.specs.Calls.{DeviceFailsToSync, DeviceSyncs};
 ghost use Rattle.block_device.specs.Any.{any_id};
-ghost use Rattle.block_device.specs.Device.{IsUnsynced, synced};
 ghost use Rattle.block_device.specs.Whole.{whole_bytes, whole_zeros};
 ghost use Rattle.block_device.specs.declared.any.AnyDev.TheVariants.{Memory, File};
 
@@ -93,8 +93,8 @@ impl SyncDev for AnyDev {
 
     // It stays the file that it is.
     fn sync(&mut self) -> Result<(), DeviceFault>
-        ensures ok { OnOk result (⟦<AnyDev as BlockDev>⟧.state self.new ≡ synced (⟦<AnyDev as BlockDev>⟧.state self.old)) }
-        ensures err { OnErr result (IsUnsynced (⟦<AnyDev as BlockDev>⟧.state self.old) (⟦<AnyDev as BlockDev>⟧.state self.new)) }
+        ensures ok { OnOk result (DeviceSyncs ⟦<AnyDev as BlockDev>⟧.state self.old self.new) }
+        ensures err { OnErr result (DeviceFailsToSync ⟦<AnyDev as BlockDev>⟧.state self.old self.new) }
         ensures sure { IsTrue (⟦<AnyDev as BlockDev>⟧.state self.old).never_fails → IsOk result }
         ensures same { any_id self.new ≡ any_id self.old }
     {

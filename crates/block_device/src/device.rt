@@ -1,7 +1,7 @@
 //! A device of sectors, as the layers above see it.
-ghost use Rattle.std.specs.Prelude.{◌≡◌, ◌≤◌, ◌^◌, ◌/◌, ℕ, List, length, is_ok, OnOk, OnErr, IsOk, IsTrue};
-ghost use Rattle.std.specs.List.{concat};
-ghost use Rattle.block_device.specs.Device.{Device, IsInside, IsWhole, IsRead, IsWritten, HasFailed, run_of, spliced, sectors_of};
+ghost use Rattle.std.specs.Prelude.{◌≡◌, ◌≤◌, ◌^◌, ℕ, List, length, is_ok, OnOk, OnErr, IsOk, IsTrue};
+ghost use Rattle.block_device.specs.Calls.{DeviceFails, DeviceGives, DevicePuts, DeviceReads, DeviceWrites};
+ghost use Rattle.block_device.specs.Device.{Device, IsInside, IsWhole};
 
 use thiserror::Error;
 
@@ -33,20 +33,20 @@ pub trait BlockDev {
     /// Reads the sectors from `first` on that fill `out`, a positive multiple of 512 bytes.
     fn read(&mut self, first: u64, out: &mut [u8]) -> Result<(), DeviceFault>
         requires { IsInside (state self.old) first (length out.old) }
-        ensures moved { IsRead (state self.old) (length out.old / 512) (is_ok result) (state self.new) }
-        ensures bytes { OnOk result (IsTrue (state self.old).steady → out.new ≡ concat (run_of (state self.old).image first (length out.old / 512))) }
+        ensures moved { DeviceReads state self.old self.new out.old (is_ok result) }
+        ensures bytes { OnOk result (DeviceGives state self.old first out.old out.new) }
         ensures given { OnOk result (gives self.old first out.new) }
         ensures sure { IsTrue (state self.old).never_fails → IsOk result }
-        ensures fault { OnErr result (HasFailed (state self.old) (state self.new)) };
+        ensures fault { OnErr result (DeviceFails state self.old self.new) };
 
     /// Writes the sectors from `first` on, a positive multiple of 512 bytes.
     fn write(&mut self, first: u64, bytes: &[u8]) -> Result<(), DeviceFault>
         requires range { IsInside (state self.old) first (length bytes.now) }
         requires allowed { IsTrue (state self.old).may_write }
-        ensures moved { IsWritten (state self.old) first (length bytes.now / 512) (is_ok result) (state self.new) }
-        ensures image { OnOk result (IsTrue (state self.old).steady → (state self.new).image ≡ spliced (state self.old).image first (sectors_of (length bytes.now / 512) bytes.now)) }
+        ensures moved { DeviceWrites state self.old self.new first bytes.now (is_ok result) }
+        ensures image { OnOk result (DevicePuts state self.old self.new first bytes.now) }
         ensures sure { IsTrue (state self.old).never_fails → IsOk result }
-        ensures fault { OnErr result (HasFailed (state self.old) (state self.new)) };
+        ensures fault { OnErr result (DeviceFails state self.old self.new) };
 
     /// How many sectors reads have asked for, in failed calls too.
     fn reads(&self) -> u64

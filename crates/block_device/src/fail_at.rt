@@ -1,8 +1,8 @@
 //! A device that fails once.
 ghost use Rattle.std.specs.Prelude.{◌≡◌, ◌≢◌, ◌/◌, ◌-◌, false, length, is_ok, IsTrue, IsOk, IsErr, OnOk, OnErr};
-ghost use Rattle.std.specs.List.{concat};
-ghost use Rattle.block_device.specs.Device.{IsInside, IsRead, IsUnsynced, IsWritten, synced, HasFailed, capped, run_of, spliced, sectors_of};
-ghost use Rattle.block_device.specs.Failing.{failing, IsInnerRead, IsInnerSync, IsInnerWrite};
+ghost use Rattle.block_device.specs.Calls.{DeviceFails, DeviceFailsToSync, DeviceGives, DevicePuts, DeviceReads, DeviceSyncs, DeviceWrites, ReadsInner, SyncsInner, WritesInner};
+ghost use Rattle.block_device.specs.Device.{IsInside};
+ghost use Rattle.block_device.specs.Failing.{failing};
 
 use crate::{BlockDev, DeviceFault, SyncDev};
 
@@ -56,15 +56,15 @@ impl<D: BlockDev> BlockDev for FailAt<D> {
 
     fn read(&mut self, first: u64, out: &mut [u8]) -> Result<(), DeviceFault>
         requires { IsInside (⟦<FailAt<D> as BlockDev>⟧.state self.old) first (length out.old) }
-        ensures moved { IsRead (⟦<FailAt<D> as BlockDev>⟧.state self.old) (length out.old / 512) (is_ok result) (⟦<FailAt<D> as BlockDev>⟧.state self.new) }
-        ensures bytes { OnOk result (IsTrue (⟦<FailAt<D> as BlockDev>⟧.state self.old).steady → out.new ≡ concat (run_of (⟦<FailAt<D> as BlockDev>⟧.state self.old).image first (length out.old / 512))) }
+        ensures moved { DeviceReads ⟦<FailAt<D> as BlockDev>⟧.state self.old self.new out.old (is_ok result) }
+        ensures bytes { OnOk result (DeviceGives ⟦<FailAt<D> as BlockDev>⟧.state self.old first out.old out.new) }
         ensures given { OnOk result (⟦<FailAt<D> as BlockDev>⟧.gives self.old first out.new) }
         ensures sure { IsTrue (⟦<FailAt<D> as BlockDev>⟧.state self.old).never_fails → IsOk result }
-        ensures fault { OnErr result (HasFailed (⟦<FailAt<D> as BlockDev>⟧.state self.old) (⟦<FailAt<D> as BlockDev>⟧.state self.new)) }
+        ensures fault { OnErr result (DeviceFails ⟦<FailAt<D> as BlockDev>⟧.state self.old self.new) }
 
         // The call that fails leaves the inner device as it was, and every other is passed on to it.
         ensures fails { self.old.calls_to_failure ≡ 1 → IsErr result × (D.state self.new.inner ≡ D.state self.old.inner) }
-        ensures passes { self.old.calls_to_failure ≢ 1 → IsInnerRead (D.state self.old.inner) first (length out.old / 512) (is_ok result) (D.state self.new.inner) out.new }
+        ensures passes { self.old.calls_to_failure ≢ 1 → ReadsInner D.state self.old.inner self.new.inner first out.old out.new (is_ok result) }
         ensures calls { self.new.calls_to_failure ≡ self.old.calls_to_failure - 1 }
     {
         if self.calls_to_failure == 1 {
@@ -82,14 +82,14 @@ impl<D: BlockDev> BlockDev for FailAt<D> {
     fn write(&mut self, first: u64, bytes: &[u8]) -> Result<(), DeviceFault>
         requires range { IsInside (⟦<FailAt<D> as BlockDev>⟧.state self.old) first (length bytes.now) }
         requires allowed { IsTrue (⟦<FailAt<D> as BlockDev>⟧.state self.old).may_write }
-        ensures moved { IsWritten (⟦<FailAt<D> as BlockDev>⟧.state self.old) first (length bytes.now / 512) (is_ok result) (⟦<FailAt<D> as BlockDev>⟧.state self.new) }
-        ensures image { OnOk result (IsTrue (⟦<FailAt<D> as BlockDev>⟧.state self.old).steady → (⟦<FailAt<D> as BlockDev>⟧.state self.new).image ≡ spliced (⟦<FailAt<D> as BlockDev>⟧.state self.old).image first (sectors_of (length bytes.now / 512) bytes.now)) }
+        ensures moved { DeviceWrites ⟦<FailAt<D> as BlockDev>⟧.state self.old self.new first bytes.now (is_ok result) }
+        ensures image { OnOk result (DevicePuts ⟦<FailAt<D> as BlockDev>⟧.state self.old self.new first bytes.now) }
         ensures sure { IsTrue (⟦<FailAt<D> as BlockDev>⟧.state self.old).never_fails → IsOk result }
-        ensures fault { OnErr result (HasFailed (⟦<FailAt<D> as BlockDev>⟧.state self.old) (⟦<FailAt<D> as BlockDev>⟧.state self.new)) }
+        ensures fault { OnErr result (DeviceFails ⟦<FailAt<D> as BlockDev>⟧.state self.old self.new) }
 
         // The call that fails leaves the inner device as it was, and every other is passed on to it.
         ensures fails { self.old.calls_to_failure ≡ 1 → IsErr result × (D.state self.new.inner ≡ D.state self.old.inner) }
-        ensures passes { self.old.calls_to_failure ≢ 1 → IsInnerWrite (D.state self.old.inner) first (length bytes.now / 512) (is_ok result) (D.state self.new.inner) bytes.now }
+        ensures passes { self.old.calls_to_failure ≢ 1 → WritesInner D.state self.old.inner self.new.inner first bytes.now (is_ok result) }
         ensures calls { self.new.calls_to_failure ≡ self.old.calls_to_failure - 1 }
     {
         if self.calls_to_failure == 1 {
@@ -128,13 +128,13 @@ impl<D: SyncDev> SyncDev for FailAt<D> {
     }
 
     fn sync(&mut self) -> Result<(), DeviceFault>
-        ensures ok { OnOk result (⟦<FailAt<D> as BlockDev>⟧.state self.new ≡ synced (⟦<FailAt<D> as BlockDev>⟧.state self.old)) }
-        ensures err { OnErr result (IsUnsynced (⟦<FailAt<D> as BlockDev>⟧.state self.old) (⟦<FailAt<D> as BlockDev>⟧.state self.new)) }
+        ensures ok { OnOk result (DeviceSyncs ⟦<FailAt<D> as BlockDev>⟧.state self.old self.new) }
+        ensures err { OnErr result (DeviceFailsToSync ⟦<FailAt<D> as BlockDev>⟧.state self.old self.new) }
         ensures sure { IsTrue (⟦<FailAt<D> as BlockDev>⟧.state self.old).never_fails → IsOk result }
 
         // As for reads and writes.
         ensures fails { self.old.calls_to_failure ≡ 1 → IsErr result × (D.state self.new.inner ≡ D.state self.old.inner) }
-        ensures passes { self.old.calls_to_failure ≢ 1 → IsInnerSync (D.state self.old.inner) (is_ok result) (D.state self.new.inner) }
+        ensures passes { self.old.calls_to_failure ≢ 1 → SyncsInner D.state self.old.inner self.new.inner (is_ok result) }
         ensures calls { self.new.calls_to_failure ≡ self.old.calls_to_failure - 1 }
     {
         if self.calls_to_failure == 1 {

@@ -1,7 +1,8 @@
 //! A device in a file.
-ghost use Rattle.std.specs.Prelude.{◌≡◌, ◌≤◌, ◌^◌, ◌/◌, ◌↔◌, ℕ, length, false, refl, IfOk, IfErr, IfSome, IsOk, IsTrue, OnErr, OnOk, Ok};
+ghost use Rattle.std.specs.Prelude.{◌≡◌, ◌≤◌, ◌^◌, ◌/◌, ◌↔◌, length, false, refl, IfOk, IfErr, IfSome, IsOk, IsTrue, OnErr, OnOk, Ok};
 ghost use Rattle.std.specs.Fs.{metadata_len, file_type, IsFile};
-ghost use Rattle.block_device.specs.Device.{Device, IsUnsynced, synced, zeros_image};
+ghost use Rattle.block_device.specs.Calls.{DeviceFailsToSync, DeviceSyncs};
+ghost use Rattle.block_device.specs.Device.{zeros_image};
 ghost use Rattle.block_device.specs.File.{opened, HasSectors, IsRefused, IsImage, IsBlockDevice};
 ghost use Rattle.block_device.specs.Identity.{IsIdOf};
 ghost use Rattle.block_device.specs.Whole.{whole_zeros};
@@ -205,8 +206,8 @@ impl SyncDev for FileDev {
 
     // It stays the file that it is.
     fn sync(&mut self) -> Result<(), DeviceFault>
-        ensures ok { OnOk result (⟦<FileDev as BlockDev>⟧.state self.new ≡ synced (⟦<FileDev as BlockDev>⟧.state self.old)) }
-        ensures err { OnErr result (IsUnsynced (⟦<FileDev as BlockDev>⟧.state self.old) (⟦<FileDev as BlockDev>⟧.state self.new)) }
+        ensures ok { OnOk result (DeviceSyncs ⟦<FileDev as BlockDev>⟧.state self.old self.new) }
+        ensures err { OnErr result (DeviceFailsToSync ⟦<FileDev as BlockDev>⟧.state self.old self.new) }
         ensures sure { IsTrue (⟦<FileDev as BlockDev>⟧.state self.old).never_fails → IsOk result }
         ensures same { file_id self.new ≡ file_id self.old }
     {

@@ -1,7 +1,8 @@
 //! A device in memory.
-ghost use Rattle.std.specs.Prelude.{◌≡◌, ◌≤◌, ◌^◌, ◌/◌, ◌*◌, ◌+◌, ◌%◌, ℕ, ◌++◌, take, drop, length, replicate, true, refl, is_ok, IfOk, IsOk, IsTrue, OnErr, OnOk, map};
-ghost use Rattle.std.specs.List.{concat, range_with_len};
-ghost use Rattle.block_device.specs.Device.{HasFailed, IsInside, IsWritten, sectors_of, spliced, in_memory, zeros_image, ramp_image, filled};
+ghost use Rattle.std.specs.Prelude.{◌≡◌, ◌≤◌, ◌/◌, ◌*◌, ◌+◌, ◌%◌, ◌++◌, take, drop, length, replicate, true, refl, is_ok, IfOk, IsOk, IsTrue, OnErr, OnOk};
+ghost use Rattle.std.specs.List.{concat};
+ghost use Rattle.block_device.specs.Calls.{DeviceFails, DevicePuts, DeviceWrites};
+ghost use Rattle.block_device.specs.Device.{IsInside, sectors_of, in_memory, zeros_image, ramp_image};
 ghost use Rattle.block_device.specs.Whole.{whole_bytes};
 
 use crate::{BlockDev, DeviceFault, SyncDev};
@@ -124,10 +125,10 @@ impl BlockDev for MemoryDev {
     fn write(&mut self, first: u64, bytes: &[u8]) -> Result<(), DeviceFault>
         requires range { IsInside (⟦<MemoryDev as BlockDev>⟧.state self.old) first (length bytes.now) }
         requires allowed { IsTrue (⟦<MemoryDev as BlockDev>⟧.state self.old).may_write }
-        ensures moved { IsWritten (⟦<MemoryDev as BlockDev>⟧.state self.old) first (length bytes.now / 512) (is_ok result) (⟦<MemoryDev as BlockDev>⟧.state self.new) }
-        ensures image { OnOk result (IsTrue (⟦<MemoryDev as BlockDev>⟧.state self.old).steady → (⟦<MemoryDev as BlockDev>⟧.state self.new).image ≡ spliced (⟦<MemoryDev as BlockDev>⟧.state self.old).image first (sectors_of (length bytes.now / 512) bytes.now)) }
+        ensures moved { DeviceWrites ⟦<MemoryDev as BlockDev>⟧.state self.old self.new first bytes.now (is_ok result) }
+        ensures image { OnOk result (DevicePuts ⟦<MemoryDev as BlockDev>⟧.state self.old self.new first bytes.now) }
         ensures sure { IsTrue (⟦<MemoryDev as BlockDev>⟧.state self.old).never_fails → IsOk result }
-        ensures fault { OnErr result (HasFailed (⟦<MemoryDev as BlockDev>⟧.state self.old) (⟦<MemoryDev as BlockDev>⟧.state self.new)) }
+        ensures fault { OnErr result (DeviceFails ⟦<MemoryDev as BlockDev>⟧.state self.old self.new) }
         ensures bytes { memory_bytes self.new ≡ take (first * 512) (memory_bytes self.old) ++ bytes.now ++ drop (first * 512 + length bytes.now) (memory_bytes self.old) }
     {
         let start = first as usize * 512;

@@ -1,7 +1,7 @@
 //! A device that answers what a script says.
-ghost use Rattle.std.specs.Prelude.{◌≡◌, ◌≤◌, ◌^◌, ◌/◌, ◌+◌, ℕ, length, true, false, refl, is_ok, IsOk, IsErr, IsTrue, OnErr, OnOk, map};
-ghost use Rattle.std.specs.List.{concat};
-ghost use Rattle.block_device.specs.Device.{IsInside, IsRead, HasFailed, capped, run_of, zeros_image};
+ghost use Rattle.std.specs.Prelude.{◌≡◌, ◌≤◌, ◌^◌, ◌/◌, ◌+◌, length, true, false, refl, is_ok, IsOk, IsErr, map};
+ghost use Rattle.block_device.specs.Calls.{DeviceReads};
+ghost use Rattle.block_device.specs.Device.{IsInside, capped, zeros_image};
 ghost use Rattle.block_device.specs.Script.{answer_of};
 ghost use Rattle.block_device.specs.Whole.{whole_zeros};
 
@@ -83,7 +83,7 @@ impl BlockDev for ScriptDev {
 
     fn read(&mut self, _first: u64, out: &mut [u8]) -> Result<(), DeviceFault>
         requires { IsInside (⟦<ScriptDev as BlockDev>⟧.state self.old) _first (length out.old) }
-        ensures moved { IsRead (⟦<ScriptDev as BlockDev>⟧.state self.old) (length out.old / 512) (is_ok result) (⟦<ScriptDev as BlockDev>⟧.state self.new) }
+        ensures moved { DeviceReads ⟦<ScriptDev as BlockDev>⟧.state self.old self.new out.old (is_ok result) }
         ensures ok { IsOk result }
         ensures bytes { out.new ≡ answer_of self.old.answers self.old.calls (length out.old) }
         ensures answers { self.new.answers ≡ self.old.answers }

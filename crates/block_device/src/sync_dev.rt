@@ -1,6 +1,7 @@
 //! A device whose writes can be put on its medium.
 ghost use Rattle.std.specs.Prelude.{◌≡◌, IsOk, IsTrue, OnErr, OnOk};
-ghost use Rattle.block_device.specs.Device.{IsUnsynced, synced};
+ghost use Rattle.block_device.specs.Calls.{DeviceFailsToSync, DeviceSyncs};
+
 
 use crate::{BlockDev, DeviceFault};
 
@@ -12,7 +13,7 @@ pub trait SyncDev: BlockDev {
 
     /// Has all that was written put on the medium. Nothing is on it for sure before this answered Ok.
     fn sync(&mut self) -> Result<(), DeviceFault>
-        ensures ok { OnOk result (Self.state self.new ≡ synced (Self.state self.old)) }
-        ensures err { OnErr result (IsUnsynced (Self.state self.old) (Self.state self.new)) }
+        ensures ok { OnOk result (DeviceSyncs Self.state self.old self.new) }
+        ensures err { OnErr result (DeviceFailsToSync Self.state self.old self.new) }
         ensures sure { IsTrue (Self.state self.old).never_fails → IsOk result };
 }

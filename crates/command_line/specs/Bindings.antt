@@ -6,7 +6,7 @@ use Rattle.dm_table.specs.Numbers.{number, number_if}
 use Rattle.command_line.specs.declared.bindings.Backing.{Backing}
 use Rattle.command_line.specs.declared.bindings.Backing.TheVariants.{File, Part, Zeros, Ramp}
 use Rattle.command_line.specs.declared.bindings.Binding.{Binding}
-use Rattle.command_line.specs.Cuts.{cut}
+use Rattle.command_line.specs.Cuts.{cut_first}
 use Rattle.command_line.specs.PartBindings.{PartRecord, kind_part, part_record}
 
 -- what stands behind a name
@@ -43,14 +43,14 @@ backing_by kind rest =
 
 -- `KIND:REST`, cut at the first colon (58)
 abbrev pub backing_of : List ℕ → Option BackingRecord
-backing_of text = option_and_then (λ parts. backing_by parts.0 parts.1) (cut 58 text)
+backing_of text = option_and_then (λ parts. backing_by parts.0 parts.1) (cut_first 58 text)
 
 abbrev pub bind : List ℕ → BackingRecord → BindingRecord
 bind name backing = record { name = name; backing = backing }
 
 -- `NAME=KIND:REST`, cut at the first `=` (61)
 abbrev pub binding_of : List ℕ → Option BindingRecord
-binding_of word = option_and_then (λ parts. option_map (bind parts.0) (backing_of parts.1)) (cut 61 word)
+binding_of word = option_and_then (λ parts. option_map (bind parts.0) (backing_of parts.1)) (cut_first 61 word)
 
 -- what a backing and a binding of the program say
 abbrev pub backing_record : Backing → BackingRecord

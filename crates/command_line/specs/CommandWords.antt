@@ -18,7 +18,7 @@ use Rattle.command_line.specs.BindingWords.{bindings_of}
 use Rattle.command_line.specs.FormatOptions.{OptionTexts, option_texts, texts_of}
 use Rattle.command_line.specs.FurtherRecords.{FurtherRecord, further_record, further_said}
 use Rattle.command_line.specs.FurtherWords.{is_further}
-use Rattle.command_line.specs.Values.{cache_of, root_of}
+use Rattle.command_line.specs.Values.{cache_said, root_of}
 
 pub data InvocationRecord : Type 0 where
   -- a stack file, and bindings
@@ -61,9 +61,9 @@ read_at cache stack name (Some first) None bindings = None
 read_at cache stack name None count bindings = None
 
 -- `STACK NAME FIRST COUNT BINDING...`
-abbrev pub read_of : ℕ → List (List ℕ) → Option InvocationRecord
-read_of cache (stack ∷ name ∷ first ∷ count ∷ words) = read_at cache stack name (number first) (number count) (bindings_of words)
-read_of cache words = None
+abbrev pub read_invocation : ℕ → List (List ℕ) → Option InvocationRecord
+read_invocation cache (stack ∷ name ∷ first ∷ count ∷ words) = read_at cache stack name (number first) (number count) (bindings_of words)
+read_invocation cache words = None
 
 abbrev pub write_at : ℕ → List ℕ → List ℕ → Option ℕ → List ℕ → Option (List BindingRecord) → Option InvocationRecord
 write_at cache stack name (Some first) source bindings = option_map (write cache stack name first source) bindings
@@ -114,15 +114,15 @@ table_at hash root image_name hash_name =
     if is_device image_name && is_device hash_name then option_map (λ bytes. table hash bytes image_name hash_name) root else None
 
 -- `HASH ROOT DATANAME HASHNAME`
-abbrev pub table_of : List (List ℕ) → Option InvocationRecord
-table_of (hash ∷ root ∷ image_name ∷ hash_name ∷ []) = table_at hash (root_of root) image_name hash_name
-table_of words = None
+abbrev pub table_invocation : List (List ℕ) → Option InvocationRecord
+table_invocation (hash ∷ root ∷ image_name ∷ hash_name ∷ []) = table_at hash (root_of root) image_name hash_name
+table_invocation words = None
 
 -- by a command's name, how many blocks are cached, and its positional words
 abbrev pub invocation_at : List ℕ → ℕ → List (List ℕ) → Option InvocationRecord
 invocation_at name cache words =
     if bytes_eq name (codes "load") then load_of words
-    else if bytes_eq name (codes "read") then read_of cache words
+    else if bytes_eq name (codes "read") then read_invocation cache words
     else if bytes_eq name (codes "write") then write_of cache words
     else if bytes_eq name (codes "session") then session_of cache words
     else if bytes_eq name (codes "nbd") then nbd_of cache words
@@ -131,7 +131,7 @@ invocation_at name cache words =
     else if bytes_eq name (codes "format") then format_of words
     else if bytes_eq name (codes "verify") then verify_of words
     else if bytes_eq name (codes "dump") then dump_of words
-    else if bytes_eq name (codes "table") then table_of words
+    else if bytes_eq name (codes "table") then table_invocation words
     else None
 
 -- a word behind the first one has the form of an option
@@ -140,7 +140,7 @@ has_late_option words = list_any is_option (drop 1 words)
 
 -- as in the first version
 abbrev pub first_invocation : List ℕ → OptionTexts → List (List ℕ) → Option InvocationRecord
-first_invocation name texts words = option_and_then (λ blocks. invocation_at name blocks words) (cache_of texts.cache)
+first_invocation name texts words = option_and_then (λ blocks. invocation_at name blocks words) (cache_said texts.cache)
 
 -- by a command's name, the values of its options, and its positional words, of which none behind the first has the form of
 -- an option unless `--` stands in front of them
@@ -175,8 +175,8 @@ IsUsage Usage Cause = Cause
 IsUsage NoMemory Cause = Unit {0}
 
 -- the fault refuses words that say nothing, or memory ran out
-abbrev pub Refuses : {A : Type 0} → Option A → WordsFault → Type 0
-Refuses said fault = IsUsage fault (said ≡ None)
+abbrev pub RefusesWords : {A : Type 0} → Option A → WordsFault → Type 0
+RefusesWords said fault = IsUsage fault (said ≡ None)
 
 -- the program's own value is the invocation that words say
 abbrev pub IsSaid : Option InvocationRecord → Invocation → Type 0

@@ -3,7 +3,7 @@ use Rattle.std.specs.Prelude.{ℕ, ◌==◌, nat_lt, List, length, Option, Some,
 use Rattle.std.specs.List.{position_or_len, before_first, after_first}
 
 -- the text before and behind its first byte b, if it has one
-unfoldable pub cut : ℕ → List ℕ → Option (List ℕ × List ℕ)
-cut b text =
+unfoldable pub cut_first : ℕ → List ℕ → Option (List ℕ × List ℕ)
+cut_first b text =
     if nat_lt (position_or_len (λ x. x == b) text) (length text)
     then Some (before_first (λ x. x == b) text, after_first (λ x. x == b) text) else None

@@ -3,7 +3,7 @@ use Rattle.std.specs.Prelude.{ℕ, ◌+◌, ◌^◌, ◌&&◌, nat_le, nat_lt, B
 use Rattle.std.specs.Str.{bytes_eq}
 use Rattle.dm_table.specs.Numbers.{number}
 use Rattle.command_line.specs.declared.part_bindings.FilePart.{FilePart}
-use Rattle.command_line.specs.Cuts.{cut}
+use Rattle.command_line.specs.Cuts.{cut_first}
 use Rattle.command_line.specs.Values.{when}
 
 -- so many sectors, from the first one on
@@ -19,8 +19,8 @@ abbrev pub sectors_from : List ℕ → List ℕ → Option PartRecord
 sectors_from first count = when (number first) (λ f. when (number count) (λ n. part_at f n))
 
 -- `FIRST+COUNT`, cut at the first `+` (43)
-abbrev pub part_of : List ℕ → Option PartRecord
-part_of place = when (cut 43 place) (λ parts. sectors_from parts.0 parts.1)
+abbrev pub said_part : List ℕ → Option PartRecord
+said_part place = when (cut_first 43 place) (λ parts. sectors_from parts.0 parts.1)
 
 -- `rw` or `ro`
 abbrev pub access_of : List ℕ → Option Bool
@@ -28,7 +28,7 @@ access_of access = if bytes_eq access (codes "rw") then Some true else if bytes_
 
 -- what stands before the colon, cut at the first `@` (64)
 abbrev pub kind_part : List ℕ → Option (Bool × PartRecord)
-kind_part kind = when (cut 64 kind) (λ parts. when (access_of parts.0) (λ writable. when (part_of parts.1) (λ part. Some (writable, part))))
+kind_part kind = when (cut_first 64 kind) (λ parts. when (access_of parts.0) (λ writable. when (said_part parts.1) (λ part. Some (writable, part))))
 
 -- what the program's own value says
 abbrev pub part_record : FilePart → PartRecord

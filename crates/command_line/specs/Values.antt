@@ -18,24 +18,24 @@ abbrev pub when : {A B : Type 0} → Option A → (A → Option B) → Option B
 when value follows = option_and_then follows value
 
 -- 64 blocks are cached unless the words say so, and at most 65,536
-unfoldable pub cache_of : Option (List ℕ) → Option ℕ
-cache_of None = Some 64
-cache_of (Some word) = number_if (λ n. nat_le n 65536) (number word)
+unfoldable pub cache_said : Option (List ℕ) → Option ℕ
+cache_said None = Some 64
+cache_said (Some word) = number_if (λ n. nat_le n 65536) (number word)
 
 -- the first sector is 0 unless the word says another
-unfoldable pub first_of : Option (List ℕ) → Option ℕ
-first_of None = Some 0
-first_of (Some word) = number word
+unfoldable pub first_said : Option (List ℕ) → Option ℕ
+first_said None = Some 0
+first_said (Some word) = number word
 
 -- how many sectors, or no word
-unfoldable pub count_of : Option (List ℕ) → Option (Option ℕ)
-count_of None = Some None
-count_of (Some word) = option_map (λ n. Some n) (number word)
+unfoldable pub count_said : Option (List ℕ) → Option (Option ℕ)
+count_said None = Some None
+count_said (Some word) = option_map (λ n. Some n) (number word)
 
 -- how many runs at most, which is at least one, or no word
-unfoldable pub runs_of : Option (List ℕ) → Option (Option ℕ)
-runs_of None = Some None
-runs_of (Some word) = option_map (λ n. Some n) (number_if (λ n. nat_le 1 n) (number word))
+unfoldable pub runs_said : Option (List ℕ) → Option (Option ℕ)
+runs_said None = Some None
+runs_said (Some word) = option_map (λ n. Some n) (number_if (λ n. nat_le 1 n) (number word))
 
 -- the hash area begins at byte 0, or at a multiple of 512
 unfoldable pub offset_of : Option (List ℕ) → Option ℕ
@@ -48,14 +48,14 @@ sector_size_of None = Some 512
 sector_size_of (Some word) = number_if (λ n. n == 512 || n == 4096) (number word)
 
 -- the name of a mapped device, or no word
-unfoldable pub name_of : Option (List ℕ) → Option (Option (List ℕ))
-name_of None = Some None
-name_of (Some word) = if is_mapped_name word then Some (Some word) else None
+unfoldable pub name_said : Option (List ℕ) → Option (Option (List ℕ))
+name_said None = Some None
+name_said (Some word) = if is_mapped_name word then Some (Some word) else None
 
 -- the path of a map file, or no word; a word of no bytes is none, and `-`, the standard input
-unfoldable pub map_of : Option (List ℕ) → Option (Option (List ℕ))
-map_of None = Some None
-map_of (Some word) = if length word == 0 || bytes_eq word (codes "-") then None else Some (Some word)
+unfoldable pub map_said : Option (List ℕ) → Option (Option (List ℕ))
+map_said None = Some None
+map_said (Some word) = if length word == 0 || bytes_eq word (codes "-") then None else Some (Some word)
 
 -- 64 hexadecimal digits as 32 bytes
 unfoldable pub root_of : List ℕ → Option (List ℕ)

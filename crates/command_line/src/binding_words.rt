@@ -1,7 +1,7 @@
 //! The bindings of a command line.
 ghost use Rattle.std.specs.Prelude.{IfOk, IfErr};
 ghost use Rattle.command_line.specs.BindingWords.{AreBindings, bindings_of};
-ghost use Rattle.command_line.specs.CommandWords.{Refuses};
+ghost use Rattle.command_line.specs.CommandWords.{RefusesWords};
 ghost use Rattle.command_line.specs.FormatOptions.{texts_of};
 
 use crate::bindings::{Binding, binding_of};
@@ -11,7 +11,7 @@ use std::alloc::Global;
 /// The bindings, if all words are bindings.
 pub fn bindings_of<'a>(alloc: Global, words: &[&'a str]) -> Result<Vec<Binding<'a>>, WordsFault>
     ensures ok { IfOk result (λ v. AreBindings (bindings_of (texts_of words.now)) v.items) }
-    ensures err { IfErr result (Refuses (bindings_of (texts_of words.now))) }
+    ensures err { IfErr result (RefusesWords (bindings_of (texts_of words.now))) }
 {
     let mut bindings = Vec::new(alloc);
     'words: for word in words {

@@ -2,7 +2,7 @@
 ghost use Rattle.std.specs.Prelude.{◌≡◌, ◌&&◌, not, drop, IfOk, IfErr};
 ghost use Rattle.std.specs.List.{list_any};
 ghost use Rattle.command_line.specs.FormatOptions.{texts_of};
-ghost use Rattle.command_line.specs.CommandWords.{IsSaid, Refuses, copy_of, has_late_option, invocation_at, invoked_by, is_option, load_of, nbd_of, read_of, scan_of, session_of, write_of};
+ghost use Rattle.command_line.specs.CommandWords.{IsSaid, RefusesWords, copy_of, has_late_option, invocation_at, invoked_by, is_option, load_of, nbd_of, read_invocation, scan_of, session_of, write_of};
 
 use crate::binding_words::bindings_of;
 use crate::fault::WordsFault;
@@ -25,7 +25,7 @@ pub fn invocation_of<'a>(
     behind_dashes: bool,
 ) -> Result<Invocation<'a>, WordsFault>
     ensures ok { IfOk result (IsSaid (invoked_by name.now options.now words.now behind_dashes)) }
-    ensures err { IfErr result (Refuses (invoked_by name.now options.now words.now behind_dashes)) }
+    ensures err { IfErr result (RefusesWords (invoked_by name.now options.now words.now behind_dashes)) }
 {
     if is_late(words, behind_dashes) {
         return Err(WordsFault::Usage);
@@ -49,7 +49,7 @@ fn invocation_at<'a>(
     words: &[&'a str],
 ) -> Result<Invocation<'a>, WordsFault>
     ensures ok { IfOk result (IsSaid (invocation_at name.now cache (texts_of words.now))) }
-    ensures err { IfErr result (Refuses (invocation_at name.now cache (texts_of words.now))) }
+    ensures err { IfErr result (RefusesWords (invocation_at name.now cache (texts_of words.now))) }
 {
     if name == b"load".as_slice() {
         load_of(alloc, words)
@@ -81,7 +81,7 @@ fn invocation_at<'a>(
 // `STACK BINDING...`
 fn load_of<'a>(alloc: Global, words: &[&'a str]) -> Result<Invocation<'a>, WordsFault>
     ensures ok { IfOk result (IsSaid (load_of (texts_of words.now))) }
-    ensures err { IfErr result (Refuses (load_of (texts_of words.now))) }
+    ensures err { IfErr result (RefusesWords (load_of (texts_of words.now))) }
 {
     let [stack, rest @ ..] = words else {
         return Err(WordsFault::Usage);
@@ -94,8 +94,8 @@ fn load_of<'a>(alloc: Global, words: &[&'a str]) -> Result<Invocation<'a>, Words
 
 // `STACK NAME FIRST COUNT BINDING...`
 fn read_of<'a>(alloc: Global, cache: u32, words: &[&'a str]) -> Result<Invocation<'a>, WordsFault>
-    ensures ok { IfOk result (IsSaid (read_of cache (texts_of words.now))) }
-    ensures err { IfErr result (Refuses (read_of cache (texts_of words.now))) }
+    ensures ok { IfOk result (IsSaid (read_invocation cache (texts_of words.now))) }
+    ensures err { IfErr result (RefusesWords (read_invocation cache (texts_of words.now))) }
 {
     let [stack, name, first, count, rest @ ..] = words else {
         return Err(WordsFault::Usage);
@@ -117,7 +117,7 @@ fn read_of<'a>(alloc: Global, cache: u32, words: &[&'a str]) -> Result<Invocatio
 // `STACK NAME FIRST SOURCE BINDING...`
 fn write_of<'a>(alloc: Global, cache: u32, words: &[&'a str]) -> Result<Invocation<'a>, WordsFault>
     ensures ok { IfOk result (IsSaid (write_of cache (texts_of words.now))) }
-    ensures err { IfErr result (Refuses (write_of cache (texts_of words.now))) }
+    ensures err { IfErr result (RefusesWords (write_of cache (texts_of words.now))) }
 {
     let [stack, name, first, source, rest @ ..] = words else {
         return Err(WordsFault::Usage);
@@ -147,7 +147,7 @@ fn session_of<'a>(
     words: &[&'a str],
 ) -> Result<Invocation<'a>, WordsFault>
     ensures ok { IfOk result (IsSaid (session_of cache (texts_of words.now))) }
-    ensures err { IfErr result (Refuses (session_of cache (texts_of words.now))) }
+    ensures err { IfErr result (RefusesWords (session_of cache (texts_of words.now))) }
 {
     match bindings_of(alloc, words) {
         Ok(bindings) => Ok(Invocation::Session { cache, bindings }),
@@ -158,7 +158,7 @@ fn session_of<'a>(
 // `STACK NAME BINDING...`, where STACK isn't the standard input, which is the client's
 fn nbd_of<'a>(alloc: Global, cache: u32, words: &[&'a str]) -> Result<Invocation<'a>, WordsFault>
     ensures ok { IfOk result (IsSaid (nbd_of cache (texts_of words.now))) }
-    ensures err { IfErr result (Refuses (nbd_of cache (texts_of words.now))) }
+    ensures err { IfErr result (RefusesWords (nbd_of cache (texts_of words.now))) }
 {
     let [stack, name, rest @ ..] = words else {
         return Err(WordsFault::Usage);
@@ -178,7 +178,7 @@ fn nbd_of<'a>(alloc: Global, cache: u32, words: &[&'a str]) -> Result<Invocation
 // `STACK NAME BINDING...`
 fn scan_of<'a>(alloc: Global, words: &[&'a str]) -> Result<Invocation<'a>, WordsFault>
     ensures ok { IfOk result (IsSaid (scan_of (texts_of words.now))) }
-    ensures err { IfErr result (Refuses (scan_of (texts_of words.now))) }
+    ensures err { IfErr result (RefusesWords (scan_of (texts_of words.now))) }
 {
     let [stack, name, rest @ ..] = words else {
         return Err(WordsFault::Usage);
@@ -196,7 +196,7 @@ fn scan_of<'a>(alloc: Global, words: &[&'a str]) -> Result<Invocation<'a>, Words
 // `STACK NAME OUT BINDING...`
 fn copy_of<'a>(alloc: Global, words: &[&'a str]) -> Result<Invocation<'a>, WordsFault>
     ensures ok { IfOk result (IsSaid (copy_of (texts_of words.now))) }
-    ensures err { IfErr result (Refuses (copy_of (texts_of words.now))) }
+    ensures err { IfErr result (RefusesWords (copy_of (texts_of words.now))) }
 {
     let [stack, name, out, rest @ ..] = words else {
         return Err(WordsFault::Usage);

@@ -1,7 +1,7 @@
 //! The commands that take more than the first version's.
 ghost use Rattle.command_line.specs.FormatOptions.{option_texts, texts_of};
 ghost use Rattle.command_line.specs.FurtherRecords.{command_said, fec_said, further_said, image_said, tree_said};
-ghost use Rattle.command_line.specs.Reading.{Reads};
+ghost use Rattle.command_line.specs.Reading.{ReadsCommand};
 
 use crate::fault::WordsFault;
 use crate::option_words::{OptionWords, has_fec_value};
@@ -59,7 +59,7 @@ pub fn further_of<'a>(
     options: &OptionWords<'a>,
     words: &[&'a str],
 ) -> Result<Further<'a>, WordsFault>
-    ensures { Reads (further_said name.now (option_texts options.now) (texts_of words.now)) result }
+    ensures { ReadsCommand (further_said name.now (option_texts options.now) (texts_of words.now)) result }
 {
     if name == b"repair".as_slice() {
         repair_of(alloc, options, words)
@@ -78,7 +78,7 @@ fn fec_of<'a>(
     options: &OptionWords<'a>,
     words: &[&'a str],
 ) -> Result<Further<'a>, WordsFault>
-    ensures { Reads (fec_said name.now (option_texts options.now) (texts_of words.now)) result }
+    ensures { ReadsCommand (fec_said name.now (option_texts options.now) (texts_of words.now)) result }
 {
     if options.no_superblock {
         Err(WordsFault::Usage)
@@ -97,7 +97,7 @@ fn tree_of<'a>(
     options: &OptionWords<'a>,
     words: &[&'a str],
 ) -> Result<Further<'a>, WordsFault>
-    ensures { Reads (tree_said name.now (option_texts options.now) (texts_of words.now)) result }
+    ensures { ReadsCommand (tree_said name.now (option_texts options.now) (texts_of words.now)) result }
 {
     if name == b"format".as_slice() {
         tree_format_of(options, words)
@@ -117,7 +117,7 @@ fn command_of<'a>(
     options: &OptionWords<'a>,
     words: &[&'a str],
 ) -> Result<Further<'a>, WordsFault>
-    ensures { Reads (command_said name.now (option_texts options.now) (texts_of words.now)) result }
+    ensures { ReadsCommand (command_said name.now (option_texts options.now) (texts_of words.now)) result }
 {
     if name == b"load".as_slice() {
         load_of(alloc, options, words)
@@ -142,7 +142,7 @@ fn image_of<'a>(
     options: &OptionWords<'a>,
     words: &[&'a str],
 ) -> Result<Further<'a>, WordsFault>
-    ensures { Reads (image_said name.now (option_texts options.now) (texts_of words.now)) result }
+    ensures { ReadsCommand (image_said name.now (option_texts options.now) (texts_of words.now)) result }
 {
     if name == b"format".as_slice() {
         format_of(options, words)

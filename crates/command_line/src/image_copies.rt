@@ -1,6 +1,6 @@
 //! The copies of an image.
 ghost use Rattle.std.specs.Prelude.{◌≡◌, map, IfOk, IfErr};
-ghost use Rattle.command_line.specs.CommandWords.{Refuses};
+ghost use Rattle.command_line.specs.CommandWords.{RefusesWords};
 ghost use Rattle.command_line.specs.FormatOptions.{texts_of};
 ghost use Rattle.command_line.specs.ImageCopies.{AreCopies, copies_in_pairs, copies_of, image_copy_record, one_file};
 
@@ -23,7 +23,7 @@ pub fn copies_of<'a>(
     words: &[&'a str],
 ) -> Result<Vec<ImageCopy<'a>>, WordsFault>
     ensures ok { IfOk result (λ v. AreCopies (copies_of data_path.now hash_path.now (texts_of words.now)) v.items) }
-    ensures err { IfErr result (Refuses (copies_of data_path.now hash_path.now (texts_of words.now))) }
+    ensures err { IfErr result (RefusesWords (copies_of data_path.now hash_path.now (texts_of words.now))) }
 {
     if data_path.as_bytes() == hash_path.as_bytes() {
         let copies = copies_in_one_file(alloc, words)?;
@@ -50,7 +50,7 @@ fn copies_in_one_file<'a>(
 
 fn copies_in_pairs<'a>(alloc: Global, words: &[&'a str]) -> Result<Vec<ImageCopy<'a>>, WordsFault>
     ensures ok { IfOk result (λ v. AreCopies (copies_in_pairs (texts_of words.now)) v.items) }
-    ensures err { IfErr result (Refuses (copies_in_pairs (texts_of words.now))) }
+    ensures err { IfErr result (RefusesWords (copies_in_pairs (texts_of words.now))) }
 {
     let mut copies = Vec::new(alloc);
     let mut rest = words;

@@ -1,7 +1,7 @@
 //! What the words of the commands on images invoke.
 ghost use Rattle.std.specs.Prelude.{IfOk, IfErr};
 ghost use Rattle.command_line.specs.FormatOptions.{texts_of};
-ghost use Rattle.command_line.specs.CommandWords.{IsSaid, Refuses, dump_of, format_of, table_of, verify_of};
+ghost use Rattle.command_line.specs.CommandWords.{IsSaid, RefusesWords, dump_of, format_of, table_invocation, verify_of};
 
 use crate::fault::WordsFault;
 use crate::invocation::{ImageInvocation, Invocation};
@@ -11,7 +11,7 @@ use dm_table::is_device;
 /// `DATA HASH`
 pub fn format_of<'a>(words: &[&'a str]) -> Result<Invocation<'a>, WordsFault>
     ensures ok { IfOk result (IsSaid (format_of (texts_of words.now))) }
-    ensures err { IfErr result (Refuses (format_of (texts_of words.now))) }
+    ensures err { IfErr result (RefusesWords (format_of (texts_of words.now))) }
 {
     match words {
         [data, hash] => Ok(Invocation::Image(ImageInvocation::Format { data, hash })),
@@ -22,7 +22,7 @@ pub fn format_of<'a>(words: &[&'a str]) -> Result<Invocation<'a>, WordsFault>
 /// `DATA HASH ROOT`
 pub fn verify_of<'a>(words: &[&'a str]) -> Result<Invocation<'a>, WordsFault>
     ensures ok { IfOk result (IsSaid (verify_of (texts_of words.now))) }
-    ensures err { IfErr result (Refuses (verify_of (texts_of words.now))) }
+    ensures err { IfErr result (RefusesWords (verify_of (texts_of words.now))) }
 {
     let [data, hash, root] = words else {
         return Err(WordsFault::Usage);
@@ -36,7 +36,7 @@ pub fn verify_of<'a>(words: &[&'a str]) -> Result<Invocation<'a>, WordsFault>
 /// `HASH`
 pub fn dump_of<'a>(words: &[&'a str]) -> Result<Invocation<'a>, WordsFault>
     ensures ok { IfOk result (IsSaid (dump_of (texts_of words.now))) }
-    ensures err { IfErr result (Refuses (dump_of (texts_of words.now))) }
+    ensures err { IfErr result (RefusesWords (dump_of (texts_of words.now))) }
 {
     match words {
         [hash] => Ok(Invocation::Image(ImageInvocation::Dump { hash })),
@@ -46,8 +46,8 @@ pub fn dump_of<'a>(words: &[&'a str]) -> Result<Invocation<'a>, WordsFault>
 
 /// `HASH ROOT DATANAME HASHNAME`, of which the last two are device arguments of a table line.
 pub fn table_of<'a>(words: &[&'a str]) -> Result<Invocation<'a>, WordsFault>
-    ensures ok { IfOk result (IsSaid (table_of (texts_of words.now))) }
-    ensures err { IfErr result (Refuses (table_of (texts_of words.now))) }
+    ensures ok { IfOk result (IsSaid (table_invocation (texts_of words.now))) }
+    ensures err { IfErr result (RefusesWords (table_invocation (texts_of words.now))) }
 {
     let [hash, root, data_name, hash_name] = words else {
         return Err(WordsFault::Usage);

@@ -1,6 +1,6 @@
 //! Parts of files, as bindings name them.
 ghost use Rattle.std.specs.Prelude.{◌≡◌, option_map};
-ghost use Rattle.command_line.specs.PartBindings.{access_of, kind_part, part_record, part_of, sectors_from};
+ghost use Rattle.command_line.specs.PartBindings.{access_of, kind_part, part_record, said_part, sectors_from};
 
 use table_reader::number;
 
@@ -39,7 +39,7 @@ fn access_of(access: &[u8]) -> Option<bool>
 
 // `FIRST+COUNT`
 fn part_of(place: &str) -> Option<FilePart>
-    ensures { option_map part_record result ≡ part_of place.now }
+    ensures { option_map part_record result ≡ said_part place.now }
 {
     let (first, count) = place.split_once('+')?;
     sectors_from(first, count)

@@ -1,7 +1,7 @@
 //! What the values of options say.
 ghost use Rattle.std.specs.Prelude.{◌≡◌, option_map};
 ghost use Rattle.command_line.specs.FormatOptions.{text_of, texts_of};
-ghost use Rattle.command_line.specs.Values.{cache_of, count_of, device_names, first_of, form_of, form_record, map_of, name_of, offset_of, root_alone, root_first, root_first_record, root_of, root_record, runs_of, sector_size_of, two_roots};
+ghost use Rattle.command_line.specs.Values.{cache_said, count_said, device_names, first_said, form_of, form_record, map_said, name_said, offset_of, root_alone, root_first, root_first_record, root_of, root_record, runs_said, sector_size_of, two_roots};
 
 use dm_table::{is_device, is_mapped_name};
 use table_reader::number;
@@ -33,9 +33,9 @@ pub enum PartitionForm {
 }
 
 /// How many hash blocks are cached: 64 unless the word says another number up to 65,536.
-#[tactic(auto, unfolding(crate::specs::Values::cache_of))]
+#[tactic(auto, unfolding(crate::specs::Values::cache_said))]
 pub fn cache_of(word: Option<&str>) -> Option<u32>
-    ensures { result ≡ cache_of (text_of word.entry) }
+    ensures { result ≡ cache_said (text_of word.entry) }
 {
     let Some(word) = word else {
         return Some(CACHED_BLOCKS);
@@ -48,9 +48,9 @@ pub fn cache_of(word: Option<&str>) -> Option<u32>
 }
 
 /// The first sector: 0 unless the word says another.
-#[tactic(auto, unfolding(crate::specs::Values::first_of))]
+#[tactic(auto, unfolding(crate::specs::Values::first_said))]
 pub fn first_of(word: Option<&str>) -> Option<u64>
-    ensures { result ≡ first_of (text_of word.entry) }
+    ensures { result ≡ first_said (text_of word.entry) }
 {
     match word {
         None => Some(0),
@@ -59,9 +59,9 @@ pub fn first_of(word: Option<&str>) -> Option<u64>
 }
 
 /// How many sectors, where a word says it.
-#[tactic(auto, unfolding(crate::specs::Values::count_of))]
+#[tactic(auto, unfolding(crate::specs::Values::count_said))]
 pub fn count_of(word: Option<&str>) -> Option<Option<u64>>
-    ensures { result ≡ count_of (text_of word.entry) }
+    ensures { result ≡ count_said (text_of word.entry) }
 {
     let Some(word) = word else {
         return Some(None);
@@ -71,9 +71,9 @@ pub fn count_of(word: Option<&str>) -> Option<Option<u64>>
 }
 
 /// How many runs at most are printed, where a word says it: at least one.
-#[tactic(auto, unfolding(crate::specs::Values::runs_of))]
+#[tactic(auto, unfolding(crate::specs::Values::runs_said))]
 pub fn runs_of(word: Option<&str>) -> Option<Option<u64>>
-    ensures { result ≡ runs_of (text_of word.entry) }
+    ensures { result ≡ runs_said (text_of word.entry) }
 {
     let Some(word) = word else {
         return Some(None);
@@ -116,9 +116,9 @@ pub fn sector_size_of(word: Option<&str>) -> Option<u32>
 }
 
 /// The name of a mapped device, where a word says it.
-#[tactic(auto, unfolding(crate::specs::Values::name_of))]
+#[tactic(auto, unfolding(crate::specs::Values::name_said))]
 pub fn name_of<'a>(word: Option<&'a str>) -> Option<Option<&'a str>>
-    ensures { option_map text_of result ≡ name_of (text_of word.entry) }
+    ensures { option_map text_of result ≡ name_said (text_of word.entry) }
 {
     let Some(word) = word else {
         return Some(None);
@@ -130,9 +130,9 @@ pub fn name_of<'a>(word: Option<&'a str>) -> Option<Option<&'a str>>
 }
 
 /// The path of a map file, where a word says it: no word of no bytes, and not `-`, the standard input.
-#[tactic(auto, unfolding(crate::specs::Values::map_of))]
+#[tactic(auto, unfolding(crate::specs::Values::map_said))]
 pub fn map_of<'a>(word: Option<&'a str>) -> Option<Option<&'a str>>
-    ensures { option_map text_of result ≡ map_of (text_of word.entry) }
+    ensures { option_map text_of result ≡ map_said (text_of word.entry) }
 {
     let Some(word) = word else {
         return Some(None);

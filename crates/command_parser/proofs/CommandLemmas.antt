@@ -13,7 +13,7 @@ use Rattle.clap.specs.Walk.{Row, Text, rows_of}
 use Rattle.clap.specs.declared.parser.matches.ArgMatches.{ArgMatches}
 use Rattle.clap.specs.declared.parser.matches.Found.{Found}
 use Rattle.command_line.specs.CommandWords.{invocation_of}
-use Rattle.command_parser.specs.CommandLines.{invoked, invoked_by, is_behind_dashes, options_said, positional_in, texts_in}
+use Rattle.command_parser.specs.CommandLines.{invoked, invoked_by_rows, is_behind_dashes, options_said, positional_in, texts_in}
 use Rattle.command_line.specs.FormatOptions.{OptionTexts}
 use Rattle.command_parser.specs.Grammar.{grammar}
 
@@ -23,7 +23,7 @@ pub invoked-some : (words : List Text) (name : Text) (found : Found) (options : 
     → invoked words ≡ invocation_of name options texts behind
 invoked-some words name found options texts behind is is_options are is_behind =
     let positional : texts ≡ positional_in (rows_of found) = are ∙ ap (λ o. unwrap_or o []) (raw_values-rows found (codes "words")) in
-    ap (option_and_then (λ cut. invoked_by words cut.0 cut.1)) is ∙ rw (is_behind, is_options, positional) refl
+    ap (option_and_then (λ cut. invoked_by_rows words cut.0 cut.1)) is ∙ rw (is_behind, is_options, positional) refl
 
 -- the command that a parse met
 pub entered-is : (found : ArgMatches) (name : Text) (rows : List Row) → Some name ≡ subcommand_name_of found → Some rows ≡ option_map (λ p. p.1) (subcommand_rows_of found)

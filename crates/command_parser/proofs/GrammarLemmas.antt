@@ -14,7 +14,7 @@ use Rattle.clap.specs.declared.builder.range.ValueRange.{ValueRange}
 use Rattle.command_parser.specs.declared.rows.CommandRow.{CommandRow}
 use Rattle.command_parser.specs.declared.rows.OptionRow.{OptionRow}
 use Rattle.command_parser.specs.Commands.{CommandText, OptionText, commands}
-use Rattle.command_parser.specs.Grammar.{command_app, command_text, grammar, option_rule, option_text, with_commands, with_options, words}
+use Rattle.command_parser.specs.Grammar.{command_app, command_text, grammar, option_rule, option_text, with_commands, with_options, word_rule}
 
 is-some : (o : Option ValueRange) (range : ValueRange) → IsSomeAnd o (λ r. r ≡ range) → o ≡ Some range
 is-some None range is = absurd is
@@ -23,8 +23,8 @@ is-some (Some r) range is = ap (λ x. Some x) is
 abbrev any_number : ValueRange
 any_number = record { start_inclusive = 0; end_inclusive = usize_max }
 
-pub rule_of-words : (a b c d : Arg) → rule_of a ≡ new_rule (codes "words") → b ≡ record a { num_vals = b.num_vals } → IsSomeAnd b.num_vals (λ r. r ≡ any_number)
-    → c ≡ record b { action = Some Append } → d ≡ record c { trailing_var_arg = true } → rule_of d ≡ words
+pub rule_of-words : (a b c d : Arg) → rule_of a ≡ new_rule (codes "word_rule") → b ≡ record a { num_vals = b.num_vals } → IsSomeAnd b.num_vals (λ r. r ≡ any_number)
+    → c ≡ record b { action = Some Append } → d ≡ record c { trailing_var_arg = true } → rule_of d ≡ word_rule
 rule_of-words a b c d new ranged range acts trails =
     ap rule_of trails ∙ ap (λ (r : Rule). record r { trailing_var_arg = true })
     (ap rule_of acts ∙ ap (λ (r : Rule). record r { action = Some Append })

@@ -51,12 +51,12 @@ unfoldable pub is_behind_dashes : List Text → ℕ → Bool
 is_behind_dashes words behind = nat_lt behind (length words) && bytes_eq (get_or words (length words - behind - 1) []) (codes "--")
 
 -- what a command invokes, by its name and what clap found in the words
-abbrev pub invoked_by : List Text → Text → List Row → Option InvocationRecord
-invoked_by words name rows = invocation_of name (texts_in rows) (positional_in rows) (is_behind_dashes words (length (positional_in rows)))
+abbrev pub invoked_by_rows : List Text → Text → List Row → Option InvocationRecord
+invoked_by_rows words name rows = invocation_of name (texts_in rows) (positional_in rows) (is_behind_dashes words (length (positional_in rows)))
 
 -- what the words of a command line invoke, as clap cuts them into a command's name, its options and its positional words
 abbrev pub invoked : List Text → Option InvocationRecord
-invoked words = option_and_then (λ cut. invoked_by words cut.0 cut.1) (subcommand_of grammar words)
+invoked words = option_and_then (λ cut. invoked_by_rows words cut.0 cut.1) (subcommand_of grammar words)
 
 -- clap doesn't take the words, or they invoke nothing
 abbrev pub IsNoCommand : List Text → Type 0

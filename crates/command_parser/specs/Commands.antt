@@ -12,8 +12,8 @@ pub record CommandText : Type 0 where
   pub name : List ℕ
   pub options : List OptionText
 
-abbrev pub value : List ℕ → OptionText
-value name = record { name = name; others = []; has_value = true }
+abbrev pub value_option : List ℕ → OptionText
+value_option name = record { name = name; others = []; has_value = true }
 
 abbrev pub flag : List ℕ → OptionText
 flag name = record { name = name; others = []; has_value = false }
@@ -23,7 +23,7 @@ abbrev pub value_or : List ℕ → List ℕ → OptionText
 value_or name other = record { name = name; others = other ∷ []; has_value = true }
 
 abbrev pub cache : OptionText
-cache = value (codes "cache")
+cache = value_option (codes "cache")
 
 abbrev pub progress : OptionText
 progress = flag (codes "progress")
@@ -32,23 +32,23 @@ abbrev pub json : OptionText
 json = flag (codes "json")
 
 abbrev pub offset : OptionText
-offset = value (codes "hash-offset")
+offset = value_option (codes "hash-offset")
 
 abbrev pub root_file : OptionText
-root_file = value (codes "root-hash-file")
+root_file = value_option (codes "root-hash-file")
 
 -- parity: its file, and how many bytes of it a codeword has
 abbrev pub fec_options : List OptionText → List OptionText
-fec_options more = value_or (codes "fec") (codes "fec-device") ∷ value (codes "fec-roots") ∷ more
+fec_options more = value_or (codes "fec") (codes "fec-device") ∷ value_option (codes "fec-roots") ∷ more
 
-abbrev pub bare : OptionText
-bare = flag (codes "no-superblock")
+abbrev pub bare_option : OptionText
+bare_option = flag (codes "no-superblock")
 
 -- what the tree of a verity image is
 abbrev pub tree_options : List OptionText → List OptionText
 tree_options more =
     value_or (codes "data-block") (codes "data-block-size") ∷ value_or (codes "hash-block") (codes "hash-block-size")
-    ∷ value_or (codes "blocks") (codes "data-blocks") ∷ value (codes "salt") ∷ more
+    ∷ value_or (codes "blocks") (codes "data-blocks") ∷ value_option (codes "salt") ∷ more
 
 abbrev pub command : List ℕ → List OptionText → CommandText
 command name options = record { name = name; options = options }
@@ -56,10 +56,10 @@ command name options = record { name = name; options = options }
 -- the commands on images
 abbrev pub image_commands : List CommandText → List CommandText
 image_commands more =
-    command (codes "format") (tree_options (value (codes "uuid") ∷ offset ∷ bare ∷ flag (codes "grow") ∷ progress ∷ fec_options []))
-    ∷ command (codes "verify") (tree_options (offset ∷ root_file ∷ bare ∷ flag (codes "all") ∷ json ∷ progress ∷ fec_options []))
+    command (codes "format") (tree_options (value_option (codes "uuid") ∷ offset ∷ bare_option ∷ flag (codes "grow") ∷ progress ∷ fec_options []))
+    ∷ command (codes "verify") (tree_options (offset ∷ root_file ∷ bare_option ∷ flag (codes "all") ∷ json ∷ progress ∷ fec_options []))
     ∷ command (codes "dump") (offset ∷ json ∷ [])
-    ∷ command (codes "table") (tree_options (offset ∷ root_file ∷ value (codes "name") ∷ bare ∷ []))
+    ∷ command (codes "table") (tree_options (offset ∷ root_file ∷ value_option (codes "name") ∷ bare_option ∷ []))
     ∷ command (codes "repair") (offset ∷ root_file ∷ flag (codes "check") ∷ fec_options [])
     ∷ more
 
@@ -71,16 +71,16 @@ stack_commands more =
     ∷ command (codes "write") (cache ∷ [])
     ∷ command (codes "session") (cache ∷ [])
     ∷ command (codes "nbd") (cache ∷ flag (codes "all") ∷ [])
-    ∷ command (codes "scan") (cache ∷ value (codes "map") ∷ progress ∷ json ∷ [])
-    ∷ command (codes "copy") (cache ∷ flag (codes "differing") ∷ value (codes "map") ∷ progress ∷ [])
-    ∷ command (codes "cat") (cache ∷ value (codes "first") ∷ value (codes "count") ∷ progress ∷ [])
-    ∷ command (codes "store") (cache ∷ value (codes "first") ∷ progress ∷ [])
+    ∷ command (codes "scan") (cache ∷ value_option (codes "map") ∷ progress ∷ json ∷ [])
+    ∷ command (codes "copy") (cache ∷ flag (codes "differing") ∷ value_option (codes "map") ∷ progress ∷ [])
+    ∷ command (codes "cat") (cache ∷ value_option (codes "first") ∷ value_option (codes "count") ∷ progress ∷ [])
+    ∷ command (codes "store") (cache ∷ value_option (codes "first") ∷ progress ∷ [])
     ∷ more
 
 -- all commands
 unfoldable pub commands : List CommandText
 commands =
     image_commands (stack_commands
-    (command (codes "partitions") (value (codes "sector-size") ∷ flag (codes "stack") ∷ value (codes "root") ∷ json ∷ [])
-    ∷ command (codes "diff") (value (codes "blocks") ∷ json ∷ [])
+    (command (codes "partitions") (value_option (codes "sector-size") ∷ flag (codes "stack") ∷ value_option (codes "root") ∷ json ∷ [])
+    ∷ command (codes "diff") (value_option (codes "blocks") ∷ json ∷ [])
     ∷ command (codes "manual") [] ∷ command (codes "version") [] ∷ []))

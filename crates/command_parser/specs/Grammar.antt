@@ -13,8 +13,8 @@ abbrev pub option_rule : OptionText → Rule
 option_rule o = record (new_rule o.name) { long = Some o.name; aliases = o.others; action = Some (if o.has_value then Set else SetTrue) }
 
 -- all positional words, of which the first ends the options
-abbrev pub words : Rule
-words = record (new_rule (codes "words")) {
+abbrev pub word_rule : Rule
+word_rule = record (new_rule (codes "word_rule")) {
   range = Some (record { start_inclusive = 0; end_inclusive = usize_max });
   action = Some Append;
   trailing_var_arg = true;
@@ -22,7 +22,7 @@ words = record (new_rule (codes "words")) {
 
 -- a command of positional words
 abbrev pub positional : Text → App
-positional name = with_rule (on_top (λ s. record s { disable_help_flag = true }) (new_app name)) words
+positional name = with_rule (on_top (λ s. record s { disable_help_flag = true }) (new_app name)) word_rule
 
 -- with options added
 unfoldable pub with_options : App → List OptionText → App

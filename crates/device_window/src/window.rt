@@ -1,9 +1,9 @@
 //! A part of a device as a device.
 ghost use Rattle.std.specs.Prelude.{◌≡◌, ◌+◌, ◌^◌, ◌≤◌, length, is_ok, ◌↔◌, IsOk, IsTrue, IfOk, OnErr, OnOk};
 ghost use Rattle.std.specs.Option.{ForSome};
+ghost use Rattle.block_device.specs.Calls.{DeviceFails, DeviceFailsToSync, DeviceGives, DevicePuts, DeviceReads, DeviceSyncs, DeviceWrites, ReadsInner, SyncsInner, WritesInner};
 ghost use Rattle.block_device.specs.Device.{IsInside};
-ghost use Rattle.block_device.specs.Failing.{IsInnerSync};
-ghost use Rattle.device_window.specs.Calls.{Fails, FailsToSync, Gives, Puts, Reads, ReadsInner, Syncs, Writes, WritesInner};
+
 ghost use Rattle.device_window.specs.Parts.{LiesInside, StandOutside, part_before, part_behind};
 ghost use Rattle.device_window.specs.Windows.{windowed, windowed-whole};
 
@@ -112,11 +112,11 @@ impl<D: BlockDev, K: Beside> BlockDev for Window<D, K> {
 
     fn read(&mut self, first: u64, out: &mut [u8]) -> Result<(), DeviceFault>
         requires { IsInside (⟦<Window<D, K> as BlockDev>⟧.state self.old) first (length out.old) }
-        ensures moved { Reads ⟦<Window<D, K> as BlockDev>⟧.state self.old self.new out.old (is_ok result) }
-        ensures bytes { OnOk result (Gives ⟦<Window<D, K> as BlockDev>⟧.state self.old first out.old out.new) }
+        ensures moved { DeviceReads ⟦<Window<D, K> as BlockDev>⟧.state self.old self.new out.old (is_ok result) }
+        ensures bytes { OnOk result (DeviceGives ⟦<Window<D, K> as BlockDev>⟧.state self.old first out.old out.new) }
         ensures given { OnOk result (⟦<Window<D, K> as BlockDev>⟧.gives self.old first out.new) }
         ensures sure { IsTrue (⟦<Window<D, K> as BlockDev>⟧.state self.old).never_fails → IsOk result }
-        ensures fault { OnErr result (Fails ⟦<Window<D, K> as BlockDev>⟧.state self.old self.new) }
+        ensures fault { OnErr result (DeviceFails ⟦<Window<D, K> as BlockDev>⟧.state self.old self.new) }
 
         // It is one of the whole device, that far behind the part's first sector.
         ensures inner { ReadsInner D.state self.old.inner self.new.inner (self.old.part.first + first) out.old out.new (is_ok result) }
@@ -128,10 +128,10 @@ impl<D: BlockDev, K: Beside> BlockDev for Window<D, K> {
     fn write(&mut self, first: u64, bytes: &[u8]) -> Result<(), DeviceFault>
         requires range { IsInside (⟦<Window<D, K> as BlockDev>⟧.state self.old) first (length bytes.now) }
         requires allowed { IsTrue (⟦<Window<D, K> as BlockDev>⟧.state self.old).may_write }
-        ensures moved { Writes ⟦<Window<D, K> as BlockDev>⟧.state self.old self.new first bytes.now (is_ok result) }
-        ensures image { OnOk result (Puts ⟦<Window<D, K> as BlockDev>⟧.state self.old self.new first bytes.now) }
+        ensures moved { DeviceWrites ⟦<Window<D, K> as BlockDev>⟧.state self.old self.new first bytes.now (is_ok result) }
+        ensures image { OnOk result (DevicePuts ⟦<Window<D, K> as BlockDev>⟧.state self.old self.new first bytes.now) }
         ensures sure { IsTrue (⟦<Window<D, K> as BlockDev>⟧.state self.old).never_fails → IsOk result }
-        ensures fault { OnErr result (Fails ⟦<Window<D, K> as BlockDev>⟧.state self.old self.new) }
+        ensures fault { OnErr result (DeviceFails ⟦<Window<D, K> as BlockDev>⟧.state self.old self.new) }
 
         // It is one of the whole device, that far behind the part's first sector.
         ensures inner { WritesInner D.state self.old.inner self.new.inner (self.old.part.first + first) bytes.now (is_ok result) }
@@ -159,12 +159,12 @@ impl<D: SyncDev, K: Beside> SyncDev for Window<D, K> {
     }
 
     fn sync(&mut self) -> Result<(), DeviceFault>
-        ensures ok { OnOk result (Syncs ⟦<Window<D, K> as BlockDev>⟧.state self.old self.new) }
-        ensures err { OnErr result (FailsToSync ⟦<Window<D, K> as BlockDev>⟧.state self.old self.new) }
+        ensures ok { OnOk result (DeviceSyncs ⟦<Window<D, K> as BlockDev>⟧.state self.old self.new) }
+        ensures err { OnErr result (DeviceFailsToSync ⟦<Window<D, K> as BlockDev>⟧.state self.old self.new) }
         ensures sure { IsTrue (⟦<Window<D, K> as BlockDev>⟧.state self.old).never_fails → IsOk result }
 
         // It is one of the whole device.
-        ensures inner { IsInnerSync (D.state self.old.inner) (is_ok result) (D.state self.new.inner) }
+        ensures inner { SyncsInner D.state self.old.inner self.new.inner (is_ok result) }
         ensures part { self.new.part ≡ self.old.part }
     {
         self.inner.sync()

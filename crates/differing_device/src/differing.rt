@@ -1,8 +1,8 @@
 //! A device of which only what differs is written.
 ghost use Rattle.std.specs.Prelude.{◌≡◌, false, length, is_ok, IsOk, IsTrue, OnErr, OnOk};
+ghost use Rattle.block_device.specs.Calls.{DeviceFails, DeviceFailsToSync, DevicePuts, DeviceSyncs, DeviceWrites, SyncsInner};
 ghost use Rattle.block_device.specs.Device.{IsInside};
-ghost use Rattle.block_device.specs.Failing.{IsInnerSync};
-ghost use Rattle.differing_device.specs.Calls.{Fails, FailsToSync, LeavesStanding, Puts, Syncs, Writes};
+ghost use Rattle.differing_device.specs.Calls.{LeavesStanding};
 ghost use Rattle.differing_device.specs.Differing.{differing};
 
 use crate::put::put_blocks;
@@ -59,10 +59,10 @@ impl<D: BlockDev> BlockDev for Differing<D> {
     fn write(&mut self, first: u64, bytes: &[u8]) -> Result<(), DeviceFault>
         requires range { IsInside (⟦<Differing<D> as BlockDev>⟧.state self.old) first (length bytes.now) }
         requires allowed { IsTrue (⟦<Differing<D> as BlockDev>⟧.state self.old).may_write }
-        ensures moved { Writes ⟦<Differing<D> as BlockDev>⟧.state self.old self.new first bytes.now (is_ok result) }
-        ensures image { OnOk result (Puts ⟦<Differing<D> as BlockDev>⟧.state self.old self.new first bytes.now) }
+        ensures moved { DeviceWrites ⟦<Differing<D> as BlockDev>⟧.state self.old self.new first bytes.now (is_ok result) }
+        ensures image { OnOk result (DevicePuts ⟦<Differing<D> as BlockDev>⟧.state self.old self.new first bytes.now) }
         ensures sure { IsTrue (⟦<Differing<D> as BlockDev>⟧.state self.old).never_fails → IsOk result }
-        ensures fault { OnErr result (Fails ⟦<Differing<D> as BlockDev>⟧.state self.old self.new) }
+        ensures fault { OnErr result (DeviceFails ⟦<Differing<D> as BlockDev>⟧.state self.old self.new) }
 
         // What stands there already isn't written again.
         ensures same { OnOk result (LeavesStanding D.state self.old.inner self.new.inner first bytes.now) }
@@ -91,12 +91,12 @@ impl<D: SyncDev> SyncDev for Differing<D> {
     }
 
     fn sync(&mut self) -> Result<(), DeviceFault>
-        ensures ok { OnOk result (Syncs ⟦<Differing<D> as BlockDev>⟧.state self.old self.new) }
-        ensures err { OnErr result (FailsToSync ⟦<Differing<D> as BlockDev>⟧.state self.old self.new) }
+        ensures ok { OnOk result (DeviceSyncs ⟦<Differing<D> as BlockDev>⟧.state self.old self.new) }
+        ensures err { OnErr result (DeviceFailsToSync ⟦<Differing<D> as BlockDev>⟧.state self.old self.new) }
         ensures sure { IsTrue (⟦<Differing<D> as BlockDev>⟧.state self.old).never_fails → IsOk result }
 
         // It is one of the device that is compared with.
-        ensures inner { IsInnerSync (D.state self.old.inner) (is_ok result) (D.state self.new.inner) }
+        ensures inner { SyncsInner D.state self.old.inner self.new.inner (is_ok result) }
     {
         self.inner.sync()?;
         self.dirty = false;

@@ -10,7 +10,7 @@ use Rattle.dm_table.specs.declared.stack.Entry.{Entry}
 use Rattle.dm_table.specs.declared.fault.TextFault.{TextFault}
 use Rattle.dm_table.specs.declared.fault.TextKind.{TextKind}
 use Rattle.dm_table.specs.declared.fault.TextKind.TheVariants as kinds
-use Rattle.dm_table.specs.Words.{words, trimmed_text, lines_of, entries_of, fields_of}
+use Rattle.dm_table.specs.Words.{words, trimmed_text, text_lines, entries_of, fields_of}
 use Rattle.dm_table.specs.Numbers.{number}
 use Rattle.dm_table.specs.Names.{is_mapped_name, is_device}
 use Rattle.dm_table.specs.Arguments.{base_at, bytes_at}
@@ -59,7 +59,7 @@ faults = (refl, refl, refl, refl, refl, refl, refl, refl, refl, refl, refl)
 tables : (table_of (codes "# x" ++ 10 ∷ 10 ∷ codes "0 08 linear D 02") ≡ Ok (line 0 8 (Linear (base (codes "D") 2)) ∷ []))
     × (table_of (10 ∷ codes "# c" ++ 10 ∷ codes "0 8 foo") ≡ Err (record { entry = 0; line = 3; kind = kinds.Target }))
     × (table_of [] ≡ Err (record { entry = 0; line = 0; kind = kinds.Fields }))
-unfolding table_of lines_of words number is_device line_of target_at linear_at striped_at bare_at base_at
+unfolding table_of text_lines words number is_device line_of target_at linear_at striped_at bare_at base_at
 tables = (refl, refl, refl)
 
 -- a `crypt` line, its key in digits of either case
@@ -76,7 +76,7 @@ first_fault kind = Err (record { entry = 0; line = 1; kind = kind })
 
 crypt_tables : (table_of (crypt_front ++ codes "0a0A0a0A0a0A0a0A0a0A0a0A0a0A0a0Ab1B1b1B1b1B1b1B1b1B1b1B1b1B1b1B1 07 D 016") ≡ Ok (crypt_line [] ∷ []))
     × (table_of (crypt_front ++ codes "0a0A0a0A0a0A0a0A0a0A0a0A0a0A0a0Ab1B1b1B1b1B1b1B1b1B1b1B1b1B1b1B1 7 D 16 02 no_read_workqueue allow_discards") ≡ Ok (crypt_line (codes "no_read_workqueue" ∷ codes "allow_discards" ∷ []) ∷ []))
-unfolding table_of lines_of words number is_mapped_name is_device line_of target_at crypt_at key_at bytes_at decode_pairs base_at options_at known_at option_name
+unfolding table_of text_lines words number is_mapped_name is_device line_of target_at crypt_at key_at bytes_at decode_pairs base_at options_at known_at option_name
 crypt_tables = (refl, refl)
 
 -- the size of a unit, and how units are numbered
@@ -103,7 +103,7 @@ crypt_faults : (table_of (codes "0 8 crypt aes-cbc-plain64 x y D") ≡ first_fau
     × (table_of (crypt_front ++ codes "0a0A0a0A0a0A0a0A0a0A0a0A0a0A0a0Ab1B1b1B1b1B1b1B1b1B1b1B1b1B1b1B1 7 D 16 2 allow_discards allow_discards") ≡ first_fault kinds.Option)
     × (table_of (crypt_front ++ codes "0a0A0a0A0a0A0a0A0a0A0a0A0a0A0a0Ab1B1b1B1b1B1b1B1b1B1b1B1b1B1b1B1 7 D 16 2 sector_size:512 sector_size:4096") ≡ first_fault kinds.Option)
     × (table_of (crypt_front ++ codes "0a0A0a0A0a0A0a0A0a0A0a0A0a0A0a0Ab1B1b1B1b1B1b1B1b1B1b1B1b1B1b1B1 7 D 16 1 sector_size:8192") ≡ first_fault kinds.Option)
-unfolding table_of lines_of words number is_mapped_name is_device line_of target_at crypt_at key_at bytes_at decode_pairs base_at options_at known_at option_name
+unfolding table_of text_lines words number is_mapped_name is_device line_of target_at crypt_at key_at bytes_at decode_pairs base_at options_at known_at option_name
 crypt_faults = (refl, refl, refl, refl, refl, refl, refl, refl, refl, refl, refl, refl, refl)
 
 -- a `verity` line
@@ -114,7 +114,7 @@ verity_line salt ignores =
 verity_tables : (table_of (codes "0 8 verity 01 D /dev/mapper/t 4096 0512 1 03 sha256 abABabABabABabABabABabABabABabABabABabABabABabABabABabABabABabAB -") ≡ Ok (verity_line [] false ∷ []))
     × (table_of (codes "0 8 verity 1 D /dev/mapper/t 4096 512 1 3 sha256 abABabABabABabABabABabABabABabABabABabABabABabABabABabABabABabAB 0a0B 0") ≡ Ok (verity_line (10 ∷ 11 ∷ []) false ∷ []))
     × (table_of (codes "0 8 verity 1 D /dev/mapper/t 4096 512 1 3 sha256 abABabABabABabABabABabABabABabABabABabABabABabABabABabABabABabAB - 01 ignore_zero_blocks") ≡ Ok (verity_line [] true ∷ []))
-unfolding table_of lines_of words number is_mapped_name is_device line_of target_at verity_at salt_at bytes_at decode_pairs options_at known_at
+unfolding table_of text_lines words number is_mapped_name is_device line_of target_at verity_at salt_at bytes_at decode_pairs options_at known_at
 verity_tables = (refl, refl, refl)
 
 -- a `verity` line at each fault, with faults behind it
@@ -132,5 +132,5 @@ verity_faults : (table_of (codes "0 8 verity 2 a,b a,b x x x x x x") ≡ first_f
     × (table_of (codes "0 8 verity 1 D t 4096 512 1 3 sha256 abABabABabABabABabABabABabABabABabABabABabABabABabABabABabABabAB - x") ≡ first_fault kinds.Number)
     × (table_of (codes "0 8 verity 1 D t 4096 512 1 3 sha256 abABabABabABabABabABabABabABabABabABabABabABabABabABabABabABabAB - 1") ≡ first_fault kinds.ArgCount)
     × (table_of (codes "0 8 verity 1 D t 4096 512 1 3 sha256 abABabABabABabABabABabABabABabABabABabABabABabABabABabABabABabAB - 1 x") ≡ first_fault kinds.Option)
-unfolding table_of lines_of words number is_mapped_name is_device line_of target_at verity_at salt_at bytes_at decode_pairs options_at known_at
+unfolding table_of text_lines words number is_mapped_name is_device line_of target_at verity_at salt_at bytes_at decode_pairs options_at known_at
 verity_faults = (refl, refl, refl, refl, refl, refl, refl, refl, refl, refl, refl, refl, refl, refl)

@@ -5,7 +5,7 @@ use Rattle.dm_table.specs.declared.table.Target.TheVariants.{Unstriped}
 use Rattle.dm_table.specs.declared.fault.TextFault.{TextFault}
 use Rattle.dm_table.specs.declared.fault.TextKind.{TextKind}
 use Rattle.dm_table.specs.declared.fault.TextKind.TheVariants as kinds
-use Rattle.dm_table.specs.Words.{words, lines_of}
+use Rattle.dm_table.specs.Words.{words, text_lines}
 use Rattle.dm_table.specs.Numbers.{number}
 use Rattle.dm_table.specs.Names.{is_mapped_name, is_device}
 use Rattle.dm_table.specs.Arguments.{base_at}
@@ -18,7 +18,7 @@ line_at stripes chunk stripe name offset = record { start = 0; length = 16; targ
 
 tables : (table_of (codes "0 16 unstriped 2 8 1 D 3") ≡ Ok (line_at 2 8 1 (codes "D") 3 ∷ []))
     × (table_of (codes "0 16 unstriped 4294967295 4294967295 04294967294 /dev/mapper/s 18446744073709551615") ≡ Ok (line_at 4294967295 4294967295 4294967294 (codes "/dev/mapper/s") 18446744073709551615 ∷ []))
-unfolding table_of lines_of words number is_mapped_name is_device line_of target_at unstriped_at base_at
+unfolding table_of text_lines words number is_mapped_name is_device line_of target_at unstriped_at base_at
 tables = (refl, refl)
 
 abbrev first_fault : TextKind → Result (List Line) TextFault
@@ -36,5 +36,5 @@ faults : (table_of (codes "0 16 unstriped 0 0 x a,b") ≡ first_fault kinds.ArgC
     × (table_of (codes "0 16 unstriped 1 8 1 a,b y") ≡ first_fault kinds.StripeNumber)
     × (table_of (codes "0 16 unstriped 2 8 1 a,b y") ≡ first_fault kinds.Name)
     × (table_of (codes "0 16 unstriped 2 8 1 D y") ≡ first_fault kinds.Number)
-unfolding table_of lines_of words number is_mapped_name is_device line_of target_at unstriped_at base_at
+unfolding table_of text_lines words number is_mapped_name is_device line_of target_at unstriped_at base_at
 faults = (refl, refl, refl, refl, refl, refl, refl, refl, refl, refl, refl)

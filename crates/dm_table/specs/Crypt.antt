@@ -28,11 +28,11 @@ unfoldable pub iv_large_sectors : Crypt → Bool
 iv_large_sectors crypt = is_one_of (codes "iv_large_sectors") crypt.options
 
 -- AES in XTS mode, with a unit's number in 64 bits as its initialization vector
-abbrev pub cipher : Word
-cipher = codes "aes-xts-plain64"
+abbrev pub cipher_name : Word
+cipher_name = codes "aes-xts-plain64"
 
 abbrev pub cipher_at : Word → Read Unit
-cipher_at word = if bytes_eq word cipher then Ok tt else Err kinds.Cipher
+cipher_at word = if bytes_eq word cipher_name then Ok tt else Err kinds.Cipher
 
 -- a key of 32 or 64 bytes
 unfoldable pub key_at : Word → Read (List ℕ)

@@ -4,7 +4,7 @@ use Rattle.std.specs.List.{starts_with}
 use Rattle.dm_table.specs.declared.table.Line.{Line}
 use Rattle.dm_table.specs.declared.fault.TextFault.{TextFault}
 use Rattle.dm_table.specs.declared.fault.TextKind.TheVariants as kinds
-use Rattle.dm_table.specs.Words.{Word, is_text, words, lines_of}
+use Rattle.dm_table.specs.Words.{Word, is_text, words, text_lines}
 use Rattle.dm_table.specs.Reading.{◌>>=◌, at_place}
 use Rattle.dm_table.specs.Lines.{line_of}
 
@@ -33,5 +33,5 @@ unfoldable pub table_of : List ℕ → Result (List Line) TextFault
 table_of text =
     if not (is_text text) then at_place 0 0 (Err kinds.NotText)
     else do
-      lines ← table_lines 1 (lines_of text)
+      lines ← table_lines 1 (text_lines text)
       some_lines lines

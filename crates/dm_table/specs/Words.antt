@@ -28,8 +28,8 @@ unfoldable pub trimmed_text : List ℕ → List ℕ
 trimmed_text text = let rest = drop (prefix_len is_white text) text in take (length rest - suffix_len is_white rest) rest
 
 -- the lines of a text, cut at newlines
-unfoldable pub lines_of : List ℕ → List (List ℕ)
-lines_of text = slice_split (λ b. b == 10) text
+unfoldable pub text_lines : List ℕ → List (List ℕ)
+text_lines text = slice_split (λ b. b == 10) text
 
 -- the entries of a stack text, cut at semicolons
 unfoldable pub entries_of : List ℕ → List (List ℕ)

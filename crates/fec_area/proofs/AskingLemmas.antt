@@ -9,7 +9,7 @@ use Rattle.block_device.specs.Device.{Device, IsRead}
 use Rattle.verity_format.specs.Blocks.{IsOnlyRead}
 use Rattle.fec_area.specs.declared.layout.Layout.{Layout}
 use Rattle.fec_area.specs.Asking.{AreAsked, AreAskedFor, IsAsked, IsAskedFor, is_among, is_kept, kept_at, kept_data, kept_hash, kept_of, sectors_on_data, sectors_on_hash, sum_to}
-use Rattle.fec_area.specs.Layouts.{IsLayout, covered_blocks, rounds}
+use Rattle.fec_area.specs.Layouts.{IsLayout, covered_blocks, code_rounds}
 use Rattle.fec_area.specs.Restoring.{AreLostPlaces, IsAmong, is_beside, round_of}
 use Rattle.fec_area.proofs.CallLemmas.{call-read}
 use Rattle.fec_area.proofs.RestoringLemmas.{beside-from, beside-round, rounds-room, round-below}
@@ -135,13 +135,13 @@ asked-at {a = a} {b = b} {c = c} {d = d} l e p = subst (λ (n : ℕ). AreAsked (
 -- at a lost place none is, at another one those of its block are
 pub lost-asked : (l : Layout) (round : ℕ) (places : List ℕ) (i : ℕ) (a b : Device) → is_among places i ≡ true → AreAsked (kept_at (sectors_on_data l) l round places i) (kept_at (sectors_on_hash l) l round places i) a b a b
 lost-asked l round places i a b taken =
-    let j : ℕ = i * rounds l + round in
+    let j : ℕ = i * code_rounds l + round in
     both-as 0 0 (kept_at (sectors_on_data l) l round places i) (kept_at (sectors_on_hash l) l round places i) (sym (cond-true (is_among places i) 0 (sectors_on_data l j) taken)) (sym (cond-true (is_among places i) 0 (sectors_on_hash l j) taken)) (both-none a b)
 
 pub kept-asked : (l : Layout) (round : ℕ) (places : List ℕ) (i : ℕ) {a b c d : Device} → is_among places i ≡ false
-    → AreAsked (sectors_on_data l (i * rounds l + round)) (sectors_on_hash l (i * rounds l + round)) a b c d → AreAsked (kept_at (sectors_on_data l) l round places i) (kept_at (sectors_on_hash l) l round places i) a b c d
+    → AreAsked (sectors_on_data l (i * code_rounds l + round)) (sectors_on_hash l (i * code_rounds l + round)) a b c d → AreAsked (kept_at (sectors_on_data l) l round places i) (kept_at (sectors_on_hash l) l round places i) a b c d
 kept-asked l round places i other p =
-    let j : ℕ = i * rounds l + round in
+    let j : ℕ = i * code_rounds l + round in
     both-as (sectors_on_data l j) (sectors_on_hash l j) (kept_at (sectors_on_data l) l round places i) (kept_at (sectors_on_hash l) l round places i) (sym (cond-false (is_among places i) 0 (sectors_on_data l j) other)) (sym (cond-false (is_among places i) 0 (sectors_on_hash l j) other)) p
 
 -- those of the first places, and of one more
@@ -167,9 +167,9 @@ among-from : (xs : List ℕ) (j k : ℕ) → k < length xs → slice_index xs k 
 among-from xs j k lt e = list_any_at (λ n. n == j) xs k 0 lt (eq-eqb (slice_index xs k) j e)
 
 -- at a lost place stands no block that is kept
-lost-there : (l : Layout) (lost places : List ℕ) (index i : ℕ) → AreLostPlaces l lost index places → is_among places i ≡ true → is_kept l lost index (i * rounds l + round_of l index) ≡ false
+lost-there : (l : Layout) (lost places : List ℕ) (index i : ℕ) → AreLostPlaces l lost index places → is_among places i ≡ true → is_kept l lost index (i * code_rounds l + round_of l index) ≡ false
 lost-there l lost places index i are among =
-    let n = rounds l in
+    let n = code_rounds l in
     let r = round_of l index in
     let j : ℕ = i * n + r in
     let found = among-at places i among in
@@ -187,9 +187,9 @@ lost-there l lost places index i are among =
 
 -- at another one it is kept
 kept-there : (l : Layout) (lost places : List ℕ) (index i : ℕ) → IsLayout l → index < covered_blocks l → AreLostPlaces l lost index places → is_among places i ≡ false
-    → i * rounds l + round_of l index < covered_blocks l → is_kept l lost index (i * rounds l + round_of l index) ≡ true
+    → i * code_rounds l + round_of l index < covered_blocks l → is_kept l lost index (i * code_rounds l + round_of l index) ≡ true
 kept-there l lost places index i valid inside are apart here =
-    let n = rounds l in
+    let n = code_rounds l in
     let r = round_of l index in
     let j : ℕ = i * n + r in
     let low = round-below l index valid inside in
@@ -212,9 +212,9 @@ abbrev kept_sectors : (ℕ → ℕ) → Layout → List ℕ → ℕ → ℕ → 
 kept_sectors sectors l lost index j = cond (is_kept l lost index j) (sectors j) 0
 
 kept-place : (sectors : ℕ → ℕ) (l : Layout) (lost places : List ℕ) (index i : ℕ) → IsLayout l → index < covered_blocks l → AreLostPlaces l lost index places → ((j : ℕ) → covered_blocks l ≤ j → sectors j ≡ 0)
-    → kept_at sectors l (round_of l index) places i ≡ kept_sectors sectors l lost index (i * rounds l + round_of l index)
+    → kept_at sectors l (round_of l index) places i ≡ kept_sectors sectors l lost index (i * code_rounds l + round_of l index)
 kept-place sectors l lost places index i valid inside are none =
-    let j : ℕ = i * rounds l + round_of l index in
+    let j : ℕ = i * code_rounds l + round_of l index in
     let kept = is_kept l lost index j in
     elim (cases_Bool (is_among places i)) [
       | inl taken ↦ cond-true (is_among places i) 0 (sectors j) taken ∙ sym (cond-false kept (sectors j) 0 (lost-there l lost places index i are taken))
@@ -230,7 +230,7 @@ kept-place sectors l lost places index i valid inside are none =
 kept-blocks : (sectors : ℕ → ℕ) (l : Layout) (lost places : List ℕ) (index : ℕ) → IsLayout l → index < covered_blocks l → AreLostPlaces l lost index places → ((j : ℕ) → covered_blocks l ≤ j → sectors j ≡ 0)
     → kept_of sectors l (round_of l index) places ≡ sum_to (kept_sectors sectors l lost index) (covered_blocks l)
 kept-blocks sectors l lost places index valid inside are none =
-    let n = rounds l in
+    let n = code_rounds l in
     let r = round_of l index in
     let m : ℕ = 255 - l.roots in
     let f = kept_sectors sectors l lost index in

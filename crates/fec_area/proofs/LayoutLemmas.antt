@@ -6,7 +6,7 @@ use Rattle.tree_shape.specs.Shape.{IsShape, ShapeRecord, is_block_size}
 use Rattle.verity_format.specs.Blocks.{block_at}
 use Rattle.verity_format.proofs.SizeLemmas.{block-size}
 use Rattle.fec_area.specs.declared.layout.Layout.{Layout}
-use Rattle.fec_area.specs.Layouts.{IsLayout, IsLayoutOf, covered, covered_blocks, parity_sectors, round_bytes, rounds}
+use Rattle.fec_area.specs.Layouts.{IsLayout, IsLayoutOf, covered, covered_blocks, parity_sectors, round_bytes, code_rounds}
 
 if-then : (b : Bool) (x y : List ℕ) → b ≡ true → cond b x y ≡ x
 if-then b x y e = ap (λ v. cond v x y) e
@@ -37,10 +37,10 @@ pub round-quotient : (l : Layout) (n : ℕ) → IsLayout l → n ≡ round_bytes
 round-quotient l n valid is = let e = is ∙ round-sectors l valid in omega (arith, e)
 
 -- a round's parity lies within all of it
-pub round-room : (l : Layout) (round : ℕ) → round < rounds l → round * (l.roots * (l.block / 512)) + l.roots * (l.block / 512) ≤ parity_sectors l
+pub round-room : (l : Layout) (round : ℕ) → round < code_rounds l → round * (l.roots * (l.block / 512)) + l.roots * (l.block / 512) ≤ parity_sectors l
 round-room l round h =
     let k = l.roots * (l.block / 512) in
-    let up : suc round * k ≤ rounds l * k = mul-le-mul_right k h in
+    let up : suc round * k ≤ code_rounds l * k = mul-le-mul_right k h in
     let next : suc round * k ≡ round * k + k = grind arith in
     omega (arith, up, next)
 
@@ -62,10 +62,10 @@ layout-small l valid = (few-blocks l.data_blocks l.block valid.size valid.data_s
 pub covered-small : (l : Layout) → IsLayout l → l.data_blocks + l.hash_blocks ≤ 2 ^ 55
 covered-small l valid = omega (arith, (layout-small l valid).0, (layout-small l valid).1)
 
-pub rounds-small : (l : Layout) → IsLayout l → rounds l < 2 ^ 56
+pub rounds-small : (l : Layout) → IsLayout l → code_rounds l < 2 ^ 56
 rounds-small l valid =
     let n = l.data_blocks + l.hash_blocks in
-    let value : rounds l ≡ n / (255 - l.roots) + min 1 (n % (255 - l.roots)) = refl in
+    let value : code_rounds l ≡ n / (255 - l.roots) + min 1 (n % (255 - l.roots)) = refl in
     omega (arith, value, div-le_self n (255 - l.roots), covered-small l valid)
 
 -- the bytes and sectors of a round's parity
@@ -83,7 +83,7 @@ round_sectors-small l valid =
 
 pub parity-small : (l : Layout) → IsLayout l → parity_sectors l < 2 ^ 64
 parity-small l valid =
-    let one : rounds l * (l.roots * (l.block / 512)) ≤ rounds l * 192 = mul-le-mul_left (rounds l) (round_sectors-small l valid) in
+    let one : code_rounds l * (l.roots * (l.block / 512)) ≤ code_rounds l * 192 = mul-le-mul_left (code_rounds l) (round_sectors-small l valid) in
     omega (arith, one, rounds-small l valid)
 
 -- a block of a device lies on it

@@ -8,13 +8,13 @@ use Rattle.std.proofs.lemmas.Bool.{cases_lt}
 use Rattle.std.proofs.Math.Nat.{mod-lt}
 use Rattle.block_device.specs.Device.{Device, IsInside, run_of}
 use Rattle.reed_solomon.specs.Factors.{AreProducts}
-use Rattle.reed_solomon.specs.Field.{product}
+use Rattle.reed_solomon.specs.Field.{field_product}
 use Rattle.reed_solomon.proofs.FieldLemmas.{product_zero_l, product_zero_r}
 use Rattle.tree_shape.specs.Shape.{is_block_size}
 use Rattle.verity_format.specs.Blocks.{block_at}
 use Rattle.verity_format.proofs.SizeLemmas.{block-size}
 use Rattle.fec_area.specs.declared.layout.Layout.{Layout}
-use Rattle.fec_area.specs.Layouts.{covered, covered_blocks, message, rounds}
+use Rattle.fec_area.specs.Layouts.{covered, covered_blocks, message_byte, code_rounds}
 use Rattle.fec_area.specs.Rounds.{AreProductsAdded, IsPlaceAdded}
 use Rattle.fec_area.proofs.LayoutLemmas.{block-fits, covered-data, covered-hash, covered-past}
 
@@ -40,14 +40,14 @@ unfolding block_at
 read-hash l d h j len bytes is le lt e = e ∙ ap (λ m. concat (run_of h ((l.hash_first + (j - l.data_blocks)) * (l.block / 512)) (m / 512))) is ∙ sym (covered-hash l d h j le lt)
 
 -- past the last block nothing is added
-pub place-past : (l : Layout) (d h : List (List ℕ)) (count : ℕ) (products : List ℕ) (round place : ℕ) (sums : List ℕ) → covered_blocks l ≤ place * rounds l + round
+pub place-past : (l : Layout) (d h : List (List ℕ)) (count : ℕ) (products : List ℕ) (round place : ℕ) (sums : List ℕ) → covered_blocks l ≤ place * code_rounds l + round
     → IsPlaceAdded l d h count products round place sums sums
 place-past l d h count products round place sums past =
-    let none : (c : ℕ) → message l d h round c place ≡ 0 = λ c. ap (λ b. slice_index b c) (covered-past l d h (place * rounds l + round) past) ∙ get_or_past {X = ℕ} [] c 0 (omega arith) in
+    let none : (c : ℕ) → message_byte l d h round c place ≡ 0 = λ c. ap (λ b. slice_index b c) (covered-past l d h (place * code_rounds l + round) past) ∙ get_or_past {X = ℕ} [] c 0 (omega arith) in
     record {
       sums = λ m lt.
           let x = slice_index products (place * count + m % count) in
-          sym (ap (λ v. bit_xor (slice_index sums m) (product x v)) (none (m / count)) ∙ ap (λ v. bit_xor (slice_index sums m) v) (product_zero_r x) ∙ xor_zero_r (slice_index sums m));
+          sym (ap (λ v. bit_xor (slice_index sums m) (field_product x v)) (none (m / count)) ∙ ap (λ v. bit_xor (slice_index sums m) v) (product_zero_r x) ∙ xor_zero_r (slice_index sums m));
       bytes = λ c. omega (arith, none c);
     }
 
@@ -57,9 +57,9 @@ pub place-lost : (l : Layout) (d h : List (List ℕ)) (lost products : List ℕ)
 place-lost l d h lost products round place k sums known lt at m inside =
     let n = length lost in
     let some : 0 < n = omega (arith, lt) in
-    let byte = message l d h round (m / n) place in
+    let byte = message_byte l d h round (m / n) place in
     let none : slice_index products (place * n + m % n) ≡ 0 = ap (λ i. slice_index products (i * n + m % n)) (sym at) ∙ (known.each (m % n) (mod-lt m some)).skip k lt in
-    sym (ap (λ x. bit_xor (slice_index sums m) (product x byte)) none ∙ ap (λ v. bit_xor (slice_index sums m) v) (product_zero_l byte) ∙ xor_zero_r (slice_index sums m))
+    sym (ap (λ x. bit_xor (slice_index sums m) (field_product x byte)) none ∙ ap (λ v. bit_xor (slice_index sums m) v) (product_zero_l byte) ∙ xor_zero_r (slice_index sums m))
 
 -- the factors of one place
 pub part-products : (products : List ℕ) (count first k : ℕ) → first + count ≤ length products → k < count
@@ -75,8 +75,8 @@ place-fits place count h = block-fits place 255 count h
 
 -- the products of a block's bytes are added
 pub products-added : (products block old new : List ℕ) (count first n : ℕ) → first + count ≤ length products → length new ≡ n * count
-    → EachIndex new (λ m. slice_index new m ≡ bit_xor (slice_index old m) (product (slice_index (take (first + count - first) (drop first products)) (m % length (take (first + count - first) (drop first products)))) (slice_index block (m / length (take (first + count - first) (drop first products))))))
-    → (m : ℕ) → m < length new → slice_index new m ≡ bit_xor (slice_index old m) (product (slice_index products (first + m % count)) (slice_index block (m / count)))
+    → EachIndex new (λ m. slice_index new m ≡ bit_xor (slice_index old m) (field_product (slice_index (take (first + count - first) (drop first products)) (m % length (take (first + count - first) (drop first products)))) (slice_index block (m / length (take (first + count - first) (drop first products))))))
+    → (m : ℕ) → m < length new → slice_index new m ≡ bit_xor (slice_index old m) (field_product (slice_index products (first + m % count)) (slice_index block (m / count)))
 products-added products block old new count first n fits size added m lt =
     let part = take (first + count - first) (drop first products) in
     let long = length-part products count first fits in
@@ -88,5 +88,5 @@ products-added products block old new count first n fits size added m lt =
           absurd (omega (arith, zero_is, size, lt))
     ] in
     added m lt
-    ∙ ap (λ q. bit_xor (slice_index old m) (product (slice_index part (m % q)) (slice_index block (m / q)))) long
-    ∙ ap (λ x. bit_xor (slice_index old m) (product x (slice_index block (m / count)))) (part-products products count first (m % count) fits (mod-lt m some))
+    ∙ ap (λ q. bit_xor (slice_index old m) (field_product (slice_index part (m % q)) (slice_index block (m / q)))) long
+    ∙ ap (λ x. bit_xor (slice_index old m) (field_product x (slice_index block (m / count)))) (part-products products count first (m % count) fits (mod-lt m some))

@@ -9,55 +9,55 @@ use Rattle.std.proofs.lemmas.Nat.{div_below, div-mul-add, mod-mul-add, div-add-m
 use Rattle.std.proofs.Math.Nat.{mod-lt}
 use Rattle.verity_format.specs.Blocks.{block_at}
 use Rattle.fec_area.specs.declared.layout.Layout.{Layout}
-use Rattle.fec_area.specs.Layouts.{IsLayout, covered, covered_blocks, round_bytes, rounds}
+use Rattle.fec_area.specs.Layouts.{IsLayout, covered, covered_blocks, round_bytes, code_rounds}
 use Rattle.fec_area.specs.Rounds.{AreRestored, IsFormerly}
 use Rattle.fec_area.specs.Restoring.{AreLostPlaces, IsAmong, IsBefore, IsFirstRestored, IsLostPlace, IsMadeAgain, LostBlocksComeBack, is_beside, round_of}
 use Rattle.fec_area.proofs.LayoutLemmas.{covered-past}
 
 -- the rounds have room for all blocks
-pub rounds-room : (l : Layout) → IsLayout l → covered_blocks l ≤ rounds l * (255 - l.roots)
+pub rounds-room : (l : Layout) → IsLayout l → covered_blocks l ≤ code_rounds l * (255 - l.roots)
 rounds-room l valid =
     let few = valid.few in
     (div_ceil_times (covered_blocks l) (255 - l.roots) (omega (arith, few))).0
 
-pub rounds-some : (l : Layout) (index : ℕ) → IsLayout l → index < covered_blocks l → 0 < rounds l
-rounds-some l index valid inside = elim (cases_lt 0 (rounds l)) [
+pub rounds-some : (l : Layout) (index : ℕ) → IsLayout l → index < covered_blocks l → 0 < code_rounds l
+rounds-some l index valid inside = elim (cases_lt 0 (code_rounds l)) [
   | inl some ↦ some
   | inr none ↦
-      let zero : rounds l ≡ 0 = omega (arith, none) in
-      let nothing : rounds l * (255 - l.roots) ≡ 0 * (255 - l.roots) = ap (λ n. n * (255 - l.roots)) zero in
+      let zero : code_rounds l ≡ 0 = omega (arith, none) in
+      let nothing : code_rounds l * (255 - l.roots) ≡ 0 * (255 - l.roots) = ap (λ n. n * (255 - l.roots)) zero in
       absurd (omega (arith, nothing, rounds-room l valid, inside))
 ]
 
 -- the place of a covered block
-pub place-below : (l : Layout) (index : ℕ) → IsLayout l → index < covered_blocks l → index / rounds l < 255 - l.roots
+pub place-below : (l : Layout) (index : ℕ) → IsLayout l → index < covered_blocks l → index / code_rounds l < 255 - l.roots
 place-below l index valid inside =
-    let swap : rounds l * (255 - l.roots) ≡ (255 - l.roots) * rounds l = grind arith in
-    div_below index (rounds l) (255 - l.roots) (rounds-some l index valid inside) (omega (arith, rounds-room l valid, swap, inside))
+    let swap : code_rounds l * (255 - l.roots) ≡ (255 - l.roots) * code_rounds l = grind arith in
+    div_below index (code_rounds l) (255 - l.roots) (rounds-some l index valid inside) (omega (arith, rounds-room l valid, swap, inside))
 
-pub round-below : (l : Layout) (index : ℕ) → IsLayout l → index < covered_blocks l → round_of l index < rounds l
+pub round-below : (l : Layout) (index : ℕ) → IsLayout l → index < covered_blocks l → round_of l index < code_rounds l
 round-below l index valid inside = mod-lt index (rounds-some l index valid inside)
 
 -- what is beside a block
 beside-covered : (l : Layout) (index j : ℕ) → is_beside l index j ≡ true → j < covered_blocks l
 beside-covered l index j e =
     let front = nat_lt j (covered_blocks l) in
-    let round = j % rounds l == round_of l index in
+    let round = j % code_rounds l == round_of l index in
     let both = and_parts (front && round) (not (j == index)) e in
     ltb-true j (covered_blocks l) (and_parts front round both.0).0
 
-pub beside-round : (l : Layout) (index j : ℕ) → is_beside l index j ≡ true → j % rounds l ≡ round_of l index
+pub beside-round : (l : Layout) (index j : ℕ) → is_beside l index j ≡ true → j % code_rounds l ≡ round_of l index
 beside-round l index j e =
     let front = nat_lt j (covered_blocks l) in
-    let round = j % rounds l == round_of l index in
+    let round = j % code_rounds l == round_of l index in
     let both = and_parts (front && round) (not (j == index)) e in
-    eqb-true (j % rounds l) (round_of l index) (and_parts front round both.0).1
+    eqb-true (j % code_rounds l) (round_of l index) (and_parts front round both.0).1
 
-pub beside-from : (l : Layout) (index j : ℕ) → j < covered_blocks l → j % rounds l ≡ round_of l index → j ≢ index → is_beside l index j ≡ true
+pub beside-from : (l : Layout) (index j : ℕ) → j < covered_blocks l → j % code_rounds l ≡ round_of l index → j ≢ index → is_beside l index j ≡ true
 beside-from l index j inside same other =
     let front = nat_lt j (covered_blocks l) in
-    let round = j % rounds l == round_of l index in
-    and_from (front && round) (not (j == index)) (and_from front round (lt-ltb j (covered_blocks l) inside) (eq-eqb (j % rounds l) (round_of l index) same))
+    let round = j % code_rounds l == round_of l index in
+    and_from (front && round) (not (j == index)) (and_from front round (lt-ltb j (covered_blocks l) inside) (eq-eqb (j % code_rounds l) (round_of l index) same))
     (not_from_false (j == index) (ne_eqb j index other))
 
 -- ---- the places of the blocks that are lost
@@ -65,12 +65,12 @@ beside-from l index j inside same other =
 -- those of the first n
 pub record ArePlaced (l : Layout) (lost : List ℕ) (index n : ℕ) (places : List ℕ) : Type 0 where
   pub count : length places ≡ count_by (is_beside l index) (take n lost) + 1
-  pub own : slice_index places 0 ≡ index / rounds l
+  pub own : slice_index places 0 ≡ index / code_rounds l
   pub within : EachIndex places (λ k. slice_index places k < 255 - l.roots)
-  pub each : (k : ℕ) → k < n → IsTrue (is_beside l index (slice_index lost k)) → IsAmong places (slice_index lost k / rounds l)
+  pub each : (k : ℕ) → k < n → IsTrue (is_beside l index (slice_index lost k)) → IsAmong places (slice_index lost k / code_rounds l)
   pub alone : EachIndex places (λ k. IsLostPlace l lost index (slice_index places k))
 
-pub placed-none : (l : Layout) (lost : List ℕ) (index own : ℕ) → own ≡ index / rounds l → IsLayout l → index < covered_blocks l → ArePlaced l lost index 0 (own ∷ [])
+pub placed-none : (l : Layout) (lost : List ℕ) (index own : ℕ) → own ≡ index / code_rounds l → IsLayout l → index < covered_blocks l → ArePlaced l lost index 0 (own ∷ [])
 placed-none l lost index own is valid inside = record {
   count = refl;
   own = is;
@@ -94,7 +94,7 @@ among-last places place =
     let none : length places ≡ length places + 0 = omega arith in
     (length places, (omega (arith, length-append places (place ∷ [])), ap (λ k. slice_index (places ++ place ∷ []) k) none ∙ get_or-append-add places (place ∷ []) 0 0))
 
-pub placed-yes : (l : Layout) (lost : List ℕ) (index n : ℕ) (places : List ℕ) (place : ℕ) → IsLayout l → n < length lost → place ≡ slice_index lost n / rounds l → is_beside l index (slice_index lost n) ≡ true
+pub placed-yes : (l : Layout) (lost : List ℕ) (index n : ℕ) (places : List ℕ) (place : ℕ) → IsLayout l → n < length lost → place ≡ slice_index lost n / code_rounds l → is_beside l index (slice_index lost n) ≡ true
     → ArePlaced l lost index n places → ArePlaced l lost index (n + 1) (places ++ place ∷ [])
 placed-yes l lost index n places place valid inside is beside known =
     let long = length-append places (place ∷ []) in
@@ -106,20 +106,20 @@ placed-yes l lost index n places place valid inside is beside known =
         | inl less ↦ omega (arith, get_or_append_left places (place ∷ []) 0 k less, known.within k less)
         | inr not_less ↦
             let at : k ≡ length places + 0 = omega (arith, not_less, h, long) in
-            let value : slice_index (places ++ place ∷ []) k ≡ slice_index lost n / rounds l = ap (λ j. slice_index (places ++ place ∷ []) j) at ∙ get_or-append-add places (place ∷ []) 0 0 ∙ is in
+            let value : slice_index (places ++ place ∷ []) k ≡ slice_index lost n / code_rounds l = ap (λ j. slice_index (places ++ place ∷ []) j) at ∙ get_or-append-add places (place ∷ []) 0 0 ∙ is in
             omega (arith, value, place-below l (slice_index lost n) valid (beside-covered l index (slice_index lost n) beside))
       ];
       each = λ k h true_is. elim (cases_lt k n) [
-        | inl less ↦ among-more places place (slice_index lost k / rounds l) (known.each k less true_is)
+        | inl less ↦ among-more places place (slice_index lost k / code_rounds l) (known.each k less true_is)
         | inr not_less ↦
             let at : n ≡ k = omega (arith, not_less, h) in
-            subst (λ j. IsAmong (places ++ place ∷ []) j) (is ∙ ap (λ j. slice_index lost j / rounds l) at) (among-last places place)
+            subst (λ j. IsAmong (places ++ place ∷ []) j) (is ∙ ap (λ j. slice_index lost j / code_rounds l) at) (among-last places place)
       ];
       alone = λ k h. elim (cases_lt k (length places)) [
         | inl less ↦ subst (λ p. IsLostPlace l lost index p) (sym (get_or_append_left places (place ∷ []) 0 k less)) (known.alone k less)
         | inr not_less ↦
             let at : k ≡ length places + 0 = omega (arith, not_less, h, long) in
-            let value : slice_index (places ++ place ∷ []) k ≡ slice_index lost n / rounds l = ap (λ j. slice_index (places ++ place ∷ []) j) at ∙ get_or-append-add places (place ∷ []) 0 0 ∙ is in
+            let value : slice_index (places ++ place ∷ []) k ≡ slice_index lost n / code_rounds l = ap (λ j. slice_index (places ++ place ∷ []) j) at ∙ get_or-append-add places (place ∷ []) 0 0 ∙ is in
             inr (n, (inside, (beside, sym value)))
       ];
     }
@@ -160,20 +160,20 @@ before-formerly l d h d' h' parity lost places index valid inside are before = r
   stands = before.stands;
   same = λ i lt outside.
       let round = round_of l index in
-      let j : ℕ = i * rounds l + round in
+      let j : ℕ = i * code_rounds l + round in
       let low = round-below l index valid inside in
       elim (cases_lt j (covered_blocks l)) [
         | inr past ↦ covered-past l d h j past ∙ sym (covered-past l d' h' j past)
         | inl here ↦
-            let place : j / rounds l ≡ i = div-mul-add i (rounds l) round low in
-            let other : j ≢ index = λ same. outside 0 (omega (arith, are.count)) (are.own ∙ ap (λ n. n / rounds l) (sym same) ∙ place) in
-            let beside = beside-from l index j here (mod-mul-add i (rounds l) round low) other in
+            let place : j / code_rounds l ≡ i = div-mul-add i (code_rounds l) round low in
+            let other : j ≢ index = λ same. outside 0 (omega (arith, are.count)) (are.own ∙ ap (λ n. n / code_rounds l) (sym same) ∙ place) in
+            let beside = beside-from l index j here (mod-mul-add i (code_rounds l) round low) other in
             before.same j beside
             (λ among.
             let k = among.0 in
             let at = among.1.1 in
             let found = are.each k among.1.0 (subst (λ n. IsTrue (is_beside l index n)) (sym at) beside) in
-            outside found.0 found.1.0 (found.1.1 ∙ ap (λ n. n / rounds l) at ∙ place))
+            outside found.0 found.1.0 (found.1.1 ∙ ap (λ n. n / code_rounds l) at ∙ place))
       ];
 }
 
@@ -183,7 +183,7 @@ made-again l d h image lost places index bytes valid inside size are restored d'
     let round = round_of l index in
     let parity = block_at image (round_bytes l) round in
     let former = before-formerly l d h d' h' parity lost places index valid inside are before in
-    let at : slice_index places 0 * rounds l + round ≡ index = ap (λ n. n * rounds l + round) are.own ∙ div-add-mod' index (rounds l) in
+    let at : slice_index places 0 * code_rounds l + round ≡ index = ap (λ n. n * code_rounds l + round) are.own ∙ div-add-mod' index (code_rounds l) in
     ext_get_or 0 bytes (covered l d' h' index) (size ∙ sym before.whole)
     (λ c lt. restored d' h' former c lt ∙ ap (λ n. slice_index (covered l d' h' n) c) at)
 

@@ -7,31 +7,31 @@ use Rattle.std.proofs.lemmas.List.FromFn.{get_or-map-range_with_len, length-map-
 use Rattle.std.proofs.lemmas.Nat.{div-mul-add, mod-mul-add, div-add-mod'}
 use Rattle.std.proofs.Math.Nat.{mul-le-mul_right, mod-lt}
 use Rattle.reed_solomon.specs.Factors.{AreProducts, parity_places}
-use Rattle.reed_solomon.specs.Field.{product, total}
+use Rattle.reed_solomon.specs.Field.{field_product, total}
 use Rattle.reed_solomon.proofs.FieldLemmas.{product_lt, xor_byte}
 use Rattle.reed_solomon.proofs.CodeLemmas.{total-same, total-start, total-next}
 use Rattle.reed_solomon.proofs.lemmas.ParityLemmas.{parity-codeword, restored-byte}
 use Rattle.reed_solomon.proofs.RestoringLemmas.{codewords_equal}
 use Rattle.reed_solomon.specs.Restoring.{AgreesOutside}
 use Rattle.fec_area.specs.declared.layout.Layout.{Layout}
-use Rattle.fec_area.specs.Layouts.{IsLayout, IsParityOf, codeword, message, round_bytes}
+use Rattle.fec_area.specs.Layouts.{IsLayout, IsParityOf, codeword, message_byte, round_bytes}
 use Rattle.fec_area.specs.Rounds.{AreRestored, AreProductsAdded}
 
 codeword_at : (l : Layout) (d h : List (List ℕ)) (round : ℕ) (parity : List ℕ) (c i : ℕ) → i < 255
-    → slice_index (codeword l d h round parity c) i ≡ cond (nat_lt i (255 - l.roots)) (message l d h round c i) (slice_index parity (c * l.roots + (i - (255 - l.roots))))
+    → slice_index (codeword l d h round parity c) i ≡ cond (nat_lt i (255 - l.roots)) (message_byte l d h round c i) (slice_index parity (c * l.roots + (i - (255 - l.roots))))
 unfolding codeword
 codeword_at l d h round parity c i lt =
-    get_or-map-range_with_len (λ i. cond (nat_lt i (255 - l.roots)) (message l d h round c i) (slice_index parity (c * l.roots + (i - (255 - l.roots))))) 0 255 i i 0 lt (omega arith)
+    get_or-map-range_with_len (λ i. cond (nat_lt i (255 - l.roots)) (message_byte l d h round c i) (slice_index parity (c * l.roots + (i - (255 - l.roots))))) 0 255 i i 0 lt (omega arith)
 
 pub length-codeword : (l : Layout) (d h : List (List ℕ)) (round : ℕ) (parity : List ℕ) (c : ℕ) → length (codeword l d h round parity c) ≡ 255
 unfolding codeword
 length-codeword l d h round parity c =
-    length-map-range_with_len (λ i. cond (nat_lt i (255 - l.roots)) (message l d h round c i) (slice_index parity (c * l.roots + (i - (255 - l.roots))))) 0 255
+    length-map-range_with_len (λ i. cond (nat_lt i (255 - l.roots)) (message_byte l d h round c i) (slice_index parity (c * l.roots + (i - (255 - l.roots))))) 0 255
 
 -- a byte of the message
-pub codeword-message : (l : Layout) (d h : List (List ℕ)) (round : ℕ) (parity : List ℕ) (c i : ℕ) → i < 255 - l.roots → slice_index (codeword l d h round parity c) i ≡ message l d h round c i
+pub codeword-message : (l : Layout) (d h : List (List ℕ)) (round : ℕ) (parity : List ℕ) (c i : ℕ) → i < 255 - l.roots → slice_index (codeword l d h round parity c) i ≡ message_byte l d h round c i
 codeword-message l d h round parity c i lt =
-    codeword_at l d h round parity c i (omega (arith, lt)) ∙ ap (λ b. cond b (message l d h round c i) (slice_index parity (c * l.roots + (i - (255 - l.roots))))) (lt-ltb i (255 - l.roots) lt)
+    codeword_at l d h round parity c i (omega (arith, lt)) ∙ ap (λ b. cond b (message_byte l d h round c i) (slice_index parity (c * l.roots + (i - (255 - l.roots))))) (lt-ltb i (255 - l.roots) lt)
 
 -- a byte of the parity
 pub codeword-parity : (l : Layout) (d h : List (List ℕ)) (round : ℕ) (parity : List ℕ) (c k : ℕ) → l.roots ≤ 255 → k < l.roots → slice_index (codeword l d h round parity c) (255 - l.roots + k) ≡ slice_index parity (c * l.roots + k)
@@ -39,33 +39,33 @@ codeword-parity l d h round parity c k few lt =
     let i = 255 - l.roots + k in
     let rest : i - (255 - l.roots) ≡ k = omega arith in
     codeword_at l d h round parity c i (omega (arith, few, lt))
-    ∙ ap (λ b. cond b (message l d h round c i) (slice_index parity (c * l.roots + (i - (255 - l.roots))))) (le-ltb i (255 - l.roots) (omega arith))
+    ∙ ap (λ b. cond b (message_byte l d h round c i) (slice_index parity (c * l.roots + (i - (255 - l.roots))))) (le-ltb i (255 - l.roots) (omega arith))
     ∙ ap (λ n. slice_index parity (c * l.roots + n)) rest
 
 -- The bytes at the first places are summed up: with n sums for each codeword, whose byte i is `word c i`.
 abbrev pub AreSummed : (ℕ → ℕ → ℕ) → ℕ → List ℕ → List ℕ → ℕ → Type 0
-AreSummed word n products sums place = (m : ℕ) → m < length sums → slice_index sums m ≡ total (λ i. product (slice_index products (i * n + m % n)) (word (m / n) i)) place
+AreSummed word n products sums place = (m : ℕ) → m < length sums → slice_index sums m ≡ total (λ i. field_product (slice_index products (i * n + m % n)) (word (m / n) i)) place
 
 pub summed-none : (word : ℕ → ℕ → ℕ) (n : ℕ) (products sums : List ℕ) → ((m : ℕ) → m < length sums → slice_index sums m ≡ 0) → AreSummed word n products sums 0
-summed-none word n products sums none m lt = none m lt ∙ sym (total-start (λ i. product (slice_index products (i * n + m % n)) (word (m / n) i)))
+summed-none word n products sums none m lt = none m lt ∙ sym (total-start (λ i. field_product (slice_index products (i * n + m % n)) (word (m / n) i)))
 
 pub summed-more : (word : ℕ → ℕ → ℕ) (n : ℕ) (products old new : List ℕ) (place : ℕ) → length new ≡ length old
-    → ((m : ℕ) → m < length new → slice_index new m ≡ bit_xor (slice_index old m) (product (slice_index products (place * n + m % n)) (word (m / n) place)))
+    → ((m : ℕ) → m < length new → slice_index new m ≡ bit_xor (slice_index old m) (field_product (slice_index products (place * n + m % n)) (word (m / n) place)))
     → AreSummed word n products old place → AreSummed word n products new (place + 1)
 summed-more word n products old new place size added known m lt =
-    let f = λ (i : ℕ). product (slice_index products (i * n + m % n)) (word (m / n) i) in
+    let f = λ (i : ℕ). field_product (slice_index products (i * n + m % n)) (word (m / n) i) in
     added m lt ∙ ap (λ x. bit_xor x (f place)) (known m (omega (arith, lt, size))) ∙ sym (total-next f place)
 
 -- the sum at byte k of codeword c
 pub summed-at : (word : ℕ → ℕ → ℕ) (n block : ℕ) (products sums : List ℕ) (place c k : ℕ) → length sums ≡ block * n → c < block → k < n → AreSummed word n products sums place
-    → slice_index sums (c * n + k) ≡ total (λ i. product (slice_index products (i * n + k)) (word c i)) place
+    → slice_index sums (c * n + k) ≡ total (λ i. field_product (slice_index products (i * n + k)) (word c i)) place
 summed-at word n block products sums place c k size inside lt known =
     let m = c * n + k in
     let up : suc c * n ≤ block * n = mul-le-mul_right n inside in
     let next : suc c * n ≡ c * n + n = grind arith in
     known m (omega (arith, up, next, size, lt))
-    ∙ ap (λ q. total (λ i. product (slice_index products (i * n + q)) (word (m / n) i)) place) (mod-mul-add c n k lt)
-    ∙ ap (λ q. total (λ i. product (slice_index products (i * n + k)) (word q i)) place) (div-mul-add c n k lt)
+    ∙ ap (λ q. total (λ i. field_product (slice_index products (i * n + q)) (word (m / n) i)) place) (mod-mul-add c n k lt)
+    ∙ ap (λ q. total (λ i. field_product (slice_index products (i * n + k)) (word q i)) place) (div-mul-add c n k lt)
 
 total_lt : (f : ℕ → ℕ) (n : ℕ) → ((i : ℕ) → f i < 256) → total f n < 256
 unfolding total
@@ -77,21 +77,21 @@ pub summed-small : (word : ℕ → ℕ → ℕ) (n : ℕ) (products sums : List 
 summed-small word n products sums place known m =
     elim (cases_lt m (length sums)) [
       | inl below ↦
-          omega (arith, known m below, total_lt (λ i. product (slice_index products (i * n + m % n)) (word (m / n) i)) place (λ i. product_lt (slice_index products (i * n + m % n)) (word (m / n) i)))
+          omega (arith, known m below, total_lt (λ i. field_product (slice_index products (i * n + m % n)) (word (m / n) i)) place (λ i. product_lt (slice_index products (i * n + m % n)) (word (m / n) i)))
       | inr above ↦ omega (arith, get_or_past sums m 0 above)
     ]
 
 -- each byte of the message at the first places is one
 abbrev pub AreBytes : Layout → List (List ℕ) → List (List ℕ) → ℕ → ℕ → Type 0
-AreBytes l d h round place = (i c : ℕ) → i < place → message l d h round c i < 256
+AreBytes l d h round place = (i c : ℕ) → i < place → message_byte l d h round c i < 256
 
-pub bytes-more : (l : Layout) (d h : List (List ℕ)) (round place : ℕ) → ((c : ℕ) → message l d h round c place < 256) → AreBytes l d h round place → AreBytes l d h round (place + 1)
+pub bytes-more : (l : Layout) (d h : List (List ℕ)) (round place : ℕ) → ((c : ℕ) → message_byte l d h round c place < 256) → AreBytes l d h round place → AreBytes l d h round (place + 1)
 bytes-more l d h round place here known i c lt =
     elim (cases_lt i place) [
       | inl below ↦ known i c below
       | inr above ↦
           let at : place ≡ i = omega (arith, lt, above) in
-          subst (λ j. message l d h round c j < 256) at (here c)
+          subst (λ j. message_byte l d h round c j < 256) at (here c)
     ]
 
 pub round-swap : (l : Layout) → l.block * l.roots ≡ round_bytes l
@@ -100,9 +100,9 @@ round-swap l = grind arith
 -- sums over all places of the message are the parity
 pub summed-parity : (l : Layout) (d h : List (List ℕ)) (products : List ℕ) (round : ℕ) (sums : List ℕ) (place : ℕ) → IsLayout l → AreProducts (parity_places l.roots) products
     → length sums ≡ round_bytes l → place ≡ 255 - l.roots → AreBytes l d h round place
-    → AreSummed (message l d h round) l.roots products sums place → IsParityOf l d h round sums
+    → AreSummed (message_byte l d h round) l.roots products sums place → IsParityOf l d h round sums
 summed-parity l d h products round sums place valid known size end bytes summed c inside =
-    let small = summed-small (message l d h round) l.roots products sums place summed in
+    let small = summed-small (message_byte l d h round) l.roots products sums place summed in
     let roots = l.roots in
     let few = valid.few in
     let word = codeword l d h round sums c in
@@ -121,10 +121,10 @@ summed-parity l d h products round sums place valid known size end bytes summed 
     parity-codeword roots products word (omega (arith, valid.some)) few len byte known
     (λ k lt.
     codeword-parity l d h round sums c k (omega (arith, few)) lt
-    ∙ summed-at (message l d h round) roots l.block products sums place c k (size ∙ sym (round-swap l)) inside lt summed
-    ∙ ap (λ q. total (λ i. product (slice_index products (i * roots + k)) (message l d h round c i)) q) end
-    ∙ total-same (λ i. product (slice_index products (i * roots + k)) (message l d h round c i)) (λ i. product (slice_index products (i * roots + k)) (slice_index word i)) (255 - roots)
-    (λ i below. ap (λ x. product (slice_index products (i * roots + k)) x) (sym (codeword-message l d h round sums c i below))))
+    ∙ summed-at (message_byte l d h round) roots l.block products sums place c k (size ∙ sym (round-swap l)) inside lt summed
+    ∙ ap (λ q. total (λ i. field_product (slice_index products (i * roots + k)) (message_byte l d h round c i)) q) end
+    ∙ total-same (λ i. field_product (slice_index products (i * roots + k)) (message_byte l d h round c i)) (λ i. field_product (slice_index products (i * roots + k)) (slice_index word i)) (255 - roots)
+    (λ i below. ap (λ x. field_product (slice_index products (i * roots + k)) x) (sym (codeword-message l d h round sums c i below))))
 
 -- sums over all places are the lost blocks
 pub summed-restored : (l : Layout) (d h : List (List ℕ)) (products : List ℕ) (round : ℕ) (parity lost sums : List ℕ) (place : ℕ) → IsLayout l → AreProducts lost products
@@ -155,7 +155,7 @@ summed-restored l d h products round parity lost sums place valid known within e
       ]
     ] in
     summed-at (λ c. slice_index (codeword l d h round parity c)) n l.block products sums place c k size inside lt summed
-    ∙ ap (λ q. total (λ i. product (slice_index products (i * n + k)) (slice_index word i)) q) end
+    ∙ ap (λ q. total (λ i. field_product (slice_index products (i * n + k)) (slice_index word i)) q) end
     ∙ restored-byte l.roots lost products word whole k lt enough known (former.stands c inside) agree
     ∙ codeword-message l d' h' round parity c (slice_index lost k) (within k lt)
 
@@ -201,7 +201,7 @@ parity-unique l d h round p q valid size_p size_q one other =
 -- a column of the parity was added
 pub column-more : (l : Layout) (d h : List (List ℕ)) (products : List ℕ) (round : ℕ) (parity : List ℕ) (n k : ℕ) (block old new : List ℕ) → l.roots ≤ 255 → k < l.roots → length new ≡ length old
     → length block ≡ l.block → length new ≡ l.block * n → EachIndex block (λ c. slice_index block c ≡ slice_index parity (c * l.roots + k))
-    → ((m : ℕ) → m < length new → slice_index new m ≡ bit_xor (slice_index old m) (product (slice_index products ((255 - l.roots + k) * n + m % n)) (slice_index block (m / n))))
+    → ((m : ℕ) → m < length new → slice_index new m ≡ bit_xor (slice_index old m) (field_product (slice_index products ((255 - l.roots + k) * n + m % n)) (slice_index block (m / n))))
     → AreSummed (λ c. slice_index (codeword l d h round parity c)) n products old (255 - l.roots + k)
     → AreSummed (λ c. slice_index (codeword l d h round parity c)) n products new (255 - l.roots + (k + 1))
 column-more l d h products round parity n k block old new few lt size long all column added known =
@@ -221,7 +221,7 @@ column-more l d h products round parity n k block old new few lt size long all c
           absurd (omega (arith, up, whole, same, all, within))
     ] in
     added m within
-    ∙ ap (λ v. bit_xor (slice_index old m) (product (slice_index products (place * n + m % n)) v)) (column c inside ∙ sym (codeword-parity l d h round parity c k few lt)))
+    ∙ ap (λ v. bit_xor (slice_index old m) (field_product (slice_index products (place * n + m % n)) v)) (column c inside ∙ sym (codeword-parity l d h round parity c k few lt)))
     known)
 
 -- the bytes at a place of the message were added
@@ -230,5 +230,5 @@ pub message-more : (l : Layout) (d h : List (List ℕ)) (products : List ℕ) (r
     → AreSummed (λ c. slice_index (codeword l d h round parity c)) n products new (place + 1)
 message-more l d h products round parity n place old new lt size added known =
     summed-more (λ (c : ℕ). slice_index (codeword l d h round parity c)) n products old new place size
-    (λ m within. added m within ∙ ap (λ v. bit_xor (slice_index old m) (product (slice_index products (place * n + m % n)) v)) (sym (codeword-message l d h round parity (m / n) place lt)))
+    (λ m within. added m within ∙ ap (λ v. bit_xor (slice_index old m) (field_product (slice_index products (place * n + m % n)) v)) (sym (codeword-message l d h round parity (m / n) place lt)))
     known

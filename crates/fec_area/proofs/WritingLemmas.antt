@@ -12,7 +12,7 @@ use Rattle.block_device.specs.Whole.{length-sectors_of}
 use Rattle.block_device.proofs.lemmas.SectorLemmas.{concat-sectors_of, take-spliced}
 use Rattle.verity_format.specs.Blocks.{block_at}
 use Rattle.fec_area.specs.declared.layout.Layout.{Layout}
-use Rattle.fec_area.specs.Layouts.{IsLayout, IsParityOf, parity_sectors, round_bytes, rounds}
+use Rattle.fec_area.specs.Layouts.{IsLayout, IsParityOf, parity_sectors, round_bytes, code_rounds}
 use Rattle.fec_area.proofs.RoundLemmas.{parity-unique}
 use Rattle.fec_area.proofs.LayoutLemmas.{round-quotient, round-room, round-sectors, round-some, whole-sectors}
 
@@ -68,13 +68,13 @@ written-more l d h image new parity n f k valid size count first inside put here
     ]
 
 -- a round's parity lies within all of it
-pub round-within : (l : Layout) (round s k : ℕ) → round < rounds l → s ≡ l.roots * (l.block / 512) → k ≡ l.roots * (l.block / 512) → round * s + k ≤ parity_sectors l
+pub round-within : (l : Layout) (round s k : ℕ) → round < code_rounds l → s ≡ l.roots * (l.block / 512) → k ≡ l.roots * (l.block / 512) → round * s + k ≤ parity_sectors l
 round-within l round s k lt is size =
     let first : round * s ≡ round * (l.roots * (l.block / 512)) = ap (λ m. round * m) is in
     omega (arith, first, size, round-room l round lt)
 
 -- a round's parity lies on a device that has room for all
-pub write-inside : (l : Layout) (old now : Device) (round len s : ℕ) → IsLayout l → parity_sectors l ≤ old.size → now.size ≡ old.size → round < rounds l → len ≡ round_bytes l → s ≡ l.roots * (l.block / 512)
+pub write-inside : (l : Layout) (old now : Device) (round len s : ℕ) → IsLayout l → parity_sectors l ≤ old.size → now.size ≡ old.size → round < code_rounds l → len ≡ round_bytes l → s ≡ l.roots * (l.block / 512)
     → IsInside now (round * s) len
 write-inside l old now round len s valid room same lt size is =
     let k = round-quotient l len valid size in

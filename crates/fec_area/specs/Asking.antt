@@ -5,7 +5,7 @@ use Rattle.block_device.specs.Device.{Device}
 use Rattle.verity_format.specs.Blocks.{IsFullRead}
 use Rattle.fec_area.specs.declared.code.Gap.{Gap}
 use Rattle.fec_area.specs.declared.layout.Layout.{Layout}
-use Rattle.fec_area.specs.Layouts.{covered_blocks, rounds}
+use Rattle.fec_area.specs.Layouts.{covered_blocks, code_rounds}
 use Rattle.fec_area.specs.Restoring.{is_beside}
 
 abbrev pub is_among : List ℕ → ℕ → Bool
@@ -63,7 +63,7 @@ AsksBlock l j data_state hash_state d h d' h' = AreAsked (sectors_on_data l j) (
 
 -- of the block at place i of a round, unless that place is lost
 abbrev pub kept_at : (ℕ → ℕ) → Layout → ℕ → List ℕ → ℕ → ℕ
-kept_at sectors l round places i = if is_among places i then 0 else sectors (i * rounds l + round)
+kept_at sectors l round places i = if is_among places i then 0 else sectors (i * code_rounds l + round)
 
 abbrev pub AsksPlace : {D H : Type 0} → Gap → ℕ → (D → Device) → (H → Device) → D → H → D → H → Type 0
 AsksPlace gap i data_state hash_state d h d' h' =

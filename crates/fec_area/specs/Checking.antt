@@ -6,18 +6,18 @@ use Rattle.fec_area.specs.declared.code.Code.{Code}
 use Rattle.fec_area.specs.declared.layout.Layout.{Layout}
 use Rattle.fec_area.specs.declared.writing.ParityFault.{ParityFault}
 use Rattle.fec_area.specs.declared.writing.ParityFault.TheVariants.{TooSmall, ReadOnly, Device as DeviceFailed, NoMemory}
-use Rattle.fec_area.specs.Layouts.{IsParityOf, IsProtected, parity_sectors, round_bytes, rounds}
+use Rattle.fec_area.specs.Layouts.{IsParityOf, IsProtected, parity_sectors, round_bytes, code_rounds}
 use Rattle.fec_area.specs.Writing.{HasAnyFailed}
 
 -- each round's parity stands there, or this round's, the first, doesn't
-abbrev pub IsFound : Layout → List (List ℕ) → List (List ℕ) → List (List ℕ) → Option ℕ → Type 0
-IsFound l data_image hash_image parity_image None = IsProtected l data_image hash_image parity_image
-IsFound l data_image hash_image parity_image (Some round) =
-    (round < rounds l) × ((r : ℕ) → r < round → IsParityOf l data_image hash_image r (block_at parity_image (round_bytes l) r)) × (IsParityOf l data_image hash_image round (block_at parity_image (round_bytes l) round) → ⊥)
+abbrev pub IsParityFound : Layout → List (List ℕ) → List (List ℕ) → List (List ℕ) → Option ℕ → Type 0
+IsParityFound l data_image hash_image parity_image None = IsProtected l data_image hash_image parity_image
+IsParityFound l data_image hash_image parity_image (Some round) =
+    (round < code_rounds l) × ((r : ℕ) → r < round → IsParityOf l data_image hash_image r (block_at parity_image (round_bytes l) r)) × (IsParityOf l data_image hash_image round (block_at parity_image (round_bytes l) round) → ⊥)
 
 -- over steady devices
 abbrev pub IsChecked : Layout → Device → Device → Device → Option ℕ → Type 0
-IsChecked l data_dev hash_dev parity_dev found = IsTrue data_dev.steady → IsTrue hash_dev.steady → IsTrue parity_dev.steady → IsFound l data_dev.image hash_dev.image parity_dev.image found
+IsChecked l data_dev hash_dev parity_dev found = IsTrue data_dev.steady → IsTrue hash_dev.steady → IsTrue parity_dev.steady → IsParityFound l data_dev.image hash_dev.image parity_dev.image found
 
 -- why parity wasn't checked
 abbrev pub IsCheckCause : Layout → Device → Device → Device → Device → Device → Device → ParityFault → Type 0

@@ -14,8 +14,8 @@ abbrev pub covered_blocks : Layout → ℕ
 covered_blocks l = l.data_blocks + l.hash_blocks
 
 -- Codewords lie a round apart: a round has one block at each place of the message, and the blocks at a place follow one another.
-abbrev pub rounds : Layout → ℕ
-rounds l = div_ceil (covered_blocks l) (255 - l.roots)
+abbrev pub code_rounds : Layout → ℕ
+code_rounds l = div_ceil (covered_blocks l) (255 - l.roots)
 
 -- covered block j, and nothing past the last one
 abbrev pub covered : Layout → List (List ℕ) → List (List ℕ) → ℕ → List ℕ
@@ -29,13 +29,13 @@ abbrev pub IsCovered : Layout → Device → Device → ℕ → List ℕ → Typ
 IsCovered l data_dev hash_dev j bytes = IsTrue data_dev.steady → IsTrue hash_dev.steady → bytes ≡ covered l data_dev.image hash_dev.image j
 
 -- the byte of the message at place i, of codeword c of a round; past the last block it is 0
-abbrev pub message : Layout → List (List ℕ) → List (List ℕ) → ℕ → ℕ → ℕ → ℕ
-message l data_image hash_image round c i = slice_index (covered l data_image hash_image (i * rounds l + round)) c
+abbrev pub message_byte : Layout → List (List ℕ) → List (List ℕ) → ℕ → ℕ → ℕ → ℕ
+message_byte l data_image hash_image round c i = slice_index (covered l data_image hash_image (i * code_rounds l + round)) c
 
 -- Codeword c of a round: its message, and its bytes of parity, which lie together.
 unfoldable pub codeword : Layout → List (List ℕ) → List (List ℕ) → ℕ → List ℕ → ℕ → List ℕ
 codeword l data_image hash_image round parity c =
-    map (λ i. if nat_lt i (255 - l.roots) then message l data_image hash_image round c i else slice_index parity (c * l.roots + (i - (255 - l.roots)))) (range_with_len 0 255)
+    map (λ i. if nat_lt i (255 - l.roots) then message_byte l data_image hash_image round c i else slice_index parity (c * l.roots + (i - (255 - l.roots)))) (range_with_len 0 255)
 
 -- the parity of a round
 abbrev pub IsParityOf : Layout → List (List ℕ) → List (List ℕ) → ℕ → List ℕ → Type 0
@@ -46,11 +46,11 @@ abbrev pub round_bytes : Layout → ℕ
 round_bytes l = l.roots * l.block
 
 abbrev pub parity_sectors : Layout → ℕ
-parity_sectors l = rounds l * (l.roots * (l.block / 512))
+parity_sectors l = code_rounds l * (l.roots * (l.block / 512))
 
 -- the rounds' parity lies one behind the other
 abbrev pub IsProtected : Layout → List (List ℕ) → List (List ℕ) → List (List ℕ) → Type 0
-IsProtected l data_image hash_image parity_image = (round : ℕ) → round < rounds l → IsParityOf l data_image hash_image round (block_at parity_image (round_bytes l) round)
+IsProtected l data_image hash_image parity_image = (round : ℕ) → round < code_rounds l → IsParityOf l data_image hash_image round (block_at parity_image (round_bytes l) round)
 
 -- That of an image with a tree of that shape: of the hash device, which has so many sectors, all from the tree's first block on are
 -- covered, to the device's end.

@@ -6,17 +6,17 @@ use Rattle.fec_area.specs.declared.code.Gap.{Gap}
 use Rattle.fec_area.specs.declared.layout.Layout.{Layout}
 use Rattle.fec_area.specs.declared.restoring.RestoreFault.{RestoreFault}
 use Rattle.fec_area.specs.declared.restoring.RestoreFault.TheVariants.{TooManyLost, TooSmall, Device as DeviceFailed, NoMemory}
-use Rattle.fec_area.specs.Layouts.{IsLayout, IsParityOf, IsProtected, covered, covered_blocks, message, parity_sectors, round_bytes, rounds}
+use Rattle.fec_area.specs.Layouts.{IsLayout, IsParityOf, IsProtected, covered, covered_blocks, message_byte, parity_sectors, round_bytes, code_rounds}
 use Rattle.fec_area.specs.Rounds.{IsFormerly}
 use Rattle.fec_area.specs.Writing.{HasAnyFailed}
 
 -- the round of a covered block
 abbrev pub round_of : Layout → ℕ → ℕ
-round_of l index = index % rounds l
+round_of l index = index % code_rounds l
 
 -- another covered block of the same round
 abbrev pub is_beside : Layout → ℕ → ℕ → Bool
-is_beside l index j = nat_lt j (covered_blocks l) && (j % rounds l == round_of l index) && not (j == index)
+is_beside l index j = nat_lt j (covered_blocks l) && (j % code_rounds l == round_of l index) && not (j == index)
 
 -- how many blocks of its round are lost, where it is and these are
 abbrev pub lost_count : Layout → List ℕ → ℕ → ℕ
@@ -68,21 +68,21 @@ FailsToRestore l lost index data_state hash_state parity_state d h p d' h' p' = 
 
 -- the place of its block, or of another one of the round that is lost
 abbrev pub IsLostPlace : Layout → List ℕ → ℕ → ℕ → Type 0
-IsLostPlace l lost index place = (place ≡ index / rounds l) ⊎ ((k : ℕ) × ((k < length lost) × (IsTrue (is_beside l index (slice_index lost k)) × (slice_index lost k / rounds l ≡ place))))
+IsLostPlace l lost index place = (place ≡ index / code_rounds l) ⊎ ((k : ℕ) × ((k < length lost) × (IsTrue (is_beside l index (slice_index lost k)) × (slice_index lost k / code_rounds l ≡ place))))
 
 -- the places of the blocks of its round that are lost, its own the first
 pub record AreLostPlaces (l : Layout) (lost : List ℕ) (index : ℕ) (places : List ℕ) : Type 0 where
   pub count : length places ≡ lost_count l lost index
-  pub own : slice_index places 0 ≡ index / rounds l
+  pub own : slice_index places 0 ≡ index / code_rounds l
   pub within : EachIndex places (λ k. slice_index places k < 255 - l.roots)
-  pub each : EachIndex lost (λ k. IsTrue (is_beside l index (slice_index lost k)) → IsAmong places (slice_index lost k / rounds l))
+  pub each : EachIndex lost (λ k. IsTrue (is_beside l index (slice_index lost k)) → IsAmong places (slice_index lost k / code_rounds l))
   pub alone : EachIndex places (λ k. IsLostPlace l lost index (slice_index places k))
 
 -- The bytes are the block at the first of these places, of each image with this parity whose other blocks of the round are these.
 abbrev pub IsFirstRestored : Layout → List (List ℕ) → List (List ℕ) → ℕ → List ℕ → List ℕ → List ℕ → Type 0
 IsFirstRestored l data_image hash_image round parity places bytes =
     (former_data former_hash : List (List ℕ)) → IsFormerly l data_image hash_image former_data former_hash round parity places
-    → EachIndex bytes (λ c. slice_index bytes c ≡ message l former_data former_hash round c (slice_index places 0))
+    → EachIndex bytes (λ c. slice_index bytes c ≡ message_byte l former_data former_hash round c (slice_index places 0))
 
 -- over steady devices they are it by the parity on the third one
 abbrev pub RestoresFirst : Gap → Device → Device → Device → List ℕ → Type 0

@@ -3,11 +3,11 @@ use Rattle.std.specs.Prelude.{◌≡◌, ◌⊎◌, ℕ, ◌+◌, ◌-◌, ◌*�
 use Rattle.block_device.specs.Device.{Device, HasFailed}
 use Rattle.verity_format.specs.Blocks.{AreOnlyRead}
 use Rattle.reed_solomon.specs.Factors.{AreProducts, parity_places}
-use Rattle.reed_solomon.specs.Field.{product}
+use Rattle.reed_solomon.specs.Field.{field_product}
 use Rattle.fec_area.specs.declared.code.Code.{Code}
 use Rattle.fec_area.specs.declared.code.Gap.{Gap}
 use Rattle.fec_area.specs.declared.layout.Layout.{Layout}
-use Rattle.fec_area.specs.Layouts.{IsLaidOn, IsParityOf, covered, message, round_bytes, rounds}
+use Rattle.fec_area.specs.Layouts.{IsLaidOn, IsParityOf, covered, message_byte, round_bytes, code_rounds}
 
 -- neither of two devices failed
 pub record AreUnfailed (data_dev hash_dev data_dev' hash_dev' : Device) : Type 0 where
@@ -21,8 +21,8 @@ HasOneFailed data_dev hash_dev data_dev' hash_dev' = HasFailed data_dev data_dev
 -- ---- calls, by what a proof sees of the two devices: as they were before, and then after
 
 -- both were only read
-abbrev pub OnlyReads : {D H : Type 0} → (D → Device) → (H → Device) → D → H → D → H → Type 0
-OnlyReads data_state hash_state d h d' h' = AreOnlyRead (data_state d) (hash_state h) (data_state d') (hash_state h')
+abbrev pub OnlyReadsCovered : {D H : Type 0} → (D → Device) → (H → Device) → D → H → D → H → Type 0
+OnlyReadsCovered data_state hash_state d h d' h' = AreOnlyRead (data_state d) (hash_state h) (data_state d') (hash_state h')
 
 -- neither failed
 abbrev pub NeitherFails : {D H : Type 0} → (D → Device) → (H → Device) → D → H → D → H → Type 0
@@ -39,18 +39,18 @@ pub record CanAdd (code : Code) (data_dev hash_dev : Device) (round : ℕ) (bloc
   pub laid : IsLaidOn code.layout.now data_dev hash_dev
   pub few : code.count ≤ 255
   pub products_are : length code.products.now ≡ 255 * code.count
-  pub round_is : round < rounds code.layout.now
+  pub round_is : round < code_rounds code.layout.now
   pub block_is : length block ≡ code.layout.now.block
   pub sums_are : length sums ≡ code.layout.now.block * code.count
 
 -- To the sums the products of the bytes at one place were added, each to those of its codeword.
 abbrev pub AreProductsAdded : Layout → List (List ℕ) → List (List ℕ) → ℕ → List ℕ → ℕ → ℕ → List ℕ → List ℕ → Type 0
 AreProductsAdded l data_image hash_image count products round place old new =
-    EachIndex new (λ m. slice_index new m ≡ bit_xor (slice_index old m) (product (slice_index products (place * count + m % count)) (message l data_image hash_image round (m / count) place)))
+    EachIndex new (λ m. slice_index new m ≡ bit_xor (slice_index old m) (field_product (slice_index products (place * count + m % count)) (message_byte l data_image hash_image round (m / count) place)))
 
 pub record IsPlaceAdded (l : Layout) (data_image hash_image : List (List ℕ)) (count : ℕ) (products : List ℕ) (round place : ℕ) (old new : List ℕ) : Type 0 where
   pub sums : AreProductsAdded l data_image hash_image count products round place old new
-  pub bytes : (c : ℕ) → message l data_image hash_image round c place < 256
+  pub bytes : (c : ℕ) → message_byte l data_image hash_image round c place < 256
 
 -- over steady devices
 abbrev pub Adds : {D H : Type 0} → Code → (D → Device) → (H → Device) → D → H → ℕ → ℕ → List ℕ → List ℕ → Type 0
@@ -91,7 +91,7 @@ pub record CanRestore (gap : Gap) (data_dev hash_dev : Device) (parity block sum
   pub enough : length gap.places.now ≤ gap.code.layout.now.roots
   pub count_is : gap.code.count ≡ length gap.places.now
   pub products_are : AreProducts gap.places.now gap.code.products.now
-  pub round_is : gap.round < rounds gap.code.layout.now
+  pub round_is : gap.round < code_rounds gap.code.layout.now
   pub block_is : length block ≡ gap.code.layout.now.block
   pub parity_is : length parity ≡ round_bytes gap.code.layout.now
   pub sums_are : length sums ≡ gap.code.layout.now.block * length gap.places.now
@@ -99,13 +99,13 @@ pub record CanRestore (gap : Gap) (data_dev hash_dev : Device) (parity block sum
 -- Another image with this parity, whose covered blocks of the round are those of this one but at the lost places.
 pub record IsFormerly (l : Layout) (data_image hash_image former_data former_hash : List (List ℕ)) (round : ℕ) (parity lost : List ℕ) : Type 0 where
   pub stands : IsParityOf l former_data former_hash round parity
-  pub same : (i : ℕ) → i < 255 - l.roots → ((k : ℕ) → k < length lost → slice_index lost k ≢ i) → covered l data_image hash_image (i * rounds l + round) ≡ covered l former_data former_hash (i * rounds l + round)
+  pub same : (i : ℕ) → i < 255 - l.roots → ((k : ℕ) → k < length lost → slice_index lost k ≢ i) → covered l data_image hash_image (i * code_rounds l + round) ≡ covered l former_data former_hash (i * code_rounds l + round)
 
 -- The sums are the lost blocks of each such image: byte c of the k-th lost one is at c * n + k, where n are lost.
 abbrev pub AreRestored : Layout → List (List ℕ) → List (List ℕ) → ℕ → List ℕ → List ℕ → List ℕ → Type 0
 AreRestored l data_image hash_image round parity lost sums =
     (former_data former_hash : List (List ℕ)) → IsFormerly l data_image hash_image former_data former_hash round parity lost
-    → (c k : ℕ) → c < l.block → k < length lost → slice_index sums (c * length lost + k) ≡ message l former_data former_hash round c (slice_index lost k)
+    → (c k : ℕ) → c < l.block → k < length lost → slice_index sums (c * length lost + k) ≡ message_byte l former_data former_hash round c (slice_index lost k)
 
 -- over steady devices
 abbrev pub Restores : Gap → Device → Device → List ℕ → List ℕ → Type 0

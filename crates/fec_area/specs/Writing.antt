@@ -35,5 +35,5 @@ abbrev pub WritesParity : {D H P : Type 0} → Layout → (D → Device) → (H 
 WritesParity l data_state hash_state parity_state d h p d' h' p' = IsParityWritten l (data_state d) (hash_state h) (parity_state p) (data_state d') (hash_state h') (parity_state p')
 
 -- it wasn't, or not all of it, for this reason
-abbrev pub FailsToWrite : {D H P : Type 0} → Layout → (D → Device) → (H → Device) → (P → Device) → D → H → P → D → H → P → ParityFault → Type 0
-FailsToWrite l data_state hash_state parity_state d h p d' h' p' = IsParityCause l (data_state d) (hash_state h) (parity_state p) (data_state d') (hash_state h') (parity_state p')
+abbrev pub FailsToWriteParity : {D H P : Type 0} → Layout → (D → Device) → (H → Device) → (P → Device) → D → H → P → D → H → P → ParityFault → Type 0
+FailsToWriteParity l data_state hash_state parity_state d h p d' h' p' = IsParityCause l (data_state d) (hash_state h) (parity_state p) (data_state d') (hash_state h') (parity_state p')

@@ -4,7 +4,7 @@ ghost use Rattle.std.specs.Str.{bytes_eq};
 ghost use Rattle.verity_format.specs.Blocks.{IsOnlyRead};
 ghost use Rattle.fec_area.specs.Checking.{Checks, ChecksBy, FailsToCheck};
 ghost use Rattle.fec_area.specs.Layouts.{IsLaidOn, parity_sectors, round_bytes};
-ghost use Rattle.fec_area.specs.Rounds.{CanSum, OnlyReads};
+ghost use Rattle.fec_area.specs.Rounds.{CanSum, OnlyReadsCovered};
 ghost use Rattle.fec_area.specs.Writing.{AnyFails};
 
 use crate::code::Code;
@@ -26,7 +26,7 @@ pub fn check_parity<D: BlockDev, H: BlockDev, P: BlockDev>(
     parity_dev: &mut P,
 ) -> Result<Option<u64>, ParityFault>
     requires { IsLaidOn layout.now (D.state data_dev.old) (H.state hash_dev.old) }
-    ensures read { OnlyReads D.state H.state data_dev.old hash_dev.old data_dev.new hash_dev.new }
+    ensures read { OnlyReadsCovered D.state H.state data_dev.old hash_dev.old data_dev.new hash_dev.new }
     ensures parity { IsOnlyRead (P.state parity_dev.old) (P.state parity_dev.new) }
     ensures ok { IfOk result (Checks layout.now D.state H.state P.state data_dev.old hash_dev.old parity_dev.old) }
     ensures err { IfErr result (FailsToCheck layout.now D.state H.state P.state data_dev.old hash_dev.old parity_dev.old data_dev.new hash_dev.new parity_dev.new) }
@@ -69,7 +69,7 @@ fn check_rounds<D: BlockDev, H: BlockDev, P: BlockDev>(
     requires sums { CanSum code.now (D.state data_dev.old) (H.state hash_dev.old) block.old parity.old }
     requires room { parity_sectors code.now.layout.now ≤ (P.state parity_dev.old).size }
     requires stored { length stored.old ≡ round_bytes code.now.layout.now }
-    ensures read { OnlyReads D.state H.state data_dev.old hash_dev.old data_dev.new hash_dev.new }
+    ensures read { OnlyReadsCovered D.state H.state data_dev.old hash_dev.old data_dev.new hash_dev.new }
     ensures parity { IsOnlyRead (P.state parity_dev.old) (P.state parity_dev.new) }
     ensures ok { IfOk result (ChecksBy code.now D.state H.state P.state data_dev.old hash_dev.old parity_dev.old) }
     ensures err { OnErr result (AnyFails D.state H.state P.state data_dev.old hash_dev.old parity_dev.old data_dev.new hash_dev.new parity_dev.new) }

@@ -2,7 +2,7 @@
 ghost use Rattle.std.specs.Prelude.{◌≡◌, ◌<◌, ℕ, OnOk, OnErr, length, slice_index};
 ghost use Rattle.fec_area.specs.Asking.{AsksBlock};
 ghost use Rattle.fec_area.specs.Layouts.{IsCovered, IsLaidOn, covered_blocks};
-ghost use Rattle.fec_area.specs.Rounds.{NeitherFails, OneFails, OnlyReads};
+ghost use Rattle.fec_area.specs.Rounds.{NeitherFails, OneFails, OnlyReadsCovered};
 
 use crate::layout::Layout;
 use block_device::{BlockDev, DeviceFault};
@@ -19,7 +19,7 @@ pub(crate) fn read_covered<D: BlockDev, H: BlockDev>(
     requires laid { IsLaidOn layout.now (D.state data_dev.old) (H.state hash_dev.old) }
     requires index { index < covered_blocks layout.now }
     requires size { length block.old ≡ layout.now.block }
-    ensures read { OnlyReads D.state H.state data_dev.old hash_dev.old data_dev.new hash_dev.new }
+    ensures read { OnlyReadsCovered D.state H.state data_dev.old hash_dev.old data_dev.new hash_dev.new }
     ensures ok { OnOk result (NeitherFails D.state H.state data_dev.old hash_dev.old data_dev.new hash_dev.new) }
     ensures bytes { OnOk result (IsCovered layout.now (D.state data_dev.old) (H.state hash_dev.old) index block.new) }
     ensures fits { (k : ℕ) → slice_index block.new k < 256 }

@@ -1,6 +1,6 @@
 //! Which blocks parity covers, and how the codewords lie across them.
 ghost use Rattle.std.specs.Prelude.{◌≡◌, ◌≢◌, ◌<◌, ◌≤◌, ◌^◌, IfNone, IfSome, IsTrue};
-ghost use Rattle.fec_area.specs.Layouts.{IsLaidOn, IsLayout, IsLayoutOf, IsOfData, IsOfHash, IsOffHash, covered_blocks, parity_sectors, round_bytes, rounds};
+ghost use Rattle.fec_area.specs.Layouts.{IsLaidOn, IsLayout, IsLayoutOf, IsOfData, IsOfHash, IsOffHash, covered_blocks, parity_sectors, round_bytes, code_rounds};
 
 use block_device::BlockDev;
 use tree_shape::Shape;
@@ -101,7 +101,7 @@ impl Layout {
     /// How many rounds of codewords there are, each of as many as a block has bytes.
     pub fn rounds(&self) -> u64
         requires { IsLayout self.now }
-        ensures value { result ≡ rounds self.now }
+        ensures value { result ≡ code_rounds self.now }
         ensures small { result < 2 ^ 56 }
     {
         self.covered_blocks().div_ceil(255 - self.roots as u64)

@@ -4,7 +4,7 @@ ghost use Rattle.verity_format.specs.Blocks.{IsOnlyRead};
 ghost use Rattle.fec_area.specs.Asking.{AsksForFirst, AsksKept};
 ghost use Rattle.fec_area.specs.Layouts.{IsLaidOn, IsLayout, covered_blocks, parity_sectors};
 ghost use Rattle.fec_area.specs.Restoring.{AreLostPlaces, FailsToRestore, MakesAgain, RestoresFirst, is_beside};
-ghost use Rattle.fec_area.specs.Rounds.{CanRestore, OnlyReads};
+ghost use Rattle.fec_area.specs.Rounds.{CanRestore, OnlyReadsCovered};
 ghost use Rattle.fec_area.specs.Writing.{AnyFails};
 
 use crate::code::{Code, Gap};
@@ -71,7 +71,7 @@ pub fn restore_block<D: BlockDev, H: BlockDev, P: BlockDev>(
     requires laid { IsLaidOn layout.now (D.state data_dev.old) (H.state hash_dev.old) }
     requires index { index < covered_blocks layout.now }
     requires size { length block.old ≡ layout.now.block }
-    ensures read { OnlyReads D.state H.state data_dev.old hash_dev.old data_dev.new hash_dev.new }
+    ensures read { OnlyReadsCovered D.state H.state data_dev.old hash_dev.old data_dev.new hash_dev.new }
     ensures parity { IsOnlyRead (P.state parity_dev.old) (P.state parity_dev.new) }
     ensures bytes { OnOk result (MakesAgain layout.now (D.state data_dev.old) (H.state hash_dev.old) (P.state parity_dev.old) lost.now index block.new) }
     ensures err { IfErr result (FailsToRestore layout.now lost.now index D.state H.state P.state data_dev.old hash_dev.old parity_dev.old data_dev.new hash_dev.new parity_dev.new) }
@@ -157,7 +157,7 @@ fn restore_first<D: BlockDev, H: BlockDev, P: BlockDev>(
     requires can { CanRestore gap.now (D.state data_dev.old) (H.state hash_dev.old) parity.old block.old sums.old }
     requires some { 0 < length gap.now.places.now }
     requires room { parity_sectors gap.now.code.layout.now ≤ (P.state parity_dev.old).size }
-    ensures read { OnlyReads D.state H.state data_dev.old hash_dev.old data_dev.new hash_dev.new }
+    ensures read { OnlyReadsCovered D.state H.state data_dev.old hash_dev.old data_dev.new hash_dev.new }
     ensures parity { IsOnlyRead (P.state parity_dev.old) (P.state parity_dev.new) }
     ensures first { OnOk result (RestoresFirst gap.now (D.state data_dev.old) (H.state hash_dev.old) (P.state parity_dev.old) block.new) }
     ensures err { OnErr result (AnyFails D.state H.state P.state data_dev.old hash_dev.old parity_dev.old data_dev.new hash_dev.new parity_dev.new) }

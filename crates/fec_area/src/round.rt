@@ -1,8 +1,8 @@
 //! A round of codewords, summed up place by place: its parity, or its lost blocks.
 ghost use Rattle.std.specs.Prelude.{◌≡◌, ◌+◌, ◌*◌, ◌<◌, ◌-◌, OnOk, OnErr, EachIndex, is_ok, length, slice_index};
 ghost use Rattle.fec_area.specs.Asking.{AsksBlock, AsksPlace, AsksRound, is_among};
-ghost use Rattle.fec_area.specs.Layouts.{rounds};
-ghost use Rattle.fec_area.specs.Rounds.{Adds, AddsKept, CanAdd, CanAddKept, CanRestore, CanSum, NeitherFails, OneFails, OnlyReads, Restores, SumsUp};
+ghost use Rattle.fec_area.specs.Layouts.{code_rounds};
+ghost use Rattle.fec_area.specs.Rounds.{Adds, AddsKept, CanAdd, CanAddKept, CanRestore, CanSum, NeitherFails, OneFails, OnlyReadsCovered, Restores, SumsUp};
 
 use crate::code::{Code, Gap};
 use crate::covered::read_covered;
@@ -19,8 +19,8 @@ pub(crate) fn sum_parity<D: BlockDev, H: BlockDev>(
     parity: &mut [u8],
 ) -> Result<(), DeviceFault>
     requires can { CanSum code.now (D.state data_dev.old) (H.state hash_dev.old) block.old parity.old }
-    requires round { round < rounds code.now.layout.now }
-    ensures read { OnlyReads D.state H.state data_dev.old hash_dev.old data_dev.new hash_dev.new }
+    requires round { round < code_rounds code.now.layout.now }
+    ensures read { OnlyReadsCovered D.state H.state data_dev.old hash_dev.old data_dev.new hash_dev.new }
     ensures ok { OnOk result (NeitherFails D.state H.state data_dev.old hash_dev.old data_dev.new hash_dev.new) }
     ensures parity { OnOk result (SumsUp code.now (D.state data_dev.old) (H.state hash_dev.old) round parity.new) }
     ensures err { OnErr result (OneFails D.state H.state data_dev.old hash_dev.old data_dev.new hash_dev.new) }
@@ -44,7 +44,7 @@ pub(crate) fn restore_blocks<D: BlockDev, H: BlockDev>(
     sums: &mut [u8],
 ) -> Result<(), DeviceFault>
     requires { CanRestore gap.now (D.state data_dev.old) (H.state hash_dev.old) parity.now block.old sums.old }
-    ensures read { OnlyReads D.state H.state data_dev.old hash_dev.old data_dev.new hash_dev.new }
+    ensures read { OnlyReadsCovered D.state H.state data_dev.old hash_dev.old data_dev.new hash_dev.new }
     ensures ok { OnOk result (NeitherFails D.state H.state data_dev.old hash_dev.old data_dev.new hash_dev.new) }
     ensures restored { OnOk result (Restores gap.now (D.state data_dev.old) (H.state hash_dev.old) parity.now sums.new) }
     ensures err { OnErr result (OneFails D.state H.state data_dev.old hash_dev.old data_dev.new hash_dev.new) }
@@ -75,7 +75,7 @@ fn add_kept<D: BlockDev, H: BlockDev>(
 ) -> Result<(), DeviceFault>
     requires can { CanAddKept gap.now (D.state data_dev.old) (H.state hash_dev.old) block.old sums.old }
     requires place { place < 255 - gap.now.code.layout.now.roots }
-    ensures read { OnlyReads D.state H.state data_dev.old hash_dev.old data_dev.new hash_dev.new }
+    ensures read { OnlyReadsCovered D.state H.state data_dev.old hash_dev.old data_dev.new hash_dev.new }
     ensures ok { OnOk result (NeitherFails D.state H.state data_dev.old hash_dev.old data_dev.new hash_dev.new) }
     ensures added { OnOk result (AddsKept gap.now D.state H.state data_dev.old hash_dev.old place sums.old sums.new) }
     ensures err { OnErr result (OneFails D.state H.state data_dev.old hash_dev.old data_dev.new hash_dev.new) }
@@ -106,11 +106,11 @@ fn add_place<D: BlockDev, H: BlockDev>(
 ) -> Result<(), DeviceFault>
     requires can { CanAdd code.now (D.state data_dev.old) (H.state hash_dev.old) round block.old sums.old }
     requires place { place < 255 - code.now.layout.now.roots }
-    ensures read { OnlyReads D.state H.state data_dev.old hash_dev.old data_dev.new hash_dev.new }
+    ensures read { OnlyReadsCovered D.state H.state data_dev.old hash_dev.old data_dev.new hash_dev.new }
     ensures ok { OnOk result (NeitherFails D.state H.state data_dev.old hash_dev.old data_dev.new hash_dev.new) }
     ensures added { OnOk result (Adds code.now D.state H.state data_dev.old hash_dev.old round place sums.old sums.new) }
     ensures err { OnErr result (OneFails D.state H.state data_dev.old hash_dev.old data_dev.new hash_dev.new) }
-    ensures asks { AsksBlock code.now.layout.now (place * rounds code.now.layout.now + round) D.state H.state data_dev.old hash_dev.old data_dev.new hash_dev.new }
+    ensures asks { AsksBlock code.now.layout.now (place * code_rounds code.now.layout.now + round) D.state H.state data_dev.old hash_dev.old data_dev.new hash_dev.new }
 {
     let layout = code.layout;
     let index = place as u64 * layout.rounds() + round;

@@ -3,9 +3,9 @@ ghost use Rattle.std.specs.Prelude.{◌≡◌, ◌<◌, ◌≤◌, IsTrue, IfErr
 ghost use Rattle.block_device.specs.Device.{HasFailed};
 ghost use Rattle.reed_solomon.specs.Factors.{AreProducts, parity_places};
 ghost use Rattle.verity_format.specs.Blocks.{IsOnlyWritten};
-ghost use Rattle.fec_area.specs.Layouts.{IsLaidOn, parity_sectors, round_bytes, rounds};
-ghost use Rattle.fec_area.specs.Rounds.{CanSum, OnlyReads};
-ghost use Rattle.fec_area.specs.Writing.{AnyFails, FailsToWrite, WritesParity};
+ghost use Rattle.fec_area.specs.Layouts.{IsLaidOn, parity_sectors, round_bytes, code_rounds};
+ghost use Rattle.fec_area.specs.Rounds.{CanSum, OnlyReadsCovered};
+ghost use Rattle.fec_area.specs.Writing.{AnyFails, FailsToWriteParity, WritesParity};
 
 use crate::code::Code;
 use crate::layout::Layout;
@@ -63,10 +63,10 @@ pub fn write_parity<D: BlockDev, H: BlockDev, P: BlockDev>(
     parity_dev: &mut P,
 ) -> Result<(), ParityFault>
     requires { IsLaidOn layout.now (D.state data_dev.old) (H.state hash_dev.old) }
-    ensures read { OnlyReads D.state H.state data_dev.old hash_dev.old data_dev.new hash_dev.new }
+    ensures read { OnlyReadsCovered D.state H.state data_dev.old hash_dev.old data_dev.new hash_dev.new }
     ensures written { IsOnlyWritten (P.state parity_dev.old) (parity_sectors layout.now) (P.state parity_dev.new) }
     ensures ok { OnOk result (WritesParity layout.now D.state H.state P.state data_dev.old hash_dev.old parity_dev.old data_dev.new hash_dev.new parity_dev.new) }
-    ensures err { IfErr result (FailsToWrite layout.now D.state H.state P.state data_dev.old hash_dev.old parity_dev.old data_dev.new hash_dev.new parity_dev.new) }
+    ensures err { IfErr result (FailsToWriteParity layout.now D.state H.state P.state data_dev.old hash_dev.old parity_dev.old data_dev.new hash_dev.new parity_dev.new) }
 {
     let needed = layout.parity_sectors();
     if parity_dev.sectors() < needed {
@@ -113,7 +113,7 @@ fn write_rounds<D: BlockDev, H: BlockDev, P: BlockDev>(
     requires sums { CanSum code.now (D.state data_dev.old) (H.state hash_dev.old) block.old parity.old }
     requires room { parity_sectors code.now.layout.now ≤ (P.state parity_dev.old).size }
     requires allowed { IsTrue (P.state parity_dev.old).may_write }
-    ensures read { OnlyReads D.state H.state data_dev.old hash_dev.old data_dev.new hash_dev.new }
+    ensures read { OnlyReadsCovered D.state H.state data_dev.old hash_dev.old data_dev.new hash_dev.new }
     ensures written { IsOnlyWritten (P.state parity_dev.old) (parity_sectors code.now.layout.now) (P.state parity_dev.new) }
     ensures ok { OnOk result (WritesParity code.now.layout.now D.state H.state P.state data_dev.old hash_dev.old parity_dev.old data_dev.new hash_dev.new parity_dev.new) }
     ensures err { OnErr result (AnyFails D.state H.state P.state data_dev.old hash_dev.old parity_dev.old data_dev.new hash_dev.new parity_dev.new) }

@@ -4,12 +4,12 @@ use Rattle.std.specs.Prelude.{IfErr, IsErrAnd}
 use Rattle.image_commands.proofs.lemmas.EndingLemmas.{quiet as image-quiet}
 use Rattle.verity_commands.specs.declared.fault.VerityFault.{VerityFault}
 use Rattle.verity_commands.specs.declared.fault.VerityFault.TheVariants as verity
-use Rattle.verity_commands.specs.Endings.{IsQuiet}
+use Rattle.verity_commands.specs.Endings.{IsVerityQuiet}
 use Rattle.fec_commands.specs.declared.fault.FecFault.{FecFault}
 use Rattle.fec_commands.specs.declared.fault.FecFault.TheVariants as fec
 use Rattle.fec_commands.specs.Checking.{IsFecQuiet}
 
-verity-quiet : (fault : VerityFault) (bytes : Option (List ℕ)) → IsQuiet fault bytes bytes
+verity-quiet : (fault : VerityFault) (bytes : Option (List ℕ)) → IsVerityQuiet fault bytes bytes
 verity-quiet verity.Usage bytes = refl
 verity-quiet (verity.Image fault) bytes = image-quiet fault bytes
 

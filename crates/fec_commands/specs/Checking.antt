@@ -8,7 +8,7 @@ use Rattle.fec_area.specs.Checking.{IsCheckCause, IsChecked}
 use Rattle.image_files.specs.declared.opening.UnopenedFile.{UnopenedFile}
 use Rattle.image_files.specs.Opener.{Calls}
 use Rattle.image_commands.specs.Places.{TwoPlaces, before, behind}
-use Rattle.verity_commands.specs.Endings.{IsQuiet}
+use Rattle.verity_commands.specs.Endings.{IsVerityQuiet}
 use Rattle.fec_commands.specs.declared.fault.FecFault.{FecFault}
 use Rattle.fec_commands.specs.declared.fault.FecFault.TheVariants.{BlockSizes, Differs, Parity, Verity}
 use Rattle.fec_commands.specs.declared.image.Extent.{Extent}
@@ -43,18 +43,18 @@ IsCheckingEnd data_dev hash_dev parity_dev extent parity_dev' fault =
     ⊎ EndsUncompared data_dev hash_dev parity_dev extent parity_dev' fault
 
 -- all three were opened for reading, and that was found
-pub record ChecksImage {S D : Type 0} (w : Calls S D) (places : TwoPlaces) (fec : FecRecord) (found : Option ℕ) : Type 0 where
+pub record ChecksThree {S D : Type 0} (w : Calls S D) (places : TwoPlaces) (fec : FecRecord) (found : Option ℕ) : Type 0 where
   pub three : ThreeImages D
   pub opened : OpensThree w places fec false three
   pub checks : ChecksBehind (w.state three.«data».device) (w.state three.hash.device) (w.state three.parity.device) (extent_of places fec three) found
 
 -- the parity is that of the image, and this is printed
 pub record PrintsOk {S D : Type 0} (w : Calls S D) (places : TwoPlaces) (fec : FecRecord) (old new : Option (List ℕ)) : Type 0 where
-  pub checked : ChecksImage w places fec None
+  pub checked : ChecksThree w places fec None
   pub printed : Appends old new (codes "parity ok\n")
 
 -- a file isn't opened
-pub record EndsUnopened {S D : Type 0} (w : Calls S D) (places : TwoPlaces) (fec : FecRecord) (fault : FecFault) : Type 0 where
+pub record IsCheckUnopened {S D : Type 0} (w : Calls S D) (places : TwoPlaces) (fec : FecRecord) (fault : FecFault) : Type 0 where
   pub file : UnopenedFile
   pub refused : FailsToOpenThree w places fec false file
   pub is : fault ≡ unopened file
@@ -69,22 +69,22 @@ pub record EndsUnchecked {S D : Type 0} (w : Calls S D) (places : TwoPlaces) (fe
 -- it was compared, and is another one from that round on
 pub record EndsDiffering {S D : Type 0} (w : Calls S D) (places : TwoPlaces) (fec : FecRecord) (fault : FecFault) : Type 0 where
   pub round : ℕ
-  pub checked : ChecksImage w places fec (Some round)
+  pub checked : ChecksThree w places fec (Some round)
   pub is : fault ≡ Differs round
 
 -- it is that of the image, and the line can't be written
 pub record EndsUnprinted {S D : Type 0} (w : Calls S D) (places : TwoPlaces) (fec : FecRecord) (failed : Bool) (fault : FecFault) : Type 0 where
-  pub checked : ChecksImage w places fec None
+  pub checked : ChecksThree w places fec None
   pub has_failed : failed ≡ true
   pub is : fault ≡ unwritten
 
 abbrev pub IsCheckEnd : {S D : Type 0} → Calls S D → TwoPlaces → FecRecord → Bool → FecFault → Type 0
 IsCheckEnd w places fec failed fault =
-    EndsUnopened w places fec fault ⊎ (EndsUnchecked w places fec fault ⊎ (EndsDiffering w places fec fault ⊎ EndsUnprinted w places fec failed fault))
+    IsCheckUnopened w places fec fault ⊎ (EndsUnchecked w places fec fault ⊎ (EndsDiffering w places fec fault ⊎ EndsUnprinted w places fec failed fault))
 
 -- nothing is written ahead of what ends it, unless it is the writing that fails
 abbrev pub IsFecQuiet : FecFault → Option (List ℕ) → Option (List ℕ) → Type 0
-IsFecQuiet (Verity fault) old new = IsQuiet fault old new
+IsFecQuiet (Verity fault) old new = IsVerityQuiet fault old new
 IsFecQuiet BlockSizes old new = new ≡ old
 IsFecQuiet (Parity fault) old new = new ≡ old
 IsFecQuiet (Differs round) old new = new ≡ old

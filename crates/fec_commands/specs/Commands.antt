@@ -16,8 +16,8 @@ use Rattle.image_commands.specs.Places.{TwoPlaces}
 use Rattle.image_files.specs.Opener.{Calls, Opener, calls}
 use Rattle.verity_commands.specs.declared.fault.VerityFault.{VerityFault}
 use Rattle.verity_commands.specs.Endings.{IsUnsaid}
-use Rattle.verity_commands.specs.Placed.{FormatsAt, IsFormatEnd, IsVerifyEnd, VerifiesAt}
-use Rattle.verity_commands.specs.Places.{places_of}
+use Rattle.verity_commands.specs.Placed.{FormatsAt, IsSaidFormatEnd, IsSaidVerifyEnd, VerifiesAt}
+use Rattle.verity_commands.specs.Places.{image_places}
 use Rattle.fec_commands.specs.declared.fault.FecFault.{FecFault}
 use Rattle.fec_commands.specs.declared.fault.FecFault.TheVariants.{BlockSizes, Verity}
 use Rattle.fec_commands.specs.Checking.{IsCheckEnd, IsFecQuiet, PrintsOk}
@@ -29,17 +29,17 @@ use Rattle.fec_commands.specs.Sizes.{says_two_sizes}
 
 -- where the images of the words are
 abbrev pub format_places : FormatRecord → TwoPlaces
-format_places f = places_of f.data_path f.hash_path f.hash_offset
+format_places f = image_places f.data_path f.hash_path f.hash_offset
 
 abbrev pub verify_places : VerifyRecord → TwoPlaces
-verify_places v = places_of v.data_path v.hash_path v.hash_offset
+verify_places v = image_places v.data_path v.hash_path v.hash_offset
 
 -- a `format` whose text is kept in memory ended so
 pub record IsKeptEnd {S D T G : Type 0} (texts : OptionTexts) (w : Calls S D) (d : Drawing T G) (f : FormatRecord) (fault : VerityFault) : Type 0 where
   pub ended : VerityFault
   pub text : Option (List ℕ)
   pub failed : Bool
-  pub ends : IsFormatEnd texts w d f (Some []) text failed ended
+  pub ends : IsSaidFormatEnd texts w d f (Some []) text failed ended
   pub is : fault ≡ kept_fault ended
 
 -- ---- `format --fec`
@@ -107,7 +107,7 @@ pub record VerifiesFec {S D : Type 0} (w : Calls S D) (v : FecVerifyRecord) (old
 -- the image isn't the one under the root, or isn't compared
 pub record EndsUnverified {S D : Type 0} (w : Calls S D) (v : FecVerifyRecord) (old new : Option (List ℕ)) (failed : Bool) (fault : FecFault) : Type 0 where
   pub cause : VerityFault
-  pub ends : IsVerifyEnd w v.verify old new failed cause
+  pub ends : IsSaidVerifyEnd w v.verify old new failed cause
   pub is : fault ≡ Verity cause
 
 -- it is, as is printed; its parity isn't, or isn't compared
@@ -132,17 +132,17 @@ abbrev pub FailsToKeep : {S D T G : Type 0} → OptionWords → FormatWords → 
 FailsToKeep options words relations state old new d = IsKeptEnd (option_texts options) (calls relations state old new) d (format_record words)
 
 -- `format --fec`
-abbrev pub FormatsByWords : {S D T G W : Type 0} → OptionWords → FecFormatWords → Opener S D → (D → Device) → S → S → Drawing T G → (W → Option (List ℕ)) → CountedRecord W → CountedRecord W → Type 0
-FormatsByWords options words relations state old new d contents writer writer' =
+abbrev pub FormatsFecByWords : {S D T G W : Type 0} → OptionWords → FecFormatWords → Opener S D → (D → Device) → S → S → Drawing T G → (W → Option (List ℕ)) → CountedRecord W → CountedRecord W → Type 0
+FormatsFecByWords options words relations state old new d contents writer writer' =
     FormatsFec (option_texts options) (calls relations state old new) d (fec_format_record words) (contents writer.inner) (contents writer'.inner)
 
-abbrev pub FailsToFormat : {S D T G W : Type 0} → OptionWords → FecFormatWords → Opener S D → (D → Device) → S → S → Drawing T G → (W → Option (List ℕ)) → CountedRecord W → CountedRecord W → FecFault → Type 0
-FailsToFormat options words relations state old new d contents writer writer' =
+abbrev pub FailsToFormatFec : {S D T G W : Type 0} → OptionWords → FecFormatWords → Opener S D → (D → Device) → S → S → Drawing T G → (W → Option (List ℕ)) → CountedRecord W → CountedRecord W → FecFault → Type 0
+FailsToFormatFec options words relations state old new d contents writer writer' =
     IsFormatFecEnd (option_texts options) (calls relations state old new) d (fec_format_record words) (contents writer.inner) (contents writer'.inner) writer'.failed
 
 -- `verify --fec`
-abbrev pub VerifiesByWords : {S D W : Type 0} → FecVerifyWords → Opener S D → (D → Device) → S → S → (W → Option (List ℕ)) → CountedRecord W → CountedRecord W → Type 0
-VerifiesByWords words relations state old new contents writer writer' = VerifiesFec (calls relations state old new) (fec_verify_record words) (contents writer.inner) (contents writer'.inner)
+abbrev pub VerifiesFecByWords : {S D W : Type 0} → FecVerifyWords → Opener S D → (D → Device) → S → S → (W → Option (List ℕ)) → CountedRecord W → CountedRecord W → Type 0
+VerifiesFecByWords words relations state old new contents writer writer' = VerifiesFec (calls relations state old new) (fec_verify_record words) (contents writer.inner) (contents writer'.inner)
 
-abbrev pub FailsToVerify : {S D W : Type 0} → FecVerifyWords → Opener S D → (D → Device) → S → S → (W → Option (List ℕ)) → CountedRecord W → CountedRecord W → FecFault → Type 0
-FailsToVerify words relations state old new contents writer writer' = IsVerifyFecEnd (calls relations state old new) (fec_verify_record words) (contents writer.inner) (contents writer'.inner) writer'.failed
+abbrev pub FailsToVerifyFec : {S D W : Type 0} → FecVerifyWords → Opener S D → (D → Device) → S → S → (W → Option (List ℕ)) → CountedRecord W → CountedRecord W → FecFault → Type 0
+FailsToVerifyFec words relations state old new contents writer writer' = IsVerifyFecEnd (calls relations state old new) (fec_verify_record words) (contents writer.inner) (contents writer'.inner) writer'.failed

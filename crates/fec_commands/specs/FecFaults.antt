@@ -13,8 +13,8 @@ abbrev pub unopened : UnopenedFile → FecFault
 unopened file = fec.Verity (verity.Image (image.Open file))
 
 -- the superblock isn't read or taken, or an image is too small
-abbrev pub unread : VerifyFault → FecFault
-unread fault = fec.Verity (verity.Image (image.Verify fault))
+abbrev pub unread_fault : VerifyFault → FecFault
+unread_fault fault = fec.Verity (verity.Image (image.Verify fault))
 
 -- a line can't be written
 abbrev pub unwritten : FecFault

@@ -4,7 +4,7 @@ use Rattle.fec_area.specs.declared.writing.ParityFault.TheVariants.{TooSmall}
 use Rattle.image_files.specs.declared.opening.UnopenedFile.{UnopenedFile}
 use Rattle.image_files.specs.Opener.{Calls}
 use Rattle.image_commands.specs.Places.{TwoPlaces}
-use Rattle.verity_commands.specs.Growing.{Grows}
+use Rattle.verity_commands.specs.Growing.{GrowsFile}
 use Rattle.fec_commands.specs.declared.fault.FecFault.{FecFault}
 use Rattle.fec_commands.specs.declared.fault.FecFault.TheVariants.{Parity}
 use Rattle.fec_commands.specs.FecFaults.{unopened}
@@ -12,20 +12,20 @@ use Rattle.command_line.specs.FecFiles.{FecRecord}
 use Rattle.fec_commands.specs.Protecting.{IsProtectEnd, ProtectsImage}
 
 -- the file couldn't be made so long
-pub record IsUnmade {S D : Type 0} (w : Calls S D) (path : List ℕ) (sectors : ℕ) (file : UnopenedFile) : Type 0 where
+pub record IsFileUnmade {S D : Type 0} (w : Calls S D) (path : List ℕ) (sectors : ℕ) (file : UnopenedFile) : Type 0 where
   pub path_is : file.path.now ≡ path
   pub refused : w.relations.grows w.old path sectors (Err file.fault) w.new
 
 -- the command ends so
 pub record EndsUngrown {S D : Type 0} (w : Calls S D) (path : List ℕ) (sectors : ℕ) (fault : FecFault) : Type 0 where
   pub file : UnopenedFile
-  pub unmade : IsUnmade w path sectors file
+  pub unmade : IsFileUnmade w path sectors file
   pub is : fault ≡ unopened file
 
 -- the file was made where there was none, and then that was done
 pub record GrowsThen {S D : Type 0} (w : Calls S D) (fec : FecRecord) (Then : Calls S D → Type 0) : Type 0 where
   pub between : S
-  pub made : Grows (record w { new = between }) fec.path 0
+  pub made : GrowsFile (record w { new = between }) fec.path 0
   pub follows : Then (record w { old = between })
 
 -- it had too few sectors, and was given as many as are needed; then that was done
@@ -34,11 +34,11 @@ pub record GrowsTwiceThen {S D : Type 0} (w : Calls S D) (places : TwoPlaces) (f
   pub room : S
   pub needed : ℕ
   pub vain : GrowsThen (record w { new = tried }) fec (λ v. IsProtectEnd v places fec (Parity (TooSmall needed)))
-  pub grown : Grows (record w { old = tried; new = room }) fec.path needed
+  pub grown : GrowsFile (record w { old = tried; new = room }) fec.path needed
   pub follows : Then (record w { old = room })
 
 -- it had too few, and couldn't be made longer
-pub record FailsToGrow {S D : Type 0} (w : Calls S D) (places : TwoPlaces) (fec : FecRecord) (fault : FecFault) : Type 0 where
+pub record FailsToGrowParity {S D : Type 0} (w : Calls S D) (places : TwoPlaces) (fec : FecRecord) (fault : FecFault) : Type 0 where
   pub tried : S
   pub needed : ℕ
   pub vain : GrowsThen (record w { new = tried }) fec (λ v. IsProtectEnd v places fec (Parity (TooSmall needed)))
@@ -51,6 +51,6 @@ Protects false w places fec = ProtectsImage w places fec
 
 abbrev pub IsProtectionEnd : {S D : Type 0} → Bool → Calls S D → TwoPlaces → FecRecord → FecFault → Type 0
 IsProtectionEnd true w places fec fault =
-    EndsUngrown w fec.path 0 fault ⊎ (FailsToGrow w places fec fault
+    EndsUngrown w fec.path 0 fault ⊎ (FailsToGrowParity w places fec fault
     ⊎ (GrowsThen w fec (λ v. IsProtectEnd v places fec fault) ⊎ GrowsTwiceThen w places fec (λ v. IsProtectEnd v places fec fault)))
 IsProtectionEnd false w places fec fault = IsProtectEnd w places fec fault

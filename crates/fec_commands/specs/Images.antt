@@ -30,7 +30,7 @@ pub record OpensThree {S D : Type 0} (w : Calls S D) (places : TwoPlaces) (fec :
   pub parity_opened : OpensApart (record w { old = two }) (uses_of three.«data» three.hash) fec.path writable three.parity
 
 -- the data image was opened, and the hash image wasn't
-pub record RefusesHash {S D : Type 0} (w : Calls S D) (places : TwoPlaces) (file : UnopenedFile) : Type 0 where
+pub record RefusesHashFile {S D : Type 0} (w : Calls S D) (places : TwoPlaces) (file : UnopenedFile) : Type 0 where
   pub one : S
   pub data_image : OpenImage D
   pub data_opened : Opens (record w { new = one }) places.paths.data_path false data_image
@@ -49,15 +49,15 @@ pub record RefusesParity {S D : Type 0} (w : Calls S D) (places : TwoPlaces) (fe
 -- one of the three isn't opened, the first that is refused
 abbrev pub FailsToOpenThree : {S D : Type 0} → Calls S D → TwoPlaces → FecRecord → Bool → UnopenedFile → Type 0
 FailsToOpenThree w places fec writable file =
-    Refuses w places.paths.data_path false file ⊎ (RefusesHash w places file ⊎ RefusesParity w places fec writable file)
+    Refuses w places.paths.data_path false file ⊎ (RefusesHashFile w places file ⊎ RefusesParity w places fec writable file)
 
 -- where the data end: in one file before the hash image, else at the end of theirs
-abbrev pub data_end : {D : Type 0} → ThreeImages D → ℕ → ℕ
-data_end three first = if nat_lt 0 first && is_one_file three.«data».id three.hash.id then first else 2 ^ 64 - 1
+abbrev pub three_data_end : {D : Type 0} → ThreeImages D → ℕ → ℕ
+three_data_end three first = if nat_lt 0 first && is_one_file three.«data».id three.hash.id then first else 2 ^ 64 - 1
 
 -- where the data end and the hash image begins, and the bytes of parity in a codeword
 abbrev pub extent_of : {D : Type 0} → TwoPlaces → FecRecord → ThreeImages D → Extent
-extent_of places fec three = record { end = data_end three places.first; first = places.first; roots = fec.roots }
+extent_of places fec three = record { end = three_data_end three places.first; first = places.first; roots = fec.roots }
 
 -- a relation of the opener's calls, the places of the images and the parity's file: by the opener before and after the calls, and by
 -- the program's own words for the others

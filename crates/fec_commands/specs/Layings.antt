@@ -35,7 +35,7 @@ pub record LaysOut (data_dev hash_dev : Device) (first roots : ℕ) (hash_dev' :
   pub read : IsOnlyRead hash_dev hash_dev'
 
 -- the superblock was read, but no hash block begins there
-pub record IsUnaligned (hash_dev : Device) (first : ℕ) : Type 0 where
+pub record IsTreeUnaligned (hash_dev : Device) (first : ℕ) : Type 0 where
   pub super : SuperRecord
   pub sector : List ℕ
   pub read : IsReadFrom hash_dev sector super
@@ -55,14 +55,14 @@ pub record HasOtherSizes (hash_dev : Device) (first : ℕ) : Type 0 where
   pub differ : super.data_block ≢ super.hash_block
 
 -- the superblock isn't read or taken, speaks of more data, or no hash block begins there
-abbrev pub IsUnread : Device → Device → ℕ → Device → ImageFault → Type 0
-IsUnread data_dev hash_dev first hash_dev' (Verify fault) = IsReadCause hash_dev hash_dev' fault ⊎ AreDataShort data_dev hash_dev first fault
-IsUnread data_dev hash_dev first hash_dev' Unaligned = IsUnaligned hash_dev first
-IsUnread data_dev hash_dev first hash_dev' fault = ⊥
+abbrev pub IsSuperUnread : Device → Device → ℕ → Device → ImageFault → Type 0
+IsSuperUnread data_dev hash_dev first hash_dev' (Verify fault) = IsReadCause hash_dev hash_dev' fault ⊎ AreDataShort data_dev hash_dev first fault
+IsSuperUnread data_dev hash_dev first hash_dev' Unaligned = IsTreeUnaligned hash_dev first
+IsSuperUnread data_dev hash_dev first hash_dev' fault = ⊥
 
 -- why there is no layout
 abbrev pub IsLayoutEnd : Device → Device → ℕ → Device → FecFault → Type 0
-IsLayoutEnd data_dev hash_dev first hash_dev' (Verity fault) = IsImageEnd (IsUnread data_dev hash_dev first hash_dev') fault
+IsLayoutEnd data_dev hash_dev first hash_dev' (Verity fault) = IsImageEnd (IsSuperUnread data_dev hash_dev first hash_dev') fault
 IsLayoutEnd data_dev hash_dev first hash_dev' BlockSizes = HasOtherSizes hash_dev first
 IsLayoutEnd data_dev hash_dev first hash_dev' (Parity fault) = ⊥
 IsLayoutEnd data_dev hash_dev first hash_dev' (Differs round) = ⊥

@@ -29,7 +29,7 @@ pub record IsSealed (l : Layout) (data_dev hash_dev parity_dev parity_dev' : Dev
   pub is_synced : parity_dev' ≡ synced written_dev
 
 -- it wasn't written, or not all of it, for this reason
-pub record IsUnfinished (l : Layout) (data_dev hash_dev parity_dev parity_dev' : Device) (fault : ParityFault) : Type 0 where
+pub record IsParityUnfinished (l : Layout) (data_dev hash_dev parity_dev parity_dev' : Device) (fault : ParityFault) : Type 0 where
   pub data_dev' : Device
   pub hash_dev' : Device
   pub cause : IsParityCause l data_dev hash_dev parity_dev data_dev' hash_dev' parity_dev' fault
@@ -47,7 +47,7 @@ pub record IsUnsealed (l : Layout) (data_dev hash_dev parity_dev parity_dev' : D
 
 abbrev pub IsSealingEnd : Layout → Device → Device → Device → Device → ParityFault → Type 0
 IsSealingEnd l data_dev hash_dev parity_dev parity_dev' fault =
-    IsUnfinished l data_dev hash_dev parity_dev parity_dev' fault ⊎ IsUnsealed l data_dev hash_dev parity_dev parity_dev' fault
+    IsParityUnfinished l data_dev hash_dev parity_dev parity_dev' fault ⊎ IsUnsealed l data_dev hash_dev parity_dev parity_dev' fault
 
 -- of what lies before the data's end and behind the hash image's first sector
 pub record ProtectsBehind (data_dev hash_dev parity_dev : Device) (extent : Extent) (parity_dev' : Device) : Type 0 where
@@ -85,7 +85,7 @@ pub record ProtectsImage {S D : Type 0} (w : Calls S D) (places : TwoPlaces) (fe
   pub closed : w.relations.takes between fec.path closed_dev w.new
 
 -- a file isn't opened
-pub record EndsUnopened {S D : Type 0} (w : Calls S D) (places : TwoPlaces) (fec : FecRecord) (fault : FecFault) : Type 0 where
+pub record IsProtectUnopened {S D : Type 0} (w : Calls S D) (places : TwoPlaces) (fec : FecRecord) (fault : FecFault) : Type 0 where
   pub file : UnopenedFile
   pub refused : FailsToOpenThree w places fec true file
   pub is : fault ≡ unopened file
@@ -98,4 +98,4 @@ pub record EndsUnprotected {S D : Type 0} (w : Calls S D) (places : TwoPlaces) (
   pub ends : IsParityEnd (w.state three.«data».device) (w.state three.hash.device) (w.state three.parity.device) (extent_of places fec three) (w.state parity_dev') fault
 
 abbrev pub IsProtectEnd : {S D : Type 0} → Calls S D → TwoPlaces → FecRecord → FecFault → Type 0
-IsProtectEnd w places fec fault = EndsUnopened w places fec fault ⊎ EndsUnprotected w places fec fault
+IsProtectEnd w places fec fault = IsProtectUnopened w places fec fault ⊎ EndsUnprotected w places fec fault

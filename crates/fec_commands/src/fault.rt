@@ -51,9 +51,9 @@ impl<'a> From<UnopenedFile<'a>> for FecFault<'a> {
 }
 
 impl From<VerifyFault> for FecFault<'_> {
-    ghost use Rattle.fec_commands.specs.FecFaults.{unread};
+    ghost use Rattle.fec_commands.specs.FecFaults.{unread_fault};
 
-    ghost from_gives = { λ fault given. given ≡ unread fault };
+    ghost from_gives = { λ fault given. given ≡ unread_fault fault };
 
     fn from(fault: VerifyFault) -> Self {
         FecFault::Verity(VerityFault::Image(ImageFault::Verify(fault)))

@@ -3,8 +3,8 @@ ghost use Rattle.std.specs.Prelude.{◌≡◌, true, Err, IfErr, IfSome, OnOk};
 ghost use Rattle.image_files.specs.Opener.{calls};
 ghost use Rattle.fec_area.specs.declared.writing.ParityFault.TheVariants as parity_fault;
 ghost use Rattle.fec_commands.specs.declared.fault.FecFault.TheVariants as fec_fault;
-ghost use Rattle.verity_commands.specs.Growing.{Grows};
-ghost use Rattle.fec_commands.specs.Growing.{IsProtectionEnd, IsUnmade, Protects};
+ghost use Rattle.verity_commands.specs.Growing.{GrowsFile};
+ghost use Rattle.fec_commands.specs.Growing.{IsProtectionEnd, IsFileUnmade, Protects};
 ghost use Rattle.fec_commands.specs.Images.{Does};
 ghost use Rattle.fec_commands.specs.Layings.{IsRoots};
 
@@ -22,8 +22,8 @@ fn make_room<'a, I: Images>(
     path: &'a str,
     sectors: u64,
 ) -> Result<(), UnopenedFile<'a>>
-    ensures ok { OnOk result (Grows (calls I.relations I.Dev.state images.old images.new) path.now sectors) }
-    ensures err { IfErr result (IsUnmade (calls I.relations I.Dev.state images.old images.new) path.now sectors) }
+    ensures ok { OnOk result (GrowsFile (calls I.relations I.Dev.state images.old images.new) path.now sectors) }
+    ensures err { IfErr result (IsFileUnmade (calls I.relations I.Dev.state images.old images.new) path.now sectors) }
 {
     match images.grow(path, sectors) {
         Ok(()) => Ok(()),

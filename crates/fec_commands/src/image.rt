@@ -2,7 +2,7 @@
 ghost use Rattle.std.specs.Prelude.{◌≡◌, ◌&&◌, nat_le, nat_lt, IfErr, IfOk};
 ghost use Rattle.image_files.specs.Opener.{IsFresh};
 ghost use Rattle.fec_area.specs.Layouts.{IsLayout};
-ghost use Rattle.fec_commands.specs.Images.{Does, FailsToOpenThree, OpensThree, data_end};
+ghost use Rattle.fec_commands.specs.Images.{Does, FailsToOpenThree, OpensThree, three_data_end};
 ghost use Rattle.fec_commands.specs.Layings.{IsLayoutEnd, IsRoots, LaysOut};
 
 use crate::fault::FecFault;
@@ -70,7 +70,7 @@ pub(crate) fn open_three<'a, I: Images>(
 
 /// The sector where the data end: in one file before the hash image, else at the end of theirs.
 pub(crate) fn data_end<D>(three: &ThreeImages<D>, first: u64) -> u64
-    ensures { result ≡ data_end three.now first }
+    ensures { result ≡ three_data_end three.now first }
 {
     if first > 0 && is_one_file(three.data.id, three.hash.id) {
         return first;

@@ -1,7 +1,7 @@
 //! The commands on images with parity by their words.
 ghost use Rattle.std.specs.Prelude.{IfErr, OnOk};
 ghost use Rattle.image_commands.specs.Drawing.{drawing};
-ghost use Rattle.fec_commands.specs.Commands.{FailsToFormat, FailsToVerify, FormatsByWords, VerifiesByWords};
+ghost use Rattle.fec_commands.specs.Commands.{FailsToFormatFec, FailsToVerifyFec, FormatsFecByWords, VerifiesFecByWords};
 ghost use Rattle.fec_commands.specs.Growing.{IsProtectionEnd, Protects};
 ghost use Rattle.fec_commands.specs.Images.{Does};
 ghost use Rattle.fec_commands.specs.Layings.{IsRoots};
@@ -32,8 +32,8 @@ pub fn invoke_format_fec<'a, I: Images, G: Generators + Watchers, W: Write>(
     options: &OptionWords<'a>,
     writer: &mut Counted<W>,
 ) -> Result<(), FecFault<'a>>
-    ensures ok { OnOk result (FormatsByWords options.now words.now I.relations I.Dev.state images.old images.new (drawing G.gives G.Generator.stream generators.old generators.new) W.contents writer.old writer.new) }
-    ensures err { IfErr result (FailsToFormat options.now words.now I.relations I.Dev.state images.old images.new (drawing G.gives G.Generator.stream generators.old generators.new) W.contents writer.old writer.new) }
+    ensures ok { OnOk result (FormatsFecByWords options.now words.now I.relations I.Dev.state images.old images.new (drawing G.gives G.Generator.stream generators.old generators.new) W.contents writer.old writer.new) }
+    ensures err { IfErr result (FailsToFormatFec options.now words.now I.relations I.Dev.state images.old images.new (drawing G.gives G.Generator.stream generators.old generators.new) W.contents writer.old writer.new) }
 {
     if !is_roots(words.fec.roots) {
         return Err(FecFault::Verity(VerityFault::Usage));
@@ -61,8 +61,8 @@ pub fn invoke_verify_fec<'a, I: Images, S: Watchers, W: Write>(
     words: &FecVerifyWords<'a>,
     writer: &mut Counted<W>,
 ) -> Result<(), FecFault<'a>>
-    ensures ok { OnOk result (VerifiesByWords words.now I.relations I.Dev.state images.old images.new W.contents writer.old writer.new) }
-    ensures err { IfErr result (FailsToVerify words.now I.relations I.Dev.state images.old images.new W.contents writer.old writer.new) }
+    ensures ok { OnOk result (VerifiesFecByWords words.now I.relations I.Dev.state images.old images.new W.contents writer.old writer.new) }
+    ensures err { IfErr result (FailsToVerifyFec words.now I.relations I.Dev.state images.old images.new W.contents writer.old writer.new) }
 {
     if !is_roots(words.fec.roots) {
         return Err(FecFault::Verity(VerityFault::Usage));

@@ -1,7 +1,7 @@
 //! The parity of a verity image, written to a file.
 ghost use Rattle.std.specs.Prelude.{◌≡◌, IfErr, OnOk};
 ghost use Rattle.fec_area.specs.Layouts.{IsLaidOn};
-ghost use Rattle.fec_area.specs.Rounds.{OnlyReads};
+ghost use Rattle.fec_area.specs.Rounds.{OnlyReadsCovered};
 ghost use Rattle.fec_commands.specs.Images.{Does};
 ghost use Rattle.fec_commands.specs.Layings.{IsRoots};
 ghost use Rattle.fec_commands.specs.Protecting.{IsParityEnd, IsProtectEnd, IsSealed, IsSealingEnd, ProtectsBehind, ProtectsImage};
@@ -81,7 +81,7 @@ fn write_synced<D: BlockDev, H: BlockDev, P: SyncDev>(
     parity_dev: &mut P,
 ) -> Result<(), ParityFault>
     requires { IsLaidOn layout.now (D.state data_dev.old) (H.state hash_dev.old) }
-    ensures read { OnlyReads D.state H.state data_dev.old hash_dev.old data_dev.new hash_dev.new }
+    ensures read { OnlyReadsCovered D.state H.state data_dev.old hash_dev.old data_dev.new hash_dev.new }
     ensures ok { OnOk result (IsSealed layout.now (D.state data_dev.old) (H.state hash_dev.old) (P.state parity_dev.old) (P.state parity_dev.new)) }
     ensures err { IfErr result (IsSealingEnd layout.now (D.state data_dev.old) (H.state hash_dev.old) (P.state parity_dev.old) (P.state parity_dev.new)) }
 {

@@ -10,7 +10,7 @@ use Rattle.tree_shape.specs.Shape.{ShapeRecord, IsShape, slot, ancestor}
 use Rattle.hash_tree.specs.Tree.{root}
 use Rattle.hash_tree.specs.Chain.{ChainRecord, HangsFrom, IsGood, formed}
 use Rattle.std.specs.Prelude.{Option, Some, None, IfSome, IfNone, IsSome}
-use Rattle.hash_tree.specs.Difference.{HaveNoDifference, FirstDiffer, IsTopmostDifference, IsCollision, block_at}
+use Rattle.hash_tree.specs.Difference.{HaveNoDifference, FirstDiffer, IsTopmostDifference, IsCollision, chain_at}
 use Rattle.hash_tree.specs.Laws.{AreBlocks}
 use Rattle.hash_tree.proofs.FormedLemmas.{formed-good}
 
@@ -33,7 +33,7 @@ module _ (s : ShapeRecord) (salt : List ℕ) (i : ℕ) where
   content-same e (a ∷ p) x y hx hy = content-same (digest_in a (slot s (ancestor s (length p) i))) p x y hx.2 hy.2
 
 same-digest : (s : ShapeRecord) (salt root : List ℕ) (a b : ChainRecord) → IsGood s salt root a → IsGood s salt root b
-    → (place : Place) → IsTopmostDifference a b place → digest salt (block_at a place) ≡ digest salt (block_at b place)
+    → (place : Place) → IsTopmostDifference a b place → digest salt (chain_at a place) ≡ digest salt (chain_at b place)
 same-digest s salt root a b ga gb (Hash k) top =
     hash-same s salt a.index k root a.path b.path a.content b.content ga.hangs
     (subst (λ (i : ℕ). HangsFrom s salt i root b.path b.content) (sym top.index) gb.hangs) top.lengths top.inside top.above
@@ -43,7 +43,7 @@ same-digest s salt root a b ga gb Content top =
     (subst (λ (i : ℕ). HangsFrom s salt i root b.path b.content) (sym top.index) gb.hangs))
 
 pub difference-collides : (s : ShapeRecord) (salt root : List ℕ) (a b : ChainRecord) → IsGood s salt root a → IsGood s salt root b
-    → (place : Place) → IsTopmostDifference a b place → IsCollision salt (block_at a place) (block_at b place)
+    → (place : Place) → IsTopmostDifference a b place → IsCollision salt (chain_at a place) (chain_at b place)
 difference-collides s salt root a b ga gb place top = record { differ = top.differ; same = same-digest s salt root a b ga gb place top }
 
 same_or_not : (xs ys : List ℕ) (b : Bool) → bytes_eq xs ys ≡ b → (xs ≡ ys) ⊎ (xs ≢ ys)
@@ -85,7 +85,7 @@ topmost a b index lengths apart =
     ]
 
 pub good-collide : (s : ShapeRecord) (salt root : List ℕ) (a b : ChainRecord) → IsGood s salt root a → IsGood s salt root b
-    → a.index ≡ b.index → a ≢ b → (place : Place) × (IsTopmostDifference a b place × IsCollision salt (block_at a place) (block_at b place))
+    → a.index ≡ b.index → a ≢ b → (place : Place) × (IsTopmostDifference a b place × IsCollision salt (chain_at a place) (chain_at b place))
 good-collide s salt root a b ga gb index apart =
     let found = topmost a b index (ga.path ∙ sym gb.path) apart in
     (found.0, (found.1, difference-collides s salt root a b ga gb found.0 found.1))
@@ -94,7 +94,7 @@ pub forged-collide : (s : ShapeRecord) → IsShape s → (salt : List ℕ) (bloc
     → (chain : ChainRecord) → IsGood s salt (root s.hash_block salt (map (digest salt) blocks)) chain
     → chain.content ≢ get_or blocks chain.index []
     → (place : Place) × (IsTopmostDifference (formed s salt blocks chain.index) chain place
-    × IsCollision salt (block_at (formed s salt blocks chain.index) place) (block_at chain place))
+    × IsCollision salt (chain_at (formed s salt blocks chain.index) place) (chain_at chain place))
 unfolding formed
 forged-collide s valid salt blocks are chain good apart =
     good-collide s salt (root s.hash_block salt (map (digest salt) blocks)) (formed s salt blocks chain.index) chain
@@ -102,7 +102,7 @@ forged-collide s valid salt blocks are chain good apart =
 
 -- the place that is found for two good chains
 pub found-collides : (s : ShapeRecord) (salt root : List ℕ) (a b : ChainRecord) → IsGood s salt root a → IsGood s salt root b
-    → (r : Option Place) → IfSome r (λ place. IsTopmostDifference a b place) → IfSome r (λ place. IsCollision salt (block_at a place) (block_at b place))
+    → (r : Option Place) → IfSome r (λ place. IsTopmostDifference a b place) → IfSome r (λ place. IsCollision salt (chain_at a place) (chain_at b place))
 found-collides s salt root a b ga gb None found = tt
 found-collides s salt root a b ga gb (Some place) found = difference-collides s salt root a b ga gb place found
 

@@ -18,9 +18,9 @@ HasPlace chain (Hash k) = k < length chain.path
 HasPlace chain Content = Unit {0}
 
 -- the block of the chain at that place
-abbrev pub block_at : ChainRecord → Place → List ℕ
-block_at chain (Hash k) = slice_index_or chain.path k []
-block_at chain Content = chain.content
+abbrev pub chain_at : ChainRecord → Place → List ℕ
+chain_at chain (Hash k) = slice_index_or chain.path k []
+chain_at chain Content = chain.content
 
 -- the hash blocks above that place
 abbrev pub path_above : ChainRecord → Place → List (List ℕ)
@@ -33,7 +33,7 @@ pub record IsTopmostDifference (a b : ChainRecord) (place : Place) : Type 0 wher
   pub lengths : length a.path ≡ length b.path
   pub inside : HasPlace a place
   pub above : path_above a place ≡ path_above b place
-  pub differ : block_at a place ≢ block_at b place
+  pub differ : chain_at a place ≢ chain_at b place
 
 -- the chains have different indexes, or paths of different lengths, or no block that differs
 abbrev pub HaveNoDifference : ChainRecord → ChainRecord → Type 0

@@ -6,7 +6,7 @@ use Rattle.tree_shape.specs.Digests.{digest}
 use Rattle.tree_shape.specs.Shape.{ShapeRecord, IsShape, per_block, levels, level_blocks, position, slot, ancestor, area_blocks, area_end}
 use Rattle.hash_tree.specs.Tree.{root, area, level}
 use Rattle.hash_tree.specs.Chain.{ChainRecord, IsGood, formed}
-use Rattle.hash_tree.specs.Difference.{IsTopmostDifference, IsCollision, block_at}
+use Rattle.hash_tree.specs.Difference.{IsTopmostDifference, IsCollision, chain_at}
 
 -- the shape has that block
 abbrev pub HasBlock : ShapeRecord → ℕ → ℕ → Type 0
@@ -71,13 +71,13 @@ GoodChainsAreWhole = (s : ShapeRecord) (salt root : List ℕ) (chain : ChainReco
 -- where two good chains of one root first differ, two different blocks have one digest
 abbrev pub DifferencesCollide : Type 0
 DifferencesCollide = (s : ShapeRecord) (salt root : List ℕ) (a b : ChainRecord) → IsGood s salt root a → IsGood s salt root b
-    → (place : Place) → IsTopmostDifference a b place → IsCollision salt (block_at a place) (block_at b place)
+    → (place : Place) → IsTopmostDifference a b place → IsCollision salt (chain_at a place) (chain_at b place)
 
 -- two good chains of one root and index that are not equal have such a place
 abbrev pub GoodChainsCollide : Type 0
 GoodChainsCollide = (s : ShapeRecord) (salt root : List ℕ) (a b : ChainRecord) → IsGood s salt root a → IsGood s salt root b
     → a.index ≡ b.index → a ≢ b
-    → (place : Place) × (IsTopmostDifference a b place × IsCollision salt (block_at a place) (block_at b place))
+    → (place : Place) × (IsTopmostDifference a b place × IsCollision salt (chain_at a place) (chain_at b place))
 
 -- a good chain under the root of some data blocks, with another content than theirs, names two
 -- different blocks with one digest
@@ -86,4 +86,4 @@ ForgedBlocksCollide = (s : ShapeRecord) → IsShape s → (salt : List ℕ) (blo
     → (chain : ChainRecord) → IsGood s salt (root s.hash_block salt (map (digest salt) blocks)) chain
     → chain.content ≢ slice_index_or blocks chain.index []
     → (place : Place) × (IsTopmostDifference (formed s salt blocks chain.index) chain place
-    × IsCollision salt (block_at (formed s salt blocks chain.index) place) (block_at chain place))
+    × IsCollision salt (chain_at (formed s salt blocks chain.index) place) (chain_at chain place))

@@ -1,7 +1,7 @@
 //! Laws of the definitions: each function's contract is the law, and its call gives it.
 ghost use Rattle.std.specs.Prelude.{◌≡◌, ◌≢◌, IfSome, IsSome};
 ghost use Rattle.hash_tree.specs.Chain.{IsGood};
-ghost use Rattle.hash_tree.specs.Difference.{IsTopmostDifference, IsCollision, block_at};
+ghost use Rattle.hash_tree.specs.Difference.{IsTopmostDifference, IsCollision, chain_at};
 ghost use Rattle.hash_tree.specs.Laws.{LevelsAreLeast, PlacesLieInside, SlotsLieInside, AncestorsAreBlocks, PlacesAreTakenOnce, TreesStandInShape, FormedChainsAreGood, GoodChainsAreWhole, DifferencesCollide, GoodChainsCollide, ForgedBlocksCollide};
 ghost use Rattle.hash_tree.specs.Building.{BuildersMakeTheArea};
 
@@ -80,7 +80,7 @@ pub fn collision(
     requires expected { IsGood shape.now salt.now root.now expected.now }
     requires got { IsGood shape.now salt.now root.now got.now }
     ensures topmost { IfSome result (λ place. IsTopmostDifference expected.now got.now place) }
-    ensures collision { IfSome result (λ place. IsCollision salt.now (block_at expected.now place) (block_at got.now place)) }
+    ensures collision { IfSome result (λ place. IsCollision salt.now (chain_at expected.now place) (chain_at got.now place)) }
     ensures found { expected.now.index ≡ got.now.index → expected.now.content ≢ got.now.content → IsSome result }
 {
     collide(expected, got)

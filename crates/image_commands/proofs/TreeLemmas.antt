@@ -11,7 +11,7 @@ use Rattle.device_window.specs.Windows.{windowed}
 use Rattle.verity_format.specs.declared.formatting.FormatFault.{FormatFault}
 use Rattle.verity_format.specs.Superblock.{SuperRecord}
 use Rattle.image_commands.specs.declared.format.MadeImage.{MadeImage}
-use Rattle.image_commands.specs.TreeFormats.{IsFinished, IsTreeCause, IsTreeKept, IsTreeMade, IsUnfinished}
+use Rattle.image_commands.specs.TreeFormats.{IsFinished, IsPlacedTreeCause, IsTreeKept, IsTreeMade, IsUnfinished}
 use Rattle.image_commands.specs.TreePlaces.{tree_part}
 
 -- an image is what lies before a part, the part and what lies behind it
@@ -72,7 +72,7 @@ module _ (s : SuperRecord) (data_dev data_dev' hash_dev hash_dev' : Device) (fir
 
   -- a tree that wasn't made, or not put on the medium
   pub end-placed : (fault : FormatFault) → IfOk root (IsBareMade s data_dev (windowed hash_dev (tree_part hash_dev first)) data_dev' image) → IfErr root (IsBareCause s data_dev (windowed hash_dev (tree_part hash_dev first)) data_dev' image)
-      → IsUnfinished root image image' fault → IsTreeCause s data_dev hash_dev first hash_dev' fault × IsTreeKept s hash_dev first hash_dev'
+      → IsUnfinished root image image' fault → IsPlacedTreeCause s data_dev hash_dev first hash_dev' fault × IsTreeKept s hash_dev first hash_dev'
   end-placed fault ok err (inl (is, same)) =
       let cause : IsBareCause s data_dev (windowed hash_dev (tree_part hash_dev first)) data_dev' image fault =
       subst (λ (r : Result (List ℕ) FormatFault). IfErr r (IsBareCause s data_dev (windowed hash_dev (tree_part hash_dev first)) data_dev' image)) is err in (

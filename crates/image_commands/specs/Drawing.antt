@@ -32,8 +32,8 @@ abbrev pub drawn_uuid : Stream → List ℕ
 drawn_uuid stream = (v4_of_fill (fill_bytes 16 (fill_bytes 32 stream).1)).0
 
 -- a salt or an identifier isn't given
-abbrev pub IsMissing : ImageOptions → Type 0
-IsMissing options = (options.salt ≡ None) ⊎ (options.uuid ≡ None)
+abbrev pub NeedsDrawing : ImageOptions → Type 0
+NeedsDrawing options = (options.salt ≡ None) ⊎ (options.uuid ≡ None)
 
 -- one generator was made, and gives what isn't given
 pub record IsDrawn {S G : Type 0} (d : Drawing S G) (options : ImageOptions) (given : FormatOptions) : Type 0 where
@@ -53,11 +53,11 @@ pub record AreGiven {S G : Type 0} (d : Drawing S G) (options : ImageOptions) (g
   pub data_block : given.data_block ≡ options.data_block
   pub hash_block : given.hash_block ≡ options.hash_block
   pub blocks : given.blocks ≡ options.blocks
-  pub others : IsGiven d options given ⊎ (IsMissing options × IsDrawn d options given)
+  pub others : IsGiven d options given ⊎ (NeedsDrawing options × IsDrawn d options given)
 
 -- something has to be drawn, and there is no generator
 pub record IsUndrawn {S G : Type 0} (d : Drawing S G) (options : ImageOptions) : Type 0 where
-  pub missing : IsMissing options
+  pub missing : NeedsDrawing options
   pub refused : (fault : NoRandomBytes) × d.gives d.old (Err fault) d.new
 
 -- ---- as a call sees them

@@ -13,20 +13,20 @@ IsUnopened Refused (Open file) = Refused file
 IsUnopened Refused fault = ⊥
 
 -- a line can't be written: the writer failed
-abbrev pub IsUnwritten : Bool → ImageFault → Type 0
-IsUnwritten failed Write = failed ≡ true
-IsUnwritten failed fault = ⊥
+abbrev pub IsLineUnwritten : Bool → ImageFault → Type 0
+IsLineUnwritten failed Write = failed ≡ true
+IsLineUnwritten failed fault = ⊥
 
 -- want of memory, or a line that can't be written
-abbrev pub MayEnd : Bool → ImageFault → Type 0
-MayEnd failed NoMemory = Unit {0}
-MayEnd failed Write = failed ≡ true
-MayEnd failed fault = ⊥
+abbrev pub IsCommonEnd : Bool → ImageFault → Type 0
+IsCommonEnd failed NoMemory = Unit {0}
+IsCommonEnd failed Write = failed ≡ true
+IsCommonEnd failed fault = ⊥
 
 -- a fault of reading a superblock with its cause, or want of memory, or a line that can't be written
 abbrev pub IsVerifyEnd : (VerifyFault → Type 0) → Bool → ImageFault → Type 0
 IsVerifyEnd Cause failed (Verify fault) = Cause fault
-IsVerifyEnd Cause failed fault = MayEnd failed fault
+IsVerifyEnd Cause failed fault = IsCommonEnd failed fault
 
 -- the same of a comparison, or the difference that was found
 abbrev pub IsComparisonEnd : (VerifyFault → Type 0) → (Verdict → Type 0) → Bool → ImageFault → Type 0

@@ -20,10 +20,10 @@ use Rattle.image_commands.specs.declared.paths.ImagePaths.{ImagePaths}
 use Rattle.image_commands.specs.declared.paths.TwoImages.{TwoImages}
 use Rattle.image_commands.specs.declared.table.LineWords.{LineWords}
 use Rattle.image_commands.specs.Drawing.{AreGiven, Drawing, Gives, IsUndrawn, drawing}
-use Rattle.image_commands.specs.Endings.{IsComparisonEnd, IsUnopened, IsUnwritten, IsVerifyEnd}
+use Rattle.image_commands.specs.Endings.{IsComparisonEnd, IsUnopened, IsLineUnwritten, IsVerifyEnd}
 use Rattle.image_commands.specs.Formats.{IsFormatEnd, IsMade, made_text}
-use Rattle.image_commands.specs.Openings.{FailsToOpenApart, FailsToOpenTwo, OpensApart, OpensTwo, TwoPaths, two_paths}
-use Rattle.image_commands.specs.SuperblockTexts.{SaysSuperblock, line_text, superblock_text}
+use Rattle.image_commands.specs.Openings.{FailsToOpenApart, FailsToOpenTwo, OpensTwoApart, OpensTwo, TwoPaths, two_paths}
+use Rattle.image_commands.specs.SuperblockTexts.{SaysSuperblock, table_line_text, superblock_text}
 
 -- `dump` and `table`: the text of the superblock of the image under the path, which is only read
 pub record PrintsSuperblock {S D : Type 0} (w : Calls S D) (path : List ℕ) (text : SuperRecord → List ℕ) (old new : Option (List ℕ)) : Type 0 where
@@ -71,7 +71,7 @@ pub record Makes {S D T G : Type 0} (w : Calls S D) (d : Drawing T G) (options :
   pub data_dev' : D
   pub hash_dev' : D
   pub between : S
-  pub opened : OpensApart (record w { new = between }) paths two
+  pub opened : OpensTwoApart (record w { new = between }) paths two
   pub are_given : AreGiven d options given
   pub made : IsMade given (w.state two.data.device) (w.state two.hash.device) (w.state data_dev') (w.state hash_dev') image
   pub closed : w.relations.takes between paths.hash_path hash_dev' w.new
@@ -86,14 +86,14 @@ pub record EndsFormat {S D T G : Type 0} (w : Calls S D) (d : Drawing T G) (opti
   pub two : TwoImages D
   pub data_dev' : D
   pub hash_dev' : D
-  pub opened : OpensApart w paths two
+  pub opened : OpensTwoApart w paths two
   pub are_given : AreGiven d options given
   pub ends : IsFormatEnd given (w.state two.data.device) (w.state two.hash.device) (w.state data_dev') (w.state hash_dev') fault
 
 -- both are open, and something has to be drawn, but there are no random bytes
 pub record EndsUndrawn {S D T G : Type 0} (w : Calls S D) (d : Drawing T G) (options : ImageOptions) (paths : TwoPaths) (fault : ImageFault) : Type 0 where
   pub two : TwoImages D
-  pub opened : OpensApart w paths two
+  pub opened : OpensTwoApart w paths two
   pub undrawn : IsUndrawn d options
   pub is : fault ≡ Random
 
@@ -106,7 +106,7 @@ pub record EndsUnopened {S D T G : Type 0} (w : Calls S D) (d : Drawing T G) (pa
 abbrev pub IsFormatFilesEnd : {S D T G : Type 0} → Calls S D → Drawing T G → ImageOptions → TwoPaths → Bool → ImageFault → Type 0
 IsFormatFilesEnd w d options paths failed fault =
     EndsUnopened w d paths fault ⊎ (EndsUndrawn w d options paths fault ⊎ (EndsFormat w d options paths fault
-    ⊎ ((image : MadeImage) × Makes w d options paths image × IsUnwritten failed fault)))
+    ⊎ ((image : MadeImage) × Makes w d options paths image × IsLineUnwritten failed fault)))
 
 -- ---- as a call sees them: an opener's relations and what a proof sees of its devices, what gives generators and what a proof sees of one,
 -- and what a proof sees of a writer, each with its value before and after
@@ -117,10 +117,10 @@ DumpsImage relations state images images' contents writer writer' path = PrintsS
 
 abbrev pub PrintsLine : {S D W : Type 0} → Opener S D → (D → Device) → S → S → (W → Option (List ℕ)) → CountedRecord W → CountedRecord W → List ℕ → LineWords → Type 0
 PrintsLine relations state images images' contents writer writer' path words =
-    PrintsSuperblock (calls relations state images images') path (λ s. line_text s words.data_name.now words.hash_name.now words.root.now) (contents writer.inner) (contents writer'.inner)
+    PrintsSuperblock (calls relations state images images') path (λ s. table_line_text s words.data_name.now words.hash_name.now words.root.now) (contents writer.inner) (contents writer'.inner)
 
-abbrev pub FailsToPrint : {S D W : Type 0} → Opener S D → (D → Device) → S → S → CountedRecord W → List ℕ → ImageFault → Type 0
-FailsToPrint relations state images images' writer' path = IsSuperblockEnd (calls relations state images images') path writer'.failed
+abbrev pub FailsToPrintSuper : {S D W : Type 0} → Opener S D → (D → Device) → S → S → CountedRecord W → List ℕ → ImageFault → Type 0
+FailsToPrintSuper relations state images images' writer' path = IsSuperblockEnd (calls relations state images images') path writer'.failed
 
 -- the same of a device that is open
 abbrev pub SaysFields : {H W : Type 0} → (H → Device) → H → (W → Option (List ℕ)) → CountedRecord W → CountedRecord W → Type 0
@@ -128,7 +128,7 @@ SaysFields state hash_dev contents writer writer' = SaysSuperblock (state hash_d
 
 abbrev pub SaysLine : {H W : Type 0} → (H → Device) → H → (W → Option (List ℕ)) → CountedRecord W → CountedRecord W → LineWords → Type 0
 SaysLine state hash_dev contents writer writer' words =
-    SaysSuperblock (state hash_dev) (λ s. line_text s words.data_name.now words.hash_name.now words.root.now) (contents writer.inner) (contents writer'.inner)
+    SaysSuperblock (state hash_dev) (λ s. table_line_text s words.data_name.now words.hash_name.now words.root.now) (contents writer.inner) (contents writer'.inner)
 
 abbrev pub FailsToSay : {H W : Type 0} → (H → Device) → H → H → CountedRecord W → ImageFault → Type 0
 FailsToSay state hash_dev hash_dev' writer' = IsVerifyEnd (IsReadCause (state hash_dev) (state hash_dev')) writer'.failed
@@ -137,11 +137,11 @@ FailsToSay state hash_dev hash_dev' writer' = IsVerifyEnd (IsReadCause (state ha
 abbrev pub VerifiesImages : {S D W : Type 0} → Opener S D → (D → Device) → S → S → (W → Option (List ℕ)) → CountedRecord W → CountedRecord W → ImagePaths → List ℕ → Type 0
 VerifiesImages relations state images images' contents writer writer' paths root = PrintsMatches (calls relations state images images') (two_paths paths) root (contents writer.inner) (contents writer'.inner)
 
-abbrev pub FailsToVerify : {S D W : Type 0} → Opener S D → (D → Device) → S → S → CountedRecord W → ImagePaths → List ℕ → ImageFault → Type 0
-FailsToVerify relations state images images' writer' paths root = IsVerifyFilesEnd (calls relations state images images') (two_paths paths) root writer'.failed
+abbrev pub FailsToVerifyFiles : {S D W : Type 0} → Opener S D → (D → Device) → S → S → CountedRecord W → ImagePaths → List ℕ → ImageFault → Type 0
+FailsToVerifyFiles relations state images images' writer' paths root = IsVerifyFilesEnd (calls relations state images images') (two_paths paths) root writer'.failed
 
-abbrev pub OnlyReads : {D H : Type 0} → (D → Device) → (H → Device) → D → H → D → H → Type 0
-OnlyReads data_state hash_state data_dev hash_dev data_dev' hash_dev' =
+abbrev pub OnlyReadsImages : {D H : Type 0} → (D → Device) → (H → Device) → D → H → D → H → Type 0
+OnlyReadsImages data_state hash_state data_dev hash_dev data_dev' hash_dev' =
     IsOnlyRead (data_state data_dev) (data_state data_dev') × IsOnlyRead (hash_state hash_dev) (hash_state hash_dev')
 
 abbrev pub FindsMatches : {D H W : Type 0} → (D → Device) → (H → Device) → D → H → D → H → (W → Option (List ℕ)) → CountedRecord W → CountedRecord W → List ℕ → Type 0
@@ -157,6 +157,6 @@ abbrev pub FormatsImages : {S D T G W : Type 0} → Opener S D → (D → Device
 FormatsImages relations state images images' gives stream generators generators' contents writer writer' options paths =
     PrintsMade (calls relations state images images') (drawing gives stream generators generators') options (two_paths paths) (contents writer.inner) (contents writer'.inner)
 
-abbrev pub FailsToFormat : {S D T G W : Type 0} → Opener S D → (D → Device) → S → S → Gives T G → (G → Stream) → T → T → CountedRecord W → ImageOptions → ImagePaths → ImageFault → Type 0
-FailsToFormat relations state images images' gives stream generators generators' writer' options paths =
+abbrev pub FailsToFormatFiles : {S D T G W : Type 0} → Opener S D → (D → Device) → S → S → Gives T G → (G → Stream) → T → T → CountedRecord W → ImageOptions → ImagePaths → ImageFault → Type 0
+FailsToFormatFiles relations state images images' gives stream generators generators' writer' options paths =
     IsFormatFilesEnd (calls relations state images images') (drawing gives stream generators generators') options (two_paths paths) writer'.failed

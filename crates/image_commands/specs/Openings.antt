@@ -36,7 +36,7 @@ abbrev pub FailsToOpenTwo : {S D : Type 0} → Calls S D → TwoPaths → Bool �
 FailsToOpenTwo w paths writable file = Refuses w paths.data_path false file ⊎ RefusesHash w paths writable file
 
 -- for a format both were opened, the hash image for writing, and they are two files, as far as the opener tells
-pub record OpensApart {S D : Type 0} (w : Calls S D) (paths : TwoPaths) (two : TwoImages D) : Type 0 where
+pub record OpensTwoApart {S D : Type 0} (w : Calls S D) (paths : TwoPaths) (two : TwoImages D) : Type 0 where
   pub opened : OpensTwo w paths true two
   pub apart : is_one_file two.data.id two.hash.id ≡ false
 
@@ -59,7 +59,7 @@ abbrev pub FailsToOpenImages : {S D : Type 0} → Opener S D → (D → Device) 
 FailsToOpenImages relations state images images' paths writable = FailsToOpenTwo (calls relations state images images') (two_paths paths) writable
 
 abbrev pub OpensTwoFiles : {S D : Type 0} → Opener S D → (D → Device) → S → S → ImagePaths → TwoImages D → Type 0
-OpensTwoFiles relations state images images' paths = OpensApart (calls relations state images images') (two_paths paths)
+OpensTwoFiles relations state images images' paths = OpensTwoApart (calls relations state images images') (two_paths paths)
 
 abbrev pub FailsToOpenTwoFiles : {S D : Type 0} → Opener S D → (D → Device) → S → S → ImagePaths → UnopenedFile → Type 0
 FailsToOpenTwoFiles relations state images images' paths = FailsToOpenApart (calls relations state images images') (two_paths paths)

@@ -17,7 +17,7 @@ use Rattle.image_commands.specs.declared.paths.TwoImages.{TwoImages}
 use Rattle.image_commands.specs.declared.places.Bounds.{Bounds}
 use Rattle.image_commands.specs.declared.watching.WatchedPlaces.{WatchedPlaces}
 use Rattle.image_commands.specs.Drawing.{AreGiven, Drawing, Gives, IsUndrawn, drawing}
-use Rattle.image_commands.specs.Endings.{IsUnopened, IsUnwritten}
+use Rattle.image_commands.specs.Endings.{IsUnopened, IsLineUnwritten}
 use Rattle.image_commands.specs.Formats.{IsFormatEnd, IsMade, made_text}
 use Rattle.image_commands.specs.Places.{FailsToOpenPlaced, OpensPlaced, TwoPlaces, before, behind, data_end, is_aligned, two_places}
 
@@ -104,7 +104,7 @@ pub record EndsPlaced {S D T G : Type 0} (w : Calls S D) (d : Drawing T G) (opti
 abbrev pub IsFormatPlacedEnd : {S D T G : Type 0} → Calls S D → Drawing T G → ImageOptions → TwoPlaces → Bool → ImageFault → Type 0
 IsFormatPlacedEnd w d options places failed fault =
     EndsUnaligned w d options places fault ⊎ (EndsUnopenedPlaced w d places fault ⊎ (EndsUndrawnPlaced w d options places fault ⊎ (EndsPlaced w d options places fault
-    ⊎ ((image : MadeImage) × MakesPlaced w d options places image × IsUnwritten failed fault))))
+    ⊎ ((image : MadeImage) × MakesPlaced w d options places image × IsLineUnwritten failed fault))))
 
 -- ---- as a call sees them, in the order of `ImageCommands`
 

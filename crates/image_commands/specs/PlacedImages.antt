@@ -20,7 +20,7 @@ use Rattle.image_commands.specs.declared.table.LineWords.{LineWords}
 use Rattle.image_commands.specs.declared.watching.WatchedPlaces.{WatchedPlaces}
 use Rattle.image_commands.specs.Endings.{IsComparisonEnd, IsUnopened, IsVerifyEnd}
 use Rattle.image_commands.specs.Openings.{FailsToOpenTwo, OpensTwo}
-use Rattle.image_commands.specs.PlacedLines.{line_at}
+use Rattle.image_commands.specs.PlacedLines.{text_at}
 use Rattle.image_commands.specs.Places.{TwoPlaces, before, behind, data_end, is_aligned, two_places}
 use Rattle.image_commands.specs.SuperblockJson.{dump_text}
 
@@ -99,7 +99,7 @@ DumpsImageAt relations state images images' contents writer writer' place json =
 
 abbrev pub PrintsLineAt : {S D W : Type 0} → Opener S D → (D → Device) → S → S → (W → Option (List ℕ)) → CountedRecord W → CountedRecord W → HashPlace → Option (Bor (List ℕ)) → LineWords → Type 0
 PrintsLineAt relations state images images' contents writer writer' place name words =
-    PrintsPlacedSuper (calls relations state images images') place.path.now place.first (λ s. is_aligned place.first s.hash_block) (λ s. line_at name s words place.first) (contents writer.inner) (contents writer'.inner)
+    PrintsPlacedSuper (calls relations state images images') place.path.now place.first (λ s. is_aligned place.first s.hash_block) (λ s. text_at name s words place.first) (contents writer.inner) (contents writer'.inner)
 
 abbrev pub FailsToPrintAt : {S D W : Type 0} → Opener S D → (D → Device) → S → S → CountedRecord W → HashPlace → ImageFault → Type 0
 FailsToPrintAt relations state images images' writer' place = IsPlacedImageEnd (calls relations state images images') place.path.now place.first writer'.failed
@@ -111,7 +111,7 @@ SaysFieldsAt state hash_dev contents writer writer' first json =
 
 abbrev pub SaysLineAt : {H W : Type 0} → (H → Device) → H → (W → Option (List ℕ)) → CountedRecord W → CountedRecord W → ℕ → Option (Bor (List ℕ)) → LineWords → Type 0
 SaysLineAt state hash_dev contents writer writer' first name words =
-    SaysPlaced (state hash_dev) first (λ s. is_aligned first s.hash_block) (λ s. line_at name s words first) (contents writer.inner) (contents writer'.inner)
+    SaysPlaced (state hash_dev) first (λ s. is_aligned first s.hash_block) (λ s. text_at name s words first) (contents writer.inner) (contents writer'.inner)
 
 -- two images, or two devices that are open, are compared
 abbrev pub VerifiesImagesAt : {S D W : Type 0} → Opener S D → (D → Device) → S → S → (W → Option (List ℕ)) → CountedRecord W → CountedRecord W → WatchedPlaces → List ℕ → Type 0

@@ -42,8 +42,8 @@ entry_head (Some name) = name.now ++ codes ",,,ro,"
 entry_head None = []
 
 -- the line, or the whole entry
-abbrev pub line_at : Option (Bor (List ℕ)) → SuperRecord → LineWords → ℕ → List ℕ
-line_at name s words first = entry_head name ++ placed_line s words first
+abbrev pub text_at : Option (Bor (List ℕ)) → SuperRecord → LineWords → ℕ → List ℕ
+text_at name s words first = entry_head name ++ placed_line s words first
 
 abbrev pub tree_at : Option (Bor (List ℕ)) → SuperRecord → LineWords → ℕ → List ℕ
 tree_at name s words first = entry_head name ++ tree_line s words first

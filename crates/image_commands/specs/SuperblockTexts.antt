@@ -42,8 +42,8 @@ unfoldable pub superblock_text : SuperRecord → List ℕ
 superblock_text s = uuid_text s.uuid ++ (algorithm_text ++ (sizes_text s ++ salt_text s.salt))
 
 -- the table line of an image and a newline
-abbrev pub line_text : SuperRecord → List ℕ → List ℕ → List ℕ → List ℕ
-line_text s data_name hash_name root = table_text s data_name hash_name root ++ codes "\n"
+abbrev pub table_line_text : SuperRecord → List ℕ → List ℕ → List ℕ → List ℕ
+table_line_text s data_name hash_name root = table_text s data_name hash_name root ++ codes "\n"
 
 -- the text of the superblock that is read from a device was written
 abbrev pub SaysSuperblock : Device → (SuperRecord → List ℕ) → Option (List ℕ) → Option (List ℕ) → Type 0

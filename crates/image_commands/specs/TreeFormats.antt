@@ -23,7 +23,7 @@ use Rattle.image_commands.specs.declared.paths.TwoImages.{TwoImages}
 use Rattle.image_commands.specs.declared.places.Bounds.{Bounds}
 use Rattle.image_commands.specs.declared.watching.WatchedPlaces.{WatchedPlaces}
 use Rattle.image_commands.specs.Drawing.{AreGiven, Drawing, Gives, drawing}
-use Rattle.image_commands.specs.Endings.{IsUnwritten}
+use Rattle.image_commands.specs.Endings.{IsLineUnwritten}
 use Rattle.image_commands.specs.PlacedFormats.{EndsUnaligned, EndsUndrawnPlaced, EndsUnopenedPlaced}
 use Rattle.image_commands.specs.Places.{OpensPlaced, TwoPlaces, before, data_end, is_aligned, two_places}
 use Rattle.image_commands.specs.SuperblockTexts.{blocks_text, root_text, salt_text}
@@ -77,19 +77,19 @@ pub record IsTreeUnsynced (s : SuperRecord) (data_dev hash_dev data_dev' hash_de
   pub is : fault ≡ DeviceFailed
 
 -- a refusal applied, it wasn't finished, or it wasn't synced
-abbrev pub IsTreeCause : SuperRecord → Device → Device → ℕ → Device → FormatFault → Type 0
-IsTreeCause s data_dev hash_dev first hash_dev' fault =
+abbrev pub IsPlacedTreeCause : SuperRecord → Device → Device → ℕ → Device → FormatFault → Type 0
+IsPlacedTreeCause s data_dev hash_dev first hash_dev' fault =
     (data_dev' : Device) × (IsBareCause s data_dev (tree_place hash_dev first) data_dev' (windowed hash_dev' (tree_part hash_dev first)) fault
     ⊎ IsTreeUnsynced s data_dev (tree_place hash_dev first) data_dev' (windowed hash_dev' (tree_part hash_dev first)) fault)
 
 -- so it ended, and only the sectors of the tree changed
 abbrev pub IsTreeUnmade : SuperRecord → Device → Device → ℕ → Device → FormatFault → Type 0
-IsTreeUnmade s data_dev hash_dev first hash_dev' = λ fault. IsTreeCause s data_dev hash_dev first hash_dev' fault × IsTreeKept s hash_dev first hash_dev'
+IsTreeUnmade s data_dev hash_dev first hash_dev' = λ fault. IsPlacedTreeCause s data_dev hash_dev first hash_dev' fault × IsTreeKept s hash_dev first hash_dev'
 
 -- there is no tree of that shape, and the hash device wasn't asked; or one of these
 abbrev pub IsTreeEnd : SuperRecord → Device → Device → ℕ → Device → FormatFault → Type 0
 IsTreeEnd s data_dev hash_dev first hash_dev' fault =
-    (HasNoShape s fault × (hash_dev' ≡ hash_dev)) ⊎ (IsTreeCause s data_dev hash_dev first hash_dev' fault × IsTreeKept s hash_dev first hash_dev')
+    (HasNoShape s fault × (hash_dev' ≡ hash_dev)) ⊎ (IsPlacedTreeCause s data_dev hash_dev first hash_dev' fault × IsTreeKept s hash_dev first hash_dev')
 
 -- the data of two images
 abbrev pub data_of : {S D : Type 0} → Calls S D → TwoImages D → ℕ → Device
@@ -131,7 +131,7 @@ pub record EndsTree {S D T G : Type 0} (w : Calls S D) (d : Drawing T G) (option
 abbrev pub IsFormatTreeEnd : {S D T G : Type 0} → Calls S D → Drawing T G → ImageOptions → TwoPlaces → Bool → ImageFault → Type 0
 IsFormatTreeEnd w d options places failed fault =
     EndsUnaligned w d options places fault ⊎ (EndsUnopenedPlaced w d places fault ⊎ (EndsUndrawnPlaced w d (unnamed options) places fault ⊎ (EndsTree w d options places fault
-    ⊎ ((made : MadeImage) × MakesTree w d options places made × IsUnwritten failed fault))))
+    ⊎ ((made : MadeImage) × MakesTree w d options places made × IsLineUnwritten failed fault))))
 
 -- ---- as a call sees them, in the order of `ImageCommands`
 
@@ -139,8 +139,8 @@ abbrev pub FormatsTree : {S D T G W : Type 0} → Opener S D → (D → Device) 
 FormatsTree relations state images images' gives stream generators generators' contents writer writer' options watched =
     PrintsTree (calls relations state images images') (drawing gives stream generators generators') options (two_places watched.places) (contents writer.inner) (contents writer'.inner)
 
-abbrev pub FailsToFormatTree : {S D T G W : Type 0} → Opener S D → (D → Device) → S → S → Gives T G → (G → Stream) → T → T → CountedRecord W → ImageOptions → WatchedPlaces → ImageFault → Type 0
-FailsToFormatTree relations state images images' gives stream generators generators' writer' options watched =
+abbrev pub FailsToPlaceTree : {S D T G W : Type 0} → Opener S D → (D → Device) → S → S → Gives T G → (G → Stream) → T → T → CountedRecord W → ImageOptions → WatchedPlaces → ImageFault → Type 0
+FailsToPlaceTree relations state images images' gives stream generators generators' writer' options watched =
     IsFormatTreeEnd (calls relations state images images') (drawing gives stream generators generators') options (two_places watched.places) writer'.failed
 
 -- two devices that are open, and the second behind the formatting

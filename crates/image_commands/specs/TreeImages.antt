@@ -18,7 +18,7 @@ use Rattle.image_commands.specs.declared.places.Bounds.{Bounds}
 use Rattle.image_commands.specs.declared.table.LineWords.{LineWords}
 use Rattle.image_commands.specs.declared.tree_verify.ExpectedTree.{ExpectedTree}
 use Rattle.image_commands.specs.declared.watching.WatchedPlaces.{WatchedPlaces}
-use Rattle.image_commands.specs.Endings.{IsUnopened, IsUnwritten}
+use Rattle.image_commands.specs.Endings.{IsUnopened, IsLineUnwritten}
 use Rattle.image_commands.specs.Openings.{FailsToOpenTwo, OpensTwo}
 use Rattle.image_commands.specs.PlacedLines.{entry_head, tree_line}
 use Rattle.image_commands.specs.Places.{TwoPlaces, before, is_aligned, two_places}
@@ -37,7 +37,7 @@ IsTreeComparisonEnd s data_dev hash_dev first root failed (Format fault) = HasNo
 IsTreeComparisonEnd s data_dev hash_dev first root failed (Verify fault) = (data_dev' : Device) × IsBareVerifyCause s data_dev (tree_place hash_dev first) data_dev' fault
 IsTreeComparisonEnd s data_dev hash_dev first root failed (Differs verdict) =
     (verdict ≢ Matches) × ((data_dev' : Device) × IsBareFound s data_dev (tree_place hash_dev first) data_dev' root verdict)
-IsTreeComparisonEnd s data_dev hash_dev first root failed fault = IsUnwritten failed fault
+IsTreeComparisonEnd s data_dev hash_dev first root failed fault = IsLineUnwritten failed fault
 
 -- `verify --no-superblock`
 pub record PrintsTreeMatches {S D : Type 0} (w : Calls S D) (places : TwoPlaces) (options : FormatOptions) (root : List ℕ) (old new : Option (List ℕ)) : Type 0 where
@@ -71,7 +71,7 @@ pub record PrintsTreeLine (first : ℕ) (name : Option (Bor (List ℕ))) (words 
 abbrev pub IsTreeLineEnd : ℕ → FormatOptions → Bool → ImageFault → Type 0
 IsTreeLineEnd first options failed Unaligned = is_aligned first options.hash_block ≡ false
 IsTreeLineEnd first options failed (Format fault) = HasNoShape (superblock_with options 0) fault
-IsTreeLineEnd first options failed fault = IsUnwritten failed fault
+IsTreeLineEnd first options failed fault = IsLineUnwritten failed fault
 
 -- ---- as a call sees them, in the order of `ImageCommands`
 

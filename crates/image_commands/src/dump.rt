@@ -2,7 +2,7 @@
 ghost use Rattle.std.specs.Prelude.{◌≡◌, OnOk, IfErr};
 ghost use Rattle.verity_format.specs.Blocks.{IsOnlyRead};
 ghost use Rattle.image_commands.specs.Endings.{IsQuiet};
-ghost use Rattle.image_commands.specs.ImageCommands.{DumpsImage, FailsToPrint, FailsToSay, SaysFields};
+ghost use Rattle.image_commands.specs.ImageCommands.{DumpsImage, FailsToPrintSuper, FailsToSay, SaysFields};
 
 use crate::fault::ImageFault;
 use crate::superblock_text::say_superblock;
@@ -20,7 +20,7 @@ pub fn dump_image<'a, I: Images, W: Write>(
     writer: &mut Counted<W>,
 ) -> Result<(), ImageFault<'a>>
     ensures ok { OnOk result (DumpsImage I.relations I.Dev.state images.old images.new W.contents writer.old writer.new hash.now) }
-    ensures err { IfErr result (FailsToPrint I.relations I.Dev.state images.old images.new writer.new hash.now) }
+    ensures err { IfErr result (FailsToPrintSuper I.relations I.Dev.state images.old images.new writer.new hash.now) }
     ensures quiet { IfErr result (λ fault. IsQuiet fault (W.contents writer.old.inner) (W.contents writer.new.inner)) }
 {
     let mut image = open_image(images, hash, false)?;

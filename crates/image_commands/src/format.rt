@@ -4,7 +4,7 @@ ghost use Rattle.counted_io.specs.Counted.{Writes};
 ghost use Rattle.image_commands.specs.Drawing.{DrawsOptions, FailsToDraw};
 ghost use Rattle.image_commands.specs.Endings.{IsQuiet};
 ghost use Rattle.image_commands.specs.Formats.{IsUnmade, MakesImage, made_text};
-ghost use Rattle.image_commands.specs.ImageCommands.{FailsToFormat, FormatsImages};
+ghost use Rattle.image_commands.specs.ImageCommands.{FailsToFormatFiles, FormatsImages};
 
 use crate::fault::ImageFault;
 use crate::paths::{ImagePaths, TwoImages, open_apart};
@@ -40,7 +40,7 @@ pub fn format_images<'a, I: Images, G: Generators, W: Write>(
     writer: &mut Counted<W>,
 ) -> Result<(), ImageFault<'a>>
     ensures ok { OnOk result (FormatsImages I.relations I.Dev.state images.old images.new G.gives G.Generator.stream generators.old generators.new W.contents writer.old writer.new options paths.entry) }
-    ensures err { IfErr result (FailsToFormat I.relations I.Dev.state images.old images.new G.gives G.Generator.stream generators.old generators.new writer.new options paths.entry) }
+    ensures err { IfErr result (FailsToFormatFiles I.relations I.Dev.state images.old images.new G.gives G.Generator.stream generators.old generators.new writer.new options paths.entry) }
     ensures quiet { IfErr result (λ fault. IsQuiet fault (W.contents writer.old.inner) (W.contents writer.new.inner)) }
 {
     let TwoImages {

@@ -3,7 +3,7 @@ ghost use Rattle.std.specs.Prelude.{IfErr, OnOk};
 ghost use Rattle.counted_io.specs.Counted.{Writes};
 ghost use Rattle.image_commands.specs.Endings.{IsQuiet};
 ghost use Rattle.image_commands.specs.PlacedImages.{DumpsImageAt, FailsToMatchAt, FailsToPrintAt, FailsToVerifyAt, IsPlacedSuperEnd, MatchesAt, PrintsLineAt, SaysFieldsAt, SaysLineAt, VerifiesImagesAt};
-ghost use Rattle.image_commands.specs.PlacedLines.{entry_head, line_at};
+ghost use Rattle.image_commands.specs.PlacedLines.{entry_head, text_at};
 
 use crate::fault::ImageFault;
 use crate::paths::{ImagePaths, open_two};
@@ -107,7 +107,7 @@ fn say_named_line<W: Write>(
     words: LineWords<'_>,
     first: u64,
 ) -> Result<(), WriteFault>
-    ensures { Writes W.contents writer.old writer.new (line_at name.entry superblock.now words.entry first) result }
+    ensures { Writes W.contents writer.old writer.new (text_at name.entry superblock.now words.entry first) result }
 {
     say_head(writer, name)?;
     say_placed_line(writer, superblock, words, first)

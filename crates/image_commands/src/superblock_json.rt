@@ -5,7 +5,7 @@ ghost use Rattle.uuid.specs.Text.{hyphenated_text, lower};
 ghost use Rattle.serde_json.specs.Data.{string};
 ghost use Rattle.serde_json.specs.View.{view};
 ghost use Rattle.verity_format.specs.Line.{salt_word};
-ghost use Rattle.image_commands.specs.Endings.{IsQuiet, MayEnd};
+ghost use Rattle.image_commands.specs.Endings.{IsQuiet, IsCommonEnd};
 ghost use Rattle.image_commands.specs.SuperblockJson.{SaysDump, fields_json, superblock_json};
 
 use crate::fault::ImageFault;
@@ -27,7 +27,7 @@ pub(crate) fn say_dump<'a, W: Write>(
     json: bool,
 ) -> Result<(), ImageFault<'a>>
     ensures ok { OnOk result (SaysDump W.contents writer.old writer.new json superblock.now) }
-    ensures err { IfErr result (MayEnd writer.new.failed) }
+    ensures err { IfErr result (IsCommonEnd writer.new.failed) }
     ensures quiet { IfErr result (λ fault. IsQuiet fault (W.contents writer.old.inner) (W.contents writer.new.inner)) }
 {
     if json {

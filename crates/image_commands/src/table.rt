@@ -2,7 +2,7 @@
 ghost use Rattle.std.specs.Prelude.{◌≡◌, OnOk, IfErr};
 ghost use Rattle.verity_format.specs.Blocks.{IsOnlyRead};
 ghost use Rattle.image_commands.specs.Endings.{IsQuiet};
-ghost use Rattle.image_commands.specs.ImageCommands.{FailsToPrint, FailsToSay, PrintsLine, SaysLine};
+ghost use Rattle.image_commands.specs.ImageCommands.{FailsToPrintSuper, FailsToSay, PrintsLine, SaysLine};
 
 use crate::fault::ImageFault;
 use block_device::BlockDev;
@@ -31,7 +31,7 @@ pub fn print_table_of_image<'a, I: Images, W: Write>(
     writer: &mut Counted<W>,
 ) -> Result<(), ImageFault<'a>>
     ensures ok { OnOk result (PrintsLine I.relations I.Dev.state images.old images.new W.contents writer.old writer.new hash.now words.entry) }
-    ensures err { IfErr result (FailsToPrint I.relations I.Dev.state images.old images.new writer.new hash.now) }
+    ensures err { IfErr result (FailsToPrintSuper I.relations I.Dev.state images.old images.new writer.new hash.now) }
     ensures quiet { IfErr result (λ fault. IsQuiet fault (W.contents writer.old.inner) (W.contents writer.new.inner)) }
 {
     let mut image = open_image(images, hash, false)?;

@@ -3,7 +3,7 @@ ghost use Rattle.std.specs.Prelude.{◌≡◌, Some, IfErr, IfOk, OnOk};
 ghost use Rattle.counted_io.specs.Counted.{Writes};
 ghost use Rattle.device_window.specs.Parts.{outside_of};
 ghost use Rattle.image_commands.specs.Endings.{IsQuiet};
-ghost use Rattle.image_commands.specs.TreeFormats.{FailsToFormatTree, FailsToMakeTree, FormatsTree, IsFinished, IsTreeMade, IsTreeUnmade, IsUnfinished, MakesTreeBehind, tree_text};
+ghost use Rattle.image_commands.specs.TreeFormats.{FailsToPlaceTree, FailsToMakeTree, FormatsTree, IsFinished, IsTreeMade, IsTreeUnmade, IsUnfinished, MakesTreeBehind, tree_text};
 ghost use Rattle.image_commands.specs.TreePlaces.{tree_part};
 
 use crate::fault::ImageFault;
@@ -38,7 +38,7 @@ pub fn format_tree<'a, I: Images, G: Generators + Watchers, W: Write>(
     writer: &mut Counted<W>,
 ) -> Result<(), ImageFault<'a>>
     ensures ok { OnOk result (FormatsTree I.relations I.Dev.state images.old images.new G.gives G.Generator.stream generators.old generators.new W.contents writer.old writer.new options watched.entry) }
-    ensures err { IfErr result (FailsToFormatTree I.relations I.Dev.state images.old images.new G.gives G.Generator.stream generators.old generators.new writer.new options watched.entry) }
+    ensures err { IfErr result (FailsToPlaceTree I.relations I.Dev.state images.old images.new G.gives G.Generator.stream generators.old generators.new writer.new options watched.entry) }
     ensures quiet { IfErr result (λ fault. IsQuiet fault (W.contents writer.old.inner) (W.contents writer.new.inner)) }
 {
     let WatchedPlaces { places, progress } = watched;

@@ -1,7 +1,7 @@
 //! The command `verify`: compares a hash image with a data image.
 ghost use Rattle.std.specs.Prelude.{◌≡◌, OnOk, IfErr};
 ghost use Rattle.image_commands.specs.Endings.{IsQuiet};
-ghost use Rattle.image_commands.specs.ImageCommands.{FailsToCompare, FailsToVerify, FindsMatches, OnlyReads, VerifiesImages};
+ghost use Rattle.image_commands.specs.ImageCommands.{FailsToCompare, FailsToVerifyFiles, FindsMatches, OnlyReadsImages, VerifiesImages};
 
 use crate::fault::ImageFault;
 use crate::paths::{ImagePaths, open_two};
@@ -23,7 +23,7 @@ pub fn verify_images<'a, I: Images, W: Write>(
     writer: &mut Counted<W>,
 ) -> Result<(), ImageFault<'a>>
     ensures ok { OnOk result (VerifiesImages I.relations I.Dev.state images.old images.new W.contents writer.old writer.new paths.entry root.now) }
-    ensures err { IfErr result (FailsToVerify I.relations I.Dev.state images.old images.new writer.new paths.entry root.now) }
+    ensures err { IfErr result (FailsToVerifyFiles I.relations I.Dev.state images.old images.new writer.new paths.entry root.now) }
     ensures quiet { IfErr result (λ fault. IsQuiet fault (W.contents writer.old.inner) (W.contents writer.new.inner)) }
 {
     let mut two = open_two(images, paths, false)?;
@@ -45,7 +45,7 @@ pub(crate) fn compare<'a, D: BlockDev, H: BlockDev, W: Write>(
     root: &Digest,
     writer: &mut Counted<W>,
 ) -> Result<(), ImageFault<'a>>
-    ensures read { OnlyReads D.state H.state data_dev.old hash_dev.old data_dev.new hash_dev.new }
+    ensures read { OnlyReadsImages D.state H.state data_dev.old hash_dev.old data_dev.new hash_dev.new }
     ensures ok { OnOk result (FindsMatches D.state H.state data_dev.old hash_dev.old data_dev.new hash_dev.new W.contents writer.old writer.new root.now) }
     ensures err { IfErr result (FailsToCompare D.state H.state data_dev.old hash_dev.old data_dev.new hash_dev.new writer.new root.now) }
     ensures quiet { IfErr result (λ fault. IsQuiet fault (W.contents writer.old.inner) (W.contents writer.new.inner)) }

@@ -15,8 +15,8 @@ pub record Refuses {S D : Type 0} (w : Calls S D) (path : List ℕ) (writable : 
   pub refused : w.relations.opens w.old path writable (Err file.fault) w.new
 
 -- the calls are one that told these first bytes, at most so many, of the file under this path
-abbrev pub Tells : {S D : Type 0} → Calls S D → List ℕ → ℕ → FileText → Type 0
-Tells w path most text = w.relations.tells w.old path most (Ok text) w.new
+abbrev pub TellsFile : {S D : Type 0} → Calls S D → List ℕ → ℕ → FileText → Type 0
+TellsFile w path most text = w.relations.tells w.old path most (Ok text) w.new
 
 -- or one that didn't, for this reason
 pub record RefusesText {S D : Type 0} (w : Calls S D) (path : List ℕ) (most : ℕ) (file : UnopenedFile) : Type 0 where

@@ -1,7 +1,7 @@
 //! Opens the images and texts that a command line names.
 ghost use Rattle.std.specs.Prelude.{◌≤◌, length, IfOk, IfErr};
 ghost use Rattle.image_files.specs.Apart.{OpensApart, RefusesApart};
-ghost use Rattle.image_files.specs.Opened.{Opens, Refuses, RefusesText, Tells};
+ghost use Rattle.image_files.specs.Opened.{Opens, Refuses, RefusesText, TellsFile};
 ghost use Rattle.image_files.specs.Opener.{IsFresh, calls};
 
 use crate::file_use::{FileUse, has_clash};
@@ -59,7 +59,7 @@ pub fn read_text<'a, I: Images>(
     path: &'a str,
     most: usize,
 ) -> Result<FileText, UnopenedFile<'a>>
-    ensures ok { IfOk result (Tells (calls I.relations I.Dev.state images.old images.new) path.now most) }
+    ensures ok { IfOk result (TellsFile (calls I.relations I.Dev.state images.old images.new) path.now most) }
     ensures most { IfOk result (λ text. length text.bytes.items ≤ most) }
     ensures err { IfErr result (RefusesText (calls I.relations I.Dev.state images.old images.new) path.now most) }
 {

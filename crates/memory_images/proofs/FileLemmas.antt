@@ -16,7 +16,7 @@ use Rattle.memory_images.specs.declared.named_images.MemoryImages.{MemoryImages}
 use Rattle.text_files.specs.declared.texts.ReplaceFault.{ReplaceFault}
 use Rattle.memory_images.specs.Files.{file_at, file_at_place, file_under}
 use Rattle.memory_images.specs.MemoryRelations.{ChangesAt, IsCopy, IsMeasured, IsReplaced, IsText, PutsAt, ReplacesAt, id_at}
-use Rattle.memory_images.specs.Named.{IsPut, Stands, bytes_at, place_of}
+use Rattle.memory_images.specs.Named.{AreBytesPut, Stands, image_bytes, named_place}
 
 -- what stands at a place as a file
 abbrev pub file-of : ℕ → List ℕ → FileRecord
@@ -39,8 +39,8 @@ text-told m path most text t = (file-of t.place t.bytes, under m path t.place t.
 pub record IsAt (m : MemoryImages) (path : List ℕ) (file : FileRecord) : Type 0 where
   pub place : ℕ
   pub bytes : List ℕ
-  pub placed : place_of m.names.items path ≡ Some place
-  pub found : bytes_at m.images.items place ≡ Some bytes
+  pub placed : named_place m.names.items path ≡ Some place
+  pub found : image_bytes m.images.items place ≡ Some bytes
   pub is : file ≡ file-of place bytes
 
 some-bytes : (place : ℕ) (o : Option (List ℕ)) (file : FileRecord) → option_map (λ (b : List ℕ). file-of place b) o ≡ Some file
@@ -49,30 +49,30 @@ some-bytes place (Some bytes) file is = (bytes, refl, sym (same_Some (file-of pl
 some-bytes place None file is = absurd (none-some file is)
 
 is-at : (m : MemoryImages) (path : List ℕ) (file : FileRecord) → file_under m path ≡ Some file → IsAt m path file
-is-at m path file = go (place_of m.names.items path) refl
+is-at m path file = go (named_place m.names.items path) refl
   where
-    go : (o : Option ℕ) → place_of m.names.items path ≡ o → file_at_place m.images.items o ≡ Some file → IsAt m path file
+    go : (o : Option ℕ) → named_place m.names.items path ≡ o → file_at_place m.images.items o ≡ Some file → IsAt m path file
     go None placed is = absurd (none-some file is)
     go (Some place) placed is =
-        let found = some-bytes place (bytes_at m.images.items place) file is in
+        let found = some-bytes place (image_bytes m.images.items place) file is in
         record { place = place; bytes = found.0; placed = placed; found = found.1; is = found.2 }
 
-within : {Z : Type 0} (images : List (Vec ℕ Z)) (place : ℕ) (bytes : List ℕ) → bytes_at images place ≡ Some bytes → place < length images
+within : {Z : Type 0} (images : List (Vec ℕ Z)) (place : ℕ) (bytes : List ℕ) → image_bytes images place ≡ Some bytes → place < length images
 within {Z} images place bytes = go (slice_get images place) refl
   where
     go : (o : Option (Vec ℕ Z)) → slice_get images place ≡ o → option_map (λ (v : Vec ℕ Z). v.items) o ≡ Some bytes → place < length images
     go None at is = absurd (none-some bytes is)
     go (Some image) at is = slice_get_within images place image at
 
-put-at : (old new : MemoryImages) (path : List ℕ) (device : MemoryDev) (place : ℕ) → place_of old.names.items path ≡ Some place → PutsAt (place_of old.names.items path) (memory_bytes device) old new
+put-at : (old new : MemoryImages) (path : List ℕ) (device : MemoryDev) (place : ℕ) → named_place old.names.items path ≡ Some place → PutsAt (named_place old.names.items path) (memory_bytes device) old new
     → PutsAt (Some place) (memory_bytes device) old new
 put-at old new path device place placed = subst (λ (o : Option ℕ). PutsAt o (memory_bytes device) old new) placed
 
 -- names stay, and so do the places that they have
-placed-still : (old new : MemoryImages) (path : List ℕ) (place : ℕ) → new.names ≡ old.names → place_of old.names.items path ≡ Some place → place_of new.names.items path ≡ Some place
-placed-still old new path place same placed = subst (λ names. place_of names.items path ≡ Some place) (sym same) placed
+placed-still : (old new : MemoryImages) (path : List ℕ) (place : ℕ) → new.names ≡ old.names → named_place old.names.items path ≡ Some place → named_place new.names.items path ≡ Some place
+placed-still old new path place same placed = subst (λ names. named_place names.items path ≡ Some place) (sym same) placed
 
-pub image-taken : (old new : MemoryImages) (path : List ℕ) (device : MemoryDev) (file : FileRecord) → PutsAt (place_of old.names.items path) (memory_bytes device) old new
+pub image-taken : (old new : MemoryImages) (path : List ℕ) (device : MemoryDev) (file : FileRecord) → PutsAt (named_place old.names.items path) (memory_bytes device) old new
     → file_under old path ≡ Some file → (file' : FileRecord) × (file_under new path ≡ Some file') × (file'.id ≡ file.id) × HoldsSectors (ghosts.state device) file'
 image-taken old new path device file taken is =
     let at = is-at old path file is in
@@ -86,7 +86,7 @@ image-taken old new path device file taken is =
 apart-places : (place place' : ℕ) (bytes bytes' : List ℕ) → AreApart (file-of place bytes) (file-of place' bytes') → place' ≡ place → ⊥
 apart-places place place' bytes bytes' apart same = false≢true (sym apart.2 ∙ eq-eqb place place' (sym same))
 
-pub others-kept : (old new : MemoryImages) (path other : List ℕ) (device : MemoryDev) (file another : FileRecord) → PutsAt (place_of old.names.items path) (memory_bytes device) old new
+pub others-kept : (old new : MemoryImages) (path other : List ℕ) (device : MemoryDev) (file another : FileRecord) → PutsAt (named_place old.names.items path) (memory_bytes device) old new
     → file_under old path ≡ Some file → file_under old other ≡ Some another → AreApart file another → file_under new other ≡ Some another
 others-kept old new path other device file another taken is is' apart =
     let at = is-at old path file is in
@@ -98,12 +98,12 @@ others-kept old new path other device file another taken is is' apart =
     under new other at'.place at'.bytes (record { placed = placed-still old new other at'.place put.0 at'.placed; found = kept ∙ at'.found }) ∙ ap (λ (f : FileRecord). Some f) (sym at'.is)
 
 -- what stands at a place is changed
-changed-at : (old new : MemoryImages) (path : List ℕ) (change : List ℕ → List ℕ) (place : ℕ) → place_of old.names.items path ≡ Some place → ChangesAt (place_of old.names.items path) change old new
+changed-at : (old new : MemoryImages) (path : List ℕ) (change : List ℕ → List ℕ) (place : ℕ) → named_place old.names.items path ≡ Some place → ChangesAt (named_place old.names.items path) change old new
     → ChangesAt (Some place) change old new
 changed-at old new path change place placed = subst (λ (o : Option ℕ). ChangesAt o change old new) placed
 
 -- so it stands there then
-pub changed : (old new : MemoryImages) (path : List ℕ) (change : List ℕ → List ℕ) (file : FileRecord) → ChangesAt (place_of old.names.items path) change old new
+pub changed : (old new : MemoryImages) (path : List ℕ) (change : List ℕ → List ℕ) (file : FileRecord) → ChangesAt (named_place old.names.items path) change old new
     → file_under old path ≡ Some file → (file' : FileRecord) × (file_under new path ≡ Some file') × (file'.id ≡ file.id) × (file'.bytes ≡ change file.bytes)
 changed old new path change file is_changed is =
     let at = is-at old path file is in
@@ -115,7 +115,7 @@ changed old new path change file is_changed is =
     )
 
 -- and no other one changes
-pub others-unchanged : (old new : MemoryImages) (path other : List ℕ) (change : List ℕ → List ℕ) (file another : FileRecord) → ChangesAt (place_of old.names.items path) change old new
+pub others-unchanged : (old new : MemoryImages) (path other : List ℕ) (change : List ℕ → List ℕ) (file another : FileRecord) → ChangesAt (named_place old.names.items path) change old new
     → file_under old path ≡ Some file → file_under old other ≡ Some another → AreApart file another → file_under new other ≡ Some another
 others-unchanged old new path other change file another is_changed is is' apart =
     let at = is-at old path file is in

@@ -14,8 +14,8 @@ use Rattle.image_files.specs.Promises.{FileRecord, HoldsPart, IsGrown, TakesPart
 use Rattle.memory_images.specs.declared.named_images.MemoryImages.{MemoryImages}
 use Rattle.memory_images.specs.Files.{file_under}
 use Rattle.memory_images.specs.MemoryRelations.{ChangesAt, GrowsAt, IsPartCopy}
-use Rattle.memory_images.specs.Named.{place_of}
-use Rattle.memory_images.specs.Parts.{LiesWithin, grown, part_bytes, with_bytes, with_part}
+use Rattle.memory_images.specs.Named.{named_place}
+use Rattle.memory_images.specs.Parts.{LiesWithin, grown_image, part_bytes, with_bytes, with_part}
 use Rattle.memory_images.proofs.FileLemmas.{changed, file-of, under}
 
 -- sectors of a text's first bytes, whatever stands behind them
@@ -114,7 +114,7 @@ takes device part file file' same size inside is =
     }
 
 pub part-taken : (old new : MemoryImages) (path : List ℕ) (part : Part) (device : MemoryDev) (file : FileRecord)
-    → ChangesAt (place_of old.names.items path) (λ image. with_part image part (memory_bytes device)) old new → file_under old path ≡ Some file
+    → ChangesAt (named_place old.names.items path) (λ image. with_part image part (memory_bytes device)) old new → file_under old path ≡ Some file
     → (ghosts.state device).size ≡ part.count → part.first + part.count ≤ length file.bytes / 512
     → (file' : FileRecord) × (file_under new path ≡ Some file') × TakesPart (ghosts.state device) part file file'
 part-taken old new path part device file is_changed is size inside =
@@ -124,5 +124,5 @@ part-taken old new path part device file is_changed is size inside =
 pub image-grown : (old new : MemoryImages) (path : List ℕ) (sectors : ℕ) (file : FileRecord) → GrowsAt old path sectors (Ok tt) new → file_under old path ≡ Some file
     → (file' : FileRecord) × (file_under new path ≡ Some file') × IsGrown file file' sectors
 image-grown old new path sectors file is_grown is =
-    let c = changed old new path (λ image. grown image sectors) file is_grown is in
+    let c = changed old new path (λ image. grown_image image sectors) file is_grown is in
     (c.0, c.1, record { same = c.2; bytes = c.3 })

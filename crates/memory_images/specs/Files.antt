@@ -4,10 +4,10 @@ use Rattle.std.specs.Option.{option_map}
 use Rattle.image_files.specs.Promises.{FileRecord}
 use Rattle.memory_images.specs.declared.named_images.MemoryImages.{MemoryImages}
 use Rattle.memory_images.specs.MemoryRelations.{id_at}
-use Rattle.memory_images.specs.Named.{bytes_at, place_of}
+use Rattle.memory_images.specs.Named.{image_bytes, named_place}
 
 abbrev pub file_at : {Z : Type 0} → List (Vec ℕ Z) → ℕ → Option FileRecord
-file_at images place = option_map (λ bytes. record { id = id_at place; bytes = bytes }) (bytes_at images place)
+file_at images place = option_map (λ bytes. record { id = id_at place; bytes = bytes }) (image_bytes images place)
 
 abbrev pub file_at_place : {Z : Type 0} → List (Vec ℕ Z) → Option ℕ → Option FileRecord
 file_at_place images None = None
@@ -15,4 +15,4 @@ file_at_place images (Some place) = file_at images place
 
 -- what stands under a path
 abbrev pub file_under : MemoryImages → List ℕ → Option FileRecord
-file_under m path = file_at_place m.images.items (place_of m.names.items path)
+file_under m path = file_at_place m.images.items (named_place m.names.items path)

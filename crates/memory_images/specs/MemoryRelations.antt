@@ -13,8 +13,8 @@ use Rattle.image_files.specs.declared.parts.PartFault.{PartFault}
 use Rattle.image_files.specs.declared.parts.PartFault.TheVariants.{Open, Outside}
 use Rattle.device_window.specs.declared.part.Part.{Part}
 use Rattle.memory_images.specs.declared.named_images.MemoryImages.{MemoryImages}
-use Rattle.memory_images.specs.Named.{IsChanged, IsPut, IsUncopied, Stands, place_of}
-use Rattle.memory_images.specs.Parts.{LiesWithin, grown, part_bytes, with_part}
+use Rattle.memory_images.specs.Named.{IsChanged, AreBytesPut, IsUncopied, Stands, named_place}
+use Rattle.memory_images.specs.Parts.{LiesWithin, grown_image, part_bytes, with_part}
 use Rattle.image_files.specs.Opener.{Opener}
 use Rattle.text_files.specs.declared.texts.ReplaceFault.{ReplaceFault}
 
@@ -54,7 +54,7 @@ TellsText m path most (Err fault) = IsUncopied m.names.items m.images.items path
 -- a device's bytes stand under its path from then on
 abbrev pub PutsAt : Option ℕ → List ℕ → MemoryImages → MemoryImages → Type 0
 PutsAt None bytes old new = new ≡ old
-PutsAt (Some place) bytes old new = (new.names ≡ old.names) × IsPut old.images.items place bytes new.images.items
+PutsAt (Some place) bytes old new = (new.names ≡ old.names) × AreBytesPut old.images.items place bytes new.images.items
 
 -- a device over a copy of the bytes of a part of those that stand under a path
 pub record IsPartCopy (m : MemoryImages) (path : List ℕ) (writable : Bool) (part : Part) (image : OpenImage MemoryDev) : Type 0 where
@@ -85,8 +85,8 @@ ChangesAt (Some place) change old new = (new.names ≡ old.names) × IsChanged o
 
 -- it is grown, or it stays as it is
 abbrev pub GrowsAt : MemoryImages → List ℕ → ℕ → Result (Unit {0}) OpenFault → MemoryImages → Type 0
-GrowsAt old path sectors (Ok done) new = ChangesAt (place_of old.names.items path) (λ image. grown image sectors) old new
-GrowsAt old path sectors (Err fault) new = ChangesAt (place_of old.names.items path) (λ image. image) old new
+GrowsAt old path sectors (Ok done) new = ChangesAt (named_place old.names.items path) (λ image. grown_image image sectors) old new
+GrowsAt old path sectors (Err fault) new = ChangesAt (named_place old.names.items path) (λ image. image) old new
 
 -- whether what stands under a path ends inside a sector
 pub record IsMeasured (m : MemoryImages) (path : List ℕ) (part : Bool) : Type 0 where
@@ -105,7 +105,7 @@ pub record IsReplaced (old : MemoryImages) (path bytes : List ℕ) (new : Memory
   pub held : List ℕ
   pub stands : StandsAt old path place held
   pub names : new.names ≡ old.names
-  pub put : IsPut old.images.items place bytes new.images.items
+  pub put : AreBytesPut old.images.items place bytes new.images.items
 
 -- or all stays as it is
 abbrev pub ReplacesAt : MemoryImages → List ℕ → List ℕ → Result (Unit {0}) ReplaceFault → MemoryImages → Type 0
@@ -117,8 +117,8 @@ memory_relations = record {
   opens = λ old path writable outcome new. (new ≡ old) × OpensCopy old path writable outcome;
   opens_part = λ old path writable part outcome new. (new ≡ old) × OpensPartCopy old path writable part outcome;
   tells = λ old path most outcome new. (new ≡ old) × TellsText old path most outcome;
-  takes = λ old path device new. PutsAt (place_of old.names.items path) (memory_bytes device) old new;
-  takes_part = λ old path part device new. ChangesAt (place_of old.names.items path) (λ image. with_part image part (memory_bytes device)) old new;
+  takes = λ old path device new. PutsAt (named_place old.names.items path) (memory_bytes device) old new;
+  takes_part = λ old path part device new. ChangesAt (named_place old.names.items path) (λ image. with_part image part (memory_bytes device)) old new;
   grows = GrowsAt;
   measures = λ old path outcome new. (new ≡ old) × Measures old path outcome;
   replaces = ReplacesAt;

@@ -6,17 +6,17 @@ use Rattle.block_device.specs.declared.open_fault.OpenFault.{OpenFault}
 use Rattle.block_device.specs.declared.open_fault.OpenFault.TheVariants.{NotFound, NoMemory}
 
 -- the first place with that name
-abbrev pub place_of : {Z : Type 0} → List (String Z) → List ℕ → Option ℕ
-place_of names path = position (λ name. pointwise nat_eq (string_bytes name) path) names
+abbrev pub named_place : {Z : Type 0} → List (String Z) → List ℕ → Option ℕ
+named_place names path = position (λ name. pointwise nat_eq (string_bytes name) path) names
 
 -- the bytes at a place
-abbrev pub bytes_at : {Z : Type 0} → List (Vec ℕ Z) → ℕ → Option (List ℕ)
-bytes_at images place = option_map (λ bytes. bytes.items) (slice_get images place)
+abbrev pub image_bytes : {Z : Type 0} → List (Vec ℕ Z) → ℕ → Option (List ℕ)
+image_bytes images place = option_map (λ bytes. bytes.items) (slice_get images place)
 
 -- these bytes stand at this place, which is the first with that name
 pub record Stands {Z : Type 0} (names : List (String Z)) (images : List (Vec ℕ Z)) (path : List ℕ) (place : ℕ) (bytes : List ℕ) : Type 0 where
-  pub placed : place_of names path ≡ Some place
-  pub found : bytes_at images place ≡ Some bytes
+  pub placed : named_place names path ≡ Some place
+  pub found : image_bytes images place ≡ Some bytes
 
 -- nothing stands under a path
 abbrev pub IsMissing : {Z : Type 0} → List (String Z) → List (Vec ℕ Z) → List ℕ → Type 0
@@ -30,10 +30,10 @@ IsUncopied names images path fault = ⊥
 
 -- the bytes at a place were changed so
 pub record IsChanged {Z : Type 0} (old : List (Vec ℕ Z)) (place : ℕ) (change : List ℕ → List ℕ) (new : List (Vec ℕ Z)) : Type 0 where
-  pub here : bytes_at new place ≡ option_map change (bytes_at old place)
-  pub others : (k : ℕ) → (k ≡ place → ⊥) → bytes_at new k ≡ bytes_at old k
+  pub here : image_bytes new place ≡ option_map change (image_bytes old place)
+  pub others : (k : ℕ) → (k ≡ place → ⊥) → image_bytes new k ≡ image_bytes old k
 
 -- bytes were put in at a place
-pub record IsPut {Z : Type 0} (old : List (Vec ℕ Z)) (place : ℕ) (bytes : List ℕ) (new : List (Vec ℕ Z)) : Type 0 where
-  pub here : place < length old → bytes_at new place ≡ Some bytes
-  pub others : (k : ℕ) → (k ≡ place → ⊥) → bytes_at new k ≡ bytes_at old k
+pub record AreBytesPut {Z : Type 0} (old : List (Vec ℕ Z)) (place : ℕ) (bytes : List ℕ) (new : List (Vec ℕ Z)) : Type 0 where
+  pub here : place < length old → image_bytes new place ≡ Some bytes
+  pub others : (k : ℕ) → (k ≡ place → ⊥) → image_bytes new k ≡ image_bytes old k

@@ -20,5 +20,5 @@ with_part image part bytes =
     if nat_le (part.first + part.count) (length image / 512) then with_bytes image (part.first * 512) (take (part.count * 512) bytes) else image
 
 -- at least so many sectors, with zeros behind what there is
-abbrev pub grown : List ℕ → ℕ → List ℕ
-grown image sectors = image ++ replicate (sectors * 512 - length image) 0
+abbrev pub grown_image : List ℕ → ℕ → List ℕ
+grown_image image sectors = image ++ replicate (sectors * 512 - length image) 0

@@ -1,7 +1,7 @@
 //! Images in memory.
 ghost use Rattle.std.specs.Prelude.{◌≡◌, IfErr, IfOk, OnErr, OnOk};
-ghost use Rattle.memory_images.specs.Named.{IsChanged, IsPut, IsUncopied, Stands, place_of};
-ghost use Rattle.memory_images.specs.Parts.{grown, with_part};
+ghost use Rattle.memory_images.specs.Named.{IsChanged, AreBytesPut, IsUncopied, Stands, named_place};
+ghost use Rattle.memory_images.specs.Parts.{grown_image, with_part};
 
 use crate::part::{lengthen, overwrite, part_of};
 use block_device::{FileId, MemoryDev, OpenFault};
@@ -32,7 +32,7 @@ impl MemoryImages {
 
 // The first place with that name.
 fn place_of(names: &[String], path: &str) -> Option<usize>
-    ensures { result ≡ place_of names.now path.now }
+    ensures { result ≡ named_place names.now path.now }
 {
     names.iter().position(|name| name.as_str() == path)
 }
@@ -65,7 +65,7 @@ fn copy_of(bytes: &Vec<u8>) -> Result<Vec<u8>, AllocError>
 }
 
 fn put_image(images: &mut Vec<Vec<u8>>, place: usize, bytes: Vec<u8>)
-    ensures { IsPut images.old.items place bytes.items images.new.items }
+    ensures { AreBytesPut images.old.items place bytes.items images.new.items }
 {
     if let Some(image) = images.get_mut(place) {
         *image = bytes;
@@ -73,7 +73,7 @@ fn put_image(images: &mut Vec<Vec<u8>>, place: usize, bytes: Vec<u8>)
 }
 
 fn grow_image(images: &mut Vec<Vec<u8>>, place: usize, sectors: u64) -> Result<(), OpenFault>
-    ensures ok { OnOk result (IsChanged images.old.items place (λ image. grown image sectors) images.new.items) }
+    ensures ok { OnOk result (IsChanged images.old.items place (λ image. grown_image image sectors) images.new.items) }
     ensures err { OnErr result (IsChanged images.old.items place (λ image. image) images.new.items) }
 {
     match images.get_mut(place) {

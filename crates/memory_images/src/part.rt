@@ -1,6 +1,6 @@
 //! Parts of the bytes of an image.
 ghost use Rattle.std.specs.Prelude.{◌≡◌, ◌↔◌, IfSome, IsSome, OnErr, OnOk, length};
-ghost use Rattle.memory_images.specs.Parts.{LiesWithin, grown, part_bytes, with_bytes, with_part};
+ghost use Rattle.memory_images.specs.Parts.{LiesWithin, grown_image, part_bytes, with_bytes, with_part};
 
 use block_device::OpenFault;
 use device_window::Part;
@@ -49,7 +49,7 @@ fn put_at(image: &mut Vec<u8>, offset: usize, bytes: &[u8])
 
 /// The image with zeros behind it, so that it has at least so many sectors.
 pub fn lengthen(image: &mut Vec<u8>, sectors: u64) -> Result<(), OpenFault>
-    ensures ok { OnOk result (image.new.items ≡ grown image.old.items sectors) }
+    ensures ok { OnOk result (image.new.items ≡ grown_image image.old.items sectors) }
     ensures err { OnErr result (image.new.items ≡ image.old.items) }
 {
     if sectors > MOST_SECTORS {

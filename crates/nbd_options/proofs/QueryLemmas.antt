@@ -1,7 +1,7 @@
 -- Queries, one after another.
 use Rattle.std.proofs.Common.{◌≡◌, ℕ, suc, List, Option, None, Some, ap}
 use Rattle.std.specs.Prelude.{IfSome, ◌||◌, not, Bool, true, false, if◌then◌else◌}
-use Rattle.nbd_options.specs.Contexts.{behind_string, ended, is_string, names_context, queried, string_in}
+use Rattle.nbd_options.specs.Contexts.{behind_string, named_at_end, is_string, names_context, queried, string_in}
 
 pub query-step : (listing found : Bool) (n : ℕ) (rest : List ℕ) → is_string rest ≡ true → queried listing found (suc n) rest ≡ queried listing (found || names_context listing (string_in rest)) n (behind_string rest)
 unfolding queried
@@ -11,7 +11,7 @@ pub query-none : (listing found : Bool) (n : ℕ) (rest : List ℕ) → is_strin
 unfolding queried
 query-none listing found n rest is = ap (λ (b : Bool). if not b then None else queried listing (found || names_context listing (string_in rest)) n (behind_string rest)) is
 
-pub query-end : (listing found : Bool) (left : ℕ) (rest : List ℕ) → left ≡ 0 → queried listing found left rest ≡ ended found rest
+pub query-end : (listing found : Bool) (left : ℕ) (rest : List ℕ) → left ≡ 0 → queried listing found left rest ≡ named_at_end found rest
 unfolding queried
 query-end listing found left rest none = ap (λ (n : ℕ). queried listing found n rest) none
 

@@ -2,7 +2,7 @@
 -- querying", NBD_OPT_LIST_META_CONTEXT and NBD_OPT_SET_META_CONTEXT).
 use Rattle.std.specs.Prelude.{ℕ, zero, suc, ◌+◌, ◌==◌, ◌&&◌, ◌||◌, not, nat_le, Bool, true, false, List, [], ◌++◌, length, take, drop, codes, Option, Some, None, if◌then◌else◌}
 use Rattle.std.specs.Str.{bytes_eq}
-use Rattle.nbd_protocol.specs.Numbers.{number32, bytes32}
+use Rattle.nbd_protocol.specs.Numbers.{big_endian32, bytes32}
 use Rattle.nbd_protocol.specs.Exports.{ExportRecord, asked}
 use Rattle.nbd_options.specs.OptionReplies.{acknowledged, refused, reply_head}
 use Rattle.nbd_protocol.specs.declared.phase.Terms.{Terms}
@@ -18,13 +18,13 @@ set_context = 10
 -- ---- strings: a length, and so many bytes
 
 abbrev pub is_string : List ℕ → Bool
-is_string bytes = nat_le 4 (length bytes) && nat_le (4 + number32 bytes 0) (length bytes)
+is_string bytes = nat_le 4 (length bytes) && nat_le (4 + big_endian32 bytes 0) (length bytes)
 
 abbrev pub string_in : List ℕ → List ℕ
-string_in bytes = take (number32 bytes 0) (drop 4 bytes)
+string_in bytes = take (big_endian32 bytes 0) (drop 4 bytes)
 
 abbrev pub behind_string : List ℕ → List ℕ
-behind_string bytes = drop (4 + number32 bytes 0) bytes
+behind_string bytes = drop (4 + big_endian32 bytes 0) bytes
 
 -- ---- queries
 
@@ -44,17 +44,17 @@ abbrev pub is_of_all : Bool → ℕ → Bool
 is_of_all listing count = listing && (count == 0)
 
 -- whether it was named, where nothing is left
-abbrev pub ended : Bool → List ℕ → Option Bool
-ended named rest = if length rest == 0 then Some named else None
+abbrev pub named_at_end : Bool → List ℕ → Option Bool
+named_at_end named rest = if length rest == 0 then Some named else None
 
 -- whether it was named, or one of n queries names it; none where they don't have the length that they say
 unfoldable pub queried : Bool → Bool → ℕ → List ℕ → Option Bool
-queried listing named zero rest = ended named rest
+queried listing named zero rest = named_at_end named rest
 queried listing named (suc n) rest = if not (is_string rest) then None else queried listing (named || names_context listing (string_in rest)) n (behind_string rest)
 
 -- the data: an export's name, how many queries there are, and these
 abbrev pub wanted_of : Bool → List ℕ → Option Bool
-wanted_of listing bytes = queried listing (is_of_all listing (number32 bytes 0)) (number32 bytes 0) (drop 4 bytes)
+wanted_of listing bytes = queried listing (is_of_all listing (big_endian32 bytes 0)) (big_endian32 bytes 0) (drop 4 bytes)
 
 abbrev pub wants_context : Bool → List ℕ → Option Bool
 wants_context listing content =

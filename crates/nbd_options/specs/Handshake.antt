@@ -1,6 +1,6 @@
 -- The handshake: the greeting, the client's flags, and the options that it haggles over.
 use Rattle.std.specs.Prelude.{ℕ, ◌+◌, ◌*◌, ◌==◌, ◌&&◌, ◌||◌, not, nat_le, Bool, false, List, [], ◌∷◌, ◌++◌, flat_map, length, take, drop, replicate, codes, is_some, Option, Some, None, if◌then◌else◌}
-use Rattle.nbd_protocol.specs.Numbers.{number16, number32, bytes16, bytes32, bytes64}
+use Rattle.nbd_protocol.specs.Numbers.{big_endian16, big_endian32, bytes16, bytes32, bytes64}
 use Rattle.nbd_options.specs.OptionReplies.{acknowledged, refused, reply_head}
 use Rattle.nbd_options.specs.Contexts.{contexts_reply, status_after, list_context, set_context}
 use Rattle.nbd_protocol.specs.Exports.{ExportRecord, asked, export_at, transmission_flags}
@@ -38,14 +38,14 @@ name_field e = bytes32 (length e.name) ++ e.name
 -- ---- INFO and GO: the length of a name, the name, how many facts are wanted, and two bytes for each
 
 abbrev pub name_in : List ℕ → List ℕ
-name_in content = take (number32 content 0) (drop 4 content)
+name_in content = take (big_endian32 content 0) (drop 4 content)
 
 abbrev pub wanted_in : List ℕ → List ℕ
-wanted_in content = drop (6 + number32 content 0) content
+wanted_in content = drop (6 + big_endian32 content 0) content
 
 -- the data of such an option have the length that they say
 abbrev pub is_info : List ℕ → Bool
-is_info content = nat_le 6 (length content) && (nat_le (number32 content 0 + 6) (length content) && (length content == number32 content 0 + 6 + 2 * number16 content (4 + number32 content 0)))
+is_info content = nat_le 6 (length content) && (nat_le (big_endian32 content 0 + 6) (length content) && (length content == big_endian32 content 0 + 6 + 2 * big_endian16 content (4 + big_endian32 content 0)))
 
 -- the block sizes are among the facts
 abbrev pub wants_sizes : List ℕ → Bool

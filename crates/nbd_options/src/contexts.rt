@@ -2,7 +2,7 @@
 ghost use Rattle.std.specs.Prelude.{◌≡◌, ◌≤◌, ◌||◌, false, length, true, IfSome};
 ghost use Rattle.std.specs.Str.{bytes_eq};
 ghost use Rattle.counted_io.specs.Counted.{Writes};
-ghost use Rattle.nbd_options.specs.Contexts.{behind_string, context_name, context_namespace, context_number, context_of, contexts_at, contexts_reply, ended, is_of_all, is_string, named_context, names_context, queried, selected, status_after, string_in, told_context, wanted_of, wants_context};
+ghost use Rattle.nbd_options.specs.Contexts.{behind_string, context_name, context_namespace, context_number, context_of, contexts_at, contexts_reply, named_at_end, is_of_all, is_string, named_context, names_context, queried, selected, status_after, string_in, told_context, wanted_of, wants_context};
 ghost use Rattle.nbd_protocol.specs.Exports.{asked, export_records};
 
 use crate::option_reply::{Refusal, acknowledge, refuse, say_head};
@@ -78,7 +78,7 @@ fn is_named(listing: bool, named: bool, query: &[u8]) -> bool
 
 // Whether the context was named, where nothing is left.
 fn ended(named: bool, rest: &[u8]) -> Option<bool>
-    ensures { result ≡ ended named rest.now }
+    ensures { result ≡ named_at_end named rest.now }
 {
     if rest.is_empty() { Some(named) } else { None }
 }

@@ -43,12 +43,12 @@ abbrev pub export_at : List ExportRecord → ℕ → ExportRecord
 export_at es place = get_or es place no_export
 
 -- the place of the first export of that name
-abbrev pub place_of : List ExportRecord → List ℕ → Option ℕ
-place_of es name = position (λ e. bytes_eq e.name name) es
+abbrev pub export_place : List ExportRecord → List ℕ → Option ℕ
+export_place es name = position (λ e. bytes_eq e.name name) es
 
 -- the place of the export that a client asks for: the one of that name; the empty name is that of an only export
 unfoldable pub asked : List ExportRecord → List ℕ → Option ℕ
-asked es name = if (length name == 0) && (length es == 1) then Some 0 else place_of es name
+asked es name = if (length name == 0) && (length es == 1) then Some 0 else export_place es name
 
 abbrev pub export_records : List Export → List ExportRecord
 export_records exports = map export_record exports

@@ -2,7 +2,7 @@
 use Rattle.std.specs.Prelude.{◌<◌, ◌≤◌, ℕ, ◌+◌, ◌*◌, ◌%◌, ◌==◌, ◌&&◌, ◌||◌, Bool, IsTrue, not, nat_le, nat_lt, List, Result, Ok, Err, if◌then◌else◌}
 use Rattle.stack_meaning.specs.declared.fault.IoFault.{IoFault}
 use Rattle.stack_meaning.specs.declared.fault.IoFault.TheVariants as io
-use Rattle.nbd_protocol.specs.Numbers.{number16, number32, number64}
+use Rattle.nbd_protocol.specs.Numbers.{big_endian16, big_endian32, big_endian64}
 use Rattle.nbd_protocol.specs.Exports.{ExportRecord}
 use Rattle.nbd_protocol.specs.declared.phase.Agreement.{Agreement}
 use Rattle.nbd_protocol.specs.declared.header.Header.{Header}
@@ -21,11 +21,11 @@ request_magic = 0x25609513
 -- the fields behind the magic
 abbrev pub header_of : List ℕ → Header
 header_of bytes = record {
-  flags = number16 bytes 4;
-  kind = number16 bytes 6;
-  cookie = number64 bytes 8;
-  offset = number64 bytes 16;
-  length = number32 bytes 24;
+  flags = big_endian16 bytes 4;
+  kind = big_endian16 bytes 6;
+  cookie = big_endian64 bytes 8;
+  offset = big_endian64 bytes 16;
+  length = big_endian32 bytes 24;
 }
 
 -- The flag that a request may have beside FUA, which is 1: NO_HOLE of WRITE_ZEROES, DF of a READ that is answered by

@@ -8,11 +8,11 @@ abbrev pub AreNames : List DeviceRecord → List (List ℕ) → Type 0
 AreNames devices names = names ≡ map (λ d. d.name) devices
 
 -- the export of that name was added, or there is none
-abbrev pub Adds : Configuration → List ℕ → List ExportRecord → List ExportRecord → Type 0
-Adds c name es es' =
+abbrev pub AddsExport : Configuration → List ℕ → List ExportRecord → List ExportRecord → Type 0
+AddsExport c name es es' =
     ((e : ExportRecord) × IsExport c e × (e.name ≡ name) × (es' ≡ es ++ e ∷ [])) ⊎ (HasNoExport c name × (es' ≡ es))
 
 -- The exports of these names, in their order: one whose name or size the protocol can't tell is left out.
 pub data Offers (c : Configuration) : List (List ℕ) → List ExportRecord → Type 0 where
   offers_none : Offers c [] []
-  offers_more : {names : List (List ℕ)} {es es' : List ExportRecord} (name : List ℕ) → Offers c names es → Adds c name es es' → Offers c (names ++ name ∷ []) es'
+  offers_more : {names : List (List ℕ)} {es es' : List ExportRecord} (name : List ℕ) → Offers c names es → AddsExport c name es es' → Offers c (names ++ name ∷ []) es'

@@ -9,9 +9,9 @@ use Rattle.nbd_protocol.specs.declared.fault.ServiceFault.{ServiceFault}
 use Rattle.nbd_protocol.specs.declared.fault.ServiceFault.TheVariants.{Lost, ReadFault, WriteFault}
 
 -- the fault of what has one
-abbrev pub fault_of : {T : Type 0} → Result T ServiceFault → Option ServiceFault
-fault_of (Ok value) = None
-fault_of (Err fault) = Some fault
+abbrev pub result_fault : {T : Type 0} → Result T ServiceFault → Option ServiceFault
+result_fault (Ok value) = None
+result_fault (Err fault) = Some fault
 
 -- A reader that was called at least n times. No call failed, unless the fault says so: then one did, or the reader
 -- was called 2^64 - 1 times.

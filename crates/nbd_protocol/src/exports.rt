@@ -1,12 +1,12 @@
 //! The exports of a service, in the order in which a client is told of them.
 ghost use Rattle.std.specs.Prelude.{◌≡◌, ◌<◌, length, IfSome};
-ghost use Rattle.nbd_protocol.specs.Exports.{asked, export_at, export_record, export_records, place_of};
+ghost use Rattle.nbd_protocol.specs.Exports.{asked, export_at, export_record, export_records, export_place};
 
 use crate::export::Export;
 
 // The place of the first export of that name.
 fn place_of(exports: &[Export<'_>], name: &[u8]) -> Option<usize>
-    ensures { result ≡ place_of (export_records exports.now) name.now }
+    ensures { result ≡ export_place (export_records exports.now) name.now }
 {
     exports.iter().position(|export| export.name == name)
 }

@@ -1,7 +1,7 @@
 //! Takes bytes from a client.
 ghost use Rattle.std.specs.Prelude.{◌≡◌, ℕ, ◌<◌, ◌≤◌, ◌+◌, ◌*◌, ◌^◌, drop, length, take, OnOk, IfOk, IfErr};
 ghost use Rattle.nbd_protocol.specs.Streaming.{HavePlace};
-ghost use Rattle.nbd_protocol.specs.Streaming.{Fills, HasRead, IsShort, Takes, TakesToPlace, fault_of};
+ghost use Rattle.nbd_protocol.specs.Streaming.{Fills, HasRead, IsShort, Takes, TakesToPlace, result_fault};
 
 use crate::fault::ServiceFault;
 use counted_io::Counted;
@@ -14,7 +14,7 @@ const PIECE: usize = 4096;
 pub fn fill<R: Read>(reader: &mut Counted<R>, buffer: &mut [u8]) -> Result<bool, ServiceFault>
     requires { 0 < length buffer.old }
     ensures filled { Fills (R.remaining reader.old.inner) (R.remaining reader.new.inner) buffer.new result }
-    ensures reader { HasRead 1 reader.old reader.new (fault_of result) }
+    ensures reader { HasRead 1 reader.old reader.new (result_fault result) }
 {
     let mut done = 0;
     for _turn in 0..u64::MAX {
@@ -41,7 +41,7 @@ pub fn fill<R: Read>(reader: &mut Counted<R>, buffer: &mut [u8]) -> Result<bool,
 pub fn skip<R: Read>(reader: &mut Counted<R>, count: u32) -> Result<(), ServiceFault>
     ensures ok { OnOk result (Takes count (R.remaining reader.old.inner) (R.remaining reader.new.inner)) }
     ensures err { IfErr result (IsShort count (R.remaining reader.old.inner) (R.remaining reader.new.inner)) }
-    ensures reader { HasRead 0 reader.old reader.new (fault_of result) }
+    ensures reader { HasRead 0 reader.old reader.new (result_fault result) }
 {
     let mut piece = [0u8; PIECE];
     let mut left = count as usize;
@@ -65,7 +65,7 @@ pub fn fill_part<R: Read>(
     requires some { 0 < count }
     requires inside { start + count ≤ length buffer.old }
     ensures filled { Fills (R.remaining reader.old.inner) (R.remaining reader.new.inner) (take count (drop start buffer.new)) result }
-    ensures reader { HasRead 1 reader.old reader.new (fault_of result) }
+    ensures reader { HasRead 1 reader.old reader.new (result_fault result) }
 {
     fill(reader, &mut buffer[start..start + count])
 }
@@ -81,7 +81,7 @@ pub fn take_sectors<R: Read>(
     requires { HavePlace sectors start count }
     ensures ok { IfOk result (λ found. TakesToPlace found sectors start count (R.remaining reader.old.inner) (R.remaining reader.new.inner)) }
     ensures err { IfErr result (IsShort count (R.remaining reader.old.inner) (R.remaining reader.new.inner)) }
-    ensures reader { HasRead 0 reader.old reader.new (fault_of result) }
+    ensures reader { HasRead 0 reader.old reader.new (result_fault result) }
 {
     let Ok(mut bytes) = zeros(alloc, 512 * sectors) else {
         skip(reader, count)?;

@@ -1,7 +1,7 @@
 //! Numbers in network byte order.
 ghost use Rattle.std.specs.Prelude.{◌≡◌, ◌+◌, ◌≤◌, length};
 ghost use Rattle.counted_io.specs.Counted.{Writes};
-ghost use Rattle.nbd_protocol.specs.Numbers.{bytes16, bytes32, bytes64, number16, number32, number64};
+ghost use Rattle.nbd_protocol.specs.Numbers.{bytes16, bytes32, bytes64, big_endian16, big_endian32, big_endian64};
 
 use counted_io::{Counted, WriteFault};
 use std::io::Write;
@@ -9,7 +9,7 @@ use std::io::Write;
 /// The number in two bytes from a place on.
 pub fn number16(bytes: &[u8], at: usize) -> u16
     requires { at + 2 ≤ length bytes.now }
-    ensures { result ≡ number16 bytes.now at }
+    ensures { result ≡ big_endian16 bytes.now at }
 {
     let mut number = [0; 2];
     number.copy_from_slice(&bytes[at..at + 2]);
@@ -19,7 +19,7 @@ pub fn number16(bytes: &[u8], at: usize) -> u16
 /// The number in four bytes from a place on.
 pub fn number32(bytes: &[u8], at: usize) -> u32
     requires { at + 4 ≤ length bytes.now }
-    ensures { result ≡ number32 bytes.now at }
+    ensures { result ≡ big_endian32 bytes.now at }
 {
     let mut number = [0; 4];
     number.copy_from_slice(&bytes[at..at + 4]);
@@ -29,7 +29,7 @@ pub fn number32(bytes: &[u8], at: usize) -> u32
 /// The number in eight bytes from a place on.
 pub fn number64(bytes: &[u8], at: usize) -> u64
     requires { at + 8 ≤ length bytes.now }
-    ensures { result ≡ number64 bytes.now at }
+    ensures { result ≡ big_endian64 bytes.now at }
 {
     let mut number = [0; 8];
     number.copy_from_slice(&bytes[at..at + 8]);

@@ -1,7 +1,7 @@
 //! The devices of a stack, each as an export under its name.
 ghost use Rattle.std.specs.Prelude.{◌≡◌, map, IfOk, OnOk};
 ghost use Rattle.nbd_protocol.specs.Exports.{export_records};
-ghost use Rattle.nbd_protocol.specs.Offers.{Adds, AreNames, Offers};
+ghost use Rattle.nbd_protocol.specs.Offers.{AddsExport, AreNames, Offers};
 
 use crate::export::Export;
 use stack_config::Config;
@@ -20,7 +20,7 @@ pub fn names_of(alloc: Global, config: &Config) -> Result<Vec<Vec<u8>>, AllocErr
 
 // Adds the export of that name, if there is one.
 fn add<'a>(exports: &mut Vec<Export<'a>>, config: &Config, name: &'a [u8]) -> Result<(), AllocError>
-    ensures { OnOk result (Adds config.now name.now (export_records exports.old.items) (export_records exports.new.items)) }
+    ensures { OnOk result (AddsExport config.now name.now (export_records exports.old.items) (export_records exports.new.items)) }
 {
     match Export::of(config, name) {
         Some(export) => Ok(exports.push(export)?),

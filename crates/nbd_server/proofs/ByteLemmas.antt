@@ -15,10 +15,10 @@ use Rattle.nbd_protocol.specs.declared.request_error.RequestError.TheVariants.{N
 use Rattle.nbd_protocol.specs.Exports.{ExportRecord}
 use Rattle.nbd_protocol.specs.Headers.{cache_command, command_of, flush_command, has_fua, has_offered, payload_len, most_length, read_command, status_command, trim_command, write_command, zero_command}
 use Rattle.nbd_server.specs.Premises.{IsBare}
-use Rattle.nbd_server.specs.Sectors.{IsStored, FailsToStore, FailsToZero}
+use Rattle.nbd_server.specs.Sectors.{IsStored, FailsToPutAll, FailsToZero}
 use Rattle.nbd_server.specs.Replies.{RequestOutcome}
 use Rattle.nbd_server.specs.Status.{touched}
-use Rattle.nbd_server.specs.Transmission.{FailsToReadEnds, Flushes, IsFramed, IsInside, IsPart, IsSendable, data_of, ReadsBytes, ReadsEnds, Serves, ServesCommand, Settles, Stays, WritesBytes, WritesGiven, WritesPart, WritesSome, room_behind, written}
+use Rattle.nbd_server.specs.Transmission.{FailsToReadEnds, Flushes, IsFramed, IsPartInside, IsPart, IsSendable, reply_data, ReadsExport, ReadsEnds, ServesRequest, ServesCommand, Settles, Stays, WritesExport, WritesGiven, WritesPart, WritesAny, room_behind, no_bytes}
 
 -- ---- what stands around some bytes
 
@@ -58,11 +58,11 @@ module _ (offset len : ℕ) (bytes : List ℕ) (room : length bytes ≡ 512 * to
 -- ---- how a write ends
 
 pub ends-unread : (e : ExportRecord) (w mid w' : World) (offset len : ℕ) (before : List ℕ) (error : RequestError)
-    → ReadsBytes e w (offset - offset % 512) (offset % 512) (Ok before) mid → ReadsBytes e mid (offset + len) (room_behind offset len) (Err error) w' → FailsToReadEnds e w offset len error w'
+    → ReadsExport e w (offset - offset % 512) (offset % 512) (Ok before) mid → ReadsExport e mid (offset + len) (room_behind offset len) (Err error) w' → FailsToReadEnds e w offset len error w'
 ends-unread e w mid w' offset len before error p q = inr (before, mid, p, q)
 
 pub writes-ended : (e : ExportRecord) (w mid w' : World) (offset : ℕ) (bytes sectors : List ℕ) (result : Result Unit RequestError) → IsFramed e w offset bytes sectors mid
-    → OnOk result (IsStored mid e.device (offset / 512) sectors w') → IfErr result (λ error. FailsToStore mid e.device (offset / 512) sectors error w') → WritesBytes e w offset bytes (written result) w'
+    → OnOk result (IsStored mid e.device (offset / 512) sectors w') → IfErr result (λ error. FailsToPutAll mid e.device (offset / 512) sectors error w') → WritesExport e w offset bytes (no_bytes result) w'
 writes-ended e w mid w' offset bytes sectors (Ok done) f ok err = (refl, sectors, mid, f, ok)
 writes-ended e w mid w' offset bytes sectors (Err error) f ok err = inr (sectors, mid, f, err)
 
@@ -137,7 +137,7 @@ module _ (offset length : ℕ) (fua : Bool) where
       (write-length (nat_lt most_length h.length) (not e.writable) past h.offset h.length (has_fua h)) is
 
 pub served-write : (e : ExportRecord) (a : Agreement) (w w' : World) (h : Header) (offset length : ℕ) (fua : Bool) (payload : List ℕ) (outcome : RequestOutcome) → command_of e a h ≡ Ok (Write offset length fua)
-    → Settles fua (WritesGiven e w offset payload) outcome w' → Serves e a w h payload outcome w'
+    → Settles fua (WritesGiven e w offset payload) outcome w' → ServesRequest e a w h payload outcome w'
 served-write e a w w' h offset length fua payload outcome command p = subst (λ c. ServesCommand e w c payload outcome w') (sym command) p
 
 -- ---- commands that no bytes follow
@@ -168,14 +168,14 @@ unsettled true Does w' error p = inl p
 
 -- ---- zeros
 
-some-written : (e : ExportRecord) (w : World) (offset : ℕ) (bytes : List ℕ) (outcome : RequestOutcome) (w' : World) → 0 < length bytes → WritesBytes e w offset bytes outcome w' ⊎ WritesPart e w offset bytes outcome w'
-    → WritesSome e w offset bytes outcome w'
+some-written : (e : ExportRecord) (w : World) (offset : ℕ) (bytes : List ℕ) (outcome : RequestOutcome) (w' : World) → 0 < length bytes → WritesExport e w offset bytes outcome w' ⊎ WritesPart e w offset bytes outcome w'
+    → WritesAny e w offset bytes outcome w'
 some-written e w offset [] outcome w' some p = absurd (omega (arith, some))
 some-written e w offset (byte ∷ more) outcome w' some p = p
 
 zeroed : (e : ExportRecord) (w mid w' : World) (offset : ℕ) (bytes sectors : List ℕ) (result : Result Unit RequestError) → IsFramed e w offset bytes sectors mid
     → OnOk result (IsStored mid e.device (offset / 512) sectors w') → IfErr result (λ error. FailsToZero mid e.device (offset / 512) sectors error w')
-    → WritesBytes e w offset bytes (written result) w' ⊎ WritesPart e w offset bytes (written result) w'
+    → WritesExport e w offset bytes (no_bytes result) w' ⊎ WritesPart e w offset bytes (no_bytes result) w'
 zeroed e w mid w' offset bytes sectors (Ok done) f ok err = inl (refl, sectors, mid, f, ok)
 zeroed e w mid w' offset bytes sectors (Err error) f ok (inl err) = inl (inr (sectors, mid, f, err))
 zeroed e w mid w' offset bytes sectors (Err error) f ok (inr err) = inr (ap (λ x. Err x) err.0, sectors, mid, f, err.1)
@@ -184,24 +184,24 @@ module _ (e : ExportRecord) (w mid w' : World) (offset len : ℕ) (some : 0 < le
   zeros-some : 0 < length {A = ℕ} (replicate len 0)
   zeros-some = omega (arith, length-replicate {A = ℕ} len 0, some)
 
-  pub zeros-unread : (error : RequestError) → FailsToReadEnds e w offset len error w' → WritesSome e w offset (replicate len 0) (Err error) w'
+  pub zeros-unread : (error : RequestError) → FailsToReadEnds e w offset len error w' → WritesAny e w offset (replicate len 0) (Err error) w'
   zeros-unread error p = some-written e w offset (replicate len 0) (Err error) w' zeros-some (inl (inl (subst (λ n. FailsToReadEnds e w offset n error w') (sym (length-replicate {A = ℕ} len 0)) p)))
 
   pub zeros-written : (before behind : List ℕ) (result : Result Unit RequestError) → ReadsEnds e w offset len before behind mid → OnOk result (IsStored mid e.device (offset / 512) (before ++ (replicate len 0 ++ behind)) w')
-      → IfErr result (λ error. FailsToZero mid e.device (offset / 512) (before ++ (replicate len 0 ++ behind)) error w') → WritesSome e w offset (replicate len 0) (written result) w'
+      → IfErr result (λ error. FailsToZero mid e.device (offset / 512) (before ++ (replicate len 0 ++ behind)) error w') → WritesAny e w offset (replicate len 0) (no_bytes result) w'
   zeros-written before behind result p ok err =
       let sectors = before ++ (replicate len 0 ++ behind) in
       let framed : IsFramed e w offset (replicate len 0) sectors mid =
       record { before = before; behind = behind; ends = subst (λ n. ReadsEnds e w offset n before behind mid) (sym (length-replicate {A = ℕ} len 0)) p; sectors_are = refl } in
-      some-written e w offset (replicate len 0) (written result) w' zeros-some (zeroed e w mid w' offset (replicate len 0) sectors result framed ok err)
+      some-written e w offset (replicate len 0) (no_bytes result) w' zeros-some (zeroed e w mid w' offset (replicate len 0) sectors result framed ok err)
 
 -- ---- what can be sent
 
 -- as many bytes as were asked for
-pub sendable : (len : ℕ) (outcome : Result Data RequestError) → IsInside outcome → IfOk outcome (λ d. d.length ≡ len) → len ≤ most_length → IsSendable outcome
+pub sendable : (len : ℕ) (outcome : Result Data RequestError) → IsPartInside outcome → IfOk outcome (λ d. d.length ≡ len) → len ≤ most_length → IsSendable outcome
 sendable len (Ok d) inside size few = record { inside = inside; few = omega (arith, size, few) }
 sendable len (Err error) inside size few = tt
 
 -- their chunk has a length that fits
-pub fits-chunk : (d : Data) → IsPart d → 8 + length (data_of d) < 2 ^ 32
+pub fits-chunk : (d : Data) → IsPart d → 8 + length (reply_data d) < 2 ^ 32
 fits-chunk d p = omega (arith, length-take d.length (drop d.start d.bytes.items), p.few)

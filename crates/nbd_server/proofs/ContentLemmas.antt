@@ -10,7 +10,7 @@ use Rattle.std.proofs.Math.Seq.{take-add, take-length}
 use Rattle.counted_io.specs.Counted.{CountedRecord, Writes, WritesSome}
 use Rattle.counted_io.specs.declared.fault.WriteFault.{WriteFault}
 use Rattle.nbd_chunks.specs.Chunks.{data_chunk, hole_chunk}
-use Rattle.nbd_server.specs.Content.{HaveData, Tells, TellsData, some_hole}
+use Rattle.nbd_server.specs.Content.{HaveData, TellsContent, TellsData, some_hole}
 
 -- ---- zeros
 
@@ -81,7 +81,7 @@ pub hole-some : (last : Bool) (cookie at n : ℕ) → 0 < n → some_hole last c
 hole-some last cookie at n some = let more : (n == 0) ≡ false = grind (arith, some) in ap (λ b. if b then [] else hole_chunk last cookie at n) more
 
 -- all are zeros
-pub told-zeros : (cookie : ℕ) (last : Bool) (at n : ℕ) (bytes : List ℕ) → 0 < length bytes → take n bytes ≡ zeros n → n ≡ length bytes → Tells cookie last at bytes (hole_chunk last cookie at n)
+pub told-zeros : (cookie : ℕ) (last : Bool) (at n : ℕ) (bytes : List ℕ) → 0 < length bytes → take n bytes ≡ zeros n → n ≡ length bytes → TellsContent cookie last at bytes (hole_chunk last cookie at n)
 told-zeros cookie last at n bytes some is all =
     let whole : take n bytes ≡ bytes = ap (λ k. take k bytes) all ∙ take-length bytes in
     inr (record { some = some; bytes_are = sym whole ∙ is ∙ ap zeros all; chunks_are = ap (hole_chunk last cookie at) all })
@@ -98,7 +98,7 @@ module _ (cookie : ℕ) (last : Bool) (at : ℕ) where
   }
 
   -- no zeros before them
-  pub told-none : (bytes chunks : List ℕ) → TellsData cookie last at bytes chunks → Tells cookie last at bytes chunks
+  pub told-none : (bytes chunks : List ℕ) → TellsData cookie last at bytes chunks → TellsContent cookie last at bytes chunks
   told-none bytes chunks told = inl (record {
     before = 0;
     rest = bytes;
@@ -110,7 +110,7 @@ module _ (cookie : ℕ) (last : Bool) (at : ℕ) where
 
   module _ (n : ℕ) (bytes : List ℕ) (within : n ≤ length bytes) where
     -- zeros, and what stands behind them
-    pub told-behind : (more : List ℕ) → 0 < n → take n bytes ≡ zeros n → TellsData cookie last (at + n) (drop n bytes) more → Tells cookie last at bytes (hole_chunk false cookie at n ++ more)
+    pub told-behind : (more : List ℕ) → 0 < n → take n bytes ≡ zeros n → TellsData cookie last (at + n) (drop n bytes) more → TellsContent cookie last at bytes (hole_chunk false cookie at n ++ more)
     told-behind more some is told = inl (record {
       before = n;
       rest = drop n bytes;
@@ -139,7 +139,7 @@ module _ (cookie : ℕ) (last : Bool) (at : ℕ) where
 -- some chunks tell them
 pub record IsTold (cookie : ℕ) (last : Bool) (at : ℕ) (bytes : List ℕ) : Type 0 where
   pub text : List ℕ
-  pub tells : Tells cookie last at bytes text
+  pub tells : TellsContent cookie last at bytes text
 
 pub some-told : (cookie : ℕ) (last : Bool) (at : ℕ) (bytes : List ℕ) → 0 < length bytes → IsTold cookie last at bytes
 some-told cookie last at bytes some = by (bytes_eq bytes (zeros (length bytes))) refl
@@ -177,7 +177,7 @@ module _ {T : Type 0} (contents : T → Option (List ℕ)) (P : List ℕ → Typ
 
 -- bytes that begin with data
 pub writes-data : {T : Type 0} (contents : T → Option (List ℕ)) (cookie : ℕ) (last : Bool) (at : ℕ) (bytes : List ℕ) (old new : CountedRecord T) (result : Result Unit WriteFault)
-    → WritesSome contents old new (TellsData cookie last at bytes) result → WritesSome contents old new (Tells cookie last at bytes) result
+    → WritesSome contents old new (TellsData cookie last at bytes) result → WritesSome contents old new (TellsContent cookie last at bytes) result
 writes-data contents cookie last at bytes old new (Ok done) p = record {
   ok = record { text = p.ok.text; holds = told-none cookie last at bytes p.ok.text p.ok.holds; written = p.ok.written };
   kept = p.kept;

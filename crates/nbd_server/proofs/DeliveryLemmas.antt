@@ -16,19 +16,19 @@ use Rattle.nbd_protocol.specs.declared.request_error.RequestError.{RequestError}
 use Rattle.nbd_server.specs.Replies.{RequestOutcome}
 use Rattle.nbd_server.specs.Sectors.{IsFetched, FailsToFetch, EndsIn, HasNoBuffer}
 use Rattle.nbd_server.specs.Status.{TouchZeros, touched}
-use Rattle.nbd_server.specs.Transmission.{ReadsBytes}
-use Rattle.nbd_server.specs.Premises.{AreBytesOf, IsRest}
+use Rattle.nbd_server.specs.Transmission.{ReadsExport}
+use Rattle.nbd_server.specs.Premises.{AreBytesOf, IsDeliveryRest}
 use Rattle.nbd_chunks.specs.Chunks.{error_at_chunk, hole_chunk}
-use Rattle.nbd_server.specs.Content.{Tells}
+use Rattle.nbd_server.specs.Content.{TellsContent}
 use Rattle.stack_rules.specs.Records.{Configuration}
-use Rattle.nbd_server.specs.Delivery.{AnswersPiece, Delivers, delivers_none, delivers_more, DeliversPart, GoesOn, IsDelivered, IsLost, IsPiece, IsStuck, ReadsPiece, at_first}
+use Rattle.nbd_server.specs.Delivery.{AnswersPiece, Delivers, delivers_none, delivers_more, DeliversPart, GoesOnReplying, IsDelivered, IsLost, IsDeliveryPiece, IsStuck, SendsPiece, at_first}
 use Rattle.nbd_server.specs.declared.delivery.Delivery.{Delivery}
 use Rattle.nbd_server.specs.declared.delivery.Progress.{Progress}
 use Rattle.nbd_server.proofs.ContentLemmas.{some-told}
 
 -- ---- one read
 
-pub read-led : (e : ExportRecord) (w : World) (offset length : ℕ) (outcome : RequestOutcome) (w' : World) → ReadsBytes e w offset length outcome w' → IsLed EachPart w w'
+pub read-led : (e : ExportRecord) (w : World) (offset length : ℕ) (outcome : RequestOutcome) (w' : World) → ReadsExport e w offset length outcome w' → IsLed EachPart w w'
 read-led e w offset length (Ok content) w' p = p.1.led
 read-led e w offset length (Err error) w' p = p.led
 
@@ -39,7 +39,7 @@ fails-config w d first count error w' (inr x) = ap (λ (v : World). v.stack.conf
 pub fetch-config : (w : World) (d first count : ℕ) (error : RequestError) (w' : World) → FailsToFetch w d first count error w' → w'.stack.config ≡ w.stack.config
 fetch-config w d first count error w' p = fails-config w d first count error w' p.cause
 
-pub read-config : (e : ExportRecord) (w : World) (offset length : ℕ) (outcome : RequestOutcome) (w' : World) → ReadsBytes e w offset length outcome w' → w'.stack.config ≡ w.stack.config
+pub read-config : (e : ExportRecord) (w : World) (offset length : ℕ) (outcome : RequestOutcome) (w' : World) → ReadsExport e w offset length outcome w' → w'.stack.config ≡ w.stack.config
 read-config e w offset length (Ok content) w' p = p.1.read.config
 read-config e w offset length (Err error) w' p = fetch-config w e.device (offset / 512) (touched offset length) error w' p
 
@@ -50,12 +50,12 @@ put_off-behind : (done slow sectors : ℕ) → 1 < sectors → (done < slow → 
 put_off-behind done slow sectors several single = elim (cases_lt done slow) [ inl below ↦ absurd (omega (arith, several, single below)) | inr behind ↦ behind ]
 
 module _ (e : ExportRecord) (d : Delivery) where
-  goes-led : (p : Progress) (w : World) (chunk : List ℕ) (next : Progress) (w' : World) → GoesOn e d p w chunk next w' → IsLed EachPart w w'
+  goes-led : (p : Progress) (w : World) (chunk : List ℕ) (next : Progress) (w' : World) → GoesOnReplying e d p w chunk next w' → IsLed EachPart w w'
   goes-led p w chunk next w' (inl s) = read-led e w (d.offset + p.done) s.size (Ok s.content) w' s.reads
   goes-led p w chunk next w' (inr (inl s)) = read-led e w (d.offset + p.done) s.size (Err s.error) w' s.reads
   goes-led p w chunk next w' (inr (inr s)) = subst (λ (v : World). IsLed EachPart w v) (sym s.same) (led-none EachPart w)
 
-  pub goes-config : (p : Progress) (w : World) (chunk : List ℕ) (next : Progress) (w' : World) → GoesOn e d p w chunk next w' → w'.stack.config ≡ w.stack.config
+  pub goes-config : (p : Progress) (w : World) (chunk : List ℕ) (next : Progress) (w' : World) → GoesOnReplying e d p w chunk next w' → w'.stack.config ≡ w.stack.config
   goes-config p w chunk next w' (inl s) = read-config e w (d.offset + p.done) s.size (Ok s.content) w' s.reads
   goes-config p w chunk next w' (inr (inl s)) = read-config e w (d.offset + p.done) s.size (Err s.error) w' s.reads
   goes-config p w chunk next w' (inr (inr s)) = ap (λ (v : World). v.stack.config) s.same
@@ -67,12 +67,12 @@ module _ (e : ExportRecord) (d : Delivery) where
   lost-config p w chunk w' s = read-config e w (d.offset + p.done) s.size (Err s.error) w' s.reads
 
   -- a piece is behind the one before it, and done or put off once
-  pub goes-inside : (p : Progress) (w : World) (chunk : List ℕ) (next : Progress) (w' : World) → GoesOn e d p w chunk next w' → next.done ≤ d.count
+  pub goes-inside : (p : Progress) (w : World) (chunk : List ℕ) (next : Progress) (w' : World) → GoesOnReplying e d p w chunk next w' → next.done ≤ d.count
   goes-inside p w chunk next w' (inl s) = subst (λ (n : Progress). n.done ≤ d.count) (sym s.next_is) s.piece.inside
   goes-inside p w chunk next w' (inr (inr s)) = subst (λ (n : Progress). n.done ≤ d.count) (sym s.next_is) s.piece.inside
   goes-inside p w chunk next w' (inr (inl s)) = subst (λ (n : Progress). n.done ≤ d.count) (sym s.next_is) (omega (arith, s.piece.inside))
 
-  pub goes-smaller : (p : Progress) (w : World) (chunk : List ℕ) (next : Progress) (w' : World) → GoesOn e d p w chunk next w'
+  pub goes-smaller : (p : Progress) (w : World) (chunk : List ℕ) (next : Progress) (w' : World) → GoesOnReplying e d p w chunk next w'
       → 2 * (d.count - next.done) + (1 - (next.slow - next.done)) < 2 * (d.count - p.done) + (1 - (p.slow - p.done))
   goes-smaller p w chunk next w' (inl s) =
       subst (λ (n : Progress). 2 * (d.count - n.done) + (1 - (n.slow - n.done)) < 2 * (d.count - p.done) + (1 - (p.slow - p.done))) (sym s.next_is) (omega (arith, s.piece.inside, s.piece.some))
@@ -91,7 +91,7 @@ single-touched at place size room is some few within = omega (arith, is, some, f
 touched-part : (place size part : ℕ) → 0 < part → part ≤ size → touched place size ≡ 1 → touched place part ≡ 1
 touched-part place size part some few one = omega (arith, some, few, one)
 
-pub piece-part : (d : Delivery) (p : Progress) (size part : ℕ) → IsPiece d p size → 0 < part → part ≤ size → IsPiece d p part
+pub piece-part : (d : Delivery) (p : Progress) (size part : ℕ) → IsDeliveryPiece d p size → 0 < part → part ≤ size → IsDeliveryPiece d p part
 piece-part d p size part piece some few = record {
   some = some;
   few = omega (arith, few, piece.few);
@@ -111,7 +111,7 @@ part-front sectors rest start size inside =
 
 -- what was read to the beginning of a buffer
 pub read-of : (e : ExportRecord) (w w' : World) (at size : ℕ) (sectors rest : List ℕ) (result : Result Unit RequestError) → length sectors ≡ 512 * touched at size
-    → OnOk result (IsFetched w e.device (at / 512) (touched at size) sectors w') → OnOk result (ReadsBytes e w at size (Ok (take size (drop (at % 512) (sectors ++ rest)))) w')
+    → OnOk result (IsFetched w e.device (at / 512) (touched at size) sectors w') → OnOk result (ReadsExport e w at size (Ok (take size (drop (at % 512) (sectors ++ rest)))) w')
 read-of e w w' at size sectors rest (Ok done) held p = (sectors, p, sym (part-front sectors rest (at % 512) size (omega (arith, held))))
 read-of e w w' at size sectors rest (Err error) held p = tt
 
@@ -120,32 +120,32 @@ then-inside (Ok done) at size items room = omega (arith, room)
 then-inside (Err error) at size items room = tt
 
 -- what is left of it has small places
-pub rest-left : (c : Configuration) (e : ExportRecord) (d : Delivery) (p : Progress) → AreBytesOf c e d.offset d.count → p.done ≤ d.count → IsRest d p
+pub rest-left : (c : Configuration) (e : ExportRecord) (d : Delivery) (p : Progress) → AreBytesOf c e d.offset d.count → p.done ≤ d.count → IsDeliveryRest d p
 rest-left c e d p bytes inside = record { inside = inside; small = omega (arith, bytes.within, bytes.export.fits) }
 
-module _ (e : ExportRecord) (d : Delivery) (p : Progress) (w w' : World) (size at : ℕ) (place : at ≡ d.offset + p.done) (piece : IsPiece d p size) where
+module _ (e : ExportRecord) (d : Delivery) (p : Progress) (w w' : World) (size at : ℕ) (place : at ≡ d.offset + p.done) (piece : IsDeliveryPiece d p size) where
   pub piece-bytes : (c : Configuration) → AreBytesOf c e d.offset d.count → AreBytesOf c e at size
   piece-bytes c bytes = record { export = bytes.export; within = omega (arith, bytes.within, piece.inside, place) }
 
   module _ (old new : Option (List ℕ)) where
-    sent-goes : (n : ℕ) → n ≡ size → (content chunk : List ℕ) → ReadsBytes e w at size (Ok content) w' → Tells d.cookie (p.done + n == d.count) (d.offset + p.done) content chunk
-        → GoesOn e d p w chunk (record { done = p.done + size; slow = p.slow }) w'
+    sent-goes : (n : ℕ) → n ≡ size → (content chunk : List ℕ) → ReadsExport e w at size (Ok content) w' → TellsContent d.cookie (p.done + n == d.count) (d.offset + p.done) content chunk
+        → GoesOnReplying e d p w chunk (record { done = p.done + size; slow = p.slow }) w'
     sent-goes n is content chunk reads told = inl (record {
       size = size;
       content = content;
       piece = piece;
-      reads = subst (λ (k : ℕ). ReadsBytes e w k size (Ok content) w') place reads;
-      told = subst (λ (k : ℕ). Tells d.cookie (p.done + k == d.count) (d.offset + p.done) content chunk) is told;
+      reads = subst (λ (k : ℕ). ReadsExport e w k size (Ok content) w') place reads;
+      told = subst (λ (k : ℕ). TellsContent d.cookie (p.done + k == d.count) (d.offset + p.done) content chunk) is told;
       next_is = refl;
     })
 
     -- it was read
-    pub piece-sent : (n : ℕ) → n ≡ size → (content : List ℕ) → ReadsBytes e w at size (Ok content) w' → Grows old new (Tells d.cookie (p.done + n == d.count) (d.offset + p.done) content)
+    pub piece-sent : (n : ℕ) → n ≡ size → (content : List ℕ) → ReadsExport e w at size (Ok content) w' → Grows old new (TellsContent d.cookie (p.done + n == d.count) (d.offset + p.done) content)
         → AnswersPiece e d p w w' old new (Some (record { done = p.done + size; slow = p.slow }))
     piece-sent n is content reads a = (a.text, sent-goes n is content a.text reads a.holds, a.written)
 
     hole-goes : TouchZeros w.stack.config e at size → w' ≡ w
-        → GoesOn e d p w (hole_chunk (p.done + size == d.count) d.cookie (d.offset + p.done) size) (record { done = p.done + size; slow = p.slow }) w'
+        → GoesOnReplying e d p w (hole_chunk (p.done + size == d.count) d.cookie (d.offset + p.done) size) (record { done = p.done + size; slow = p.slow }) w'
     hole-goes zeros same = inr (inr (record {
       size = size;
       piece = piece;
@@ -160,11 +160,11 @@ module _ (e : ExportRecord) (d : Delivery) (p : Progress) (w w' : World) (size a
         → AnswersPiece e d p w w' old new (Some (record { done = p.done + size; slow = p.slow }))
     piece-hole zeros same a = (hole_chunk (p.done + size == d.count) d.cookie (d.offset + p.done) size, hole-goes zeros same, a)
 
-    pub hole-stuck : TouchZeros w.stack.config e at size → w' ≡ w → ReadsPiece e d p w w'
+    pub hole-stuck : TouchZeros w.stack.config e at size → w' ≡ w → SendsPiece e d p w w'
     hole-stuck zeros same = inl (hole_chunk (p.done + size == d.count) d.cookie (d.offset + p.done) size, record { done = p.done + size; slow = p.slow }, hole-goes zeros same)
 
     -- it wasn't, and lies in several sectors
-    pub piece-put_off : (error : RequestError) → ReadsBytes e w at size (Err error) w' → 1 < touched at size → new ≡ old → AnswersPiece e d p w w' old new (Some (record { done = p.done; slow = p.done + size }))
+    pub piece-put_off : (error : RequestError) → ReadsExport e w at size (Err error) w' → 1 < touched at size → new ≡ old → AnswersPiece e d p w w' old new (Some (record { done = p.done; slow = p.done + size }))
     piece-put_off error reads several same = (
       [],
       inr (inl (record {
@@ -172,7 +172,7 @@ module _ (e : ExportRecord) (d : Delivery) (p : Progress) (w w' : World) (size a
         error = error;
         piece = piece;
         several = subst (λ (k : ℕ). 1 < touched k size) place several;
-        reads = subst (λ (k : ℕ). ReadsBytes e w k size (Err error) w') place reads;
+        reads = subst (λ (k : ℕ). ReadsExport e w k size (Err error) w') place reads;
         silent = refl;
         next_is = refl;
       })),
@@ -180,23 +180,23 @@ module _ (e : ExportRecord) (d : Delivery) (p : Progress) (w w' : World) (size a
     )
 
     -- it wasn't, and lies in one
-    pub piece-lost : (error : RequestError) → ReadsBytes e w at size (Err error) w' → touched at size ≤ 1 → IsLost e d p w (error_at_chunk d.cookie at error) w'
+    pub piece-lost : (error : RequestError) → ReadsExport e w at size (Err error) w' → touched at size ≤ 1 → IsLost e d p w (error_at_chunk d.cookie at error) w'
     piece-lost error reads few = record {
       size = size;
       error = error;
       piece = piece;
       one = omega (arith, few, piece.some, place);
-      reads = subst (λ (k : ℕ). ReadsBytes e w k size (Err error) w') place reads;
+      reads = subst (λ (k : ℕ). ReadsExport e w k size (Err error) w') place reads;
       chunk_is = ap (λ (k : ℕ). error_at_chunk d.cookie k error) place;
     }
 
     -- the writer failed
-    pub sent-stuck : (content : List ℕ) → 0 < length content → ReadsBytes e w at size (Ok content) w' → ReadsPiece e d p w w'
+    pub sent-stuck : (content : List ℕ) → 0 < length content → ReadsExport e w at size (Ok content) w' → SendsPiece e d p w w'
     sent-stuck content some reads =
         let told = some-told d.cookie (p.done + size == d.count) (d.offset + p.done) content some in
         inl (told.text, record { done = p.done + size; slow = p.slow }, sent-goes size refl content told.text reads told.tells)
 
-    pub lost-stuck : (error : RequestError) → ReadsBytes e w at size (Err error) w' → touched at size ≤ 1 → ReadsPiece e d p w w'
+    pub lost-stuck : (error : RequestError) → ReadsExport e w at size (Err error) w' → touched at size ≤ 1 → SendsPiece e d p w w'
     lost-stuck error reads few = inr (error_at_chunk d.cookie at error, piece-lost error reads few)
 
 -- ---- replies
@@ -248,7 +248,7 @@ module _ (e : ExportRecord) (d : Delivery) (first : World) (p : Progress) (w w' 
   underway-lost a = record { text = u.written ++ a.0; holds = inr (lost-part a.0 a.1); written = Appends-trans old mid new u.written a.0 u.appended a.2 }
 
   -- the writer failed
-  pub underway-stuck : ReadsPiece e d p w w' → IsStuck e d first w'
+  pub underway-stuck : SendsPiece e d p w w' → IsStuck e d first w'
   underway-stuck (inl r) = inl (record { last = r.1; written = u.written ++ r.0; pieces = delivers_more r.0 u.pieces r.2 })
   underway-stuck (inr r) = inr (u.written ++ r.0, inr (lost-part r.0 r.1))
 

@@ -18,17 +18,17 @@ use Rattle.nbd_protocol.specs.declared.phase.Agreement.{Agreement}
 use Rattle.nbd_protocol.specs.declared.phase.Phase.{Phase}
 use Rattle.nbd_protocol.specs.declared.phase.Phase.TheVariants.{Greeted, Haggling, Serving, Over}
 use Rattle.nbd_protocol.specs.declared.header.Header.{Header}
-use Rattle.nbd_protocol.specs.Numbers.{number32}
-use Rattle.nbd_protocol.specs.Exports.{ExportRecord, HasShortName, asked, export_at, most_name, no_export, place_of}
+use Rattle.nbd_protocol.specs.Numbers.{big_endian32}
+use Rattle.nbd_protocol.specs.Exports.{ExportRecord, HasShortName, asked, export_at, most_name, no_export, export_place}
 use Rattle.nbd_options.specs.Handshake.{answer_to, answer_to_long, most_data, names_export, phase_after, phase_after_long}
 use Rattle.nbd_protocol.specs.Headers.{command_of, header_of, is_chunked, payload_len, request_magic}
-use Rattle.nbd_server.specs.Causes.{Breaks, IsCut, IsCutWithin, IsNaming}
+use Rattle.nbd_server.specs.Causes.{Breaks, IsMessageCut, IsCutWithin, IsNaming}
 use Rattle.nbd_protocol.specs.Streaming.{IsShort, Spoken, Stops, TakesInto}
-use Rattle.nbd_server.specs.Replies.{RequestOutcome, reply_to}
-use Rattle.nbd_server.specs.Transmission.{Serves}
+use Rattle.nbd_server.specs.Replies.{RequestOutcome, agreed_reply}
+use Rattle.nbd_server.specs.Transmission.{ServesRequest}
 use Rattle.nbd_server.specs.Delivery.{IsDelivered, IsStuck, bytes_asked, delivery_of, has_df}
 use Rattle.nbd_server.specs.declared.delivery.Delivery.{Delivery}
-use Rattle.nbd_server.specs.Service.{Answers, AnswersOption, BeginsRequest, IsTooLong, IsAnswered, IsUnnamed, IsUnread, Replies, TakesOption, TakesRequest, Turns}
+use Rattle.nbd_server.specs.Service.{EndsReply, AnswersOption, BeginsRequest, IsTooLong, IsAnswered, IsExportUnnamed, IsNameUnread, GivesReply, TakesOption, TakesRequest, EndsMessage}
 
 -- what came of a message that the service ends in
 broken : (es : List ExportRecord) (phase : Phase) (w w' : World) (old new : Streams) (x : ServiceFault) → w' ≡ w → (part : List ℕ) → Consumes old.input new.input part → Keeps old.output new.output → Breaks es phase part new.input x
@@ -42,7 +42,7 @@ broken es phase w w' old new x same part c k cause = record {
 }
 
 pub turns-fault : (es : List ExportRecord) (phase : Phase) (w w' : World) (old new : Streams) (x : ServiceFault) → w' ≡ w → (part : List ℕ) → Consumes old.input new.input part → Keeps old.output new.output → Breaks es phase part new.input x
-    → Turns es phase w w' old new (Err x)
+    → EndsMessage es phase w w' old new (Err x)
 turns-fault es phase w w' old new fault.Lost same part c k cause = broken es phase w w' old new fault.Lost same part c k cause
 turns-fault es phase w w' old new fault.Magic same part c k cause = broken es phase w w' old new fault.Magic same part c k cause
 turns-fault es phase w w' old new fault.Flags same part c k cause = broken es phase w w' old new fault.Flags same part c k cause
@@ -51,7 +51,7 @@ turns-fault es phase w w' old new fault.ReadFault same part c k cause = broken e
 turns-fault es phase w w' old new fault.WriteFault same part c k cause = absurd cause
 
 -- a message that began and didn't end, or didn't begin
-cut-breaks : (es : List ExportRecord) (phase : Phase) (rest : List ℕ) (input : Option (List ℕ)) (x : ServiceFault) → Stops input x → (x ≡ fault.Lost → IsCut phase rest) → (rest ≡ []) ⊎ IsCut phase rest → Breaks es phase rest input x
+cut-breaks : (es : List ExportRecord) (phase : Phase) (rest : List ℕ) (input : Option (List ℕ)) (x : ServiceFault) → Stops input x → (x ≡ fault.Lost → IsMessageCut phase rest) → (rest ≡ []) ⊎ IsMessageCut phase rest → Breaks es phase rest input x
 cut-breaks es phase rest input fault.Lost stops lost failed = (lost refl, stops)
 cut-breaks es phase rest input fault.Magic stops lost failed = absurd stops
 cut-breaks es phase rest input fault.Flags stops lost failed = absurd stops
@@ -59,27 +59,27 @@ cut-breaks es phase rest input fault.NoSuchExport stops lost failed = absurd sto
 cut-breaks es phase rest input fault.ReadFault stops lost failed = failed
 cut-breaks es phase rest input fault.WriteFault stops lost failed = absurd stops
 
-module _ (es : List ExportRecord) (phase : Phase) (size : ℕ) (within : (rest : List ℕ) → IsCutWithin size rest → IsCut phase rest) where
-  begun : (rest : List ℕ) → length rest < size → (rest ≡ []) ⊎ IsCut phase rest
+module _ (es : List ExportRecord) (phase : Phase) (size : ℕ) (within : (rest : List ℕ) → IsCutWithin size rest → IsMessageCut phase rest) where
+  begun : (rest : List ℕ) → length rest < size → (rest ≡ []) ⊎ IsMessageCut phase rest
   begun [] few = inl refl
   begun (byte ∷ more) few = inr (within (byte ∷ more) (omega arith, few))
 
   -- the header wasn't whole
   pub header-cut : (w : World) (input input' output : Option (List ℕ)) (x : ServiceFault) (n : ℕ) → n ≡ size → (short : IsShort n input input' x) × (x ≡ fault.Lost → 0 < length short.part)
-      → Turns es phase w w (streams input output) (streams input' output) (Err x)
+      → EndsMessage es phase w w (streams input output) (streams input' output) (Err x)
   header-cut w input input' output x n is p =
       let few : length p.0.part < size = omega (arith, p.0.few, is) in
       turns-fault es phase w w (streams input output) (streams input' output) x refl p.0.part p.0.consumed (Keeps-refl output)
       (cut-breaks es phase p.0.part input' x p.0.cause (λ lost. within p.0.part (p.1 lost, few)) (begun p.0.part few))
 
-pub flags-unlike : (es : List ExportRecord) (w : World) (input input' output : Option (List ℕ)) (bytes : List ℕ) → Consumes input input' bytes → length bytes ≡ 4 → 4 ≤ number32 bytes 0
-    → Turns es Greeted w w (streams input output) (streams input' output) (Err fault.Flags)
+pub flags-unlike : (es : List ExportRecord) (w : World) (input input' output : Option (List ℕ)) (bytes : List ℕ) → Consumes input input' bytes → length bytes ≡ 4 → 4 ≤ big_endian32 bytes 0
+    → EndsMessage es Greeted w w (streams input output) (streams input' output) (Err fault.Flags)
 flags-unlike es w input input' output bytes c size other = turns-fault es Greeted w w (streams input output) (streams input' output) fault.Flags refl bytes c (Keeps-refl output) (size, other)
 
 -- ---- options
 
 -- an option without a reply is no end of the reader
-unanswered : (Is : List ℕ → Phase → Type 0) (Ends : ServiceFault → Type 0) (old new : Option (List ℕ)) → (Ends fault.ReadFault → ⊥) → (x : ServiceFault) → Answers Is Ends old new (Err x) → Some x ≢ Some fault.ReadFault
+unanswered : (Is : List ℕ → Phase → Type 0) (Ends : ServiceFault → Type 0) (old new : Option (List ℕ)) → (Ends fault.ReadFault → ⊥) → (x : ServiceFault) → EndsReply Is Ends old new (Err x) → Some x ≢ Some fault.ReadFault
 unanswered Is Ends old new none fault.Lost k is = cc
 unanswered Is Ends old new none fault.Magic k is = cc
 unanswered Is Ends old new none fault.Flags k is = cc
@@ -90,11 +90,11 @@ unanswered Is Ends old new none fault.WriteFault k is = cc
 other-name : fault.ReadFault ≡ fault.NoSuchExport → ⊥
 other-name is = cc
 
-pub unread-writing : (Is : List ℕ → Phase → Type 0) (option count : ℕ) (old new : Option (List ℕ)) (x : ServiceFault) → Answers Is (IsUnread option count) old new (Err x) → Some x ≢ Some fault.ReadFault
-unread-writing Is option count old new x k = unanswered Is (IsUnread option count) old new (λ p. other-name p.0) x k
+pub unread-writing : (Is : List ℕ → Phase → Type 0) (option count : ℕ) (old new : Option (List ℕ)) (x : ServiceFault) → EndsReply Is (IsNameUnread option count) old new (Err x) → Some x ≢ Some fault.ReadFault
+unread-writing Is option count old new x k = unanswered Is (IsNameUnread option count) old new (λ p. other-name p.0) x k
 
-pub unnamed-writing : (Is : List ℕ → Phase → Type 0) (es : List ExportRecord) (option : ℕ) (content : List ℕ) (old new : Option (List ℕ)) (x : ServiceFault) → Answers Is (IsUnnamed es option content) old new (Err x) → Some x ≢ Some fault.ReadFault
-unnamed-writing Is es option content old new x k = unanswered Is (IsUnnamed es option content) old new (λ p. other-name p.0) x k
+pub unnamed-writing : (Is : List ℕ → Phase → Type 0) (es : List ExportRecord) (option : ℕ) (content : List ℕ) (old new : Option (List ℕ)) (x : ServiceFault) → EndsReply Is (IsExportUnnamed es option content) old new (Err x) → Some x ≢ Some fault.ReadFault
+unnamed-writing Is es option content old new x k = unanswered Is (IsExportUnnamed es option content) old new (λ p. other-name p.0) x k
 
 not-or : (asked named : Bool) → (not asked || named) ≡ false → (asked ≡ true) × (named ≡ false)
 not-or true true h = let clash : true ≡ false = h in cc
@@ -118,16 +118,16 @@ pub long-name : (es : List ExportRecord) (name : List ℕ) → All HasShortName 
 unfolding asked
 long-name es name short longer = go ((length name == 0) && (length es == 1)) refl
   where
-    apart : (found : Option ℕ) → place_of es name ≡ found → found ≡ None
+    apart : (found : Option ℕ) → export_place es name ≡ found → found ≡ None
     apart None is = refl
     apart (Some place) is =
         let p = position-Some (λ e. bytes_eq e.name name) es place no_export is in
         let equal = (bytes_eq-Decides (export_at es place).name name).0 p.1 in
         absurd (omega (arith, ap length equal, longer, All-get_or HasShortName es place no_export p.0 short))
 
-    go : (only : Bool) → ((length name == 0) && (length es == 1)) ≡ only → (if only then Some 0 else place_of es name) ≡ None
+    go : (only : Bool) → ((length name == 0) && (length es == 1)) ≡ only → (if only then Some 0 else export_place es name) ≡ None
     go true is = absurd (omega (arith, eqb-true (length name) 0 (both-left (length name == 0) (length es == 1) is), longer))
-    go false is = apart (place_of es name) refl
+    go false is = apart (export_place es name) refl
 
 -- what is replied to an option whose data are too long
 pub too-long : (terms : Terms) (option count : ℕ) → most_data < count → option ≢ 1 → IsTooLong terms option count (answer_to_long option) (phase_after_long terms option)
@@ -139,22 +139,22 @@ pub is-answered : (es : List ExportRecord) (terms : Terms) (option : ℕ) (conte
 is-answered es terms option content short named = record { short = short; named = named; reply_is = refl; next_is = refl }
 
 module _ (es : List ExportRecord) (terms : Terms) (w : World) (input mid input' : Option (List ℕ)) (header : List ℕ) (first : Consumes input mid header) (size : length header ≡ 16) where
-  pub option-unlike : (output : Option (List ℕ)) → take 8 header ≢ codes "IHAVEOPT" → Turns es (Haggling terms) w w (streams input output) (streams mid output) (Err fault.Magic)
+  pub option-unlike : (output : Option (List ℕ)) → take 8 header ≢ codes "IHAVEOPT" → EndsMessage es (Haggling terms) w w (streams input output) (streams mid output) (Err fault.Magic)
   option-unlike output other = turns-fault es (Haggling terms) w w (streams input output) (streams mid output) fault.Magic refl header first (Keeps-refl output) (size, other)
 
   module _ (magic : take 8 header ≡ codes "IHAVEOPT") (output output' : Option (List ℕ)) where
     -- the client was lost in an option's data, or the reader failed there
-    pub option-lost : (x : ServiceFault) → IsShort (number32 header 12) mid input' x → Turns es (Haggling terms) w w (streams input output) (streams input' output) (Err x)
+    pub option-lost : (x : ServiceFault) → IsShort (big_endian32 header 12) mid input' x → EndsMessage es (Haggling terms) w w (streams input output) (streams input' output) (Err x)
     option-lost x s =
-        let cut : IsCut (Haggling terms) (header ++ s.part) = inr (record { header = header; part = s.part; rest_is = refl; is_header = record { size = size; magic = magic }; few = s.few }) in
+        let cut : IsMessageCut (Haggling terms) (header ++ s.part) = inr (record { header = header; part = s.part; rest_is = refl; is_header = record { size = size; magic = magic }; few = s.few }) in
         turns-fault es (Haggling terms) w w (streams input output) (streams input' output) x refl (header ++ s.part) (Consumes-trans input mid input' header s.part first s.consumed) (Keeps-refl output)
         (cut-breaks es (Haggling terms) (header ++ s.part) input' x s.cause (λ lost. cut) (inr cut))
 
-    option-takes : (content : List ℕ) → length content ≡ number32 header 12 → (next : Phase) (reply : List ℕ) → AnswersOption es terms (number32 header 8) content reply next → TakesOption es terms (header ++ content) reply next
+    option-takes : (content : List ℕ) → length content ≡ big_endian32 header 12 → (next : Phase) (reply : List ℕ) → AnswersOption es terms (big_endian32 header 8) content reply next → TakesOption es terms (header ++ content) reply next
     option-takes content count next reply answered = record { header = header; content = content; message_is = refl; size = size; magic = magic; count = count; answered = answered }
 
-    option-answered : (content : List ℕ) → Consumes mid input' content → length content ≡ number32 header 12 → (next : Phase) (reply : List ℕ) → AnswersOption es terms (number32 header 8) content reply next → Appends output output' reply
-        → Turns es (Haggling terms) w w (streams input output) (streams input' output') (Ok (Some next))
+    option-answered : (content : List ℕ) → Consumes mid input' content → length content ≡ big_endian32 header 12 → (next : Phase) (reply : List ℕ) → AnswersOption es terms (big_endian32 header 8) content reply next → Appends output output' reply
+        → EndsMessage es (Haggling terms) w w (streams input output) (streams input' output') (Ok (Some next))
     option-answered content c count next reply answered a = record {
       taken = header ++ content;
       written = reply;
@@ -164,9 +164,9 @@ module _ (es : List ExportRecord) (terms : Terms) (w : World) (input mid input' 
     }
 
     -- it has no reply, or the writer failed in that
-    pub option-ends : (content : List ℕ) → Consumes mid input' content → length content ≡ number32 header 12 → (Is : List ℕ → Phase → Type 0) (Ends : ServiceFault → Type 0) (x : ServiceFault)
-        → ((reply : List ℕ) (next : Phase) → Is reply next → AnswersOption es terms (number32 header 8) content reply next) → (Ends x → Breaks es (Haggling terms) (header ++ content) input' x)
-        → Answers Is Ends output output' (Err x) → Turns es (Haggling terms) w w (streams input output) (streams input' output') (Err x)
+    pub option-ends : (content : List ℕ) → Consumes mid input' content → length content ≡ big_endian32 header 12 → (Is : List ℕ → Phase → Type 0) (Ends : ServiceFault → Type 0) (x : ServiceFault)
+        → ((reply : List ℕ) (next : Phase) → Is reply next → AnswersOption es terms (big_endian32 header 8) content reply next) → (Ends x → Breaks es (Haggling terms) (header ++ content) input' x)
+        → EndsReply Is Ends output output' (Err x) → EndsMessage es (Haggling terms) w w (streams input output) (streams input' output') (Err x)
     option-ends content c count Is Ends fault.Lost answers breaks k = turns-fault es (Haggling terms) w w (streams input output) (streams input' output') fault.Lost refl (header ++ content) (Consumes-trans input mid input' header content first c) k.0 (breaks k.1)
     option-ends content c count Is Ends fault.Magic answers breaks k = turns-fault es (Haggling terms) w w (streams input output) (streams input' output') fault.Magic refl (header ++ content) (Consumes-trans input mid input' header content first c) k.0 (breaks k.1)
     option-ends content c count Is Ends fault.Flags answers breaks k = turns-fault es (Haggling terms) w w (streams input output) (streams input' output') fault.Flags refl (header ++ content) (Consumes-trans input mid input' header content first c) k.0 (breaks k.1)
@@ -180,31 +180,31 @@ module _ (es : List ExportRecord) (terms : Terms) (w : World) (input mid input' 
       takes = (option-takes content count k.1 k.0 (answers k.0 k.1 k.2), refl);
     })
 
-    naming : (name : List ℕ) → length name ≡ number32 header 12 → number32 header 8 ≡ 1 → IsNaming (header ++ name) name
+    naming : (name : List ℕ) → length name ≡ big_endian32 header 12 → big_endian32 header 8 ≡ 1 → IsNaming (header ++ name) name
     naming name count option = record { header = header; rest_is = refl; is_header = record { size = size; magic = magic }; option = option; count = count }
 
     -- a name that is another's
-    pub unnamed-breaks : (content : List ℕ) → length content ≡ number32 header 12 → (option : ℕ) → option ≡ number32 header 8 → (x : ServiceFault) → IsUnnamed es option content x
+    pub unnamed-breaks : (content : List ℕ) → length content ≡ big_endian32 header 12 → (option : ℕ) → option ≡ big_endian32 header 8 → (x : ServiceFault) → IsExportUnnamed es option content x
         → Breaks es (Haggling terms) (header ++ content) input' x
     unnamed-breaks content count option is x p = subst (Breaks es (Haggling terms) (header ++ content) input') (sym p.0) (content, naming content count (sym is ∙ p.1), p.2)
 
     -- a name that is too long
-    pub unread-breaks : All HasShortName es → (content : List ℕ) → length content ≡ number32 header 12 → (option n : ℕ) → option ≡ number32 header 8 → n ≡ number32 header 12 → (x : ServiceFault) → IsUnread option n x
+    pub unread-breaks : All HasShortName es → (content : List ℕ) → length content ≡ big_endian32 header 12 → (option n : ℕ) → option ≡ big_endian32 header 8 → n ≡ big_endian32 header 12 → (x : ServiceFault) → IsNameUnread option n x
         → Breaks es (Haggling terms) (header ++ content) input' x
     unread-breaks short content count option n is same x p =
         subst (Breaks es (Haggling terms) (header ++ content) input') (sym p.0) (content, naming content count (sym is ∙ p.1), long-name es content short (omega (arith, p.2, count, same)))
 
     -- an option whose data are there
-    pub option-told : (content : List ℕ) → TakesInto (Some content) (number32 header 12) mid input' → (next : Phase) (Ends : ServiceFault → Type 0) → Answers (IsAnswered es terms (number32 header 8) content) Ends output output' (Ok next)
-        → Turns es (Haggling terms) w w (streams input output) (streams input' output') (Ok (Some next))
+    pub option-told : (content : List ℕ) → TakesInto (Some content) (big_endian32 header 12) mid input' → (next : Phase) (Ends : ServiceFault → Type 0) → EndsReply (IsAnswered es terms (big_endian32 header 8) content) Ends output output' (Ok next)
+        → EndsMessage es (Haggling terms) w w (streams input output) (streams input' output') (Ok (Some next))
     option-told content t next Ends a =
         option-answered content (subst (λ l. Consumes mid input' l) (sym t.kept) t.takes.consumed) (ap length t.kept ∙ t.takes.count) next a.0 (inl a.1) a.2
 
     -- one whose data are too long
-    pub option-refused : TakesInto None (number32 header 12) mid input' → (next : Phase) (Ends : ServiceFault → Type 0) → Answers (IsTooLong terms (number32 header 8) (number32 header 12)) Ends output output' (Ok next)
-        → Turns es (Haggling terms) w w (streams input output) (streams input' output') (Ok (Some next))
+    pub option-refused : TakesInto None (big_endian32 header 12) mid input' → (next : Phase) (Ends : ServiceFault → Type 0) → EndsReply (IsTooLong terms (big_endian32 header 8) (big_endian32 header 12)) Ends output output' (Ok next)
+        → EndsMessage es (Haggling terms) w w (streams input output) (streams input' output') (Ok (Some next))
     option-refused t next Ends a =
-        let room = subst (λ n. IsTooLong terms (number32 header 8) n a.0 next) (sym t.takes.count) a.1 in
+        let room = subst (λ n. IsTooLong terms (big_endian32 header 8) n a.0 next) (sym t.takes.count) a.1 in
         option-answered t.takes.bytes t.takes.consumed t.takes.count next a.0 (inr room) a.2
 
 -- ---- requests
@@ -229,21 +229,21 @@ chunked-payload agreed h is = go agreed.structured (h.kind == 1) refl is
     go false true at chunked = let clash : false ≡ true = chunked in cc
     go true true at chunked = absurd (none h.kind (eqb-true h.kind 1 at) chunked)
 
-pub request-unlike : (es : List ExportRecord) (agreed : Agreement) (w : World) (input input' output : Option (List ℕ)) (header : List ℕ) → Consumes input input' header → length header ≡ 28 → number32 header 0 ≢ request_magic
-    → Turns es (Serving agreed) w w (streams input output) (streams input' output) (Err fault.Magic)
+pub request-unlike : (es : List ExportRecord) (agreed : Agreement) (w : World) (input input' output : Option (List ℕ)) (header : List ℕ) → Consumes input input' header → length header ≡ 28 → big_endian32 header 0 ≢ request_magic
+    → EndsMessage es (Serving agreed) w w (streams input output) (streams input' output) (Err fault.Magic)
 request-unlike es agreed w input input' output header c size other = turns-fault es (Serving agreed) w w (streams input output) (streams input' output) fault.Magic refl header c (Keeps-refl output) (size, other)
 
-module _ (es : List ExportRecord) (agreed : Agreement) (e : ExportRecord) (at : export_at es agreed.place ≡ e) (w w' : World) (input mid input' : Option (List ℕ)) (header : List ℕ) (first : Consumes input mid header) (size : length header ≡ 28) (magic : number32 header 0 ≡ request_magic) where
+module _ (es : List ExportRecord) (agreed : Agreement) (e : ExportRecord) (at : export_at es agreed.place ≡ e) (w w' : World) (input mid input' : Option (List ℕ)) (header : List ℕ) (first : Consumes input mid header) (size : length header ≡ 28) (magic : big_endian32 header 0 ≡ request_magic) where
   -- the client was lost in the bytes of a write, or the reader failed there
-  pub request-lost : (output : Option (List ℕ)) (x : ServiceFault) → IsShort (payload_len (header_of header)) mid input' x × (w' ≡ w) → Turns es (Serving agreed) w w' (streams input output) (streams input' output) (Err x)
+  pub request-lost : (output : Option (List ℕ)) (x : ServiceFault) → IsShort (payload_len (header_of header)) mid input' x × (w' ≡ w) → EndsMessage es (Serving agreed) w w' (streams input output) (streams input' output) (Err x)
   request-lost output x p =
-      let cut : IsCut (Serving agreed) (header ++ p.0.part) = inr (record { header = header; part = p.0.part; rest_is = refl; is_header = record { size = size; magic = magic }; few = p.0.few }) in
+      let cut : IsMessageCut (Serving agreed) (header ++ p.0.part) = inr (record { header = header; part = p.0.part; rest_is = refl; is_header = record { size = size; magic = magic }; few = p.0.few }) in
       turns-fault es (Serving agreed) w w' (streams input output) (streams input' output) x p.1 (header ++ p.0.part) (Consumes-trans input mid input' header p.0.part first p.0.consumed) (Keeps-refl output)
       (cut-breaks es (Serving agreed) (header ++ p.0.part) input' x p.0.cause (λ lost. cut) (inr cut))
 
   -- it was taken, and has that reply
   request-takes : (found : Option Delivery) → delivery_of e agreed (header_of header) ≡ found → (header_of header).kind ≢ 2 → (payload reply : List ℕ) → length payload ≡ payload_len (header_of header)
-      → Replies e agreed w (header_of header) payload found reply w' → TakesRequest (export_at es agreed.place) agreed w (header ++ payload) reply (Serving agreed) w'
+      → GivesReply e agreed w (header_of header) payload found reply w' → TakesRequest (export_at es agreed.place) agreed w (header ++ payload) reply (Serving agreed) w'
   request-takes found is other payload reply count replies = subst (λ x. TakesRequest x agreed w (header ++ payload) reply (Serving agreed) w') (sym at) (record {
     header = header;
     payload = payload;
@@ -251,12 +251,12 @@ module _ (es : List ExportRecord) (agreed : Agreement) (e : ExportRecord) (at : 
     size = size;
     magic = magic;
     count = count;
-    answered = inr (other, record { replies = subst (λ (f : Option Delivery). Replies e agreed w (header_of header) payload f reply w') (sym is) replies; next_is = refl });
+    answered = inr (other, record { replies = subst (λ (f : Option Delivery). GivesReply e agreed w (header_of header) payload f reply w') (sym is) replies; next_is = refl });
   })
 
   module _ (other : (header_of header).kind ≢ 2) (output output' : Option (List ℕ)) where
     request-answered : (found : Option Delivery) → delivery_of e agreed (header_of header) ≡ found → (payload reply : List ℕ) → length payload ≡ payload_len (header_of header) → Consumes mid input' payload
-        → Replies e agreed w (header_of header) payload found reply w' → Appends output output' reply → Turns es (Serving agreed) w w' (streams input output) (streams input' output') (Ok (Some (Serving agreed)))
+        → GivesReply e agreed w (header_of header) payload found reply w' → Appends output output' reply → EndsMessage es (Serving agreed) w w' (streams input output) (streams input' output') (Ok (Some (Serving agreed)))
     request-answered found is payload reply count c replies a = record {
       taken = header ++ payload;
       written = reply;
@@ -267,7 +267,7 @@ module _ (es : List ExportRecord) (agreed : Agreement) (e : ExportRecord) (at : 
 
     -- and the writer failed in its reply
     unanswered-request : (found : Option Delivery) → delivery_of e agreed (header_of header) ≡ found → (payload reply : List ℕ) → length payload ≡ payload_len (header_of header) → Consumes mid input' payload
-        → Replies e agreed w (header_of header) payload found reply w' → Turns es (Serving agreed) w w' (streams input output) (streams input' output') (Err fault.WriteFault)
+        → GivesReply e agreed w (header_of header) payload found reply w' → EndsMessage es (Serving agreed) w w' (streams input output) (streams input' output') (Err fault.WriteFault)
     unanswered-request found is payload reply count c replies = inl (record {
       message = header ++ payload;
       reply = reply;
@@ -277,13 +277,13 @@ module _ (es : List ExportRecord) (agreed : Agreement) (e : ExportRecord) (at : 
     })
 
     module _ (outcome : RequestOutcome) (none : delivery_of e agreed (header_of header) ≡ None) where
-      pub request-served : (payload : List ℕ) × (length payload ≡ payload_len (header_of header)) × Consumes mid input' payload × Serves e agreed w (header_of header) payload outcome w'
-          → Appends output output' (reply_to agreed (header_of header) outcome) → Turns es (Serving agreed) w w' (streams input output) (streams input' output') (Ok (Some (Serving agreed)))
-      request-served p a = request-answered None none p.0 (reply_to agreed (header_of header) outcome) p.1 p.2 (outcome, p.3, refl) a
+      pub request-served : (payload : List ℕ) × (length payload ≡ payload_len (header_of header)) × Consumes mid input' payload × ServesRequest e agreed w (header_of header) payload outcome w'
+          → Appends output output' (agreed_reply agreed (header_of header) outcome) → EndsMessage es (Serving agreed) w w' (streams input output) (streams input' output') (Ok (Some (Serving agreed)))
+      request-served p a = request-answered None none p.0 (agreed_reply agreed (header_of header) outcome) p.1 p.2 (outcome, p.3, refl) a
 
-      pub request-unanswered : (payload : List ℕ) × (length payload ≡ payload_len (header_of header)) × Consumes mid input' payload × Serves e agreed w (header_of header) payload outcome w'
-          → Turns es (Serving agreed) w w' (streams input output) (streams input' output') (Err fault.WriteFault)
-      request-unanswered p = unanswered-request None none p.0 (reply_to agreed (header_of header) outcome) p.1 p.2 (outcome, p.3, refl)
+      pub request-unanswered : (payload : List ℕ) × (length payload ≡ payload_len (header_of header)) × Consumes mid input' payload × ServesRequest e agreed w (header_of header) payload outcome w'
+          → EndsMessage es (Serving agreed) w w' (streams input output) (streams input' output') (Err fault.WriteFault)
+      request-unanswered p = unanswered-request None none p.0 (agreed_reply agreed (header_of header) outcome) p.1 p.2 (outcome, p.3, refl)
 
     -- it is answered piece by piece: no bytes follow it
     module _ (d : Delivery) (found : delivery_of e agreed (header_of header) ≡ Some d) (same : input' ≡ mid) where
@@ -293,10 +293,10 @@ module _ (es : List ExportRecord) (agreed : Agreement) (e : ExportRecord) (at : 
       no-payload : 0 ≡ payload_len (header_of header)
       no-payload = chunked-payload agreed (header_of header) (delivery-chunked e agreed (header_of header) d found)
 
-      pub request-delivered : Grows output output' (λ reply. IsDelivered e d w reply w') → Turns es (Serving agreed) w w' (streams input output) (streams input' output') (Ok (Some (Serving agreed)))
+      pub request-delivered : Grows output output' (λ reply. IsDelivered e d w reply w') → EndsMessage es (Serving agreed) w w' (streams input output) (streams input' output') (Ok (Some (Serving agreed)))
       request-delivered p = request-answered (Some d) found [] p.text no-payload nothing p.holds p.written
 
-      pub request-stuck : IsStuck e d w w' → Turns es (Serving agreed) w w' (streams input output) (streams input' output') (Err fault.WriteFault)
+      pub request-stuck : IsStuck e d w w' → EndsMessage es (Serving agreed) w w' (streams input output) (streams input' output') (Err fault.WriteFault)
       request-stuck (inl begun) = inr (record {
         message = header;
         consumed = subst (λ (x : Option (List ℕ)). Consumes input x header) (sym same) first;
@@ -307,8 +307,8 @@ module _ (es : List ExportRecord) (agreed : Agreement) (e : ExportRecord) (at : 
 last-payload : (h : Header) → h.kind ≡ 2 → 0 ≡ payload_len h
 last-payload h kind = sym (ap (λ (k : ℕ). if k == 1 then h.length else 0) kind)
 
-pub request-last : (es : List ExportRecord) (agreed : Agreement) (w : World) (input input' output : Option (List ℕ)) (header : List ℕ) → Consumes input input' header → length header ≡ 28 → number32 header 0 ≡ request_magic → (header_of header).kind ≡ 2
-    → Turns es (Serving agreed) w w (streams input output) (streams input' output) (Ok (Some Over))
+pub request-last : (es : List ExportRecord) (agreed : Agreement) (w : World) (input input' output : Option (List ℕ)) (header : List ℕ) → Consumes input input' header → length header ≡ 28 → big_endian32 header 0 ≡ request_magic → (header_of header).kind ≡ 2
+    → EndsMessage es (Serving agreed) w w (streams input output) (streams input' output) (Ok (Some Over))
 request-last es agreed w input input' output header c size magic kind = record {
   taken = header;
   written = [];

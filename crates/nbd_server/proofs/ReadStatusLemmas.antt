@@ -12,7 +12,7 @@ use Rattle.nbd_protocol.specs.Exports.{ExportRecord}
 use Rattle.nbd_protocol.specs.declared.request_error.RequestError.{RequestError}
 use Rattle.nbd_server.specs.Replies.{RequestOutcome}
 use Rattle.nbd_server.specs.Status.{AreReadAsZeros, HasStatus, IsStatus, TouchIgnoring, descriptor}
-use Rattle.nbd_server.specs.Transmission.{ReadsBytes, ReadsIgnoring, ReadsStatus, StaysOrReads, TellsExtents, TellsStatus}
+use Rattle.nbd_server.specs.Transmission.{ReadsExport, ReadsIgnoring, ReadsStatus, StaysOrReads, TellsExtents, TellsStatus}
 use Rattle.nbd_server.specs.declared.status.BlockStatus.{BlockStatus}
 use Rattle.nbd_server.proofs.ContentLemmas.{compared, zeros}
 use Rattle.nbd_server.proofs.DeliveryLemmas.{read-config, read-led}
@@ -79,7 +79,7 @@ unread-status offset size error one told some is =
 
 module _ (e : ExportRecord) (w : World) (offset count : ℕ) where
   -- some of them, which lie on the lines that all of them do
-  pub part-ignores : (size : ℕ) (outcome : RequestOutcome) (w' : World) → size ≤ count → size ≤ 262144 → TouchIgnoring w.stack.config e offset count → ReadsBytes e w offset size outcome w'
+  pub part-ignores : (size : ℕ) (outcome : RequestOutcome) (w' : World) → size ≤ count → size ≤ 262144 → TouchIgnoring w.stack.config e offset count → ReadsExport e w offset size outcome w'
       → ReadsIgnoring e w offset count size outcome w'
   part-ignores size outcome w' few small ignoring reads = record { few = few; small = small; ignoring = λ j below. ignoring j (omega (arith, below, few)); reads = reads }
 

@@ -15,8 +15,8 @@ use Rattle.nbd_protocol.specs.declared.request_error.RequestError.{RequestError}
 use Rattle.nbd_protocol.specs.Exports.{ExportRecord, export_at}
 use Rattle.nbd_protocol.specs.Headers.{command_of, header_of}
 use Rattle.nbd_server.specs.Replies.{RequestOutcome}
-use Rattle.nbd_server.specs.Transmission.{FailsToReadEnds, Flushes, IsFramed, ReadsBytes, ServesCommand, Settles, WritesBytes, WritesGiven, WritesPart, WritesPayload, WritesSome, room_behind}
-use Rattle.nbd_server.specs.Service.{BeginsMessage, Conversation, begins, goes_on, IsLast, IsServed, Replies, TakesMessage}
+use Rattle.nbd_server.specs.Transmission.{FailsToReadEnds, Flushes, IsFramed, ReadsExport, ServesCommand, Settles, WritesExport, WritesGiven, WritesPart, WritesPayload, WritesAny, room_behind}
+use Rattle.nbd_server.specs.Service.{BeginsMessage, Conversation, begins, goes_on, IsLastRequest, IsServedRequest, GivesReply, TakesMessage}
 use Rattle.nbd_server.specs.Delivery.{delivery_of}
 use Rattle.nbd_server.specs.declared.delivery.Delivery.{Delivery}
 use Rattle.nbd_server.proofs.DeliveryLemmas.{read-led, delivered-led, pieces-led}
@@ -25,8 +25,8 @@ use Rattle.nbd_server.proofs.ReadStatusLemmas.{status-led}
 stays-led : (w w' : World) → w' ≡ w → IsLed EachPart w w'
 stays-led w w' same = subst (IsLed EachPart w) (sym same) (led-none EachPart w)
 
-ends-led : (e : ExportRecord) (w mid w' : World) (offset length : ℕ) (before behind : RequestOutcome) → ReadsBytes e w (offset - offset % 512) (offset % 512) before mid
-    → ReadsBytes e mid (offset + length) (room_behind offset length) behind w' → IsLed EachPart w w'
+ends-led : (e : ExportRecord) (w mid w' : World) (offset length : ℕ) (before behind : RequestOutcome) → ReadsExport e w (offset - offset % 512) (offset % 512) before mid
+    → ReadsExport e mid (offset + length) (room_behind offset length) behind w' → IsLed EachPart w w'
 ends-led e w mid w' offset length before behind p q =
     led-then EachPart w mid w' (read-led e w (offset - offset % 512) (offset % 512) before mid p) (read-led e mid (offset + length) (room_behind offset length) behind w' q)
 
@@ -37,7 +37,7 @@ unread-led : (e : ExportRecord) (w : World) (offset length : ℕ) (error : Reque
 unread-led e w offset length error w' (inl p) = read-led e w (offset - offset % 512) (offset % 512) (Err error) w' p
 unread-led e w offset length error w' (inr p) = ends-led e w p.1 w' offset length (Ok p.0) (Err error) p.2 p.3
 
-bytes-led : (e : ExportRecord) (w : World) (offset : ℕ) (bytes : List ℕ) (outcome : RequestOutcome) (w' : World) → WritesBytes e w offset bytes outcome w' → IsLed EachPart w w'
+bytes-led : (e : ExportRecord) (w : World) (offset : ℕ) (bytes : List ℕ) (outcome : RequestOutcome) (w' : World) → WritesExport e w offset bytes outcome w' → IsLed EachPart w w'
 bytes-led e w offset bytes (Ok content) w' p = led-then EachPart w p.2 w' (framed-led e w offset bytes p.1 p.2 p.3) p.4.led
 bytes-led e w offset bytes (Err error) w' (inl p) = unread-led e w offset (length bytes) error w' p
 bytes-led e w offset bytes (Err error) w' (inr p) = led-then EachPart w p.1 w' (framed-led e w offset bytes p.0 p.1 p.2) p.3.led
@@ -45,7 +45,7 @@ bytes-led e w offset bytes (Err error) w' (inr p) = led-then EachPart w p.1 w' (
 part-led : (e : ExportRecord) (w : World) (offset : ℕ) (bytes : List ℕ) (outcome : RequestOutcome) (w' : World) → WritesPart e w offset bytes outcome w' → IsLed EachPart w w'
 part-led e w offset bytes outcome w' p = led-then EachPart w p.2 w' (framed-led e w offset bytes p.1 p.2 p.3) p.4.put.led
 
-write-led : (e : ExportRecord) (w : World) (offset : ℕ) (bytes : List ℕ) (outcome : RequestOutcome) (w' : World) → WritesSome e w offset bytes outcome w' → IsLed EachPart w w'
+write-led : (e : ExportRecord) (w : World) (offset : ℕ) (bytes : List ℕ) (outcome : RequestOutcome) (w' : World) → WritesAny e w offset bytes outcome w' → IsLed EachPart w w'
 write-led e w offset [] outcome w' p = stays-led w w' p.1
 write-led e w offset (byte ∷ more) outcome w' (inl p) = bytes-led e w offset (byte ∷ more) outcome w' p
 write-led e w offset (byte ∷ more) outcome w' (inr p) = part-led e w offset (byte ∷ more) outcome w' p
@@ -73,16 +73,16 @@ command-led : (e : ExportRecord) (w : World) (command : Result Command RequestEr
 command-led e w (Err error) payload outcome w' p = stays-led w w' p.1
 command-led e w (Ok (Read offset length)) payload outcome w' p = read-led e w offset length outcome w' p
 command-led e w (Ok (Write offset length fua)) payload outcome w' p = settle-led w fua (WritesGiven e w offset payload) (λ o v q. given-led e w offset payload o v q) outcome w' p
-command-led e w (Ok (Zero offset length fua)) payload outcome w' p = settle-led w fua (WritesSome e w offset (replicate length 0)) (λ o v q. write-led e w offset (replicate length 0) o v q) outcome w' p
+command-led e w (Ok (Zero offset length fua)) payload outcome w' p = settle-led w fua (WritesAny e w offset (replicate length 0)) (λ o v q. write-led e w offset (replicate length 0) o v q) outcome w' p
 command-led e w (Ok Hint) payload outcome w' p = stays-led w w' p.1
 command-led e w (Ok Flush) payload outcome w' p = flush-led w outcome w' p
 command-led e w (Ok (Status offset length one)) payload outcome w' p = status-led e w offset length one outcome w' p
 
-replies-led : (e : ExportRecord) (agreed : Agreement) (w : World) (h : Header) (payload : List ℕ) (found : Option Delivery) (reply : List ℕ) (w' : World) → Replies e agreed w h payload found reply w' → IsLed EachPart w w'
+replies-led : (e : ExportRecord) (agreed : Agreement) (w : World) (h : Header) (payload : List ℕ) (found : Option Delivery) (reply : List ℕ) (w' : World) → GivesReply e agreed w h payload found reply w' → IsLed EachPart w w'
 replies-led e agreed w h payload (Some d) reply w' p = delivered-led e d w reply w' p
 replies-led e agreed w h payload None reply w' p = command-led e w (command_of e agreed h) payload p.0 w' p.1
 
-request-led : (e : ExportRecord) (agreed : Agreement) (w : World) (header payload reply : List ℕ) (next : Phase) (w' : World) → IsLast w header reply next w' ⊎ ((header_of header).kind ≢ 2) × IsServed e agreed w header payload reply next w' → IsLed EachPart w w'
+request-led : (e : ExportRecord) (agreed : Agreement) (w : World) (header payload reply : List ℕ) (next : Phase) (w' : World) → IsLastRequest w header reply next w' ⊎ ((header_of header).kind ≢ 2) × IsServedRequest e agreed w header payload reply next w' → IsLed EachPart w w'
 request-led e agreed w header payload reply next w' (inl x) = stays-led w w' x.same
 request-led e agreed w header payload reply next w' (inr x) = replies-led e agreed w (header_of header) payload (delivery_of e agreed (header_of header)) reply w' x.1.replies
 

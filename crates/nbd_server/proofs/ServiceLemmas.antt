@@ -18,20 +18,20 @@ use Rattle.nbd_protocol.specs.declared.header.Command.TheVariants.{Read, Write, 
 use Rattle.nbd_protocol.specs.declared.request_error.RequestError.{RequestError}
 use Rattle.nbd_protocol.specs.Exports.{AreExports, ExportRecord, asked, export_at, export_records}
 use Rattle.nbd_protocol.specs.declared.export.Export.{Export}
-use Rattle.nbd_protocol.specs.Numbers.{number32}
+use Rattle.nbd_protocol.specs.Numbers.{big_endian32}
 use Rattle.nbd_protocol.specs.Headers.{command_of, header_of}
 use Rattle.nbd_server.specs.Sectors.{EndsPut, StopsPut}
 use Rattle.nbd_server.specs.Replies.{RequestOutcome}
-use Rattle.nbd_server.specs.Transmission.{FailsToReadEnds, Flushes, IsFramed, ServesCommand, Settles, WritesBytes, WritesGiven, WritesPart, WritesPayload, WritesSome, room_behind}
+use Rattle.nbd_server.specs.Transmission.{FailsToReadEnds, Flushes, IsFramed, ServesCommand, Settles, WritesExport, WritesGiven, WritesPart, WritesPayload, WritesAny, room_behind}
 use Rattle.nbd_options.specs.Handshake.{greeting, is_info, name_in, phase_after, serving_at, terms_after, terms_after_long}
 use Rattle.nbd_protocol.proofs.lemmas.ExportLemmas.{asked-inside}
-use Rattle.nbd_server.specs.Premises.{IsPlaced}
+use Rattle.nbd_server.specs.Premises.{IsExportPlaced}
 use Rattle.nbd_server.specs.Causes.{Breaks}
 use Rattle.nbd_protocol.specs.Streaming.{Spoken}
 use Rattle.nbd_protocol.specs.declared.header.Header.{Header}
 use Rattle.nbd_server.specs.Delivery.{delivery_of}
 use Rattle.nbd_server.specs.declared.delivery.Delivery.{Delivery}
-use Rattle.nbd_server.specs.Service.{AnswersOption, BeginsMessage, Conversation, begins, goes_on, Turns, IsInterrupted, IsService, IsLast, IsServed, IsUnanswered, Replies, TakesMessage}
+use Rattle.nbd_server.specs.Service.{AnswersOption, BeginsMessage, Conversation, begins, goes_on, EndsMessage, IsInterrupted, IsService, IsLastRequest, IsServedRequest, IsUnanswered, GivesReply, TakesMessage}
 use Rattle.nbd_server.proofs.DeliveryLemmas.{delivered-config, read-config}
 use Rattle.nbd_server.proofs.ReadStatusLemmas.{status-config}
 use Rattle.nbd_server.proofs.RunLemmas.{begun-led, talk-led}
@@ -51,7 +51,7 @@ held-starts es first input output output' a = record { taken = []; written = gre
 pub held-kept : {es : List ExportRecord} {first now : World} {phase : Phase} {old : Streams} (input output output' : Option (List ℕ)) → Held es first phase now old (streams input output) → Keeps output output' → Held es first phase now old (streams input output')
 held-kept {old = old} input output output' h k = record { taken = h.taken; written = h.written; consumed = h.consumed; appended = Appends-kept old.output output output' h.written h.appended k; holds = h.holds }
 
-pub held-more : {es : List ExportRecord} {first now : World} {phase : Phase} {old mid : Streams} (next : Phase) (now' : World) (new : Streams) → Held es first phase now old mid → Turns es phase now now' mid new (Ok (Some next)) → Held es first next now' old new
+pub held-more : {es : List ExportRecord} {first now : World} {phase : Phase} {old mid : Streams} (next : Phase) (now' : World) (new : Streams) → Held es first phase now old mid → EndsMessage es phase now now' mid new (Ok (Some next)) → Held es first next now' old new
 held-more {old = old} {mid = mid} next now' new h t = record {
   taken = h.taken ++ t.taken;
   written = h.written ++ t.written;
@@ -65,7 +65,7 @@ held-more {old = old} {mid = mid} next now' new h t = record {
 }
 
 -- it went away between two messages
-pub held-none : {es : List ExportRecord} {first now : World} {phase : Phase} {old mid : Streams} (now' : World) (new : Streams) (done : Unit) → Held es first phase now old mid → Turns es phase now now' mid new (Ok None) → IsService es first now' old new (Ok done)
+pub held-none : {es : List ExportRecord} {first now : World} {phase : Phase} {old mid : Streams} (now' : World) (new : Streams) (done : Unit) → Held es first phase now old mid → EndsMessage es phase now now' mid new (Ok None) → IsService es first now' old new (Ok done)
 held-none {es = es} {first = first} {now = now} {phase = phase} {old = old} {mid = mid} now' new done h t =
     let none = t.0 in
     record {
@@ -168,7 +168,7 @@ held-fails {old = old} {mid = mid} now' new h (inr t) =
 
 -- ---- any fault
 
-pub held-ends : {es : List ExportRecord} {first now : World} {phase : Phase} {old mid : Streams} (now' : World) (new : Streams) (x : ServiceFault) → Held es first phase now old mid → Turns es phase now now' mid new (Err x) → IsService es first now' old new (Err x)
+pub held-ends : {es : List ExportRecord} {first now : World} {phase : Phase} {old mid : Streams} (now' : World) (new : Streams) (x : ServiceFault) → Held es first phase now old mid → EndsMessage es phase now now' mid new (Err x) → IsService es first now' old new (Err x)
 held-ends now' new fault.Lost h t = ends-in now' new fault.Lost (λ is. (cc)) h t
 held-ends now' new fault.Magic h t = ends-in now' new fault.Magic (λ is. (cc)) h t
 held-ends now' new fault.Flags h t = ends-in now' new fault.Flags (λ is. (cc)) h t
@@ -223,7 +223,7 @@ unstored-config : (w : World) (d first : ℕ) (bytes : List ℕ) (error : Reques
 unstored-config w d first bytes error w' (inl p) = p.3.any.config
 unstored-config w d first bytes error w' (inr p) = p.2.put.put.any.config
 
-bytes-config : (e : ExportRecord) (w : World) (offset : ℕ) (bytes : List ℕ) (outcome : RequestOutcome) (w' : World) → WritesBytes e w offset bytes outcome w' → w'.stack.config ≡ w.stack.config
+bytes-config : (e : ExportRecord) (w : World) (offset : ℕ) (bytes : List ℕ) (outcome : RequestOutcome) (w' : World) → WritesExport e w offset bytes outcome w' → w'.stack.config ≡ w.stack.config
 bytes-config e w offset bytes (Ok content) w' p = p.4.put.any.config ∙ framed-config e w offset bytes p.1 p.2 p.3
 bytes-config e w offset bytes (Err error) w' (inl p) = ends-config e w offset (length bytes) error w' p
 bytes-config e w offset bytes (Err error) w' (inr p) = unstored-config p.1 e.device (offset / 512) p.0 error w' p.3.cause ∙ framed-config e w offset bytes p.0 p.1 p.2
@@ -231,7 +231,7 @@ bytes-config e w offset bytes (Err error) w' (inr p) = unstored-config p.1 e.dev
 part-config : (e : ExportRecord) (w : World) (offset : ℕ) (bytes : List ℕ) (outcome : RequestOutcome) (w' : World) → WritesPart e w offset bytes outcome w' → w'.stack.config ≡ w.stack.config
 part-config e w offset bytes outcome w' p = p.4.put.put.any.config ∙ framed-config e w offset bytes p.1 p.2 p.3
 
-write-config : (e : ExportRecord) (w : World) (offset : ℕ) (bytes : List ℕ) (outcome : RequestOutcome) (w' : World) → WritesSome e w offset bytes outcome w' → w'.stack.config ≡ w.stack.config
+write-config : (e : ExportRecord) (w : World) (offset : ℕ) (bytes : List ℕ) (outcome : RequestOutcome) (w' : World) → WritesAny e w offset bytes outcome w' → w'.stack.config ≡ w.stack.config
 write-config e w offset [] outcome w' p = same-config w w' p.1
 write-config e w offset (byte ∷ more) outcome w' (inl p) = bytes-config e w offset (byte ∷ more) outcome w' p
 write-config e w offset (byte ∷ more) outcome w' (inr p) = part-config e w offset (byte ∷ more) outcome w' p
@@ -259,16 +259,16 @@ command-config : (e : ExportRecord) (w : World) (command : Result Command Reques
 command-config e w (Err error) payload outcome w' p = same-config w w' p.1
 command-config e w (Ok (Read offset length)) payload outcome w' p = read-config e w offset length outcome w' p
 command-config e w (Ok (Write offset length fua)) payload outcome w' p = settle-config w fua (WritesGiven e w offset payload) (λ o v q. given-config e w offset payload o v q) outcome w' p
-command-config e w (Ok (Zero offset length fua)) payload outcome w' p = settle-config w fua (WritesSome e w offset (replicate length 0)) (λ o v q. write-config e w offset (replicate length 0) o v q) outcome w' p
+command-config e w (Ok (Zero offset length fua)) payload outcome w' p = settle-config w fua (WritesAny e w offset (replicate length 0)) (λ o v q. write-config e w offset (replicate length 0) o v q) outcome w' p
 command-config e w (Ok Hint) payload outcome w' p = same-config w w' p.1
 command-config e w (Ok Flush) payload outcome w' p = flush-config w outcome w' p
 command-config e w (Ok (Status offset length one)) payload outcome w' p = status-config e w offset length one outcome w' p
 
-replies-config : (e : ExportRecord) (agreed : Agreement) (w : World) (h : Header) (payload : List ℕ) (found : Option Delivery) (reply : List ℕ) (w' : World) → Replies e agreed w h payload found reply w' → w'.stack.config ≡ w.stack.config
+replies-config : (e : ExportRecord) (agreed : Agreement) (w : World) (h : Header) (payload : List ℕ) (found : Option Delivery) (reply : List ℕ) (w' : World) → GivesReply e agreed w h payload found reply w' → w'.stack.config ≡ w.stack.config
 replies-config e agreed w h payload (Some d) reply w' p = delivered-config e d w reply w' p
 replies-config e agreed w h payload None reply w' p = command-config e w (command_of e agreed h) payload p.0 w' p.1
 
-request-config : (e : ExportRecord) (agreed : Agreement) (w : World) (header payload reply : List ℕ) (next : Phase) (w' : World) → IsLast w header reply next w' ⊎ ((header_of header).kind ≢ 2) × IsServed e agreed w header payload reply next w' → w'.stack.config ≡ w.stack.config
+request-config : (e : ExportRecord) (agreed : Agreement) (w : World) (header payload reply : List ℕ) (next : Phase) (w' : World) → IsLastRequest w header reply next w' ⊎ ((header_of header).kind ≢ 2) × IsServedRequest e agreed w header payload reply next w' → w'.stack.config ≡ w.stack.config
 request-config e agreed w header payload reply next w' (inl x) = same-config w w' x.same
 request-config e agreed w header payload reply next w' (inr x) = replies-config e agreed w (header_of header) payload (delivery_of e agreed (header_of header)) reply w' x.1.replies
 
@@ -278,45 +278,45 @@ message-config es (Haggling terms) w message reply next w' p = same-config w w' 
 message-config es (Serving agreed) w message reply next w' p = request-config (export_at es agreed.place) agreed w p.header p.payload reply next w' p.answered
 message-config es Over w message reply next w' p = absurd p
 
-pub exports-kept : (exports : List Export) (phase : Phase) (w w' : World) (old new : Streams) (next : Phase) → AreExports w.stack.config exports → Turns (export_records exports) phase w w' old new (Ok (Some next))
+pub exports-kept : (exports : List Export) (phase : Phase) (w w' : World) (old new : Streams) (next : Phase) → AreExports w.stack.config exports → EndsMessage (export_records exports) phase w w' old new (Ok (Some next))
     → AreExports w'.stack.config exports
 exports-kept exports phase w w' old new next x t = subst (λ c. AreExports c exports) (sym (message-config (export_records exports) phase w t.taken t.written next w' t.holds)) x
 
 -- ---- the export that is served is one of them
 
 module _ (es : List ExportRecord) where
-  serving-placed : (terms : Terms) (name : List ℕ) (found : Option ℕ) → asked es name ≡ found → IsPlaced es (serving_at terms found)
+  serving-placed : (terms : Terms) (name : List ℕ) (found : Option ℕ) → asked es name ≡ found → IsExportPlaced es (serving_at terms found)
   serving-placed terms name (Some place) is = asked-inside es name place is
   serving-placed terms name None is = tt
 
-  after-placed : (terms : Terms) (option : ℕ) (content : List ℕ) → IsPlaced es (phase_after es terms option content)
+  after-placed : (terms : Terms) (option : ℕ) (content : List ℕ) → IsExportPlaced es (phase_after es terms option content)
   unfolding phase_after
   after-placed terms option content = go (option == 1) (option == 2) ((option == 7) && is_info content)
     where
-      go : (named ended goes : Bool) → IsPlaced es (if named then serving_at terms (asked es content) else if ended then Over else if goes then serving_at terms (asked es (name_in content)) else Haggling (terms_after es terms option content))
+      go : (named ended goes : Bool) → IsExportPlaced es (if named then serving_at terms (asked es content) else if ended then Over else if goes then serving_at terms (asked es (name_in content)) else Haggling (terms_after es terms option content))
       go true ended goes = serving-placed terms content (asked es content) refl
       go false true goes = tt
       go false false true = serving-placed terms (name_in content) (asked es (name_in content)) refl
       go false false false = tt
 
-  long-placed : (after : Terms) (ended : Bool) → IsPlaced es (if ended then Over else Haggling after)
+  long-placed : (after : Terms) (ended : Bool) → IsExportPlaced es (if ended then Over else Haggling after)
   long-placed after true = tt
   long-placed after false = tt
 
-  option-placed : (terms : Terms) (option : ℕ) (content reply : List ℕ) (next : Phase) → AnswersOption es terms option content reply next → IsPlaced es next
-  option-placed terms option content reply next (inl a) = subst (IsPlaced es) (sym a.next_is) (after-placed terms option content)
-  option-placed terms option content reply next (inr a) = subst (IsPlaced es) (sym a.next_is) (long-placed (terms_after_long terms option) (option == 2))
+  option-placed : (terms : Terms) (option : ℕ) (content reply : List ℕ) (next : Phase) → AnswersOption es terms option content reply next → IsExportPlaced es next
+  option-placed terms option content reply next (inl a) = subst (IsExportPlaced es) (sym a.next_is) (after-placed terms option content)
+  option-placed terms option content reply next (inr a) = subst (IsExportPlaced es) (sym a.next_is) (long-placed (terms_after_long terms option) (option == 2))
 
   request-placed : (e : ExportRecord) (agreed : Agreement) (w : World) (header payload reply : List ℕ) (next : Phase) (w' : World) → agreed.place < length es
-      → IsLast w header reply next w' ⊎ ((header_of header).kind ≢ 2) × IsServed e agreed w header payload reply next w' → IsPlaced es next
-  request-placed e agreed w header payload reply next w' inside (inl x) = subst (IsPlaced es) (sym x.next_is) tt
-  request-placed e agreed w header payload reply next w' inside (inr x) = subst (IsPlaced es) (sym x.1.next_is) inside
+      → IsLastRequest w header reply next w' ⊎ ((header_of header).kind ≢ 2) × IsServedRequest e agreed w header payload reply next w' → IsExportPlaced es next
+  request-placed e agreed w header payload reply next w' inside (inl x) = subst (IsExportPlaced es) (sym x.next_is) tt
+  request-placed e agreed w header payload reply next w' inside (inr x) = subst (IsExportPlaced es) (sym x.1.next_is) inside
 
-  message-placed : (phase : Phase) (w : World) (message reply : List ℕ) (next : Phase) (w' : World) → IsPlaced es phase → TakesMessage es phase w message reply next w' → IsPlaced es next
-  message-placed Greeted w message reply next w' placed p = subst (IsPlaced es) (sym p.0.next_is) tt
-  message-placed (Haggling terms) w message reply next w' placed p = option-placed terms (number32 p.0.header 8) p.0.content reply next p.0.answered
+  message-placed : (phase : Phase) (w : World) (message reply : List ℕ) (next : Phase) (w' : World) → IsExportPlaced es phase → TakesMessage es phase w message reply next w' → IsExportPlaced es next
+  message-placed Greeted w message reply next w' placed p = subst (IsExportPlaced es) (sym p.0.next_is) tt
+  message-placed (Haggling terms) w message reply next w' placed p = option-placed terms (big_endian32 p.0.header 8) p.0.content reply next p.0.answered
   message-placed (Serving agreed) w message reply next w' placed p = request-placed (export_at es agreed.place) agreed w p.header p.payload reply next w' placed p.answered
   message-placed Over w message reply next w' placed p = absurd p
 
-  pub placed-next : (phase : Phase) (w w' : World) (old new : Streams) (next : Phase) → IsPlaced es phase → Turns es phase w w' old new (Ok (Some next)) → IsPlaced es next
+  pub placed-next : (phase : Phase) (w w' : World) (old new : Streams) (next : Phase) → IsExportPlaced es phase → EndsMessage es phase w w' old new (Ok (Some next)) → IsExportPlaced es next
   placed-next phase w w' old new next placed t = message-placed phase w t.taken t.written next w' placed t.holds

@@ -7,16 +7,16 @@ use Rattle.stack_rules.specs.Records.{Configuration}
 use Rattle.stack_meaning.specs.Meaning.{said_at}
 use Rattle.stack_extents.specs.declared.extent.Extent.{Extent}
 use Rattle.stack_extents.specs.declared.extent.ExtentKind.TheVariants as known
-use Rattle.stack_extents.specs.Extents.{IgnoresZeros, IsExtent}
+use Rattle.stack_extents.specs.Extents.{IgnoresZeros, IsToldExtent}
 use Rattle.nbd_protocol.specs.Exports.{ExportRecord}
 use Rattle.nbd_protocol.specs.Numbers.{bytes32}
 use Rattle.nbd_server.specs.declared.status.BlockStatus.{BlockStatus}
 use Rattle.nbd_server.specs.declared.status.ByteExtent.{ByteExtent}
 use Rattle.nbd_server.specs.Premises.{AreBytesOf}
-use Rattle.nbd_server.specs.Status.{HasStatus, IsByteExtent, IsStatus, Tells, tells_none, tells_more, TouchZeros, descriptor, status_flags, touched}
+use Rattle.nbd_server.specs.Status.{HasStatus, IsByteExtent, IsStatus, TellsEachStatus, tells_none, tells_more, TouchZeros, descriptor, status_flags, touched}
 
 -- the part of an extent that was asked for
-pub extent-is : (c : Configuration) (e : ExportRecord) (at left count : ℕ) (extent : Extent) → 0 < left → IsExtent (said_at c (mapped e.device)) (IgnoresZeros c (mapped e.device)) (at / 512) (touched at left) extent
+pub extent-is : (c : Configuration) (e : ExportRecord) (at left count : ℕ) (extent : Extent) → 0 < left → IsToldExtent (said_at c (mapped e.device)) (IgnoresZeros c (mapped e.device)) (at / 512) (touched at left) extent
     → count ≡ min (512 * extent.count - at % 512) left → IsByteExtent c e at left (record { count = count; kind = extent.kind })
 extent-is c e at left count extent some p is = record {
   some = omega (arith, p.some, is, some);
@@ -46,7 +46,7 @@ not-true sure = let clash : false ≡ true = sure in cc
 
 -- n extents were told
 pub record Underway (Null : ℕ → ℕ → Type 0) (offset count n done : ℕ) (told : List ℕ) : Type 0 where
-  pub tells : Tells Null offset count done told
+  pub tells : TellsEachStatus Null offset count done told
   pub some : 0 < done
   pub few : done ≤ count
   pub size : length told ≡ 8 * n
@@ -58,7 +58,7 @@ module _ (Null : ℕ → ℕ → Type 0) (offset count : ℕ) where
       let all : count - 0 ≡ count = omega arith in
       let sum : 0 + s.count ≡ s.count = omega arith in
       record {
-        tells = subst (λ (n : ℕ). Tells Null offset count n (descriptor s)) sum (tells_more {told = []} s tells_none (omega arith) (subst (λ (n : ℕ). IsStatus Null n (count - 0) s) (sym at) (subst (λ (n : ℕ). IsStatus Null offset n s) (sym all) p)));
+        tells = subst (λ (n : ℕ). TellsEachStatus Null offset count n (descriptor s)) sum (tells_more {told = []} s tells_none (omega arith) (subst (λ (n : ℕ). IsStatus Null n (count - 0) s) (sym at) (subst (λ (n : ℕ). IsStatus Null offset n s) (sym all) p)));
         some = p.some;
         few = p.few;
         size = descriptor-length s;

@@ -34,8 +34,8 @@ use Rattle.nbd_protocol.specs.declared.request_error.RequestError.{RequestError}
 use Rattle.nbd_protocol.specs.declared.request_error.RequestError.TheVariants.{NoMemory, InputOutput}
 use Rattle.nbd_protocol.specs.Exports.{ExportRecord, IsExport}
 use Rattle.nbd_protocol.specs.Headers.{error_of}
-use Rattle.nbd_server.specs.Premises.{AreSectors}
-use Rattle.nbd_server.specs.Sectors.{IsStored, IsPartPut, FailsToStore, FailsToZero, EndsPut, StopsPut}
+use Rattle.nbd_server.specs.Premises.{AreExportSectors}
+use Rattle.nbd_server.specs.Sectors.{IsStored, IsPartPut, FailsToPutAll, FailsToZero, EndsPut, StopsPut}
 use Rattle.nbd_server.proofs.FetchLemmas.{named-below}
 
 abbrev pub ended : IoFault → Result Unit IoFault
@@ -88,7 +88,7 @@ stored-none w d first = record { put = write-none w.stack d first; led = led-non
 pub lacks-first : (w : World) (d first : ℕ) (bytes : List ℕ) → 0 < length bytes → FailsToZero w d first bytes NoMemory w
 lacks-first w d first bytes some = inr (refl, record { count = 0; few = some; put = stored-none w d first })
 
-pub zero-fails : (w : World) (d first : ℕ) (bytes : List ℕ) (w' : World) (result : Result Unit RequestError) → IfErr result (λ error. FailsToStore w d first bytes error w') → IfErr result (λ error. FailsToZero w d first bytes error w')
+pub zero-fails : (w : World) (d first : ℕ) (bytes : List ℕ) (w' : World) (result : Result Unit RequestError) → IfErr result (λ error. FailsToPutAll w d first bytes error w') → IfErr result (λ error. FailsToZero w d first bytes error w')
 zero-fails w d first bytes w' (Ok done) p = tt
 zero-fails w d first bytes w' (Err error) p = inl p
 
@@ -117,7 +117,7 @@ module _ (w : World) (d first : ℕ) (bytes : List ℕ) (w' : World) where
       let count : length bytes / 512 ≡ range.count = ap (λ (r : SectorRange). r.count) (range-is range h) in
       inr (refl, some refl, record { count = p.0; few = omega (arith, p.1, count); put = record { put = at-place (take (512 * p.0) bytes) (Ok tt) range h p.2; led = led } })
 
-  pub unstored : (fault : IoFault) → EncryptsAt w d first bytes fault → BytesWritten w d first bytes (Err fault) w' → FailsToStore w d first bytes (error_of fault) w'
+  pub unstored : (fault : IoFault) → EncryptsAt w d first bytes fault → BytesWritten w d first bytes (Err fault) w' → FailsToPutAll w d first bytes (error_of fault) w'
   unstored fault some s =
       let led = steps-led d first w bytes (Err fault) w' s.steps in
       record { cause = put-fails fault s.range some s.admits led s.whole; led = led }
@@ -137,7 +137,7 @@ module _ (c : Configuration) (bytes : List ℕ) (x : SectorRange) (fault : Submi
   all-tests false false true one two three h = last-tests (length bytes % 512 == 0) (may_write c (mapped x.device.0)) x fault whole may h
 
 -- sectors of an export that may be written are written, or fail
-pub not-refused : (c : Configuration) (e : ExportRecord) (first : ℕ) (bytes : List ℕ) (fault : SubmitFault) → IsExport c e → AreSectors e first bytes → write_range c e.device first bytes ≡ Err fault → ⊥
+pub not-refused : (c : Configuration) (e : ExportRecord) (first : ℕ) (bytes : List ℕ) (fault : SubmitFault) → IsExport c e → AreExportSectors e first bytes → write_range c e.device first bytes ≡ Err fault → ⊥
 not-refused c e first bytes fault export sectors h =
     let there : e.device < length c.devices = named-below c e.name e.device export.found in
     let one : nat_le (length c.devices) e.device ≡ false = grind (arith, there) in
@@ -184,7 +184,7 @@ module _ (w v w' : World) (d first : ℕ) (x y z : List ℕ) (even : length x % 
   cause-more error (inl q) = inl (q.0, q.1, q.2, pieces-end d first x y even p.put z q.1 (no-memory q.1 q.2) q.3)
   cause-more error (inr q) = inr (q.0, encrypt-more q.1, part-more q.2)
 
-  stored-fails : (error : RequestError) → FailsToStore v d (first + length x / 512) y error w' → FailsToStore w d first (x ++ (y ++ z)) error w'
+  stored-fails : (error : RequestError) → FailsToPutAll v d (first + length x / 512) y error w' → FailsToPutAll w d first (x ++ (y ++ z)) error w'
   stored-fails error q = record { cause = cause-more error q.cause; led = led-then EachPart w v w' p.led q.led }
 
   pub zeroed-fails : (error : RequestError) → FailsToZero v d (first + length x / 512) y error w' → FailsToZero w d first (x ++ (y ++ z)) error w'

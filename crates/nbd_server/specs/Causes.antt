@@ -1,7 +1,7 @@
 -- Why the service of a client ends early: the phase it was in, and what had come of the client's message.
 use Rattle.std.specs.Prelude.{◌≡◌, ◌≢◌, ◌⊎◌, ◌<◌, ◌≤◌, ℕ, List, [], ◌++◌, length, take, codes, Option, None}
 use Rattle.std.specs.Io.KnownBytes.{IsAtEnd}
-use Rattle.nbd_protocol.specs.Numbers.{number32}
+use Rattle.nbd_protocol.specs.Numbers.{big_endian32}
 use Rattle.nbd_protocol.specs.Exports.{ExportRecord, asked}
 use Rattle.nbd_protocol.specs.Headers.{header_of, payload_len, request_magic}
 use Rattle.nbd_protocol.specs.declared.fault.ServiceFault.{ServiceFault}
@@ -17,12 +17,12 @@ pub record IsOptionHeader (header : List ℕ) : Type 0 where
   pub magic : take 8 header ≡ codes "IHAVEOPT"
 
 abbrev pub data_len : List ℕ → ℕ
-data_len header = number32 header 12
+data_len header = big_endian32 header 12
 
 -- the header of a request, and how many bytes follow it
 pub record IsRequestHeader (header : List ℕ) : Type 0 where
   pub size : length header ≡ 28
-  pub magic : number32 header 0 ≡ request_magic
+  pub magic : big_endian32 header 0 ≡ request_magic
 
 abbrev pub request_payload_len : List ℕ → ℕ
 request_payload_len header = payload_len (header_of header)
@@ -40,11 +40,11 @@ pub record IsCutBehind (IsHeader : List ℕ → Type 0) (count : List ℕ → �
   pub few : length part < count header
 
 -- a message of the client began and didn't end
-abbrev pub IsCut : Phase → List ℕ → Type 0
-IsCut Greeted rest = IsCutWithin 4 rest
-IsCut (Haggling terms) rest = IsCutWithin 16 rest ⊎ IsCutBehind IsOptionHeader data_len rest
-IsCut (Serving agreed) rest = IsCutWithin 28 rest ⊎ IsCutBehind IsRequestHeader request_payload_len rest
-IsCut Over rest = ⊥
+abbrev pub IsMessageCut : Phase → List ℕ → Type 0
+IsMessageCut Greeted rest = IsCutWithin 4 rest
+IsMessageCut (Haggling terms) rest = IsCutWithin 16 rest ⊎ IsCutBehind IsOptionHeader data_len rest
+IsMessageCut (Serving agreed) rest = IsCutWithin 28 rest ⊎ IsCutBehind IsRequestHeader request_payload_len rest
+IsMessageCut Over rest = ⊥
 
 -- ---- messages that a service doesn't go on from
 
@@ -52,12 +52,12 @@ IsCut Over rest = ⊥
 abbrev pub HasOtherMagic : Phase → List ℕ → Type 0
 HasOtherMagic Greeted rest = ⊥
 HasOtherMagic (Haggling terms) rest = (length rest ≡ 16) × (take 8 rest ≢ codes "IHAVEOPT")
-HasOtherMagic (Serving agreed) rest = (length rest ≡ 28) × (number32 rest 0 ≢ request_magic)
+HasOtherMagic (Serving agreed) rest = (length rest ≡ 28) × (big_endian32 rest 0 ≢ request_magic)
 HasOtherMagic Over rest = ⊥
 
 -- the client's flags, of others than the two that were offered
 abbrev pub HasOtherFlags : Phase → List ℕ → Type 0
-HasOtherFlags Greeted rest = (length rest ≡ 4) × (4 ≤ number32 rest 0)
+HasOtherFlags Greeted rest = (length rest ≡ 4) × (4 ≤ big_endian32 rest 0)
 HasOtherFlags phase rest = ⊥
 
 -- the whole option EXPORT_NAME with that name
@@ -65,7 +65,7 @@ pub record IsNaming (rest name : List ℕ) : Type 0 where
   pub header : List ℕ
   pub rest_is : rest ≡ header ++ name
   pub is_header : IsOptionHeader header
-  pub option : number32 header 8 ≡ 1
+  pub option : big_endian32 header 8 ≡ 1
   pub count : length name ≡ data_len header
 
 -- it names no export that is there
@@ -76,9 +76,9 @@ NamesOther es phase rest = ⊥
 -- Why the service ends in that phase, where this came of a message and that is left of the input. `HasRead` says of
 -- ReadFault that the reader failed, and `HasWritten` of WriteFault that the writer did.
 abbrev pub Breaks : List ExportRecord → Phase → List ℕ → Option (List ℕ) → ServiceFault → Type 0
-Breaks es phase rest input Lost = IsCut phase rest × IsAtEnd input
+Breaks es phase rest input Lost = IsMessageCut phase rest × IsAtEnd input
 Breaks es phase rest input Magic = HasOtherMagic phase rest
 Breaks es phase rest input Flags = HasOtherFlags phase rest
 Breaks es phase rest input NoSuchExport = NamesOther es phase rest
-Breaks es phase rest input ReadFault = (rest ≡ []) ⊎ IsCut phase rest
+Breaks es phase rest input ReadFault = (rest ≡ []) ⊎ IsMessageCut phase rest
 Breaks es phase rest input WriteFault = ⊥

@@ -34,5 +34,5 @@ pub record TellsZeros (cookie : ℕ) (last : Bool) (at : ℕ) (bytes chunks : Li
   pub chunks_are : chunks ≡ hole_chunk last cookie at (length bytes)
 
 -- These chunks tell these bytes, from a place on. The last one may be that of the reply.
-abbrev pub Tells : ℕ → Bool → ℕ → List ℕ → List ℕ → Type 0
-Tells cookie last at bytes chunks = TellsSome cookie last at bytes chunks ⊎ TellsZeros cookie last at bytes chunks
+abbrev pub TellsContent : ℕ → Bool → ℕ → List ℕ → List ℕ → Type 0
+TellsContent cookie last at bytes chunks = TellsSome cookie last at bytes chunks ⊎ TellsZeros cookie last at bytes chunks

@@ -11,9 +11,9 @@ use Rattle.nbd_protocol.specs.declared.header.Header.{Header}
 use Rattle.nbd_protocol.specs.declared.phase.Agreement.{Agreement}
 use Rattle.nbd_protocol.specs.declared.request_error.RequestError.{RequestError}
 use Rattle.nbd_chunks.specs.Chunks.{error_at_chunk, hole_chunk}
-use Rattle.nbd_server.specs.Content.{Tells}
+use Rattle.nbd_server.specs.Content.{TellsContent}
 use Rattle.nbd_server.specs.Status.{TouchZeros, touched}
-use Rattle.nbd_server.specs.Transmission.{ReadsBytes}
+use Rattle.nbd_server.specs.Transmission.{ReadsExport}
 use Rattle.nbd_server.specs.declared.delivery.Delivery.{Delivery}
 use Rattle.nbd_server.specs.declared.delivery.Progress.{Progress}
 
@@ -38,13 +38,13 @@ delivery_of e a h = if is_chunked a h && not (has_df h) then bytes_asked h.cooki
 -- ---- one piece
 
 -- the most bytes of a piece: 256 KiB
-abbrev pub most_piece : ℕ
-most_piece = 262144
+abbrev pub most_piece_bytes : ℕ
+most_piece_bytes = 262144
 
 -- some of the bytes, behind those that are done; before `slow` they lie in one sector
-pub record IsPiece (d : Delivery) (p : Progress) (size : ℕ) : Type 0 where
+pub record IsDeliveryPiece (d : Delivery) (p : Progress) (size : ℕ) : Type 0 where
   pub some : 0 < size
-  pub few : size ≤ most_piece
+  pub few : size ≤ most_piece_bytes
   pub inside : p.done + size ≤ d.count
   pub single : p.done < p.slow → touched (d.offset + p.done) size ≡ 1
 
@@ -52,18 +52,18 @@ pub record IsPiece (d : Delivery) (p : Progress) (size : ℕ) : Type 0 where
 pub record IsSent (e : ExportRecord) (d : Delivery) (p : Progress) (w : World) (chunk : List ℕ) (next : Progress) (w' : World) : Type 0 where
   pub size : ℕ
   pub content : List ℕ
-  pub piece : IsPiece d p size
-  pub reads : ReadsBytes e w (d.offset + p.done) size (Ok content) w'
-  pub told : Tells d.cookie (p.done + size == d.count) (d.offset + p.done) content chunk
+  pub piece : IsDeliveryPiece d p size
+  pub reads : ReadsExport e w (d.offset + p.done) size (Ok content) w'
+  pub told : TellsContent d.cookie (p.done + size == d.count) (d.offset + p.done) content chunk
   pub next_is : next ≡ record { done = p.done + size; slow = p.slow }
 
 -- They lie in several sectors and couldn't be read: nothing is said of them, and they are read again sector by sector.
 pub record IsPutOff (e : ExportRecord) (d : Delivery) (p : Progress) (w : World) (chunk : List ℕ) (next : Progress) (w' : World) : Type 0 where
   pub size : ℕ
   pub error : RequestError
-  pub piece : IsPiece d p size
+  pub piece : IsDeliveryPiece d p size
   pub several : 1 < touched (d.offset + p.done) size
-  pub reads : ReadsBytes e w (d.offset + p.done) size (Err error) w'
+  pub reads : ReadsExport e w (d.offset + p.done) size (Err error) w'
   pub silent : chunk ≡ []
   pub next_is : next ≡ record { done = p.done; slow = p.done + size }
 
@@ -71,32 +71,32 @@ pub record IsPutOff (e : ExportRecord) (d : Delivery) (p : Progress) (w : World)
 pub record IsLost (e : ExportRecord) (d : Delivery) (p : Progress) (w : World) (chunk : List ℕ) (w' : World) : Type 0 where
   pub size : ℕ
   pub error : RequestError
-  pub piece : IsPiece d p size
+  pub piece : IsDeliveryPiece d p size
   pub one : touched (d.offset + p.done) size ≡ 1
-  pub reads : ReadsBytes e w (d.offset + p.done) size (Err error) w'
+  pub reads : ReadsExport e w (d.offset + p.done) size (Err error) w'
   pub chunk_is : chunk ≡ error_at_chunk d.cookie (d.offset + p.done) error
 
 -- They are zeros because of the lines, whatever the leaves hold: nothing is read, and a chunk says so.
 pub record IsHole (e : ExportRecord) (d : Delivery) (p : Progress) (w : World) (chunk : List ℕ) (next : Progress) (w' : World) : Type 0 where
   pub size : ℕ
-  pub piece : IsPiece d p size
+  pub piece : IsDeliveryPiece d p size
   pub zeros : TouchZeros w.stack.config e (d.offset + p.done) size
   pub chunk_is : chunk ≡ hole_chunk (p.done + size == d.count) d.cookie (d.offset + p.done) size
   pub next_is : next ≡ record { done = p.done + size; slow = p.slow }
   pub same : w' ≡ w
 
 -- a piece behind which the reply goes on
-abbrev pub GoesOn : ExportRecord → Delivery → Progress → World → List ℕ → Progress → World → Type 0
-GoesOn e d p w chunk next w' = IsSent e d p w chunk next w' ⊎ (IsPutOff e d p w chunk next w' ⊎ IsHole e d p w chunk next w')
+abbrev pub GoesOnReplying : ExportRecord → Delivery → Progress → World → List ℕ → Progress → World → Type 0
+GoesOnReplying e d p w chunk next w' = IsSent e d p w chunk next w' ⊎ (IsPutOff e d p w chunk next w' ⊎ IsHole e d p w chunk next w')
 
 -- what came of a piece whose chunk was written: how far the reply is then, or it ended at a sector that is lost
 abbrev pub AnswersPiece : ExportRecord → Delivery → Progress → World → World → Option (List ℕ) → Option (List ℕ) → Option Progress → Type 0
-AnswersPiece e d p w w' old new (Some next) = (chunk : List ℕ) × GoesOn e d p w chunk next w' × Appends old new chunk
+AnswersPiece e d p w w' old new (Some next) = (chunk : List ℕ) × GoesOnReplying e d p w chunk next w' × Appends old new chunk
 AnswersPiece e d p w w' old new None = (chunk : List ℕ) × IsLost e d p w chunk w' × Appends old new chunk
 
 -- and of one in whose chunk the writer failed
-abbrev pub ReadsPiece : ExportRecord → Delivery → Progress → World → World → Type 0
-ReadsPiece e d p w w' = ((chunk : List ℕ) × (next : Progress) × GoesOn e d p w chunk next w') ⊎ ((chunk : List ℕ) × IsLost e d p w chunk w')
+abbrev pub SendsPiece : ExportRecord → Delivery → Progress → World → World → Type 0
+SendsPiece e d p w w' = ((chunk : List ℕ) × (next : Progress) × GoesOnReplying e d p w chunk next w') ⊎ ((chunk : List ℕ) × IsLost e d p w chunk w')
 
 -- ---- the reply
 
@@ -106,7 +106,7 @@ at_first = record { done = 0; slow = 0 }
 -- pieces one after another, from the first byte on, and their chunks
 pub data Delivers (e : ExportRecord) (d : Delivery) (first : World) : Progress → World → List ℕ → Type 0 where
   delivers_none : Delivers e d first at_first first []
-  delivers_more : {p next : Progress} {w w' : World} {written : List ℕ} (chunk : List ℕ) → Delivers e d first p w written → GoesOn e d p w chunk next w'
+  delivers_more : {p next : Progress} {w w' : World} {written : List ℕ} (chunk : List ℕ) → Delivers e d first p w written → GoesOnReplying e d p w chunk next w'
       → Delivers e d first next w' (written ++ chunk)
 
 -- all of the bytes

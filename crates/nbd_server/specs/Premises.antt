@@ -7,7 +7,7 @@ use Rattle.nbd_protocol.specs.declared.export.Export.{Export}
 use Rattle.nbd_protocol.specs.declared.header.Command.{Command}
 use Rattle.nbd_protocol.specs.declared.header.Command.TheVariants.{Write}
 use Rattle.request_queue.specs.World.{World}
-use Rattle.nbd_server.specs.Transmission.{ReadsBytes, room_behind}
+use Rattle.nbd_server.specs.Transmission.{ReadsExport, room_behind}
 use Rattle.nbd_server.specs.declared.delivery.Delivery.{Delivery}
 use Rattle.nbd_server.specs.declared.delivery.Progress.{Progress}
 use Rattle.nbd_server.specs.declared.zeros.Zeros.{Zeros}
@@ -15,14 +15,14 @@ use Rattle.nbd_protocol.specs.declared.phase.Phase.{Phase}
 use Rattle.nbd_protocol.specs.declared.phase.Phase.TheVariants.{Over, Serving}
 
 -- the export that is served is one of them
-abbrev pub IsPlaced : List ExportRecord → Phase → Type 0
-IsPlaced es (Serving agreed) = agreed.place < length es
-IsPlaced es phase = Unit {0}
+abbrev pub IsExportPlaced : List ExportRecord → Phase → Type 0
+IsExportPlaced es (Serving agreed) = agreed.place < length es
+IsExportPlaced es phase = Unit {0}
 
 -- a message of the exports' client may still come
 pub record IsGoing (c : Configuration) (exports : List Export) (phase : Phase) : Type 0 where
   pub exports_are : AreExports c exports
-  pub placed : IsPlaced (export_records exports) phase
+  pub placed : IsExportPlaced (export_records exports) phase
   pub going : phase ≢ Over
 
 -- bytes of the export
@@ -47,7 +47,7 @@ pub record HaveSizes (offset count : ℕ) (front back : List ℕ) : Type 0 where
   pub behind : length back ≡ room_behind offset count
 
 -- the bytes of whole sectors of an export that may be written, from the first on
-pub record AreSectors (e : ExportRecord) (first : ℕ) (bytes : List ℕ) : Type 0 where
+pub record AreExportSectors (e : ExportRecord) (first : ℕ) (bytes : List ℕ) : Type 0 where
   pub whole : length bytes % 512 ≡ 0
   pub inside : 512 * first + length bytes ≤ e.size
   pub allowed : IsTrue e.writable
@@ -60,9 +60,9 @@ pub record HaveEnds (z : Zeros) : Type 0 where
 
 -- bytes of the export were read, with the sectors that they touch, to the beginning of a buffer
 abbrev pub ReadsTo : ExportRecord → World → ℕ → ℕ → List ℕ → World → Type 0
-ReadsTo e w at count buffer w' = ReadsBytes e w at count (Ok (take count (drop (at % 512) buffer))) w'
+ReadsTo e w at count buffer w' = ReadsExport e w at count (Ok (take count (drop (at % 512) buffer))) w'
 
 -- what is left of a READ that is answered piece by piece
-pub record IsRest (d : Delivery) (p : Progress) : Type 0 where
+pub record IsDeliveryRest (d : Delivery) (p : Progress) : Type 0 where
   pub inside : p.done ≤ d.count
   pub small : d.offset + d.count < 2 ^ 64

@@ -35,5 +35,5 @@ reply_by true h outcome = chunked_reply h outcome
 reply_by false h outcome = simple_reply h.cookie outcome
 
 -- the reply that was agreed on
-abbrev pub reply_to : Agreement → Header → RequestOutcome → List ℕ
-reply_to a h outcome = reply_by (is_chunked a h) h outcome
+abbrev pub agreed_reply : Agreement → Header → RequestOutcome → List ℕ
+agreed_reply a h outcome = reply_by (is_chunked a h) h outcome

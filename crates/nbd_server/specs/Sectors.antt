@@ -68,7 +68,7 @@ StopsPut w d first bytes error w' =
     (error ≡ NoMemory) × SomeEncrypt (said_at w.stack.config (mapped d)) first (length bytes / 512) × IsPartPut w d first bytes w'
 
 -- not all of them were put
-pub record FailsToStore (w : World) (d first : ℕ) (bytes : List ℕ) (error : RequestError) (w' : World) : Type 0 where
+pub record FailsToPutAll (w : World) (d first : ℕ) (bytes : List ℕ) (error : RequestError) (w' : World) : Type 0 where
   pub cause : EndsPut w d first bytes error w' ⊎ StopsPut w d first bytes error w'
   pub led : IsLed EachPart w w'
 
@@ -78,4 +78,4 @@ LacksRun w d first bytes error w' = (error ≡ NoMemory) × IsPartPut w d first 
 
 -- not all of these were put
 abbrev pub FailsToZero : World → ℕ → ℕ → List ℕ → RequestError → World → Type 0
-FailsToZero w d first bytes error w' = FailsToStore w d first bytes error w' ⊎ LacksRun w d first bytes error w'
+FailsToZero w d first bytes error w' = FailsToPutAll w d first bytes error w' ⊎ LacksRun w d first bytes error w'

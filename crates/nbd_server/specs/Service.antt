@@ -5,14 +5,14 @@ use Rattle.request_queue.specs.Parts.{EachPart}
 use Rattle.request_queue.specs.Runs.{IsLed}
 use Rattle.request_queue.specs.World.{World}
 use Rattle.counted_io.specs.Streams.{Streams}
-use Rattle.nbd_protocol.specs.Numbers.{number32}
+use Rattle.nbd_protocol.specs.Numbers.{big_endian32}
 use Rattle.nbd_protocol.specs.Exports.{ExportRecord, asked, export_at}
 use Rattle.nbd_options.specs.Handshake.{greeting, answer_to, answer_to_long, phase_after, phase_after_long, names_export, most_data}
 use Rattle.nbd_protocol.specs.Headers.{header_of, payload_len, request_magic}
 use Rattle.nbd_server.specs.Causes.{Breaks}
 use Rattle.nbd_protocol.specs.Streaming.{Spoken}
-use Rattle.nbd_server.specs.Replies.{RequestOutcome, reply_to}
-use Rattle.nbd_server.specs.Transmission.{Serves}
+use Rattle.nbd_server.specs.Replies.{RequestOutcome, agreed_reply}
+use Rattle.nbd_server.specs.Transmission.{ServesRequest}
 use Rattle.nbd_server.specs.Delivery.{IsBegun, IsDelivered, delivery_of}
 use Rattle.nbd_server.specs.declared.delivery.Delivery.{Delivery}
 use Rattle.nbd_protocol.specs.declared.header.Header.{Header}
@@ -26,8 +26,8 @@ use Rattle.nbd_protocol.specs.declared.phase.Phase.TheVariants.{Greeted, Hagglin
 -- The client's flags: four bytes, of the two flags that were offered. They have no reply.
 pub record TakesFlags (message reply : List ℕ) (next : Phase) : Type 0 where
   pub size : length message ≡ 4
-  pub offered : number32 message 0 < 4
-  pub next_is : next ≡ Haggling (record { no_zeroes = nat_le 2 (number32 message 0); structured = false; status = None })
+  pub offered : big_endian32 message 0 < 4
+  pub next_is : next ≡ Haggling (record { no_zeroes = nat_le 2 (big_endian32 message 0); structured = false; status = None })
   pub silent : reply ≡ []
 
 -- an option that is answered by its number and its data
@@ -54,21 +54,21 @@ pub record TakesOption (es : List ExportRecord) (terms : Terms) (message reply :
   pub message_is : message ≡ header ++ content
   pub size : length header ≡ 16
   pub magic : take 8 header ≡ codes "IHAVEOPT"
-  pub count : length content ≡ number32 header 12
-  pub answered : AnswersOption es terms (number32 header 8) content reply next
+  pub count : length content ≡ big_endian32 header 12
+  pub answered : AnswersOption es terms (big_endian32 header 8) content reply next
 
 -- what is replied to a request that is answered piece by piece, and to any other: what it gives, as was agreed on
-abbrev pub Replies : ExportRecord → Agreement → World → Header → List ℕ → Option Delivery → List ℕ → World → Type 0
-Replies e a w h payload (Some d) reply w' = IsDelivered e d w reply w'
-Replies e a w h payload None reply w' = (outcome : RequestOutcome) × Serves e a w h payload outcome w' × (reply ≡ reply_to a h outcome)
+abbrev pub GivesReply : ExportRecord → Agreement → World → Header → List ℕ → Option Delivery → List ℕ → World → Type 0
+GivesReply e a w h payload (Some d) reply w' = IsDelivered e d w reply w'
+GivesReply e a w h payload None reply w' = (outcome : RequestOutcome) × ServesRequest e a w h payload outcome w' × (reply ≡ agreed_reply a h outcome)
 
 -- a request that isn't the last
-pub record IsServed (e : ExportRecord) (agreed : Agreement) (w : World) (header payload reply : List ℕ) (next : Phase) (w' : World) : Type 0 where
-  pub replies : Replies e agreed w (header_of header) payload (delivery_of e agreed (header_of header)) reply w'
+pub record IsServedRequest (e : ExportRecord) (agreed : Agreement) (w : World) (header payload reply : List ℕ) (next : Phase) (w' : World) : Type 0 where
+  pub replies : GivesReply e agreed w (header_of header) payload (delivery_of e agreed (header_of header)) reply w'
   pub next_is : next ≡ Serving agreed
 
 -- the request by which the client ends the service: it has no reply
-pub record IsLast (w : World) (header reply : List ℕ) (next : Phase) (w' : World) : Type 0 where
+pub record IsLastRequest (w : World) (header reply : List ℕ) (next : Phase) (w' : World) : Type 0 where
   pub kind : (header_of header).kind ≡ 2
   pub silent : reply ≡ []
   pub next_is : next ≡ Over
@@ -80,9 +80,9 @@ pub record TakesRequest (e : ExportRecord) (agreed : Agreement) (w : World) (mes
   pub payload : List ℕ
   pub message_is : message ≡ header ++ payload
   pub size : length header ≡ 28
-  pub magic : number32 header 0 ≡ request_magic
+  pub magic : big_endian32 header 0 ≡ request_magic
   pub count : length payload ≡ payload_len (header_of header)
-  pub answered : IsLast w header reply next w' ⊎ ((header_of header).kind ≢ 2) × IsServed e agreed w header payload reply next w'
+  pub answered : IsLastRequest w header reply next w' ⊎ ((header_of header).kind ≢ 2) × IsServedRequest e agreed w header payload reply next w'
 
 -- One message of the client, by what it may say: from one world of the queue to the next.
 abbrev pub TakesMessage : List ExportRecord → Phase → World → List ℕ → List ℕ → Phase → World → Type 0
@@ -98,18 +98,18 @@ pub data Conversation (es : List ExportRecord) (first : World) : Phase → World
       → Conversation es first next w' (taken ++ message) (written ++ reply)
 
 -- an option that has no reply: EXPORT_NAME, whose name is no export's
-abbrev pub IsUnnamed : List ExportRecord → ℕ → List ℕ → ServiceFault → Type 0
-IsUnnamed es option content fault = (fault ≡ NoSuchExport) × (option ≡ 1) × (asked es content ≡ None)
+abbrev pub IsExportUnnamed : List ExportRecord → ℕ → List ℕ → ServiceFault → Type 0
+IsExportUnnamed es option content fault = (fault ≡ NoSuchExport) × (option ≡ 1) × (asked es content ≡ None)
 
 -- the same whose name is too long for an export's
-abbrev pub IsUnread : ℕ → ℕ → ServiceFault → Type 0
-IsUnread option count fault = (fault ≡ NoSuchExport) × (option ≡ 1) × (most_data < count)
+abbrev pub IsNameUnread : ℕ → ℕ → ServiceFault → Type 0
+IsNameUnread option count fault = (fault ≡ NoSuchExport) × (option ≡ 1) × (most_data < count)
 
 -- how a reply ends: it was written and leads to a phase, or the writer failed in it, or there is none, for such a fault
-abbrev pub Answers : (List ℕ → Phase → Type 0) → (ServiceFault → Type 0) → Option (List ℕ) → Option (List ℕ) → Result Phase ServiceFault → Type 0
-Answers Is Ends old new (Ok next) = (reply : List ℕ) × Is reply next × Appends old new reply
-Answers Is Ends old new (Err WriteFault) = (reply : List ℕ) × (next : Phase) × Is reply next
-Answers Is Ends old new (Err fault) = Keeps old new × Ends fault
+abbrev pub EndsReply : (List ℕ → Phase → Type 0) → (ServiceFault → Type 0) → Option (List ℕ) → Option (List ℕ) → Result Phase ServiceFault → Type 0
+EndsReply Is Ends old new (Ok next) = (reply : List ℕ) × Is reply next × Appends old new reply
+EndsReply Is Ends old new (Err WriteFault) = (reply : List ℕ) × (next : Phase) × Is reply next
+EndsReply Is Ends old new (Err fault) = Keeps old new × Ends fault
 
 -- a message was taken and done, and the writer failed in its reply
 pub record IsUnanswered (es : List ExportRecord) (phase : Phase) (w w' : World) (old new : Option (List ℕ)) : Type 0 where
@@ -123,7 +123,7 @@ pub record IsUnanswered (es : List ExportRecord) (phase : Phase) (w w' : World) 
 pub record BeginsRequest (e : ExportRecord) (agreed : Agreement) (w : World) (message : List ℕ) (w' : World) : Type 0 where
   pub delivery : Delivery
   pub size : length message ≡ 28
-  pub magic : number32 message 0 ≡ request_magic
+  pub magic : big_endian32 message 0 ≡ request_magic
   pub asks : delivery_of e agreed (header_of message) ≡ Some delivery
   pub begun : IsBegun e delivery w w'
 
@@ -140,11 +140,11 @@ pub record IsInterrupted (es : List ExportRecord) (phase : Phase) (w w' : World)
 
 -- how a message ends: it was taken, the input ended before it, the writer failed in its reply, or the service ends in it
 -- for its cause; then nothing happened
-abbrev pub Turns : List ExportRecord → Phase → World → World → Streams → Streams → Result (Option Phase) ServiceFault → Type 0
-Turns es phase w w' old new (Ok (Some next)) = Spoken old new (λ message reply. TakesMessage es phase w message reply next w')
-Turns es phase w w' old new (Ok None) = Spoken old new (λ taken written. (taken ≡ []) × (written ≡ []) × (w' ≡ w)) × IsAtEnd new.input
-Turns es phase w w' old new (Err WriteFault) = IsUnanswered es phase w w' old.input new.input ⊎ IsInterrupted es phase w w' old.input new.input
-Turns es phase w w' old new (Err fault) = Spoken old new (λ taken written. (written ≡ []) × (w' ≡ w) × Breaks es phase taken new.input fault)
+abbrev pub EndsMessage : List ExportRecord → Phase → World → World → Streams → Streams → Result (Option Phase) ServiceFault → Type 0
+EndsMessage es phase w w' old new (Ok (Some next)) = Spoken old new (λ message reply. TakesMessage es phase w message reply next w')
+EndsMessage es phase w w' old new (Ok None) = Spoken old new (λ taken written. (taken ≡ []) × (written ≡ []) × (w' ≡ w)) × IsAtEnd new.input
+EndsMessage es phase w w' old new (Err WriteFault) = IsUnanswered es phase w w' old.input new.input ⊎ IsInterrupted es phase w w' old.input new.input
+EndsMessage es phase w w' old new (Err fault) = Spoken old new (λ taken written. (written ≡ []) × (w' ≡ w) × Breaks es phase taken new.input fault)
 
 -- how the service ends after those messages: the client ended it or went away, or the fault has its cause in the rest
 abbrev pub EndsSo : List ExportRecord → Phase → List ℕ → Option (List ℕ) → Result Unit ServiceFault → Type 0
@@ -164,7 +164,7 @@ pub record IsHeld (es : List ExportRecord) (first last : World) (input : Option 
 
 -- What was taken is whole messages, and these were done; their replies may not all be written. Of the last message, if it
 -- is answered piece by piece, maybe only some pieces were read.
-pub record IsDone (es : List ExportRecord) (first last : World) (old new : Option (List ℕ)) : Type 0 where
+pub record IsServiceDone (es : List ExportRecord) (first last : World) (old new : Option (List ℕ)) : Type 0 where
   pub phase : Phase
   pub whole : List ℕ
   pub replies : List ℕ
@@ -179,6 +179,6 @@ pub record IsService (es : List ExportRecord) (first last : World) (old new : St
   -- unless the writer failed
   pub held : result ≢ Err WriteFault → Spoken old new (IsHeld es first last new.input result)
   -- where it failed
-  pub done : result ≡ Err WriteFault → IsDone es first last old.input new.input
+  pub done : result ≡ Err WriteFault → IsServiceDone es first last old.input new.input
   -- however it ended, its messages are a run of the queue, of which the queue's law speaks
   pub led : IsLed EachPart first last

@@ -52,14 +52,14 @@ pub record IsStatus (Null : ℕ → ℕ → Type 0) (at left : ℕ) (s : BlockSt
   pub zeros : IsTrue s.zeros → Null at s.count
 
 -- extents one after another from a place on: how many bytes they have, and what is told of them
-pub data Tells (Null : ℕ → ℕ → Type 0) (offset count : ℕ) : ℕ → List ℕ → Type 0 where
-  tells_none : Tells Null offset count 0 []
-  tells_more : {done : ℕ} {told : List ℕ} (s : BlockStatus) → Tells Null offset count done told → done ≤ count → IsStatus Null (offset + done) (count - done) s → Tells Null offset count (done + s.count) (told ++ descriptor s)
+pub data TellsEachStatus (Null : ℕ → ℕ → Type 0) (offset count : ℕ) : ℕ → List ℕ → Type 0 where
+  tells_none : TellsEachStatus Null offset count 0 []
+  tells_more : {done : ℕ} {told : List ℕ} (s : BlockStatus) → TellsEachStatus Null offset count done told → done ≤ count → IsStatus Null (offset + done) (count - done) s → TellsEachStatus Null offset count (done + s.count) (told ++ descriptor s)
 
 -- The status of bytes that were asked for: that of the first of them at least, and of one extent where that was asked.
 pub record HasStatus (Null : ℕ → ℕ → Type 0) (offset count : ℕ) (one : Bool) (told : List ℕ) : Type 0 where
   pub done : ℕ
-  pub tells : Tells Null offset count done told
+  pub tells : TellsEachStatus Null offset count done told
   pub some : 0 < done
   pub few : done ≤ count
   pub small : length told ≤ 8192

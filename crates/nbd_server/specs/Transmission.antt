@@ -9,7 +9,7 @@ use Rattle.nbd_protocol.specs.Headers.{command_of, most_length, payload_len}
 use Rattle.nbd_protocol.specs.declared.phase.Agreement.{Agreement}
 use Rattle.nbd_server.specs.Replies.{RequestOutcome}
 use Rattle.nbd_server.specs.Status.{AreReadAsZeros, HasStatus, TouchIgnoring, TouchZeros, touched}
-use Rattle.nbd_server.specs.Sectors.{IsFetched, FailsToFetch, IsStored, IsPartPut, FailsToStore}
+use Rattle.nbd_server.specs.Sectors.{IsFetched, FailsToFetch, IsStored, IsPartPut, FailsToPutAll}
 use Rattle.nbd_protocol.specs.declared.header.Header.{Header}
 use Rattle.nbd_protocol.specs.declared.header.Command.{Command}
 use Rattle.nbd_protocol.specs.declared.header.Command.TheVariants.{Read, Write, Zero, Hint, Flush, Status}
@@ -22,9 +22,9 @@ abbrev pub Stays : World → RequestOutcome → World → Type 0
 Stays w outcome w' = (outcome ≡ Ok []) × (w' ≡ w)
 
 -- bytes of the export were read: a part of the sectors that they touch
-abbrev pub ReadsBytes : ExportRecord → World → ℕ → ℕ → RequestOutcome → World → Type 0
-ReadsBytes e w offset length (Ok content) w' = (bytes : List ℕ) × IsFetched w e.device (offset / 512) (touched offset length) bytes w' × (content ≡ take length (drop (offset % 512) bytes))
-ReadsBytes e w offset length (Err error) w' = FailsToFetch w e.device (offset / 512) (touched offset length) error w'
+abbrev pub ReadsExport : ExportRecord → World → ℕ → ℕ → RequestOutcome → World → Type 0
+ReadsExport e w offset length (Ok content) w' = (bytes : List ℕ) × IsFetched w e.device (offset / 512) (touched offset length) bytes w' × (content ≡ take length (drop (offset % 512) bytes))
+ReadsExport e w offset length (Err error) w' = FailsToFetch w e.device (offset / 512) (touched offset length) error w'
 
 -- ---- writes
 
@@ -35,15 +35,15 @@ room_behind offset length = 512 * touched offset length - (offset % 512 + length
 -- what stands before some bytes in the first sector that they touch was read, and what stands behind them in the last
 pub record ReadsEnds (e : ExportRecord) (w : World) (offset length : ℕ) (before behind : List ℕ) (w' : World) : Type 0 where
   pub mid : World
-  pub first : ReadsBytes e w (offset - offset % 512) (offset % 512) (Ok before) mid
-  pub last : ReadsBytes e mid (offset + length) (room_behind offset length) (Ok behind) w'
+  pub first : ReadsExport e w (offset - offset % 512) (offset % 512) (Ok before) mid
+  pub last : ReadsExport e mid (offset + length) (room_behind offset length) (Ok behind) w'
 
 -- one of the two couldn't be read
 abbrev pub FailsToReadEnds : ExportRecord → World → ℕ → ℕ → RequestError → World → Type 0
 FailsToReadEnds e w offset length error w' =
-    ReadsBytes e w (offset - offset % 512) (offset % 512) (Err error) w'
-    ⊎ ((before : List ℕ) × (mid : World) × ReadsBytes e w (offset - offset % 512) (offset % 512) (Ok before) mid
-    × ReadsBytes e mid (offset + length) (room_behind offset length) (Err error) w')
+    ReadsExport e w (offset - offset % 512) (offset % 512) (Err error) w'
+    ⊎ ((before : List ℕ) × (mid : World) × ReadsExport e w (offset - offset % 512) (offset % 512) (Ok before) mid
+    × ReadsExport e mid (offset + length) (room_behind offset length) (Err error) w')
 
 -- the sectors that some bytes touch, with these bytes in them and around them what was read there
 pub record IsFramed (e : ExportRecord) (w : World) (offset : ℕ) (bytes sectors : List ℕ) (w' : World) : Type 0 where
@@ -53,17 +53,17 @@ pub record IsFramed (e : ExportRecord) (w : World) (offset : ℕ) (bytes sectors
   pub sectors_are : sectors ≡ before ++ (bytes ++ behind)
 
 -- bytes of the export were written: the sectors that they touch were put
-abbrev pub WritesBytes : ExportRecord → World → ℕ → List ℕ → RequestOutcome → World → Type 0
-WritesBytes e w offset bytes (Ok content) w' =
+abbrev pub WritesExport : ExportRecord → World → ℕ → List ℕ → RequestOutcome → World → Type 0
+WritesExport e w offset bytes (Ok content) w' =
     (content ≡ []) × (sectors : List ℕ) × (mid : World) × IsFramed e w offset bytes sectors mid × IsStored mid e.device (offset / 512) sectors w'
-WritesBytes e w offset bytes (Err error) w' =
+WritesExport e w offset bytes (Err error) w' =
     FailsToReadEnds e w offset (length bytes) error w'
-    ⊎ ((sectors : List ℕ) × (mid : World) × IsFramed e w offset bytes sectors mid × FailsToStore mid e.device (offset / 512) sectors error w')
+    ⊎ ((sectors : List ℕ) × (mid : World) × IsFramed e w offset bytes sectors mid × FailsToPutAll mid e.device (offset / 512) sectors error w')
 
 -- a write of no bytes does nothing
 abbrev pub WritesPayload : ExportRecord → World → ℕ → List ℕ → RequestOutcome → World → Type 0
 WritesPayload e w offset [] outcome w' = Stays w outcome w'
-WritesPayload e w offset (byte ∷ more) outcome w' = WritesBytes e w offset (byte ∷ more) outcome w'
+WritesPayload e w offset (byte ∷ more) outcome w' = WritesExport e w offset (byte ∷ more) outcome w'
 
 -- there was no memory for a run of them, and those before it were put
 abbrev pub WritesPart : ExportRecord → World → ℕ → List ℕ → RequestOutcome → World → Type 0
@@ -71,9 +71,9 @@ WritesPart e w offset bytes outcome w' =
     (outcome ≡ Err NoMemory) × (sectors : List ℕ) × (mid : World) × IsFramed e w offset bytes sectors mid × IsPartPut mid e.device (offset / 512) sectors w'
 
 -- the same of bytes that are put run by run
-abbrev pub WritesSome : ExportRecord → World → ℕ → List ℕ → RequestOutcome → World → Type 0
-WritesSome e w offset [] outcome w' = Stays w outcome w'
-WritesSome e w offset (byte ∷ more) outcome w' = WritesBytes e w offset (byte ∷ more) outcome w' ⊎ WritesPart e w offset (byte ∷ more) outcome w'
+abbrev pub WritesAny : ExportRecord → World → ℕ → List ℕ → RequestOutcome → World → Type 0
+WritesAny e w offset [] outcome w' = Stays w outcome w'
+WritesAny e w offset (byte ∷ more) outcome w' = WritesExport e w offset (byte ∷ more) outcome w' ⊎ WritesPart e w offset (byte ∷ more) outcome w'
 
 -- ---- flushes
 
@@ -96,7 +96,7 @@ pub record ReadsIgnoring (e : ExportRecord) (w : World) (offset count size : ℕ
   pub few : size ≤ count
   pub small : size ≤ 262144
   pub ignoring : TouchIgnoring w.stack.config e offset size
-  pub reads : ReadsBytes e w offset size outcome w'
+  pub reads : ReadsExport e w offset size outcome w'
 
 -- their status is told: zeros are those that were read so, and all are data where they couldn't be read
 pub record ReadsStatus (e : ExportRecord) (w : World) (offset count : ℕ) (one : Bool) (told : List ℕ) (w' : World) : Type 0 where
@@ -121,43 +121,43 @@ TellsStatus e w offset count one (Err error) w' = (error ≡ NoMemory) × StaysO
 -- ---- requests
 
 -- this outcome, and nothing happened
-abbrev pub Refuses : World → RequestError → RequestOutcome → World → Type 0
-Refuses w error outcome w' = (outcome ≡ Err error) × (w' ≡ w)
+abbrev pub RefusesRequest : World → RequestError → RequestOutcome → World → Type 0
+RefusesRequest w error outcome w' = (outcome ≡ Err error) × (w' ≡ w)
 
 -- a write of bytes that follow the request; where there is no memory for them nothing is done
 abbrev pub WritesGiven : ExportRecord → World → ℕ → List ℕ → RequestOutcome → World → Type 0
-WritesGiven e w offset bytes outcome w' = Refuses w NoMemory outcome w' ⊎ WritesPayload e w offset bytes outcome w'
+WritesGiven e w offset bytes outcome w' = RefusesRequest w NoMemory outcome w' ⊎ WritesPayload e w offset bytes outcome w'
 
 -- How a request ends that asks for this, or has that fault. WRITE_ZEROES is a write of as many zeros, run by run.
 abbrev pub ServesCommand : ExportRecord → World → Result Command RequestError → List ℕ → RequestOutcome → World → Type 0
-ServesCommand e w (Err error) payload outcome w' = Refuses w error outcome w'
-ServesCommand e w (Ok (Read offset length)) payload outcome w' = ReadsBytes e w offset length outcome w'
+ServesCommand e w (Err error) payload outcome w' = RefusesRequest w error outcome w'
+ServesCommand e w (Ok (Read offset length)) payload outcome w' = ReadsExport e w offset length outcome w'
 ServesCommand e w (Ok (Write offset length fua)) payload outcome w' = Settles fua (WritesGiven e w offset payload) outcome w'
-ServesCommand e w (Ok (Zero offset length fua)) payload outcome w' = Settles fua (WritesSome e w offset (replicate length 0)) outcome w'
+ServesCommand e w (Ok (Zero offset length fua)) payload outcome w' = Settles fua (WritesAny e w offset (replicate length 0)) outcome w'
 ServesCommand e w (Ok Hint) payload outcome w' = Stays w outcome w'
 ServesCommand e w (Ok Flush) payload outcome w' = Flushes w outcome w'
 ServesCommand e w (Ok (Status offset length one)) payload outcome w' = TellsStatus e w offset length one outcome w'
 
 -- how a request ends
-abbrev pub Serves : ExportRecord → Agreement → World → Header → List ℕ → RequestOutcome → World → Type 0
-Serves e a w h payload outcome w' = ServesCommand e w (command_of e a h) payload outcome w'
+abbrev pub ServesRequest : ExportRecord → Agreement → World → Header → List ℕ → RequestOutcome → World → Type 0
+ServesRequest e a w h payload outcome w' = ServesCommand e w (command_of e a h) payload outcome w'
 
 -- the part of the bytes that is meant
-abbrev pub data_of : Data → List ℕ
-data_of d = take d.length (drop d.start d.bytes.items)
+abbrev pub reply_data : Data → List ℕ
+reply_data d = take d.length (drop d.start d.bytes.items)
 
-abbrev pub outcome_of : Result Data RequestError → RequestOutcome
-outcome_of (Ok d) = Ok (data_of d)
-outcome_of (Err error) = Err error
+abbrev pub data_outcome : Result Data RequestError → RequestOutcome
+data_outcome (Ok d) = Ok (reply_data d)
+data_outcome (Err error) = Err error
 
 -- a write gives no bytes
-abbrev pub written : Result Unit RequestError → RequestOutcome
-written (Ok done) = Ok []
-written (Err error) = Err error
+abbrev pub no_bytes : Result Unit RequestError → RequestOutcome
+no_bytes (Ok done) = Ok []
+no_bytes (Err error) = Err error
 
 -- the part lies within the bytes
-abbrev pub IsInside : Result Data RequestError → Type 0
-IsInside outcome = IfOk outcome (λ d. d.start + d.length ≤ length d.bytes.items)
+abbrev pub IsPartInside : Result Data RequestError → Type 0
+IsPartInside outcome = IfOk outcome (λ d. d.start + d.length ≤ length d.bytes.items)
 
 -- it does, and is at most what a request may ask for
 pub record IsPart (d : Data) : Type 0 where
@@ -168,9 +168,9 @@ abbrev pub IsSendable : Result Data RequestError → Type 0
 IsSendable outcome = IfOk outcome IsPart
 
 -- the bytes that follow a request were taken, and it was served
-pub record IsServed (e : ExportRecord) (a : Agreement) (w : World) (h : Header) (old new : Option (List ℕ)) (outcome : Result Data RequestError) (w' : World) : Type 0 where
+pub record IsTakenAndServed (e : ExportRecord) (a : Agreement) (w : World) (h : Header) (old new : Option (List ℕ)) (outcome : Result Data RequestError) (w' : World) : Type 0 where
   pub payload : List ℕ
   pub size : length payload ≡ payload_len h
   pub consumed : Consumes old new payload
-  pub serves : Serves e a w h payload (outcome_of outcome) w'
+  pub serves : ServesRequest e a w h payload (data_outcome outcome) w'
   pub inside : IsSendable outcome

@@ -3,7 +3,7 @@ ghost use Rattle.std.specs.Prelude.{◌≡◌, ◌<◌, ◌≤◌, ◌+◌, ◌*
 ghost use Rattle.nbd_protocol.specs.Exports.{export_record};
 ghost use Rattle.nbd_server.specs.Premises.{AreBytesOf, HaveSizes};
 ghost use Rattle.nbd_server.specs.Status.{touched};
-ghost use Rattle.nbd_server.specs.Transmission.{FailsToReadEnds, IsInside, ReadsBytes, ReadsEnds, WritesBytes, WritesSome, data_of, outcome_of, written};
+ghost use Rattle.nbd_server.specs.Transmission.{FailsToReadEnds, IsPartInside, ReadsExport, ReadsEnds, WritesExport, WritesAny, reply_data, data_outcome, no_bytes};
 
 use crate::fetch::fetch;
 use crate::reply::Data;
@@ -30,8 +30,8 @@ pub(crate) fn read_bytes<D: BlockDev>(
     len: u32,
 ) -> Result<Data, RequestError>
     requires { AreBytesOf queue.old.stack.config (export_record export.now) offset len }
-    ensures value { ReadsBytes (export_record export.now) queue.old offset len (outcome_of result) queue.new }
-    ensures inside { IsInside result }
+    ensures value { ReadsExport (export_record export.now) queue.old offset len (data_outcome result) queue.new }
+    ensures inside { IsPartInside result }
     ensures size { IfOk result (λ d. d.length ≡ len) }
 {
     let count = touched(offset, len) as u64;
@@ -59,9 +59,9 @@ fn read_ends<D: BlockDev>(
     len: u32,
 ) -> Result<Ends, RequestError>
     requires { AreBytesOf queue.old.stack.config (export_record export.now) offset len }
-    ensures ok { IfOk result (λ ends. ReadsEnds (export_record export.now) queue.old offset len (data_of ends.before) (data_of ends.behind) queue.new) }
-    ensures sizes { IfOk result (λ ends. HaveSizes offset len (data_of ends.before) (data_of ends.behind)) }
-    ensures inside { IfOk result (λ ends. IsInside (Ok ends.before) × IsInside (Ok ends.behind)) }
+    ensures ok { IfOk result (λ ends. ReadsEnds (export_record export.now) queue.old offset len (reply_data ends.before) (reply_data ends.behind) queue.new) }
+    ensures sizes { IfOk result (λ ends. HaveSizes offset len (reply_data ends.before) (reply_data ends.behind)) }
+    ensures inside { IfOk result (λ ends. IsPartInside (Ok ends.before) × IsPartInside (Ok ends.behind)) }
     ensures err { IfErr result (λ error. FailsToReadEnds (export_record export.now) queue.old offset len error queue.new) }
 {
     let start = (offset % 512) as usize;
@@ -83,7 +83,7 @@ pub(crate) fn write_bytes<D: BlockDev>(
     requires bytes { AreBytesOf queue.old.stack.config (export_record export.now) offset len }
     requires room { length bytes.old ≡ 512 * touched offset len }
     requires allowed { IsTrue export.now.writable }
-    ensures { WritesBytes (export_record export.now) queue.old offset (take len (drop (offset % 512) bytes.old)) (written result) queue.new }
+    ensures { WritesExport (export_record export.now) queue.old offset (take len (drop (offset % 512) bytes.old)) (no_bytes result) queue.new }
 {
     let ends = read_ends(alloc, queue, export, offset, len)?;
     let start = (offset % 512) as usize;
@@ -103,7 +103,7 @@ pub(crate) fn write_zeros<D: BlockDev>(
 ) -> Result<(), RequestError>
     requires bytes { AreBytesOf queue.old.stack.config (export_record export.now) offset len }
     requires allowed { IsTrue export.now.writable }
-    ensures { WritesSome (export_record export.now) queue.old offset (replicate len 0) (written result) queue.new }
+    ensures { WritesAny (export_record export.now) queue.old offset (replicate len 0) (no_bytes result) queue.new }
 {
     if len == 0 {
         return Ok(());

@@ -2,7 +2,7 @@
 ghost use Rattle.std.specs.Prelude.{◌≡◌, ◌≤◌, ◌<◌, ◌+◌, ◌-◌, ◌^◌, drop, length, replicate, take};
 ghost use Rattle.std.specs.Str.{bytes_eq};
 ghost use Rattle.counted_io.specs.Counted.{WritesSome};
-ghost use Rattle.nbd_server.specs.Content.{HaveData, Tells, TellsData};
+ghost use Rattle.nbd_server.specs.Content.{HaveData, TellsContent, TellsData};
 
 use counted_io::{Counted, WriteFault};
 use nbd_chunks::{say_data, say_hole};
@@ -87,7 +87,7 @@ pub(crate) fn say_content<W: Write>(
     requires some { 0 < length bytes.now }
     requires few { 8 + length bytes.now < 2 ^ 32 }
     requires place { at + length bytes.now < 2 ^ 64 }
-    ensures { WritesSome W.contents writer.old writer.new (Tells cookie last at bytes.now) result }
+    ensures { WritesSome W.contents writer.old writer.new (TellsContent cookie last at bytes.now) result }
 {
     let front = zeros_before(bytes);
     if front == bytes.len() {

@@ -3,11 +3,11 @@ ghost use Rattle.std.specs.Prelude.{◌≡◌, ◌<◌, ◌≤◌, ◌+◌, ◌*
 ghost use Rattle.counted_io.specs.Counted.{Writes, WritesSome};
 ghost use Rattle.nbd_protocol.specs.Exports.{export_record};
 ghost use Rattle.nbd_chunks.specs.Chunks.{hole_chunk};
-ghost use Rattle.nbd_server.specs.Content.{Tells};
-ghost use Rattle.nbd_server.specs.Premises.{AreBytesOf, IsRest, ReadsTo};
+ghost use Rattle.nbd_server.specs.Content.{TellsContent};
+ghost use Rattle.nbd_server.specs.Premises.{AreBytesOf, IsDeliveryRest, ReadsTo};
 ghost use Rattle.nbd_server.specs.Status.{touched};
-ghost use Rattle.nbd_server.specs.Transmission.{ReadsBytes};
-ghost use Rattle.nbd_server.specs.Delivery.{AnswersPiece, IsDelivered, IsPiece, IsStuck, ReadsPiece, delivery_of, has_df, most_piece};
+ghost use Rattle.nbd_server.specs.Transmission.{ReadsExport};
+ghost use Rattle.nbd_server.specs.Delivery.{AnswersPiece, IsDelivered, IsDeliveryPiece, IsStuck, SendsPiece, delivery_of, has_df, most_piece_bytes};
 
 use crate::byte_range::touched;
 use crate::content::say_content;
@@ -77,7 +77,7 @@ impl Delivery {
 
     // The place of the next byte.
     fn at(self, progress: Progress) -> u64
-        requires { IsRest self progress }
+        requires { IsDeliveryRest self progress }
         ensures { result ≡ self.offset + progress.done }
     {
         self.offset + u64::from(progress.done)
@@ -85,9 +85,9 @@ impl Delivery {
 
     // How many bytes the next piece has.
     fn piece_len(self, progress: Progress) -> u32
-        requires rest { IsRest self progress }
+        requires rest { IsDeliveryRest self progress }
         requires some { progress.done < self.count }
-        ensures { IsPiece self progress result }
+        ensures { IsDeliveryPiece self progress result }
     {
         let room = room_at(self.at(progress), progress.done < progress.slow);
         room.min(u64::from(self.count - progress.done)) as u32
@@ -97,7 +97,7 @@ impl Delivery {
 // How many bytes there are from a place on up to the end of its piece, or of its sector alone.
 fn room_at(at: u64, single: bool) -> u64
     ensures some { 0 < result }
-    ensures few { result ≤ most_piece }
+    ensures few { result ≤ most_piece_bytes }
     ensures single { IsTrue single → at % 512 + result ≤ 512 }
 {
     if single {
@@ -113,10 +113,10 @@ fn say_piece<W: Write>(
     progress: Progress,
     content: &[u8],
 ) -> Result<(), WriteFault>
-    requires rest { IsRest delivery progress }
-    requires piece { IsPiece delivery progress (length content.now) }
+    requires rest { IsDeliveryRest delivery progress }
+    requires piece { IsDeliveryPiece delivery progress (length content.now) }
     ensures { WritesSome W.contents writer.old writer.new
-        (Tells delivery.cookie (progress.done + length content.now == delivery.count) (delivery.offset + progress.done) content.now) result }
+        (TellsContent delivery.cookie (progress.done + length content.now == delivery.count) (delivery.offset + progress.done) content.now) result }
 {
     let done = progress.done + content.len() as u32;
     let at = delivery.at(progress);
@@ -132,8 +132,8 @@ fn say_zeros<W: Write>(
     progress: Progress,
     size: u32,
 ) -> Result<(), WriteFault>
-    requires rest { IsRest delivery progress }
-    requires piece { IsPiece delivery progress size }
+    requires rest { IsDeliveryRest delivery progress }
+    requires piece { IsDeliveryPiece delivery progress size }
     ensures { Writes W.contents writer.old writer.new
         (hole_chunk (progress.done + size == delivery.count) delivery.cookie (delivery.offset + progress.done) size) result }
 {
@@ -154,7 +154,7 @@ fn read_to<D: BlockDev>(
     requires bytes { AreBytesOf queue.old.stack.config (export_record export.now) at size }
     requires room { 512 * touched at size ≤ length out.old }
     ensures ok { OnOk result (ReadsTo (export_record export.now) queue.old at size out.new queue.new) }
-    ensures err { IfErr result (λ error. ReadsBytes (export_record export.now) queue.old at size (Err error) queue.new) }
+    ensures err { IfErr result (λ error. ReadsExport (export_record export.now) queue.old at size (Err error) queue.new) }
 {
     let count = touched(at, size);
     read_into(
@@ -177,7 +177,7 @@ fn read_piece<D: BlockDev>(
     requires { AreBytesOf queue.old.stack.config (export_record export.now) at size }
     ensures ok { OnOk result (ReadsTo (export_record export.now) queue.old at size room.new.bytes.items queue.new) }
     ensures inside { OnOk result (at % 512 + size ≤ length room.new.bytes.items) }
-    ensures err { IfErr result (λ error. ReadsBytes (export_record export.now) queue.old at size (Err error) queue.new) }
+    ensures err { IfErr result (λ error. ReadsExport (export_record export.now) queue.old at size (Err error) queue.new) }
 {
     room.grow(512 * touched(at, size))?;
     read_to(queue, export, at, size, room.bytes.as_mut_slice())
@@ -195,7 +195,7 @@ fn deliver_piece<D: BlockDev, W: Write>(
     requires bytes { AreBytesOf queue.old.stack.config (export_record export.now) delivery.offset delivery.count }
     requires some { progress.done < delivery.count }
     ensures ok { IfOk result (AnswersPiece (export_record export.now) delivery progress queue.old queue.new (W.contents writer.old.inner) (W.contents writer.new.inner)) }
-    ensures err { OnErr result (ReadsPiece (export_record export.now) delivery progress queue.old queue.new) }
+    ensures err { OnErr result (SendsPiece (export_record export.now) delivery progress queue.old queue.new) }
     ensures kept { IfOk result (λ _. writer.new.failed ≡ writer.old.failed) }
     ensures failed { OnErr result (writer.new.failed ≡ true) }
 {
@@ -235,7 +235,7 @@ fn deliver_next<D: BlockDev, W: Write>(
     requires bytes { AreBytesOf queue.old.stack.config (export_record export.now) delivery.offset delivery.count }
     requires some { progress.done < delivery.count }
     ensures ok { IfOk result (AnswersPiece (export_record export.now) delivery progress queue.old queue.new (W.contents writer.old.inner) (W.contents writer.new.inner)) }
-    ensures err { OnErr result (ReadsPiece (export_record export.now) delivery progress queue.old queue.new) }
+    ensures err { OnErr result (SendsPiece (export_record export.now) delivery progress queue.old queue.new) }
     ensures kept { IfOk result (λ _. writer.new.failed ≡ writer.old.failed) }
     ensures failed { OnErr result (writer.new.failed ≡ true) }
 {

@@ -3,8 +3,8 @@ ghost use Rattle.std.specs.Prelude.{◌≡◌, ◌≢◌, ◌<◌, ◌≤◌, �
 ghost use Rattle.counted_io.specs.Streams.{streams};
 ghost use Rattle.request_queue.specs.World.{World};
 ghost use Rattle.nbd_protocol.specs.Exports.{HaveShortNames, ExportRecord, export_records};
-ghost use Rattle.nbd_server.specs.Service.{Answers, IsAnswered, IsTooLong, IsUnnamed, IsUnread, Turns};
-ghost use Rattle.nbd_protocol.specs.Streaming.{HasRead, HasWritten, IsShort, TakesInto, content_in, fault_of};
+ghost use Rattle.nbd_server.specs.Service.{EndsReply, IsAnswered, IsTooLong, IsExportUnnamed, IsNameUnread, EndsMessage};
+ghost use Rattle.nbd_protocol.specs.Streaming.{HasRead, HasWritten, IsShort, TakesInto, content_in, result_fault};
 ghost use Rattle.nbd_protocol.specs.declared.phase.Phase.TheVariants.{Greeted, Haggling};
 
 use counted_io::Counted;
@@ -20,8 +20,8 @@ const MOST_DATA: usize = 65536;
 
 /// Takes the client's flags.
 pub(crate) fn take_flags<R: Read>(reader: &mut Counted<R>) -> Result<Option<Phase>, ServiceFault>
-    ensures turn { (es : List ExportRecord) (w : World) (written : Option (List ℕ)) → Turns es Greeted w w (streams (R.remaining reader.old.inner) written) (streams (R.remaining reader.new.inner) written) result }
-    ensures reader { HasRead 1 reader.old reader.new (fault_of result) }
+    ensures turn { (es : List ExportRecord) (w : World) (written : Option (List ℕ)) → EndsMessage es Greeted w w (streams (R.remaining reader.old.inner) written) (streams (R.remaining reader.new.inner) written) result }
+    ensures reader { HasRead 1 reader.old reader.new (result_fault result) }
     ensures other { result ≢ Err ServiceFault.WriteFault }
 {
     let mut bytes = [0u8; 4];
@@ -51,7 +51,7 @@ fn take_content<R: Read>(
     ensures ok { IfOk result (λ fits. TakesInto (content_in fits count room.new) count (R.remaining reader.old.inner) (R.remaining reader.new.inner)) }
     ensures fits { IfOk result (λ fits. fits ≡ nat_le count MOST_DATA) }
     ensures err { IfErr result (IsShort count (R.remaining reader.old.inner) (R.remaining reader.new.inner)) }
-    ensures reader { HasRead 0 reader.old reader.new (fault_of result) }
+    ensures reader { HasRead 0 reader.old reader.new (result_fault result) }
 {
     if count as usize > MOST_DATA {
         skip(reader, count)?;
@@ -74,8 +74,8 @@ fn refuse_content<W: Write>(
     writer: &mut Counted<W>,
 ) -> Result<Phase, ServiceFault>
     requires { MOST_DATA < count }
-    ensures answer { Answers (IsTooLong terms option count) (IsUnread option count) (W.contents writer.old.inner) (W.contents writer.new.inner) result }
-    ensures writer { HasWritten writer.old writer.new (fault_of result) }
+    ensures answer { EndsReply (IsTooLong terms option count) (IsNameUnread option count) (W.contents writer.old.inner) (W.contents writer.new.inner) result }
+    ensures writer { HasWritten writer.old writer.new (result_fault result) }
 {
     if option == EXPORT_NAME {
         return Err(ServiceFault::NoSuchExport);
@@ -100,8 +100,8 @@ fn answer_option<W: Write>(
 ) -> Result<Phase, ServiceFault>
     requires names { HaveShortNames exports.now }
     requires short { length content.now ≤ MOST_DATA }
-    ensures answer { Answers (IsAnswered (export_records exports.now) terms option content.now) (IsUnnamed (export_records exports.now) option content.now) (W.contents writer.old.inner) (W.contents writer.new.inner) result }
-    ensures writer { HasWritten writer.old writer.new (fault_of result) }
+    ensures answer { EndsReply (IsAnswered (export_records exports.now) terms option content.now) (IsExportUnnamed (export_records exports.now) option content.now) (W.contents writer.old.inner) (W.contents writer.new.inner) result }
+    ensures writer { HasWritten writer.old writer.new (result_fault result) }
 {
     if !names_export(exports, option, content) {
         return Err(ServiceFault::NoSuchExport);
@@ -118,10 +118,10 @@ pub(crate) fn take_option<R: Read, W: Write>(
     writer: &mut Counted<W>,
 ) -> Result<Option<Phase>, ServiceFault>
     requires { HaveShortNames exports.now }
-    ensures turn { (w : World) → Turns (export_records exports.now) (Haggling terms) w w
+    ensures turn { (w : World) → EndsMessage (export_records exports.now) (Haggling terms) w w
         (streams (R.remaining reader.old.inner) (W.contents writer.old.inner)) (streams (R.remaining reader.new.inner) (W.contents writer.new.inner)) result }
-    ensures reader { HasRead 1 reader.old reader.new (fault_of result) }
-    ensures writer { HasWritten writer.old writer.new (fault_of result) }
+    ensures reader { HasRead 1 reader.old reader.new (result_fault result) }
+    ensures writer { HasWritten writer.old writer.new (result_fault result) }
 {
     let mut header = [0u8; 16];
     if !fill(reader, &mut header)? {

@@ -3,8 +3,8 @@ ghost use Rattle.std.specs.Prelude.{◌≡◌, ◌<◌, ◌≤◌, ◌+◌, ◌^
 ghost use Rattle.counted_io.specs.Counted.{Writes};
 ghost use Rattle.nbd_protocol.specs.Headers.{most_length};
 ghost use Rattle.nbd_protocol.specs.Numbers.{bytes32, bytes64};
-ghost use Rattle.nbd_server.specs.Replies.{chunked_reply, content_chunk, read_chunk, reply_to, simple_reply};
-ghost use Rattle.nbd_server.specs.Transmission.{IsPart, IsSendable, data_of, outcome_of};
+ghost use Rattle.nbd_server.specs.Replies.{chunked_reply, content_chunk, read_chunk, agreed_reply, simple_reply};
+ghost use Rattle.nbd_server.specs.Transmission.{IsPart, IsSendable, reply_data, data_outcome};
 
 use counted_io::{Counted, WriteFault};
 use nbd_chunks::{say_data, say_error, say_none, say_status};
@@ -25,7 +25,7 @@ pub(crate) struct Data {
 impl Data {
     /// No bytes.
     pub(crate) fn none(alloc: Global) -> Data
-        ensures value { data_of result ≡ [] }
+        ensures value { reply_data result ≡ [] }
         ensures inside { IsPart result }
     {
         Data {
@@ -38,7 +38,7 @@ impl Data {
     /// All of these bytes.
     pub(crate) fn all(bytes: Vec<u8>) -> Data
         requires { length bytes.items ≤ most_length }
-        ensures value { data_of result ≡ bytes.items }
+        ensures value { reply_data result ≡ bytes.items }
         ensures inside { IsPart result }
     {
         let length = bytes.len();
@@ -52,7 +52,7 @@ impl Data {
     /// The bytes that are meant.
     pub(crate) fn part(&self) -> &[u8]
         requires { self.now.start + self.now.length ≤ length self.now.bytes.items }
-        ensures { result.now ≡ data_of self.now }
+        ensures { result.now ≡ reply_data self.now }
     {
         &self.bytes[self.start..self.start + self.length]
     }
@@ -74,7 +74,7 @@ fn say_simple<W: Write>(
     outcome: Result<Data, RequestError>,
 ) -> Result<(), WriteFault>
     requires { IsSendable outcome }
-    ensures { Writes W.contents writer.old writer.new (simple_reply cookie (outcome_of outcome)) result }
+    ensures { Writes W.contents writer.old writer.new (simple_reply cookie (data_outcome outcome)) result }
 {
     match outcome {
         Ok(data) => {
@@ -122,7 +122,7 @@ fn say_chunks<W: Write>(
     outcome: Result<Data, RequestError>,
 ) -> Result<(), WriteFault>
     requires { IsSendable outcome }
-    ensures { Writes W.contents writer.old writer.new (chunked_reply header (outcome_of outcome)) result }
+    ensures { Writes W.contents writer.old writer.new (chunked_reply header (data_outcome outcome)) result }
 {
     match outcome {
         Ok(data) => say_content(writer, header, data.part()),
@@ -138,7 +138,7 @@ pub(crate) fn say_reply<W: Write>(
     outcome: Result<Data, RequestError>,
 ) -> Result<(), WriteFault>
     requires { IsSendable outcome }
-    ensures { Writes W.contents writer.old writer.new (reply_to agreed header (outcome_of outcome)) result }
+    ensures { Writes W.contents writer.old writer.new (agreed_reply agreed header (data_outcome outcome)) result }
 {
     if header.is_chunked(agreed) {
         return say_chunks(writer, header, outcome);

@@ -3,8 +3,8 @@ ghost use Rattle.std.specs.Prelude.{◌≢◌};
 ghost use Rattle.counted_io.specs.Streams.{streams};
 ghost use Rattle.nbd_protocol.specs.Exports.{AreExports, export_records};
 ghost use Rattle.nbd_server.specs.Premises.{IsGoing};
-ghost use Rattle.nbd_server.specs.Service.{IsService, Turns};
-ghost use Rattle.nbd_protocol.specs.Streaming.{HasRead, HasWritten, fault_of};
+ghost use Rattle.nbd_server.specs.Service.{IsService, EndsMessage};
+ghost use Rattle.nbd_protocol.specs.Streaming.{HasRead, HasWritten, result_fault};
 ghost use Rattle.nbd_protocol.specs.declared.phase.Phase.TheVariants.{Over};
 
 use crate::haggling::{take_flags, take_option};
@@ -29,10 +29,10 @@ fn take_message<D: SyncDev, R: Read, W: Write>(
     writer: &mut Counted<W>,
 ) -> Result<Option<Phase>, ServiceFault>
     requires { IsGoing queue.old.stack.config exports.now phase }
-    ensures turn { Turns (export_records exports.now) phase queue.old queue.new
+    ensures turn { EndsMessage (export_records exports.now) phase queue.old queue.new
         (streams (R.remaining reader.old.inner) (W.contents writer.old.inner)) (streams (R.remaining reader.new.inner) (W.contents writer.new.inner)) result }
-    ensures reader { HasRead 1 reader.old reader.new (fault_of result) }
-    ensures writer { HasWritten writer.old writer.new (fault_of result) }
+    ensures reader { HasRead 1 reader.old reader.new (result_fault result) }
+    ensures writer { HasWritten writer.old writer.new (result_fault result) }
 {
     match phase {
         Phase::Greeted => take_flags(reader),
@@ -58,8 +58,8 @@ pub fn serve<D: SyncDev, R: Read, W: Write>(
     requires { AreExports queue.old.stack.config exports.now }
     ensures service { IsService (export_records exports.now) queue.old queue.new
         (streams (R.remaining reader.old.inner) (W.contents writer.old.inner)) (streams (R.remaining reader.new.inner) (W.contents writer.new.inner)) result }
-    ensures reader { HasRead 0 reader.old reader.new (fault_of result) }
-    ensures writer { HasWritten writer.old writer.new (fault_of result) }
+    ensures reader { HasRead 0 reader.old reader.new (result_fault result) }
+    ensures writer { HasWritten writer.old writer.new (result_fault result) }
 {
     writer.put(&GREETING)?;
     let mut room = Room::new(alloc);

@@ -1,8 +1,8 @@
 //! Puts sectors of the export.
 ghost use Rattle.std.specs.Prelude.{◌≡◌, ◌<◌, ◌≤◌, ◌+◌, ◌/◌, ◌%◌, ◌^◌, length, IfErr, OnOk};
-ghost use Rattle.nbd_server.specs.Sectors.{FailsToStore, FailsToZero, IsStored};
+ghost use Rattle.nbd_server.specs.Sectors.{FailsToPutAll, FailsToZero, IsStored};
 ghost use Rattle.nbd_protocol.specs.Exports.{IsExport, export_record};
-ghost use Rattle.nbd_server.specs.Premises.{AreSectors, HaveEnds};
+ghost use Rattle.nbd_server.specs.Premises.{AreExportSectors, HaveEnds};
 ghost use Rattle.nbd_server.specs.Zeros.{zeros_of};
 
 use crate::zeros::Zeros;
@@ -22,9 +22,9 @@ pub(crate) fn store<D: BlockDev>(
     bytes: &[u8],
 ) -> Result<(), RequestError>
     requires export { IsExport queue.old.stack.config (export_record export.now) }
-    requires sectors { AreSectors (export_record export.now) first bytes.now }
+    requires sectors { AreExportSectors (export_record export.now) first bytes.now }
     ensures ok { OnOk result (IsStored queue.old export.now.device.0 first bytes.now queue.new) }
-    ensures err { IfErr result (λ error. FailsToStore queue.old export.now.device.0 first bytes.now error queue.new) }
+    ensures err { IfErr result (λ error. FailsToPutAll queue.old export.now.device.0 first bytes.now error queue.new) }
 {
     match queue.write_bytes(export.device, first, bytes) {
         Ok(()) => Ok(()),
@@ -44,7 +44,7 @@ fn zero_run<D: BlockDev>(
     requires export { IsExport queue.old.stack.config (export_record export.now) }
     requires ends { HaveEnds zeros.now }
     requires some { 0 < zeros.now.count }
-    requires sectors { AreSectors (export_record export.now) first (zeros_of zeros.now) }
+    requires sectors { AreExportSectors (export_record export.now) first (zeros_of zeros.now) }
     ensures ok { OnOk result (IsStored queue.old export.now.device.0 first (zeros_of zeros.now) queue.new) }
     ensures err { IfErr result (λ error. FailsToZero queue.old export.now.device.0 first (zeros_of zeros.now) error queue.new) }
 {
@@ -63,7 +63,7 @@ pub(crate) fn store_zeros<D: BlockDev>(
     requires export { IsExport queue.old.stack.config (export_record export.now) }
     requires ends { HaveEnds zeros.now }
     requires some { 0 < zeros.now.count }
-    requires sectors { AreSectors (export_record export.now) first (zeros_of zeros.now) }
+    requires sectors { AreExportSectors (export_record export.now) first (zeros_of zeros.now) }
     ensures ok { OnOk result (IsStored queue.old export.now.device.0 first (zeros_of zeros.now) queue.new) }
     ensures err { IfErr result (λ error. FailsToZero queue.old export.now.device.0 first (zeros_of zeros.now) error queue.new) }
 {

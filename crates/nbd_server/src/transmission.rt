@@ -5,9 +5,9 @@ ghost use Rattle.counted_io.specs.Streams.{streams};
 ghost use Rattle.nbd_protocol.specs.Exports.{ExportRecord, IsExport, export_at, export_record};
 ghost use Rattle.nbd_protocol.specs.Headers.{IsWithin, most_length, payload_len};
 ghost use Rattle.nbd_server.specs.Premises.{AreBytesOf, IsBare};
-ghost use Rattle.nbd_server.specs.Service.{Turns};
-ghost use Rattle.nbd_protocol.specs.Streaming.{HasRead, HasWritten, IsShort, fault_of};
-ghost use Rattle.nbd_server.specs.Transmission.{Flushes, IsSendable, IsServed, ReadsBytes, ServesCommand, Settles, Stays, StaysOrReads, TellsExtents, TellsStatus, WritesGiven, WritesSome, outcome_of, written};
+ghost use Rattle.nbd_server.specs.Service.{EndsMessage};
+ghost use Rattle.nbd_protocol.specs.Streaming.{HasRead, HasWritten, IsShort, result_fault};
+ghost use Rattle.nbd_server.specs.Transmission.{Flushes, IsSendable, IsTakenAndServed, ReadsExport, ServesCommand, Settles, Stays, StaysOrReads, TellsExtents, TellsStatus, WritesGiven, WritesAny, data_outcome, no_bytes};
 ghost use Rattle.nbd_protocol.specs.declared.phase.Phase.TheVariants.{Serving};
 
 use crate::byte_range::{read_bytes, touched, write_bytes, write_zeros};
@@ -39,7 +39,7 @@ fn read<D: BlockDev>(
 ) -> Result<Data, RequestError>
     requires bytes { AreBytesOf queue.old.stack.config (export_record export.now) offset len }
     requires few { len ≤ most_length }
-    ensures value { ReadsBytes (export_record export.now) queue.old offset len (outcome_of result) queue.new }
+    ensures value { ReadsExport (export_record export.now) queue.old offset len (data_outcome result) queue.new }
     ensures inside { IsSendable result }
 {
     read_bytes(alloc, queue, export, offset, len)
@@ -57,9 +57,9 @@ fn take_write<D: BlockDev, R: Read>(
     requires bytes { AreBytesOf queue.old.stack.config (export_record export.now) offset len }
     requires allowed { IsTrue export.now.writable }
     ensures ok { IfOk result (λ outcome. (payload : List ℕ) × (length payload ≡ len) × Consumes (R.remaining reader.old.inner) (R.remaining reader.new.inner) payload
-        × WritesGiven (export_record export.now) queue.old offset payload (written outcome) queue.new) }
+        × WritesGiven (export_record export.now) queue.old offset payload (no_bytes outcome) queue.new) }
     ensures err { IfErr result (λ fault. IsShort len (R.remaining reader.old.inner) (R.remaining reader.new.inner) fault × (queue.new ≡ queue.old)) }
-    ensures reader { HasRead 0 reader.old reader.new (fault_of result) }
+    ensures reader { HasRead 0 reader.old reader.new (result_fault result) }
 {
     if len == 0 {
         return Ok(Ok(()));
@@ -74,7 +74,7 @@ fn take_write<D: BlockDev, R: Read>(
 
 // Has all that was written put on the media.
 fn flush<D: SyncDev>(alloc: Global, queue: &mut Queue<D>) -> Result<Data, RequestError>
-    ensures value { Flushes queue.old (outcome_of result) queue.new }
+    ensures value { Flushes queue.old (data_outcome result) queue.new }
     ensures inside { IsSendable result }
 {
     match queue.sync() {
@@ -85,7 +85,7 @@ fn flush<D: SyncDev>(alloc: Global, queue: &mut Queue<D>) -> Result<Data, Reques
 
 // Ends what was done: with FUA by having it put on the media.
 fn settle<D: SyncDev>(alloc: Global, queue: &mut Queue<D>, fua: bool) -> Result<Data, RequestError>
-    ensures value { Settles fua (Stays queue.old) (outcome_of result) queue.new }
+    ensures value { Settles fua (Stays queue.old) (data_outcome result) queue.new }
     ensures inside { IsSendable result }
 {
     if fua {
@@ -105,7 +105,7 @@ fn zero<D: SyncDev>(
 ) -> Result<Data, RequestError>
     requires bytes { AreBytesOf queue.old.stack.config (export_record export.now) offset len }
     requires allowed { IsTrue export.now.writable }
-    ensures value { Settles fua (WritesSome (export_record export.now) queue.old offset (replicate len 0)) (outcome_of result) queue.new }
+    ensures value { Settles fua (WritesAny (export_record export.now) queue.old offset (replicate len 0)) (data_outcome result) queue.new }
     ensures inside { IsSendable result }
 {
     write_zeros(alloc, queue, export, offset, len)?;
@@ -145,7 +145,7 @@ fn tell_status<D: BlockDev>(
 ) -> Result<Data, RequestError>
     requires bytes { AreBytesOf queue.old.stack.config (export_record export.now) offset len }
     requires some { 0 < len }
-    ensures value { TellsStatus (export_record export.now) queue.old offset len one (outcome_of result) queue.new }
+    ensures value { TellsStatus (export_record export.now) queue.old offset len one (data_outcome result) queue.new }
     ensures inside { IsSendable result }
 {
     match told_of(alloc, queue, export, offset, len, one) {
@@ -164,7 +164,7 @@ fn serve_bare<D: SyncDev>(
     requires export { IsExport queue.old.stack.config (export_record export.now) }
     requires within { IsWithin (export_record export.now) command }
     requires bare { IsBare command }
-    ensures value { ServesCommand (export_record export.now) queue.old (Ok command) [] (outcome_of result) queue.new }
+    ensures value { ServesCommand (export_record export.now) queue.old (Ok command) [] (data_outcome result) queue.new }
     ensures inside { IsSendable result }
 {
     match command {
@@ -195,9 +195,9 @@ fn serve_request<D: SyncDev, R: Read>(
     reader: &mut Counted<R>,
 ) -> Result<Result<Data, RequestError>, ServiceFault>
     requires { IsExport queue.old.stack.config (export_record export.now) }
-    ensures ok { IfOk result (λ outcome. IsServed (export_record export.now) agreed queue.old header (R.remaining reader.old.inner) (R.remaining reader.new.inner) outcome queue.new) }
+    ensures ok { IfOk result (λ outcome. IsTakenAndServed (export_record export.now) agreed queue.old header (R.remaining reader.old.inner) (R.remaining reader.new.inner) outcome queue.new) }
     ensures err { IfErr result (λ fault. IsShort (payload_len header) (R.remaining reader.old.inner) (R.remaining reader.new.inner) fault × (queue.new ≡ queue.old)) }
-    ensures reader { HasRead 0 reader.old reader.new (fault_of result) }
+    ensures reader { HasRead 0 reader.old reader.new (result_fault result) }
 {
     let command = match header.command(export, agreed) {
         Ok(command) => command,
@@ -232,10 +232,10 @@ pub(crate) fn take_request<D: SyncDev, R: Read, W: Write>(
     writer: &mut Counted<W>,
 ) -> Result<Option<Phase>, ServiceFault>
     requires { IsExport queue.old.stack.config (export_record export.now) }
-    ensures turn { (es : List ExportRecord) → export_at es agreed.place ≡ export_record export.now → Turns es (Serving agreed) queue.old queue.new
+    ensures turn { (es : List ExportRecord) → export_at es agreed.place ≡ export_record export.now → EndsMessage es (Serving agreed) queue.old queue.new
         (streams (R.remaining reader.old.inner) (W.contents writer.old.inner)) (streams (R.remaining reader.new.inner) (W.contents writer.new.inner)) result }
-    ensures reader { HasRead 1 reader.old reader.new (fault_of result) }
-    ensures writer { HasWritten writer.old writer.new (fault_of result) }
+    ensures reader { HasRead 1 reader.old reader.new (result_fault result) }
+    ensures writer { HasWritten writer.old writer.new (result_fault result) }
 {
     let mut bytes = [0u8; 28];
     if !fill(reader, &mut bytes)? {

@@ -5,7 +5,7 @@ use Rattle.block_device.specs.Device.{Device}
 use Rattle.partition_table.specs.declared.sector_size.SectorSize.{SectorSize}
 use Rattle.partition_commands.specs.declared.fault.PartitionsFault.{PartitionsFault}
 use Rattle.partition_commands.specs.declared.fault.PartitionsFault.TheVariants.{NoMemory, Open, Refused, Write}
-use Rattle.partition_commands.specs.Commands.{IsRootEnd, IsSayFault, IsTableEnd}
+use Rattle.partition_commands.specs.Commands.{IsRootTextEnd, IsSayFault, IsLabelEnd}
 
 -- what holds of a fault holds of the result that hands it on
 pub err-from : {T E : Type 0} (r : Result T E) (P : E → Type 0) (fault : E) → IsErrAnd r (λ e. e ≡ fault) → P fault → IfErr r P
@@ -13,13 +13,13 @@ err-from (Ok done) P fault is holds = tt
 err-from (Err e) P fault is holds = subst P (sym is) holds
 
 -- a text that isn't written
-pub say-root : (size : SectorSize) (root : List ℕ) (failed : Bool) (device : Device) (fault : PartitionsFault) → IsSayFault failed fault → IsRootEnd size root failed device fault
+pub say-root : (size : SectorSize) (root : List ℕ) (failed : Bool) (device : Device) (fault : PartitionsFault) → IsSayFault failed fault → IsRootTextEnd size root failed device fault
 say-root size root failed device NoMemory ends = tt
 say-root size root failed device Write ends = ends
 say-root size root failed device (Open file) ends = absurd ends
 say-root size root failed device (Refused refusal) ends = absurd ends
 
-pub say-table : (old new : Device) (size : SectorSize) (failed : Bool) (fault : PartitionsFault) → IsSayFault failed fault → IsTableEnd old new size failed fault
+pub say-table : (old new : Device) (size : SectorSize) (failed : Bool) (fault : PartitionsFault) → IsSayFault failed fault → IsLabelEnd old new size failed fault
 say-table old new size failed NoMemory ends = tt
 say-table old new size failed Write ends = ends
 say-table old new size failed (Open file) ends = absurd ends

@@ -42,11 +42,11 @@ pub record PrintsOfImage {S D : Type 0} (w : Calls S D) (path : List ℕ) (size 
   pub prints : PrintsPartitions (w.state image.device) (w.state device') size text old new
 
 -- there is no table, memory ran out, or a line can't be written
-abbrev pub IsTableEnd : Device → Device → SectorSize → Bool → PartitionsFault → Type 0
-IsTableEnd old new size failed NoMemory = Unit {0}
-IsTableEnd old new size failed Write = failed ≡ true
-IsTableEnd old new size failed (Refused (Table fault)) = IsNoTable old new size fault
-IsTableEnd old new size failed fault = ⊥
+abbrev pub IsLabelEnd : Device → Device → SectorSize → Bool → PartitionsFault → Type 0
+IsLabelEnd old new size failed NoMemory = Unit {0}
+IsLabelEnd old new size failed Write = failed ≡ true
+IsLabelEnd old new size failed (Refused (Table fault)) = IsNoTable old new size fault
+IsLabelEnd old new size failed fault = ⊥
 
 -- memory ran out, or a text can't be written
 abbrev pub IsSayFault : Bool → PartitionsFault → Type 0
@@ -55,9 +55,9 @@ IsSayFault failed Write = failed ≡ true
 IsSayFault failed fault = ⊥
 
 -- an image isn't opened, as is said of it
-abbrev pub IsUnopened : (UnopenedFile → Type 0) → PartitionsFault → Type 0
-IsUnopened Because (Open file) = Because file
-IsUnopened Because fault = ⊥
+abbrev pub IsImageUnopened : (UnopenedFile → Type 0) → PartitionsFault → Type 0
+IsImageUnopened Because (Open file) = Because file
+IsImageUnopened Because fault = ⊥
 
 -- the image is opened, and then the command ends early, as is said of the device before and after it
 pub record EndsOfImage {S D : Type 0} (w : Calls S D) (path : List ℕ) (ends : Device → Device → PartitionsFault → Type 0) (fault : PartitionsFault) : Type 0 where
@@ -66,8 +66,8 @@ pub record EndsOfImage {S D : Type 0} (w : Calls S D) (path : List ℕ) (ends : 
   pub opened : Opens w path false image
   pub ended : ends (w.state image.device) (w.state device') fault
 
-abbrev pub IsImageEnd : {S D : Type 0} → Calls S D → List ℕ → (Device → Device → PartitionsFault → Type 0) → PartitionsFault → Type 0
-IsImageEnd w path ends fault = IsUnopened (Refuses w path false) fault ⊎ EndsOfImage w path ends fault
+abbrev pub IsOpenedEnd : {S D : Type 0} → Calls S D → List ℕ → (Device → Device → PartitionsFault → Type 0) → PartitionsFault → Type 0
+IsOpenedEnd w path ends fault = IsImageUnopened (Refuses w path false) fault ⊎ EndsOfImage w path ends fault
 
 -- the two partitions of the root were found on the device, and the superblock in the verity partition
 pub record PrintsRoot (device : Device) (size : SectorSize) (root : List ℕ) (old new : Option (List ℕ)) : Type 0 where
@@ -96,10 +96,10 @@ pub record LacksPartitions (device : Device) (size : SectorSize) (root : List �
   pub refused : image_partitions partitions root ≡ Err refusal
 
 -- why there is no superblock in a part of a device
-abbrev pub IsSuperEnd : Device → Device → Part → PartitionRefusal → Type 0
-IsSuperEnd old new part OutsideDevice = LiesInside old part → ⊥
-IsSuperEnd old new part (Superblock fault) = IsReadCause (windowed old part) (windowed new part) fault
-IsSuperEnd old new part refusal = ⊥
+abbrev pub IsPartSuperEnd : Device → Device → Part → PartitionRefusal → Type 0
+IsPartSuperEnd old new part OutsideDevice = LiesInside old part → ⊥
+IsPartSuperEnd old new part (Superblock fault) = IsReadCause (windowed old part) (windowed new part) fault
+IsPartSuperEnd old new part refusal = ⊥
 
 -- both were found, but no superblock
 pub record LacksSuperblock (device device' : Device) (size : SectorSize) (root : List ℕ) (refusal : PartitionRefusal) : Type 0 where
@@ -109,7 +109,7 @@ pub record LacksSuperblock (device device' : Device) (size : SectorSize) (root :
   pub found : IsTable device read_device size partitions source
   pub both : ImagePartitions
   pub both_is : image_partitions partitions root ≡ Ok both
-  pub ends : IsSuperEnd read_device device' (part_of size both.verity) refusal
+  pub ends : IsPartSuperEnd read_device device' (part_of size both.verity) refusal
 
 -- there is no table
 pub record LacksTable (device : Device) (size : SectorSize) (refusal : PartitionRefusal) : Type 0 where
@@ -119,20 +119,20 @@ pub record LacksTable (device : Device) (size : SectorSize) (refusal : Partition
   pub is : refusal ≡ Table fault
 
 -- one of these, memory ran out, or the text can't be written
-abbrev pub IsRootEnd : SectorSize → List ℕ → Bool → Device → PartitionsFault → Type 0
-IsRootEnd size root failed device NoMemory = Unit {0}
-IsRootEnd size root failed device Write = failed ≡ true
-IsRootEnd size root failed device (Open file) = ⊥
-IsRootEnd size root failed device (Refused refusal) =
+abbrev pub IsRootTextEnd : SectorSize → List ℕ → Bool → Device → PartitionsFault → Type 0
+IsRootTextEnd size root failed device NoMemory = Unit {0}
+IsRootTextEnd size root failed device Write = failed ≡ true
+IsRootTextEnd size root failed device (Open file) = ⊥
+IsRootTextEnd size root failed device (Refused refusal) =
     LacksTable device size refusal ⊎ (LacksPartitions device size root refusal ⊎ ((device' : Device) × LacksSuperblock device device' size root refusal))
 
 pub record EndsRoot {S D : Type 0} (w : Calls S D) (path : List ℕ) (size : SectorSize) (root : List ℕ) (failed : Bool) (fault : PartitionsFault) : Type 0 where
   pub image : OpenImage D
   pub opened : Opens w path false image
-  pub ended : IsRootEnd size root failed (w.state image.device) fault
+  pub ended : IsRootTextEnd size root failed (w.state image.device) fault
 
 abbrev pub IsRootOfImageEnd : {S D : Type 0} → Calls S D → List ℕ → SectorSize → List ℕ → Bool → PartitionsFault → Type 0
-IsRootOfImageEnd w path size root failed fault = IsUnopened (Refuses w path false) fault ⊎ EndsRoot w path size root failed fault
+IsRootOfImageEnd w path size root failed fault = IsImageUnopened (Refuses w path false) fault ⊎ EndsRoot w path size root failed fault
 
 -- ---- as a call sees them: what a proof sees of an opener, a device or a writer, and these before and after
 
@@ -153,7 +153,7 @@ PrintsStackOf relations state images images' contents writer writer' path size =
     PrintsOfImage (calls relations state images images') path size (λ partitions source. stack_text size partitions) (contents writer.inner) (contents writer'.inner)
 
 abbrev pub FailsToPrint : {S D W : Type 0} → Opener S D → (D → Device) → S → S → CountedRecord W → List ℕ → SectorSize → PartitionsFault → Type 0
-FailsToPrint relations state images images' writer' path size = IsImageEnd (calls relations state images images') path (λ old new. IsTableEnd old new size writer'.failed)
+FailsToPrint relations state images images' writer' path size = IsOpenedEnd (calls relations state images images') path (λ old new. IsLabelEnd old new size writer'.failed)
 
 -- the stack text of a root
 abbrev pub SaysRoot : {D W : Type 0} → (D → Device) → D → (W → Option (List ℕ)) → CountedRecord W → CountedRecord W → SectorSize → List ℕ → Type 0
@@ -162,5 +162,5 @@ SaysRoot state device contents writer writer' size root = PrintsRoot (state devi
 abbrev pub PrintsRootOf : {S D W : Type 0} → Opener S D → (D → Device) → S → S → (W → Option (List ℕ)) → CountedRecord W → CountedRecord W → List ℕ → SectorSize → List ℕ → Type 0
 PrintsRootOf relations state images images' contents writer writer' path size root = PrintsRootOfImage (calls relations state images images') path size root (contents writer.inner) (contents writer'.inner)
 
-abbrev pub FailsToFind : {S D W : Type 0} → Opener S D → (D → Device) → S → S → CountedRecord W → List ℕ → SectorSize → List ℕ → PartitionsFault → Type 0
-FailsToFind relations state images images' writer' path size root = IsRootOfImageEnd (calls relations state images images') path size root writer'.failed
+abbrev pub FailsToFindRoot : {S D W : Type 0} → Opener S D → (D → Device) → S → S → CountedRecord W → List ℕ → SectorSize → List ℕ → PartitionsFault → Type 0
+FailsToFindRoot relations state images images' writer' path size root = IsRootOfImageEnd (calls relations state images images') path size root writer'.failed

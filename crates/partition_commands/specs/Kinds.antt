@@ -40,5 +40,5 @@ name_of_text text =
     else name_of_arm text
 
 -- the name of a type, and a dash for any other
-abbrev pub kind_name : List ℕ → List ℕ
-kind_name kind = name_of_text (hyphenated_text lower kind)
+abbrev pub partition_type_name : List ℕ → List ℕ
+partition_type_name kind = name_of_text (hyphenated_text lower kind)

@@ -9,13 +9,13 @@ use Rattle.partition_table.specs.declared.read_fault.ReadFault.{ReadFault}
 use Rattle.partition_table.specs.declared.table.Source.{Source}
 use Rattle.partition_table.specs.declared.table.Source.TheVariants.{Both, Primary, Backup}
 use Rattle.partition_table.specs.FaultNames.{read_name, read_partition}
-use Rattle.partition_table.specs.Partitions.{sectors_of}
-use Rattle.partition_commands.specs.Kinds.{kind_name}
+use Rattle.partition_table.specs.Partitions.{partition_sectors}
+use Rattle.partition_commands.specs.Kinds.{partition_type_name}
 use Rattle.partition_commands.specs.Labels.{label_text}
 
 -- the number, the first sector and how many there are
 unfoldable pub range_text : Partition → List ℕ
-range_text p = decimal p.number ++ (codes " " ++ (decimal p.first ++ (codes " " ++ (decimal (sectors_of p) ++ codes " "))))
+range_text p = decimal p.number ++ (codes " " ++ (decimal p.first ++ (codes " " ++ (decimal (partition_sectors p) ++ codes " "))))
 
 -- an identifier and a space
 unfoldable pub uuid_word : List ℕ → List ℕ
@@ -23,7 +23,7 @@ uuid_word uuid = hyphenated_text lower uuid ++ codes " "
 
 -- the type, its name, and the partition's own identifier
 unfoldable pub uuids_text : Partition → List ℕ
-uuids_text p = uuid_word p.kind ++ (kind_name p.kind ++ (codes " " ++ uuid_word p.uuid))
+uuids_text p = uuid_word p.kind ++ (partition_type_name p.kind ++ (codes " " ++ uuid_word p.uuid))
 
 -- a partition and the text of its label
 abbrev pub line_with : Partition → List ℕ → List ℕ
@@ -53,11 +53,11 @@ abbrev pub partition_lines : List Partition → List ℕ
 partition_lines partitions = flat_map partition_line partitions
 
 -- a table: which copies are good, and its partitions
-abbrev pub table_text : List Partition → Source → List ℕ
-table_text partitions source = source_line source ++ partition_lines partitions
+abbrev pub table_list : List Partition → Source → List ℕ
+table_list partitions source = source_line source ++ partition_lines partitions
 
 -- ---- as a call sees them
 
 -- that text was written
-abbrev pub Says : {W : Type 0} → (W → Option (List ℕ)) → CountedRecord W → CountedRecord W → List ℕ → Type 0
-Says contents writer writer' text = Appends (contents writer.inner) (contents writer'.inner) text
+abbrev pub SaysText : {W : Type 0} → (W → Option (List ℕ)) → CountedRecord W → CountedRecord W → List ℕ → Type 0
+SaysText contents writer writer' text = Appends (contents writer.inner) (contents writer'.inner) text

@@ -9,8 +9,8 @@ use Rattle.partition_table.specs.declared.read_fault.ReadFault.{ReadFault}
 use Rattle.partition_table.specs.declared.table.Source.{Source}
 use Rattle.partition_table.specs.declared.table.Source.TheVariants.{Both, Primary, Backup}
 use Rattle.partition_table.specs.FaultNames.{read_name, read_partition}
-use Rattle.partition_table.specs.Partitions.{sectors_of}
-use Rattle.partition_commands.specs.Kinds.{kind_name}
+use Rattle.partition_table.specs.Partitions.{partition_sectors}
+use Rattle.partition_commands.specs.Kinds.{partition_type_name}
 use Rattle.partition_commands.specs.Labels.{label_text}
 
 -- a partition, as its line says
@@ -20,9 +20,9 @@ partition_json p =
     (member (codes "first") (number (unsigned p.first))
     (member (codes "label") (string (label_text p.label))
     (member (codes "number") (number (unsigned p.number))
-    (member (codes "sectors") (number (unsigned (sectors_of p)))
+    (member (codes "sectors") (number (unsigned (partition_sectors p)))
     (member (codes "type") (string (hyphenated_text lower p.kind))
-    (member (codes "type_name") (string (kind_name p.kind))
+    (member (codes "type_name") (string (partition_type_name p.kind))
     (member (codes "uuid") (string (hyphenated_text lower p.uuid))
     no_members)))))))
 

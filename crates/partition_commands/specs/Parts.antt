@@ -4,11 +4,11 @@ use Rattle.device_window.specs.declared.part.Part.{Part}
 use Rattle.partition_table.specs.declared.partition.Partition.{Partition}
 use Rattle.partition_table.specs.declared.sector_size.SectorSize.{SectorSize}
 use Rattle.partition_table.specs.Disks.{unit_of}
-use Rattle.partition_table.specs.Partitions.{sectors_of}
+use Rattle.partition_table.specs.Partitions.{partition_sectors}
 
 -- so many sectors of the disk in sectors of the device; those of a good table's partition are far fewer than 2^64
 abbrev pub units : SectorSize → ℕ → ℕ
 units size sectors = min (sectors * unit_of size) (2 ^ 64 - 1)
 
 abbrev pub part_of : SectorSize → Partition → Part
-part_of size p = record { first = units size p.first; count = units size (sectors_of p) }
+part_of size p = record { first = units size p.first; count = units size (partition_sectors p) }

@@ -9,14 +9,14 @@ use Rattle.partition_table.specs.declared.table.Source.{Source}
 use Rattle.partition_table.specs.Tables.{IsNoTable, IsTable}
 use Rattle.partition_commands.specs.declared.fault.PrintFault.{PrintFault}
 use Rattle.partition_commands.specs.declared.fault.PrintFault.TheVariants.{NoMemory, Table, Write}
-use Rattle.partition_commands.specs.Lines.{table_text}
+use Rattle.partition_commands.specs.Lines.{table_list}
 
 -- the text of the table that was found on the device was written
 pub record PrintsTable (old new : Device) (size : SectorSize) (written now_written : Option (List ℕ)) : Type 0 where
   pub partitions : List Partition
   pub source : Source
   pub found : IsTable old new size partitions source
-  pub printed : Appends written now_written (table_text partitions source)
+  pub printed : Appends written now_written (table_list partitions source)
 
 -- there is no table, memory ran out, or a line can't be written
 abbrev pub IsPrintEnd : Device → Device → SectorSize → Bool → PrintFault → Type 0

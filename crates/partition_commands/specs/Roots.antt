@@ -13,13 +13,13 @@ abbrev pub has_uuid : List ℕ → Partition → Bool
 has_uuid uuid p = bytes_eq p.uuid uuid
 
 -- the one partition, of so many
-abbrev pub single_of : PartitionRefusal → PartitionRefusal → Option Partition → ℕ → Result Partition PartitionRefusal
-single_of none several None n = Err none
-single_of none several (Some p) n = if n == 1 then Ok p else Err several
+abbrev pub single_partition : PartitionRefusal → PartitionRefusal → Option Partition → ℕ → Result Partition PartitionRefusal
+single_partition none several None n = Err none
+single_partition none several (Some p) n = if n == 1 then Ok p else Err several
 
 -- the one with that UUID, or why there isn't one
 abbrev pub single_with : PartitionRefusal → PartitionRefusal → List ℕ → List Partition → Result Partition PartitionRefusal
-single_with none several uuid partitions = single_of none several (find (has_uuid uuid) partitions) (count_by (has_uuid uuid) partitions)
+single_with none several uuid partitions = single_partition none several (find (has_uuid uuid) partitions) (count_by (has_uuid uuid) partitions)
 
 -- the first and the last 16 bytes of a root digest
 unfoldable pub data_partition : List Partition → List ℕ → Result Partition PartitionRefusal

@@ -1,7 +1,7 @@
 //! The commands `partitions`, `partitions --json` and `partitions --stack`, of an image.
 ghost use Rattle.std.specs.Prelude.{IfErr, OnOk};
-ghost use Rattle.partition_commands.specs.Commands.{FailsToPrint, IsSayFault, IsTableEnd, Prints, PrintsImage, PrintsStack, PrintsStackOf};
-ghost use Rattle.partition_commands.specs.Lines.{Says, table_text};
+ghost use Rattle.partition_commands.specs.Commands.{FailsToPrint, IsSayFault, IsLabelEnd, Prints, PrintsImage, PrintsStack, PrintsStackOf};
+ghost use Rattle.partition_commands.specs.Lines.{SaysText, table_list};
 ghost use Rattle.partition_commands.specs.Objects.{table_line};
 ghost use Rattle.partition_commands.specs.Stacks.{partition_entry, stack_text};
 
@@ -23,7 +23,7 @@ pub fn partitions_of_image<'a, I: Images, W: Write>(
     size: SectorSize,
     writer: &mut Counted<W>,
 ) -> Result<(), PartitionsFault<'a>>
-    ensures ok { OnOk result (PrintsImage I.relations I.Dev.state images.old images.new W.contents writer.old writer.new path.now size table_text) }
+    ensures ok { OnOk result (PrintsImage I.relations I.Dev.state images.old images.new W.contents writer.old writer.new path.now size table_list) }
     ensures err { IfErr result (FailsToPrint I.relations I.Dev.state images.old images.new writer.new path.now size) }
 {
     let mut image = open_image(images, path, false)?;
@@ -37,8 +37,8 @@ fn list_partitions<'a, D: BlockDev, W: Write>(
     size: SectorSize,
     writer: &mut Counted<W>,
 ) -> Result<(), PartitionsFault<'a>>
-    ensures ok { OnOk result (Prints D.state device.old device.new W.contents writer.old writer.new size table_text) }
-    ensures err { IfErr result (IsTableEnd (D.state device.old) (D.state device.new) size writer.new.failed) }
+    ensures ok { OnOk result (Prints D.state device.old device.new W.contents writer.old writer.new size table_list) }
+    ensures err { IfErr result (IsLabelEnd (D.state device.old) (D.state device.new) size writer.new.failed) }
 {
     match print_partitions(alloc, device, size, writer) {
         Ok(()) => Ok(()),
@@ -71,7 +71,7 @@ fn list_object<'a, D: BlockDev, W: Write>(
     writer: &mut Counted<W>,
 ) -> Result<(), PartitionsFault<'a>>
     ensures ok { OnOk result (Prints D.state device.old device.new W.contents writer.old writer.new size table_line) }
-    ensures err { IfErr result (IsTableEnd (D.state device.old) (D.state device.new) size writer.new.failed) }
+    ensures err { IfErr result (IsLabelEnd (D.state device.old) (D.state device.new) size writer.new.failed) }
 {
     let table = read_table(alloc, device, size)?;
     let line = table_line(alloc, &table)?;
@@ -102,7 +102,7 @@ fn list_entries<'a, D: BlockDev, W: Write>(
     writer: &mut Counted<W>,
 ) -> Result<(), PartitionsFault<'a>>
     ensures ok { OnOk result (PrintsStack D.state device.old device.new W.contents writer.old writer.new size) }
-    ensures err { IfErr result (IsTableEnd (D.state device.old) (D.state device.new) size writer.new.failed) }
+    ensures err { IfErr result (IsLabelEnd (D.state device.old) (D.state device.new) size writer.new.failed) }
 {
     let table = read_table(alloc, device, size)?;
     say_entries(alloc, writer, size, &table.partitions)
@@ -115,7 +115,7 @@ fn say_entries<'a, W: Write>(
     size: SectorSize,
     partitions: &[Partition],
 ) -> Result<(), PartitionsFault<'a>>
-    ensures ok { OnOk result (Says W.contents writer.old writer.new (stack_text size partitions.now)) }
+    ensures ok { OnOk result (SaysText W.contents writer.old writer.new (stack_text size partitions.now)) }
     ensures err { IfErr result (IsSayFault writer.new.failed) }
 {
     for partition in partitions {
@@ -132,7 +132,7 @@ fn say_partition_entry<'a, W: Write>(
     partitions: &[Partition],
     partition: &Partition,
 ) -> Result<(), PartitionsFault<'a>>
-    ensures ok { OnOk result (Says W.contents writer.old writer.new (partition_entry size partitions.now partition.now)) }
+    ensures ok { OnOk result (SaysText W.contents writer.old writer.new (partition_entry size partitions.now partition.now)) }
     ensures err { IfErr result (IsSayFault writer.new.failed) }
 {
     let name = partition_name(alloc, partitions, partition)?;

@@ -1,12 +1,12 @@
 //! The names of partition types.
 ghost use Rattle.std.specs.Prelude.{◌≡◌};
-ghost use Rattle.partition_commands.specs.Kinds.{kind_name, name_of_arm, name_of_boot, name_of_files, name_of_text};
+ghost use Rattle.partition_commands.specs.Kinds.{partition_type_name, name_of_arm, name_of_boot, name_of_files, name_of_text};
 
 use uuid::Uuid;
 
 /// The name of a type that the Discoverable Partitions Specification has, and `-` for any other.
 pub fn kind_name(kind: &[u8; 16]) -> &'static str
-    ensures { result.now ≡ kind_name kind.now }
+    ensures { result.now ≡ partition_type_name kind.now }
 {
     let mut buffer = Uuid::encode_buffer();
     let text = Uuid::from_bytes(*kind)

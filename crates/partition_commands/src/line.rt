@@ -1,7 +1,7 @@
 //! The printed lines of a table.
 ghost use Rattle.std.specs.Prelude.{◌++◌, IfErr, OnOk, codes};
 ghost use Rattle.counted_io.specs.Counted.{Writes};
-ghost use Rattle.partition_commands.specs.Lines.{Says, fault_line, line_with, number_word, partition_line, range_text, source_line, uuid_word, uuids_text};
+ghost use Rattle.partition_commands.specs.Lines.{SaysText, fault_line, line_with, number_word, partition_line, range_text, source_line, uuid_word, uuids_text};
 ghost use Rattle.partition_commands.specs.Prints.{IsSayEnd};
 
 use crate::{PrintFault, kind_name, label_text};
@@ -76,7 +76,7 @@ pub(crate) fn say_partition<W: Write>(
     writer: &mut Counted<W>,
     partition: &Partition,
 ) -> Result<(), PrintFault>
-    ensures ok { OnOk result (Says W.contents writer.old writer.new (partition_line partition.now)) }
+    ensures ok { OnOk result (SaysText W.contents writer.old writer.new (partition_line partition.now)) }
     ensures err { IfErr result (IsSayEnd writer.new.failed) }
 {
     let label = label_text(alloc, &partition.label)?;

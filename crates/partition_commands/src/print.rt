@@ -1,8 +1,8 @@
 //! The command `partitions`: the partitions of an image.
 ghost use Rattle.std.specs.Prelude.{IfErr, OnOk};
-ghost use Rattle.partition_table.specs.Reads.{IsOnlyRead};
+ghost use Rattle.partition_table.specs.Reads.{IsReadAtMost};
 ghost use Rattle.partition_table.specs.Tables.{table_reads};
-ghost use Rattle.partition_commands.specs.Lines.{Says, partition_lines, table_text};
+ghost use Rattle.partition_commands.specs.Lines.{SaysText, partition_lines, table_list};
 ghost use Rattle.partition_commands.specs.Prints.{IsPrintEnd, IsSayEnd, PrintsTableOf};
 
 use crate::PrintFault;
@@ -20,7 +20,7 @@ pub fn print_partitions<D: BlockDev, W: Write>(
     size: SectorSize,
     writer: &mut Counted<W>,
 ) -> Result<(), PrintFault>
-    ensures read { IsOnlyRead (D.state device.old) table_reads (D.state device.new) }
+    ensures read { IsReadAtMost (D.state device.old) table_reads (D.state device.new) }
     ensures ok { OnOk result (PrintsTableOf D.state device.old device.new W.contents writer.old writer.new size) }
     ensures err { IfErr result (IsPrintEnd (D.state device.old) (D.state device.new) size writer.new.failed) }
 {
@@ -34,7 +34,7 @@ fn say_table<W: Write>(
     writer: &mut Counted<W>,
     table: &PartitionTable,
 ) -> Result<(), PrintFault>
-    ensures ok { OnOk result (Says W.contents writer.old writer.new (table_text table.now.partitions.items table.now.source)) }
+    ensures ok { OnOk result (SaysText W.contents writer.old writer.new (table_list table.now.partitions.items table.now.source)) }
     ensures err { IfErr result (IsSayEnd writer.new.failed) }
 {
     say_source(writer, table.source)?;
@@ -47,7 +47,7 @@ fn say_partitions<W: Write>(
     writer: &mut Counted<W>,
     partitions: &[Partition],
 ) -> Result<(), PrintFault>
-    ensures ok { OnOk result (Says W.contents writer.old writer.new (partition_lines partitions.now)) }
+    ensures ok { OnOk result (SaysText W.contents writer.old writer.new (partition_lines partitions.now)) }
     ensures err { IfErr result (IsSayEnd writer.new.failed) }
 {
     for partition in partitions {

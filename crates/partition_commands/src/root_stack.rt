@@ -2,8 +2,8 @@
 ghost use Rattle.std.specs.Prelude.{ℕ, List, IfErr, IfOk, OnOk};
 ghost use Rattle.device_window.specs.Windows.{windowed};
 ghost use Rattle.verity_format.specs.Verifying.{IsReadFrom};
-ghost use Rattle.partition_commands.specs.Commands.{FailsToFind, IsRootEnd, IsSayFault, IsSuperEnd, PrintsRootOf, SaysRoot};
-ghost use Rattle.partition_commands.specs.Lines.{Says};
+ghost use Rattle.partition_commands.specs.Commands.{FailsToFindRoot, IsRootTextEnd, IsSayFault, IsPartSuperEnd, PrintsRootOf, SaysRoot};
+ghost use Rattle.partition_commands.specs.Lines.{SaysText};
 ghost use Rattle.partition_commands.specs.RootStacks.{root_entry, root_stack_text};
 
 use crate::entries::{say_entry, say_linear_entry};
@@ -30,7 +30,7 @@ pub fn root_stack_of_image<'a, I: Images, W: Write>(
     writer: &mut Counted<W>,
 ) -> Result<(), PartitionsFault<'a>>
     ensures ok { OnOk result (PrintsRootOf I.relations I.Dev.state images.old images.new W.contents writer.old writer.new path.now size root.now) }
-    ensures err { IfErr result (FailsToFind I.relations I.Dev.state images.old images.new writer.new path.now size root.now) }
+    ensures err { IfErr result (FailsToFindRoot I.relations I.Dev.state images.old images.new writer.new path.now size root.now) }
 {
     let image = open_image(images, path, false)?;
     print_root_stack(alloc, image.device, size, root, writer)
@@ -45,7 +45,7 @@ fn print_root_stack<'a, D: BlockDev + Drop, W: Write>(
     writer: &mut Counted<W>,
 ) -> Result<(), PartitionsFault<'a>>
     ensures ok { OnOk result (SaysRoot D.state device W.contents writer.old writer.new size root.now) }
-    ensures err { IfErr result (IsRootEnd size root.now writer.new.failed (D.state device)) }
+    ensures err { IfErr result (IsRootTextEnd size root.now writer.new.failed (D.state device)) }
 {
     let mut device = device;
     let table = read_table(alloc, &mut device, size)?;
@@ -57,7 +57,7 @@ fn print_root_stack<'a, D: BlockDev + Drop, W: Write>(
 // The superblock at the beginning of a part of a device.
 fn superblock_in<D: BlockDev + Drop>(device: D, part: Part) -> Result<Superblock, PartitionRefusal>
     ensures ok { IfOk result (λ s. (sector : List ℕ) × IsReadFrom (windowed (D.state device) part) sector s) }
-    ensures err { IfErr result (λ refusal. (after : D) × IsSuperEnd (D.state device) (D.state after) part refusal) }
+    ensures err { IfErr result (λ refusal. (after : D) × IsPartSuperEnd (D.state device) (D.state after) part refusal) }
 {
     let mut window = match Window::<D, Brand>::new(device, part) {
         Ok(window) => window,
@@ -76,7 +76,7 @@ fn say_root_stack<'a, W: Write>(
     superblock: &Superblock,
     root: &Digest,
 ) -> Result<(), PartitionsFault<'a>>
-    ensures ok { OnOk result (Says W.contents writer.old writer.new (root_stack_text size both.now superblock.now root.now)) }
+    ensures ok { OnOk result (SaysText W.contents writer.old writer.new (root_stack_text size both.now superblock.now root.now)) }
     ensures err { IfErr result (IsSayFault writer.new.failed) }
 {
     say_linear_entry(writer, b"data", part_of(size, &both.data))?;
@@ -91,7 +91,7 @@ fn say_root_entry<'a, W: Write>(
     superblock: &Superblock,
     root: &Digest,
 ) -> Result<(), PartitionsFault<'a>>
-    ensures ok { OnOk result (Says W.contents writer.old writer.new (root_entry superblock.now root.now)) }
+    ensures ok { OnOk result (SaysText W.contents writer.old writer.new (root_entry superblock.now root.now)) }
     ensures err { IfErr result (IsSayFault writer.new.failed) }
 {
     let line = table_line(

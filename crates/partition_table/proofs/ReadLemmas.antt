@@ -4,7 +4,7 @@ use Rattle.block_device.specs.Device.{Device, IsSameDevice}
 use Rattle.partition_table.specs.declared.header.Header.{Header}
 use Rattle.partition_table.specs.declared.sector_size.Disk.{Disk}
 use Rattle.partition_table.specs.Copies.{IsHeaderRead}
-use Rattle.partition_table.specs.Reads.{IsOnlyRead}
+use Rattle.partition_table.specs.Reads.{IsReadAtMost}
 use Rattle.partition_table.proofs.HeaderLemmas.{IsOnDisk, IsOnDisk-from_none}
 
 same-then : {a b c : Device} → IsSameDevice a b → IsSameDevice b c → IsSameDevice a c
@@ -15,7 +15,7 @@ same-then p q = record {
   never_fails = λ h. q.never_fails (p.never_fails h);
 }
 
-pub only_read-then : {a b c : Device} (n m k : ℕ) → IsOnlyRead a n b → IsOnlyRead b m c → n + m ≤ k → IsOnlyRead a k c
+pub only_read-then : {a b c : Device} (n m k : ℕ) → IsReadAtMost a n b → IsReadAtMost b m c → n + m ≤ k → IsReadAtMost a k c
 only_read-then {a = a} {b = b} {c = c} n m k p q fits = record {
   same = same-then p.same q.same;
   reads = omega (arith, p.reads, q.reads);

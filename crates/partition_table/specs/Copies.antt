@@ -7,22 +7,22 @@ use Rattle.partition_table.specs.declared.read_fault.ReadFault.{ReadFault}
 use Rattle.partition_table.specs.declared.read_fault.ReadFault.TheVariants.{Device as DeviceFailed, NoMemory, Table}
 use Rattle.partition_table.specs.declared.sector_size.Disk.{Disk}
 use Rattle.partition_table.specs.declared.table_fault.TableFault.{TableFault}
-use Rattle.partition_table.specs.Headers.{array_bytes, array_sectors, header_fault, header_of}
+use Rattle.partition_table.specs.Headers.{array_bytes, array_sectors, header_fault, table_header}
 use Rattle.partition_table.specs.Partitions.{array_fault, or_fault, partitions_in}
-use Rattle.partition_table.specs.Reads.{AreRead}
+use Rattle.partition_table.specs.Reads.{AreSectorsRead}
 
 -- the header's sector and the sectors of the entries, as they were read; those of a header that isn't good are not
 pub record IsCopyRead (device : Device) (disk : Disk) (sector : ℕ) (header array : List ℕ) : Type 0 where
-  pub first : AreRead device disk sector 1 header
-  pub rest : header_fault disk sector header ≡ None → AreRead device disk (header_of header).entries_sector (array_sectors disk.size (header_of header)) array
+  pub first : AreSectorsRead device disk sector 1 header
+  pub rest : header_fault disk sector header ≡ None → AreSectorsRead device disk (table_header header).entries_sector (array_sectors disk.size (table_header header)) array
 
 -- the bytes of the entries, of those of whole sectors
 abbrev pub array_of : List ℕ → List ℕ → List ℕ
-array_of header array = take (array_bytes (header_of header)) array
+array_of header array = take (array_bytes (table_header header)) array
 
 -- what is wrong of a copy: first of its header, then of its entries
 abbrev pub copy_fault : Disk → ℕ → List ℕ → List ℕ → Option TableFault
-copy_fault disk sector header array = or_fault (header_fault disk sector header) (array_fault (header_of header) (array_of header array))
+copy_fault disk sector header array = or_fault (header_fault disk sector header) (array_fault (table_header header) (array_of header array))
 
 -- a copy that was read is good, and these are its partitions
 pub record IsGoodCopy (device : Device) (disk : Disk) (sector : ℕ) (partitions : List Partition) : Type 0 where
@@ -30,7 +30,7 @@ pub record IsGoodCopy (device : Device) (disk : Disk) (sector : ℕ) (partitions
   pub array : List ℕ
   pub read : IsCopyRead device disk sector header array
   pub good : copy_fault disk sector header array ≡ None
-  pub value : partitions ≡ partitions_in (header_of header) (array_of header array)
+  pub value : partitions ≡ partitions_in (table_header header) (array_of header array)
 
 -- a copy that was read has this fault
 pub record IsBadCopy (device : Device) (disk : Disk) (sector : ℕ) (fault : TableFault) : Type 0 where
@@ -48,9 +48,9 @@ IsCopyCause old new disk sector (Table fault) = IsBadCopy old disk sector fault
 -- a good header was read
 pub record IsHeaderRead (device : Device) (disk : Disk) (sector : ℕ) (header : Header) : Type 0 where
   pub sector_bytes : List ℕ
-  pub read : AreRead device disk sector 1 sector_bytes
+  pub read : AreSectorsRead device disk sector 1 sector_bytes
   pub good : header_fault disk sector sector_bytes ≡ None
-  pub value : header ≡ header_of sector_bytes
+  pub value : header ≡ table_header sector_bytes
 
 -- why the entries are not taken, once they are read
 abbrev pub IsArrayCause : Header → List ℕ → ReadFault → Type 0

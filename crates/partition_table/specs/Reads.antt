@@ -8,14 +8,14 @@ use Rattle.partition_table.specs.declared.sector_size.Disk.{Disk}
 use Rattle.partition_table.specs.Disks.{unit_of}
 
 -- calls of read alone, of at most n sectors of the device in all: nothing was written
-pub record IsOnlyRead (old : Device) (n : ℕ) (new : Device) : Type 0 where
+pub record IsReadAtMost (old : Device) (n : ℕ) (new : Device) : Type 0 where
   pub same : IsSameDevice old new
   pub reads : new.reads ≤ old.reads + n
   pub writes : new.writes ≡ old.writes
   pub image : IsTrue old.steady → new.image ≡ old.image
 
 -- that many sectors of the disk as they were read, over a steady device as they stand there
-pub record AreRead (device : Device) (disk : Disk) (first count : ℕ) (bytes : List ℕ) : Type 0 where
+pub record AreSectorsRead (device : Device) (disk : Disk) (first count : ℕ) (bytes : List ℕ) : Type 0 where
   pub size : length bytes ≡ 512 * (count * unit_of disk.size)
   pub stands : IsTrue device.steady → bytes ≡ concat (run_of device.image (first * unit_of disk.size) (count * unit_of disk.size))
 

@@ -3,9 +3,9 @@ ghost use Rattle.std.specs.Prelude.{◌≡◌, ◌⊎◌, ◌+◌, ◌*◌, ◌�
 ghost use Rattle.block_device.specs.Device.{Device};
 ghost use Rattle.partition_table.specs.Copies.{IsArrayCause, IsCopyCause, IsGoodCopy, IsHeaderRead};
 ghost use Rattle.partition_table.specs.Disks.{IsDiskOn, unit_of};
-ghost use Rattle.partition_table.specs.Headers.{array_bytes, array_sectors, header_fault, header_of};
+ghost use Rattle.partition_table.specs.Headers.{array_bytes, array_sectors, header_fault, table_header};
 ghost use Rattle.partition_table.specs.Partitions.{array_fault, partitions_in};
-ghost use Rattle.partition_table.specs.Reads.{AreRead, IsOnlyRead, IsUnread};
+ghost use Rattle.partition_table.specs.Reads.{AreSectorsRead, IsReadAtMost, IsUnread};
 ghost use Rattle.partition_table.specs.Tables.{copy_reads};
 
 use crate::crc::crc32;
@@ -32,8 +32,8 @@ fn read_sectors<D: BlockDev>(
 ) -> Result<Vec<u8>, ReadFault>
     requires on { IsDiskOn (D.state device.old) disk }
     requires range { (0 < count) × (first + count ≤ disk.sectors) }
-    ensures read { IsOnlyRead (D.state device.old) (count * unit_of disk.size) (D.state device.new) }
-    ensures ok { IfOk result (λ v. AreRead (D.state device.old) disk first count v.items) }
+    ensures read { IsReadAtMost (D.state device.old) (count * unit_of disk.size) (D.state device.new) }
+    ensures ok { IfOk result (λ v. AreSectorsRead (D.state device.old) disk first count v.items) }
     ensures full { OnOk result ((D.state device.new).failures ≡ (D.state device.old).failures) }
     ensures err { IfErr result (IsUnread (D.state device.old) (D.state device.new)) }
 {
@@ -51,7 +51,7 @@ fn read_header<D: BlockDev>(
 ) -> Result<Header, ReadFault>
     requires on { IsDiskOn (D.state device.old) disk }
     requires inside { sector < disk.sectors }
-    ensures read { IsOnlyRead (D.state device.old) 8 (D.state device.new) }
+    ensures read { IsReadAtMost (D.state device.old) 8 (D.state device.new) }
     ensures ok { IfOk result (IsHeaderRead (D.state device.old) disk sector) }
     ensures full { OnOk result ((D.state device.new).failures ≡ (D.state device.old).failures) }
     ensures err { IfErr result (IsCopyCause (D.state device.old) (D.state device.new) disk sector) }
@@ -93,7 +93,7 @@ pub(crate) fn read_copy<D: BlockDev>(
 ) -> Result<Vec<Partition>, ReadFault>
     requires on { IsDiskOn (D.state device.old) disk }
     requires inside { sector < disk.sectors }
-    ensures read { IsOnlyRead (D.state device.old) copy_reads (D.state device.new) }
+    ensures read { IsReadAtMost (D.state device.old) copy_reads (D.state device.new) }
     ensures ok { IfOk result (λ v. IsGoodCopy (D.state device.old) disk sector v.items) }
     ensures err { IfErr result (IsCopyCause (D.state device.old) (D.state device.new) disk sector) }
 {

@@ -2,7 +2,7 @@
 ghost use Rattle.std.specs.Prelude.{◌≡◌, ◌+◌, ◌*◌, ◌≤◌, ◌<◌, [], length, IfOk};
 ghost use Rattle.std.specs.List.{list_any};
 ghost use Rattle.partition_table.specs.Headers.{array_bytes};
-ghost use Rattle.partition_table.specs.Partitions.{entry_at, fault_behind, overlaps, partition_fault, partitions_in};
+ghost use Rattle.partition_table.specs.Partitions.{entry_at, fault_behind, partitions_overlap, partition_fault, partitions_in};
 
 use crate::header::Header;
 use crate::{Partition, TableFault};
@@ -74,7 +74,7 @@ fn partition_fault(
 }
 
 fn overlaps_any(before: &[Partition], partition: &Partition) -> bool
-    ensures { result ≡ list_any (λ q. overlaps q partition.now) before.now }
+    ensures { result ≡ list_any (λ q. partitions_overlap q partition.now) before.now }
 {
     before.iter().any(|other| other.overlaps(partition))
 }

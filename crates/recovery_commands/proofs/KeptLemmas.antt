@@ -5,12 +5,12 @@ use Rattle.stack_engine.specs.Stacks.{StackRecord}
 use Rattle.stack_recovery.specs.declared.lost_run.LostRun.{LostRun}
 use Rattle.stack_recovery.specs.declared.recovery.Counts.{Counts}
 use Rattle.stack_recovery.specs.Recoveries.{Recovers, Sides, sides}
-use Rattle.stack_recovery.specs.Texts.{runs_text}
+use Rattle.stack_recovery.specs.Texts.{lost_text}
 use Rattle.recovery_commands.specs.declared.fault.RecoveringFault.{RecoveringFault}
 use Rattle.recovery_commands.specs.Recovering.{IsRecoverEnd}
 
 abbrev from : StackRecord → Device → List LostRun → Sides
-from stack out runs = sides stack out (Some (runs_text runs))
+from stack out runs = sides stack out (Some (lost_text runs))
 
 pub recovers-none : (d : ℕ) (stack : StackRecord) (out : Device) (runs : List LostRun) (counts : Counts) (new : Sides) → runs ≡ []
     → Recovers d (from stack out runs) counts new → Recovers d (sides stack out (Some [])) counts new

@@ -7,14 +7,14 @@ use Rattle.image_files.specs.Opener.{Calls, Opener, calls}
 use Rattle.stack_rules.specs.Names.{mapped, size}
 use Rattle.stack_engine.specs.Stacks.{StackRecord}
 use Rattle.stack_making.specs.declared.device.NamedDevice.{NamedDevice}
-use Rattle.stack_making.specs.NamedDevices.{DeviceWords, FailsToFindOutput, FindsOutput, Place, words_for}
+use Rattle.stack_making.specs.NamedDevices.{DeviceWords, FailsToFindOutput, FindsOutput, DevicePlace, words_for}
 use Rattle.stack_opening.specs.declared.stack_file.StackFile.{StackFile}
 use Rattle.stack_recovery.specs.declared.recovery.Counts.{Counts}
-use Rattle.stack_recovery.specs.Recoveries.{Parties, Recovers, Sides, seen, sides}
+use Rattle.stack_recovery.specs.Recoveries.{Parties, Recovers, Sides, seen_sides, sides}
 use Rattle.recovery_commands.specs.declared.fault.RecoveringFault.{RecoveringFault}
 use Rattle.recovery_commands.specs.declared.fault.RecoveringFault.TheVariants.{OutputTooSmall}
 use Rattle.recovery_commands.specs.declared.output.Output.{Output}
-use Rattle.recovery_commands.specs.Recovering.{IsCountsEnd, IsRecoverEnd, IsStackless, TellsCounts}
+use Rattle.recovery_commands.specs.Recovering.{IsCountsEnd, IsRecoverEnd, IsRecoveryStackless, TellsCounts}
 
 -- a stack file, the name of one of its devices, bindings, the image to which it is copied, and whether only what differs
 -- is written
@@ -31,43 +31,43 @@ words_to_copy file device output = copy_words (words_for file device) output.pat
 
 -- OUT's device as the copying sees it: with `--differing` one that reads before it writes, and counts for itself what it is
 -- asked for
-abbrev pub IsSeenAs : Bool → Device → Device → Type 0
-IsSeenAs false out seen = seen ≡ out
-IsSeenAs true out seen = seen ≡ differing out seen.reads seen.writes seen.dirty
+abbrev pub IsOutputSeenAs : Bool → Device → Device → Type 0
+IsOutputSeenAs false out seen = seen ≡ out
+IsOutputSeenAs true out seen = seen ≡ differing out seen.reads seen.writes seen.dirty
 
 -- A device was gone over to a device that OUT is seen as, and that is on the medium: of the sides those of OUT itself are told.
 pub record CopiesTo (is_differing : Bool) (d : ℕ) (old : Sides) (counts : Counts) (new : Sides) : Type 0 where
   pub seen : Device
   pub left : Device
-  pub begun : IsSeenAs is_differing old.out seen
+  pub begun : IsOutputSeenAs is_differing old.out seen
   pub recovered : Recovers d (record old { out = seen }) counts (record new { out = left })
-  pub ended : IsSeenAs is_differing new.out (synced left)
+  pub ended : IsOutputSeenAs is_differing new.out (synced left)
   pub on_medium : new.out.dirty ≡ false
 
 -- a device was gone over to another one, and what this left was put on the medium
 abbrev pub RecoversOnto : {O L : Type 0} → (O → Device) → (L → Option (List ℕ)) → ℕ → Parties O L → Parties O L → Counts → Type 0
 RecoversOnto state told d old new counts =
-    (left : Device) × Recovers d (seen state told old) counts (sides new.stack left (told new.listing)) × (state new.out ≡ synced left)
+    (left : Device) × Recovers d (seen_sides state told old) counts (sides new.stack left (told new.listing)) × (state new.out ≡ synced left)
 
 -- it was begun, and ended early
 pub record EndsCopying (is_differing : Bool) (d : ℕ) (old new : Sides) (failed : Bool) (fault : RecoveringFault) : Type 0 where
   pub seen : Device
   pub seen' : Device
-  pub begun : IsSeenAs is_differing old.out seen
+  pub begun : IsOutputSeenAs is_differing old.out seen
   pub fails : IsRecoverEnd d (record old { out = seen }) (record new { out = seen' }) failed fault
-  pub ended : IsSeenAs is_differing new.out seen'
+  pub ended : IsOutputSeenAs is_differing new.out seen'
 
 -- both, as a call sees them
 abbrev pub CopiesBy : {O L : Type 0} → (O → Device) → (L → Option (List ℕ)) → Bool → ℕ → Parties O L → Parties O L → Counts → Type 0
-CopiesBy state told is_differing d old new counts = CopiesTo is_differing d (seen state told old) counts (seen state told new)
+CopiesBy state told is_differing d old new counts = CopiesTo is_differing d (seen_sides state told old) counts (seen_sides state told new)
 
 abbrev pub EndsCopyingBy : {O L : Type 0} → (O → Device) → (L → Option (List ℕ)) → (L → Bool) → Bool → ℕ → Parties O L → Parties O L → RecoveringFault → Type 0
-EndsCopyingBy state told failed is_differing d old new fault = EndsCopying is_differing d (seen state told old) (seen state told new) (failed new.listing) fault
+EndsCopyingBy state told failed is_differing d old new fault = EndsCopying is_differing d (seen_sides state told old) (seen_sides state told new) (failed new.listing) fault
 
 -- The device was gone over: a line was printed for each longest lost run, what was had went to OUT's image, and that was
 -- synced and given back.
 pub record Copies {S D : Type 0} (w : Calls S D) (words : CopyWords) (old : Option (List ℕ)) (counts : Counts) (printed : Option (List ℕ)) : Type 0 where
-  pub at : Place
+  pub at : DevicePlace
   pub image : OpenImage D
   pub image' : D
   pub left : StackRecord
@@ -84,24 +84,24 @@ pub record PrintsCopy {S D : Type 0} (w : Calls S D) (words : CopyWords) (old ne
   pub told : TellsCounts counts printed new
 
 -- it has so many sectors, which are more than the image has
-abbrev pub IsTooSmall : Device → ℕ → RecoveringFault → Type 0
-IsTooSmall image sectors (OutputTooSmall needed) = (needed ≡ sectors) × (image.size < sectors)
-IsTooSmall image sectors fault = ⊥
+abbrev pub IsOutputTooSmall : Device → ℕ → RecoveringFault → Type 0
+IsOutputTooSmall image sectors (OutputTooSmall needed) = (needed ≡ sectors) × (image.size < sectors)
+IsOutputTooSmall image sectors fault = ⊥
 
 -- the device has no room in the image
 pub record FindsNoRoom {S D : Type 0} (w : Calls S D) (words : DeviceWords) (out : List ℕ) (fault : RecoveringFault) : Type 0 where
-  pub at : Place
+  pub at : DevicePlace
   pub image : OpenImage D
   pub found : FindsOutput w words out at image
-  pub small : IsTooSmall (w.state image.device) (size at.stack.config (mapped at.d)) fault
+  pub small : IsOutputTooSmall (w.state image.device) (size at.stack.config (mapped at.d)) fault
 
 -- that, or there is no such device
-abbrev pub IsUncopied : {S D : Type 0} → Calls S D → DeviceWords → List ℕ → RecoveringFault → Type 0
-IsUncopied w words out fault = IsStackless (FailsToFindOutput w words out) fault ⊎ FindsNoRoom w words out fault
+abbrev pub IsOutputUncopied : {S D : Type 0} → Calls S D → DeviceWords → List ℕ → RecoveringFault → Type 0
+IsOutputUncopied w words out fault = IsRecoveryStackless (FailsToFindOutput w words out) fault ⊎ FindsNoRoom w words out fault
 
 -- the copy was begun, ended early, and what then stood in the image was given back
 pub record FailsToCopy {S D : Type 0} (w : Calls S D) (words : CopyWords) (old new : Option (List ℕ)) (failed : Bool) (fault : RecoveringFault) : Type 0 where
-  pub at : Place
+  pub at : DevicePlace
   pub image : OpenImage D
   pub image' : D
   pub left : StackRecord
@@ -120,10 +120,10 @@ pub record LosesInCopy {S D : Type 0} (w : Calls S D) (words : CopyWords) (old n
 -- nothing is printed where it isn't begun
 abbrev pub IsCopyEnd : {S D : Type 0} → Calls S D → CopyWords → Option (List ℕ) → Option (List ℕ) → Bool → RecoveringFault → Type 0
 IsCopyEnd w words old new failed fault =
-    ((new ≡ old) × IsUncopied w words.words words.out fault) ⊎ (FailsToCopy w words old new failed fault ⊎ LosesInCopy w words old new failed fault)
+    ((new ≡ old) × IsOutputUncopied w words.words words.out fault) ⊎ (FailsToCopy w words old new failed fault ⊎ LosesInCopy w words old new failed fault)
 
 -- ---- the same by the opener, before and after its calls, and by the words of the program
 
 -- there is no such device, or no image with room for it
 abbrev pub FailsTo : {S D : Type 0} → Opener S D → (D → Device) → S → S → StackFile → NamedDevice → List ℕ → RecoveringFault → Type 0
-FailsTo relations state old new file device out = IsUncopied (calls relations state old new) (words_for file device) out
+FailsTo relations state old new file device out = IsOutputUncopied (calls relations state old new) (words_for file device) out

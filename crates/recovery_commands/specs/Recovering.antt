@@ -6,21 +6,21 @@ use Rattle.counted_io.specs.Counted.{CountedRecord}
 use Rattle.stack_making.specs.declared.fault.StackFault.{StackFault}
 use Rattle.stack_recovery.specs.declared.fault.RecoveryFault.TheVariants as recovery
 use Rattle.stack_recovery.specs.declared.recovery.Counts.{Counts}
-use Rattle.stack_recovery.specs.Recoveries.{IsRecoveryEnd, Parties, Sides, seen}
+use Rattle.stack_recovery.specs.Recoveries.{IsRecoveryEnd, Parties, Sides, seen_sides}
 use Rattle.recovery_commands.specs.declared.fault.RecoveringFault.{RecoveringFault}
 use Rattle.recovery_commands.specs.declared.fault.RecoveringFault.TheVariants.{Lost, NoMemory, OutputFailed, Stack, Write}
 
 -- a relation of what a counted writer held before and what it holds then; and of that, whether it failed, and a fault
-abbrev pub Printing : {T : Type 0} → (T → Option (List ℕ)) → CountedRecord T → CountedRecord T → (Option (List ℕ) → Option (List ℕ) → Type 0) → Type 0
-Printing contents old new Prints = Prints (contents old.inner) (contents new.inner)
+abbrev pub PrintedBy : {T : Type 0} → (T → Option (List ℕ)) → CountedRecord T → CountedRecord T → (Option (List ℕ) → Option (List ℕ) → Type 0) → Type 0
+PrintedBy contents old new Prints = Prints (contents old.inner) (contents new.inner)
 
-abbrev pub EndsPrinting : {T : Type 0} → (T → Option (List ℕ)) → CountedRecord T → CountedRecord T → (Option (List ℕ) → Option (List ℕ) → Bool → RecoveringFault → Type 0) → RecoveringFault → Type 0
-EndsPrinting contents old new Ends fault = Ends (contents old.inner) (contents new.inner) new.failed fault
+abbrev pub EndsPrintedBy : {T : Type 0} → (T → Option (List ℕ)) → CountedRecord T → CountedRecord T → (Option (List ℕ) → Option (List ℕ) → Bool → RecoveringFault → Type 0) → RecoveringFault → Type 0
+EndsPrintedBy contents old new Ends fault = Ends (contents old.inner) (contents new.inner) new.failed fault
 
 -- there is no such device
-abbrev pub IsStackless : (StackFault → Type 0) → RecoveringFault → Type 0
-IsStackless Fails (Stack fault) = Fails fault
-IsStackless Fails fault = ⊥
+abbrev pub IsRecoveryStackless : (StackFault → Type 0) → RecoveringFault → Type 0
+IsRecoveryStackless Fails (Stack fault) = Fails fault
+IsRecoveryStackless Fails fault = ⊥
 
 -- how many sectors of a device were had, and how many are lost
 abbrev pub counts_text : ℕ → ℕ → List ℕ
@@ -34,7 +34,7 @@ IsRecoverEnd d old new failed Write = failed ≡ true
 IsRecoverEnd d old new failed fault = ⊥
 
 abbrev pub EndsRecovering : {O L : Type 0} → (O → Device) → (L → Option (List ℕ)) → (L → Bool) → ℕ → Parties O L → Parties O L → RecoveringFault → Type 0
-EndsRecovering state told failed d old new fault = IsRecoverEnd d (seen state told old) (seen state told new) (failed new.listing) fault
+EndsRecovering state told failed d old new fault = IsRecoverEnd d (seen_sides state told old) (seen_sides state told new) (failed new.listing) fault
 
 -- what a counted writer holds, and whether it failed
 abbrev pub contents_of : {T : Type 0} → (T → Option (List ℕ)) → CountedRecord T → Option (List ℕ)

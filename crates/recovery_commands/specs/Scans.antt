@@ -3,24 +3,24 @@ use Rattle.std.specs.Global.{Global}
 use Rattle.std.specs.Prelude.{◌≡◌, ◌⊎◌, ℕ, Bool, IsTrue, List, [], Option, Some, Vec}
 use Rattle.block_device.specs.Device.{Device}
 use Rattle.image_files.specs.Opener.{Calls, Opener, calls}
-use Rattle.stack_making.specs.NamedDevices.{DeviceWords, FailsToFindDevice, Finds, Place, words_for}
+use Rattle.stack_making.specs.NamedDevices.{DeviceWords, FailsToFindDevice, FindsDevice, DevicePlace, words_for}
 use Rattle.stack_making.specs.declared.device.NamedDevice.{NamedDevice}
 use Rattle.stack_recovery.specs.declared.listing.KeptRuns.{KeptRuns}
 use Rattle.stack_recovery.specs.declared.lost_run.LostRun.{LostRun}
 use Rattle.stack_recovery.specs.declared.recovery.Counts.{Counts}
 use Rattle.stack_recovery.specs.Recoveries.{Recovers, Sides, sides}
-use Rattle.stack_recovery.specs.Texts.{runs_text}
+use Rattle.stack_recovery.specs.Texts.{lost_text}
 use Rattle.recovery_commands.specs.declared.fault.RecoveringFault.{RecoveringFault}
 use Rattle.recovery_commands.specs.declared.fault.RecoveringFault.TheVariants.{NoMemory, Write}
-use Rattle.recovery_commands.specs.Recovering.{IsCountsEnd, IsRecoverEnd, IsStackless, TellsCounts}
+use Rattle.recovery_commands.specs.Recovering.{IsCountsEnd, IsRecoverEnd, IsRecoveryStackless, TellsCounts}
 use Rattle.stack_opening.specs.declared.stack_file.StackFile.{StackFile}
 
 -- A device was gone over: a line was told for each longest lost run.
 pub record Scans {S D : Type 0} (w : Calls S D) (words : DeviceWords) (old : Option (List ℕ)) (counts : Counts) (printed : Option (List ℕ)) : Type 0 where
-  pub at : Place
+  pub at : DevicePlace
   pub out : Device
   pub left : Sides
-  pub found : Finds w words at
+  pub found : FindsDevice w words at
   pub recovered : Recovers at.d (sides at.stack out old) counts left
   pub same : left.printed ≡ printed
 
@@ -33,10 +33,10 @@ pub record PrintsScan {S D : Type 0} (w : Calls S D) (words : DeviceWords) (old 
 
 -- it was begun, and ended early
 pub record FailsToScan {S D : Type 0} (w : Calls S D) (words : DeviceWords) (old new : Option (List ℕ)) (failed : Bool) (fault : RecoveringFault) : Type 0 where
-  pub at : Place
+  pub at : DevicePlace
   pub out : Device
   pub left : Sides
-  pub found : Finds w words at
+  pub found : FindsDevice w words at
   pub sure : IsTrue out.never_fails
   pub fails : IsRecoverEnd at.d (sides at.stack out old) left failed fault
   pub same : left.printed ≡ new
@@ -51,13 +51,13 @@ pub record LosesInScan {S D : Type 0} (w : Calls S D) (words : DeviceWords) (old
 -- nothing is printed where there is no such device
 abbrev pub IsScanEnd : {S D : Type 0} → Calls S D → DeviceWords → Option (List ℕ) → Option (List ℕ) → Bool → RecoveringFault → Type 0
 IsScanEnd w words old new failed fault =
-    ((new ≡ old) × IsStackless (FailsToFindDevice w words) fault) ⊎ (FailsToScan w words old new failed fault ⊎ LosesInScan w words old new failed fault)
+    ((new ≡ old) × IsRecoveryStackless (FailsToFindDevice w words) fault) ⊎ (FailsToScan w words old new failed fault ⊎ LosesInScan w words old new failed fault)
 
 -- ---- where the lost runs are kept in memory
 
 -- the text of the runs that are kept, and whether one couldn't be
 abbrev pub kept_text : KeptRuns → Option (List ℕ)
-kept_text kept = Some (runs_text kept.runs.items)
+kept_text kept = Some (lost_text kept.runs.items)
 
 abbrev pub is_refused : KeptRuns → Bool
 is_refused kept = kept.refused
@@ -80,14 +80,14 @@ pub record CutsScan {S D : Type 0} (w : Calls S D) (words : DeviceWords) (fault 
   pub is : fault ≡ unkept cause
 
 abbrev pub IsLostEnd : {S D : Type 0} → Calls S D → DeviceWords → RecoveringFault → Type 0
-IsLostEnd w words fault = IsStackless (FailsToFindDevice w words) fault ⊎ CutsScan w words fault
+IsLostEnd w words fault = IsRecoveryStackless (FailsToFindDevice w words) fault ⊎ CutsScan w words fault
 
 -- ---- the same by the opener, before and after its calls, and by the words of the program
 
 -- the lost runs of a device, and how many sectors were had and lost
 abbrev pub FindsLost : {S D : Type 0} → Opener S D → (D → Device) → S → S → StackFile → NamedDevice → Vec LostRun Global × Counts → Type 0
 FindsLost relations state old new file device =
-    λ found. Scans (calls relations state old new) (words_for file device) (Some []) found.1 (Some (runs_text found.0.items))
+    λ found. Scans (calls relations state old new) (words_for file device) (Some []) found.1 (Some (lost_text found.0.items))
 
 -- they are not all found
 abbrev pub FailsToFindLost : {S D : Type 0} → Opener S D → (D → Device) → S → S → StackFile → NamedDevice → RecoveringFault → Type 0

@@ -4,7 +4,7 @@ ghost use Rattle.image_files.specs.Opener.{calls};
 ghost use Rattle.stack_rules.specs.Names.{mapped, size};
 ghost use Rattle.stack_recovery.specs.Recoveries.{parties};
 ghost use Rattle.recovery_commands.specs.Copies.{CopiesBy, EndsCopyingBy, IsCopyEnd, PrintsCopy, RecoversOnto, words_to_copy};
-ghost use Rattle.recovery_commands.specs.Recovering.{EndsPrinting, EndsRecovering, Printing, contents_of, has_failed};
+ghost use Rattle.recovery_commands.specs.Recovering.{EndsPrintedBy, EndsRecovering, PrintedBy, contents_of, has_failed};
 
 use crate::fault::RecoveringFault;
 use crate::output::{Output, open_with_room};
@@ -33,8 +33,8 @@ pub fn copy_device<'a, I: Images, W: Write, P: Progress>(
     writer: &mut Counted<W>,
     progress: &mut P,
 ) -> Result<(), RecoveringFault<'a>>
-    ensures ok { OnOk result (Printing W.contents writer.old writer.new (PrintsCopy (calls I.relations I.Dev.state images.old images.new) (words_to_copy file.entry device.entry output.entry))) }
-    ensures err { IfErr result (EndsPrinting W.contents writer.old writer.new (IsCopyEnd (calls I.relations I.Dev.state images.old images.new) (words_to_copy file.entry device.entry output.entry))) }
+    ensures ok { OnOk result (PrintedBy W.contents writer.old writer.new (PrintsCopy (calls I.relations I.Dev.state images.old images.new) (words_to_copy file.entry device.entry output.entry))) }
+    ensures err { IfErr result (EndsPrintedBy W.contents writer.old writer.new (IsCopyEnd (calls I.relations I.Dev.state images.old images.new) (words_to_copy file.entry device.entry output.entry))) }
 {
     let Output { path, differing } = output;
     let (mut stack, device, image) = open_with_room(alloc, images, file, device, path)?;

@@ -3,7 +3,7 @@ ghost use Rattle.std.specs.Prelude.{◌≤◌, ◌<◌, length, IsTrue, IfOk, If
 ghost use Rattle.counted_io.specs.Counted.{Writes};
 ghost use Rattle.stack_rules.specs.Names.{mapped, size};
 ghost use Rattle.stack_recovery.specs.Recoveries.{RecoversBy, parties};
-ghost use Rattle.recovery_commands.specs.Recovering.{EndsPrinting, EndsRecovering, IsCountsEnd, Printing, TellsCounts, counts_text};
+ghost use Rattle.recovery_commands.specs.Recovering.{EndsPrintedBy, EndsRecovering, IsCountsEnd, PrintedBy, TellsCounts, counts_text};
 
 use crate::fault::RecoveringFault;
 use block_device::BlockDev;
@@ -41,8 +41,8 @@ pub fn tell_counts<'a, W: Write>(
     counts: Counts,
     writer: &mut Counted<W>,
 ) -> Result<(), RecoveringFault<'a>>
-    ensures ok { OnOk result (Printing W.contents writer.old writer.new (TellsCounts counts)) }
-    ensures err { IfErr result (EndsPrinting W.contents writer.old writer.new (IsCountsEnd counts)) }
+    ensures ok { OnOk result (PrintedBy W.contents writer.old writer.new (TellsCounts counts)) }
+    ensures err { IfErr result (EndsPrintedBy W.contents writer.old writer.new (IsCountsEnd counts)) }
 {
     let Counts { read, lost } = counts;
     if lost > 0 {

@@ -2,7 +2,7 @@
 ghost use Rattle.std.specs.Prelude.{OnOk, IfErr};
 ghost use Rattle.image_files.specs.Opener.{calls};
 ghost use Rattle.stack_making.specs.NamedDevices.{words_for};
-ghost use Rattle.recovery_commands.specs.Recovering.{EndsPrinting, Printing};
+ghost use Rattle.recovery_commands.specs.Recovering.{EndsPrintedBy, PrintedBy};
 ghost use Rattle.recovery_commands.specs.Scans.{IsScanEnd, PrintsScan};
 
 use crate::fault::RecoveringFault;
@@ -26,8 +26,8 @@ pub fn scan_device<'a, I: Images, W: Write, P: Progress>(
     writer: &mut Counted<W>,
     progress: &mut P,
 ) -> Result<(), RecoveringFault<'a>>
-    ensures ok { OnOk result (Printing W.contents writer.old writer.new (PrintsScan (calls I.relations I.Dev.state images.old images.new) (words_for file.entry device.entry))) }
-    ensures err { IfErr result (EndsPrinting W.contents writer.old writer.new (IsScanEnd (calls I.relations I.Dev.state images.old images.new) (words_for file.entry device.entry))) }
+    ensures ok { OnOk result (PrintedBy W.contents writer.old writer.new (PrintsScan (calls I.relations I.Dev.state images.old images.new) (words_for file.entry device.entry))) }
+    ensures err { IfErr result (EndsPrintedBy W.contents writer.old writer.new (IsScanEnd (calls I.relations I.Dev.state images.old images.new) (words_for file.entry device.entry))) }
 {
     let (mut stack, device) = open_device(alloc, images, file, device)?;
     let mut out = Discard::new(stack.config().sectors(device));

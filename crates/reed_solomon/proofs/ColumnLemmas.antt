@@ -7,7 +7,7 @@ use Rattle.std.proofs.lemmas.List.{get_or-set_same, get_or-set_other, get_or_app
 use Rattle.std.proofs.lemmas.List.FromFn.{get_or-range_with_len, length-range_with_len}
 use Rattle.std.proofs.lemmas.Nat.{div-mul-add, mod-mul-add, div-add-mod'}
 use Rattle.std.proofs.Math.Nat.{mul-le-mul_right, mod-lt}
-use Rattle.reed_solomon.specs.Field.{product, total}
+use Rattle.reed_solomon.specs.Field.{field_product, total}
 use Rattle.reed_solomon.specs.Code.{IsCodeword}
 use Rattle.reed_solomon.specs.Restoring.{others, combination}
 use Rattle.reed_solomon.specs.Factors.{AreFactors, AreProducts, AreRows, parity_places}
@@ -16,7 +16,7 @@ use Rattle.reed_solomon.proofs.CodeLemmas.{total-same, others_lt}
 -- factors that are the same in a word
 pub factors-same : (lost : List ℕ) (place : ℕ) (f g : ℕ → ℕ) → ((k : ℕ) → k < length lost → slice_index lost k < 255) → ((i : ℕ) → i < 255 → g i ≡ f i) → AreFactors lost place f → AreFactors lost place g
 factors-same lost place f g within same known = record {
-  restore = λ parity word enough code. total-same (λ i. product (g i) (slice_index word i)) (λ i. product (f i) (slice_index word i)) 255 (λ i h. ap (λ x. product x (slice_index word i)) (same i h)) ∙ known.restore parity word enough code;
+  restore = λ parity word enough code. total-same (λ i. field_product (g i) (slice_index word i)) (λ i. field_product (f i) (slice_index word i)) 255 (λ i h. ap (λ x. field_product x (slice_index word i)) (same i h)) ∙ known.restore parity word enough code;
   skip = λ k h. same (slice_index lost k) (within k h) ∙ known.skip k h;
 }
 
@@ -181,9 +181,9 @@ added-more before sum term n byte fits is known =
 
 -- the product of the byte at c by the k-th of n factors
 pub term-at : (products bytes : List ℕ) (c k : ℕ) → k < length products
-    → product (slice_index products k) (slice_index bytes c) ≡ product (slice_index products ((c * length products + k) % length products)) (slice_index bytes ((c * length products + k) / length products))
+    → field_product (slice_index products k) (slice_index bytes c) ≡ field_product (slice_index products ((c * length products + k) % length products)) (slice_index bytes ((c * length products + k) / length products))
 term-at products bytes c k h =
     let n = length products in
     let r = mod-mul-add c n k h in
     let q = div-mul-add c n k h in
-    sym (ap (λ i. product (slice_index products i) (slice_index bytes ((c * n + k) / n))) r ∙ ap (λ i. product (slice_index products k) (slice_index bytes i)) q)
+    sym (ap (λ i. field_product (slice_index products i) (slice_index bytes ((c * n + k) / n))) r ∙ ap (λ i. field_product (slice_index products k) (slice_index bytes i)) q)

@@ -1,12 +1,12 @@
 -- Factors that give back a lost byte of every codeword, and the products by them.
 use Rattle.std.specs.Prelude.{◌≡◌, ℕ, ◌+◌, ◌-◌, ◌*◌, ◌<◌, ◌≤◌, List, length, slice_index, EachIndex}
 use Rattle.std.specs.List.{range_with_len}
-use Rattle.reed_solomon.specs.Field.{product, total}
+use Rattle.reed_solomon.specs.Field.{field_product, total}
 use Rattle.reed_solomon.specs.Code.{IsCodeword}
 
 -- By these factors each codeword with enough parity sums up to its byte at that place, and lost bytes don't count.
 pub record AreFactors (lost : List ℕ) (place : ℕ) (f : ℕ → ℕ) : Type 0 where
-  pub restore : (parity : ℕ) (word : List ℕ) → length lost ≤ parity → IsCodeword parity word → total (λ i. product (f i) (slice_index word i)) 255 ≡ slice_index word place
+  pub restore : (parity : ℕ) (word : List ℕ) → length lost ≤ parity → IsCodeword parity word → total (λ i. field_product (f i) (slice_index word i)) 255 ≡ slice_index word place
   pub skip : EachIndex lost (λ k. f (slice_index lost k) ≡ 0)
 
 -- the places of a codeword's parity

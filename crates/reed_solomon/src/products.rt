@@ -1,7 +1,7 @@
 //! The products of all bytes by one factor.
 
 ghost use Rattle.std.specs.Prelude.{◌≡◌, length, slice_index};
-ghost use Rattle.reed_solomon.specs.Field.{product};
+ghost use Rattle.reed_solomon.specs.Field.{field_product};
 ghost use Rattle.reed_solomon.specs.Products.{AreAdded};
 
 use crate::field::multiply;
@@ -39,7 +39,7 @@ impl Products {
 
     /// The product of a byte.
     pub fn times(&self, byte: u8) -> u8
-        ensures { result ≡ product self.now byte }
+        ensures { result ≡ field_product self.now byte }
     {
         self.of[byte as usize]
     }
@@ -47,7 +47,7 @@ impl Products {
     /// Adds to each byte of a sum the product of the byte that stands at its place.
     pub fn add_to(&self, sum: &mut [u8], bytes: &[u8])
         requires { length bytes.now ≡ length sum.old }
-        ensures { AreAdded (λ k. product self.now (slice_index bytes.now k)) sum.old sum.new }
+        ensures { AreAdded (λ k. field_product self.now (slice_index bytes.now k)) sum.old sum.new }
     {
         for k in 0..sum.len() {
             sum[k] ^= self.of[bytes[k] as usize];

@@ -5,7 +5,7 @@ use Rattle.block_device.specs.Device.{Device}
 use Rattle.image_files.specs.declared.file_use.FileUse.{FileUse}
 use Rattle.image_files.specs.Opener.{Opener, calls}
 use Rattle.tree_commands.specs.declared.fault.TreeFault.{TreeFault}
-use Rattle.repair_commands.specs.Copies.{AddsCopy, IsCopyEnd, OpensCopy, OpensEach, RefusesEach}
+use Rattle.repair_commands.specs.Copies.{AddsCopy, IsCopyUnopened, OpensImageCopy, OpensEachCopy, RefusesEach}
 
 -- a list at one of its elements
 split : {X : Type 0} (f : X → List ℕ) (xs : List X) (i : ℕ) (d : X) → i < length xs → (rest : List (List ℕ)) × (map f xs ≡ map f (take i xs) ++ f (get_or xs i d) ∷ rest)
@@ -17,33 +17,33 @@ split f (x ∷ xs) (suc i) d inside =
 
 module _ {S D : Type 0} (o : Opener S D) (state : D → Device) (files : List FileUse) where
   -- one more is opened
-  opens-last : (old between new : S) (paths : List (List ℕ)) (devices : List D) (path : List ℕ) (device : D) → OpensEach (calls o state old between) files paths devices
-      → OpensCopy (calls o state between new) files path device → OpensEach (calls o state old new) files (paths ++ path ∷ []) (devices ++ device ∷ [])
-  opens-last old between new [] [] path device each last = (new, (subst (λ (s : S). OpensCopy (calls o state s new) files path device) each last, refl))
+  opens-last : (old between new : S) (paths : List (List ℕ)) (devices : List D) (path : List ℕ) (device : D) → OpensEachCopy (calls o state old between) files paths devices
+      → OpensImageCopy (calls o state between new) files path device → OpensEachCopy (calls o state old new) files (paths ++ path ∷ []) (devices ++ device ∷ [])
+  opens-last old between new [] [] path device each last = (new, (subst (λ (s : S). OpensImageCopy (calls o state s new) files path device) each last, refl))
   opens-last old between new [] (d ∷ ds) path device each last = absurd each
   opens-last old between new (p ∷ ps) [] path device each last = absurd each
   opens-last old between new (p ∷ ps) (d ∷ ds) path device each last = (each.0, (each.1.0, opens-last each.0 between new ps ds path device each.1.1 last))
 
   pub opens-next : {X : Type 0} (f : X → List ℕ) (old between new : S) (xs : List X) (i : ℕ) (x : X) (devices devices' : List D) → i < length xs
-      → OpensEach (calls o state old between) files (map f (take i xs)) devices → AddsCopy (calls o state between new) files (f (get_or xs i x)) devices devices'
-      → OpensEach (calls o state old new) files (map f (take (i + 1) xs)) devices'
+      → OpensEachCopy (calls o state old between) files (map f (take i xs)) devices → AddsCopy (calls o state between new) files (f (get_or xs i x)) devices devices'
+      → OpensEachCopy (calls o state old new) files (map f (take (i + 1) xs)) devices'
   opens-next f old between new xs i x devices devices' inside before last =
       let one : map f (take (i + 1) xs) ≡ map f (take i xs) ++ f (get_or xs i x) ∷ [] = ap (map f) (take_more xs i x inside) ∙ map-append f (take i xs) (get_or xs i x ∷ []) in
-      subst (λ (ps : List (List ℕ)). OpensEach (calls o state old new) files ps devices') (sym one)
-      (subst (λ (ds : List D). OpensEach (calls o state old new) files (map f (take i xs) ++ f (get_or xs i x) ∷ []) ds) (sym last.more)
+      subst (λ (ps : List (List ℕ)). OpensEachCopy (calls o state old new) files ps devices') (sym one)
+      (subst (λ (ds : List D). OpensEachCopy (calls o state old new) files (map f (take i xs) ++ f (get_or xs i x) ∷ []) ds) (sym last.more)
       (opens-last old between new (map f (take i xs)) devices (f (get_or xs i x)) last.device before last.opened))
 
   -- one behind some that were opened is refused
-  refuses-behind : (old between new : S) (first : List (List ℕ)) (devices : List D) (path : List ℕ) (rest : List (List ℕ)) (fault : TreeFault) → OpensEach (calls o state old between) files first devices
-      → IsCopyEnd (calls o state between new) files path fault → RefusesEach (calls o state old new) files (first ++ path ∷ rest) fault
-  refuses-behind old between new [] [] path rest fault each ends = inl (subst (λ (s : S). IsCopyEnd (calls o state s new) files path fault) each ends)
+  refuses-behind : (old between new : S) (first : List (List ℕ)) (devices : List D) (path : List ℕ) (rest : List (List ℕ)) (fault : TreeFault) → OpensEachCopy (calls o state old between) files first devices
+      → IsCopyUnopened (calls o state between new) files path fault → RefusesEach (calls o state old new) files (first ++ path ∷ rest) fault
+  refuses-behind old between new [] [] path rest fault each ends = inl (subst (λ (s : S). IsCopyUnopened (calls o state s new) files path fault) each ends)
   refuses-behind old between new [] (d ∷ ds) path rest fault each ends = absurd each
   refuses-behind old between new (p ∷ ps) [] path rest fault each ends = absurd each
   refuses-behind old between new (p ∷ ps) (d ∷ ds) path rest fault each ends =
       inr (each.0, (d, (each.1.0, refuses-behind each.0 between new ps ds path rest fault each.1.1 ends)))
 
   pub refuses-at : {X : Type 0} (f : X → List ℕ) (old between new : S) (xs : List X) (i : ℕ) (x : X) (devices : List D) (fault : TreeFault) → i < length xs
-      → OpensEach (calls o state old between) files (map f (take i xs)) devices → IsCopyEnd (calls o state between new) files (f (get_or xs i x)) fault
+      → OpensEachCopy (calls o state old between) files (map f (take i xs)) devices → IsCopyUnopened (calls o state between new) files (f (get_or xs i x)) fault
       → RefusesEach (calls o state old new) files (map f xs) fault
   refuses-at f old between new xs i x devices fault inside before ends =
       let at = split f xs i x inside in

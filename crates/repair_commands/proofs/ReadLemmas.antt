@@ -5,10 +5,10 @@ use Rattle.tree_path.proofs.lemmas.DeviceLemmas.{failed-then, only_read-none, on
 use Rattle.tree_repair.specs.declared.fault.RepairFault.{RepairFault}
 use Rattle.tree_repair.specs.declared.fault.RepairFault.TheVariants.{Image, Write}
 use Rattle.tree_repair.specs.declared.repair.Plan.{Plan}
-use Rattle.tree_repair.specs.Repairs.{IsImageCause, IsUnrepairedBy, Repairs, job_of}
-use Rattle.tree_repair.specs.Runs.{Job, Runs, Visit}
+use Rattle.tree_repair.specs.Repairs.{IsNoImageCause, IsUnrepairedBy, Repairs, job_of}
+use Rattle.tree_repair.specs.Runs.{Job, VisitsAll, Visit}
 use Rattle.tree_repair.specs.Sources.{AreEachRead}
-use Rattle.tree_repair.specs.Worlds.{IsWorldRead, World, world}
+use Rattle.tree_repair.specs.Worlds.{IsWorldRead, RepairWorld, repair_world}
 use Rattle.tree_survey.specs.Causes.{AreCut, AreImages}
 use Rattle.verity_format.specs.declared.verifying.VerifyFault.TheVariants.{Super, TooSmall, Device as DeviceFailed, NoMemory}
 use Rattle.verity_format.specs.Blocks.{IsFullRead, IsOnlyRead, block_at}
@@ -21,7 +21,7 @@ each-none : (ds : List Device) → AreEachRead ds ds
 each-none ds = record { count = refl; each = λ j inside d. only_read-none _ }
 
 -- two devices of which one was read, and the copies
-pub world-read : (d h h' : Device) (cs es : List Device) → IsOnlyRead h h' → IsWorldRead (world d h cs es) (world d h' cs es)
+pub world-read : (d h h' : Device) (cs es : List Device) → IsOnlyRead h h' → IsWorldRead (repair_world d h cs es) (repair_world d h' cs es)
 world-read d h h' cs es read = record { data_read = only_read-none d; hash_read = read; data_copies_read = each-none cs; hash_copies_read = each-none es }
 
 sector-behind : {h h' : Device} (sector : List ℕ) → IsOnlyRead h h' → IsFirstSector h' sector → IsFirstSector h sector
@@ -41,7 +41,7 @@ images-behind s read images = record {
 cut-behind : {d h h' : Device} → IsOnlyRead h h' → AreCut d h' → AreCut d h
 cut-behind read cut = record { s = cut.s; sector = cut.sector; from = from-behind cut.sector cut.s read cut.from; past = rw read.same.size at cut.past }
 
-read-behind : {d h h' : Device} {cs es : List Device} (w' : World) → IsOnlyRead h h' → IsWorldRead (world d h' cs es) w' → IsWorldRead (world d h cs es) w'
+read-behind : {d h h' : Device} {cs es : List Device} (w' : RepairWorld) → IsOnlyRead h h' → IsWorldRead (repair_world d h' cs es) w' → IsWorldRead (repair_world d h cs es) w'
 read-behind w' read behind = record {
   data_read = behind.data_read;
   hash_read = only_read-then read behind.hash_read;
@@ -49,12 +49,12 @@ read-behind w' read behind = record {
   hash_copies_read = behind.hash_copies_read;
 }
 
-runs-behind : (d h h' : Device) (cs es : List Device) (j : Job) (visits : List Visit) (w' : World) → IsOnlyRead h h' → Runs j visits (world d h' cs es) w' → Runs j visits (world d h cs es) w'
+runs-behind : (d h h' : Device) (cs es : List Device) (j : Job) (visits : List Visit) (w' : RepairWorld) → IsOnlyRead h h' → VisitsAll j visits (repair_world d h' cs es) w' → VisitsAll j visits (repair_world d h cs es) w'
 runs-behind d h h' cs es j [] w' read runs = read-behind w' read runs
 runs-behind d h h' cs es j (v ∷ more) w' read (a, (b, (behind, rest))) = (a, (b, (read-behind a read behind, rest)))
 
-repairs-behind : {d h h' : Device} {cs es : List Device} (plan : Plan) (parity : Bool) (w' : World) (old new : Option (List ℕ)) (ok : Bool) → IsOnlyRead h h'
-    → Repairs plan parity (world d h' cs es) w' old new ok → Repairs plan parity (world d h cs es) w' old new ok
+repairs-behind : {d h h' : Device} {cs es : List Device} (plan : Plan) (parity : Bool) (w' : RepairWorld) (old new : Option (List ℕ)) (ok : Bool) → IsOnlyRead h h'
+    → Repairs plan parity (repair_world d h' cs es) w' old new ok → Repairs plan parity (repair_world d h cs es) w' old new ok
 repairs-behind {d} {h} {h'} {cs} {es} plan parity w' old new ok read repairs = record {
   s = repairs.s;
   images = images-behind repairs.s read repairs.images;
@@ -66,8 +66,8 @@ repairs-behind {d} {h} {h'} {cs} {es} plan parity w' old new ok read repairs = r
   };
 }
 
-pub mends-behind : {d h h' : Device} {cs es : List Device} (plan : Plan) (parity : Bool) (w' : World) (old new : Option (List ℕ)) → IsOnlyRead h h'
-    → MendsWhole plan parity (world d h' cs es) w' old new → MendsWhole plan parity (world d h cs es) w' old new
+pub mends-behind : {d h h' : Device} {cs es : List Device} (plan : Plan) (parity : Bool) (w' : RepairWorld) (old new : Option (List ℕ)) → IsOnlyRead h h'
+    → MendsWhole plan parity (repair_world d h' cs es) w' old new → MendsWhole plan parity (repair_world d h cs es) w' old new
 mends-behind plan parity w' old new read mends = record {
   mid = mends.mid;
   repair = repairs-behind plan parity mends.mid old new true read mends.repair;
@@ -78,7 +78,7 @@ mends-behind plan parity w' old new read mends = record {
 }
 
 -- why there was no image, where the reading before didn't fail
-cause-behind : (d h h' h'' : Device) (fault : RepairFault) → IsFullRead h 1 h' → IsImageCause d h' h'' fault → IsImageCause d h h'' fault
+cause-behind : (d h h' h'' : Device) (fault : RepairFault) → IsFullRead h 1 h' → IsNoImageCause d h' h'' fault → IsNoImageCause d h h'' fault
 cause-behind d h h' h'' (Image TooSmall) full (inl none) = inl (rw full.read.same.size at none)
 cause-behind d h h' h'' (Image TooSmall) full (inr cut) = inr (cut-behind full.read cut)
 cause-behind d h h' h'' (Image DeviceFailed) full failed = failed-then h h' h'' full.failures failed
@@ -86,19 +86,19 @@ cause-behind d h h' h'' (Image NoMemory) full never = absurd never
 cause-behind d h h' h'' (Image (Super f)) full (some, (sector, (first, is))) = (rw full.read.same.size at some, (sector, (sector-behind sector full.read first, is)))
 cause-behind d h h' h'' Write full never = absurd never
 
-unrepaired-behind : (plan : Plan) (parity : Bool) (d h h' : Device) (cs es : List Device) (w' : World) (old new : Option (List ℕ)) (fault : RepairFault) → IsFullRead h 1 h'
-    → IsUnrepairedBy plan parity (world d h' cs es) w' old new fault → IsUnrepairedBy plan parity (world d h cs es) w' old new fault
+unrepaired-behind : (plan : Plan) (parity : Bool) (d h h' : Device) (cs es : List Device) (w' : RepairWorld) (old new : Option (List ℕ)) (fault : RepairFault) → IsFullRead h 1 h'
+    → IsUnrepairedBy plan parity (repair_world d h' cs es) w' old new fault → IsUnrepairedBy plan parity (repair_world d h cs es) w' old new fault
 unrepaired-behind plan parity d h h' cs es w' old new fault full (inl (behind, cause)) = inl (read-behind w' full.read behind, cause-behind d h h' w'.hash_dev fault full cause)
 unrepaired-behind plan parity d h h' cs es w' old new fault full (inr repairs) = inr (repairs-behind plan parity w' old new _ full.read repairs)
 
-half-run : (plan : Plan) (parity : Bool) (d h h' : Device) (cs es : List Device) (w' : World) (old new : Option (List ℕ)) (fault : RepairFault) → IsFullRead h 1 h'
-    → (IsUnrepairedBy plan parity (world d h' cs es) w' old new fault ⊎ Repairs plan parity (world d h' cs es) w' old new true)
-    → (IsUnrepairedBy plan parity (world d h cs es) w' old new fault ⊎ Repairs plan parity (world d h cs es) w' old new true)
+half-run : (plan : Plan) (parity : Bool) (d h h' : Device) (cs es : List Device) (w' : RepairWorld) (old new : Option (List ℕ)) (fault : RepairFault) → IsFullRead h 1 h'
+    → (IsUnrepairedBy plan parity (repair_world d h' cs es) w' old new fault ⊎ Repairs plan parity (repair_world d h' cs es) w' old new true)
+    → (IsUnrepairedBy plan parity (repair_world d h cs es) w' old new fault ⊎ Repairs plan parity (repair_world d h cs es) w' old new true)
 half-run plan parity d h h' cs es w' old new fault full (inl ended) = inl (unrepaired-behind plan parity d h h' cs es w' old new fault full ended)
 half-run plan parity d h h' cs es w' old new fault full (inr repairs) = inr (repairs-behind plan parity w' old new _ full.read repairs)
 
-pub half-behind : (plan : Plan) (parity : Bool) (d h h' : Device) (cs es : List Device) (w' : World) (old new : Option (List ℕ)) (fault : RepairFault) → IsFullRead h 1 h'
-    → HalfMends plan parity (world d h' cs es) w' old new fault → HalfMends plan parity (world d h cs es) w' old new fault
+pub half-behind : (plan : Plan) (parity : Bool) (d h h' : Device) (cs es : List Device) (w' : RepairWorld) (old new : Option (List ℕ)) (fault : RepairFault) → IsFullRead h 1 h'
+    → HalfMends plan parity (repair_world d h' cs es) w' old new fault → HalfMends plan parity (repair_world d h cs es) w' old new fault
 half-behind plan parity d h h' cs es w' old new fault full half = record {
   mid = half.mid;
   run = half-run plan parity d h h' cs es half.mid old new fault full half.run;

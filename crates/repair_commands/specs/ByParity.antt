@@ -12,46 +12,46 @@ use Rattle.tree_commands.specs.declared.fault.TreeFault.TheVariants.{Open}
 use Rattle.tree_commands.specs.Surveys.{IsSurveyFilesEnd, PrintsGood}
 use Rattle.tree_repair.specs.declared.fault.RepairFault.{RepairFault}
 use Rattle.tree_repair.specs.declared.repair.Plan.{Plan}
-use Rattle.tree_repair.specs.Worlds.{IsWorldRead, World, world}
+use Rattle.tree_repair.specs.Worlds.{IsWorldRead, RepairWorld, repair_world}
 use Rattle.repair_commands.specs.declared.fault.ParityRepairFault.{ParityRepairFault}
 use Rattle.repair_commands.specs.declared.fault.ParityRepairFault.TheVariants.{Tree}
 use Rattle.repair_commands.specs.declared.opening.Opened.{Opened}
 use Rattle.repair_commands.specs.declared.parity.Parity.{Parity}
-use Rattle.repair_commands.specs.Commands.{GivesBack, fault_of, plan_of, surveyed, world_of}
+use Rattle.repair_commands.specs.Commands.{GivesBackImages, ending_fault, plan_of, surveyed, world_of}
 use Rattle.repair_commands.specs.Mends.{HalfMends, MendsWhole}
-use Rattle.repair_commands.specs.Openings.{FailsToOpen, OpensAll}
+use Rattle.repair_commands.specs.Openings.{FailsToOpenCopies, OpensAll}
 use Rattle.repair_commands.specs.Pairs.{Places}
-use Rattle.repair_commands.specs.Parity.{FailsToOpenParity, IsUnlaid, LaysOut, OpensParity}
+use Rattle.repair_commands.specs.Parity.{FailsToOpenParity, IsUnlaid, LaysOutParity, OpensParity}
 
 -- ---- of devices
 
 -- the parity was laid out, and the image gone over by it too
-pub record MendsByParity (plan : Plan) (parity_dev : Device) (roots : ℕ) (w w' : World) (old new : Option (List ℕ)) : Type 0 where
+pub record MendsByParity (plan : Plan) (parity_dev : Device) (roots : ℕ) (w w' : RepairWorld) (old new : Option (List ℕ)) : Type 0 where
   pub layout : Layout
   pub read_dev : Device
-  pub lays : LaysOut w.data_dev w.hash_dev parity_dev roots read_dev layout
+  pub lays : LaysOutParity w.data_dev w.hash_dev parity_dev roots read_dev layout
   pub mends : MendsWhole plan true w w' old new
 
 -- it isn't gone over to its end, or not all is on the media: good blocks alone were written all the same
-pub record EndsHalf (plan : Plan) (w w' : World) (old new : Option (List ℕ)) (fault : ParityRepairFault) : Type 0 where
+pub record EndsHalf (plan : Plan) (w w' : RepairWorld) (old new : Option (List ℕ)) (fault : ParityRepairFault) : Type 0 where
   pub cause : RepairFault
   pub half : HalfMends plan true w w' old new cause
-  pub is : fault ≡ Tree (fault_of cause)
+  pub is : fault ≡ Tree (ending_fault cause)
 
 -- the parity isn't laid out: all was only read, and nothing printed
-pub record EndsUnlaid (parity_dev : Device) (roots : ℕ) (w w' : World) (old new : Option (List ℕ)) (fault : ParityRepairFault) : Type 0 where
+pub record IsUnlaidEnd (parity_dev : Device) (roots : ℕ) (w w' : RepairWorld) (old new : Option (List ℕ)) (fault : ParityRepairFault) : Type 0 where
   pub unlaid : IsUnlaid w.data_dev w.hash_dev parity_dev roots w'.hash_dev fault
   pub read : IsWorldRead w w'
   pub quiet : new ≡ old
 
-abbrev pub HalfMendsByParity : Plan → Device → ℕ → World → World → Option (List ℕ) → Option (List ℕ) → ParityRepairFault → Type 0
-HalfMendsByParity plan parity_dev roots w w' old new fault = EndsUnlaid parity_dev roots w w' old new fault ⊎ EndsHalf plan w w' old new fault
+abbrev pub HalfMendsByParity : Plan → Device → ℕ → RepairWorld → RepairWorld → Option (List ℕ) → Option (List ℕ) → ParityRepairFault → Type 0
+HalfMendsByParity plan parity_dev roots w w' old new fault = IsUnlaidEnd parity_dev roots w w' old new fault ⊎ EndsHalf plan w w' old new fault
 
 -- the same by a writer before and behind
-abbrev pub IsMendedByParity : {W : Type 0} → (W → Option (List ℕ)) → Plan → Device → ℕ → World → World → CountedRecord W → CountedRecord W → Type 0
+abbrev pub IsMendedByParity : {W : Type 0} → (W → Option (List ℕ)) → Plan → Device → ℕ → RepairWorld → RepairWorld → CountedRecord W → CountedRecord W → Type 0
 IsMendedByParity contents plan parity_dev roots w w' old new = MendsByParity plan parity_dev roots w w' (contents old.inner) (contents new.inner)
 
-abbrev pub IsHalfByParity : {W : Type 0} → (W → Option (List ℕ)) → Plan → Device → ℕ → World → World → CountedRecord W → CountedRecord W → ParityRepairFault → Type 0
+abbrev pub IsHalfByParity : {W : Type 0} → (W → Option (List ℕ)) → Plan → Device → ℕ → RepairWorld → RepairWorld → CountedRecord W → CountedRecord W → ParityRepairFault → Type 0
 IsHalfByParity contents plan parity_dev roots w w' old new fault = HalfMendsByParity plan parity_dev roots w w' (contents old.inner) (contents new.inner) fault
 
 -- ---- of files
@@ -62,8 +62,8 @@ pub record MendsOpenedByParity {S D : Type 0} (w : Calls S D) (p : Places) (o : 
   pub hash_dev : D
   pub data_copies : List D
   pub hash_copies : List D
-  pub mends : MendsByParity (plan_of p root) (w.state parity.device) parity.roots (world_of w o) (world (w.state data_dev) (w.state hash_dev) (map w.state data_copies) (map w.state hash_copies)) old new
-  pub back : GivesBack p.write w p o.parts data_dev hash_dev
+  pub mends : MendsByParity (plan_of p root) (w.state parity.device) parity.roots (world_of w o) (repair_world (w.state data_dev) (w.state hash_dev) (map w.state data_copies) (map w.state hash_copies)) old new
+  pub back : GivesBackImages p.write w p o.parts data_dev hash_dev
 
 -- or not to the end
 pub record HalfMendsOpenedByParity {S D : Type 0} (w : Calls S D) (p : Places) (o : Opened D) (parity : Parity D) (root : List ℕ) (old new : Option (List ℕ)) (fault : ParityRepairFault) : Type 0 where
@@ -71,8 +71,8 @@ pub record HalfMendsOpenedByParity {S D : Type 0} (w : Calls S D) (p : Places) (
   pub hash_dev : D
   pub data_copies : List D
   pub hash_copies : List D
-  pub half : HalfMendsByParity (plan_of p root) (w.state parity.device) parity.roots (world_of w o) (world (w.state data_dev) (w.state hash_dev) (map w.state data_copies) (map w.state hash_copies)) old new fault
-  pub back : GivesBack p.write w p o.parts data_dev hash_dev
+  pub half : HalfMendsByParity (plan_of p root) (w.state parity.device) parity.roots (world_of w o) (repair_world (w.state data_dev) (w.state hash_dev) (map w.state data_copies) (map w.state hash_copies)) old new fault
+  pub back : GivesBackImages p.write w p o.parts data_dev hash_dev
 
 -- the images and the copies were opened, and then the file of the parity
 pub record OpensAllWithParity {S D : Type 0} (w : Calls S D) (p : Places) (fec : FecRecord) (copies : List ImageCopy) (o : Opened D) (parity : Parity D) : Type 0 where
@@ -98,9 +98,9 @@ pub record RepairsByParity {S D : Type 0} (w : Calls S D) (p : Places) (fec : Fe
 -- ---- how it ends early
 
 -- an image or a copy isn't opened, and nothing was written or printed
-pub record EndsUnopened {S D : Type 0} (w : Calls S D) (p : Places) (copies : List ImageCopy) (old new : Option (List ℕ)) (fault : ParityRepairFault) : Type 0 where
+pub record EndsUnopenedByParity {S D : Type 0} (w : Calls S D) (p : Places) (copies : List ImageCopy) (old new : Option (List ℕ)) (fault : ParityRepairFault) : Type 0 where
   pub cause : TreeFault
-  pub fails : FailsToOpen w p copies cause
+  pub fails : FailsToOpenCopies w p copies cause
   pub quiet : new ≡ old
   pub is : fault ≡ Tree cause
 
@@ -115,7 +115,7 @@ pub record EndsWithoutParity {S D : Type 0} (w : Calls S D) (p : Places) (fec : 
   pub is : fault ≡ Tree (Open file)
 
 -- all is open, and the image isn't repaired to the end
-pub record EndsUnmended {S D : Type 0} (w : Calls S D) (p : Places) (fec : FecRecord) (copies : List ImageCopy) (root : List ℕ) (old new : Option (List ℕ)) (fault : ParityRepairFault) : Type 0 where
+pub record EndsUnmendedByParity {S D : Type 0} (w : Calls S D) (p : Places) (fec : FecRecord) (copies : List ImageCopy) (root : List ℕ) (old new : Option (List ℕ)) (fault : ParityRepairFault) : Type 0 where
   pub ready : S
   pub opened : Opened D
   pub parity : Parity D
@@ -123,7 +123,7 @@ pub record EndsUnmended {S D : Type 0} (w : Calls S D) (p : Places) (fec : FecRe
   pub half : HalfMendsOpenedByParity (record w { old = ready }) p opened parity root old new fault
 
 -- it is, and then the image isn't gone over, or not all of it is good
-pub record EndsBehind {S D : Type 0} (w : Calls S D) (p : Places) (fec : FecRecord) (copies : List ImageCopy) (root : List ℕ) (old new : Option (List ℕ)) (failed : Bool) (fault : ParityRepairFault) : Type 0 where
+pub record EndsBehindByParity {S D : Type 0} (w : Calls S D) (p : Places) (fec : FecRecord) (copies : List ImageCopy) (root : List ℕ) (old new : Option (List ℕ)) (failed : Bool) (fault : ParityRepairFault) : Type 0 where
   pub mended : S
   pub between : Option (List ℕ)
   pub mends : MendsFilesByParity (record w { new = mended }) p fec copies root old between
@@ -133,5 +133,5 @@ pub record EndsBehind {S D : Type 0} (w : Calls S D) (p : Places) (fec : FecReco
 
 abbrev pub IsParityRepairEnd : {S D : Type 0} → Calls S D → Places → FecRecord → List ImageCopy → List ℕ → Option (List ℕ) → Option (List ℕ) → Bool → ParityRepairFault → Type 0
 IsParityRepairEnd w p fec copies root old new failed fault =
-    EndsUnopened w p copies old new fault ⊎ (EndsWithoutParity w p fec copies old new fault
-    ⊎ (EndsUnmended w p fec copies root old new fault ⊎ EndsBehind w p fec copies root old new failed fault))
+    EndsUnopenedByParity w p copies old new fault ⊎ (EndsWithoutParity w p fec copies old new fault
+    ⊎ (EndsUnmendedByParity w p fec copies root old new fault ⊎ EndsBehindByParity w p fec copies root old new failed fault))

@@ -4,24 +4,24 @@ use Rattle.command_line.specs.declared.image_copies.ImageCopy.{ImageCopy}
 use Rattle.image_files.specs.Opener.{Calls}
 use Rattle.tree_commands.specs.declared.fault.TreeFault.{TreeFault}
 use Rattle.tree_commands.specs.declared.fault.TreeFault.TheVariants as trees
-use Rattle.tree_commands.specs.Surveys.{IsSurveyFilesEnd, PrintsGood, Places as SurveyedPlaces}
+use Rattle.tree_commands.specs.Surveys.{IsSurveyFilesEnd, PrintsGood, SurveyedPlaces}
 use Rattle.tree_survey.specs.declared.fault.SurveyFault.TheVariants as survey
 use Rattle.tree_repair.specs.declared.fault.RepairFault.{RepairFault}
 use Rattle.tree_repair.specs.declared.fault.RepairFault.TheVariants.{Image, Write}
 use Rattle.tree_repair.specs.declared.repair.Plan.{Plan}
-use Rattle.tree_repair.specs.Worlds.{World, world}
+use Rattle.tree_repair.specs.Worlds.{RepairWorld, repair_world}
 use Rattle.repair_commands.specs.declared.opening.Opened.{Opened}
 use Rattle.repair_commands.specs.declared.pair.Parts.{Parts}
 use Rattle.repair_commands.specs.Mends.{HalfMends, MendsWhole}
-use Rattle.repair_commands.specs.Openings.{FailsToOpen, OpensAll}
+use Rattle.repair_commands.specs.Openings.{FailsToOpenCopies, OpensAll}
 use Rattle.repair_commands.specs.Pairs.{Places}
 
 abbrev pub plan_of : Places → List ℕ → Plan
 plan_of p root = record { root = root; copy_first = p.first; write = p.write }
 
 -- the devices that were opened
-abbrev pub world_of : {S D : Type 0} → Calls S D → Opened D → World
-world_of w o = world (w.state o.pair.data_image.device) (w.state o.pair.hash_image.device) (map w.state o.copies.data_copies.items) (map w.state o.copies.hash_copies.items)
+abbrev pub world_of : {S D : Type 0} → Calls S D → Opened D → RepairWorld
+world_of w o = repair_world (w.state o.pair.data_image.device) (w.state o.pair.hash_image.device) (map w.state o.copies.data_copies.items) (map w.state o.copies.hash_copies.items)
 
 -- both parts were given back, the data first
 pub record TakesBoth {S D : Type 0} (w : Calls S D) (p : Places) (parts : Parts) (data_dev hash_dev : D) : Type 0 where
@@ -30,9 +30,9 @@ pub record TakesBoth {S D : Type 0} (w : Calls S D) (p : Places) (parts : Parts)
   pub hash_taken : w.relations.takes_part between p.hash_path parts.hash_part hash_dev w.new
 
 -- so, where they may be written; else none
-abbrev pub GivesBack : {S D : Type 0} → Bool → Calls S D → Places → Parts → D → D → Type 0
-GivesBack true w p parts data_dev hash_dev = TakesBoth w p parts data_dev hash_dev
-GivesBack false w p parts data_dev hash_dev = w.new ≡ w.old
+abbrev pub GivesBackImages : {S D : Type 0} → Bool → Calls S D → Places → Parts → D → D → Type 0
+GivesBackImages true w p parts data_dev hash_dev = TakesBoth w p parts data_dev hash_dev
+GivesBackImages false w p parts data_dev hash_dev = w.new ≡ w.old
 
 -- what is open was repaired, what was written put on the media, and both parts given back
 pub record MendsOpened {S D : Type 0} (w : Calls S D) (p : Places) (o : Opened D) (root : List ℕ) (old new : Option (List ℕ)) : Type 0 where
@@ -40,13 +40,13 @@ pub record MendsOpened {S D : Type 0} (w : Calls S D) (p : Places) (o : Opened D
   pub hash_dev : D
   pub data_copies : List D
   pub hash_copies : List D
-  pub mends : MendsWhole (plan_of p root) false (world_of w o) (world (w.state data_dev) (w.state hash_dev) (map w.state data_copies) (map w.state hash_copies)) old new
-  pub back : GivesBack p.write w p o.parts data_dev hash_dev
+  pub mends : MendsWhole (plan_of p root) false (world_of w o) (repair_world (w.state data_dev) (w.state hash_dev) (map w.state data_copies) (map w.state hash_copies)) old new
+  pub back : GivesBackImages p.write w p o.parts data_dev hash_dev
 
 -- the fault with which a repair ends that isn't one to the end
-abbrev pub fault_of : RepairFault → TreeFault
-fault_of (Image fault) = trees.Survey (survey.Image fault)
-fault_of Write = trees.Write
+abbrev pub ending_fault : RepairFault → TreeFault
+ending_fault (Image fault) = trees.Survey (survey.Image fault)
+ending_fault Write = trees.Write
 
 -- it wasn't repaired to the end, or isn't all on the media: good blocks alone were written all the same, and both given back
 pub record HalfMendsOpened {S D : Type 0} (w : Calls S D) (p : Places) (o : Opened D) (root : List ℕ) (old new : Option (List ℕ)) (fault : TreeFault) : Type 0 where
@@ -55,9 +55,9 @@ pub record HalfMendsOpened {S D : Type 0} (w : Calls S D) (p : Places) (o : Open
   pub data_copies : List D
   pub hash_copies : List D
   pub cause : RepairFault
-  pub is : fault ≡ fault_of cause
-  pub half : HalfMends (plan_of p root) false (world_of w o) (world (w.state data_dev) (w.state hash_dev) (map w.state data_copies) (map w.state hash_copies)) old new cause
-  pub back : GivesBack p.write w p o.parts data_dev hash_dev
+  pub is : fault ≡ ending_fault cause
+  pub half : HalfMends (plan_of p root) false (world_of w o) (repair_world (w.state data_dev) (w.state hash_dev) (map w.state data_copies) (map w.state hash_copies)) old new cause
+  pub back : GivesBackImages p.write w p o.parts data_dev hash_dev
 
 -- ---- from the words on
 
@@ -69,8 +69,8 @@ pub record MendsFiles {S D : Type 0} (w : Calls S D) (p : Places) (copies : List
   pub mends : MendsOpened (record w { old = ready }) p opened root old new
 
 -- a file isn't opened, and nothing was written or printed
-pub record EndsUnopened {S D : Type 0} (w : Calls S D) (p : Places) (copies : List ImageCopy) (old new : Option (List ℕ)) (fault : TreeFault) : Type 0 where
-  pub fails : FailsToOpen w p copies fault
+pub record EndsUnopenedRepair {S D : Type 0} (w : Calls S D) (p : Places) (copies : List ImageCopy) (old new : Option (List ℕ)) (fault : TreeFault) : Type 0 where
+  pub fails : FailsToOpenCopies w p copies fault
   pub quiet : new ≡ old
 
 -- all are open, and the image isn't repaired to the end
@@ -81,7 +81,7 @@ pub record EndsUnmended {S D : Type 0} (w : Calls S D) (p : Places) (copies : Li
   pub half : HalfMendsOpened (record w { old = ready }) p opened root old new fault
 
 abbrev pub IsMendingEnd : {S D : Type 0} → Calls S D → Places → List ImageCopy → List ℕ → Option (List ℕ) → Option (List ℕ) → TreeFault → Type 0
-IsMendingEnd w p copies root old new fault = EndsUnopened w p copies old new fault ⊎ EndsUnmended w p copies root old new fault
+IsMendingEnd w p copies root old new fault = EndsUnopenedRepair w p copies old new fault ⊎ EndsUnmended w p copies root old new fault
 
 -- ---- and what is still lost
 

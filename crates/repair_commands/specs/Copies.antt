@@ -16,33 +16,33 @@ path_in true copy = copy.hash_path.now
 path_in false copy = copy.data_path.now
 
 -- an image was opened for reading, as this device; it is none of these files where that one may be written
-pub record OpensCopy {S D : Type 0} (w : Calls S D) (files : List FileUse) (path : List ℕ) (device : D) : Type 0 where
+pub record OpensImageCopy {S D : Type 0} (w : Calls S D) (files : List FileUse) (path : List ℕ) (device : D) : Type 0 where
   pub id : Option FileId
   pub opened : OpensApart w files path false (record { device = device; id = id })
 
 -- and it is the last one of a list then
 pub record AddsCopy {S D : Type 0} (w : Calls S D) (files : List FileUse) (path : List ℕ) (old new : List D) : Type 0 where
   pub device : D
-  pub opened : OpensCopy w files path device
+  pub opened : OpensImageCopy w files path device
   pub more : new ≡ old ++ device ∷ []
 
 -- it isn't opened, or memory ran out behind that
-abbrev pub IsCopyEnd : {S D : Type 0} → Calls S D → List FileUse → List ℕ → TreeFault → Type 0
-IsCopyEnd w files path (Open file) = RefusesApart w files path false file
-IsCopyEnd {S} {D} w files path (Survey (Image NoMemory)) = (device : D) × OpensCopy w files path device
-IsCopyEnd w files path fault = ⊥
+abbrev pub IsCopyUnopened : {S D : Type 0} → Calls S D → List FileUse → List ℕ → TreeFault → Type 0
+IsCopyUnopened w files path (Open file) = RefusesApart w files path false file
+IsCopyUnopened {S} {D} w files path (Survey (Image NoMemory)) = (device : D) × OpensImageCopy w files path device
+IsCopyUnopened w files path fault = ⊥
 
 -- each was opened, in their order
-abbrev pub OpensEach : {S D : Type 0} → Calls S D → List FileUse → List (List ℕ) → List D → Type 0
-OpensEach w files [] [] = w.new ≡ w.old
-OpensEach w files [] (d ∷ ds) = ⊥
-OpensEach w files (p ∷ ps) [] = ⊥
-OpensEach {S} w files (p ∷ ps) (d ∷ ds) =
-    (between : S) × (OpensCopy (record w { new = between }) files p d × OpensEach (record w { old = between }) files ps ds)
+abbrev pub OpensEachCopy : {S D : Type 0} → Calls S D → List FileUse → List (List ℕ) → List D → Type 0
+OpensEachCopy w files [] [] = w.new ≡ w.old
+OpensEachCopy w files [] (d ∷ ds) = ⊥
+OpensEachCopy w files (p ∷ ps) [] = ⊥
+OpensEachCopy {S} w files (p ∷ ps) (d ∷ ds) =
+    (between : S) × (OpensImageCopy (record w { new = between }) files p d × OpensEachCopy (record w { old = between }) files ps ds)
 
 -- one of them isn't, the first that is refused
 abbrev pub RefusesEach : {S D : Type 0} → Calls S D → List FileUse → List (List ℕ) → TreeFault → Type 0
 RefusesEach w files [] fault = ⊥
 RefusesEach {S} {D} w files (p ∷ ps) fault =
-    IsCopyEnd w files p fault
-    ⊎ ((between : S) × ((d : D) × (OpensCopy (record w { new = between }) files p d × RefusesEach (record w { old = between }) files ps fault)))
+    IsCopyUnopened w files p fault
+    ⊎ ((between : S) × ((d : D) × (OpensImageCopy (record w { new = between }) files p d × RefusesEach (record w { old = between }) files ps fault)))

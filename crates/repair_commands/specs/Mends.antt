@@ -5,10 +5,10 @@ use Rattle.counted_io.specs.Counted.{CountedRecord}
 use Rattle.tree_repair.specs.declared.fault.RepairFault.{RepairFault}
 use Rattle.tree_repair.specs.declared.repair.Plan.{Plan}
 use Rattle.tree_repair.specs.Repairs.{IsUnrepairedBy, Repairs}
-use Rattle.tree_repair.specs.Worlds.{World}
+use Rattle.tree_repair.specs.Worlds.{RepairWorld}
 
 -- both hold what they held
-pub record KeepsImages (data_dev hash_dev data_dev' hash_dev' : Device) : Type 0 where
+pub record KeepsBothImages (data_dev hash_dev data_dev' hash_dev' : Device) : Type 0 where
   pub data_image : data_dev'.image ≡ data_dev.image
   pub hash_image : hash_dev'.image ≡ hash_dev.image
 
@@ -18,26 +18,26 @@ pub record IsOnMedium (write : Bool) (data_dev hash_dev : Device) : Type 0 where
   pub hash_clean : IsTrue write → hash_dev.dirty ≡ false
 
 -- the image was gone over, with parity or without, and what was written is on the media
-pub record MendsWhole (plan : Plan) (parity : Bool) (w w' : World) (old new : Option (List ℕ)) : Type 0 where
-  pub mid : World
+pub record MendsWhole (plan : Plan) (parity : Bool) (w w' : RepairWorld) (old new : Option (List ℕ)) : Type 0 where
+  pub mid : RepairWorld
   pub repair : Repairs plan parity w mid old new true
-  pub kept : KeepsImages mid.data_dev mid.hash_dev w'.data_dev w'.hash_dev
+  pub kept : KeepsBothImages mid.data_dev mid.hash_dev w'.data_dev w'.hash_dev
   pub data_copies_are : w'.data_copies ≡ mid.data_copies
   pub hash_copies_are : w'.hash_copies ≡ mid.hash_copies
   pub on_medium : IsOnMedium plan.write w'.data_dev w'.hash_dev
 
 -- or it wasn't to the end, or not all is on the media: good blocks alone were written all the same
-pub record HalfMends (plan : Plan) (parity : Bool) (w w' : World) (old new : Option (List ℕ)) (fault : RepairFault) : Type 0 where
-  pub mid : World
+pub record HalfMends (plan : Plan) (parity : Bool) (w w' : RepairWorld) (old new : Option (List ℕ)) (fault : RepairFault) : Type 0 where
+  pub mid : RepairWorld
   pub run : IsUnrepairedBy plan parity w mid old new fault ⊎ Repairs plan parity w mid old new true
-  pub kept : KeepsImages mid.data_dev mid.hash_dev w'.data_dev w'.hash_dev
+  pub kept : KeepsBothImages mid.data_dev mid.hash_dev w'.data_dev w'.hash_dev
   pub data_copies_are : w'.data_copies ≡ mid.data_copies
   pub hash_copies_are : w'.hash_copies ≡ mid.hash_copies
 
 -- ---- the same by a writer before and behind
 
-abbrev pub IsMendedWhole : {W : Type 0} → (W → Option (List ℕ)) → Plan → Bool → World → World → CountedRecord W → CountedRecord W → Type 0
+abbrev pub IsMendedWhole : {W : Type 0} → (W → Option (List ℕ)) → Plan → Bool → RepairWorld → RepairWorld → CountedRecord W → CountedRecord W → Type 0
 IsMendedWhole contents plan parity w w' old new = MendsWhole plan parity w w' (contents old.inner) (contents new.inner)
 
-abbrev pub IsMendedHalf : {W : Type 0} → (W → Option (List ℕ)) → Plan → Bool → World → World → CountedRecord W → CountedRecord W → RepairFault → Type 0
+abbrev pub IsMendedHalf : {W : Type 0} → (W → Option (List ℕ)) → Plan → Bool → RepairWorld → RepairWorld → CountedRecord W → CountedRecord W → RepairFault → Type 0
 IsMendedHalf contents plan parity w w' old new fault = HalfMends plan parity w w' (contents old.inner) (contents new.inner) fault

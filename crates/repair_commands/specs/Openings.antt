@@ -6,8 +6,8 @@ use Rattle.image_files.specs.declared.opening.UnopenedFile.{UnopenedFile}
 use Rattle.image_files.specs.Opener.{Calls}
 use Rattle.tree_commands.specs.declared.fault.TreeFault.{TreeFault}
 use Rattle.tree_commands.specs.declared.fault.TreeFault.TheVariants.{Open}
-use Rattle.repair_commands.specs.Copies.{OpensEach, RefusesEach, path_in}
-use Rattle.repair_commands.specs.Pairs.{FailsToMeasure, FailsToOpenPair, Measures, OpensPair, Places, uses_of}
+use Rattle.repair_commands.specs.Copies.{OpensEachCopy, RefusesEach, path_in}
+use Rattle.repair_commands.specs.Pairs.{FailsToMeasure, FailsToOpenPair, MeasuresBoth, OpensPair, Places, pair_uses}
 use Rattle.repair_commands.specs.declared.opening.Copies.{Copies}
 use Rattle.repair_commands.specs.declared.opening.Opened.{Opened}
 use Rattle.repair_commands.specs.declared.pair.Pair.{Pair}
@@ -16,14 +16,14 @@ use Rattle.repair_commands.specs.declared.pair.Parts.{Parts}
 -- the data of all copies were opened, and then their hashes
 pub record OpensCopies {S D : Type 0} (w : Calls S D) (files : List FileUse) (copies : List ImageCopy) (opened : Copies D) : Type 0 where
   pub between : S
-  pub data_opened : OpensEach (record w { new = between }) files (map (path_in false) copies) opened.data_copies.items
-  pub hash_opened : OpensEach (record w { old = between }) files (map (path_in true) copies) opened.hash_copies.items
+  pub data_opened : OpensEachCopy (record w { new = between }) files (map (path_in false) copies) opened.data_copies.items
+  pub hash_opened : OpensEachCopy (record w { old = between }) files (map (path_in true) copies) opened.hash_copies.items
 
 -- the data were, and the hashes weren't
 pub record RefusesHashes {S D : Type 0} (w : Calls S D) (files : List FileUse) (copies : List ImageCopy) (fault : TreeFault) : Type 0 where
   pub between : S
   pub devices : List D
-  pub data_opened : OpensEach (record w { new = between }) files (map (path_in false) copies) devices
+  pub data_opened : OpensEachCopy (record w { new = between }) files (map (path_in false) copies) devices
   pub refused : RefusesEach (record w { old = between }) files (map (path_in true) copies) fault
 
 abbrev pub RefusesCopies : {S D : Type 0} → Calls S D → List FileUse → List ImageCopy → TreeFault → Type 0
@@ -34,14 +34,14 @@ RefusesCopies w files copies fault = RefusesEach w files (map (path_in false) co
 -- the files were measured, and then their parts opened
 pub record IsPairOpen {S D : Type 0} (w : Calls S D) (p : Places) (parts : Parts) (pair : Pair D) : Type 0 where
   pub between : S
-  pub measures : Measures (record w { new = between }) p parts
+  pub measures : MeasuresBoth (record w { new = between }) p parts
   pub opens : OpensPair (record w { old = between }) p parts pair
 
 -- and then the copies, none of which is a file that may be written
 pub record OpensAll {S D : Type 0} (w : Calls S D) (p : Places) (copies : List ImageCopy) (o : Opened D) : Type 0 where
   pub between : S
   pub pair_open : IsPairOpen (record w { new = between }) p o.parts o.pair
-  pub copies_open : OpensCopies (record w { old = between }) (uses_of p o.parts o.pair) copies o.copies
+  pub copies_open : OpensCopies (record w { old = between }) (pair_uses p o.parts o.pair) copies o.copies
 
 -- the files aren't measured
 pub record EndsUnmeasured {S D : Type 0} (w : Calls S D) (p : Places) (fault : TreeFault) : Type 0 where
@@ -53,7 +53,7 @@ pub record EndsUnmeasured {S D : Type 0} (w : Calls S D) (p : Places) (fault : T
 pub record EndsUnpaired {S D : Type 0} (w : Calls S D) (p : Places) (fault : TreeFault) : Type 0 where
   pub between : S
   pub parts : Parts
-  pub measures : Measures (record w { new = between }) p parts
+  pub measures : MeasuresBoth (record w { new = between }) p parts
   pub ends : FailsToOpenPair (record w { old = between }) p parts fault
 
 -- these are, and a copy isn't
@@ -62,8 +62,8 @@ pub record EndsUncopied {S D : Type 0} (w : Calls S D) (p : Places) (copies : Li
   pub parts : Parts
   pub pair : Pair D
   pub pair_open : IsPairOpen (record w { new = between }) p parts pair
-  pub refused : RefusesCopies (record w { old = between }) (uses_of p parts pair) copies fault
+  pub refused : RefusesCopies (record w { old = between }) (pair_uses p parts pair) copies fault
 
 -- the first of them that is refused
-abbrev pub FailsToOpen : {S D : Type 0} → Calls S D → Places → List ImageCopy → TreeFault → Type 0
-FailsToOpen w p copies fault = EndsUnmeasured w p fault ⊎ (EndsUnpaired w p fault ⊎ EndsUncopied w p copies fault)
+abbrev pub FailsToOpenCopies : {S D : Type 0} → Calls S D → Places → List ImageCopy → TreeFault → Type 0
+FailsToOpenCopies w p copies fault = EndsUnmeasured w p fault ⊎ (EndsUnpaired w p fault ⊎ EndsUncopied w p copies fault)

@@ -30,27 +30,27 @@ abbrev pub places_of : RepairPlaces → Places
 places_of p = record { data_path = p.«data».now; hash_path = p.hash.now; first = p.hash_first; write = p.write }
 
 -- where the data end: in one file before the hash image, else at the end of theirs
-abbrev pub data_end : {D : Type 0} → Pair D → ℕ → ℕ
-data_end pair first = if nat_lt 0 first && is_one_file pair.data_image.id pair.hash_image.id then first else 2 ^ 64 - 1
+abbrev pub pair_data_end : {D : Type 0} → Pair D → ℕ → ℕ
+pair_data_end pair first = if nat_lt 0 first && is_one_file pair.data_image.id pair.hash_image.id then first else 2 ^ 64 - 1
 
 -- both files were opened for reading, the data's first, and the parts are these by their lengths
-pub record Measures {S D : Type 0} (w : Calls S D) (p : Places) (parts : Parts) : Type 0 where
+pub record MeasuresBoth {S D : Type 0} (w : Calls S D) (p : Places) (parts : Parts) : Type 0 where
   pub between : S
   pub pair : Pair D
   pub data_opened : Opens (record w { new = between }) p.data_path false pair.data_image
   pub hash_opened : Opens (record w { old = between }) p.hash_path false pair.hash_image
-  pub data_part : parts.data_part ≡ part_before (w.state pair.data_image.device) (data_end pair p.first)
+  pub data_part : parts.data_part ≡ part_before (w.state pair.data_image.device) (pair_data_end pair p.first)
   pub hash_part : parts.hash_part ≡ part_behind (w.state pair.hash_image.device) p.first
 
 -- the data's file was opened, and the other one wasn't
-pub record RefusesHash {S D : Type 0} (w : Calls S D) (p : Places) (file : UnopenedFile) : Type 0 where
+pub record RefusesOther {S D : Type 0} (w : Calls S D) (p : Places) (file : UnopenedFile) : Type 0 where
   pub between : S
   pub data_image : OpenImage D
   pub data_opened : Opens (record w { new = between }) p.data_path false data_image
   pub refused : Refuses (record w { old = between }) p.hash_path false file
 
 abbrev pub FailsToMeasure : {S D : Type 0} → Calls S D → Places → UnopenedFile → Type 0
-FailsToMeasure w p file = Refuses w p.data_path false file ⊎ RefusesHash w p file
+FailsToMeasure w p file = Refuses w p.data_path false file ⊎ RefusesOther w p file
 
 -- ---- the parts
 
@@ -82,5 +82,5 @@ abbrev pub FailsToOpenPair : {S D : Type 0} → Calls S D → Places → Parts �
 FailsToOpenPair w p parts fault = IsPartEnd w [] p.data_path p.write parts.data_part fault ⊎ FailsAtHash w p parts fault
 
 -- how the two files are used then
-abbrev pub uses_of : {D : Type 0} → Places → Parts → Pair D → List FileUse
-uses_of p parts pair = part_use p.write parts.data_part pair.data_image ∷ part_use p.write parts.hash_part pair.hash_image ∷ []
+abbrev pub pair_uses : {D : Type 0} → Places → Parts → Pair D → List FileUse
+pair_uses p parts pair = part_use p.write parts.data_part pair.data_image ∷ part_use p.write parts.hash_part pair.hash_image ∷ []

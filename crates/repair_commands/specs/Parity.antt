@@ -18,16 +18,16 @@ use Rattle.repair_commands.specs.declared.fault.ParityRepairFault.{ParityRepairF
 use Rattle.repair_commands.specs.declared.fault.ParityRepairFault.TheVariants.{BlockSizes, TooSmall, Tree}
 use Rattle.repair_commands.specs.declared.opening.Opened.{Opened}
 use Rattle.repair_commands.specs.declared.parity.Parity.{Parity}
-use Rattle.repair_commands.specs.Pairs.{Places, uses_of}
+use Rattle.repair_commands.specs.Pairs.{Places, pair_uses}
 
 -- the parity's file was opened for reading; it is none of the two that are repaired, where these may be written
 pub record OpensParity {S D : Type 0} (w : Calls S D) (p : Places) (o : Opened D) (fec : FecRecord) (parity : Parity D) : Type 0 where
   pub id : Option FileId
-  pub opened : OpensApart w (uses_of p o.parts o.pair) fec.path false (record { device = parity.device; id = id })
+  pub opened : OpensApart w (pair_uses p o.parts o.pair) fec.path false (record { device = parity.device; id = id })
   pub roots_are : parity.roots ≡ fec.roots
 
 abbrev pub FailsToOpenParity : {S D : Type 0} → Calls S D → Places → Opened D → FecRecord → UnopenedFile → Type 0
-FailsToOpenParity w p o fec file = RefusesApart w (uses_of p o.parts o.pair) fec.path false file
+FailsToOpenParity w p o fec file = RefusesApart w (pair_uses p o.parts o.pair) fec.path false file
 
 -- ---- its layout
 
@@ -39,20 +39,20 @@ pub record LiesAcross (data_dev hash_dev : Device) (roots : ℕ) (layout : Layou
   pub laid : IsLaidOn layout data_dev hash_dev
 
 -- and the parity has room on its own device; of the hash device one sector was read
-pub record LaysOut (data_dev hash_dev parity_dev : Device) (roots : ℕ) (hash_dev' : Device) (layout : Layout) : Type 0 where
+pub record LaysOutParity (data_dev hash_dev parity_dev : Device) (roots : ℕ) (hash_dev' : Device) (layout : Layout) : Type 0 where
   pub lies : LiesAcross data_dev hash_dev roots layout
   pub room : parity_sectors layout ≤ parity_dev.size
   pub read : IsFullRead hash_dev 1 hash_dev'
 
 -- it hasn't
-pub record IsShort (data_dev hash_dev parity_dev : Device) (roots needed : ℕ) : Type 0 where
+pub record IsParityShort (data_dev hash_dev parity_dev : Device) (roots needed : ℕ) : Type 0 where
   pub layout : Layout
   pub lies : LiesAcross data_dev hash_dev roots layout
   pub short : parity_dev.size < parity_sectors layout
   pub is : needed ≡ parity_sectors layout
 
 -- data and hash blocks have different sizes
-pub record HasOtherSizes (data_dev hash_dev : Device) : Type 0 where
+pub record HaveOtherSizes (data_dev hash_dev : Device) : Type 0 where
   pub super : SuperRecord
   pub images : AreImages data_dev hash_dev super
   pub differ : super.data_block ≢ super.hash_block
@@ -61,8 +61,8 @@ pub record HasOtherSizes (data_dev hash_dev : Device) : Type 0 where
 abbrev pub IsUnlaid : Device → Device → Device → ℕ → Device → ParityRepairFault → Type 0
 IsUnlaid data_dev hash_dev parity_dev roots hash_dev' (Tree (trees.Survey fault)) = IsImageCause data_dev hash_dev hash_dev' fault
 IsUnlaid data_dev hash_dev parity_dev roots hash_dev' (Tree fault) = ⊥
-IsUnlaid data_dev hash_dev parity_dev roots hash_dev' BlockSizes = HasOtherSizes data_dev hash_dev
-IsUnlaid data_dev hash_dev parity_dev roots hash_dev' (TooSmall needed) = IsShort data_dev hash_dev parity_dev roots needed
+IsUnlaid data_dev hash_dev parity_dev roots hash_dev' BlockSizes = HaveOtherSizes data_dev hash_dev
+IsUnlaid data_dev hash_dev parity_dev roots hash_dev' (TooSmall needed) = IsParityShort data_dev hash_dev parity_dev roots needed
 
 -- a fault of the image
 abbrev pub unread : VerifyFault → ParityRepairFault

@@ -1,7 +1,7 @@
 //! The copies in which blocks are sought.
 ghost use Rattle.std.specs.Prelude.{◌≡◌, IfErr, IfOk, OnOk, map};
 ghost use Rattle.image_files.specs.Opener.{calls};
-ghost use Rattle.repair_commands.specs.Copies.{AddsCopy, IsCopyEnd, OpensEach, RefusesEach, path_in};
+ghost use Rattle.repair_commands.specs.Copies.{AddsCopy, IsCopyUnopened, OpensEachCopy, RefusesEach, path_in};
 
 use command_line::ImageCopy;
 use image_files::{FileUse, Images, open_apart};
@@ -19,7 +19,7 @@ pub(crate) fn open_copies<'a, I: Images>(
     copies: &[ImageCopy<'a>],
     hashes: bool,
 ) -> Result<Vec<I::Dev>, TreeFault<'a>>
-    ensures ok { IfOk result (λ devices. OpensEach (calls I.relations I.Dev.state images.old images.new) files.now (map (path_in hashes) copies.now) devices.items) }
+    ensures ok { IfOk result (λ devices. OpensEachCopy (calls I.relations I.Dev.state images.old images.new) files.now (map (path_in hashes) copies.now) devices.items) }
     ensures err { IfErr result (RefusesEach (calls I.relations I.Dev.state images.old images.new) files.now (map (path_in hashes) copies.now)) }
 {
     let mut devices = Vec::new(alloc);
@@ -38,7 +38,7 @@ fn open_copy<'a, I: Images>(
     devices: &mut Vec<I::Dev>,
 ) -> Result<(), TreeFault<'a>>
     ensures ok { OnOk result (AddsCopy (calls I.relations I.Dev.state images.old images.new) files.now (path_in hashes copy.entry) devices.old.items devices.new.items) }
-    ensures err { IfErr result (IsCopyEnd (calls I.relations I.Dev.state images.old images.new) files.now (path_in hashes copy.entry)) }
+    ensures err { IfErr result (IsCopyUnopened (calls I.relations I.Dev.state images.old images.new) files.now (path_in hashes copy.entry)) }
 {
     let path = path_in(hashes, copy);
     let image = open_apart(images, files, path, false)?;

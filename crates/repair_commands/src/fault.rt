@@ -26,9 +26,9 @@ impl<'a> From<TreeFault<'a>> for ParityRepairFault<'a> {
 }
 
 impl From<RepairFault> for ParityRepairFault<'_> {
-    ghost use Rattle.repair_commands.specs.Commands.{fault_of};
+    ghost use Rattle.repair_commands.specs.Commands.{ending_fault};
 
-    ghost from_gives = { λ fault given. given ≡ parity_repair_fault.Tree (fault_of fault) };
+    ghost from_gives = { λ fault given. given ≡ parity_repair_fault.Tree (ending_fault fault) };
 
     fn from(fault: RepairFault) -> Self {
         ParityRepairFault::Tree(crate::repair::fault_of(fault))

@@ -1,7 +1,7 @@
 //! The two devices repaired, and what was written put on their media.
 ghost use Rattle.std.specs.Prelude.{◌≡◌, ◌≤◌, ◌^◌, false, IfErr, IsTrue, OnOk};
 ghost use Rattle.tree_repair.specs.Repairs.{IsAllowed};
-ghost use Rattle.repair_commands.specs.Mends.{IsMendedHalf, IsMendedWhole, IsOnMedium, KeepsImages};
+ghost use Rattle.repair_commands.specs.Mends.{IsMendedHalf, IsMendedWhole, IsOnMedium, KeepsBothImages};
 
 use block_device::{BlockDev, DeviceFault, SyncDev};
 use counted_io::Counted;
@@ -33,7 +33,7 @@ pub(crate) fn sync_both<D: SyncDev, H: SyncDev>(
     hash_dev: &mut H,
     write: bool,
 ) -> Result<(), DeviceFault>
-    ensures kept { KeepsImages (D.state data_dev.old) (H.state hash_dev.old) (D.state data_dev.new) (H.state hash_dev.new) }
+    ensures kept { KeepsBothImages (D.state data_dev.old) (H.state hash_dev.old) (D.state data_dev.new) (H.state hash_dev.new) }
     ensures ok { OnOk result (IsOnMedium write (D.state data_dev.new) (H.state hash_dev.new)) }
 {
     sync_one(data_dev, write)?;

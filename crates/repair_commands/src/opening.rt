@@ -1,8 +1,8 @@
 //! All that a repair reads and writes, opened.
 ghost use Rattle.std.specs.Prelude.{◌≡◌, IfErr, IfOk};
 ghost use Rattle.image_files.specs.Opener.{IsFresh, calls};
-ghost use Rattle.repair_commands.specs.Openings.{FailsToOpen, OpensAll, OpensCopies, RefusesCopies};
-ghost use Rattle.repair_commands.specs.Pairs.{places_of, uses_of};
+ghost use Rattle.repair_commands.specs.Openings.{FailsToOpenCopies, OpensAll, OpensCopies, RefusesCopies};
+ghost use Rattle.repair_commands.specs.Pairs.{places_of, pair_uses};
 
 use crate::copies::open_copies;
 use crate::pair::{Pair, Parts, RepairPlaces, measure, open_pair, part_use};
@@ -36,7 +36,7 @@ pub(crate) fn open_all<'a, I: Images>(
     ensures ok { IfOk result (OpensAll (calls I.relations I.Dev.state images.old images.new) (places_of places.entry) copies.now) }
     ensures data_fresh { IfOk result (λ o. IsFresh (I.Dev.state o.pair.data_image.device) places.entry.write) }
     ensures hash_fresh { IfOk result (λ o. IsFresh (I.Dev.state o.pair.hash_image.device) places.entry.write) }
-    ensures err { IfErr result (FailsToOpen (calls I.relations I.Dev.state images.old images.new) (places_of places.entry) copies.now) }
+    ensures err { IfErr result (FailsToOpenCopies (calls I.relations I.Dev.state images.old images.new) (places_of places.entry) copies.now) }
 {
     let write = places.write;
     let parts = measure(images, places)?;

@@ -4,7 +4,7 @@ ghost use Rattle.device_window.specs.Parts.{part_before, part_behind};
 ghost use Rattle.image_files.specs.FileUses.{part_use};
 ghost use Rattle.image_files.specs.OpenParts.{OpensPart};
 ghost use Rattle.image_files.specs.Opener.{IsFresh, calls};
-ghost use Rattle.repair_commands.specs.Pairs.{FailsToMeasure, FailsToOpenPair, IsPartEnd, Measures, OpensPair, data_end, part_fault, places_of};
+ghost use Rattle.repair_commands.specs.Pairs.{FailsToMeasure, FailsToOpenPair, IsPartEnd, MeasuresBoth, OpensPair, pair_data_end, part_fault, places_of};
 
 use block_device::BlockDev;
 use device_window::Part;
@@ -45,7 +45,7 @@ pub(crate) fn measure<'a, I: Images>(
     images: &mut I,
     places: RepairPlaces<'a>,
 ) -> Result<Parts, UnopenedFile<'a>>
-    ensures ok { IfOk result (Measures (calls I.relations I.Dev.state images.old images.new) (places_of places.entry)) }
+    ensures ok { IfOk result (MeasuresBoth (calls I.relations I.Dev.state images.old images.new) (places_of places.entry)) }
     ensures err { IfErr result (FailsToMeasure (calls I.relations I.Dev.state images.old images.new) (places_of places.entry)) }
 {
     let data_image = open_image(images, places.data, false)?;
@@ -58,7 +58,7 @@ pub(crate) fn measure<'a, I: Images>(
 }
 
 fn parts_of<D: BlockDev>(pair: &Pair<D>, first: u64) -> Parts
-    ensures data_part { result.data_part ≡ part_before (D.state pair.now.data_image.device) (data_end pair.now first) }
+    ensures data_part { result.data_part ≡ part_before (D.state pair.now.data_image.device) (pair_data_end pair.now first) }
     ensures hash_part { result.hash_part ≡ part_behind (D.state pair.now.hash_image.device) first }
 {
     let end = data_end(pair, first);
@@ -70,7 +70,7 @@ fn parts_of<D: BlockDev>(pair: &Pair<D>, first: u64) -> Parts
 
 // The sector where the data end: in one file before the hash image, else at the end of theirs.
 fn data_end<D>(pair: &Pair<D>, first: u64) -> u64
-    ensures { result ≡ data_end pair.now first }
+    ensures { result ≡ pair_data_end pair.now first }
 {
     if first > 0 && is_one_file(pair.data_image.id, pair.hash_image.id) {
         return first;

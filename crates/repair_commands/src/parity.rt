@@ -4,7 +4,7 @@ ghost use Rattle.command_line.specs.FecFiles.{fec_record};
 ghost use Rattle.image_files.specs.Opener.{calls};
 ghost use Rattle.verity_format.specs.Blocks.{IsOnlyRead};
 ghost use Rattle.repair_commands.specs.Pairs.{places_of};
-ghost use Rattle.repair_commands.specs.Parity.{FailsToOpenParity, IsUnlaid, LaysOut, OpensParity};
+ghost use Rattle.repair_commands.specs.Parity.{FailsToOpenParity, IsUnlaid, LaysOutParity, OpensParity};
 
 use crate::fault::ParityRepairFault;
 use crate::opening::Opened;
@@ -53,7 +53,7 @@ pub(crate) fn lay_out<'a, D: BlockDev, H: BlockDev, P: BlockDev>(
     requires some { 2 ≤ parity.now.roots }
     requires few { parity.now.roots ≤ 24 }
     ensures read { IsOnlyRead (H.state hash_dev.old) (H.state hash_dev.new) }
-    ensures ok { IfOk result (LaysOut (D.state data_dev.now) (H.state hash_dev.old) (P.state parity.now.device) parity.now.roots (H.state hash_dev.new)) }
+    ensures ok { IfOk result (LaysOutParity (D.state data_dev.now) (H.state hash_dev.old) (P.state parity.now.device) parity.now.roots (H.state hash_dev.new)) }
     ensures err { IfErr result (IsUnlaid (D.state data_dev.now) (H.state hash_dev.old) (P.state parity.now.device) parity.now.roots (H.state hash_dev.new)) }
 {
     let superblock = read_superblock(hash_dev)?;

@@ -1,7 +1,7 @@
 //! The command `repair`: blocks that aren't good are sought in copies, and what is still lost is told.
 ghost use Rattle.std.specs.Prelude.{◌≡◌, ◌≤◌, ◌^◌, false, IfErr, OnOk};
 ghost use Rattle.image_files.specs.Opener.{IsFresh, calls};
-ghost use Rattle.repair_commands.specs.Commands.{GivesBack, HalfMendsOpened, IsMendingEnd, IsRepairEnd, MendsFiles, MendsOpened, RepairsFiles, fault_of, surveyed};
+ghost use Rattle.repair_commands.specs.Commands.{GivesBackImages, HalfMendsOpened, IsMendingEnd, IsRepairEnd, MendsFiles, MendsOpened, RepairsFiles, ending_fault, surveyed};
 ghost use Rattle.tree_commands.specs.Surveys.{IsSurveyFilesEnd, PrintsGood};
 ghost use Rattle.repair_commands.specs.Pairs.{places_of};
 
@@ -142,7 +142,7 @@ pub(crate) fn give_back<'a, I: Images>(
     data_dev: I::Dev,
     hash_dev: I::Dev,
 )
-    ensures { GivesBack places.entry.write (calls I.relations I.Dev.state images.old images.new) (places_of places.entry) parts data_dev hash_dev }
+    ensures { GivesBackImages places.entry.write (calls I.relations I.Dev.state images.old images.new) (places_of places.entry) parts data_dev hash_dev }
 {
     if !places.write {
         return;
@@ -153,7 +153,7 @@ pub(crate) fn give_back<'a, I: Images>(
 
 /// The fault with which a repair ends that isn't one to the end.
 pub(crate) fn fault_of<'a>(fault: RepairFault) -> TreeFault<'a>
-    ensures { result ≡ fault_of fault }
+    ensures { result ≡ ending_fault fault }
 {
     match fault {
         RepairFault::Image(fault) => TreeFault::Survey(SurveyFault::Image(fault)),

@@ -8,11 +8,11 @@ use Rattle.stack_engine.specs.Stacks.{StackRecord}
 use Rattle.stack_opening.specs.declared.stack_file.OpenStack.{OpenStack}
 use Rattle.stack_opening.specs.OpenStacks.{OpensSource}
 use Rattle.stack_making.specs.StacksOfTexts.{IsStackOf}
-use Rattle.request_commands.specs.Requests.{IsServed, new_world}
+use Rattle.request_commands.specs.Requests.{HasReply, new_world}
 use Rattle.request_commands.specs.Writes.{PutWords, Puts}
 
 pub puts : {S D : Type 0} (w : Calls S D) (words : PutWords) (over : OpenStack D) (source : FileText) (stack : StackRecord) (queue after : World) (reply : Reply)
-    → OpensSource w words.words words.source over source → IsStackOf w.state over words.cache stack → queue ≡ new_world stack → IsServed queue (words.put source.bytes.items) reply after → Puts w words after
+    → OpensSource w words.words words.source over source → IsStackOf w.state over words.cache stack → queue ≡ new_world stack → HasReply queue (words.put source.bytes.items) reply after → Puts w words after
 puts w words over source stack queue after reply opened made is served = record {
   over = over;
   source = source;
@@ -20,5 +20,5 @@ puts w words over source stack queue after reply opened made is served = record 
   reply = reply;
   opened = opened;
   made = made;
-  served = subst (λ (q : World). IsServed q (words.put source.bytes.items) reply after) is served;
+  served = subst (λ (q : World). HasReply q (words.put source.bytes.items) reply after) is served;
 }

@@ -13,14 +13,14 @@ use Rattle.request_queue.specs.Requests.{RequestRecord}
 use Rattle.request_queue.specs.World.{World}
 use Rattle.request_commands.specs.declared.fault.RequestFault.{RequestFault}
 use Rattle.request_commands.specs.declared.fault.RequestFault.TheVariants.{Stack}
-use Rattle.request_commands.specs.Requests.{FailsToServe, IsServed, new_world, read_request}
+use Rattle.request_commands.specs.Requests.{FailsToServe, HasReply, new_world, read_request}
 
 -- it was served with that reply, the first of a new queue over the stack, which keeps so many hash blocks
 pub record ReadsSectors {S D : Type 0} (w : Calls S D) (words : StackWords) (cache : ℕ) (request : RequestRecord) (reply : Reply) : Type 0 where
   pub stack : StackRecord
   pub after : World
   pub loaded : Loads w words cache stack
-  pub served : IsServed (new_world stack) request reply after
+  pub served : HasReply (new_world stack) request reply after
 
 -- it isn't served
 pub record FailsToAsk {S D : Type 0} (w : Calls S D) (words : StackWords) (cache : ℕ) (request : RequestRecord) (fault : RequestFault) : Type 0 where
@@ -30,12 +30,12 @@ pub record FailsToAsk {S D : Type 0} (w : Calls S D) (words : StackWords) (cache
   pub fails : FailsToServe (new_world stack) request fault after
 
 -- there is no stack
-abbrev pub IsStackless : (StackFault → Type 0) → RequestFault → Type 0
-IsStackless Fails (Stack fault) = Fails fault
-IsStackless Fails fault = ⊥
+abbrev pub IsRequestStackless : (StackFault → Type 0) → RequestFault → Type 0
+IsRequestStackless Fails (Stack fault) = Fails fault
+IsRequestStackless Fails fault = ⊥
 
 abbrev pub FailsToRead : {S D : Type 0} → Calls S D → StackWords → ℕ → RequestRecord → RequestFault → Type 0
-FailsToRead w words cache request fault = IsStackless (FailsToLoadFile w words) fault ⊎ FailsToAsk w words cache request fault
+FailsToRead w words cache request fault = IsRequestStackless (FailsToLoadFile w words) fault ⊎ FailsToAsk w words cache request fault
 
 -- ---- the same by the opener, before and after its calls, and by the words of the program
 

@@ -18,18 +18,18 @@ abbrev pub new_world : StackRecord → World
 new_world stack = world stack 0 []
 
 -- what is known of a request that is run: of each of its pieces, and of the whole
-pub record IsRun (w : World) (r : RequestRecord) (answer : Result (Result Reply IoFault) SubmitFault) (w' : World) : Type 0 where
+pub record IsRequestRun (w : World) (r : RequestRecord) (answer : Result (Result Reply IoFault) SubmitFault) (w' : World) : Type 0 where
   pub each : Step EachPart w (run r answer) w'
   pub whole : RunAnswers w r answer w'
 
 -- the request is served to its end, with that reply
-abbrev pub IsServed : World → RequestRecord → Reply → World → Type 0
-IsServed w r reply w' = IsRun w r (Ok (Ok reply)) w'
+abbrev pub HasReply : World → RequestRecord → Reply → World → Type 0
+HasReply w r reply w' = IsRequestRun w r (Ok (Ok reply)) w'
 
 -- why it isn't: it isn't begun, or the stack answered a fault, or memory ran out before
 abbrev pub FailsToServe : World → RequestRecord → RequestFault → World → Type 0
-FailsToServe w r (Submit fault) w' = IsRun w r (Err fault) w'
-FailsToServe w r (Io fault) w' = IsRun w r (Ok (Err fault)) w'
+FailsToServe w r (Submit fault) w' = IsRequestRun w r (Err fault) w'
+FailsToServe w r (Io fault) w' = IsRequestRun w r (Ok (Err fault)) w'
 FailsToServe w r NoMemory w' = w' ≡ w
 FailsToServe w r fault w' = ⊥
 

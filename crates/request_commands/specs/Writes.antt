@@ -18,8 +18,8 @@ use Rattle.request_queue.specs.Requests.{RequestRecord}
 use Rattle.request_queue.specs.World.{World}
 use Rattle.request_commands.specs.declared.fault.RequestFault.{RequestFault}
 use Rattle.request_commands.specs.declared.fault.RequestFault.TheVariants.{Io}
-use Rattle.request_commands.specs.Reads.{IsStackless}
-use Rattle.request_commands.specs.Requests.{FailsToServe, IsServed, new_world, write_request}
+use Rattle.request_commands.specs.Reads.{IsRequestStackless}
+use Rattle.request_commands.specs.Requests.{FailsToServe, HasReply, new_world, write_request}
 
 -- a stack file, a source, bindings, how many hash blocks are kept, and the request to put some bytes
 pub record PutWords : Type 0 where
@@ -39,7 +39,7 @@ pub record Puts {S D : Type 0} (w : Calls S D) (words : PutWords) (after : World
   pub reply : Reply
   pub opened : OpensSource w words.words words.source over source
   pub made : IsStackOf w.state over words.cache stack
-  pub served : IsServed (new_world stack) (words.put source.bytes.items) reply after
+  pub served : HasReply (new_world stack) (words.put source.bytes.items) reply after
 
 -- and what then stands in the images was given back, synced or not
 pub record PutsBack {S D : Type 0} (w : Calls S D) (words : PutWords) (synced : Result Unit IoFault) : Type 0 where
@@ -72,13 +72,13 @@ pub record FailsToPut {S D : Type 0} (w : Calls S D) (words : PutWords) (fault :
   pub back : IsGivenBack (record w { old = between }) words.words.bindings after.stack.leaves
 
 -- an image wasn't synced behind it
-abbrev pub IsUnsynced : (Result Unit IoFault → Type 0) → RequestFault → Type 0
-IsUnsynced Done (Io fault) = Done (Err fault)
-IsUnsynced Done fault = ⊥
+abbrev pub IsUnsyncedBehind : (Result Unit IoFault → Type 0) → RequestFault → Type 0
+IsUnsyncedBehind Done (Io fault) = Done (Err fault)
+IsUnsyncedBehind Done fault = ⊥
 
 -- nothing was put, or not all, or it isn't synced
 abbrev pub IsPutEnd : {S D : Type 0} → Calls S D → PutWords → RequestFault → Type 0
-IsPutEnd w words fault = IsStackless (FailsToLoadSource w words) fault ⊎ (FailsToPut w words fault ⊎ IsUnsynced (PutsBack w words) fault)
+IsPutEnd w words fault = IsRequestStackless (FailsToLoadSource w words) fault ⊎ (FailsToPut w words fault ⊎ IsUnsyncedBehind (PutsBack w words) fault)
 
 -- ---- the same by the opener, before and after its calls, and by the words of the program
 

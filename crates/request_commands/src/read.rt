@@ -1,7 +1,7 @@
 //! Sectors of a device are read by one request.
 ghost use Rattle.std.specs.Prelude.{IfOk, IfErr};
 ghost use Rattle.request_commands.specs.Reads.{ReadsBy, UnreadBy};
-ghost use Rattle.request_commands.specs.Requests.{FailsServing, IsServed, read_request};
+ghost use Rattle.request_commands.specs.Requests.{FailsServing, HasReply, read_request};
 
 use crate::fault::RequestFault;
 use crate::request::serve_request;
@@ -35,7 +35,7 @@ fn fetch<'a, D: BlockDev + Drop>(
     queue: &mut Queue<D>,
     sectors: Sectors<'_>,
 ) -> Result<Reply, RequestFault<'a>>
-    ensures ok { IfOk result (λ reply. IsServed queue.old (read_request sectors.entry) reply queue.new) }
+    ensures ok { IfOk result (λ reply. HasReply queue.old (read_request sectors.entry) reply queue.new) }
     ensures err { IfErr result (FailsServing queue.old (read_request sectors.entry) queue.new) }
 {
     let Sectors { name, first, count } = sectors;

@@ -1,7 +1,7 @@
 //! Requests that are made of a stack.
 ghost use Rattle.std.specs.Prelude.{IfOk, IfErr};
 ghost use Rattle.request_queue.specs.Requests.{request_record};
-ghost use Rattle.request_commands.specs.Requests.{FailsToServe, IsServed};
+ghost use Rattle.request_commands.specs.Requests.{FailsToServe, HasReply};
 
 use crate::fault::RequestFault;
 use block_device::BlockDev;
@@ -12,7 +12,7 @@ pub fn serve_request<'a, D: BlockDev + Drop>(
     queue: &mut Queue<D>,
     request: Request,
 ) -> Result<Reply, RequestFault<'a>>
-    ensures ok { IfOk result (λ reply. IsServed queue.old (request_record request) reply queue.new) }
+    ensures ok { IfOk result (λ reply. HasReply queue.old (request_record request) reply queue.new) }
     ensures err { IfErr result (λ fault. FailsToServe queue.old (request_record request) fault queue.new) }
 {
     match queue.run(request) {

@@ -1,6 +1,6 @@
 //! A file's bytes are written to a device by one request.
 ghost use Rattle.std.specs.Prelude.{OnOk, Ok, IfOk, IfErr};
-ghost use Rattle.request_commands.specs.Requests.{FailsServing, IsServed, write_request};
+ghost use Rattle.request_commands.specs.Requests.{FailsServing, HasReply, write_request};
 ghost use Rattle.request_commands.specs.Writes.{PutsBy, UnputBy};
 
 use crate::fault::RequestFault;
@@ -45,7 +45,7 @@ fn store<'a, D: BlockDev + Drop>(
     transfer: Transfer<'_>,
     bytes: Vec<u8>,
 ) -> Result<Reply, RequestFault<'a>>
-    ensures ok { IfOk result (λ reply. IsServed queue.old (write_request transfer.entry bytes.items) reply queue.new) }
+    ensures ok { IfOk result (λ reply. HasReply queue.old (write_request transfer.entry bytes.items) reply queue.new) }
     ensures err { IfErr result (FailsServing queue.old (write_request transfer.entry bytes.items) queue.new) }
 {
     let device = Vec::from_slice(alloc, transfer.name.as_bytes())?;

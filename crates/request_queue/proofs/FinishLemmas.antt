@@ -4,7 +4,7 @@ use Rattle.stack_meaning.specs.declared.fault.IoFault.{IoFault}
 use Rattle.request_queue.specs.declared.reply.Progress.TheVariants.{More}
 use Rattle.request_queue.specs.declared.reply.Reply.{Reply}
 use Rattle.request_queue.specs.Parts.{EachPart}
-use Rattle.request_queue.specs.World.{World, Serves, Ends, later}
+use Rattle.request_queue.specs.World.{World, Serves, EndsRequest, later}
 use Rattle.request_queue.specs.Runs.{flight_of, rest, rest_of}
 use Rattle.request_queue.proofs.lemmas.PremiseLemmas.{serves-any}
 use Rattle.request_queue.proofs.lemmas.BudgetLemmas.{InOrder, has-served, goes-on, rest-became}
@@ -13,7 +13,7 @@ use Rattle.request_queue.proofs.lemmas.BudgetLemmas.{InOrder, has-served, goes-o
 pub record Underway (first : World) (t : ℕ) (w : World) : Type 0 where
   pub there : flight_of w t ≢ None
   pub order : InOrder w
-  pub so_far : (answer : Result Reply IoFault) (w' : World) → Ends EachPart t answer w w' → Ends EachPart t answer first w'
+  pub so_far : (answer : Result Reply IoFault) (w' : World) → EndsRequest EachPart t answer w w' → EndsRequest EachPart t answer first w'
 
 -- one piece more
 pub record Further (first : World) (t : ℕ) (w w' : World) : Type 0 where

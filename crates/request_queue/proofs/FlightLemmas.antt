@@ -8,7 +8,7 @@ use Rattle.std.proofs.lemmas.Option.{slice_get_read}
 use Rattle.stack_rules.specs.Records.{Configuration}
 use Rattle.stack_engine.specs.Stacks.{AnswerRecord}
 use Rattle.request_queue.specs.declared.range.SectorRange.{SectorRange}
-use Rattle.request_queue.specs.Ranges.{IsInside, range_after}
+use Rattle.request_queue.specs.Ranges.{IsRangeInside, range_after}
 use Rattle.request_queue.specs.Flights.{FlightRecord, WorkRecord, reads, writes, has_ticket, next_flight, first_work, next_work, IsWorkOn, IsSoundFlight, IsAdmissible}
 use Rattle.request_queue.specs.Requests.{RequestRecord}
 use Rattle.request_queue.specs.World.{IsAt, IsSoundWorld, Rise}
@@ -35,7 +35,7 @@ remove-set (y ∷ ys) (suc i) x = ap (λ l. y ∷ l) (remove-set ys i x)
 
 -- ---- what holds of every queue
 
-pub inside-after : (c : Configuration) (range : SectorRange) (n : ℕ) → n < range.count → IsInside c range → IsInside c (range_after range n)
+pub inside-after : (c : Configuration) (range : SectorRange) (n : ℕ) → n < range.count → IsRangeInside c range → IsRangeInside c (range_after range n)
 inside-after c range n h s = record { device = s.device; some = omega (arith, h); inside = omega (arith, h, s.inside); count = omega (arith, s.count); fits = omega (arith, h, s.fits) }
 
 work-next : (c : Configuration) (d count : ℕ) (work : WorkRecord) (got : AnswerRecord) → IsWorkOn c d count work → IsWorkOn c d count (next_work work got)
@@ -56,7 +56,7 @@ pub sound-first : (c : Configuration) (range : SectorRange) (f : FlightRecord) (
 sound-first c range f r first rest work a =
     let all : range.count ≡ f.rest.first - f.first + f.rest.count = omega (arith, first, ap (λ (x : SectorRange). x.first) rest, ap (λ (x : SectorRange). x.count) rest) in
     record {
-      inside = subst (IsInside c) (sym rest) a.inside;
+      inside = subst (IsRangeInside c) (sym rest) a.inside;
       start = omega (arith, first, ap (λ (x : SectorRange). x.first) rest);
       work = subst (λ k. IsWorkOn c f.rest.device.0 k f.work) all
           (subst (λ (x : SectorRange). IsWorkOn c x.device.0 range.count f.work) (sym rest) (subst (λ x. IsWorkOn c range.device.0 range.count x) (sym work) a.work));

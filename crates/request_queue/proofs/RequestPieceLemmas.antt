@@ -12,7 +12,7 @@ use Rattle.request_queue.specs.declared.range.SectorRange.{SectorRange}
 use Rattle.request_queue.specs.declared.reply.Progress.TheVariants.{More, Done}
 use Rattle.request_queue.specs.declared.reply.Reply.{Reply}
 use Rattle.request_queue.specs.Flights.{FlightRecord, IsSoundFlight, reply_to, has_ticket}
-use Rattle.request_queue.specs.Parts.{EachPart, Asks, part_of_work, done_of}
+use Rattle.request_queue.specs.Parts.{EachPart, AsksPiece, part_of_work, done_of}
 use Rattle.request_queue.specs.Ranges.{bytes_range, piece_len, range_at}
 use Rattle.request_queue.specs.World.{World, world, BytesRead, Serves, Syncs, IsSoundWorld}
 use Rattle.request_queue.specs.Serving.{NextPiece, FailedPiece}
@@ -61,7 +61,7 @@ module _ (v v' : StackRecord) (given : ℕ) (fs fs' : List FlightRecord) (t i : 
 
 -- ---- the invariant
 
-same-config : (v v' : StackRecord) (f : FlightRecord) (answer : Result AnswerRecord IoFault) → Asks EachPart v f answer v' → v'.config ≡ v.config
+same-config : (v v' : StackRecord) (f : FlightRecord) (answer : Result AnswerRecord IoFault) → AsksPiece EachPart v f answer v' → v'.config ≡ v.config
 same-config v v' f answer p =
     let part = part_of_work f.work (done_of f) (piece_len v.config f.rest) in
     (any-keeps v f.rest.device.0 f.rest.first part answer v' (each-any v f.rest.device.0 f.rest.first part answer v' p)).config

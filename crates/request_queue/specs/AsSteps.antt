@@ -2,7 +2,7 @@
 use Rattle.std.specs.Prelude.{◌≡◌, ℕ, ◌+◌, Bool, true, false, List, [], ◌∷◌, ◌++◌, All, Some, Result, Ok, Err}
 use Rattle.stack_meaning.specs.declared.fault.IoFault.{IoFault}
 use Rattle.request_queue.specs.declared.reply.Reply.{Reply}
-use Rattle.request_queue.specs.Laws.{answer_to}
+use Rattle.request_queue.specs.Laws.{answer_at_last}
 use Rattle.request_queue.specs.Requests.{RequestRecord}
 use Rattle.request_queue.specs.Runs.{Turn, last, is_step}
 use Rattle.request_queue.specs.World.{World, Event, submit, step, read_bytes, write_piece, load, remove_device, run, sync}
@@ -25,7 +25,7 @@ turn event after = record { event = event; after = after }
 -- steps of that ticket, with nothing in between, of which the last ends its request with that answer
 pub record AreOwnSteps (t : ℕ) (answer : Result Reply IoFault) (begun : World) (steps : List Turn) (w' : World) : Type 0 where
   pub each : All (λ (x : Turn). is_step t x.event ≡ true) steps
-  pub answered : answer_to t steps ≡ Some answer
+  pub answered : answer_at_last t steps ≡ Some answer
   pub ends : last begun steps ≡ w'
 
 -- The same calls, each as it was, but that a request which is run is begun as the next ticket, and served by its steps.

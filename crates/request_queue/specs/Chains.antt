@@ -3,7 +3,7 @@ use Rattle.std.specs.Prelude.{◌≡◌, ◌≢◌, ℕ, List, [], ◌++◌, All
 use Rattle.std.specs.List.{slice_index_or}
 use Rattle.hash_tree.specs.declared.difference.Place.{Place}
 use Rattle.hash_tree.specs.Chain.{ChainRecord, IsGood, formed}
-use Rattle.hash_tree.specs.Difference.{IsTopmostDifference, block_at}
+use Rattle.hash_tree.specs.Difference.{IsTopmostDifference, chain_at}
 use Rattle.hash_tree.specs.Laws.{AreBlocks}
 use Rattle.hash_tree.specs.Tree.{root}
 use Rattle.dm_table.specs.declared.verity.Verity.{Verity}
@@ -13,7 +13,7 @@ use Rattle.stack_rules.specs.Trees.{tree_of}
 use Rattle.stack_meaning.specs.declared.fault.IoFault.{IoFault}
 use Rattle.stack_meaning.specs.Found.{FoundRecord}
 use Rattle.stack_meaning.specs.May.{MayRead}
-use Rattle.stack_engine.specs.Laws.{digests_of, IsSha256Collision}
+use Rattle.stack_engine.specs.Laws.{verity_digests, IsSha256Collision}
 use Rattle.stack_lines.specs.Walks.{HasVerity}
 use Rattle.request_queue.specs.declared.reply.Progress.{Progress}
 use Rattle.request_queue.specs.declared.reply.Progress.TheVariants.{More, Done}
@@ -55,12 +55,12 @@ chains_of (sync reply) = []
 pub record NamesCollision (salt : List ℕ) (expected got : ChainRecord) : Type 0 where
   pub place : Place
   pub topmost : IsTopmostDifference expected got place
-  pub collision : IsSha256Collision (salt ++ block_at expected place) (salt ++ block_at got place)
+  pub collision : IsSha256Collision (salt ++ chain_at expected place) (salt ++ chain_at got place)
 
 -- These blocks are the data of a verity line: as many as it says and of that size, and their root is the line's.
 pub record AreDataOf (v : Verity) (blocks : List (List ℕ)) : Type 0 where
   pub sized : AreBlocks v.blocks v.data_block blocks
-  pub root_is : v.root ≡ root v.hash_block v.salt (digests_of v blocks)
+  pub root_is : v.root ≡ root v.hash_block v.salt (verity_digests v blocks)
 
 -- A chain is good for the verity line that it names. Where its content isn't the block of that number of the line's
 -- data, it and the chain formed of that data name a collision.

@@ -9,7 +9,7 @@ use Rattle.request_queue.specs.declared.reply.Reply.{Reply}
 use Rattle.request_queue.specs.declared.reply.Reply.TheVariants.{Sectors, Written}
 use Rattle.request_queue.specs.declared.work.Work.{Work}
 use Rattle.request_queue.specs.declared.work.Work.TheVariants.{Read, Write}
-use Rattle.request_queue.specs.Ranges.{IsInside, range_after}
+use Rattle.request_queue.specs.Ranges.{IsRangeInside, range_after}
 use Rattle.request_queue.specs.Requests.{RequestRecord, a_read, a_write}
 
 -- what a request does: it reads, and has read so much, or it writes these bytes in all
@@ -74,11 +74,11 @@ IsWorkOn c d count (writes bytes) = (length bytes ≡ 512 * count) × IsTrue (ma
 
 -- what holds of every request in flight
 pub record IsSoundFlight (c : Configuration) (f : FlightRecord) : Type 0 where
-  pub inside : IsInside c f.rest
+  pub inside : IsRangeInside c f.rest
   pub start : f.first ≤ f.rest.first
   pub work : IsWorkOn c f.rest.device.0 (f.rest.first - f.first + f.rest.count) f.work
 
 -- what holds of a request that may be begun
 pub record IsAdmissible (c : Configuration) (r : RequestRecord) (range : SectorRange) : Type 0 where
-  pub inside : IsInside c range
+  pub inside : IsRangeInside c range
   pub work : IsWorkOn c range.device.0 range.count (first_work r)

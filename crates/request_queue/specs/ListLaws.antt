@@ -6,9 +6,9 @@ use Rattle.stack_meaning.specs.Leaves.{steady_images}
 use Rattle.request_queue.specs.AsSteps.{AreAsSteps}
 use Rattle.request_queue.specs.Parts.{EachPart}
 use Rattle.request_queue.specs.Puts.{ArePutOn, pieces_written}
-use Rattle.request_queue.specs.Runs.{Turn, Run, last, total}
+use Rattle.request_queue.specs.Runs.{Turn, AreTurns, last, turns_total}
 use Rattle.request_queue.specs.Touching.{touches}
-use Rattle.request_queue.specs.Waiting.{asked, served, waiting}
+use Rattle.request_queue.specs.Waiting.{asked_in_turn, served, waiting}
 use Rattle.request_queue.specs.World.{World}
 
 -- A list of calls from world w on, and the same calls as steps, in which each request that was run is begun and then
@@ -16,10 +16,10 @@ use Rattle.request_queue.specs.World.{World}
 pub record ListLaw (w : World) (turns : List Turn) : Type 0 where
   pub steps : List Turn
   pub same : AreAsSteps w turns steps
-  pub run : Run EachPart w steps
+  pub run : AreTurns EachPart w steps
   pub ends : last w steps ≡ last w turns
   -- there are no more steps than pieces waited and were asked for since, and those that still wait aren't among them
-  pub few : total served w steps + waiting (last w turns) ≤ waiting w + total asked w steps
+  pub few : turns_total served w steps + waiting (last w turns) ≤ waiting w + turns_total asked_in_turn w steps
   -- the images of steady leaves are those that the pieces of writes put, in the order of the calls
   pub puts : ArePutOn w.stack.leaves (pieces_written w steps) (steady_images w.stack.leaves) (steady_images (last w turns).stack.leaves)
   -- a leaf that none of them touches is as it was, its counters too
@@ -27,4 +27,4 @@ pub record ListLaw (w : World) (turns : List Turn) : Type 0 where
 
 -- What holds of every list of calls, after any others.
 pub record ListsLaw (w : World) : Type 0 where
-  pub each : (before : List Turn) → Run EachPart w before → (turns : List Turn) → Run EachPart (last w before) turns → ListLaw (last w before) turns
+  pub each : (before : List Turn) → AreTurns EachPart w before → (turns : List Turn) → AreTurns EachPart (last w before) turns → ListLaw (last w before) turns

@@ -95,5 +95,5 @@ abbrev pub done_of : FlightRecord → ℕ
 done_of f = f.rest.first - f.first
 
 -- the part of its next piece is answered so
-abbrev pub Asks : PartRelation → StackRecord → FlightRecord → Result AnswerRecord IoFault → StackRecord → Type 0
-Asks part v f answer v' = part v f.rest.device.0 f.rest.first (part_of_work f.work (done_of f) (piece_len v.config f.rest)) answer v'
+abbrev pub AsksPiece : PartRelation → StackRecord → FlightRecord → Result AnswerRecord IoFault → StackRecord → Type 0
+AsksPiece part v f answer v' = part v f.rest.device.0 f.rest.first (part_of_work f.work (done_of f) (piece_len v.config f.rest)) answer v'

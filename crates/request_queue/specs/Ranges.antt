@@ -31,7 +31,7 @@ unfoldable pub range_of : Configuration → List ℕ → ℕ → ℕ → Result 
 range_of c name first count = range_in c (device_named c name) first count
 
 -- some sectors that lie inside their device
-pub record IsInside (c : Configuration) (range : SectorRange) : Type 0 where
+pub record IsRangeInside (c : Configuration) (range : SectorRange) : Type 0 where
   pub device : range.device.0 < length c.devices
   pub some : 0 < range.count
   pub inside : range.first + range.count ≤ size c (mapped range.device.0)

@@ -13,9 +13,9 @@ pub record Turn : Type 0 where
   pub after : World
 
 -- from w, one turn after another
-abbrev pub Run : PartRelation → World → List Turn → Type 0
-Run part w [] = Unit {0}
-Run part w (x ∷ more) = Step part w x.event x.after × Run part x.after more
+abbrev pub AreTurns : PartRelation → World → List Turn → Type 0
+AreTurns part w [] = Unit {0}
+AreTurns part w (x ∷ more) = Step part w x.event x.after × AreTurns part x.after more
 
 abbrev pub last : World → List Turn → World
 last w [] = w
@@ -24,13 +24,13 @@ last w (x ∷ more) = last x.after more
 -- turns lead from the first world to the last
 pub record IsLed (part : PartRelation) (w w' : World) : Type 0 where
   pub turns : List Turn
-  pub run : Run part w turns
+  pub run : AreTurns part w turns
   pub ends : last w turns ≡ w'
 
 -- a count of each turn, added up
-abbrev pub total : (World → Turn → ℕ) → World → List Turn → ℕ
-total count w [] = 0
-total count w (x ∷ more) = count w x + total count x.after more
+abbrev pub turns_total : (World → Turn → ℕ) → World → List Turn → ℕ
+turns_total count w [] = 0
+turns_total count w (x ∷ more) = count w x + turns_total count x.after more
 
 -- the event serves a piece of that ticket
 abbrev pub is_step : ℕ → Event → Bool
@@ -70,8 +70,8 @@ abbrev pub due_of : Configuration → Option FlightRecord → ℕ
 due_of c None = 0
 due_of c (Some f) = f.rest.count * work_cost c f.rest.device.0 f.work
 
-abbrev pub due : ℕ → World → ℕ
-due t w = due_of w.stack.config (flight_of w t)
+abbrev pub rest_due : ℕ → World → ℕ
+rest_due t w = due_of w.stack.config (flight_of w t)
 
 abbrev pub rest : ℕ → World → ℕ
 rest t w = rest_of (flight_of w t)

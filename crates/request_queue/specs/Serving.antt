@@ -4,7 +4,7 @@ use Rattle.stack_meaning.specs.declared.fault.IoFault.{IoFault}
 use Rattle.stack_engine.specs.Stacks.{StackRecord, AnswerRecord}
 use Rattle.request_queue.specs.declared.range.SectorRange.{SectorRange}
 use Rattle.request_queue.specs.Flights.{FlightRecord, WorkRecord, next_flight, next_work}
-use Rattle.request_queue.specs.Parts.{EachPart, Asks, part_of_work}
+use Rattle.request_queue.specs.Parts.{EachPart, AsksPiece, part_of_work}
 use Rattle.request_queue.specs.Ranges.{piece_len}
 
 -- the sectors of a piece were served, after as many as are done
@@ -19,11 +19,11 @@ PartFailed v piece done work fault v' = EachPart v piece.device.0 piece.first (p
 -- the next piece of a request was served
 pub record NextPiece (v : StackRecord) (f : FlightRecord) (v' : StackRecord) (f' : FlightRecord) : Type 0 where
   pub got : AnswerRecord
-  pub answered : Asks EachPart v f (Ok got) v'
+  pub answered : AsksPiece EachPart v f (Ok got) v'
   pub some : 1 ≤ piece_len v.config f.rest
   pub most : piece_len v.config f.rest ≤ f.rest.count
   pub is : f' ≡ next_flight f (piece_len v.config f.rest) got
 
 pub record FailedPiece (v : StackRecord) (f : FlightRecord) (fault : IoFault) (v' : StackRecord) : Type 0 where
-  pub answered : Asks EachPart v f (Err fault) v'
+  pub answered : AsksPiece EachPart v f (Err fault) v'
   pub some : 1 ≤ piece_len v.config f.rest

@@ -20,14 +20,14 @@ abbrev pub no_leaves : Leaves
 no_leaves = λ i. ⊥
 
 -- those beneath mapped device d
-abbrev pub leaves_beneath : Configuration → ℕ → Leaves
-leaves_beneath c d = λ i. IsTrue (leaves_of c (mapped d) i)
+abbrev pub leaves_under : Configuration → ℕ → Leaves
+leaves_under c d = λ i. IsTrue (leaves_of c (mapped d) i)
 
 -- of a part at mapped device d, from the first sector on: those beneath the device that it reads, and those of which what
 -- it writes reaches a sector
 abbrev pub part_touches : Configuration → ℕ → ℕ → Part → Leaves
-part_touches c d first (read_part n) = leaves_beneath c d
-part_touches c d first (bytes_part n) = leaves_beneath c d
+part_touches c d first (read_part n) = leaves_under c d
+part_touches c d first (bytes_part n) = leaves_under c d
 part_touches c d first (write_part bytes) = λ i. (t : ℕ) × piece_reached c d first (length bytes / 512) (i, t)
 
 -- of the next piece of a request in flight
@@ -37,7 +37,7 @@ piece_touches w (Some f) = part_touches w.stack.config f.rest.device.0 f.rest.fi
 
 -- of a request that is run, in these sectors of its device
 abbrev pub run_touches : World → RequestRecord → Result SectorRange SubmitFault → Leaves
-run_touches w (a_read name first count) (Ok range) = leaves_beneath w.stack.config range.device.0
+run_touches w (a_read name first count) (Ok range) = leaves_under w.stack.config range.device.0
 run_touches w (a_write name first bytes) (Ok range) = part_touches w.stack.config range.device.0 range.first (write_part bytes)
 run_touches w r (Err fault) = no_leaves
 
@@ -45,7 +45,7 @@ run_touches w r (Err fault) = no_leaves
 abbrev pub touches_of : World → Event → Leaves
 touches_of w (submit r reply) = no_leaves
 touches_of w (step t reply) = piece_touches w (flight_of w t)
-touches_of w (read_bytes d first bytes reply) = leaves_beneath w.stack.config d
+touches_of w (read_bytes d first bytes reply) = leaves_under w.stack.config d
 touches_of w (write_piece d first bytes result) = part_touches w.stack.config d first (write_part bytes)
 touches_of w (load text reply) = no_leaves
 touches_of w (remove_device name reply) = no_leaves

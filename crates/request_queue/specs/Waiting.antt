@@ -49,8 +49,8 @@ served_by (run r reply) = 0
 served_by (sync reply) = 0
 
 -- the same of a turn
-abbrev pub asked : World → Turn → ℕ
-asked w x = asked_by w x.event
+abbrev pub asked_in_turn : World → Turn → ℕ
+asked_in_turn w x = asked_by w x.event
 
 abbrev pub served : World → Turn → ℕ
 served w x = served_by x.event

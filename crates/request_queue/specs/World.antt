@@ -24,7 +24,7 @@ use Rattle.request_queue.specs.declared.reply.Reply.{Reply}
 use Rattle.request_queue.specs.Ranges.{bytes_range, piece_len}
 use Rattle.request_queue.specs.Requests.{RequestRecord, sectors_for}
 use Rattle.request_queue.specs.Flights.{FlightRecord, IsSoundFlight, first_flight, next_flight, reply_to, has_ticket}
-use Rattle.request_queue.specs.Parts.{PartRelation, Asks, bytes_part, write_part, without_bytes, without_chains}
+use Rattle.request_queue.specs.Parts.{PartRelation, AsksPiece, bytes_part, write_part, without_bytes, without_chains}
 
 -- a stack, how many tickets were given, and the requests in flight in the order of their tickets
 pub record World : Type 0 where
@@ -58,13 +58,13 @@ pub record Begins (w : World) (r : RequestRecord) (ticket : ℕ) (w' : World) : 
   pub ticket_is : ticket ≡ w.given + 1
   pub leaves : w' ≡ world w.stack (w.given + 1) (w.in_flight ++ first_flight (w.given + 1) range r ∷ [])
 
-pub record IsRefused (w : World) (r : RequestRecord) (fault : SubmitFault) (w' : World) : Type 0 where
+pub record IsRequestRefused (w : World) (r : RequestRecord) (fault : SubmitFault) (w' : World) : Type 0 where
   pub refuses : (admission w r ≡ Err fault) ⊎ (fault ≡ NoMemory)
   pub same : w' ≡ w
 
 abbrev pub Submits : World → RequestRecord → Result ℕ SubmitFault → World → Type 0
 Submits w r (Ok ticket) w' = Begins w r ticket w'
-Submits w r (Err fault) w' = IsRefused w r fault w'
+Submits w r (Err fault) w' = IsRequestRefused w r fault w'
 
 -- ---- one piece of a request
 
@@ -81,7 +81,7 @@ next_count w f = piece_len w.stack.config f.rest
 pub record GoesOn (part : PartRelation) (w : World) (i : ℕ) (f : FlightRecord) (w' : World) : Type 0 where
   pub got : AnswerRecord
   pub stack : StackRecord
-  pub asks : Asks part w.stack f (Ok got) stack
+  pub asks : AsksPiece part w.stack f (Ok got) stack
   pub rest : next_count w f < f.rest.count
   pub leaves : w' ≡ world stack w.given (set w.in_flight i (next_flight f (next_count w f) got))
 
@@ -89,7 +89,7 @@ pub record GoesOn (part : PartRelation) (w : World) (i : ℕ) (f : FlightRecord)
 pub record Finishes (part : PartRelation) (w : World) (i : ℕ) (f : FlightRecord) (reply : Reply) (w' : World) : Type 0 where
   pub got : AnswerRecord
   pub stack : StackRecord
-  pub asks : Asks part w.stack f (Ok got) stack
+  pub asks : AsksPiece part w.stack f (Ok got) stack
   pub last : next_count w f ≡ f.rest.count
   pub replies : reply ≡ reply_to (next_flight f (next_count w f) got).work
   pub leaves : w' ≡ world stack w.given (remove w.in_flight i)
@@ -97,13 +97,13 @@ pub record Finishes (part : PartRelation) (w : World) (i : ℕ) (f : FlightRecor
 -- its piece ended it
 pub record Fails (part : PartRelation) (w : World) (i : ℕ) (f : FlightRecord) (fault : IoFault) (w' : World) : Type 0 where
   pub stack : StackRecord
-  pub asks : Asks part w.stack f (Err fault) stack
+  pub asks : AsksPiece part w.stack f (Err fault) stack
   pub leaves : w' ≡ world stack w.given (remove w.in_flight i)
 
-abbrev pub Answers : PartRelation → World → ℕ → FlightRecord → Progress → World → Type 0
-Answers part w i f More w' = GoesOn part w i f w'
-Answers part w i f (Done (Ok reply)) w' = Finishes part w i f reply w'
-Answers part w i f (Done (Err fault)) w' = Fails part w i f fault w'
+abbrev pub AnswersStep : PartRelation → World → ℕ → FlightRecord → Progress → World → Type 0
+AnswersStep part w i f More w' = GoesOn part w i f w'
+AnswersStep part w i f (Done (Ok reply)) w' = Finishes part w i f reply w'
+AnswersStep part w i f (Done (Err fault)) w' = Fails part w i f fault w'
 
 -- the next piece of the request with that ticket
 pub record Serves (part : PartRelation) (w : World) (ticket : ℕ) (progress : Progress) (w' : World) : Type 0 where
@@ -111,11 +111,11 @@ pub record Serves (part : PartRelation) (w : World) (ticket : ℕ) (progress : P
   pub f : FlightRecord
   pub at : IsAt w.in_flight ticket i f
   pub some : 1 ≤ next_count w f
-  pub answers : Answers part w i f progress w'
+  pub answers : AnswersStep part w i f progress w'
 
-abbrev pub Steps : PartRelation → World → ℕ → Result Progress NoSuchTicket → World → Type 0
-Steps part w ticket (Ok progress) w' = Serves part w ticket progress w'
-Steps part w ticket (Err none) w' = (position (has_ticket ticket) w.in_flight ≡ None) × (w' ≡ w)
+abbrev pub StepsOn : PartRelation → World → ℕ → Result Progress NoSuchTicket → World → Type 0
+StepsOn part w ticket (Ok progress) w' = Serves part w ticket progress w'
+StepsOn part w ticket (Err none) w' = (position (has_ticket ticket) w.in_flight ≡ None) × (w' ≡ w)
 
 -- ---- reads at once
 
@@ -156,10 +156,10 @@ abbrev pub LoadFails : World → List Entry → LoadFault → Type 0
 LoadFails w text (load_fault.Refused refusal) = IsRefusal w.stack.config text refusal
 LoadFails w text load_fault.NoMemory = Unit {0}
 
-abbrev pub Loads : World → List Entry → Result Unit (Held LoadFault) → World → Type 0
-Loads w text (Ok done) w' = LoadDone w text w'
-Loads w text (Err Busy) w' = (w.in_flight ≢ []) × (w' ≡ w)
-Loads w text (Err (Fault fault)) w' = (w.in_flight ≡ []) × LoadFails w text fault × (w' ≡ w)
+abbrev pub LoadsText : World → List Entry → Result Unit (Held LoadFault) → World → Type 0
+LoadsText w text (Ok done) w' = LoadDone w text w'
+LoadsText w text (Err Busy) w' = (w.in_flight ≢ []) × (w' ≡ w)
+LoadsText w text (Err (Fault fault)) w' = (w.in_flight ≡ []) × LoadFails w text fault × (w' ≡ w)
 
 -- the device of that name is removed, and no rule refuses the configuration that stands then
 pub record RemovalDone (w : World) (name : List ℕ) (w' : World) : Type 0 where
@@ -193,18 +193,18 @@ Syncs w (Err fault) w' = SyncFails w fault w'
 -- ---- runs of one request
 
 -- steps of a ticket up to its last
-pub data Ends (part : PartRelation) (ticket : ℕ) (answer : Result Reply IoFault) : World → World → Type 0 where
-  at_once : {w w' : World} → Serves part w ticket (Done answer) w' → Ends part ticket answer w w'
-  later : {w v w' : World} → Serves part w ticket More v → Ends part ticket answer v w' → Ends part ticket answer w w'
+pub data EndsRequest (part : PartRelation) (ticket : ℕ) (answer : Result Reply IoFault) : World → World → Type 0 where
+  at_once : {w w' : World} → Serves part w ticket (Done answer) w' → EndsRequest part ticket answer w w'
+  later : {w v w' : World} → Serves part w ticket More v → EndsRequest part ticket answer v w' → EndsRequest part ticket answer w w'
 
-pub record RunsOut (part : PartRelation) (w : World) (r : RequestRecord) (answer : Result Reply IoFault) (w' : World) : Type 0 where
+pub record RunsToEnd (part : PartRelation) (w : World) (r : RequestRecord) (answer : Result Reply IoFault) (w' : World) : Type 0 where
   pub begun : World
   pub begins : Begins w r (w.given + 1) begun
-  pub ends : Ends part (w.given + 1) answer begun w'
+  pub ends : EndsRequest part (w.given + 1) answer begun w'
 
 abbrev pub Runs : PartRelation → World → RequestRecord → Result (Result Reply IoFault) SubmitFault → World → Type 0
-Runs part w r (Ok answer) w' = RunsOut part w r answer w'
-Runs part w r (Err fault) w' = IsRefused w r fault w'
+Runs part w r (Ok answer) w' = RunsToEnd part w r answer w'
+Runs part w r (Err fault) w' = IsRequestRefused w r fault w'
 
 -- ---- events
 
@@ -222,10 +222,10 @@ pub data Event : Type 0 where
 -- From w, the event may lead to w'.
 abbrev pub Step : PartRelation → World → Event → World → Type 0
 Step part w (submit r reply) w' = Submits w r reply w'
-Step part w (step ticket reply) w' = Steps part w ticket reply w'
+Step part w (step ticket reply) w' = StepsOn part w ticket reply w'
 Step part w (read_bytes d first bytes reply) w' = ReadsBytes part w d first bytes reply w'
 Step part w (write_piece d first bytes result) w' = PieceWritten part w d first bytes result w'
-Step part w (load text reply) w' = Loads w text reply w'
+Step part w (load text reply) w' = LoadsText w text reply w'
 Step part w (remove_device name reply) w' = Removes w name reply w'
 Step part w (run r reply) w' = Runs part w r reply w'
 Step part w (sync reply) w' = Syncs w reply w'

@@ -12,7 +12,7 @@ ghost use Rattle.request_queue.specs.Replies.{bytes_outcome, outcome_of};
 ghost use Rattle.request_queue.specs.Requests.{request_record};
 ghost use Rattle.request_queue.specs.Runs.{flight_of};
 ghost use Rattle.request_queue.specs.WholeRuns.{RunAnswers};
-ghost use Rattle.request_queue.specs.World.{Ends, IsSoundWorld, Step, admission, load, read_bytes, remove_device, run, step, submit, sync};
+ghost use Rattle.request_queue.specs.World.{EndsRequest, IsSoundWorld, Step, admission, load, read_bytes, remove_device, run, step, submit, sync};
 ghost use Rattle.request_queue.specs.Flights.{IsAdmissible};
 ghost use Rattle.request_queue.specs.declared.fault.BytesFault.{BytesFault};
 ghost use Rattle.request_queue.specs.declared.fault.SubmitFault.{SubmitFault};
@@ -170,7 +170,7 @@ impl<D: BlockDev> Queue<D> {
     // Serves a request to its end.
     fn finish(&mut self, ticket: Ticket) -> Result<Reply, IoFault>
         requires there { flight_of self.old ticket.0 ≢ None }
-        ensures { Ends EachPart ticket.0 result self.old self.new }
+        ensures { EndsRequest EachPart ticket.0 result self.old self.new }
     {
         // What holds of every queue is learned from a call.
         let _sound = self.in_flight();

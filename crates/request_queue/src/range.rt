@@ -1,7 +1,7 @@
 //! Ranges of a mapped device's sectors.
 ghost use Rattle.std.specs.Prelude.{◌≡◌, ◌+◌, ◌≤◌, ◌<◌, length, IfOk, OnOk};
 ghost use Rattle.stack_rules.specs.Names.{mapped, size};
-ghost use Rattle.request_queue.specs.Ranges.{HaveSectors, IsInside, bytes_range, piece_len, range_of};
+ghost use Rattle.request_queue.specs.Ranges.{HaveSectors, IsRangeInside, bytes_range, piece_len, range_of};
 
 use crate::fault::SubmitFault;
 use stack_config::{Config, DevId};
@@ -26,7 +26,7 @@ pub(crate) fn range_of(
     count: u64,
 ) -> Result<SectorRange, SubmitFault>
     ensures value { result ≡ range_of config.now name.now first count }
-    ensures inside { IfOk result (λ range. IsInside config.now range) }
+    ensures inside { IfOk result (λ range. IsRangeInside config.now range) }
 {
     let Some(device) = config.device(name) else {
         return Err(SubmitFault::NoSuchDevice);
@@ -75,7 +75,7 @@ pub(crate) fn bytes_range(
 
 /// How many sectors the first piece of a range has.
 pub(crate) fn piece_len(config: &Config, range: SectorRange) -> u64
-    requires { IsInside config.now range }
+    requires { IsRangeInside config.now range }
     ensures value { result ≡ piece_len config.now range }
     ensures some { 1 ≤ result }
     ensures most { result ≤ 128 }

@@ -2,7 +2,7 @@
 use Rattle.std.proofs.Common.{◌≡◌, ◌⊎◌, ℕ, suc, ◌+◌, ◌-◌, ◌<◌, ◌^◌, Bool, IsTrue, List, [], ◌∷◌, length, map, Result, Ok, Err, IfErr, IsErrAnd, refl, sym, ap, ◌∙◌, subst}
 use Rattle.block_device.specs.Device.{Device, HasFailed, IsSameDevice}
 use Rattle.rescue_map.specs.declared.map.Run.{Run}
-use Rattle.rescue_map.specs.Maps.{marks, totals_of}
+use Rattle.rescue_map.specs.Maps.{marks, map_totals}
 use Rattle.stack_rules.specs.Names.{mapped, size}
 use Rattle.stack_engine.specs.Stacks.{StackRecord}
 use Rattle.stack_recovery.specs.declared.rescued.Rescued.{Rescued}
@@ -11,13 +11,13 @@ use Rattle.rescue_files.specs.declared.fault.RescueFault.TheVariants.{NoMap, NoM
 use Rattle.rescue_files.specs.MapFiles.{recovery_ending}
 use Rattle.text_files.specs.declared.texts.ReplaceFault.{ReplaceFault}
 use Rattle.rescue_map.specs.declared.totals.Totals.{Totals}
-use Rattle.rescue_files.specs.Turns.{IsTurnsEnd, IsUnwritten, IsUnfailed, Kept, Progressed, RescuesInTurns, StopsIn, Turn, Turns, kept as kept_by, progressed}
+use Rattle.rescue_files.specs.Turns.{IsTurnsEnd, IsMapUnwritten, IsUnfailed, Kept, Progressed, RescuesInTurns, StopsIn, IsTurn, Turns, kept as kept_by, progressed}
 use Rattle.stack_recovery.specs.declared.fault.RecoveryFault.{RecoveryFault}
 use Rattle.stack_recovery.specs.declared.fault.RecoveryFault.TheVariants as recovery
 use Rattle.stack_recovery.specs.Recoveries.{IsRescueEnd, Rescues, Sides, is_had}
-use Rattle.stack_recovery.specs.Surveys.{Answers, Finding, IsSurveyOver, PieceRead, State, again, had, kept, lost, states_of}
+use Rattle.stack_recovery.specs.Surveys.{AnswersFinding, Finding, IsSurveyOver, PieceRead, SectorState, again, had, kept, lost, states_of}
 
-length-map : (states : List State) → length (map is_had states) ≡ length states
+length-map : (states : List SectorState) → length (map is_had states) ≡ length states
 length-map [] = refl
 length-map (x ∷ states) = ap suc (length-map states)
 
@@ -25,7 +25,7 @@ length-map (x ∷ states) = ap suc (length-map states)
 pub rescued-sectors : (before : List Bool) (d : ℕ) (old : Sides) (rescued : Rescued) (new : Sides) → Rescues before d old rescued new → length (marks rescued.map) ≡ size old.stack.config (mapped d)
 rescued-sectors before d old rescued new r = ap length r.noted ∙ length-map _ ∙ r.whole
 
-answers-config : (w : StackRecord) (d first n : ℕ) (found : Finding) (w' : StackRecord) → Answers w d first n found w' → w'.config ≡ w.config
+answers-config : (w : StackRecord) (d first n : ℕ) (found : Finding) (w' : StackRecord) → AnswersFinding w d first n found w' → w'.config ≡ w.config
 answers-config w d first n (had bytes) w' a = a.any.config
 answers-config w d first n (lost fault) w' a = a.any.config
 answers-config w d first n (again fault) w' a = a.any.config
@@ -58,7 +58,7 @@ stops-rescue k now before new failed recovery.Output e = (refl, e.1.0, e.1.1)
 stops-rescue k now before new failed recovery.Write e = (refl, e)
 
 pub stops-unwritten : {S : Type 0} (k : Kept S) (now : Progressed S) (text : List ℕ) (images : S) (new : Sides) (failed : Bool) (fault : RescueFault)
-    → IsUnfailed now.sides new → IsUnwritten k.replaces k.path now.images text images fault → StopsIn k now images new failed fault
+    → IsUnfailed now.sides new → IsMapUnwritten k.replaces k.path now.images text images fault → StopsIn k now images new failed fault
 stops-unwritten k now text images new failed NoMemory u e = (e, u)
 stops-unwritten k now text images new failed (Unread cause) u e = absurd e
 stops-unwritten k now text images new failed TooLong u e = absurd e
@@ -73,10 +73,10 @@ rescued-out before d old rescued new r = r.copied.same
 
 -- ---- turns one after another
 
-pub turn-config : {S : Type 0} (k : Kept S) (old new : Progressed S) → Turn k old new → new.sides.stack.config ≡ old.sides.stack.config
+pub turn-config : {S : Type 0} (k : Kept S) (old new : Progressed S) → IsTurn k old new → new.sides.stack.config ≡ old.sides.stack.config
 turn-config k old new t = ap (λ (s : Sides). s.stack.config) t.on_medium ∙ rescued-config _ k.d old.sides t.rescued t.left t.rescues
 
-pub turn-out : {S : Type 0} (k : Kept S) (old new : Progressed S) → Turn k old new → (new.sides.out.size ≡ old.sides.out.size) × (IsTrue old.sides.out.may_write → IsTrue new.sides.out.may_write)
+pub turn-out : {S : Type 0} (k : Kept S) (old new : Progressed S) → IsTurn k old new → (new.sides.out.size ≡ old.sides.out.size) × (IsTrue old.sides.out.may_write → IsTrue new.sides.out.may_write)
 turn-out k old new t =
     let same = rescued-out _ k.d old.sides t.rescued t.left t.rescues in
     (ap (λ (s : Sides). s.out.size) t.on_medium ∙ same.size, λ h. subst IsTrue (sym (ap (λ (s : Sides). s.out.may_write) t.on_medium ∙ same.may_write)) h)
@@ -88,7 +88,7 @@ ends-as replaces path d m n first now images new failed fault e t s =
     subst (λ (k : ℕ). IsTurnsEnd (kept_by replaces path d k) first images new failed fault) e (record { now = now; turns = t; stops = s })
 
 pub whole-as : {S : Type 0} (replaces : S → List ℕ → List ℕ → Result (Unit {0}) ReplaceFault → S → Type 0) (path : List ℕ) (d m n at : ℕ) (first : Progressed S) (images : S) (new : Sides) (runs : List Run) (totals : Totals)
-    → m ≡ n → at ≡ m → Turns (kept_by replaces path d m) first (progressed images new runs at) → totals ≡ totals_of runs → RescuesInTurns (kept_by replaces path d n) first images new totals
+    → m ≡ n → at ≡ m → Turns (kept_by replaces path d m) first (progressed images new runs at) → totals ≡ map_totals runs → RescuesInTurns (kept_by replaces path d n) first images new totals
 whole-as replaces path d m n at first images new runs totals e here t counted =
     subst (λ (k : ℕ). RescuesInTurns (kept_by replaces path d k) first images new totals) e (record {
       runs = runs;

@@ -4,7 +4,7 @@ use Rattle.image_files.specs.Opener.{Calls}
 use Rattle.rescue_map.specs.declared.map.Run.{Run}
 use Rattle.rescue_map.specs.declared.totals.Totals.{Totals}
 use Rattle.rescue_files.specs.declared.fault.RescueFault.{RescueFault}
-use Rattle.rescue_files.specs.MapFiles.{IsMapRead, IsUnread}
+use Rattle.rescue_files.specs.MapFiles.{IsMapRead, IsMapUnread}
 use Rattle.rescue_files.specs.Turns.{IsTurnsEnd, RescuesInTurns, kept, progressed}
 use Rattle.stack_rules.specs.Names.{mapped, size}
 use Rattle.stack_recovery.specs.declared.recovery.Counts.{Counts}
@@ -43,7 +43,7 @@ pub record IsCutShort {S D : Type 0} (w : Calls S D) (path : List ℕ) (d : ℕ)
 -- or it wasn't read, and nothing was done
 abbrev pub IsUnrescued : {S D : Type 0} → Calls S D → List ℕ → ℕ → Moving → Bool → RescueFault → Type 0
 IsUnrescued w path d m failed fault =
-    ((m.new ≡ m.old) × IsUnread w path (size m.old.stack.config (mapped d)) fault) ⊎ IsCutShort w path d m failed fault
+    ((m.new ≡ m.old) × IsMapUnread w path (size m.old.stack.config (mapped d)) fault) ⊎ IsCutShort w path d m failed fault
 
 -- so it ends for the map file under that path
 abbrev pub IsMapEnd : List ℕ → (RescueFault → Type 0) → UnkeptMap → Type 0

@@ -42,12 +42,12 @@ abbrev pub IsMapRead : {S D : Type 0} → Calls S D → List ℕ → ℕ → Lis
 IsMapRead w path sectors runs = IsMapTold w path sectors runs ⊎ IsMapNew w path sectors runs
 
 -- why there is no map: the file can't be read, has more than 16 MiB, or its text has that fault, unless memory ran out
-abbrev pub IsUnread : {S D : Type 0} → Calls S D → List ℕ → ℕ → RescueFault → Type 0
-IsUnread w path sectors (Unread fault) = (is_missing fault ≡ false) × w.relations.tells w.old path most_map (Err fault) w.new
-IsUnread w path sectors TooLong = (text : FileText) × TellsMap w path text × (16777216 < length text.bytes.items)
-IsUnread w path sectors (NoMap fault) = (text : FileText) × TellsMap w path text × ((fault ≡ map_fault.NoMemory) ⊎ (map_of sectors text.bytes.items ≡ Err fault))
-IsUnread w path sectors NoMemory = w.relations.tells w.old path most_map (Err NotFound) w.new
-IsUnread w path sectors fault = ⊥
+abbrev pub IsMapUnread : {S D : Type 0} → Calls S D → List ℕ → ℕ → RescueFault → Type 0
+IsMapUnread w path sectors (Unread fault) = (is_missing fault ≡ false) × w.relations.tells w.old path most_map (Err fault) w.new
+IsMapUnread w path sectors TooLong = (text : FileText) × TellsMap w path text × (16777216 < length text.bytes.items)
+IsMapUnread w path sectors (NoMap fault) = (text : FileText) × TellsMap w path text × ((fault ≡ map_fault.NoMemory) ⊎ (map_of sectors text.bytes.items ≡ Err fault))
+IsMapUnread w path sectors NoMemory = w.relations.tells w.old path most_map (Err NotFound) w.new
+IsMapUnread w path sectors fault = ⊥
 
 -- the ends of a recovery
 abbrev pub recovery_ending : RecoveryFault → RescueFault

@@ -4,12 +4,12 @@ use Rattle.std.specs.List.{list_all}
 use Rattle.block_device.specs.Device.{Device, HasFailed, synced}
 use Rattle.rescue_map.specs.declared.map.Run.{Run}
 use Rattle.rescue_map.specs.declared.splicing.Span.{Span}
-use Rattle.rescue_map.specs.Maps.{marks, spliced, totals_of}
+use Rattle.rescue_map.specs.Maps.{marks, spliced_marks, map_totals}
 use Rattle.rescue_map.specs.MapText.{map_text}
 use Rattle.rescue_map.specs.declared.totals.Totals.{Totals}
 use Rattle.stack_recovery.specs.declared.rescued.Rescued.{Rescued}
 use Rattle.stack_rules.specs.Names.{mapped, size}
-use Rattle.stack_recovery.specs.Recoveries.{Parties, Rescues, Sides, seen, sides}
+use Rattle.stack_recovery.specs.Recoveries.{Parties, Rescues, Sides, seen_sides, sides}
 use Rattle.text_files.specs.declared.texts.ReplaceFault.{ReplaceFault}
 use Rattle.rescue_files.specs.declared.map_file.MapFile.{MapFile}
 use Rattle.rescue_files.specs.declared.turns.NextTurn.{NextTurn}
@@ -45,8 +45,8 @@ unfoldable pub turn_len : ℕ → ℕ
 turn_len sectors = max 131072 (sectors / 256)
 
 -- those of the span as the map says; all others count as had, so that they aren't asked
-abbrev pub asked : Span → ℕ → List Run → List Bool
-asked span sectors runs = spliced span (replicate sectors true) (marks runs)
+abbrev pub asked_marks : Span → ℕ → List Run → List Bool
+asked_marks span sectors runs = spliced_marks span (replicate sectors true) (marks runs)
 
 -- of a map that is put in the place of the one before: the sectors before that one were tried, or all
 abbrev pub tried_before : ℕ → ℕ → Option ℕ
@@ -62,41 +62,41 @@ pub record IsSpan (sectors at : ℕ) (span : Span) (at' : ℕ) : Type 0 where
 
 -- A turn: of the next sectors those that weren't had were asked, what was had was copied and is on the medium, and then the
 -- map that says so was put in the place of the old one.
-pub record Turn {S : Type 0} (k : Kept S) (old new : Progressed S) : Type 0 where
+pub record IsTurn {S : Type 0} (k : Kept S) (old new : Progressed S) : Type 0 where
   pub span : Span
   pub next : IsSpan k.sectors old.at span new.at
   pub left : Sides
   pub rescued : Rescued
-  pub rescues : Rescues (asked span k.sectors old.runs) k.d old.sides rescued left
+  pub rescues : Rescues (asked_marks span k.sectors old.runs) k.d old.sides rescued left
   pub on_medium : new.sides ≡ sides left.stack (synced left.out) left.printed
-  pub map : marks new.runs ≡ spliced span (marks old.runs) (marks rescued.map)
+  pub map : marks new.runs ≡ spliced_marks span (marks old.runs) (marks rescued.map)
   pub written : k.replaces old.images k.path (map_text (tried_before k.sectors new.at) new.runs) (Ok tt) new.images
 
 -- all of the next sectors were had before, so that nothing is done
-pub record IsPassed {S : Type 0} (k : Kept S) (old new : Progressed S) : Type 0 where
+pub record IsSkipped {S : Type 0} (k : Kept S) (old new : Progressed S) : Type 0 where
   pub span : Span
   pub next : IsSpan k.sectors old.at span new.at
   pub runs : List Run
-  pub asked : marks runs ≡ asked span k.sectors old.runs
+  pub asked : marks runs ≡ asked_marks span k.sectors old.runs
   pub none : list_all (λ run. run.had) runs ≡ true
   pub same : new ≡ record old { at = new.at }
 
 pub data Turns {S : Type 0} (k : Kept S) (first : Progressed S) : Progressed S → Type 0 where
   begins : Turns k first first
-  goes_on : {now next : Progressed S} → Turns k first now → Turn k now next → Turns k first next
-  passes : {now next : Progressed S} → Turns k first now → IsPassed k now next → Turns k first next
+  goes_on : {now next : Progressed S} → Turns k first now → IsTurn k now next → Turns k first next
+  passes : {now next : Progressed S} → Turns k first now → IsSkipped k now next → Turns k first next
 
 -- all sectors are done, and the totals are those of the last map
 pub record RescuesInTurns {S : Type 0} (k : Kept S) (first : Progressed S) (images : S) (sides : Sides) (totals : Totals) : Type 0 where
   pub runs : List Run
   pub turns : Turns k first (progressed images sides runs k.sectors)
-  pub counted : totals ≡ totals_of runs
+  pub counted : totals ≡ map_totals runs
 
 -- a map isn't put in the place of the one before: its text is refused, or memory ran out before
-abbrev pub IsUnwritten : {S : Type 0} → Replaces S → List ℕ → S → List ℕ → S → RescueFault → Type 0
-IsUnwritten replaces path old text new NoMemory = new ≡ old
-IsUnwritten replaces path old text new (Unwritten fault) = replaces old path text (Err fault) new
-IsUnwritten replaces path old text new other = ⊥
+abbrev pub IsMapUnwritten : {S : Type 0} → Replaces S → List ℕ → S → List ℕ → S → RescueFault → Type 0
+IsMapUnwritten replaces path old text new NoMemory = new ≡ old
+IsMapUnwritten replaces path old text new (Unwritten fault) = replaces old path text (Err fault) new
+IsMapUnwritten replaces path old text new other = ⊥
 
 -- the device to which is copied counts no further failure
 abbrev pub IsUnfailed : Sides → Sides → Type 0
@@ -122,21 +122,21 @@ pub record IsTurnsEnd {S : Type 0} (k : Kept S) (first : Progressed S) (images :
 -- a turn, which makes this map
 abbrev pub TakesTurn : {S O L : Type 0} → Replaces S → (O → Device) → (L → Option (List ℕ)) → ℕ → NextTurn → S → Parties O L → S → Parties O L → List Run → Type 0
 TakesTurn replaces state told d turn images old images' new map =
-    Turn (kept replaces turn.path.now d turn.sectors) (progressed images (seen state told old) turn.map.now turn.span.first) (progressed images' (seen state told new) map (turn.span.first + turn.span.count))
+    IsTurn (kept replaces turn.path.now d turn.sectors) (progressed images (seen_sides state told old) turn.map.now turn.span.first) (progressed images' (seen_sides state told new) map (turn.span.first + turn.span.count))
 
 abbrev pub StopsTurn : {S O L : Type 0} → Replaces S → (O → Device) → (L → Option (List ℕ)) → (L → Bool) → ℕ → NextTurn → S → Parties O L → S → Parties O L → RescueFault → Type 0
 StopsTurn replaces state told failed d turn images old images' new fault =
-    StopsIn (kept replaces turn.path.now d turn.sectors) (progressed images (seen state told old) turn.map.now turn.span.first) images' (seen state told new) (failed new.listing) fault
+    StopsIn (kept replaces turn.path.now d turn.sectors) (progressed images (seen_sides state told old) turn.map.now turn.span.first) images' (seen_sides state told new) (failed new.listing) fault
 
 -- all turns of a device by the map of a file
 abbrev pub RescuesByFile : {S O L : Type 0} → Replaces S → (O → Device) → (L → Option (List ℕ)) → ℕ → MapFile → S → Parties O L → S → Parties O L → Totals → Type 0
 RescuesByFile replaces state told d file images old images' new totals =
-    RescuesInTurns (kept replaces file.path.now d (size old.stack.config (mapped d))) (progressed images (seen state told old) file.map 0) images' (seen state told new) totals
+    RescuesInTurns (kept replaces file.path.now d (size old.stack.config (mapped d))) (progressed images (seen_sides state told old) file.map 0) images' (seen_sides state told new) totals
 
 abbrev pub StopsByFile : {S O L : Type 0} → Replaces S → (O → Device) → (L → Option (List ℕ)) → (L → Bool) → ℕ → MapFile → S → Parties O L → S → Parties O L → RescueFault → Type 0
 StopsByFile replaces state told failed d file images old images' new fault =
-    IsTurnsEnd (kept replaces file.path.now d (size old.stack.config (mapped d))) (progressed images (seen state told old) file.map 0) images' (seen state told new) (failed new.listing) fault
+    IsTurnsEnd (kept replaces file.path.now d (size old.stack.config (mapped d))) (progressed images (seen_sides state told old) file.map 0) images' (seen_sides state told new) (failed new.listing) fault
 
 -- the map of a file isn't replaced by this one
 abbrev pub LeavesMap : {S : Type 0} → Replaces S → List ℕ → S → Option ℕ → List Run → S → RescueFault → Type 0
-LeavesMap replaces path images tried map images' = IsUnwritten replaces path images (map_text tried map) images'
+LeavesMap replaces path images tried map images' = IsMapUnwritten replaces path images (map_text tried map) images'

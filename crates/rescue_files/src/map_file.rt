@@ -2,7 +2,7 @@
 ghost use Rattle.std.specs.Prelude.{◌≡◌, ◌^◌, ◌≤◌, false, length, replicate, IfOk, IfErr};
 ghost use Rattle.image_files.specs.Opener.{calls};
 ghost use Rattle.rescue_map.specs.Maps.{marks};
-ghost use Rattle.rescue_files.specs.MapFiles.{IsUnread, ReadsMap, is_missing};
+ghost use Rattle.rescue_files.specs.MapFiles.{IsMapUnread, ReadsMap, is_missing};
 ghost use Rattle.rescue_files.specs.declared.fault.RescueFault.TheVariants as rescue_fault;
 
 use crate::fault::RescueFault;
@@ -34,7 +34,7 @@ pub fn read_map<I: Images>(
     requires { sectors ≤ 2 ^ 54 }
     ensures ok { IfOk result (ReadsMap I.relations I.Dev.state images.old images.new path.now sectors) }
     ensures sectors { IfOk result (λ map. length (marks map) ≡ sectors) }
-    ensures err { IfErr result (IsUnread (calls I.relations I.Dev.state images.old images.new) path.now sectors) }
+    ensures err { IfErr result (IsMapUnread (calls I.relations I.Dev.state images.old images.new) path.now sectors) }
 {
     match images.read_text(path, MOST_TEXT + 1) {
         Ok(text) => {

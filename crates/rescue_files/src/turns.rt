@@ -4,7 +4,7 @@ ghost use Rattle.rescue_map.specs.Maps.{marks};
 ghost use Rattle.rescue_map.specs.MapText.{map_text};
 ghost use Rattle.stack_rules.specs.Names.{mapped, size};
 ghost use Rattle.stack_recovery.specs.Recoveries.{parties};
-ghost use Rattle.rescue_files.specs.Turns.{IsSpan, LeavesMap, RescuesByFile, StopsByFile, StopsTurn, TakesTurn, asked, tried_before, turn_len};
+ghost use Rattle.rescue_files.specs.Turns.{IsSpan, LeavesMap, RescuesByFile, StopsByFile, StopsTurn, TakesTurn, asked_marks, tried_before, turn_len};
 
 use crate::fault::RescueFault;
 use crate::map_file::MapFile;
@@ -34,7 +34,7 @@ fn turn_len(sectors: u64) -> u64
 fn asked(alloc: Global, map: &Map, span: Span, sectors: u64) -> Result<Map, AllocError>
     requires map { length (marks map.now) ≡ sectors }
     requires inside { span.first + span.count ≤ sectors }
-    ensures { IfOk result (λ runs. marks runs ≡ asked span sectors map.now) }
+    ensures { IfOk result (λ runs. marks runs ≡ asked_marks span sectors map.now) }
 {
     // How many sectors a map can have is learned from a call.
     let _runs = map.runs();
@@ -89,7 +89,7 @@ fn take_turn<I: Images, D: BlockDev, O: SyncDev, L: Listing, P: Progress>(
     requires next { IsSpan turn.sectors turn.span.first turn.span (turn.span.first + turn.span.count) }
     requires all { turn.sectors ≡ size stack.old.config (mapped d.0) }
     requires map { length (marks turn.map.now) ≡ turn.sectors }
-    requires wanted { marks turn.wanted.now ≡ asked turn.span turn.sectors turn.map.now }
+    requires wanted { marks turn.wanted.now ≡ asked_marks turn.span turn.sectors turn.map.now }
     requires room { size stack.old.config (mapped d.0) ≤ (O.state out.old).size }
     requires allowed { IsTrue (O.state out.old).may_write }
     ensures ok { IfOk result (TakesTurn I.relations.replaces O.state L.told d.0 turn.entry images.old (parties stack.old out.old listing.old) images.new (parties stack.new out.new listing.new)) }

@@ -14,15 +14,15 @@ use Rattle.std.proofs.lemmas.List.Splits.{slice_split_none, slice_split_at}
 use Rattle.dm_table.specs.Numbers.{number}
 use Rattle.dm_table.specs.Reading.{◌>>=◌}
 use Rattle.dm_table.specs.TableText.{is_skipped}
-use Rattle.dm_table.specs.Words.{Word, is_white, lines_of, words}
+use Rattle.dm_table.specs.Words.{Word, is_white, text_lines, words}
 use Rattle.dm_table.proofs.lemmas.ReadLineLemmas.{number-some}
 use Rattle.rescue_map.specs.declared.block.Block.{Block}
 use Rattle.rescue_map.specs.declared.fault.MapFault.{MapFault}
 use Rattle.rescue_map.specs.declared.fault.MapFault.TheVariants as fault
 use Rattle.rescue_map.specs.declared.map.Run.{Run}
-use Rattle.rescue_map.specs.Blocks.{block_from, block_of, is_status, is_whole, run_at, status_of}
+use Rattle.rescue_map.specs.Blocks.{block_from, map_block, is_status, is_whole_block, run_at, status_of}
 use Rattle.rescue_map.specs.Maps.{AreRuns, marks}
-use Rattle.rescue_map.specs.MapText.{is_tried, map_of, map_text, run_text, run_words, runs_behind, runs_from, runs_text, said, status_text, status_word}
+use Rattle.rescue_map.specs.MapText.{is_tried, map_of, map_text, map_run_text, run_words, runs_behind, map_runs_from, map_runs_text, said, status_text, status_word}
 use Rattle.rescue_map.specs.Numbers.{has_base, map_number}
 
 -- ---- words
@@ -156,7 +156,7 @@ module _ (tried : Option ℕ) (at : ℕ) (run : Run) (few : at + run.count ≤ 2
   unfolding run_words
   line-said = let numeral = decimal_is_IsNumeral (at * 512) low in digits-no_comment (decimal (at * 512)) numeral.0.0 numeral.0.1
 
-  line-block : block_of (run_words tried at run) ≡ Ok (record { first = at * 512; count = run.count * 512; had = run.had })
+  line-block : map_block (run_words tried at run) ≡ Ok (record { first = at * 512; count = run.count * 512; had = run.had })
   unfolding run_words
   line-block =
       ap (λ o. block_from o (map_number (decimal (run.count * 512))) (status_of (status_word run.had (is_tried tried (at + run.count))))) (map_number-decimal (at * 512) low)
@@ -166,10 +166,10 @@ module _ (tried : Option ℕ) (at : ℕ) (run : Run) (few : at + run.count ≤ 2
   line-run : (sectors : ℕ) → 1 ≤ run.count → at + run.count ≤ sectors → run_at at sectors (record { first = at * 512; count = run.count * 512; had = run.had }) ≡ Ok run
   line-run sectors some inside =
       let block : Block = record { first = at * 512; count = run.count * 512; had = run.had } in
-      let whole : is_whole block ≡ true = and_from _ _ (and_from _ _ (eq-eqb (at * 512 % 512) 0 (omega arith)) (eq-eqb (run.count * 512 % 512) 0 (omega arith))) (lt-ltb 0 (run.count * 512) (omega (arith, some))) in
+      let whole : is_whole_block block ≡ true = and_from _ _ (and_from _ _ (eq-eqb (at * 512 % 512) 0 (omega arith)) (eq-eqb (run.count * 512 % 512) 0 (omega arith))) (lt-ltb 0 (run.count * 512) (omega (arith, some))) in
       let here : at * 512 / 512 ≡ at = omega arith in
       let same : run.count * 512 / 512 ≡ run.count = omega arith in
-      cond-false (not (is_whole block)) _ _ (ap not whole)
+      cond-false (not (is_whole_block block)) _ _ (ap not whole)
       ∙ cond-false (ltb at (at * 512 / 512)) _ _ (le-ltb at (at * 512 / 512) (omega (arith, here)))
       ∙ cond-false (ltb (at * 512 / 512) at) _ _ (le-ltb (at * 512 / 512) at (omega (arith, here)))
       ∙ cond-false (ltb (sectors - at) (run.count * 512 / 512)) _ _ (le-ltb (sectors - at) (run.count * 512 / 512) (omega (arith, same, inside)))
@@ -189,7 +189,7 @@ length-marks : (run : Run) (more : List Run) → length (marks (run ∷ more)) �
 length-marks run more = length-append _ (marks more) ∙ ap (λ (n : ℕ). n + length (marks more)) (length-replicate {A = Bool} run.count run.had)
 
 runs-read : (tried : Option ℕ) (sectors at : ℕ) (runs : List Run) → All (λ (r : Run). 1 ≤ r.count) runs → at + length (marks runs) ≡ sectors → sectors ≤ 2 ^ 54
-    → runs_from sectors at (said (slice_split (λ b. eqb b 10) (runs_text tried at runs))) ≡ Ok runs
+    → map_runs_from sectors at (said (slice_split (λ b. eqb b 10) (map_runs_text tried at runs))) ≡ Ok runs
 unfolding words
 runs-read tried sectors at [] each all few = cond-true (eqb at sectors) _ _ (eq-eqb at sectors (omega (arith, all)))
 runs-read tried sectors at (run ∷ more) each all few =
@@ -197,12 +197,12 @@ runs-read tried sectors at (run ∷ more) each all few =
     let len = length-marks run more in
     let inside : at + run.count ≤ sectors = omega (arith, all, len) in
     let room : at + run.count ≤ 2 ^ 54 = omega (arith, inside, few) in
-    let rest : List (List ℕ) = slice_split (λ b. eqb b 10) (runs_text tried (at + run.count) more) in
+    let rest : List (List ℕ) = slice_split (λ b. eqb b 10) (map_runs_text tried (at + run.count) more) in
     let below = runs-read tried sectors (at + run.count) more (All-tail (λ (r : Run). 1 ≤ r.count) run more each) (omega (arith, all, len)) few in
-    ap (λ (l : List (List ℕ)). runs_from sectors at (said l)) (split-line (join_with_byte 32 (run_words tried at run)) (runs_text tried (at + run.count) more) (line-one tried at run room))
-    ∙ ap (runs_from sectors at) (said-line (join_with_byte 32 (run_words tried at run)) (run_words tried at run) rest (line-words tried at run room) (line-said tried at run room))
-    ∙ ap (λ (r : Result Block MapFault). r >>= (λ (block : Block). run_at at sectors block >>= (λ (run : Run). runs_from sectors (at + run.count) (said rest) >>= (λ (runs : List Run). Ok (run ∷ runs))))) (line-block tried at run room)
-    ∙ ap (λ (r : Result Run MapFault). r >>= (λ (run : Run). runs_from sectors (at + run.count) (said rest) >>= (λ (runs : List Run). Ok (run ∷ runs)))) (line-run tried at run room sectors some inside)
+    ap (λ (l : List (List ℕ)). map_runs_from sectors at (said l)) (split-line (join_with_byte 32 (run_words tried at run)) (map_runs_text tried (at + run.count) more) (line-one tried at run room))
+    ∙ ap (map_runs_from sectors at) (said-line (join_with_byte 32 (run_words tried at run)) (run_words tried at run) rest (line-words tried at run room) (line-said tried at run room))
+    ∙ ap (λ (r : Result Block MapFault). r >>= (λ (block : Block). run_at at sectors block >>= (λ (run : Run). map_runs_from sectors (at + run.count) (said rest) >>= (λ (runs : List Run). Ok (run ∷ runs))))) (line-block tried at run room)
+    ∙ ap (λ (r : Result Run MapFault). r >>= (λ (run : Run). map_runs_from sectors (at + run.count) (said rest) >>= (λ (runs : List Run). Ok (run ∷ runs)))) (line-run tried at run room sectors some inside)
     ∙ ap (λ (r : Result (List Run) MapFault). r >>= (λ (runs : List Run). Ok (run ∷ runs))) below
 
 state-word : Option ℕ → Word
@@ -229,11 +229,11 @@ head-one (Some tried) =
 
 -- what was printed gives the runs back
 pub map-read : (tried : Option ℕ) (runs : List Run) → AreRuns runs → map_of (length (marks runs)) (map_text tried runs) ≡ Ok runs
-unfolding map_of map_text lines_of
+unfolding map_of map_text text_lines
 map-read tried runs whole =
     let sectors : ℕ = length (marks runs) in
-    let rest : List (List ℕ) = slice_split (λ b. eqb b 10) (runs_text tried 0 runs) in
-    ap (λ (l : List (List ℕ)). runs_behind sectors (said l)) (split-line (status_text tried) (runs_text tried 0 runs) (head-one tried))
+    let rest : List (List ℕ) = slice_split (λ b. eqb b 10) (map_runs_text tried 0 runs) in
+    ap (λ (l : List (List ℕ)). runs_behind sectors (said l)) (split-line (status_text tried) (map_runs_text tried 0 runs) (head-one tried))
     ∙ ap (runs_behind sectors) (said-line (status_text tried) (codes "0" ∷ state-word tried ∷ []) rest (head-words tried) refl)
     ∙ cond-true (is_status (codes "0" ∷ state-word tried ∷ [])) _ _ (head-status tried)
     ∙ runs-read tried sectors 0 runs whole.some (omega arith) whole.few
@@ -242,19 +242,19 @@ append-end : (l : List ℕ) → l ++ [] ≡ l
 append-end [] = refl
 append-end (x ∷ l) = ap (λ (m : List ℕ). x ∷ m) (append-end l)
 
-runs_text-push : (tried : Option ℕ) (at : ℕ) (runs : List Run) (run : Run) → runs_text tried at (runs ++ run ∷ []) ≡ runs_text tried at runs ++ run_text tried (at + length (marks runs)) run
-runs_text-push tried at [] run = let here : at ≡ at + 0 = omega arith in append-end (run_text tried at run) ∙ ap (λ (n : ℕ). run_text tried n run) here
+runs_text-push : (tried : Option ℕ) (at : ℕ) (runs : List Run) (run : Run) → map_runs_text tried at (runs ++ run ∷ []) ≡ map_runs_text tried at runs ++ map_run_text tried (at + length (marks runs)) run
+runs_text-push tried at [] run = let here : at ≡ at + 0 = omega arith in append-end (map_run_text tried at run) ∙ ap (λ (n : ℕ). map_run_text tried n run) here
 runs_text-push tried at (x ∷ more) run =
     let here : at + x.count + length (marks more) ≡ at + length (marks (x ∷ more)) = omega (arith, length-marks x more) in
-    ap (λ (l : List ℕ). run_text tried at x ++ l) (runs_text-push tried (at + x.count) more run ∙ ap (λ (n : ℕ). runs_text tried (at + x.count) more ++ run_text tried n run) here)
-    ∙ sym (append_assoc (run_text tried at x) (runs_text tried (at + x.count) more) (run_text tried (at + length (marks (x ∷ more))) run))
+    ap (λ (l : List ℕ). map_run_text tried at x ++ l) (runs_text-push tried (at + x.count) more run ∙ ap (λ (n : ℕ). map_runs_text tried (at + x.count) more ++ map_run_text tried n run) here)
+    ∙ sym (append_assoc (map_run_text tried at x) (map_runs_text tried (at + x.count) more) (map_run_text tried (at + length (marks (x ∷ more))) run))
 
 -- one run more
-pub map_text-push : (tried : Option ℕ) (runs : List Run) (run : Run) → map_text tried runs ++ run_text tried (length (marks runs)) run ≡ map_text tried (runs ++ run ∷ [])
+pub map_text-push : (tried : Option ℕ) (runs : List Run) (run : Run) → map_text tried runs ++ map_run_text tried (length (marks runs)) run ≡ map_text tried (runs ++ run ∷ [])
 unfolding map_text
 map_text-push tried runs run =
-    append_assoc (status_text tried ++ 10 ∷ []) (runs_text tried 0 runs) (run_text tried (length (marks runs)) run)
-    ∙ ap (λ (l : List ℕ). (status_text tried ++ 10 ∷ []) ++ l) (ap (λ (n : ℕ). runs_text tried 0 runs ++ run_text tried n run) zero-more ∙ sym (runs_text-push tried 0 runs run))
+    append_assoc (status_text tried ++ 10 ∷ []) (map_runs_text tried 0 runs) (map_run_text tried (length (marks runs)) run)
+    ∙ ap (λ (l : List ℕ). (status_text tried ++ 10 ∷ []) ++ l) (ap (λ (n : ℕ). map_runs_text tried 0 runs ++ map_run_text tried n run) zero-more ∙ sym (runs_text-push tried 0 runs run))
   where
     zero-more : length (marks runs) ≡ 0 + length (marks runs)
     zero-more = omega arith

@@ -6,8 +6,8 @@ use Rattle.rescue_map.specs.declared.block.Block.{Block}
 use Rattle.rescue_map.specs.declared.fault.MapFault.{MapFault}
 use Rattle.rescue_map.specs.declared.fault.MapFault.TheVariants as fault
 use Rattle.rescue_map.specs.declared.map.Run.{Run}
-use Rattle.rescue_map.specs.Blocks.{block_of, run_at}
-use Rattle.rescue_map.specs.MapText.{IsMapAnswer, runs_from}
+use Rattle.rescue_map.specs.Blocks.{map_block, run_at}
+use Rattle.rescue_map.specs.MapText.{IsMapAnswer, map_runs_from}
 
 -- the runs read so far, before what the rest gives
 abbrev pub after : List Run → Result (List Run) MapFault → Result (List Run) MapFault
@@ -29,22 +29,22 @@ after_end before = ap Ok (append-nil before)
 module _ (sectors at : ℕ) (before : List Run) (line : List Word) (more : List (List Word)) where
   -- the next line, and what comes behind it
   rest : Block → Result (List Run) MapFault
-  rest block = run_at at sectors block >>= (λ (run : Run). runs_from sectors (at + run.count) more >>= (λ (runs : List Run). Ok (run ∷ runs)))
+  rest block = run_at at sectors block >>= (λ (run : Run). map_runs_from sectors (at + run.count) more >>= (λ (runs : List Run). Ok (run ∷ runs)))
 
   behind : Run → Result (List Run) MapFault
-  behind run = runs_from sectors (at + run.count) more >>= (λ (runs : List Run). Ok (run ∷ runs))
+  behind run = map_runs_from sectors (at + run.count) more >>= (λ (runs : List Run). Ok (run ∷ runs))
 
-  pub after-block_fault : (f : MapFault) → block_of line ≡ Err f → after before (runs_from sectors at (line ∷ more)) ≡ Err f
+  pub after-block_fault : (f : MapFault) → map_block line ≡ Err f → after before (map_runs_from sectors at (line ∷ more)) ≡ Err f
   unfolding rest
   after-block_fault f e = ap (λ (r : Result Block MapFault). after before (r >>= rest)) e
 
-  pub after-run_fault : (b : Block) (f : MapFault) → block_of line ≡ Ok b → run_at at sectors b ≡ Err f → after before (runs_from sectors at (line ∷ more)) ≡ Err f
+  pub after-run_fault : (b : Block) (f : MapFault) → map_block line ≡ Ok b → run_at at sectors b ≡ Err f → after before (map_runs_from sectors at (line ∷ more)) ≡ Err f
   unfolding rest behind
   after-run_fault b f e g = ap (λ (r : Result Block MapFault). after before (r >>= rest)) e ∙ ap (λ (r : Result Run MapFault). after before (r >>= behind)) g
 
-  pub after-run : (b : Block) (run : Run) → block_of line ≡ Ok b → run_at at sectors b ≡ Ok run → after before (runs_from sectors at (line ∷ more)) ≡ after (before ++ run ∷ []) (runs_from sectors (at + run.count) more)
+  pub after-run : (b : Block) (run : Run) → map_block line ≡ Ok b → run_at at sectors b ≡ Ok run → after before (map_runs_from sectors at (line ∷ more)) ≡ after (before ++ run ∷ []) (map_runs_from sectors (at + run.count) more)
   unfolding rest behind
-  after-run b run e g = ap (λ (r : Result Block MapFault). after before (r >>= rest)) e ∙ ap (λ (r : Result Run MapFault). after before (r >>= behind)) g ∙ after_push before run (runs_from sectors (at + run.count) more)
+  after-run b run e g = ap (λ (r : Result Block MapFault). after before (r >>= rest)) e ∙ ap (λ (r : Result Run MapFault). after before (r >>= behind)) g ∙ after_push before run (map_runs_from sectors (at + run.count) more)
 
 -- the exit of a `?`, whose fault may be what the text says
 pub exit_fault : (r : Result (List Run) MapFault) (f : MapFault) (answer : Result (List Run) MapFault) → IsErrAnd r (λ e. e ≡ f) → answer ≡ Err f → IsMapAnswer r answer

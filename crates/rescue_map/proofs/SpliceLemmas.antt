@@ -4,7 +4,7 @@ use Rattle.std.proofs.lemmas.List.{drop-drop, length-append, length-drop, length
 use Rattle.rescue_map.specs.declared.map.Run.{Run}
 use Rattle.rescue_map.specs.declared.totals.Totals.{Totals}
 use Rattle.rescue_map.specs.declared.splicing.Span.{Span}
-use Rattle.rescue_map.specs.Maps.{spliced, with_run}
+use Rattle.rescue_map.specs.Maps.{spliced_marks, with_run}
 
 take-front : (n m : ℕ) (h : Bool) (rest : List Bool) → n ≤ m → take m (replicate n h ++ rest) ≡ replicate n h ++ take (m - n) rest
 take-front zero m h rest le = let same : m ≡ m - 0 = omega arith in ap (λ (k : ℕ). take k rest) same
@@ -49,7 +49,7 @@ sum-more t r = sum-either t r.count r.had
 
 pub spliced-whole : (span : Span) (sectors : ℕ) (around within m1 m2 m3 outer1 inner1 outer2 : List Bool) → length around ≡ sectors → span.first + span.count ≤ sectors
     → m1 ≡ take span.first around → outer1 ≡ drop span.first around → inner1 ≡ drop span.first within → m2 ≡ m1 ++ take span.count inner1
-    → outer2 ≡ drop span.count outer1 → m3 ≡ m2 ++ take (sectors - span.first - span.count) outer2 → m3 ≡ spliced span around within
+    → outer2 ≡ drop span.count outer1 → m3 ≡ m2 ++ take (sectors - span.first - span.count) outer2 → m3 ≡ spliced_marks span around within
 spliced-whole span sectors around within m1 m2 m3 outer1 inner1 outer2 len inside e1 o1 i1 e2 o2 e3 =
     let f : ℕ = span.first in
     let c : ℕ = span.count in
@@ -62,7 +62,7 @@ spliced-whole span sectors around within m1 m2 m3 outer1 inner1 outer2 len insid
     ∙ append_assoc (take f around) (take c (drop f within)) rest
 
 pub spliced-length : (span : Span) (sectors : ℕ) (around within whole : List Bool) → length around ≡ sectors → length within ≡ sectors → span.first + span.count ≤ sectors
-    → whole ≡ spliced span around within → length whole ≡ sectors
+    → whole ≡ spliced_marks span around within → length whole ≡ sectors
 spliced-length span sectors around within whole len len' inside e =
     let f : ℕ = span.first in
     let c : ℕ = span.count in

@@ -21,14 +21,14 @@ abbrev pub status_of : Word → Option Bool
 status_of word = if length word == 1 then status_named (slice_index word 0) else None
 
 -- of the whole: one of those, or `F` or `G`
-abbrev pub is_state : Word → Bool
-is_state word =
+abbrev pub is_whole_status : Word → Bool
+is_whole_status word =
     (length word == 1) && ((slice_index word 0 == 43) || is_unfinished (slice_index word 0) || (slice_index word 0 == 70) || (slice_index word 0 == 71))
 
 -- a status line: a position, a status, and perhaps the number of a pass
 abbrev pub is_status : List Word → Bool
-is_status (pos ∷ state ∷ []) = is_some (map_number pos) && is_state state
-is_status (pos ∷ state ∷ pass ∷ []) = is_some (map_number pos) && is_state state
+is_status (pos ∷ state ∷ []) = is_some (map_number pos) && is_whole_status state
+is_status (pos ∷ state ∷ pass ∷ []) = is_some (map_number pos) && is_whole_status state
 is_status other = false
 
 -- the bytes of a block are so many from the first one on
@@ -37,18 +37,18 @@ block_from (Some first) (Some count) (Some had) = Ok (record { first = first; co
 block_from first count had = Err fault.Block
 
 -- a block's line: its position, size and status
-abbrev pub block_of : List Word → Result Block MapFault
-block_of (pos ∷ size ∷ status ∷ []) = block_from (map_number pos) (map_number size) (status_of status)
-block_of other = Err fault.Block
+abbrev pub map_block : List Word → Result Block MapFault
+map_block (pos ∷ size ∷ status ∷ []) = block_from (map_number pos) (map_number size) (status_of status)
+map_block other = Err fault.Block
 
 -- whole sectors, at least one
-abbrev pub is_whole : Block → Bool
-is_whole block = (block.first % 512 == 0) && (block.count % 512 == 0) && nat_lt 0 block.count
+abbrev pub is_whole_block : Block → Bool
+is_whole_block block = (block.first % 512 == 0) && (block.count % 512 == 0) && nat_lt 0 block.count
 
 -- the sectors of a block that has to begin at that one, on a device of so many
 abbrev pub run_at : ℕ → ℕ → Block → Result Run MapFault
 run_at at sectors block =
-    if not (is_whole block) then Err fault.PartSector
+    if not (is_whole_block block) then Err fault.PartSector
     else if nat_lt at (block.first / 512) then Err fault.Gap
     else if nat_lt (block.first / 512) at then Err fault.Overlap
     else if nat_lt (sectors - at) (block.count / 512) then Err fault.Size

@@ -3,33 +3,33 @@ use Rattle.std.specs.Prelude.{◌≡◌, ℕ, ◌+◌, ◌*◌, Bool, true, not,
 use Rattle.std.specs.List.{join_with_byte}
 use Rattle.dm_table.specs.Reading.{◌>>=◌}
 use Rattle.dm_table.specs.TableText.{is_skipped}
-use Rattle.dm_table.specs.Words.{Word, lines_of, words}
+use Rattle.dm_table.specs.Words.{Word, text_lines, words}
 use Rattle.rescue_map.specs.declared.fault.MapFault.{MapFault}
 use Rattle.rescue_map.specs.declared.fault.MapFault.TheVariants as fault
 use Rattle.rescue_map.specs.declared.map.Run.{Run}
-use Rattle.rescue_map.specs.Blocks.{block_of, is_status, run_at}
+use Rattle.rescue_map.specs.Blocks.{map_block, is_status, run_at}
 
 -- the words of the lines that say something: not of comments, nor of lines without a word
 abbrev pub said : List (List ℕ) → List (List Word)
 said lines = filter (λ ws. not (is_skipped ws)) (map words lines)
 
 -- the blocks of a device of so many sectors, from its sector `at` to its end
-abbrev pub runs_from : ℕ → ℕ → List (List Word) → Result (List Run) MapFault
-runs_from sectors at [] = if at == sectors then Ok [] else Err fault.Size
-runs_from sectors at (line ∷ more) = do
-  block ← block_of line
+abbrev pub map_runs_from : ℕ → ℕ → List (List Word) → Result (List Run) MapFault
+map_runs_from sectors at [] = if at == sectors then Ok [] else Err fault.Size
+map_runs_from sectors at (line ∷ more) = do
+  block ← map_block line
   run ← run_at at sectors block
-  runs ← runs_from sectors (at + run.count) more
+  runs ← map_runs_from sectors (at + run.count) more
   Ok (run ∷ runs)
 
 -- a status line, and behind it the blocks
 abbrev pub runs_behind : ℕ → List (List Word) → Result (List Run) MapFault
 runs_behind sectors [] = Err fault.Status
-runs_behind sectors (line ∷ more) = if is_status line then runs_from sectors 0 more else Err fault.Status
+runs_behind sectors (line ∷ more) = if is_status line then map_runs_from sectors 0 more else Err fault.Status
 
 -- what a text says of a device of so many sectors
 unfoldable pub map_of : ℕ → List ℕ → Result (List Run) MapFault
-map_of sectors text = runs_behind sectors (said (lines_of text))
+map_of sectors text = runs_behind sectors (said (text_lines text))
 
 -- ---- what is written
 
@@ -46,12 +46,12 @@ status_word had tried = if had then codes "+" else if tried then codes "-" else 
 unfoldable pub run_words : Option ℕ → ℕ → Run → List Word
 run_words tried at run = decimal (at * 512) ∷ decimal (run.count * 512) ∷ status_word run.had (is_tried tried (at + run.count)) ∷ []
 
-abbrev pub run_text : Option ℕ → ℕ → Run → List ℕ
-run_text tried at run = join_with_byte 32 (run_words tried at run) ++ 10 ∷ []
+abbrev pub map_run_text : Option ℕ → ℕ → Run → List ℕ
+map_run_text tried at run = join_with_byte 32 (run_words tried at run) ++ 10 ∷ []
 
-abbrev pub runs_text : Option ℕ → ℕ → List Run → List ℕ
-runs_text tried at [] = []
-runs_text tried at (run ∷ more) = run_text tried at run ++ runs_text tried (at + run.count) more
+abbrev pub map_runs_text : Option ℕ → ℕ → List Run → List ℕ
+map_runs_text tried at [] = []
+map_runs_text tried at (run ∷ more) = map_run_text tried at run ++ map_runs_text tried (at + run.count) more
 
 -- finished, or copying
 abbrev pub status_text : Option ℕ → List ℕ
@@ -60,7 +60,7 @@ status_text (Some tried) = codes "0 ?"
 
 -- behind a status line
 unfoldable pub map_text : Option ℕ → List Run → List ℕ
-map_text tried runs = (status_text tried ++ 10 ∷ []) ++ runs_text tried 0 runs
+map_text tried runs = (status_text tried ++ 10 ∷ []) ++ map_runs_text tried 0 runs
 
 -- the result is what the text says, unless memory ran out
 abbrev pub IsMapAnswer : Result (List Run) MapFault → Result (List Run) MapFault → Type 0

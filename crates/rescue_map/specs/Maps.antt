@@ -15,8 +15,8 @@ pub record AreRuns (runs : List Run) : Type 0 where
   pub few : length (marks runs) ≤ 2 ^ 54
 
 -- the marks of a span of sectors among those of all others
-abbrev pub spliced : Span → List Bool → List Bool → List Bool
-spliced span around within =
+abbrev pub spliced_marks : Span → List Bool → List Bool → List Bool
+spliced_marks span around within =
     take span.first around ++ (take span.count (drop span.first within) ++ drop (span.first + span.count) around)
 
 -- how many sectors of some runs were had, and how many weren't
@@ -27,5 +27,5 @@ abbrev pub totals_from : Totals → List Run → Totals
 totals_from t [] = t
 totals_from t (r ∷ more) = totals_from (with_run t r) more
 
-abbrev pub totals_of : List Run → Totals
-totals_of runs = totals_from (record { had = 0; lost = 0 }) runs
+abbrev pub map_totals : List Run → Totals
+map_totals runs = totals_from (record { had = 0; lost = 0 }) runs

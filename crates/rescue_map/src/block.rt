@@ -1,7 +1,7 @@
 //! The lines of a map file.
 ghost use Rattle.std.specs.Prelude.{◌≡◌, ◌-◌, ◌≤◌, IfOk};
 ghost use Rattle.dm_table.specs.Words.{words};
-ghost use Rattle.rescue_map.specs.Blocks.{block_of, is_state, is_status, is_unfinished, is_whole, run_at, status_of};
+ghost use Rattle.rescue_map.specs.Blocks.{map_block, is_whole_status, is_status, is_unfinished, is_whole_block, run_at, status_of};
 
 use crate::fault::MapFault;
 use crate::map::Run;
@@ -40,7 +40,7 @@ fn status_of(word: &[u8]) -> Option<bool>
 }
 
 fn is_state(word: &[u8]) -> bool
-    ensures { result ≡ is_state word.now }
+    ensures { result ≡ is_whole_status word.now }
 {
     if word.len() != 1 {
         return false;
@@ -65,7 +65,7 @@ pub(crate) fn is_status(line: &[u8]) -> bool
 
 /// The block of a line.
 pub(crate) fn read_block(line: &[u8]) -> Result<Block, MapFault>
-    ensures { result ≡ block_of (words line.now) }
+    ensures { result ≡ map_block (words line.now) }
 {
     let mut words = Words::new(line);
     let pos = words.next_word().ok_or(MapFault::Block)?;
@@ -82,7 +82,7 @@ pub(crate) fn read_block(line: &[u8]) -> Result<Block, MapFault>
 
 // Whole sectors, at least one.
 fn is_whole(block: Block) -> bool
-    ensures { result ≡ is_whole block }
+    ensures { result ≡ is_whole_block block }
 {
     block.first % 512 == 0 && block.count % 512 == 0 && block.count > 0
 }

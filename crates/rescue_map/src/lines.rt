@@ -2,7 +2,7 @@
 ghost use Rattle.std.specs.Prelude.{◌≡◌, ◌==◌, [], ◌∷◌, ◌≤◌, length, MatchOption};
 ghost use Rattle.std.specs.List.{position_or_len};
 ghost use Rattle.dm_table.specs.TableText.{is_skipped};
-ghost use Rattle.dm_table.specs.Words.{lines_of, words};
+ghost use Rattle.dm_table.specs.Words.{text_lines, words};
 ghost use Rattle.rescue_map.specs.MapText.{said};
 
 use std::marker::Model;
@@ -38,7 +38,7 @@ impl<'a> Model for Lines<'a> {
 
 impl<'a> Lines<'a> {
     pub(crate) fn new(text: &'a [u8]) -> Lines<'a>
-        ensures { result ≡ lines_of text.now }
+        ensures { result ≡ text_lines text.now }
     {
         Lines { rest: Some(text) }
     }

@@ -1,7 +1,7 @@
 //! Map files printed.
 ghost use Rattle.std.specs.Prelude.{◌≡◌, ◌+◌, ◌++◌, ◌≤◌, ◌^◌, [], ◌∷◌, IfOk, Ok, OnOk, decimal, length};
 ghost use Rattle.rescue_map.specs.Maps.{marks};
-ghost use Rattle.rescue_map.specs.MapText.{is_tried, map_of, map_text, run_text, status_text, status_word};
+ghost use Rattle.rescue_map.specs.MapText.{is_tried, map_of, map_text, map_run_text, status_text, status_word};
 
 use crate::map::{Map, Run};
 use itoa::Buffer;
@@ -37,7 +37,7 @@ fn status_line(tried: Option<u64>) -> &'static [u8]
 
 fn print_run(text: &mut Vec<u8>, tried: Option<u64>, at: u64, run: Run) -> Result<(), AllocError>
     requires { at + run.count ≤ 2 ^ 54 }
-    ensures { OnOk result (text.new.items ≡ text.old.items ++ run_text tried at run) }
+    ensures { OnOk result (text.new.items ≡ text.old.items ++ map_run_text tried at run) }
 {
     push_number(text, at * 512)?;
     text.push(b' ')?;

@@ -1,7 +1,7 @@
 //! A map with a part of another one.
 ghost use Rattle.std.specs.Prelude.{◌≡◌, ◌+◌, ◌^◌, ◌≤◌, ◌++◌, length, take, drop, IfOk, OnOk};
 ghost use Rattle.rescue_map.specs.Aheads.{marks_ahead};
-ghost use Rattle.rescue_map.specs.Maps.{marks, spliced};
+ghost use Rattle.rescue_map.specs.Maps.{marks, spliced_marks};
 
 use crate::ahead::Ahead;
 use crate::map::{Map, Run};
@@ -29,7 +29,7 @@ pub fn splice(
     requires around { length (marks around.now) ≡ sectors }
     requires within { length (marks within.now) ≡ sectors }
     requires inside { span.first + span.count ≤ sectors }
-    ensures marks { IfOk result (λ map. marks map ≡ spliced span (marks around.now) (marks within.now)) }
+    ensures marks { IfOk result (λ map. marks map ≡ spliced_marks span (marks around.now) (marks within.now)) }
     ensures sectors { IfOk result (λ map. length (marks map) ≡ sectors) }
 {
     // How many sectors a map can have is learned from a call.

@@ -2,7 +2,7 @@
 ghost use Rattle.std.specs.Prelude.{◌≡◌, ◌≤◌, ◌^◌, ℕ, Err, length, IfOk, MatchResult};
 ghost use Rattle.rescue_map.specs.declared.fault.MapFault.TheVariants as map_fault;
 ghost use Rattle.rescue_map.specs.Maps.{marks};
-ghost use Rattle.rescue_map.specs.MapText.{IsMapAnswer, map_of, runs_behind, runs_from, said};
+ghost use Rattle.rescue_map.specs.MapText.{IsMapAnswer, map_of, runs_behind, map_runs_from, said};
 
 use crate::block::{is_status, read_block, run_at};
 use crate::fault::MapFault;
@@ -38,7 +38,7 @@ pub fn parse_map(alloc: Global, text: &[u8], sectors: u64) -> Result<Map, MapFau
 // Takes the status line.
 fn take_status(lines: &mut Lines<'_>) -> Result<(), MapFault>
     ensures { MatchResult result
-        (λ _. (n : ℕ) → runs_behind n (said lines.old) ≡ runs_from n 0 (said lines.new))
+        (λ _. (n : ℕ) → runs_behind n (said lines.old) ≡ map_runs_from n 0 (said lines.new))
         (λ fault. (n : ℕ) → runs_behind n (said lines.old) ≡ Err fault) }
 {
     match next_said(lines) {

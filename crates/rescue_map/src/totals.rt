@@ -1,7 +1,7 @@
 //! How many sectors of a map were had.
 ghost use Rattle.std.specs.Prelude.{◌≡◌, ◌+◌, ◌<◌, ◌^◌};
 ghost use Rattle.std.specs.List.{list_all};
-ghost use Rattle.rescue_map.specs.Maps.{totals_of, with_run};
+ghost use Rattle.rescue_map.specs.Maps.{map_totals, with_run};
 
 use crate::map::{Map, Run};
 
@@ -38,7 +38,7 @@ fn with_run(totals: Totals, run: Run) -> Totals
 
 /// How many sectors of a map were had, and how many weren't.
 pub fn totals_of(map: &Map) -> Totals
-    ensures { result ≡ totals_of map.now }
+    ensures { result ≡ map_totals map.now }
 {
     let mut totals = Totals { had: 0, lost: 0 };
     for run in map.runs() {

@@ -4,7 +4,7 @@ ghost use Rattle.std.specs.List.{list_any, starts_with};
 ghost use Rattle.std.specs.Str.{bytes_eq};
 ghost use Rattle.dm_table.specs.Names.{mapper};
 ghost use Rattle.stack_rules.specs.Rules.{is_leaf_name, most_sectors};
-ghost use Rattle.stack_rules.specs.Leaves.{first_fault, has_duplicate};
+ghost use Rattle.stack_rules.specs.Leaves.{first_leaf_fault, has_duplicate};
 
 use dm_table::is_device;
 use stack_rules::{ConfigFault, Leaf};
@@ -59,9 +59,9 @@ fn has_too_large(leaves: &[Leaf]) -> bool
 }
 
 /// The first rule that refuses the leaves.
-#[tactic(auto, unfolding(stack_rules::specs::Leaves::first_fault))]
+#[tactic(auto, unfolding(stack_rules::specs::Leaves::first_leaf_fault))]
 pub fn leaves_fault(leaves: &[Leaf]) -> Option<ConfigFault>
-    ensures { result ≡ first_fault leaves.now }
+    ensures { result ≡ first_leaf_fault leaves.now }
 {
     if has_duplicate(leaves) {
         return Some(ConfigFault::DuplicateLeaf);

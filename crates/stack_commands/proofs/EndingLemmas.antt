@@ -4,9 +4,9 @@ use Rattle.stack_commands.specs.declared.fault.CommandFault.{CommandFault}
 use Rattle.stack_commands.specs.declared.fault.CommandFault.TheVariants.{Usage, NoMemory, Stack, Request, Io, Recovering, Stream, Verity, Fec, Partitions, Trees, LostAsSaid, Map, Session, Service}
 use Rattle.verity_commands.proofs.EndingLemmas.{quiet as verity-quiet}
 use Rattle.stack_commands.specs.Commands.{IsEndOr, IsTold, Told, is_usage}
-use Rattle.stack_commands.specs.Endings.{IsQuiet}
+use Rattle.stack_commands.specs.Endings.{IsSilent}
 
-pub quiet : (fault : CommandFault) (bytes : Option (List ℕ)) → IsQuiet fault bytes bytes
+pub quiet : (fault : CommandFault) (bytes : Option (List ℕ)) → IsSilent fault bytes bytes
 quiet Usage bytes = refl
 quiet NoMemory bytes = refl
 quiet (Stack fault) bytes = refl

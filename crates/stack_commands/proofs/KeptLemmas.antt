@@ -6,12 +6,12 @@ use Rattle.stack_engine.specs.Stacks.{StackRecord}
 use Rattle.stack_recovery.specs.declared.lost_run.LostRun.{LostRun}
 use Rattle.stack_recovery.specs.declared.recovery.Counts.{Counts}
 use Rattle.stack_recovery.specs.Recoveries.{Sides, sides}
-use Rattle.stack_recovery.specs.Texts.{runs_text}
+use Rattle.stack_recovery.specs.Texts.{lost_text}
 use Rattle.rescue_files.specs.declared.by_map.UnkeptMap.{UnkeptMap}
 use Rattle.rescue_files.specs.ByMap.{IsMapEnd, IsRescued, IsUnrescued, moving}
 
 abbrev from : StackRecord → Device → List LostRun → Sides
-from stack out runs = sides stack out (Some (runs_text runs))
+from stack out runs = sides stack out (Some (lost_text runs))
 
 pub rescued-none : {S D : Type 0} (w : Calls S D) (map : List ℕ) (d : ℕ) (stack : StackRecord) (out : Device) (runs : List LostRun) (counts : Counts) (new : Sides) → runs ≡ []
     → IsRescued w map d (moving (from stack out runs) new) counts → IsRescued w map d (moving (sides stack out (Some [])) new) counts

@@ -19,13 +19,13 @@ use Rattle.stack_opening.specs.OpenStacks.{StackWords}
 use Rattle.stack_session.specs.declared.fault.SessionFault.{SessionFault}
 use Rattle.stack_session.specs.QueueSessions.{IsQueueSession}
 use Rattle.stack_commands.specs.ManyExports.{ServesExports}
-use Rattle.stack_commands.specs.StackCommands.{Serves, ServesClient}
+use Rattle.stack_commands.specs.StackCommands.{ServesSession, ServesClient}
 
 -- a session by a new queue over no mapped device
 pub session-served : {S D : Type 0} (w : Calls S D) (cache : ℕ) (between : S) (bindings : List BindingRecord) (stack : StackRecord) (queue last : World) (old new : Streams)
     (outcome : Result Unit SessionFault) (synced : Result Unit IoFault) → StandsOnLeaves (record w { new = between }) bindings cache stack
     → queue ≡ new_world stack → IsQueueSession queue last old new outcome
-    → GivesBack (record w { old = between }) bindings last.stack.leaves synced → Serves w cache bindings old new outcome synced
+    → GivesBack (record w { old = between }) bindings last.stack.leaves synced → ServesSession w cache bindings old new outcome synced
 session-served w cache between bindings stack queue last old new outcome synced stands is served back = record {
   stack = stack;
   last = last;

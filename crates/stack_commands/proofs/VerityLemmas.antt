@@ -10,7 +10,7 @@ use Rattle.image_files.specs.Opener.{Calls}
 use Rattle.verity_commands.specs.declared.fault.VerityFault.{VerityFault}
 use Rattle.verity_commands.specs.Images.{FailsFiles, ServesFiles}
 use Rattle.stack_commands.specs.declared.fault.CommandFault.TheVariants as command_fault
-use Rattle.stack_commands.specs.Commands.{Fails, Succeeds}
+use Rattle.stack_commands.specs.Commands.{FailsCommand, Succeeds}
 use Rattle.stack_commands.specs.Uses.{uses}
 
 -- what they do with whole files is what their words invoke
@@ -22,7 +22,7 @@ module _ {S D T G : Type 0} (texts : OptionTexts) (w : Calls S D) (d : Drawing T
   files-served (Table hash root image_name hash_name) done = done
 
   pub files-failed : (i : ImageInvocation) (failed : Bool) (fault : VerityFault) → FailsFiles texts i w d old new failed fault
-      → Fails texts (image_record i) (uses w d (streams input old) (streams input' new)) failed (command_fault.Verity fault)
+      → FailsCommand texts (image_record i) (uses w d (streams input old) (streams input' new)) failed (command_fault.Verity fault)
   files-failed (Format image hash) failed fault ends = ends
   files-failed (Verify image hash root) failed fault ends = ends
   files-failed (Dump hash) failed fault ends = ends

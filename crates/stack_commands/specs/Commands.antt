@@ -3,10 +3,10 @@ use Rattle.std.specs.Prelude.{◌≡◌, ◌⊎◌, ℕ, Bool, true, false, List
 use Rattle.std.specs.Str.{bytes_eq}
 use Rattle.stack_commands.specs.declared.fault.CommandFault.{CommandFault}
 use Rattle.stack_commands.specs.declared.fault.CommandFault.TheVariants.{Usage, Verity}
-use Rattle.stack_commands.specs.Endings.{IsEnd, IsQuiet}
+use Rattle.stack_commands.specs.Endings.{IsEnd, IsSilent}
 use Rattle.verity_commands.specs.declared.fault.VerityFault.TheVariants as verity_fault
 use Rattle.image_commands.specs.ImageCommands.{IsSuperblockEnd, IsVerifyFilesEnd, PrintsMatches, PrintsSuperblock}
-use Rattle.image_commands.specs.SuperblockTexts.{line_text, superblock_text}
+use Rattle.image_commands.specs.SuperblockTexts.{table_line_text, superblock_text}
 use Rattle.request_queue.specs.Requests.{RequestRecord, a_read, a_write}
 use Rattle.counted_io.specs.Streams.{Streams}
 use Rattle.command_line.specs.CommandWords.{InvocationRecord, copy, dump, format, further, load, nbd, read, scan, session, table, verify, write}
@@ -20,35 +20,35 @@ use Rattle.stack_commands.specs.Uses.{IsRecoveringEnd, IsUsageEnd, IsVerityEnd, 
 use Rattle.recovery_commands.specs.Copies.{CopyWords, IsCopyEnd, PrintsCopy, copy_words}
 use Rattle.recovery_commands.specs.Scans.{IsScanEnd, PrintsScan}
 use Rattle.request_commands.specs.Writes.{PutWords, put_words}
-use Rattle.stack_commands.specs.StackCommands.{IsClientEnd, IsListEnd, IsReadEnd, IsServeEnd, IsWriteEnd, PrintsDevices, PrintsReply, PrintsWritten, Serves, ServesClient, device_on, on}
+use Rattle.stack_commands.specs.StackCommands.{IsClientEnd, IsListEnd, IsReadEnd, IsServeEnd, IsWriteEnd, PrintsDevices, PrintsReply, PrintsWritten, ServesSession, ServesClient, device_on, on}
 
 -- what the commands on stacks name
 abbrev pub copy_on : List ℕ → List ℕ → List ℕ → List BindingRecord → CopyWords
 copy_on stack name out bindings = copy_words (device_on stack name 64 bindings) out false
 
-abbrev pub put_on : List ℕ → ℕ → List ℕ → (List ℕ → RequestRecord) → List BindingRecord → PutWords
-put_on stack cache source put bindings = put_words (on stack bindings) cache source put
+abbrev pub put_words_on : List ℕ → ℕ → List ℕ → (List ℕ → RequestRecord) → List BindingRecord → PutWords
+put_words_on stack cache source put bindings = put_words (on stack bindings) cache source put
 
 -- what each command prints where it succeeds; the texts are the values of `format`'s options
 abbrev pub Succeeds : {S D T G : Type 0} → OptionTexts → InvocationRecord → Uses S D T G → Type 0
 Succeeds texts (load stack bindings) u = PrintsDevices false u.images (on stack bindings) u.old.output u.new.output
 Succeeds texts (read cache stack name first count bindings) u = PrintsReply u.images (on stack bindings) cache (a_read name first count) u.old.output u.new.output
-Succeeds texts (write cache stack name first source bindings) u = PrintsWritten u.images (put_on stack cache source (a_write name first) bindings) u.old.output u.new.output
-Succeeds texts (session cache bindings) u = Serves u.images cache bindings u.old u.new (Ok tt) (Ok tt)
+Succeeds texts (write cache stack name first source bindings) u = PrintsWritten u.images (put_words_on stack cache source (a_write name first) bindings) u.old.output u.new.output
+Succeeds texts (session cache bindings) u = ServesSession u.images cache bindings u.old u.new (Ok tt) (Ok tt)
 Succeeds texts (nbd cache stack name bindings) u = ServesClient u.images (device_on stack name cache bindings) u.old u.new (Ok tt) (Ok tt)
 Succeeds texts (scan stack name bindings) u = PrintsScan u.images (device_on stack name 64 bindings) u.old.output u.new.output
 Succeeds texts (copy stack name out bindings) u = PrintsCopy u.images (copy_on stack name out bindings) u.old.output u.new.output
 Succeeds texts (format image hash) u = FormatsFiles texts u.images u.drawing (paths image hash) u.old.output u.new.output
 Succeeds texts (verify image hash root) u = PrintsMatches u.images (paths image hash) root u.old.output u.new.output
 Succeeds texts (dump hash) u = PrintsSuperblock u.images hash superblock_text u.old.output u.new.output
-Succeeds texts (table hash root image_name hash_name) u = PrintsSuperblock u.images hash (λ s. line_text s image_name hash_name root) u.old.output u.new.output
+Succeeds texts (table hash root image_name hash_name) u = PrintsSuperblock u.images hash (λ s. table_line_text s image_name hash_name root) u.old.output u.new.output
 Succeeds texts (further w) u = SucceedsFurther texts w u
 
 -- why each command ends early; of a line that can't be written it says that the writer failed
 abbrev pub IsCauseOf : {S D T G : Type 0} → OptionTexts → InvocationRecord → Uses S D T G → Bool → CommandFault → Type 0
 IsCauseOf texts (load stack bindings) u failed fault = IsListEnd u.images (on stack bindings) failed fault
 IsCauseOf texts (read cache stack name first count bindings) u failed fault = IsReadEnd u.images (on stack bindings) cache (a_read name first count) failed fault
-IsCauseOf texts (write cache stack name first source bindings) u failed fault = IsWriteEnd u.images (put_on stack cache source (a_write name first) bindings) failed fault
+IsCauseOf texts (write cache stack name first source bindings) u failed fault = IsWriteEnd u.images (put_words_on stack cache source (a_write name first) bindings) failed fault
 IsCauseOf texts (session cache bindings) u failed fault = ⊥
 IsCauseOf texts (nbd cache stack name bindings) u failed fault = ⊥
 IsCauseOf texts (scan stack name bindings) u failed fault = ⊥
@@ -61,13 +61,13 @@ IsCauseOf texts (further w) u failed fault = ⊥
 
 -- and that nothing is printed before; a session and the service of a client have printed their replies, and what goes over
 -- a device some lost runs
-abbrev pub Fails : {S D T G : Type 0} → OptionTexts → InvocationRecord → Uses S D T G → Bool → CommandFault → Type 0
-Fails texts (session cache bindings) u failed fault = IsServeEnd u.images cache bindings u.old u.new failed fault
-Fails texts (nbd cache stack name bindings) u failed fault = IsClientEnd u.images (device_on stack name cache bindings) u.old u.new failed fault
-Fails texts (scan stack name bindings) u failed fault = IsRecoveringEnd (IsScanEnd u.images (device_on stack name 64 bindings) u.old.output u.new.output failed) fault
-Fails texts (copy stack name out bindings) u failed fault = IsRecoveringEnd (IsCopyEnd u.images (copy_on stack name out bindings) u.old.output u.new.output failed) fault
-Fails texts (further w) u failed fault = FailsFurther texts w u failed fault
-Fails texts invocation u failed fault = IsCauseOf texts invocation u failed fault × IsQuiet fault u.old.output u.new.output
+abbrev pub FailsCommand : {S D T G : Type 0} → OptionTexts → InvocationRecord → Uses S D T G → Bool → CommandFault → Type 0
+FailsCommand texts (session cache bindings) u failed fault = IsServeEnd u.images cache bindings u.old u.new failed fault
+FailsCommand texts (nbd cache stack name bindings) u failed fault = IsClientEnd u.images (device_on stack name cache bindings) u.old u.new failed fault
+FailsCommand texts (scan stack name bindings) u failed fault = IsRecoveringEnd (IsScanEnd u.images (device_on stack name 64 bindings) u.old.output u.new.output failed) fault
+FailsCommand texts (copy stack name out bindings) u failed fault = IsRecoveringEnd (IsCopyEnd u.images (copy_on stack name out bindings) u.old.output u.new.output failed) fault
+FailsCommand texts (further w) u failed fault = FailsFurther texts w u failed fault
+FailsCommand texts invocation u failed fault = IsCauseOf texts invocation u failed fault × IsSilent fault u.old.output u.new.output
 
 -- the command of some words, and the values of its options
 pub record IsCommandOf (words : List (List ℕ)) (texts : OptionTexts) (invocation : InvocationRecord) : Type 0 where
@@ -78,7 +78,7 @@ pub record IsCommandOf (words : List (List ℕ)) (texts : OptionTexts) (invocati
 abbrev pub IsRunEnd : {S D T G : Type 0} → List (List ℕ) → Uses S D T G → Bool → CommandFault → Type 0
 IsRunEnd words u failed fault =
     (IsUsageEnd fault (IsNoCommand words) × (u.new ≡ u.old) × (u.images.new ≡ u.images.old))
-    ⊎ ((invocation : InvocationRecord) × (texts : OptionTexts) × IsCommandOf words texts invocation × Fails texts invocation u failed fault)
+    ⊎ ((invocation : InvocationRecord) × (texts : OptionTexts) × IsCommandOf words texts invocation × FailsCommand texts invocation u failed fault)
 
 -- the command's name is `cat`
 abbrev pub is_cat : List (List ℕ) → Bool
@@ -118,7 +118,7 @@ IsTold true fault old new told status = (new ≡ old) × IsToldElsewhere fault t
 
 -- A command ended early: its text is printed and its status answered, or that can't be written. Where the writer had
 -- failed before, that stays known.
-pub record EndsEarly {S D T G : Type 0} (words : List (List ℕ)) (u : Uses S D T G) (told : Told) (status : ℕ) : Type 0 where
+pub record EndsCommand {S D T G : Type 0} (words : List (List ℕ)) (u : Uses S D T G) (told : Told) (status : ℕ) : Type 0 where
   pub fault : CommandFault
   pub before : Streams
   pub unwritten : Bool
@@ -127,5 +127,5 @@ pub record EndsEarly {S D T G : Type 0} (words : List (List ℕ)) (u : Uses S D 
   pub told_so : IsTold (is_cat words) fault before.output u.new.output told status
 
 -- the command of some words succeeded
-abbrev pub IsDone : {S D T G : Type 0} → List (List ℕ) → Uses S D T G → Type 0
-IsDone words u = (invocation : InvocationRecord) × (texts : OptionTexts) × IsCommandOf words texts invocation × Succeeds texts invocation u
+abbrev pub IsCommandDone : {S D T G : Type 0} → List (List ℕ) → Uses S D T G → Type 0
+IsCommandDone words u = (invocation : InvocationRecord) × (texts : OptionTexts) × IsCommandOf words texts invocation × Succeeds texts invocation u

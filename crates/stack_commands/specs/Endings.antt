@@ -11,21 +11,21 @@ use Rattle.verity_commands.specs.Endings as verity
 use Rattle.verity_commands.specs.Texts.{verity_text}
 use Rattle.fec_commands.specs.FaultTexts.{fec_status, fec_text}
 use Rattle.partition_commands.specs.FaultTexts.{partitions_status, partitions_text}
-use Rattle.tree_commands.specs.FaultTexts.{tree_status, tree_text}
+use Rattle.tree_commands.specs.FaultTexts.{tree_status, tree_fault_text}
 use Rattle.rescue_files.specs.MapTexts.{map_fault_text}
 use Rattle.io_fault_text.specs.Texts.{io_text, no_memory, usage_text}
-use Rattle.stack_commands.specs.FaultTexts.{io_status, recovering_status, recovering_text, request_status, request_text, stack_text, stream_status, stream_text}
+use Rattle.stack_commands.specs.FaultTexts.{io_status, recovering_status, recovering_text, request_status, request_text, stack_fault_text, stream_status, stream_text}
 
 -- how a command ends where the words are none
-abbrev pub words_ending : WordsFault → CommandFault
-words_ending words.Usage = Usage
-words_ending words.NoMemory = NoMemory
+abbrev pub command_words_ending : WordsFault → CommandFault
+command_words_ending words.Usage = Usage
+command_words_ending words.NoMemory = NoMemory
 
 -- what is printed of it; the own faults of a session and of the service of a client print nothing, nor what an object said
 abbrev pub ending_text : CommandFault → List ℕ
 ending_text Usage = usage_text
 ending_text NoMemory = no_memory
-ending_text (Stack fault) = stack_text fault
+ending_text (Stack fault) = stack_fault_text fault
 ending_text (Request fault) = request_text fault
 ending_text (Io fault) = io_text fault
 ending_text (Recovering fault) = recovering_text fault
@@ -33,7 +33,7 @@ ending_text (Stream fault) = stream_text fault
 ending_text (Verity fault) = verity_text fault
 ending_text (Fec fault) = fec_text fault
 ending_text (Partitions fault) = partitions_text fault
-ending_text (Trees fault) = tree_text fault
+ending_text (Trees fault) = tree_fault_text fault
 ending_text LostAsSaid = []
 ending_text (Map fault) = map_fault_text fault
 ending_text (Session fault) = []
@@ -63,12 +63,12 @@ abbrev pub IsEnd : CommandFault → Option (List ℕ) → Option (List ℕ) → 
 IsEnd fault old new status = (status ≡ ending_status fault) × Appends old new (ending_text fault)
 
 -- a line can't be written: the writer failed
-abbrev pub IsUnwritten : Bool → CommandFault → Type 0
-IsUnwritten failed (Session fault) = (fault ≡ WriteFault) × (failed ≡ true)
-IsUnwritten failed fault = ⊥
+abbrev pub IsReplyUnwritten : Bool → CommandFault → Type 0
+IsReplyUnwritten failed (Session fault) = (fault ≡ WriteFault) × (failed ≡ true)
+IsReplyUnwritten failed fault = ⊥
 
 -- nothing is written ahead of what ends a command, unless it is the writing that fails
-abbrev pub IsQuiet : CommandFault → Option (List ℕ) → Option (List ℕ) → Type 0
-IsQuiet (Session fault) old new = Unit {0}
-IsQuiet (Verity fault) old new = verity.IsQuiet fault old new
-IsQuiet fault old new = new ≡ old
+abbrev pub IsSilent : CommandFault → Option (List ℕ) → Option (List ℕ) → Type 0
+IsSilent (Session fault) old new = Unit {0}
+IsSilent (Verity fault) old new = verity.IsVerityQuiet fault old new
+IsSilent fault old new = new ≡ old

@@ -18,7 +18,7 @@ use Rattle.recovery_commands.specs.Recovering.{counts_text}
 use Rattle.stack_streams.specs.declared.fault.StreamFault.{StreamFault}
 use Rattle.stack_streams.specs.declared.fault.StreamFault.TheVariants as stream
 use Rattle.stack_streams.specs.StreamTexts.{cat_status, cat_text, store_status, store_text}
-use Rattle.stack_session.specs.Texts.{fault_text, refusal_text, submit_text}
+use Rattle.stack_session.specs.Texts.{fault_text, load_refusal_text, submit_text}
 
 -- ---- of stacks
 
@@ -31,21 +31,21 @@ abbrev pub config_text : ConfigFault → List ℕ
 config_text config.NoMemory = no_memory
 config_text fault = refused_text (config_number fault) (config_name fault)
 
-abbrev pub stack_text : StackFault → List ℕ
-stack_text stack.NoMemory = no_memory
-stack_text stack.TooLong = codes "refused input\n"
-stack_text (stack.Open file) = open_text file
-stack_text (stack.Outside path) = outside_text path.now
-stack_text (stack.Leaves fault) = config_text fault
-stack_text (stack.Text fault) = fault_text fault
-stack_text (stack.Load refusal) = refusal_text refusal
-stack_text stack.NoSuchDevice = submit_text NoSuchDevice
+abbrev pub stack_fault_text : StackFault → List ℕ
+stack_fault_text stack.NoMemory = no_memory
+stack_fault_text stack.TooLong = codes "refused input\n"
+stack_fault_text (stack.Open file) = open_text file
+stack_fault_text (stack.Outside path) = outside_text path.now
+stack_fault_text (stack.Leaves fault) = config_text fault
+stack_fault_text (stack.Text fault) = fault_text fault
+stack_fault_text (stack.Load refusal) = load_refusal_text refusal
+stack_fault_text stack.NoSuchDevice = submit_text NoSuchDevice
 
 -- ---- of requests
 
 abbrev pub request_text : RequestFault → List ℕ
 request_text request.NoMemory = no_memory
-request_text (request.Stack fault) = stack_text fault
+request_text (request.Stack fault) = stack_fault_text fault
 request_text (request.Submit fault) = submit_text fault
 request_text (request.Io fault) = io_text fault
 
@@ -66,7 +66,7 @@ too_small_text needed = codes "refused 1 TooSmall needed " ++ (decimal needed ++
 
 abbrev pub recovering_text : RecoveringFault → List ℕ
 recovering_text recovering.NoMemory = no_memory
-recovering_text (recovering.Stack fault) = stack_text fault
+recovering_text (recovering.Stack fault) = stack_fault_text fault
 recovering_text (recovering.Lost read lost) = counts_text read lost
 recovering_text (recovering.OutputTooSmall needed) = too_small_text needed
 recovering_text recovering.OutputFailed = codes "refused 2 Device\n"
@@ -80,7 +80,7 @@ recovering_status fault = 1
 -- ---- of the bytes of a device
 
 abbrev pub stream_text : StreamFault → List ℕ
-stream_text (stream.Stack fault) = stack_text fault
+stream_text (stream.Stack fault) = stack_fault_text fault
 stream_text (stream.Cat fault) = cat_text fault
 stream_text (stream.Store fault) = store_text fault
 stream_text stream.Write = []

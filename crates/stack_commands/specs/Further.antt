@@ -18,7 +18,7 @@ use Rattle.partition_commands.specs.Invocations.{IsListingEnd, ListsPartitions}
 use Rattle.tree_commands.specs.Invocations.{DiffsTrees, IsDiffWordsEnd}
 use Rattle.stack_commands.specs.declared.fault.CommandFault.{CommandFault}
 use Rattle.stack_commands.specs.declared.fault.CommandFault.TheVariants.{Fec, Partitions, Usage}
-use Rattle.stack_commands.specs.Endings.{IsQuiet, IsUnwritten}
+use Rattle.stack_commands.specs.Endings.{IsSilent, IsReplyUnwritten}
 use Rattle.stack_commands.specs.MappedCopies.{IsMappedCopyEnd, IsMappedScanEnd, PrintsMappedCopy, PrintsMappedScan, ScansByMap}
 use Rattle.recovery_commands.specs.Copies.{CopyWords, IsCopyEnd, PrintsCopy, copy_words}
 use Rattle.recovery_commands.specs.Scans.{IsScanEnd, PrintsScan, Scans}
@@ -28,11 +28,11 @@ use Rattle.stack_streams.specs.Streaming.{IsBytesEnd, IsStoringEnd, PrintsBytes,
 use Rattle.stack_commands.specs.ScanObjects.{IsMappedObjectEnd, IsScanObjectEnd, PrintsScanObject}
 use Rattle.stack_commands.specs.ManyExports.{IsExportsEnd, ServesExports}
 use Rattle.stack_commands.specs.StackCommands.{IsListEnd, PrintsDevices, device_on, on}
-use Rattle.verity_commands.specs.Placed.{DumpsAt, FormatsAt, IsDumpEnd, IsFormatEnd, IsTableEnd, PrintsEntry}
-use Rattle.verity_commands.specs.Trees.{FormatsTree, IsFormatTreeEnd, IsTableTreeEnd, IsVerifyTreeEnd, PrintsTreeEntry, VerifiesTree}
+use Rattle.verity_commands.specs.Placed.{DumpsAt, FormatsAt, IsDumpEnd, IsSaidFormatEnd, IsTableEnd, PrintsEntry}
+use Rattle.verity_commands.specs.Trees.{FormatsSaidTree, IsSaidFormatTreeEnd, IsTableTreeEnd, IsVerifyTreeEnd, PrintsTreeEntry, VerifiesSaidTree}
 use Rattle.stack_commands.specs.Repairing.{IsRepairWordsEnd, RepairsImage}
 use Rattle.stack_commands.specs.Uses.{IsRecoveringEnd, IsStreamEnd, IsTreesEnd, IsVerityEnd, Uses}
-use Rattle.stack_commands.specs.Verifying.{ChecksImage, IsCheckEnd}
+use Rattle.stack_commands.specs.Verifying.{ChecksImage, IsCheckCommandEnd}
 
 -- ---- partitions, and trees that are compared
 
@@ -52,15 +52,15 @@ abbrev pub ListsDevices : {S D : Type 0} → Calls S D → LoadRecord → Option
 ListsDevices w l old new = PrintsDevices l.json w (on l.stack l.bindings) old new
 
 abbrev pub IsLoadWordsEnd : {S D : Type 0} → Calls S D → LoadRecord → Option (List ℕ) → Option (List ℕ) → Bool → CommandFault → Type 0
-IsLoadWordsEnd w l old new failed fault = IsListEnd w (on l.stack l.bindings) failed fault × IsQuiet fault old new
+IsLoadWordsEnd w l old new failed fault = IsListEnd w (on l.stack l.bindings) failed fault × IsSilent fault old new
 
 -- ---- bytes of a device
 
 abbrev pub CatsSectors : {S D : Type 0} → Calls S D → CatRecord → Option (List ℕ) → Option (List ℕ) → Type 0
 CatsSectors w c old new = PrintsBytes w (device_on c.stack c.name c.cache c.bindings) c.first c.count old new
 
-abbrev pub IsCatEnd : {S D : Type 0} → Calls S D → CatRecord → Option (List ℕ) → Option (List ℕ) → Bool → CommandFault → Type 0
-IsCatEnd w c old new failed fault = IsStreamEnd (IsBytesEnd w (device_on c.stack c.name c.cache c.bindings) c.first c.count old new failed) fault
+abbrev pub IsCatCommandEnd : {S D : Type 0} → Calls S D → CatRecord → Option (List ℕ) → Option (List ℕ) → Bool → CommandFault → Type 0
+IsCatCommandEnd w c old new failed fault = IsStreamEnd (IsBytesEnd w (device_on c.stack c.name c.cache c.bindings) c.first c.count old new failed) fault
 
 -- the source `-` is the input; another one is a file, and nothing is read of the input then
 abbrev pub BySource : StoreRecord → Type 0 → Type 0 → Type 0
@@ -74,8 +74,8 @@ StoresSectors w s old new = BySource s
     (PrintsStored w (device_on s.stack s.name s.cache s.bindings) s.first old new)
     ((new.input ≡ old.input) × PrintsFileStored w (stored_words s) old.output new.output)
 
-abbrev pub IsStoreEnd : {S D : Type 0} → Calls S D → StoreRecord → Streams → Streams → Bool → CommandFault → Type 0
-IsStoreEnd w s old new failed fault = BySource s
+abbrev pub IsStoreCommandEnd : {S D : Type 0} → Calls S D → StoreRecord → Streams → Streams → Bool → CommandFault → Type 0
+IsStoreCommandEnd w s old new failed fault = BySource s
     (IsStreamEnd (IsStoringEnd w (device_on s.stack s.name s.cache s.bindings) s.first old new failed) fault)
     ((new.input ≡ old.input) × IsStreamEnd (IsFileEnd w (stored_words s) old.output new.output failed) fault)
 
@@ -105,12 +105,12 @@ IsScanWordsEnd w s old new failed fault = IsScanEndBy s.map s.json w (device_on 
 abbrev pub copied : CopyRecord → CopyWords
 copied c = copy_words (device_on c.stack c.name c.cache c.bindings) c.out c.differing
 
-abbrev pub CopiesBy : {S D : Type 0} → Option (List ℕ) → Calls S D → CopyWords → Option (List ℕ) → Option (List ℕ) → Type 0
-CopiesBy None w words old new = PrintsCopy w words old new
-CopiesBy (Some map) w words old new = PrintsMappedCopy w words map old new
+abbrev pub CopiesWithMap : {S D : Type 0} → Option (List ℕ) → Calls S D → CopyWords → Option (List ℕ) → Option (List ℕ) → Type 0
+CopiesWithMap None w words old new = PrintsCopy w words old new
+CopiesWithMap (Some map) w words old new = PrintsMappedCopy w words map old new
 
 abbrev pub CopiesSectors : {S D : Type 0} → Calls S D → CopyRecord → Option (List ℕ) → Option (List ℕ) → Type 0
-CopiesSectors w c old new = CopiesBy c.map w (copied c) old new
+CopiesSectors w c old new = CopiesWithMap c.map w (copied c) old new
 
 abbrev pub IsCopyEndBy : {S D : Type 0} → Option (List ℕ) → Calls S D → CopyWords → Option (List ℕ) → Option (List ℕ) → Bool → CommandFault → Type 0
 IsCopyEndBy None w words old new failed fault = IsRecoveringEnd (IsCopyEnd w words old new failed) fault
@@ -135,7 +135,7 @@ ShowsPage u = ((text : List ℕ) × Appends u.old.output u.new.output text) × (
 
 -- there is no such page, or it can't be written
 abbrev pub IsPageEnd : Option (List ℕ) → Option (List ℕ) → Bool → CommandFault → Type 0
-IsPageEnd old new failed fault = ((fault ≡ Usage) × (new ≡ old)) ⊎ IsUnwritten failed fault
+IsPageEnd old new failed fault = ((fault ≡ Usage) × (new ≡ old)) ⊎ IsReplyUnwritten failed fault
 
 -- ---- all of them
 
@@ -155,8 +155,8 @@ SucceedsFurther texts (copy c) u = CopiesSectors u.images c u.old.output u.new.o
 SucceedsFurther texts (exports e) u = ServesDevices u.images e u.old u.new
 SucceedsFurther texts (manual command) u = ShowsPage u
 SucceedsFurther texts version u = ShowsPage u
-SucceedsFurther texts (format_tree f) u = FormatsTree texts u.images u.drawing f u.old.output u.new.output
-SucceedsFurther texts (verify_tree v) u = VerifiesTree texts u.images v u.old.output u.new.output
+SucceedsFurther texts (format_tree f) u = FormatsSaidTree texts u.images u.drawing f u.old.output u.new.output
+SucceedsFurther texts (verify_tree v) u = VerifiesSaidTree texts u.images v u.old.output u.new.output
 SucceedsFurther texts (table_tree t) u = PrintsTreeEntry texts u.images t u.old.output u.new.output
 SucceedsFurther texts (format_fec f) u = FormatsFec texts u.images u.drawing f u.old.output u.new.output
 SucceedsFurther texts (verify_fec v) u = VerifiesFec u.images v u.old.output u.new.output
@@ -165,10 +165,10 @@ SucceedsFurther texts (repair r) u = RepairsImage u.images r u.old.output u.new.
 -- how each ends early, where the last but one says whether the writer failed
 abbrev pub FailsFurther : {S D T G : Type 0} → OptionTexts → FurtherRecord → Uses S D T G → Bool → CommandFault → Type 0
 FailsFurther texts (load l) u failed fault = IsLoadWordsEnd u.images l u.old.output u.new.output failed fault
-FailsFurther texts (cat c) u failed fault = IsCatEnd u.images c u.old.output u.new.output failed fault
-FailsFurther texts (store s) u failed fault = IsStoreEnd u.images s u.old u.new failed fault
-FailsFurther texts (format f) u failed fault = IsVerityEnd (IsFormatEnd texts u.images u.drawing f u.old.output u.new.output failed) fault
-FailsFurther texts (verify v) u failed fault = IsCheckEnd u.images v u.old.output u.new.output failed fault
+FailsFurther texts (cat c) u failed fault = IsCatCommandEnd u.images c u.old.output u.new.output failed fault
+FailsFurther texts (store s) u failed fault = IsStoreCommandEnd u.images s u.old u.new failed fault
+FailsFurther texts (format f) u failed fault = IsVerityEnd (IsSaidFormatEnd texts u.images u.drawing f u.old.output u.new.output failed) fault
+FailsFurther texts (verify v) u failed fault = IsCheckCommandEnd u.images v u.old.output u.new.output failed fault
 FailsFurther texts (dump d) u failed fault = IsVerityEnd (IsDumpEnd u.images d u.old.output u.new.output failed) fault
 FailsFurther texts (table t) u failed fault = IsVerityEnd (IsTableEnd u.images t u.old.output u.new.output failed) fault
 FailsFurther texts (partitions p) u failed fault = IsPartitionsEnd (IsListingEnd u.images p failed) fault
@@ -178,7 +178,7 @@ FailsFurther texts (copy c) u failed fault = IsCopyWordsEnd u.images c u.old.out
 FailsFurther texts (exports e) u failed fault = IsExportsWordsEnd u.images e u.old u.new failed fault
 FailsFurther texts (manual command) u failed fault = IsPageEnd u.old.output u.new.output failed fault × (u.images.new ≡ u.images.old)
 FailsFurther texts version u failed fault = IsPageEnd u.old.output u.new.output failed fault × (u.images.new ≡ u.images.old)
-FailsFurther texts (format_tree f) u failed fault = IsVerityEnd (IsFormatTreeEnd texts u.images u.drawing f u.old.output u.new.output failed) fault
+FailsFurther texts (format_tree f) u failed fault = IsVerityEnd (IsSaidFormatTreeEnd texts u.images u.drawing f u.old.output u.new.output failed) fault
 FailsFurther texts (verify_tree v) u failed fault = IsVerityEnd (IsVerifyTreeEnd texts u.images v u.old.output u.new.output failed) fault
 FailsFurther texts (table_tree t) u failed fault = IsVerityEnd (IsTableTreeEnd texts u.images t u.old.output u.new.output failed) fault
 FailsFurther texts (format_fec f) u failed fault = IsFecEnd (IsFormatFecEnd texts u.images u.drawing f u.old.output u.new.output failed) fault

@@ -9,9 +9,9 @@ use Rattle.stack_recovery.specs.declared.recovery.Counts.{Counts}
 use Rattle.stack_recovery.specs.Recoveries.{Sides, sides}
 use Rattle.rescue_files.specs.declared.by_map.UnkeptMap.{UnkeptMap}
 use Rattle.rescue_files.specs.ByMap.{IsMapEnd, IsRescued, IsUnrescued, Moving, moving}
-use Rattle.recovery_commands.specs.Copies.{CopyWords, IsSeenAs, IsUncopied}
+use Rattle.recovery_commands.specs.Copies.{CopyWords, IsOutputSeenAs, IsOutputUncopied}
 use Rattle.recovery_commands.specs.Recovering.{IsCountsEnd, TellsCounts}
-use Rattle.stack_making.specs.NamedDevices.{DeviceWords, FailsToFindDevice, Finds, FindsOutput, Place}
+use Rattle.stack_making.specs.NamedDevices.{DeviceWords, FailsToFindDevice, FindsDevice, FindsOutput, DevicePlace}
 use Rattle.stack_commands.specs.declared.fault.CommandFault.{CommandFault}
 use Rattle.stack_commands.specs.declared.fault.CommandFault.TheVariants.{Map}
 use Rattle.stack_commands.specs.Uses.{IsRecoveringEnd, IsStackEnd}
@@ -25,11 +25,11 @@ IsUnkeptEnd Ends fault = ⊥
 
 -- the device was gone over by its map
 pub record ScansByMap {S D : Type 0} (w : Calls S D) (words : DeviceWords) (map : List ℕ) (old : Option (List ℕ)) (counts : Counts) (printed : Option (List ℕ)) : Type 0 where
-  pub at : Place
+  pub at : DevicePlace
   pub out : Device
   pub left : Sides
   pub between : S
-  pub found : Finds (record w { new = between }) words at
+  pub found : FindsDevice (record w { new = between }) words at
   pub rescued : IsRescued (record w { old = between }) map at.d (moving (sides at.stack out old) left) counts
   pub same : left.printed ≡ printed
 
@@ -41,12 +41,12 @@ pub record PrintsMappedScan {S D : Type 0} (w : Calls S D) (words : DeviceWords)
   pub told : TellsCounts counts printed new
 
 -- the map isn't read, or the going over ended early
-pub record CutsScan {S D : Type 0} (w : Calls S D) (words : DeviceWords) (map : List ℕ) (old new : Option (List ℕ)) (failed : Bool) (end : UnkeptMap) : Type 0 where
-  pub at : Place
+pub record CutsMappedScan {S D : Type 0} (w : Calls S D) (words : DeviceWords) (map : List ℕ) (old new : Option (List ℕ)) (failed : Bool) (end : UnkeptMap) : Type 0 where
+  pub at : DevicePlace
   pub out : Device
   pub left : Sides
   pub between : S
-  pub found : Finds (record w { new = between }) words at
+  pub found : FindsDevice (record w { new = between }) words at
   pub fails : IsMapEnd map (IsUnrescued (record w { old = between }) map at.d (moving (sides at.stack out old) left) failed) end
   pub same : left.printed ≡ new
 
@@ -60,7 +60,7 @@ pub record LosesByMap {S D : Type 0} (w : Calls S D) (words : DeviceWords) (map 
 abbrev pub IsMappedScanEnd : {S D : Type 0} → Calls S D → DeviceWords → List ℕ → Option (List ℕ) → Option (List ℕ) → Bool → CommandFault → Type 0
 IsMappedScanEnd w words map old new failed fault =
     ((new ≡ old) × IsStackEnd (FailsToFindDevice w words) fault)
-    ⊎ (IsUnkeptEnd (CutsScan w words map old new failed) fault ⊎ LosesByMap w words map old new failed fault)
+    ⊎ (IsUnkeptEnd (CutsMappedScan w words map old new failed) fault ⊎ LosesByMap w words map old new failed fault)
 
 -- ---- `copy --map`
 
@@ -68,21 +68,21 @@ IsMappedScanEnd w words map old new failed fault =
 pub record CopiesByMap {S D : Type 0} (is_differing : Bool) (w : Calls S D) (map : List ℕ) (d : ℕ) (m : Moving) (counts : Counts) : Type 0 where
   pub seen : Device
   pub left : Device
-  pub begun : IsSeenAs is_differing m.old.out seen
+  pub begun : IsOutputSeenAs is_differing m.old.out seen
   pub rescued : IsRescued w map d (moving (record m.old { out = seen }) (record m.new { out = left })) counts
-  pub ended : IsSeenAs is_differing m.new.out left
+  pub ended : IsOutputSeenAs is_differing m.new.out left
 
 -- the map isn't read, or the going over ended early
 pub record CutsCopying {S D : Type 0} (is_differing : Bool) (w : Calls S D) (map : List ℕ) (d : ℕ) (m : Moving) (failed : Bool) (fault : RescueFault) : Type 0 where
   pub seen : Device
   pub left : Device
-  pub begun : IsSeenAs is_differing m.old.out seen
+  pub begun : IsOutputSeenAs is_differing m.old.out seen
   pub fails : IsUnrescued w map d (moving (record m.old { out = seen }) (record m.new { out = left })) failed fault
-  pub ended : IsSeenAs is_differing m.new.out left
+  pub ended : IsOutputSeenAs is_differing m.new.out left
 
 -- what was had went to OUT's image, which was given back
 pub record MapCopies {S D : Type 0} (w : Calls S D) (words : CopyWords) (map : List ℕ) (old : Option (List ℕ)) (counts : Counts) (printed : Option (List ℕ)) : Type 0 where
-  pub at : Place
+  pub at : DevicePlace
   pub image : OpenImage D
   pub image' : D
   pub left : StackRecord
@@ -100,7 +100,7 @@ pub record PrintsMappedCopy {S D : Type 0} (w : Calls S D) (words : CopyWords) (
 
 -- it ended early, and what then stood in the image was given back
 pub record CutsCopy {S D : Type 0} (w : Calls S D) (words : CopyWords) (map : List ℕ) (old new : Option (List ℕ)) (failed : Bool) (end : UnkeptMap) : Type 0 where
-  pub at : Place
+  pub at : DevicePlace
   pub image : OpenImage D
   pub image' : D
   pub left : StackRecord
@@ -119,4 +119,4 @@ pub record LosesInMapCopy {S D : Type 0} (w : Calls S D) (words : CopyWords) (ma
 
 abbrev pub IsMappedCopyEnd : {S D : Type 0} → Calls S D → CopyWords → List ℕ → Option (List ℕ) → Option (List ℕ) → Bool → CommandFault → Type 0
 IsMappedCopyEnd w words map old new failed fault =
-    ((new ≡ old) × IsRecoveringEnd (IsUncopied w words.words words.out) fault) ⊎ (IsUnkeptEnd (CutsCopy w words map old new failed) fault ⊎ LosesInMapCopy w words map old new failed fault)
+    ((new ≡ old) × IsRecoveringEnd (IsOutputUncopied w words.words words.out) fault) ⊎ (IsUnkeptEnd (CutsCopy w words map old new failed) fault ⊎ LosesInMapCopy w words map old new failed fault)

@@ -8,14 +8,14 @@ use Rattle.rescue_files.specs.declared.fault.RescueFault.TheVariants as rescue
 use Rattle.stack_json.specs.Lost.{lost_json}
 use Rattle.stack_recovery.specs.declared.lost_run.LostRun.{LostRun}
 use Rattle.stack_recovery.specs.declared.recovery.Counts.{Counts}
-use Rattle.stack_recovery.specs.Texts.{runs_text}
+use Rattle.stack_recovery.specs.Texts.{lost_text}
 use Rattle.stack_session.specs.declared.fault.SessionFault.TheVariants.{WriteFault}
 use Rattle.rescue_files.specs.declared.by_map.UnkeptMap.{UnkeptMap}
 use Rattle.recovery_commands.specs.Scans.{IsLostEnd, Scans}
 use Rattle.stack_making.specs.NamedDevices.{DeviceWords, FailsToFindDevice}
 use Rattle.stack_commands.specs.declared.fault.CommandFault.{CommandFault}
 use Rattle.stack_commands.specs.declared.fault.CommandFault.TheVariants.{LostAsSaid, NoMemory, Session}
-use Rattle.stack_commands.specs.MappedCopies.{CutsScan, IsUnkeptEnd, ScansByMap}
+use Rattle.stack_commands.specs.MappedCopies.{CutsMappedScan, IsUnkeptEnd, ScansByMap}
 use Rattle.stack_commands.specs.Uses.{IsRecoveringEnd, IsStackEnd}
 
 -- a run that isn't kept in memory is want of it
@@ -23,16 +23,16 @@ abbrev pub unkept_fault : RescueFault → RescueFault
 unkept_fault rescue.Write = rescue.NoMemory
 unkept_fault fault = fault
 
-abbrev pub unkept : UnkeptMap → UnkeptMap
-unkept end = record { path = end.path; fault = unkept_fault end.fault }
+abbrev pub unkept_map : UnkeptMap → UnkeptMap
+unkept_map end = record { path = end.path; fault = unkept_fault end.fault }
 
 -- what was gone over said these runs, and one object was printed of them and of the counts
 abbrev pub PrintsLost : List LostRun → Counts → Option (List ℕ) → Option (List ℕ) → Type 0
 PrintsLost runs counts old new = Appends old new (json_line (lost_json runs counts))
 
 -- that cause, of a map
-abbrev pub IsUnkept : (UnkeptMap → Type 0) → UnkeptMap → Type 0
-IsUnkept Ends end = (cause : UnkeptMap) × Ends cause × (end ≡ unkept cause)
+abbrev pub IsMapUnkept : (UnkeptMap → Type 0) → UnkeptMap → Type 0
+IsMapUnkept Ends end = (cause : UnkeptMap) × Ends cause × (end ≡ unkept_map cause)
 
 -- ---- of a way to go over a device, which says what it printed before and after
 
@@ -43,7 +43,7 @@ Way = Option (List ℕ) → Counts → Option (List ℕ) → Type 0
 pub record PrintsScanObject (Gone : Way) (old new : Option (List ℕ)) : Type 0 where
   pub counts : Counts
   pub runs : List LostRun
-  pub gone : Gone (Some []) counts (Some (runs_text runs))
+  pub gone : Gone (Some []) counts (Some (lost_text runs))
   pub none : counts.lost ≡ 0
   pub printed : PrintsLost runs counts old new
 
@@ -57,7 +57,7 @@ IsObjectEnd runs counts old new failed fault = ⊥
 pub record LosesInObject (Gone : Way) (old new : Option (List ℕ)) (failed : Bool) (fault : CommandFault) : Type 0 where
   pub counts : Counts
   pub runs : List LostRun
-  pub gone : Gone (Some []) counts (Some (runs_text runs))
+  pub gone : Gone (Some []) counts (Some (lost_text runs))
   pub ends : IsObjectEnd runs counts old new failed fault
 
 -- ---- without a map file, and with one
@@ -71,8 +71,8 @@ pub record CutsObject {S D : Type 0} (w : Calls S D) (words : DeviceWords) (map 
   pub kept : Option (List ℕ)
   pub failed : Bool
   pub cause : UnkeptMap
-  pub cuts : CutsScan w words map (Some []) kept failed cause
-  pub is : end ≡ unkept cause
+  pub cuts : CutsMappedScan w words map (Some []) kept failed cause
+  pub is : end ≡ unkept_map cause
 
 abbrev pub IsMappedObjectEnd : {S D : Type 0} → Calls S D → DeviceWords → List ℕ → Option (List ℕ) → Option (List ℕ) → Bool → CommandFault → Type 0
 IsMappedObjectEnd w words map old new failed fault =

@@ -32,7 +32,7 @@ use Rattle.stack_making.specs.Closings.{GivesBack}
 use Rattle.stack_making.specs.NamedDevices.{DeviceWords, device_words}
 use Rattle.stack_making.specs.StacksOfTexts.{Configures, FailsToLoadFile, Loads}
 use Rattle.stack_opening.specs.OpenStacks.{StackWords}
-use Rattle.stack_commands.specs.Endings.{IsUnwritten}
+use Rattle.stack_commands.specs.Endings.{IsReplyUnwritten}
 use Rattle.stack_commands.specs.Uses.{IsRequestEnd, IsStackEnd}
 
 abbrev pub on : List ℕ → List BindingRecord → StackWords
@@ -50,14 +50,14 @@ pub record PrintsDevices {S D : Type 0} (json : Bool) (w : Calls S D) (words : S
   pub printed : Appends old new (load_text json config)
 
 -- the devices of the one that is made aren't printed
-pub record FailsToList {S D : Type 0} (w : Calls S D) (words : StackWords) (failed : Bool) (fault : CommandFault) : Type 0 where
+pub record FailsToListDevices {S D : Type 0} (w : Calls S D) (words : StackWords) (failed : Bool) (fault : CommandFault) : Type 0 where
   pub config : Configuration
   pub made : Configures w words config
-  pub why : (fault ≡ NoMemory) ⊎ IsUnwritten failed fault
+  pub why : (fault ≡ NoMemory) ⊎ IsReplyUnwritten failed fault
 
 -- that, or the text makes none
 abbrev pub IsListEnd : {S D : Type 0} → Calls S D → StackWords → Bool → CommandFault → Type 0
-IsListEnd w words failed fault = IsStackEnd (FailsToLoadFile w words) fault ⊎ FailsToList w words failed fault
+IsListEnd w words failed fault = IsStackEnd (FailsToLoadFile w words) fault ⊎ FailsToListDevices w words failed fault
 
 -- ---- `read`
 
@@ -70,7 +70,7 @@ pub record PrintsReply {S D : Type 0} (w : Calls S D) (words : StackWords) (cach
 -- it isn't served, or what it gave isn't printed
 abbrev pub IsReadEnd : {S D : Type 0} → Calls S D → StackWords → ℕ → RequestRecord → Bool → CommandFault → Type 0
 IsReadEnd w words cache request failed fault =
-    IsRequestEnd (FailsToRead w words cache request) fault ⊎ ((reply : Reply) × ReadsSectors w words cache request reply × IsUnwritten failed fault)
+    IsRequestEnd (FailsToRead w words cache request) fault ⊎ ((reply : Reply) × ReadsSectors w words cache request reply × IsReplyUnwritten failed fault)
 
 -- ---- `write`
 
@@ -80,7 +80,7 @@ PrintsWritten w words old new = PutsBack w words (Ok tt) × Appends old new writ
 
 -- they weren't, or that can't be printed
 abbrev pub IsWriteEnd : {S D : Type 0} → Calls S D → PutWords → Bool → CommandFault → Type 0
-IsWriteEnd w words failed fault = IsRequestEnd (IsPutEnd w words) fault ⊎ (PutsBack w words (Ok tt) × IsUnwritten failed fault)
+IsWriteEnd w words failed fault = IsRequestEnd (IsPutEnd w words) fault ⊎ (PutsBack w words (Ok tt) × IsReplyUnwritten failed fault)
 
 -- ---- `session`
 
@@ -91,7 +91,7 @@ IsSyncEnd Done fault = ⊥
 
 -- The replies to the lines of the input, over no mapped device at first, with so many hash blocks kept. What then stood in the images was given back,
 -- synced or not.
-pub record Serves {S D : Type 0} (w : Calls S D) (cache : ℕ) (bindings : List BindingRecord) (old new : Streams) (outcome : Result Unit SessionFault) (synced : Result Unit IoFault) : Type 0 where
+pub record ServesSession {S D : Type 0} (w : Calls S D) (cache : ℕ) (bindings : List BindingRecord) (old new : Streams) (outcome : Result Unit SessionFault) (synced : Result Unit IoFault) : Type 0 where
   pub stack : StackRecord
   pub last : World
   pub between : S
@@ -103,8 +103,8 @@ pub record Serves {S D : Type 0} (w : Calls S D) (cache : ℕ) (bindings : List 
 -- own fault, as a failure of the writer; or all was served, and then an image isn't synced.
 abbrev pub IsServeEnd : {S D : Type 0} → Calls S D → ℕ → List BindingRecord → Streams → Streams → Bool → CommandFault → Type 0
 IsServeEnd w cache bindings old new failed (Session fault) =
-    ((synced : Result Unit IoFault) × Serves w cache bindings old new (Err fault) synced) × (fault ≡ WriteFault → failed ≡ true)
-IsServeEnd w cache bindings old new failed (Io fault) = Serves w cache bindings old new (Ok tt) (Err fault)
+    ((synced : Result Unit IoFault) × ServesSession w cache bindings old new (Err fault) synced) × (fault ≡ WriteFault → failed ≡ true)
+IsServeEnd w cache bindings old new failed (Io fault) = ServesSession w cache bindings old new (Ok tt) (Err fault)
 IsServeEnd w cache bindings old new failed (Stack fault) = (new ≡ old) × FailsToStand w bindings fault
 IsServeEnd w cache bindings old new failed fault = ⊥
 

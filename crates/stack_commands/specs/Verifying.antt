@@ -5,7 +5,7 @@ use Rattle.image_files.specs.Opener.{Calls}
 use Rattle.tree_commands.specs.declared.fault.TreeFault.{TreeFault}
 use Rattle.tree_commands.specs.Invocations.{IsSurveyWordsEnd, SurveysAt}
 use Rattle.verity_commands.specs.Endings.{IsImageEnd}
-use Rattle.verity_commands.specs.Placed.{IsVerifyEnd, VerifiesAt}
+use Rattle.verity_commands.specs.Placed.{IsSaidVerifyEnd, VerifiesAt}
 use Rattle.verity_commands.specs.Places.{IsRootEnd, TellsRoot}
 use Rattle.stack_commands.specs.declared.fault.CommandFault.{CommandFault}
 use Rattle.stack_commands.specs.Uses.{IsTreesEnd, IsVerityEnd}
@@ -32,5 +32,5 @@ IsGoingOverEnd w v old new failed fault =
 abbrev pub ChecksImage : {S D : Type 0} → Calls S D → VerifyRecord → Option (List ℕ) → Option (List ℕ) → Type 0
 ChecksImage w v old new = ((v.all ≡ true) × GoesOverImage w v old new) ⊎ VerifiesAt w v old new
 
-abbrev pub IsCheckEnd : {S D : Type 0} → Calls S D → VerifyRecord → Option (List ℕ) → Option (List ℕ) → Bool → CommandFault → Type 0
-IsCheckEnd w v old new failed fault = ((v.all ≡ true) × IsGoingOverEnd w v old new failed fault) ⊎ IsVerityEnd (IsVerifyEnd w v old new failed) fault
+abbrev pub IsCheckCommandEnd : {S D : Type 0} → Calls S D → VerifyRecord → Option (List ℕ) → Option (List ℕ) → Bool → CommandFault → Type 0
+IsCheckCommandEnd w v old new failed fault = ((v.all ≡ true) × IsGoingOverEnd w v old new failed fault) ⊎ IsVerityEnd (IsSaidVerifyEnd w v old new failed) fault

@@ -2,7 +2,7 @@
 ghost use Rattle.std.specs.Prelude.{◌≡◌};
 ghost use Rattle.stack_commands.specs.declared.fault.CommandFault.TheVariants as command_fault;
 ghost use Rattle.stack_session.specs.declared.fault.SessionFault.TheVariants as session_fault;
-ghost use Rattle.stack_commands.specs.Endings.{words_ending};
+ghost use Rattle.stack_commands.specs.Endings.{command_words_ending};
 
 use command_line::WordsFault;
 use counted_io::WriteFault;
@@ -72,7 +72,7 @@ impl<T: Drop> From<AllocFailed<T>> for CommandFault<'_> {
 }
 
 impl From<WordsFault> for CommandFault<'_> {
-    ghost from_gives = { λ fault given. given ≡ words_ending fault };
+    ghost from_gives = { λ fault given. given ≡ command_words_ending fault };
 
     fn from(fault: WordsFault) -> Self {
         match fault {

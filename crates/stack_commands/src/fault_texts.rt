@@ -1,7 +1,7 @@
 //! What is printed of faults of stacks, of requests, of devices that are gone over, and of their bytes; and the statuses.
 ghost use Rattle.std.specs.Prelude.{◌≡◌};
 ghost use Rattle.counted_io.specs.Counted.{Writes};
-ghost use Rattle.stack_commands.specs.FaultTexts.{config_text, io_status, outside_text, recovering_status, recovering_text, request_status, request_text, stack_text, stream_status, stream_text, too_small_text};
+ghost use Rattle.stack_commands.specs.FaultTexts.{config_text, io_status, outside_text, recovering_status, recovering_text, request_status, request_text, stack_fault_text, stream_status, stream_text, too_small_text};
 
 use counted_io::{Counted, WriteFault};
 use io_fault_text::{say_io_fault, say_no_memory, say_refused, say_unopened};
@@ -24,7 +24,7 @@ pub fn say_stack_fault<W: Write>(
     writer: &mut Counted<W>,
     fault: StackFault<'_>,
 ) -> Result<(), WriteFault>
-    ensures { Writes W.contents writer.old writer.new (stack_text fault.entry) result }
+    ensures { Writes W.contents writer.old writer.new (stack_fault_text fault.entry) result }
 {
     match fault {
         StackFault::NoMemory => say_no_memory(writer),

@@ -12,7 +12,7 @@ ghost use Rattle.command_line.specs.words.Scan.{scan_record};
 ghost use Rattle.command_line.specs.words.Store.{store_record};
 ghost use Rattle.image_commands.specs.Drawing.{drawing};
 ghost use Rattle.image_files.specs.Opener.{calls};
-ghost use Rattle.stack_commands.specs.Further.{CatsSectors, CopiesSectors, FailsFurther, IsCatEnd, IsCopyWordsEnd, IsExportsWordsEnd, IsLoadWordsEnd, IsPageEnd, IsScanWordsEnd, IsStoreEnd, ListsDevices, ScansSectors, ServesDevices, StoresSectors, SucceedsFurther};
+ghost use Rattle.stack_commands.specs.Further.{CatsSectors, CopiesSectors, FailsFurther, IsCatCommandEnd, IsCopyWordsEnd, IsExportsWordsEnd, IsLoadWordsEnd, IsPageEnd, IsScanWordsEnd, IsStoreCommandEnd, ListsDevices, ScansSectors, ServesDevices, StoresSectors, SucceedsFurther};
 ghost use Rattle.stack_commands.specs.Uses.{uses};
 
 use crate::fault::CommandFault;
@@ -142,7 +142,7 @@ fn invoke_cat<'a, I: Images, W: Write, P: Progress>(
     progress: &mut P,
 ) -> Result<(), CommandFault<'a>>
     ensures ok { OnOk result (CatsSectors (calls I.relations I.Dev.state images.old images.new) (cat_record words.entry) (W.contents writer.old.inner) (W.contents writer.new.inner)) }
-    ensures err { IfErr result (IsCatEnd (calls I.relations I.Dev.state images.old images.new) (cat_record words.entry) (W.contents writer.old.inner) (W.contents writer.new.inner) writer.new.failed) }
+    ensures err { IfErr result (IsCatCommandEnd (calls I.relations I.Dev.state images.old images.new) (cat_record words.entry) (W.contents writer.old.inner) (W.contents writer.new.inner) writer.new.failed) }
 {
     let CatWords {
         cache,
@@ -176,7 +176,7 @@ fn invoke_store<'a, I: Images, S: Read, W: Write, P: Progress>(
     progress: &mut P,
 ) -> Result<(), CommandFault<'a>>
     ensures ok { OnOk result (StoresSectors (calls I.relations I.Dev.state images.old images.new) (store_record words.entry) (streams (S.remaining reader.old.inner) (W.contents writer.old.inner)) (streams (S.remaining reader.new.inner) (W.contents writer.new.inner))) }
-    ensures err { IfErr result (IsStoreEnd (calls I.relations I.Dev.state images.old images.new) (store_record words.entry) (streams (S.remaining reader.old.inner) (W.contents writer.old.inner)) (streams (S.remaining reader.new.inner) (W.contents writer.new.inner)) writer.new.failed) }
+    ensures err { IfErr result (IsStoreCommandEnd (calls I.relations I.Dev.state images.old images.new) (store_record words.entry) (streams (S.remaining reader.old.inner) (W.contents writer.old.inner)) (streams (S.remaining reader.new.inner) (W.contents writer.new.inner)) writer.new.failed) }
 {
     let StoreWords {
         cache,

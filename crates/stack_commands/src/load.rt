@@ -4,7 +4,7 @@ ghost use Rattle.std.specs.Io.KnownBytes.{Appends};
 ghost use Rattle.image_files.specs.Opener.{calls};
 ghost use Rattle.stack_json.specs.Lines.{load_text};
 ghost use Rattle.stack_opening.specs.OpenStacks.{stack_words};
-ghost use Rattle.stack_commands.specs.Endings.{IsQuiet, IsUnwritten};
+ghost use Rattle.stack_commands.specs.Endings.{IsSilent, IsReplyUnwritten};
 ghost use Rattle.stack_commands.specs.StackCommands.{IsListEnd, PrintsDevices};
 
 use crate::fault::CommandFault;
@@ -28,7 +28,7 @@ pub fn load_stack_file<'a, I: Images, W: Write>(
 ) -> Result<(), CommandFault<'a>>
     ensures ok { OnOk result (PrintsDevices json (calls I.relations I.Dev.state images.old images.new) (stack_words file.entry) (W.contents writer.old.inner) (W.contents writer.new.inner)) }
     ensures err { IfErr result (IsListEnd (calls I.relations I.Dev.state images.old images.new) (stack_words file.entry) writer.new.failed) }
-    ensures quiet { IfErr result (λ fault. IsQuiet fault (W.contents writer.old.inner) (W.contents writer.new.inner)) }
+    ensures quiet { IfErr result (λ fault. IsSilent fault (W.contents writer.old.inner) (W.contents writer.new.inner)) }
 {
     let config = open_configuration(alloc, images, file)?;
     say_configuration(alloc, &config, json, writer)
@@ -43,8 +43,8 @@ fn say_configuration<'a, W: Write>(
     writer: &mut Counted<W>,
 ) -> Result<(), CommandFault<'a>>
     ensures ok { OnOk result (Appends (W.contents writer.old.inner) (W.contents writer.new.inner) (load_text json config.now)) }
-    ensures err { IfErr result (λ fault. (fault ≡ CommandFault.NoMemory) ⊎ IsUnwritten writer.new.failed fault) }
-    ensures quiet { IfErr result (λ fault. IsQuiet fault (W.contents writer.old.inner) (W.contents writer.new.inner)) }
+    ensures err { IfErr result (λ fault. (fault ≡ CommandFault.NoMemory) ⊎ IsReplyUnwritten writer.new.failed fault) }
+    ensures quiet { IfErr result (λ fault. IsSilent fault (W.contents writer.old.inner) (W.contents writer.new.inner)) }
 {
     if json {
         let line = devices_line(alloc, config)?;

@@ -5,7 +5,7 @@ ghost use Rattle.command_line.specs.CommandWords.{invocation_record};
 ghost use Rattle.command_line.specs.FormatOptions.{option_texts};
 ghost use Rattle.image_commands.specs.Drawing.{drawing};
 ghost use Rattle.image_files.specs.Opener.{calls};
-ghost use Rattle.stack_commands.specs.Commands.{EndsEarly, Fails, IsDone, IsRunEnd, Succeeds, is_cat, is_usage, told_to};
+ghost use Rattle.stack_commands.specs.Commands.{EndsCommand, FailsCommand, IsCommandDone, IsRunEnd, Succeeds, is_cat, is_usage, told_to};
 ghost use Rattle.stack_commands.specs.Uses.{uses};
 
 use crate::ending::end;
@@ -52,8 +52,8 @@ pub fn command<I: Images, G: Generators + Progress + Watchers, S: Read, W: Write
 ) -> u8
     requires reader { reader.old.failed ≡ false }
     requires writer { writer.old.failed ≡ false }
-    ensures { ((result ≡ 0) × IsDone (map string_bytes words.now) (uses (calls I.relations I.Dev.state images.old images.new) (drawing G.gives G.Generator.stream generators.old generators.new) (streams (S.remaining reader.old.inner) (W.contents writer.old.inner)) (streams (S.remaining reader.new.inner) (W.contents writer.new.inner))))
-        ⊎ EndsEarly (map string_bytes words.now) (uses (calls I.relations I.Dev.state images.old images.new) (drawing G.gives G.Generator.stream generators.old generators.new) (streams (S.remaining reader.old.inner) (W.contents writer.old.inner)) (streams (S.remaining reader.new.inner) (W.contents writer.new.inner))) (told_to writer.new.failed (E.contents errors.old.inner) (E.contents errors.new.inner) errors.new.failed) result }
+    ensures { ((result ≡ 0) × IsCommandDone (map string_bytes words.now) (uses (calls I.relations I.Dev.state images.old images.new) (drawing G.gives G.Generator.stream generators.old generators.new) (streams (S.remaining reader.old.inner) (W.contents writer.old.inner)) (streams (S.remaining reader.new.inner) (W.contents writer.new.inner))))
+        ⊎ EndsCommand (map string_bytes words.now) (uses (calls I.relations I.Dev.state images.old images.new) (drawing G.gives G.Generator.stream generators.old generators.new) (streams (S.remaining reader.old.inner) (W.contents writer.old.inner)) (streams (S.remaining reader.new.inner) (W.contents writer.new.inner))) (told_to writer.new.failed (E.contents errors.old.inner) (E.contents errors.new.inner) errors.new.failed) result }
 {
     match run(alloc, images, generators, words, reader, writer) {
         Ok(()) => DONE,
@@ -109,7 +109,7 @@ fn run<'a, I: Images, G: Generators + Progress + Watchers, S: Read, W: Write>(
 ) -> Result<(), CommandFault<'a>>
     requires reader { reader.old.failed ≡ false }
     requires writer { writer.old.failed ≡ false }
-    ensures ok { OnOk result (IsDone (map string_bytes words.now) (uses (calls I.relations I.Dev.state images.old images.new) (drawing G.gives G.Generator.stream generators.old generators.new) (streams (S.remaining reader.old.inner) (W.contents writer.old.inner)) (streams (S.remaining reader.new.inner) (W.contents writer.new.inner)))) }
+    ensures ok { OnOk result (IsCommandDone (map string_bytes words.now) (uses (calls I.relations I.Dev.state images.old images.new) (drawing G.gives G.Generator.stream generators.old generators.new) (streams (S.remaining reader.old.inner) (W.contents writer.old.inner)) (streams (S.remaining reader.new.inner) (W.contents writer.new.inner)))) }
     ensures err { IfErr result (IsRunEnd (map string_bytes words.now) (uses (calls I.relations I.Dev.state images.old images.new) (drawing G.gives G.Generator.stream generators.old generators.new) (streams (S.remaining reader.old.inner) (W.contents writer.old.inner)) (streams (S.remaining reader.new.inner) (W.contents writer.new.inner))) writer.new.failed) }
 {
     let line = parse(alloc, words)?;
@@ -128,7 +128,7 @@ fn invoke<'a, I: Images, G: Generators + Progress + Watchers, S: Read, W: Write>
     requires reader { reader.old.failed ≡ false }
     requires writer { writer.old.failed ≡ false }
     ensures ok { OnOk result (Succeeds (option_texts line.entry.options) (invocation_record line.entry.invocation) (uses (calls I.relations I.Dev.state images.old images.new) (drawing G.gives G.Generator.stream generators.old generators.new) (streams (S.remaining reader.old.inner) (W.contents writer.old.inner)) (streams (S.remaining reader.new.inner) (W.contents writer.new.inner)))) }
-    ensures err { IfErr result (Fails (option_texts line.entry.options) (invocation_record line.entry.invocation) (uses (calls I.relations I.Dev.state images.old images.new) (drawing G.gives G.Generator.stream generators.old generators.new) (streams (S.remaining reader.old.inner) (W.contents writer.old.inner)) (streams (S.remaining reader.new.inner) (W.contents writer.new.inner))) writer.new.failed) }
+    ensures err { IfErr result (FailsCommand (option_texts line.entry.options) (invocation_record line.entry.invocation) (uses (calls I.relations I.Dev.state images.old images.new) (drawing G.gives G.Generator.stream generators.old generators.new) (streams (S.remaining reader.old.inner) (W.contents writer.old.inner)) (streams (S.remaining reader.new.inner) (W.contents writer.new.inner))) writer.new.failed) }
 {
     let CommandLine {
         invocation,

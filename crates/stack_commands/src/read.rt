@@ -3,7 +3,7 @@ ghost use Rattle.std.specs.Prelude.{OnOk, IfErr};
 ghost use Rattle.image_files.specs.Opener.{calls};
 ghost use Rattle.stack_opening.specs.OpenStacks.{stack_words};
 ghost use Rattle.request_commands.specs.Requests.{read_request};
-ghost use Rattle.stack_commands.specs.Endings.{IsQuiet};
+ghost use Rattle.stack_commands.specs.Endings.{IsSilent};
 ghost use Rattle.stack_commands.specs.StackCommands.{IsReadEnd, PrintsReply};
 
 use crate::fault::CommandFault;
@@ -29,7 +29,7 @@ pub fn read_stack_file<'a, I: Images, W: Write>(
 ) -> Result<(), CommandFault<'a>>
     ensures ok { OnOk result (PrintsReply (calls I.relations I.Dev.state images.old images.new) (stack_words file.entry) cache (read_request sectors.entry) (W.contents writer.old.inner) (W.contents writer.new.inner)) }
     ensures err { IfErr result (IsReadEnd (calls I.relations I.Dev.state images.old images.new) (stack_words file.entry) cache (read_request sectors.entry) writer.new.failed) }
-    ensures quiet { IfErr result (λ fault. IsQuiet fault (W.contents writer.old.inner) (W.contents writer.new.inner)) }
+    ensures quiet { IfErr result (λ fault. IsSilent fault (W.contents writer.old.inner) (W.contents writer.new.inner)) }
 {
     let reply = read_sectors(alloc, images, file, cache, sectors)?;
     Ok(say_reply(writer, sectors.first, reply)?)

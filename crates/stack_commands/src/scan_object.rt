@@ -5,11 +5,11 @@ ghost use Rattle.stack_opening.specs.OpenStacks.{stack_words};
 ghost use Rattle.stack_rules.specs.Names.{mapped, size};
 ghost use Rattle.stack_making.specs.NamedDevices.{device_words};
 ghost use Rattle.stack_recovery.specs.Recoveries.{sides};
-ghost use Rattle.stack_recovery.specs.Texts.{runs_text};
+ghost use Rattle.stack_recovery.specs.Texts.{lost_text};
 ghost use Rattle.rescue_files.specs.ByMap.{IsMapEnd, IsRescued, IsUnrescued, moving};
 ghost use Rattle.recovery_commands.specs.Scans.{Scans};
 ghost use Rattle.stack_commands.specs.MappedCopies.{ScansByMap};
-ghost use Rattle.stack_commands.specs.ScanObjects.{IsMappedObjectEnd, IsObjectEnd, IsScanObjectEnd, IsUnkept, PrintsLost, PrintsScanObject, unkept, unkept_fault};
+ghost use Rattle.stack_commands.specs.ScanObjects.{IsMappedObjectEnd, IsObjectEnd, IsScanObjectEnd, IsMapUnkept, PrintsLost, PrintsScanObject, unkept_map, unkept_fault};
 
 use crate::fault::CommandFault;
 use block_device::BlockDev;
@@ -79,8 +79,8 @@ fn keep_runs_by_map<'a, I: Images, D: BlockDev, P: Progress>(
 ) -> Result<Counts, UnkeptMap<'a>>
     requires device { device.0 < length stack.old.config.devices }
     requires room { size stack.old.config (mapped device.0) ≤ (⟦<Discard as BlockDev>⟧.state out.old).size }
-    ensures ok { IfOk result (IsRescued (calls I.relations I.Dev.state images.old images.new) map.now device.0 (moving (sides stack.old (⟦<Discard as BlockDev>⟧.state out.old) (Some (runs_text kept.old.runs.items))) (sides stack.new (⟦<Discard as BlockDev>⟧.state out.new) (Some (runs_text kept.new.runs.items))))) }
-    ensures err { IfErr result (IsUnkept (IsMapEnd map.now (IsUnrescued (calls I.relations I.Dev.state images.old images.new) map.now device.0 (moving (sides stack.old (⟦<Discard as BlockDev>⟧.state out.old) (Some (runs_text kept.old.runs.items))) (sides stack.new (⟦<Discard as BlockDev>⟧.state out.new) (Some (runs_text kept.new.runs.items)))) kept.new.refused))) }
+    ensures ok { IfOk result (IsRescued (calls I.relations I.Dev.state images.old images.new) map.now device.0 (moving (sides stack.old (⟦<Discard as BlockDev>⟧.state out.old) (Some (lost_text kept.old.runs.items))) (sides stack.new (⟦<Discard as BlockDev>⟧.state out.new) (Some (lost_text kept.new.runs.items))))) }
+    ensures err { IfErr result (IsMapUnkept (IsMapEnd map.now (IsUnrescued (calls I.relations I.Dev.state images.old images.new) map.now device.0 (moving (sides stack.old (⟦<Discard as BlockDev>⟧.state out.old) (Some (lost_text kept.old.runs.items))) (sides stack.new (⟦<Discard as BlockDev>⟧.state out.new) (Some (lost_text kept.new.runs.items)))) kept.new.refused))) }
 {
     match rescue_by_map(alloc, images, stack, device, out, map, kept, progress) {
         Ok(counts) => Ok(counts),
@@ -90,7 +90,7 @@ fn keep_runs_by_map<'a, I: Images, D: BlockDev, P: Progress>(
 
 // Where a run isn't kept, memory ran out.
 fn unkept<'a>(end: UnkeptMap<'a>) -> UnkeptMap<'a>
-    ensures { result ≡ unkept end.entry }
+    ensures { result ≡ unkept_map end.entry }
 {
     let UnkeptMap { path, fault } = end;
     let fault = unkept_fault(fault);

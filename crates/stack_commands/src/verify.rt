@@ -2,7 +2,7 @@
 ghost use Rattle.std.specs.Prelude.{OnOk, IfErr};
 ghost use Rattle.command_line.specs.words.Verify.{verify_record};
 ghost use Rattle.image_files.specs.Opener.{calls};
-ghost use Rattle.stack_commands.specs.Verifying.{ChecksImage, GoesOverImage, IsCheckEnd, IsGoingOverEnd};
+ghost use Rattle.stack_commands.specs.Verifying.{ChecksImage, GoesOverImage, IsCheckCommandEnd, IsGoingOverEnd};
 
 use crate::fault::CommandFault;
 use command_line::VerifyWords;
@@ -23,7 +23,7 @@ pub fn check_image<'a, I: Images, S: Watchers, W: Write>(
     writer: &mut Counted<W>,
 ) -> Result<(), CommandFault<'a>>
     ensures ok { OnOk result (ChecksImage (calls I.relations I.Dev.state images.old images.new) (verify_record words.now) (W.contents writer.old.inner) (W.contents writer.new.inner)) }
-    ensures err { IfErr result (IsCheckEnd (calls I.relations I.Dev.state images.old images.new) (verify_record words.now) (W.contents writer.old.inner) (W.contents writer.new.inner) writer.new.failed) }
+    ensures err { IfErr result (IsCheckCommandEnd (calls I.relations I.Dev.state images.old images.new) (verify_record words.now) (W.contents writer.old.inner) (W.contents writer.new.inner) writer.new.failed) }
 {
     if words.all {
         go_over_image(alloc, images, watchers, words, writer)

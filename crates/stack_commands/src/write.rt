@@ -4,7 +4,7 @@ ghost use Rattle.image_files.specs.Opener.{calls};
 ghost use Rattle.stack_opening.specs.OpenStacks.{stack_words};
 ghost use Rattle.request_commands.specs.Requests.{write_request};
 ghost use Rattle.request_commands.specs.Writes.{put_words};
-ghost use Rattle.stack_commands.specs.Endings.{IsQuiet};
+ghost use Rattle.stack_commands.specs.Endings.{IsSilent};
 ghost use Rattle.stack_commands.specs.StackCommands.{IsWriteEnd, PrintsWritten};
 
 use crate::fault::CommandFault;
@@ -30,7 +30,7 @@ pub fn write_stack_file<'a, I: Images, W: Write>(
 ) -> Result<(), CommandFault<'a>>
     ensures ok { OnOk result (PrintsWritten (calls I.relations I.Dev.state images.old images.new) (put_words (stack_words file.entry) cache transfer.entry.source.now (write_request transfer.entry)) (W.contents writer.old.inner) (W.contents writer.new.inner)) }
     ensures err { IfErr result (IsWriteEnd (calls I.relations I.Dev.state images.old images.new) (put_words (stack_words file.entry) cache transfer.entry.source.now (write_request transfer.entry)) writer.new.failed) }
-    ensures quiet { IfErr result (λ fault. IsQuiet fault (W.contents writer.old.inner) (W.contents writer.new.inner)) }
+    ensures quiet { IfErr result (λ fault. IsSilent fault (W.contents writer.old.inner) (W.contents writer.new.inner)) }
 {
     write_source(alloc, images, file, cache, transfer)?;
     Ok(say_written(writer)?)

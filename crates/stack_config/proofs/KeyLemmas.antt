@@ -8,7 +8,7 @@ use Rattle.std.specs.Option.{option_map, option_map_or}
 use Rattle.dm_table.specs.declared.table.Line.{Line}
 use Rattle.stack_config.specs.declared.keys.LineKey.{LineKey}
 use Rattle.stack_rules.specs.Records.{Configuration, DeviceRecord}
-use Rattle.stack_rules.specs.Lines.{key_of, key_at, zero_digest_of, zero_digest_at}
+use Rattle.stack_rules.specs.Lines.{key_of, key_of_line, zero_digest_of, zero_digest_at}
 use Rattle.stack_config.specs.Keys.{AreKeys, keys_from, AreZeroDigests, zero_digests_of}
 
 -- ---- keys
@@ -54,7 +54,7 @@ find-key n (suc l) (line ∷ more) = go (key_of line.target) (find-key (n + 1) l
     go None later = rw same at later
     go (Some key) later = rw apart (rw same at later)
 
-pub key-kept : (c : Configuration) (keys : List (List LineKey)) (d l : ℕ) → AreKeys c.devices keys → option_map (λ (k : LineKey). k.key) (find (λ (k : LineKey). k.line == l) (get_or keys d [])) ≡ key_at c d l
+pub key-kept : (c : Configuration) (keys : List (List LineKey)) (d l : ℕ) → AreKeys c.devices keys → option_map (λ (k : LineKey). k.key) (find (λ (k : LineKey). k.line == l) (get_or keys d [])) ≡ key_of_line c d l
 key-kept c keys d l are = ap (λ keys. option_map (λ (k : LineKey). k.key) (find (λ (k : LineKey). k.line == l) (get_or keys d []))) are ∙ go c.devices d
   where
     first : (lines : List Line) → option_map (λ (k : LineKey). k.key) (find (λ (k : LineKey). k.line == l) (keys_from 0 lines)) ≡ option_and_then (λ (line : Line). key_of line.target) (slice_get lines l)

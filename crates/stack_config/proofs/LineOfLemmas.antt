@@ -5,7 +5,7 @@ use Rattle.std.specs.List.{enumerate_from}
 use Rattle.std.proofs.lemmas.List.Sums.{sum_by-cons}
 use Rattle.std.proofs.lemmas.Bool.Decides.{nat_tests}
 use Rattle.dm_table.specs.declared.table.Line.{Line}
-use Rattle.stack_rules.specs.Names.{sectors_of}
+use Rattle.stack_rules.specs.Names.{table_sectors}
 use Rattle.stack_rules.specs.Lines.{Follow, line_in, StartsBy, StartsAfter, IsIn}
 use Rattle.stack_rules.proofs.lemmas.ListLemmas.{slice_get-read}
 
@@ -35,12 +35,12 @@ found k n (x ∷ xs) s (suc l) line at f is low high place =
     past s n h = grind (arith, nat_tests)
 
 -- the line that starts at or before s, where the next starts after it
-pub line_in-found : (n : ℕ) (lines : List Line) (s l : ℕ) (line : Line) → Follow n lines → slice_get lines l ≡ Some line → line.start ≤ s → StartsAfter lines (l + 1) s → s < n + sectors_of lines
+pub line_in-found : (n : ℕ) (lines : List Line) (s l : ℕ) (line : Line) → Follow n lines → slice_get lines l ≡ Some line → line.start ≤ s → StartsAfter lines (l + 1) s → s < n + table_sectors lines
     → (line_in lines s ≡ Some (l, line)) × (s < line.start + line.length)
 line_in-found n lines s l line f is low next inside =
     let high = ends n lines l f is (let same : suc l ≡ l + 1 = omega arith in rw same next) inside in (found 0 n lines s l line l f is low high (omega arith), high)
   where
-    ends : (n : ℕ) (lines : List Line) (l : ℕ) → Follow n lines → slice_get lines l ≡ Some line → StartsAfter lines (suc l) s → s < n + sectors_of lines → s < line.start + line.length
+    ends : (n : ℕ) (lines : List Line) (l : ℕ) → Follow n lines → slice_get lines l ≡ Some line → StartsAfter lines (suc l) s → s < n + table_sectors lines → s < line.start + line.length
     ends n [] l f is next inside = let clash : None ≡ Some line = is in cc
     ends n (x ∷ []) zero f is next inside =
         let same : x ≡ line = cc in
@@ -54,7 +54,7 @@ line_in-found n lines s l line f is low next inside =
     ends n (x ∷ y ∷ ys) (suc l) f is next inside =
         ends (n + x.length) (y ∷ ys) l f.2 is next (let all = sum_by-cons (λ (line : Line). line.length) x (y ∷ ys) in omega (arith, all, inside))
 
-pub IsIn-found : (lines : List Line) (s l : ℕ) (line : Line) → Follow 0 lines → s < sectors_of lines → l < length lines → line ≡ get_or lines l line → StartsBy lines l s → StartsAfter lines (l + 1) s
+pub IsIn-found : (lines : List Line) (s l : ℕ) (line : Line) → Follow 0 lines → s < table_sectors lines → l < length lines → line ≡ get_or lines l line → StartsBy lines l s → StartsAfter lines (l + 1) s
     → IsIn lines s l (line.length - (s - line.start)) × (line.start ≤ s) × (s < line.start + line.length)
 IsIn-found lines s l line f inside within read by after =
     let at = slice_get-read lines l line within read in

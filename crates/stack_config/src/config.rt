@@ -2,7 +2,7 @@
 ghost use Rattle.std.specs.Prelude.{◌≡◌, ◌<◌, length, Some, [], option_map, IsTrue, is_some};
 ghost use Rattle.stack_rules.specs.Names.{device_named, name_of, lines_of, mapped, size, may_write};
 ghost use Rattle.stack_rules.specs.Descend.{depth, read_cost, write_cost};
-ghost use Rattle.stack_rules.specs.Lines.{IsIn, names_at, lower_at, key_at, zero_digest_at};
+ghost use Rattle.stack_rules.specs.Lines.{IsIn, names_at, lower_at, key_of_line, zero_digest_at};
 ghost use Rattle.stack_rules.specs.Rules.{AreLeaves, IsLoaded};
 
 use crate::facts::Facts;
@@ -193,8 +193,8 @@ impl Config {
     /// The key of a `crypt` line, made ready at loading. Lines of a device count from 0.
     pub fn key(&self, d: DevId, line: u32) -> &XtsKey
         requires device { d.0 < length self.now.devices }
-        requires crypt { IsTrue (is_some (key_at self.now d.0 line)) }
-        ensures { key_at self.now d.0 line ≡ Some result.now }
+        requires crypt { IsTrue (is_some (key_of_line self.now d.0 line)) }
+        ensures { key_of_line self.now d.0 line ≡ Some result.now }
     {
         self.facts.keys[d.0 as usize].at(line)
     }

@@ -1,6 +1,6 @@
 //! The line of a sector.
 ghost use Rattle.std.specs.Prelude.{◌<◌, ◌^◌, length};
-ghost use Rattle.stack_rules.specs.Names.{sectors_of};
+ghost use Rattle.stack_rules.specs.Names.{table_sectors};
 ghost use Rattle.stack_rules.specs.Lines.{IsIn, Follow, StartsBy};
 ghost use Rattle.stack_config.specs.LastStart.{IsLastStart};
 
@@ -28,7 +28,7 @@ fn last_start(lines: &[Line], sector: u64) -> usize
 /// The number of the line in which a sector lies, and the sectors left in it from there on.
 pub(crate) fn line_of(table: &Table, sector: u64) -> (u32, u64)
     requires follow { Follow 0 table.now }
-    requires sector { sector < sectors_of table.now }
+    requires sector { sector < table_sectors table.now }
     requires few { length table.now < 2 ^ 32 }
     ensures { IsIn table.now sector result.0 result.1 }
 {

@@ -31,8 +31,8 @@ abbrev pub dearest : Configuration → Direction → (Lower → ℕ) → List Li
 dearest c direction below lines = greatest (map (λ line. line_cost c direction (by_name c 0 below) line.target) lines)
 
 -- a row for each line of each device
-abbrev pub AreRows : List (List (List Lower)) → List DeviceRecord → Type 0
-AreRows rows devices = map length rows ≡ map (λ d. length d.table) devices
+abbrev pub AreLineRows : List (List (List Lower)) → List DeviceRecord → Type 0
+AreLineRows rows devices = map length rows ≡ map (λ d. length d.table) devices
 
 -- what is known of a configuration before its costs: no depth is above the limit
 pub record AreMeasured (c : Configuration) (rows : List (List (List Lower))) (values : List ℕ) : Type 0 where
@@ -46,9 +46,9 @@ ceiling Read = most_cost + 1
 ceiling (Write reads) = 2 ^ 60
 
 -- a cost, as long as it is not above the ceiling
-abbrev pub capped : Direction → ℕ → ℕ
-capped direction cost = min (ceiling direction) cost
+abbrev pub capped_cost : Direction → ℕ → ℕ
+capped_cost direction cost = min (ceiling direction) cost
 
 -- the capped costs of all devices of less depth than k
 pub record AreCosts (c : Configuration) (direction : Direction) (k : ℕ) (costs : List ℕ) : Type 0 where
-  pub each : (d : ℕ) → d < length costs → depth c (mapped d) < k → slice_index costs d ≡ capped direction (cost c direction (mapped d))
+  pub each : (d : ℕ) → d < length costs → depth c (mapped d) < k → slice_index costs d ≡ capped_cost direction (cost c direction (mapped d))

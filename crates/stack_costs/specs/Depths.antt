@@ -14,10 +14,10 @@ abbrev pub greatest_in : DeviceSet → List ℕ → ℕ
 greatest_in set values = greatest (map (value_in set) (enumerate_from 0 values))
 
 -- one round: a device has 1 more than the greatest of what it names
-abbrev pub round : List DeviceSet → List ℕ → List ℕ
-round sets values = map (λ set. 1 + greatest_in set values) sets
+abbrev pub depth_round : List DeviceSet → List ℕ → List ℕ
+depth_round sets values = map (λ set. 1 + greatest_in set values) sets
 
 -- after n rounds, which begin where nothing is known beneath a device
-unfoldable pub rounds : List DeviceSet → ℕ → List ℕ
-rounds sets zero = map (λ set. 1) sets
-rounds sets (suc n) = round sets (rounds sets n)
+unfoldable pub depth_rounds : List DeviceSet → ℕ → List ℕ
+depth_rounds sets zero = map (λ set. 1) sets
+depth_rounds sets (suc n) = depth_round sets (depth_rounds sets n)

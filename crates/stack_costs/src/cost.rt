@@ -8,7 +8,7 @@ ghost use Rattle.stack_rules.specs.Names.{names};
 ghost use Rattle.stack_rules.specs.Descend.{greatest, by_name, line_read_cost, line_write_cost};
 ghost use Rattle.stack_rules.specs.Kept.{each_mapped};
 ghost use Rattle.stack_rules.specs.Passing.{Mean, RowsMean};
-ghost use Rattle.stack_costs.specs.Costs.{line_cost, ceiling, cost, cost_in, capped, dearest, AreRows, AreMeasured, AreCosts};
+ghost use Rattle.stack_costs.specs.Costs.{line_cost, ceiling, cost, cost_in, capped_cost, dearest, AreLineRows, AreMeasured, AreCosts};
 
 use crate::depth::repeated;
 use dm_table::{Crypt, Line, Target, Verity};
@@ -150,7 +150,7 @@ fn ceiling(direction: Direction<'_>) -> u64
 }
 
 fn capped(direction: Direction<'_>, cost: u128) -> u64
-    ensures { result ≡ capped direction.entry cost }
+    ensures { result ≡ capped_cost direction.entry cost }
 {
     cost.min(u128::from(ceiling(direction))) as u64
 }
@@ -164,7 +164,7 @@ fn settle(
     depth: u64,
     costs: &mut [u64],
 )
-    requires rows { AreRows lowers.now devices.now }
+    requires rows { AreLineRows lowers.now devices.now }
     requires depths { length depths.now ≡ length devices.now }
     requires costs { length costs.old ≡ length devices.now }
     ensures { (leaves : List LeafRecord) → let c = configuration leaves devices.now in AreMeasured c lowers.now depths.now → AreCosts c direction.entry depth costs.old → AreCosts c direction.entry (depth + 1) costs.new }
@@ -193,9 +193,9 @@ pub fn costs(
     lowers: &[DeviceLowers],
     depths: &[u64],
 ) -> Result<Vec<u64>, AllocError>
-    requires rows { AreRows lowers.now devices.now }
+    requires rows { AreLineRows lowers.now devices.now }
     requires depths { length depths.now ≡ length devices.now }
-    ensures { (leaves : List LeafRecord) → let c = configuration leaves devices.now in AreMeasured c lowers.now depths.now → IfOk result (λ costs. costs.items ≡ each_mapped (λ x. capped direction.entry (cost c direction.entry x)) (length c.devices)) }
+    ensures { (leaves : List LeafRecord) → let c = configuration leaves devices.now in AreMeasured c lowers.now depths.now → IfOk result (λ costs. costs.items ≡ each_mapped (λ x. capped_cost direction.entry (cost c direction.entry x)) (length c.devices)) }
 {
     let mut costs = zeros(alloc, devices)?;
     for depth in 1..MOST_DEPTH + 1 {

@@ -1,7 +1,7 @@
 //! Depths of all devices.
 ghost use Rattle.std.specs.Prelude.{◌≡◌, ◌<◌, ◌≤◌, ◌+◌, ℕ, length, map, replicate, slice_index, IfOk};
 ghost use Rattle.stack_rules.specs.Descend.{most_devices};
-ghost use Rattle.stack_costs.specs.Depths.{greatest_in, round, rounds};
+ghost use Rattle.stack_costs.specs.Depths.{greatest_in, depth_round, depth_rounds};
 
 use crate::device_set::DeviceSet;
 use crate::lower_set::MOST_DEVICES;
@@ -25,7 +25,7 @@ fn greatest_in(set: DeviceSet, values: &[u64]) -> u64
 fn round(alloc: Global, sets: &[DeviceSet], values: &[u64]) -> Result<Vec<u64>, AllocError>
     requires few { length values.now ≤ most_devices }
     requires low { (k : ℕ) → slice_index values.now k ≤ most_devices }
-    ensures { IfOk result (λ v. v.items ≡ round sets.now values.now) }
+    ensures { IfOk result (λ v. v.items ≡ depth_round sets.now values.now) }
 {
     let mut next = Vec::with_capacity(alloc, sets.len())?;
     for set in sets {
@@ -52,7 +52,7 @@ fn ones(alloc: Global, sets: &[DeviceSet]) -> Result<Vec<u64>, AllocError>
 /// The depths after 64 rounds, or fewer where a round changes nothing.
 pub fn depths(alloc: Global, sets: &[DeviceSet]) -> Result<Vec<u64>, AllocError>
     requires { length sets.now ≤ most_devices }
-    ensures { IfOk result (λ v. v.items ≡ rounds sets.now most_devices) }
+    ensures { IfOk result (λ v. v.items ≡ depth_rounds sets.now most_devices) }
 {
     let mut values = ones(alloc, sets)?;
     for _round in 0..MOST_DEVICES {

@@ -21,10 +21,10 @@ use Rattle.stack_meaning.specs.declared.fault.IoFault.TheVariants as io
 use Rattle.stack_lines.specs.declared.source.BlockPart.{BlockPart}
 use Rattle.stack_lines.specs.declared.source.Source.TheVariants.{Block}
 use Rattle.stack_meaning.specs.Outcomes.{Images, mismatch}
-use Rattle.stack_meaning.specs.Found.{FoundRecord, Entry, entry_of}
+use Rattle.stack_meaning.specs.Found.{FoundRecord, Entry, found_entry}
 use Rattle.stack_meaning.specs.Meaning.{Said, line_said, said_by_name}
 use Rattle.stack_meaning.specs.Reading.{MeetVerity, IsPlain}
-use Rattle.stack_meaning.specs.Kept.{target_leaves, block_of, LineKeeps, IsOfVerity, IsKept, AllKept}
+use Rattle.stack_meaning.specs.Kept.{target_leaves, verity_block, LineKeeps, IsOfVerity, IsKept, AllKept}
 use Rattle.stack_meaning.specs.Leaves.{steady_images, AreSteady}
 use Rattle.stack_lines.specs.Sources.{LieInBlock, said_of_line, source_said, source_place, ReadsSource}
 use Rattle.stack_lines.specs.Walks.{HasVerity, block_in, chain_expected, GetsChain}
@@ -35,7 +35,7 @@ use Rattle.stack_meaning.proofs.lemmas.RunLemmas.{Passes, pass}
 use Rattle.stack_engine.proofs.lemmas.BlockLemmas.{block_place, chain_fills, block_fails, length-content, AllKept-push, Grown-push}
 
 -- what was found for an entry of a verity line
-pub kept_for : (c : Configuration) (leaves : List Device) (d l i : ℕ) (v : Verity) (x : FoundRecord) → HasVerity c d l v → entry_of x ≡ (d, l, i) → IsKept c leaves x → IsOfVerity (said_by_name c v.data) (said_by_name c v.hash) (target_leaves c (verity_target v)) leaves v x.chain
+pub kept_for : (c : Configuration) (leaves : List Device) (d l i : ℕ) (v : Verity) (x : FoundRecord) → HasVerity c d l v → found_entry x ≡ (d, l, i) → IsKept c leaves x → IsOfVerity (said_by_name c v.data) (said_by_name c v.hash) (target_leaves c (verity_target v)) leaves v x.chain
 kept_for c leaves d l i v x line at kept =
     let device : x.device ≡ d = ap (λ (e : Entry). e.0) at in
     let number : x.line ≡ l = ap (λ (e : Entry). e.1) at in
@@ -52,7 +52,7 @@ pub kept_at : (c : Configuration) (leaves : List Device) (found : List FoundReco
 kept_at c leaves found x all given = subst (IsKept c leaves) given.2 (all given.0 x given.1)
 
 pub kept_length : (c : Configuration) (leaves : List Device) (d l i : ℕ) (v : Verity) (found : List FoundRecord) (k : ℕ) (x : FoundRecord) → HasVerity c d l v → AllKept c leaves found → k < length found
-    → entry_of (get_or found k x) ≡ (d, l, i) → length ((get_or found k x).chain.content) ≡ v.data_block
+    → found_entry (get_or found k x) ≡ (d, l, i) → length ((get_or found k x).chain.content) ≡ v.data_block
 kept_length c leaves d l i v found k x line kept h here =
     length-content v (get_or found k x).chain (kept_for c leaves d l i v (get_or found k x) line here (kept_at c leaves found (get_or found k x) kept (contains_at found k x h))).good
 
@@ -75,7 +75,7 @@ module _ (c : Configuration) (v : Verity) (p : BlockPart) (n : ℕ) (loaded : Is
   block-cost = subst (λ (t : Target). line_read_cost (by_name c 0 (read_cost c)) t ≤ read_cost c (mapped p.device.0)) line.has (line-read-cost c p.device.0 p.line line.line loaded.valid line.is)
 
   -- from a chain that is there
-  pub part_found : (leaves : List Device) (found : List FoundRecord) (x : FoundRecord) {bytes : List ℕ} → entry_of x ≡ (p.device.0, p.line, p.first / block_sectors v) → Contains found x → AllKept c leaves found
+  pub part_found : (leaves : List Device) (found : List FoundRecord) (x : FoundRecord) {bytes : List ℕ} → found_entry x ≡ (p.device.0, p.line, p.first / block_sectors v) → Contains found x → AllKept c leaves found
       → bytes ≡ take (512 * n) (drop (512 * (p.first % block_sectors v)) x.chain.content)
       → ReadsSource c (Block p) n (record { old = leaves; new = leaves; before = found; after = found }) (Ok bytes)
   part_found leaves found x here given kept is =
@@ -83,26 +83,26 @@ module _ (c : Configuration) (v : Verity) (p : BlockPart) (n : ℕ) (loaded : Is
       let number : x.chain.index ≡ p.first / block_sectors v = ap (λ (e : Entry). e.2) here in
       pass passes (record { old = leaves; new = leaves; before = found; after = found }) (Ok _) (record {
         got = chain_fills (block_in c v (p.first / block_sectors v)) (p.device.0, p.line) p.first n (read_cost c (mapped p.device.0)) refl within whole found x (AreRead-none _ leaves)
-            (λ steady. ap (block_of c (steady_images leaves) v) (sym number) ∙ one.exact (AreSteady-within leaves (λ i is. subst IsTrue (verity-leaves c v i) is) steady)) one.good here given is;
+            (λ steady. ap (verity_block c (steady_images leaves) v) (sym number) ∙ one.exact (AreSteady-within leaves (λ i is. subst IsTrue (verity-leaves c v i) is) steady)) one.good here given is;
         grown = Grown-none _ 0 n found;
         kept = kept;
       })
 
   -- from a chain that was walked
   pub part_walked : {old new : List Device} (found : List FoundRecord) (chain : ChainRecord) {bytes : List ℕ} → AllKept c old found
-      → ((k : ℕ) → k < length found → (y : FoundRecord) → entry_of (get_or found k y) ≡ (p.device.0, p.line, p.first / block_sectors v) → ⊥)
+      → ((k : ℕ) → k < length found → (y : FoundRecord) → found_entry (get_or found k y) ≡ (p.device.0, p.line, p.first / block_sectors v) → ⊥)
       → GetsChain (block_in c v (p.first / block_sectors v)) old new (Ok chain)
       → bytes ≡ take (512 * n) (drop (512 * (p.first % block_sectors v)) chain.content)
       → ReadsSource c (Block p) n (record { old = old; new = new; before = found; after = found ++ (record { device = p.device.0; line = p.line; chain = chain } ∷ []) }) (Ok bytes)
   part_walked {old = old} {new = new} found chain kept none q is =
       let x : FoundRecord = record { device = p.device.0; line = p.line; chain = chain } in
-      let here : entry_of x ≡ (p.device.0, p.line, p.first / block_sectors v) = ap (λ (k : ℕ). (p.device.0, p.line, k)) q.may.0 in
+      let here : found_entry x ≡ (p.device.0, p.line, p.first / block_sectors v) = ap (λ (k : ℕ). (p.device.0, p.line, k)) q.may.0 in
       let one : IsOfVerity (said_by_name c v.data) (said_by_name c v.hash) (target_leaves c (verity_target v)) new v chain = record {
         good = q.may.1;
         exact = λ steady.
             let before : AreSteady (chain_expected (block_in c v (p.first / block_sectors v))).leaves old =
             AreSteady-kept new old (sym q.moved.moved.fixed) (AreSteady-within new (λ i is. subst IsTrue (sym (verity-leaves c v i)) is) steady) in
-            ap (block_of c (steady_images new) v) q.may.0 ∙ ap (λ (m : Images). block_of c m v (p.first / block_sectors v)) (images-kept q.moved) ∙ q.exact before;
+            ap (verity_block c (steady_images new) v) q.may.0 ∙ ap (λ (m : Images). verity_block c m v (p.first / block_sectors v)) (images-kept q.moved) ∙ q.exact before;
       } in
       pass passes (record { old = old; new = new; before = found; after = found ++ (x ∷ []) }) (Ok _) (record {
         got = chain_fills (block_in c v (p.first / block_sectors v)) (p.device.0, p.line) p.first n (read_cost c (mapped p.device.0)) refl within whole (found ++ (x ∷ [])) x

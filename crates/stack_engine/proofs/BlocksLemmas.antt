@@ -28,14 +28,14 @@ use Rattle.stack_lines.specs.declared.source.BlockPart.{BlockPart}
 use Rattle.stack_lines.specs.declared.source.Source.TheVariants.{Blocks}
 use Rattle.stack_meaning.specs.Outcomes.{Images, Outcome, mismatch, span, then_outcome}
 use Rattle.stack_meaning.specs.Blocks.{hash_sectors, checked, is_ignored}
-use Rattle.stack_meaning.specs.Found.{FoundRecord, Entry, entry_of}
+use Rattle.stack_meaning.specs.Found.{FoundRecord, Entry, found_entry}
 use Rattle.stack_meaning.specs.Meaning.{Said, line_said, said_by_name}
-use Rattle.stack_meaning.specs.Places.{Place, place_of, run_expected, Read}
+use Rattle.stack_meaning.specs.Places.{Place, place_of, run_expected, LeafRead}
 use Rattle.stack_meaning.specs.Reading.{Gets, Finds, MeetVerity, IsPlain}
-use Rattle.stack_meaning.specs.Kept.{target_leaves, block_of, LineKeeps, IsOfVerity, AllKept}
+use Rattle.stack_meaning.specs.Kept.{target_leaves, verity_block, LineKeeps, IsOfVerity, AllKept}
 use Rattle.stack_meaning.specs.Leaves.{steady_images, AreSteady, AreRead}
 use Rattle.stack_lines.specs.AtOnce.{AreBefore, GoAtOnce, MeetNone}
-use Rattle.stack_lines.specs.Sources.{AreBlocks, said_of_line, source_said, ReadsSource}
+use Rattle.stack_lines.specs.Sources.{AreWholeBlocks, said_of_line, source_said, ReadsSource}
 use Rattle.stack_lines.proofs.lemmas.TouchLemmas.{verity-leaves, verity-names}
 use Rattle.stack_lines.specs.Touches.{leaves_of}
 use Rattle.stack_lines.specs.Walks.{HasVerity, block_in, checked_expected, chain_expected, GetsChain, IsWalked}
@@ -193,7 +193,7 @@ module _ (c : Configuration) (v : Verity) (p : BlockPart) (n m : ℕ) (loaded : 
 
   -- ---- the read goes on
 
-  none-more : (now : List FoundRecord) (j : ℕ) → AreBefore p.device.0 p.line (index + j) now → (k : ℕ) → k < length now → (y : FoundRecord) → entry_of (get_or now k y) ≡ (p.device.0, p.line, index + j) → ⊥
+  none-more : (now : List FoundRecord) (j : ℕ) → AreBefore p.device.0 p.line (index + j) now → (k : ℕ) → k < length now → (y : FoundRecord) → found_entry (get_or now k y) ≡ (p.device.0, p.line, index + j) → ⊥
   none-more now j before k below y same =
       let number : (get_or now k y).chain.index ≡ index + j = ap (λ (e : Entry). e.2) same in
       omega (arith, number, before k y below (ap (λ (e : Entry). e.0) same) (ap (λ (e : Entry). e.1) same))
@@ -239,7 +239,7 @@ module _ (c : Configuration) (v : Verity) (p : BlockPart) (n m : ℕ) (loaded : 
           exact = λ steady.
               let before : AreSteady (chain_expected (block_in c v (index + j))).leaves mid =
               AreSteady-kept new mid (sym moved.moved.fixed) (AreSteady-within new (λ i is. subst IsTrue (sym (verity-leaves c v i)) is) steady) in
-              ap (λ (i : Images). block_of c i v (index + j)) (images-kept moved) ∙ got.exact before;
+              ap (λ (i : Images). verity_block c i v (index + j)) (images-kept moved) ∙ got.exact before;
         } in
         let is : content ≡ take (512 * block_sectors v) (drop (512 * ((p.first + j * block_sectors v) % block_sectors v)) content) =
         sym (ap (λ (r : ℕ). take (512 * block_sectors v) (drop (512 * r) content)) (at-begin j) ∙ take_all (512 * block_sectors v) content (omega (arith, len))) in
@@ -286,7 +286,7 @@ module _ (c : Configuration) (v : Verity) (p : BlockPart) (n m : ℕ) (loaded : 
 
   -- ---- the whole read
 
-  pub blocks-read : (did : Read) (answer : Result (List ℕ) IoFault) (r j : ℕ) → r ≤ m → j ≤ m → AreRead did.old (read_cost_so_far c v (r * block_sectors v) j) did.new → Finds (blocks_place c p n) c 0 n did answer → ReadsSource c (Blocks p) n did answer
+  pub blocks-read : (did : LeafRead) (answer : Result (List ℕ) IoFault) (r j : ℕ) → r ≤ m → j ≤ m → AreRead did.old (read_cost_so_far c v (r * block_sectors v) j) did.new → Finds (blocks_place c p n) c 0 n did answer → ReadsSource c (Blocks p) n did answer
   blocks-read did answer r j read most moved found = record {
     got = record { moved = AreRead-more (total-cost r j read most) moved; may = found.got.may; exact = found.got.exact };
     grown = found.grown;
@@ -294,7 +294,7 @@ module _ (c : Configuration) (v : Verity) (p : BlockPart) (n m : ℕ) (loaded : 
   }
 
 -- a verity line is on the way
-pub blocks_plain : (c : Configuration) (p : BlockPart) (n : ℕ) {old new : List Device} {result : Result Unit IoFault} → 0 < n → AreBlocks c p.device.0 p.line p.first n → IsPlain (source_said c (Blocks p)) 0 n old new result
+pub blocks_plain : (c : Configuration) (p : BlockPart) (n : ℕ) {old new : List Device} {result : Result Unit IoFault} → 0 < n → AreWholeBlocks c p.device.0 p.line p.first n → IsPlain (source_said c (Blocks p)) 0 n old new result
 blocks_plain c p n some blocks =
     let same : source_said c (Blocks p) (0 + 0) ≡ line_said (said_by_name c) p.device.0 p.line (verity_target blocks.verity) (p.first + (0 + 0)) =
     ap (λ (o : Option Line). said_of_line c p.device.0 p.line o (p.first + (0 + 0))) blocks.has.is
@@ -314,7 +314,7 @@ pub record BlocksAt (c : Configuration) (v : Verity) (p : BlockPart) (n m : ℕ)
   pub below : p.first + n ≤ lower_size c lower
   pub there : (j : ℕ) → j < m → p.first / block_sectors v + j < v.blocks
 
-pub blocks-at : (c : Configuration) (v : Verity) (p : BlockPart) (n : ℕ) (found : List FoundRecord) (lower : Lower) → IsLoaded c → 0 < n → HasVerity c p.device.0 p.line v → AreBlocks c p.device.0 p.line p.first n → GoAtOnce c p n found
+pub blocks-at : (c : Configuration) (v : Verity) (p : BlockPart) (n : ℕ) (found : List FoundRecord) (lower : Lower) → IsLoaded c → 0 < n → HasVerity c p.device.0 p.line v → AreWholeBlocks c p.device.0 p.line p.first n → GoAtOnce c p n found
     → named c v.data ≡ Some lower → BlocksAt c v p n (n / block_sectors v) found lower
 blocks-at c v p n found lower loaded some line blocks go is =
     let same : go.verity ≡ v = same-verity c p.device.0 p.line 0 0 go.verity v go.line line in

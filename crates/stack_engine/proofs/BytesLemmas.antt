@@ -10,7 +10,7 @@ use Rattle.stack_rules.specs.Names.{mapped}
 use Rattle.stack_rules.specs.Rules.{IsLoaded}
 use Rattle.stack_meaning.specs.declared.fault.IoFault.{IoFault}
 use Rattle.stack_meaning.specs.declared.fault.IoFault.TheVariants as io
-use Rattle.stack_meaning.specs.Found.{FoundRecord, AreUsed, entry_of}
+use Rattle.stack_meaning.specs.Found.{FoundRecord, AreUsed, found_entry}
 use Rattle.stack_meaning.specs.Kept.{LineKeeps, IsKept}
 use Rattle.stack_meaning.specs.May.{MayFault}
 use Rattle.stack_meaning.specs.Meaning.{Said, said_at}
@@ -62,7 +62,7 @@ none-bytes place c first leaves = record {
 used-as : {place place' : Place} {first first' n : ℕ} (chains : List FoundRecord) → Passes place place' first first' n → AreUsed (λ s. (place.said s).entries) first n chains → AreUsed (λ s. (place'.said s).entries) first' n chains
 used-as chains passes all = λ k d below.
     let some = all k d below in
-    (some.0, some.1, subst (λ (x : Said). Contains x.entries (entry_of (get_or chains k d))) (passes.said some.0 some.1) some.2)
+    (some.0, some.1, subst (λ (x : Said). Contains x.entries (found_entry (get_or chains k d))) (passes.said some.0 some.1) some.2)
 
 pass-bytes : {place place' : Place} {c : Configuration} {first first' n : ℕ} {old new : List Device} (answer : Result (List ℕ) IoFault) → Passes place place' first first' n → FindsBytes place c first n old new answer → FindsBytes place' c first' n old new answer
 pass-bytes {place = place} {c = c} {first = first} {n = n} {old = old} {new = new} answer passes p = record {

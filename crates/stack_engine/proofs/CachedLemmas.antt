@@ -20,14 +20,14 @@ use Rattle.verified_cache.proofs.lemmas.AnswerLemmas.{block_under-is, All-block_
 use Rattle.stack_lines.specs.declared.tree.Extent.{Extent}
 use Rattle.stack_meaning.specs.Outcomes.{Outcome, Images, mismatch, span, then_outcome}
 use Rattle.stack_meaning.specs.Blocks.{checked, hash_sectors, hash_place}
-use Rattle.stack_lines.specs.Caches.{StackCache, IsCached, IsCacheOf, IsFresh, KeepsCache, IsPlaceOf}
+use Rattle.stack_lines.specs.Caches.{StackCache, IsCached, IsCacheOf, IsFreshCache, KeepsCache, IsPlaceOf}
 use Rattle.stack_meaning.specs.Changes.{reached, AreWritten}
-use Rattle.stack_lines.specs.Standing.{contains, stands_on, name_stands_on, key_stands_on, cache_without_leaf, AreLeafSets, CoversBlocks}
+use Rattle.stack_lines.specs.Standing.{has_leaf, stands_on, name_stands_on, key_stands_on, cache_without_leaf, AreLeafSets, CoversBlocks}
 use Rattle.stack_meaning.specs.Leaves.{steady_images, AreSteady, AreRead}
 use Rattle.stack_meaning.specs.Meaning.{said_at, said_by_name}
 use Rattle.stack_meaning.specs.Places.{Place, place_of}
 use Rattle.stack_meaning.specs.Reading.{Gets}
-use Rattle.stack_lines.specs.Walks.{HasVerity, IsBlock, checked_expected}
+use Rattle.stack_lines.specs.Walks.{HasVerity, IsBlockOfDigest, checked_expected}
 use Rattle.stack_meaning.proofs.lemmas.LeafListLemmas.{AreRead-none, AreSteady-kept, AreSteady-within, images-kept}
 use Rattle.stack_engine.proofs.lemmas.WalkLemmas.{checked-same}
 use Rattle.stack_lines.proofs.lemmas.StandingLemmas.{or-true, name-stands, verity-stands}
@@ -80,7 +80,7 @@ module _ (c : Configuration) where
     hit bytes_of x expected leaves b same_key same_digest is one =
         let line : HasVerity c key.device key.line one.verity = subst (λ (k : Key). HasVerity c k.device k.line one.verity) same_key one.line in
         let same : one.verity ≡ at.verity = same-verity c key.device key.line 0 0 one.verity at.verity line at.line in
-        let block : IsBlock (hash_sectors at.verity) at.verity.salt b.digest b.bytes = subst (λ (v : Verity). IsBlock (hash_sectors v) v.salt b.digest b.bytes) same one.block in
+        let block : IsBlockOfDigest (hash_sectors at.verity) at.verity.salt b.digest b.bytes = subst (λ (v : Verity). IsBlockOfDigest (hash_sectors v) v.salt b.digest b.bytes) same one.block in
         let good : digest salt b.bytes ≡ expected = ap (λ (s : List ℕ). digest s b.bytes) (sym at.salt_is) ∙ block.1 ∙ same_digest in
         record {
           moved = AreRead-none _ leaves;
@@ -132,25 +132,25 @@ module _ (c : Configuration) where
         (cached-one bytes_of x expected got) all
 
     -- that leaves are noted for its line
-    noted : (cache after : StackCache) → ((i : ℕ) → contains after.covered i ≡ (contains cache.covered i || stands_on c i extent.lower)) → CoversBlocks c cache.covered cache.blocks.blocks
+    noted : (cache after : StackCache) → ((i : ℕ) → has_leaf after.covered i ≡ (has_leaf cache.covered i || stands_on c i extent.lower)) → CoversBlocks c cache.covered cache.blocks.blocks
         → CoversBlocks c after.covered cache.blocks.blocks
     noted cache after is covers k d h i small stands = is i ∙ ap (λ (b : Bool). b || stands_on c i extent.lower) (covers k d h i small stands)
 
-    pub noted_key : (cache after : StackCache) → ((i : ℕ) → contains after.covered i ≡ (contains cache.covered i || stands_on c i extent.lower)) → (i : ℕ) → key_stands_on c i key ≡ true → contains after.covered i ≡ true
+    pub noted_key : (cache after : StackCache) → ((i : ℕ) → has_leaf after.covered i ≡ (has_leaf cache.covered i || stands_on c i extent.lower)) → (i : ℕ) → key_stands_on c i key ≡ true → has_leaf after.covered i ≡ true
     noted_key cache after is i stands =
         let by_name : key_stands_on c i key ≡ name_stands_on c i at.verity.hash = verity-stands c i key.device key.line at.line.line at.verity at.line.is at.line.has in
         let on : stands_on c i extent.lower ≡ true = sym (name-stands c i at.verity.hash extent.lower at.hash) ∙ sym by_name ∙ stands in
-        is i ∙ ap (λ (b : Bool). contains cache.covered i || b) on ∙ or-true (contains cache.covered i)
+        is i ∙ ap (λ (b : Bool). has_leaf cache.covered i || b) on ∙ or-true (has_leaf cache.covered i)
 
     pub keeps-noted : (leaves : List Device) (before cache after : StackCache) → after ≡ record cache { covered = after.covered }
-        → ((i : ℕ) → contains after.covered i ≡ (contains cache.covered i || stands_on c i extent.lower)) → KeepsCache c leaves before cache → KeepsCache c leaves before after
+        → ((i : ℕ) → has_leaf after.covered i ≡ (has_leaf cache.covered i || stands_on c i extent.lower)) → KeepsCache c leaves before cache → KeepsCache c leaves before after
     keeps-noted leaves before cache after same is kept = record {
       capacity = ap (λ (k : StackCache). k.blocks.capacity) same ∙ kept.capacity;
       sound = subst (IsCacheOf c leaves) (sym same) (record { sets = kept.sound.sets; covers = noted cache after is kept.sound.covers; valid = kept.sound.valid; kept = kept.sound.kept });
     }
 
     pub keeps-kept : {A : Type 0} (bytes_of : A → List ℕ) (x : A) (expected : List ℕ) {old new : List Device} (before cache after : StackCache)
-        → Gets (checked_expected bytes_of (place_of c extent.lower) extent.first extent.sectors salt expected) old new (Ok x) → ((i : ℕ) → key_stands_on c i key ≡ true → contains cache.covered i ≡ true) → KeepsCache c new before cache
+        → Gets (checked_expected bytes_of (place_of c extent.lower) extent.first extent.sectors salt expected) old new (Ok x) → ((i : ℕ) → key_stands_on c i key ≡ true → has_leaf cache.covered i ≡ true) → KeepsCache c new before cache
         → (r : Result Unit AllocError) (bytes : List ℕ) → bytes ≡ bytes_of x → OnOk r (after ≡ record cache { blocks = cache_after_keep (record { key = key; digest = expected; bytes = bytes }) cache.blocks }) → OnErr r (after ≡ cache)
         → KeepsCache c new before after
     keeps-kept bytes_of x expected {new = new} before cache after got covers kept (Ok u) bytes same ok err =
@@ -160,7 +160,7 @@ module _ (c : Configuration) where
           sound = subst (IsCacheOf c new) (sym (ok ∙ ap (λ (b : List ℕ). record cache { blocks = cache_after_keep (record { key = key; digest = expected; bytes = b }) cache.blocks }) same))
               (record {
                 sets = kept.sound.sets;
-                covers = All-after_keep (λ b. (i : ℕ) → i < most_leaves → key_stands_on c i b.key ≡ true → contains cache.covered i ≡ true) one cache.blocks (λ i small. covers i) kept.sound.covers;
+                covers = All-after_keep (λ b. (i : ℕ) → i < most_leaves → key_stands_on c i b.key ≡ true → has_leaf cache.covered i ≡ true) one cache.blocks (λ i small. covers i) kept.sound.covers;
                 valid = IsCache-after_keep one cache.blocks kept.sound.valid;
                 kept = cached-kept bytes_of x expected cache.blocks got kept.sound.kept;
               });
@@ -171,7 +171,7 @@ module _ (c : Configuration) where
     }
 
   -- of a cache that holds no block
-  pub cached-fresh : {capacity : ℕ} (leaves : List Device) {cache : StackCache} → IsFresh c capacity cache → IsCacheOf c leaves cache
+  pub cached-fresh : {capacity : ℕ} (leaves : List Device) {cache : StackCache} → IsFreshCache c capacity cache → IsCacheOf c leaves cache
   cached-fresh {capacity = capacity} leaves {cache = cache} fresh = record {
     sets = fresh.sets;
     covers = subst (λ (k : CacheRecord). CoversBlocks c cache.covered k.blocks) (sym fresh.empty) (All-nil _);
@@ -189,7 +189,7 @@ module _ (c : Configuration) where
     capacity = ap (λ (k : StackCache). k.blocks.capacity) is ∙ found_capacity cache.blocks (block_under key expected cache.blocks);
     sound = subst (IsCacheOf c leaves) (sym is) (record {
       sets = all.sets;
-      covers = All-after_find (λ b. (i : ℕ) → i < most_leaves → key_stands_on c i b.key ≡ true → contains cache.covered i ≡ true) key expected cache.blocks all.covers;
+      covers = All-after_find (λ b. (i : ℕ) → i < most_leaves → key_stands_on c i b.key ≡ true → has_leaf cache.covered i ≡ true) key expected cache.blocks all.covers;
       valid = IsCache-after_find key expected cache.blocks all.valid;
       kept = All-after_find (IsCached c leaves) key expected cache.blocks all.kept;
     });

@@ -30,7 +30,7 @@ use Rattle.stack_meaning.specs.Outcomes.{Outcome, mismatch, span}
 use Rattle.stack_meaning.specs.Found.{FoundRecord}
 use Rattle.stack_meaning.specs.Kept.{AllKept}
 use Rattle.stack_meaning.specs.Leaves.{steady_images, AreRead}
-use Rattle.stack_meaning.specs.Places.{Place, place_of, run_expected, Read}
+use Rattle.stack_meaning.specs.Places.{Place, place_of, run_expected, LeafRead}
 use Rattle.stack_meaning.specs.Reading.{Gets, Finds}
 use Rattle.stack_lines.specs.AtOnce.{AreBefore, MeetNone}
 use Rattle.stack_lines.specs.Sources.{ReadsSource}
@@ -82,7 +82,7 @@ module _ (bytes : List ℕ) (u m : ℕ) (some : 0 < u) (len : length bytes ≡ 5
 -- ---- where the read stands
 
 -- the blocks before block j were had, where data were read as far as block r
-pub record WereHad (c : Configuration) (v : Verity) (p : BlockPart) (n r j : ℕ) (bytes : List ℕ) (did : Read) : Type 0 where
+pub record WereHad (c : Configuration) (v : Verity) (p : BlockPart) (n r j : ℕ) (bytes : List ℕ) (did : LeafRead) : Type 0 where
   pub so_far : Finds (blocks_place c p n) c 0 (j * block_sectors v) did (Ok (take (512 * (j * block_sectors v)) bytes))
   pub moved : AreRead did.old (read_cost_so_far c v (r * block_sectors v) j) did.new
   pub before : AreBefore p.device.0 p.line (p.first / block_sectors v + j) did.after
@@ -93,7 +93,7 @@ AreReadAhead c v p lower j r bytes made old = (k : ℕ) → j ≤ k → k < r �
     → IsRead c v p lower old k (take (512 * block_sectors v) (drop (512 * (k * block_sectors v)) bytes)) (get_or made k x)
 
 -- block j is the next one: those before it were had, the way to it was walked, and data were read as far as block r
-pub record IsNext (c : Configuration) (v : Verity) (p : BlockPart) (n r j : ℕ) (bytes expected : List ℕ) (path : List (List ℕ)) (did : Read) : Type 0 where
+pub record IsNext (c : Configuration) (v : Verity) (p : BlockPart) (n r j : ℕ) (bytes expected : List ℕ) (path : List (List ℕ)) (did : LeafRead) : Type 0 where
   pub mid : List Device
   pub here : List Device
   pub ways : ℕ
@@ -223,7 +223,7 @@ module _ (c : Configuration) (v : Verity) (p : BlockPart) (n : ℕ) (lower : Low
   cost = ap (λ (q : Place). q.cost) (place-named c v.data lower is)
 
   -- it ended in a fault
-  pub had-fails : (r j : ℕ) (bytes : List ℕ) (did : Read) {new : List Device} (fault : IoFault) → r ≤ n / block_sectors v → j < n / block_sectors v → WereHad c v p n r j bytes did → AreRead did.new (path_cost c v) new
+  pub had-fails : (r j : ℕ) (bytes : List ℕ) (did : LeafRead) {new : List Device} (fault : IoFault) → r ≤ n / block_sectors v → j < n / block_sectors v → WereHad c v p n r j bytes did → AreRead did.new (path_cost c v) new
       → GetsChain (block_in c v (p.first / block_sectors v + j)) did.new new (Err fault) → ReadsSource c (Blocks p) n (record { old = did.old; new = new; before = did.before; after = did.after }) (Err fault)
   had-fails r j bytes did {new = new} fault read inside had moved got =
       let most = total-cost c v p n m loaded line at.aligned at.size at.count r (j + 1) read (omega (arith, inside)) in
@@ -234,7 +234,7 @@ module _ (c : Configuration) (v : Verity) (p : BlockPart) (n : ℕ) (lower : Low
       blocks-read c v p n m loaded line at.aligned at.size at.count (record { old = did.old; new = new; before = did.before; after = did.after }) (Err fault) r (j + 1) read (omega (arith, inside)) both
       (blocks-stop c v p n m loaded line at.aligned at.size at.count j inside had.so_far moved few fault got)
 
-  module _ (r j many : ℕ) (bytes expected : List ℕ) (path : List (List ℕ)) (did : Read) (walk : List Device) (inside : j < n / block_sectors v) (read : r ≤ n / block_sectors v) (most : j + many ≤ n / block_sectors v) (fresh : (many ≡ 0) ⊎ (r ≤ j))
+  module _ (r j many : ℕ) (bytes expected : List ℕ) (path : List (List ℕ)) (did : LeafRead) (walk : List Device) (inside : j < n / block_sectors v) (read : r ≤ n / block_sectors v) (most : j + many ≤ n / block_sectors v) (fresh : (many ≡ 0) ⊎ (r ≤ j))
       (had : WereHad c v p n r j bytes did) (moved : AreRead did.new (path_cost c v) walk) (to : ℕ) (as_far : to ≡ max r (j + many)) (walked : IsWalked (block_in c v (p.first / block_sectors v + j)) 0 expected path did.new walk) where
     more : r + many ≤ to
     more = elim fresh [ inl none ↦ omega (arith, none, as_far) | inr old ↦ omega (arith, old, as_far) ]
@@ -368,7 +368,7 @@ module _ (c : Configuration) (v : Verity) (p : BlockPart) (n : ℕ) (lower : Low
 
   -- ---- the next block
 
-  module _ (r j : ℕ) (bytes expected : List ℕ) (path : List (List ℕ)) (did : Read) (inside : j < n / block_sectors v) (read : r ≤ n / block_sectors v) (next : IsNext c v p n r j bytes expected path did) where
+  module _ (r j : ℕ) (bytes expected : List ℕ) (path : List (List ℕ)) (did : LeafRead) (inside : j < n / block_sectors v) (read : r ≤ n / block_sectors v) (next : IsNext c v p n r j bytes expected path did) where
     few : read_cost_so_far c v (r * block_sectors v) (j + 1) ≤ n * read_cost c (mapped p.device.0)
     few = total-cost c v p n m loaded line at.aligned at.size at.count r (j + 1) read (omega (arith, inside))
 
@@ -385,7 +385,7 @@ module _ (c : Configuration) (v : Verity) (p : BlockPart) (n : ℕ) (lower : Low
         let same : record { device = p.device.0; line = p.line; chain = record { index = number; content = block; path = way } } ≡ one =
         ap {B = FoundRecord} (λ (i : ℕ). record { device = p.device.0; line = p.line; chain = record { index = i; content = block; path = way } }) here
         ∙ ap {B = FoundRecord} (λ (w : List (List ℕ)). record { device = p.device.0; line = p.line; chain = record { index = first + j; content = block; path = w } }) goes in
-        let now : Read = record { old = did.old; new = did.new; before = did.before; after = did.after ++ (one ∷ []) } in
+        let now : LeafRead = record { old = did.old; new = did.new; before = did.before; after = did.after ++ (one ∷ []) } in
         let e : 512 * (j * u) + 512 * u ≡ 512 * (j * u + u) = omega arith in
         let longer : take (512 * (j * u)) bytes ++ block ≡ take (512 * (j * u + u)) bytes' =
         ap (λ (l : List ℕ). l ++ block) (sym front) ∙ ap (λ (l : List ℕ). take (512 * (j * u)) bytes' ++ l) holds ∙ sym (take-add (512 * (j * u)) (512 * u) bytes') ∙ ap (λ (k : ℕ). take k bytes') e in
@@ -418,7 +418,7 @@ module _ (c : Configuration) (v : Verity) (p : BlockPart) (n : ℕ) (lower : Low
         (blocks-full c v p n m loaded line at.aligned at.size at.count j inside next.so_far next.rest few)
 
   -- all of them
-  pub had-all : (r j : ℕ) (bytes : List ℕ) (did : Read) → r ≤ n / block_sectors v → j ≡ n / block_sectors v → length bytes ≡ 512 * n → WereHad c v p n r j bytes did → ReadsSource c (Blocks p) n did (Ok bytes)
+  pub had-all : (r j : ℕ) (bytes : List ℕ) (did : LeafRead) → r ≤ n / block_sectors v → j ≡ n / block_sectors v → length bytes ≡ 512 * n → WereHad c v p n r j bytes did → ReadsSource c (Blocks p) n did (Ok bytes)
   had-all r j bytes did read all len had =
       let count : j * block_sectors v ≡ n = ap (λ (k : ℕ). k * block_sectors v) all ∙ at.count in
       let whole : take (512 * (j * block_sectors v)) bytes ≡ bytes = take_all (512 * (j * block_sectors v)) bytes (omega (arith, len, count)) in

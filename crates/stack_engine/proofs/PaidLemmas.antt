@@ -22,7 +22,7 @@ use Rattle.stack_lines.specs.declared.units.WholeUnit.{WholeUnit}
 use Rattle.stack_lines.specs.Budgets.{ReadsAtMost, part_budget, source_budget}
 use Rattle.stack_lines.specs.Sources.{AreUnits, LieInUnit, IsWholeOf, HasCrypt, IsServed}
 use Rattle.stack_lines.specs.WriteBudgets.{Counter, of_reads, of_writes, CountsAtMost, change_count, write_budget, part_write_budget, source_write_budget}
-use Rattle.stack_lines.specs.Writing.{destination_of, Writes}
+use Rattle.stack_lines.specs.Writing.{destination_of, WritesSectors}
 use Rattle.stack_rules.specs.Descend.{write_cost}
 use Rattle.stack_lines.proofs.lemmas.BudgetLemmas.{unit-budget}
 use Rattle.stack_lines.proofs.lemmas.UnitLineLemmas.{unit-line}
@@ -32,7 +32,7 @@ use Rattle.stack_engine.proofs.SpentLemmas.{IsCutBehind}
 use Rattle.stack_engine.proofs.UncutLemmas.{leaf-plain}
 
 -- the sectors of a leaf
-pub leaf-paid : (c : Configuration) (k : Counter) (i first n : ℕ) (sectors : List (List ℕ)) (old new : List Device) (result : Result Unit IoFault) → length sectors ≡ n → Writes (destination_of c (leaf i)) first sectors old new result
+pub leaf-paid : (c : Configuration) (k : Counter) (i first n : ℕ) (sectors : List (List ℕ)) (old new : List Device) (result : Result Unit IoFault) → length sectors ≡ n → WritesSectors (destination_of c (leaf i)) first sectors old new result
     → CountsAtMost k (write_budget c k (leaf i) first n) old new
 leaf-paid c of_reads i first n sectors old new result count wrote =
     let same : map (λ (l : Device). l.reads) new ≡ map (λ (l : Device). l.reads) old = wrote.unread (leaf-plain c i first (length sectors)) in

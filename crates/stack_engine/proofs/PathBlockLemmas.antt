@@ -14,7 +14,7 @@ use Rattle.stack_lines.specs.declared.tree.Extent.{Extent}
 use Rattle.stack_lines.specs.declared.tree.Tree.{Tree}
 use Rattle.stack_meaning.specs.Blocks.{hash_sectors, hash_place, hash_start, next_digest}
 use Rattle.stack_lines.specs.Caches.{IsPlaceOf}
-use Rattle.stack_lines.specs.Extents.{LiesInside, IsExtent}
+use Rattle.stack_lines.specs.Extents.{LiesInsideLower, IsExtent}
 use Rattle.stack_meaning.specs.Places.{Place, place_of}
 use Rattle.stack_meaning.specs.Reading.{Gets}
 use Rattle.stack_lines.specs.Walks.{checked_expected, data_expected, place_named, block_in, GetsChain, IsTreeOf, IsWalked}
@@ -61,7 +61,7 @@ place_key c v tree level index key e is named_so at =
     let there : Extent = record { lower = tree.hash; first = hash_start v level index; sectors = hash_sectors v } in
     subst (λ (k : Key). IsPlaceOf c v.salt k e) (sym named_so)
     (subst (IsPlaceOf c v.salt own) (sym at.value)
-    (record { verity = v; line = is.is; salt_is = refl; hash = is.on_hash; first = ap (λ (s : ShapeRecord). hash_place v level (ancestor s (level + 1) index)) (sym is.shape_is); sectors = refl; lies = subst (LiesInside c) at.value at.lies }))
+    (record { verity = v; line = is.is; salt_is = refl; hash = is.on_hash; first = ap (λ (s : ShapeRecord). hash_place v level (ancestor s (level + 1) index)) (sym is.shape_is); sectors = refl; lies = subst (LiesInsideLower c) at.value at.lies }))
 
 -- ---- the walk
 

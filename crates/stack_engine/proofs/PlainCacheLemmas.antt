@@ -14,7 +14,7 @@ use Rattle.stack_lines.specs.declared.source.BlockPart.{BlockPart}
 use Rattle.stack_lines.specs.declared.source.Source.{Source}
 use Rattle.stack_lines.specs.declared.source.Source.TheVariants.{Below, Units, UnitPart, Block, Blocks}
 use Rattle.stack_lines.specs.declared.units.WholeUnit.{WholeUnit}
-use Rattle.stack_lines.specs.Sources.{AreBlocks, AreUnits, HasCrypt, IsServed, IsWholeOf, LieInBlock, LieInUnit, source_said}
+use Rattle.stack_lines.specs.Sources.{AreWholeBlocks, AreUnits, HasCrypt, IsServed, IsWholeOf, LieInBlock, LieInUnit, source_said}
 use Rattle.stack_lines.proofs.lemmas.SourceLemmas.{below_plain, device_plain}
 use Rattle.stack_lines.proofs.lemmas.UnitSourceLemmas.{part-plain, units-plain}
 use Rattle.stack_engine.proofs.BlockPartLemmas.{block_plain}
@@ -48,5 +48,5 @@ module _ (c : Configuration) where
   pub meets-block : (b : BlockPart) (n : ℕ) → 0 < n → LieInBlock c b.device.0 b.line b.first n → MeetVerity (source_said c (Block b)) 0 n
   meets-block b n some lies = let plain : IsPlain (source_said c (Block b)) 0 n [] [] (Err io.NoMemory) = block_plain c b n some lies in plain.memory refl
 
-  pub meets-blocks : (b : BlockPart) (n : ℕ) → 0 < n → AreBlocks c b.device.0 b.line b.first n → MeetVerity (source_said c (Blocks b)) 0 n
+  pub meets-blocks : (b : BlockPart) (n : ℕ) → 0 < n → AreWholeBlocks c b.device.0 b.line b.first n → MeetVerity (source_said c (Blocks b)) 0 n
   meets-blocks b n some blocks = let plain : IsPlain (source_said c (Blocks b)) 0 n [] [] (Err io.NoMemory) = blocks_plain c b n some blocks in plain.memory refl

@@ -10,7 +10,7 @@ use Rattle.dm_table.specs.Grammar.{IsLineOfGrammar}
 use Rattle.table_printer.specs.Print.{spaced_word, target_words}
 use Rattle.dm_table.specs.TableText.{table_of}
 use Rattle.dm_table.specs.Words.{Word}
-use Rattle.table_printer.specs.ArgumentWords.{verity_words, salt_word as table_salt_word}
+use Rattle.table_printer.specs.ArgumentWords.{verity_words, table_salt_word}
 use Rattle.table_printer.proofs.lemmas.ReadBackLemmas.{line-reads-back}
 use Rattle.stack_engine.specs.TableLines.{image_line, AreLineParts, TableLinesReadBack}
 

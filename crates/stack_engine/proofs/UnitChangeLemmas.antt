@@ -31,7 +31,7 @@ use Rattle.stack_lines.specs.Touches.{EndsAtFailure, failures_behind, failures_o
 use Rattle.stack_meaning.specs.Changes.{AllWhole, reached, KeepsOthers, AreWritten}
 use Rattle.stack_meaning.specs.Reading.{Ends, Answers, MeetVerity, IsPlain}
 use Rattle.stack_lines.specs.Sources.{LieInUnit, IsWholeOf, cost_beneath, source_said, ReadsSource}
-use Rattle.stack_lines.specs.Writing.{SomeEncrypt, sectors_in, put_on_line, MayEnd, IsPut, FailedBy, StopsAt, IsCounted, StopsAtFault, StopsBehindPut, with_some, Writes, source_destination}
+use Rattle.stack_lines.specs.Writing.{SomeEncrypt, sectors_in, put_on_line, MayEnd, IsPut, FailedBy, StopsAt, IsCounted, StopsAtFault, StopsBehindPut, with_some, WritesSectors, source_destination}
 use Rattle.stack_rules.proofs.lemmas.UnitLemmas.{unit_sectors-some}
 use Rattle.stack_lines.proofs.lemmas.UnitLineLemmas.{IsUnitLine, unit-line, cost-beneath, unit-said}
 use Rattle.stack_lines.proofs.lemmas.UnitPutLemmas.{sectors_in-of, whole-put, some-put}
@@ -251,7 +251,7 @@ module _ (c : Configuration) (b : BlockPart) (whole : WholeUnit) (bytes : List �
   -- it ended by a fault
   pub part-ended : {old new : List Device} {found after : List FoundRecord} (fault : IoFault) → AllWhole old
       → ReadsSource c (Units whole.from) whole.sectors (record { old = old; new = new; before = found; after = after }) (Err fault) → IsPlain (source_said c (Units whole.from)) 0 whole.sectors old new (Err fault)
-      → EndsAtFailure {A = Unit {0}} old new (Err fault) → Writes (source_destination c (UnitPart b)) 0 (sectors_in bytes) old new (Err fault)
+      → EndsAtFailure {A = Unit {0}} old new (Err fault) → WritesSectors (source_destination c (UnitPart b)) 0 (sectors_in bytes) old new (Err fault)
   part-ended {old = old} {new = new} {after = after} fault all p q ends = record {
     moved = AreWritten-more (λ x h. h) (omega (arith, paid)) (read-moved (Err fault) (Err fault) p q);
     ends = read-ends old new after fault p.got.may (λ is. none-meets (q.memory (ap err_of is)));
@@ -288,8 +288,8 @@ module _ (c : Configuration) (b : BlockPart) (whole : WholeUnit) (bytes : List �
   pub part-written : {old mid new : List Device} {found after : List FoundRecord} {plain out : List ℕ} {result : Result Unit IoFault} → AllWhole old
       → ReadsSource c (Units whole.from) whole.sectors (record { old = old; new = mid; before = found; after = after }) (Ok plain) → IsPlain (source_said c (Units whole.from)) 0 whole.sectors old mid (Ok tt) → failures_of mid ≡ failures_of old
       → out ≡ put_at plain (512 * (b.first % unit_sectors of.crypt)) bytes
-      → Writes (source_destination c (Units whole.from)) 0 (sectors_in out) mid new result
-      → Writes (source_destination c (UnitPart b)) 0 (sectors_in bytes) old new result
+      → WritesSectors (source_destination c (Units whole.from)) 0 (sectors_in out) mid new result
+      → WritesSectors (source_destination c (UnitPart b)) 0 (sectors_in bytes) old new result
   part-written {old = old} {mid = mid} {new = new} {plain = plain} {out = out} {result = result} all p q none_failed is w =
       let u : ℕ = unit_sectors of.crypt in
       let long : length plain ≡ 512 * u = p.got.may.len ∙ ap (λ (k : ℕ). 512 * k) of.sectors in

@@ -12,7 +12,7 @@ use Rattle.stack_rules.specs.Units.{unit_sectors}
 use Rattle.stack_rules.proofs.lemmas.UnitLemmas.{unit_sectors-some, unit-bytes}
 use Rattle.xts_sector.specs.Units.{unit}
 use Rattle.stack_meaning.specs.declared.fault.IoFault.{IoFault}
-use Rattle.stack_lines.specs.Writing.{sectors_in, destination_of, Writes}
+use Rattle.stack_lines.specs.Writing.{sectors_in, destination_of, WritesSectors}
 use Rattle.stack_engine.proofs.UnitWriteLemmas.{at-is, next-is, next-even, one-is, one-fits}
 
 -- from byte `at` on to the byte `end`, of n sectors in units of `size` bytes
@@ -64,11 +64,11 @@ module _ {crypt : Crypt} {n at size end : ℕ} (step : IsStep crypt n at size en
   step-within = omega (arith, step.place, step.fits)
 
   pub step-written : (c : Configuration) (lower : Lower) (start first : ℕ) (now new bytes : List ℕ) {old mid : List Device} {result : Result Unit IoFault} → start ≡ first → drop at now ≡ drop at new → new ≡ bytes
-      → Writes (destination_of c lower) (start + at / 512) (sectors_in (take (end - at) (drop at now))) old mid result
-      → Writes (destination_of c lower) (first + at / size * unit_sectors crypt) (sectors_in (unit (sector_size crypt) bytes (at / size))) old mid result
+      → WritesSectors (destination_of c lower) (start + at / 512) (sectors_in (take (end - at) (drop at now))) old mid result
+      → WritesSectors (destination_of c lower) (first + at / size * unit_sectors crypt) (sectors_in (unit (sector_size crypt) bytes (at / size))) old mid result
   step-written c lower start first now new bytes {old = old} {mid = mid} {result = result} from rest same wrote =
       let place : start + at / 512 ≡ first + at / size * unit_sectors crypt = omega (arith, from, step.place) in
       let one : take (end - at) (drop at now) ≡ unit (sector_size crypt) bytes (at / size) =
       ap (λ (k : ℕ). take (k - at) (drop at now)) step.end_is ∙ ap (take (at + size - at)) rest ∙ ap (λ (x : List ℕ). take (at + size - at) (drop at x)) same ∙ step.one bytes in
-      subst (λ (k : ℕ). Writes (destination_of c lower) k (sectors_in (unit (sector_size crypt) bytes (at / size))) old mid result) place
-      (subst (λ (b : List ℕ). Writes (destination_of c lower) (start + at / 512) (sectors_in b) old mid result) one wrote)
+      subst (λ (k : ℕ). WritesSectors (destination_of c lower) k (sectors_in (unit (sector_size crypt) bytes (at / size))) old mid result) place
+      (subst (λ (b : List ℕ). WritesSectors (destination_of c lower) (start + at / 512) (sectors_in b) old mid result) one wrote)

@@ -31,7 +31,7 @@ use Rattle.stack_lines.proofs.lemmas.TouchLemmas.{crypt-within, one-within}
 use Rattle.stack_meaning.specs.Changes.{reached}
 use Rattle.stack_lines.specs.Cuts.{PutsInSteps}
 use Rattle.stack_lines.specs.Sources.{HasCrypt, AreUnits, source_said}
-use Rattle.stack_lines.specs.Writing.{sectors_in, put_on_line, IsPut, StopsAt, StopsAtFault, StopsBehindPut, with_some, destination_of, Writes, source_destination}
+use Rattle.stack_lines.specs.Writing.{sectors_in, put_on_line, IsPut, StopsAt, StopsAtFault, StopsBehindPut, with_some, destination_of, WritesSectors, source_destination}
 use Rattle.stack_rules.proofs.lemmas.UnitLemmas.{unit_sectors-some, unit-bytes}
 use Rattle.stack_lines.proofs.lemmas.UnitLineLemmas.{cost-beneath, unit-said}
 use Rattle.stack_lines.proofs.lemmas.UnitSourceLemmas.{units-aligned, units-whole, units-up}
@@ -105,7 +105,7 @@ module _ (c : Configuration) (b : BlockPart) (bytes : List ℕ) (n : ℕ) (crypt
   -- units that were written beneath, from the a-th sector on
   raised : (a : ℕ) (xs ys : List (List ℕ)) {old new : List Device} {result : Result Unit IoFault} → a % unit_sectors crypt ≡ 0 → length xs ≡ length ys
       → ((images : Images) → (source_destination c (Units b)).puts a xs images ≡ put_on c lower (unit_first crypt b.first + a) ys images)
-      → Writes (destination_of c lower) (unit_first crypt b.first + a) ys old new result → Writes (source_destination c (Units b)) a xs old new result
+      → WritesSectors (destination_of c lower) (unit_first crypt b.first + a) ys old new result → WritesSectors (source_destination c (Units b)) a xs old new result
   raised a xs ys {old = old} {new = new} {result = result} even count puts p = record {
     moved = AreWritten-more (λ q some. subst (λ (m : ℕ). reached (λ j. (source_said c (Units b) j).reaches) a m q) (sym count) (reach-up a (length ys) even q some))
         (let same = ap (λ (k : ℕ). k * write_cost c lower) count in let dear = ap (λ (k : ℕ). length xs * k) paid in omega (arith, same, dear)) p.moved;
@@ -132,8 +132,8 @@ module _ (c : Configuration) (b : BlockPart) (bytes : List ℕ) (n : ℕ) (crypt
 
   -- one unit was written beneath
   pub unit-written : (i : ℕ) {old new : List Device} {result : Result Unit IoFault} → i * unit_sectors crypt + unit_sectors crypt ≤ n
-      → Writes (destination_of c lower) (unit_first crypt b.first + i * unit_sectors crypt) (sectors_in (unit (sector_size crypt) (encrypted_units crypt (b.first / unit_sectors crypt) bytes) i)) old new result
-      → Writes (source_destination c (Units b)) (i * unit_sectors crypt) (sectors_in (unit (sector_size crypt) bytes i)) old new result
+      → WritesSectors (destination_of c lower) (unit_first crypt b.first + i * unit_sectors crypt) (sectors_in (unit (sector_size crypt) (encrypted_units crypt (b.first / unit_sectors crypt) bytes) i)) old new result
+      → WritesSectors (source_destination c (Units b)) (i * unit_sectors crypt) (sectors_in (unit (sector_size crypt) bytes i)) old new result
   unit-written i fits p =
       let u : ℕ = unit_sectors crypt in
       let one = unit (sector_size crypt) bytes i in
@@ -161,21 +161,21 @@ module _ (c : Configuration) (b : BlockPart) (bytes : List ℕ) (n : ℕ) (crypt
         ∙ ap (λ (k : ℕ). then_put (on_line k xs images) (on_line (b.first + i * u) ys)) (sym first)
         ∙ ap (λ (k : ℕ). then_put (on_line (b.first + 0) xs images) (on_line k ys)) at
 
-    next : {mid new : List Device} {result : Result Unit IoFault} → Writes (destination_of c lower) (unit_first crypt b.first + i * unit_sectors crypt) (sectors_in (unit (sector_size crypt) (encrypted_units crypt (b.first / unit_sectors crypt) bytes) i)) mid new result
-        → Writes (source_destination c (Units b)) (0 + length (sectors_in (take (512 * (i * unit_sectors crypt)) bytes))) (sectors_in (unit (sector_size crypt) bytes i)) mid new result
+    next : {mid new : List Device} {result : Result Unit IoFault} → WritesSectors (destination_of c lower) (unit_first crypt b.first + i * unit_sectors crypt) (sectors_in (unit (sector_size crypt) (encrypted_units crypt (b.first / unit_sectors crypt) bytes) i)) mid new result
+        → WritesSectors (source_destination c (Units b)) (0 + length (sectors_in (take (512 * (i * unit_sectors crypt)) bytes))) (sectors_in (unit (sector_size crypt) bytes i)) mid new result
     next {mid = mid} {new = new} {result = result} q =
         let at : i * unit_sectors crypt ≡ 0 + length (sectors_in (take (512 * (i * unit_sectors crypt)) bytes)) = omega (arith, count-front) in
-        subst (λ (k : ℕ). Writes (source_destination c (Units b)) k (sectors_in (unit (sector_size crypt) bytes i)) mid new result) at (unit-written i fits q)
+        subst (λ (k : ℕ). WritesSectors (source_destination c (Units b)) k (sectors_in (unit (sector_size crypt) bytes i)) mid new result) at (unit-written i fits q)
 
-    pub units-more : {old mid new : List Device} → Writes (source_destination c (Units b)) 0 (sectors_in (take (512 * (i * unit_sectors crypt)) bytes)) old mid (Ok tt) → Writes (destination_of c lower) (unit_first crypt b.first + i * unit_sectors crypt) (sectors_in (unit (sector_size crypt) (encrypted_units crypt (b.first / unit_sectors crypt) bytes) i)) mid new (Ok tt)
-        → Writes (source_destination c (Units b)) 0 (sectors_in (take (512 * (suc i * unit_sectors crypt)) bytes)) old new (Ok tt)
+    pub units-more : {old mid new : List Device} → WritesSectors (source_destination c (Units b)) 0 (sectors_in (take (512 * (i * unit_sectors crypt)) bytes)) old mid (Ok tt) → WritesSectors (destination_of c lower) (unit_first crypt b.first + i * unit_sectors crypt) (sectors_in (unit (sector_size crypt) (encrypted_units crypt (b.first / unit_sectors crypt) bytes) i)) mid new (Ok tt)
+        → WritesSectors (source_destination c (Units b)) 0 (sectors_in (take (512 * (suc i * unit_sectors crypt)) bytes)) old new (Ok tt)
     units-more {old = old} {new = new} p q =
-        subst (λ (l : List (List ℕ)). Writes (source_destination c (Units b)) 0 l old new (Ok tt)) (sym (front-more c b.device.0 b.line crypt has lower is b.first bytes n aligned len whole i fits))
+        subst (λ (l : List (List ℕ)). WritesSectors (source_destination c (Units b)) 0 l old new (Ok tt)) (sym (front-more c b.device.0 b.line crypt has lower is b.first bytes n aligned len whole i fits))
         (write_ok (source_destination c (Units b)) 0 (sectors_in (take (512 * (i * unit_sectors crypt)) bytes)) (sectors_in (unit (sector_size crypt) bytes i)) p (parts (sectors_in (unit (sector_size crypt) bytes i))) (next q))
 
     -- the i-th unit ends the write by its fault
-    pub units-ended : {old mid new : List Device} → Writes (source_destination c (Units b)) 0 (sectors_in (take (512 * (i * unit_sectors crypt)) bytes)) old mid (Ok tt) → (fault : IoFault) → Writes (destination_of c lower) (unit_first crypt b.first + i * unit_sectors crypt) (sectors_in (unit (sector_size crypt) (encrypted_units crypt (b.first / unit_sectors crypt) bytes) i)) mid new (Err fault)
-        → Writes (source_destination c (Units b)) 0 (sectors_in bytes) old new (Err fault)
+    pub units-ended : {old mid new : List Device} → WritesSectors (source_destination c (Units b)) 0 (sectors_in (take (512 * (i * unit_sectors crypt)) bytes)) old mid (Ok tt) → (fault : IoFault) → WritesSectors (destination_of c lower) (unit_first crypt b.first + i * unit_sectors crypt) (sectors_in (unit (sector_size crypt) (encrypted_units crypt (b.first / unit_sectors crypt) bytes) i)) mid new (Err fault)
+        → WritesSectors (source_destination c (Units b)) 0 (sectors_in bytes) old new (Err fault)
     units-ended {old = old} {new = new} p fault q =
         let u : ℕ = unit_sectors crypt in
         let xs = sectors_in (take (512 * (i * u)) bytes) in
@@ -187,7 +187,7 @@ module _ (c : Configuration) (b : BlockPart) (bytes : List ℕ) (n : ℕ) (crypt
         ∙ sectors_in-append (take (512 * (suc i * u)) bytes) rest (omega (arith, size))
         ∙ ap (λ (l : List (List ℕ)). l ++ sectors_in rest) (front-more c b.device.0 b.line crypt has lower is b.first bytes n aligned len whole i fits) in
         let grouped : xs ++ (ys ++ sectors_in rest) ≡ (xs ++ ys) ++ sectors_in rest = sym (append_assoc xs ys (sectors_in rest)) in
-        subst (λ (l : List (List ℕ)). Writes (source_destination c (Units b)) 0 l old new (Err fault)) (grouped ∙ sym all)
+        subst (λ (l : List (List ℕ)). WritesSectors (source_destination c (Units b)) 0 l old new (Err fault)) (grouped ∙ sym all)
         (write_err (source_destination c (Units b)) 0 xs ys p (sectors_in rest) fault (none-put c b) parts (behind rest all) (next q))
       where
         behind : (rest : List ℕ) → sectors_in bytes ≡ (sectors_in (take (512 * (i * unit_sectors crypt)) bytes) ++ sectors_in (unit (sector_size crypt) bytes i)) ++ sectors_in rest → (images : Images)
@@ -249,8 +249,8 @@ module _ (crypt : Crypt) (len n at size : ℕ) (is : size ≡ sector_size crypt)
 
 pub lower-written : (c : Configuration) (b : BlockPart) (bytes : List ℕ) (n : ℕ) (crypt : Crypt) (loaded : IsLoaded c) (has : HasCrypt c b.device.0 b.line crypt) (units : AreUnits c b.device.0 b.line b.first n) (lower : Lower)
     (is : named c crypt.base.device ≡ Some lower) (len : length bytes ≡ 512 * n) (cut : PutsInSteps (put_on c lower) (unit_first crypt b.first) n (record { size = unit_sectors crypt; skip = 0 })) {old new : List Device} {result : Result Unit IoFault}
-    → Writes (destination_of c lower) (unit_first crypt b.first) (sectors_in (encrypted_units crypt (b.first / unit_sectors crypt) bytes)) old new result
-    → Writes (source_destination c (Units b)) 0 (sectors_in bytes) old new result
+    → WritesSectors (destination_of c lower) (unit_first crypt b.first) (sectors_in (encrypted_units crypt (b.first / unit_sectors crypt) bytes)) old new result
+    → WritesSectors (source_destination c (Units b)) 0 (sectors_in bytes) old new result
 lower-written c b bytes n crypt loaded has units lower is len cut {old = old} {new = new} {result = result} p =
     let u : ℕ = unit_sectors crypt in
     let aligned = units-aligned c b.device.0 b.line b.first n crypt loaded has units in
@@ -273,4 +273,4 @@ lower-written c b bytes n crypt loaded has units lower is len cut {old = old} {n
     ∙ lower-units c b.device.0 b.line crypt has lower is b.first bytes n aligned len whole cut m images (omega (arith, all))
     ∙ ap (λ (x : List ℕ). put_on c lower (unit_first crypt b.first) (sectors_in x) images) whole_enc
     ∙ ap (λ (j : ℕ). put_on c lower j (sectors_in enc) images) (sym zero_on))
-    (subst (λ (j : ℕ). Writes (destination_of c lower) j (sectors_in enc) old new result) (sym zero_on) p)
+    (subst (λ (j : ℕ). WritesSectors (destination_of c lower) j (sectors_in enc) old new result) (sym zero_on) p)

@@ -4,7 +4,7 @@ use Rattle.block_device.specs.Device.{Device}
 use Rattle.stack_rules.specs.Records.{Configuration}
 use Rattle.stack_meaning.specs.declared.fault.IoFault.{IoFault}
 use Rattle.stack_meaning.specs.Found.{FoundRecord}
-use Rattle.stack_meaning.specs.Places.{Read}
+use Rattle.stack_meaning.specs.Places.{LeafRead}
 use Rattle.stack_lines.specs.Caches.{KeepsCache}
 use Rattle.stack_lines.specs.Forgetting.{Forgets}
 use Rattle.stack_lines.specs.Touches.{AsksOnly}
@@ -34,5 +34,5 @@ abbrev pub ForgetsOn : {D : Type 0} → (D → Device) → Configuration → (�
 ForgetsOn state c these old new = Forgets c these (leaves_in state old) (leaves_in state new) old.cache.blocks.blocks new.cache.blocks.blocks
 
 -- a read: the leaves and the chains that were found, before and behind it
-abbrev pub did : {D : Type 0} → (D → Device) → Backing D → List FoundRecord → Backing D → List FoundRecord → Read
+abbrev pub did : {D : Type 0} → (D → Device) → Backing D → List FoundRecord → Backing D → List FoundRecord → LeafRead
 did state old before new after = record { old = leaves_in state old; new = leaves_in state new; before = before; after = after }

@@ -3,7 +3,7 @@ use Rattle.std.specs.Prelude.{◌≡◌, ℕ, List, [], ◌∷◌, ◌++◌, map
 use Rattle.stack_rules.specs.Records.{Configuration}
 use Rattle.stack_meaning.specs.declared.fault.IoFault.{IoFault}
 use Rattle.stack_meaning.specs.Found.{FoundRecord}
-use Rattle.stack_meaning.specs.Places.{Read}
+use Rattle.stack_meaning.specs.Places.{LeafRead}
 use Rattle.stack_lines.specs.declared.source.BlockPart.{BlockPart}
 use Rattle.stack_lines.specs.declared.source.Source.TheVariants.{Blocks}
 use Rattle.stack_lines.specs.Sources.{ReadsSource}
@@ -26,7 +26,7 @@ AreHandedOut Kept before after out = out ≡ after
 AreHandedOut Dropped before after out = out ≡ before
 
 -- A read of n sectors, which are whole data blocks: some chains were found, and are handed out or dropped.
-pub record ReadsBlocks (c : Configuration) (part : BlockPart) (n : ℕ) (chains : Chains) (did : Read) (answer : Result (List ℕ) IoFault) : Type 0 where
+pub record ReadsBlocks (c : Configuration) (part : BlockPart) (n : ℕ) (chains : Chains) (did : LeafRead) (answer : Result (List ℕ) IoFault) : Type 0 where
   pub after : List FoundRecord
   pub out : AreHandedOut chains did.before after did.after
   pub reads : ReadsSource c (Blocks part) n (record { old = did.old; new = did.new; before = did.before; after = after }) answer

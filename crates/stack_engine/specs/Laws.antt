@@ -4,7 +4,7 @@ use Rattle.std.specs.List.{slice_index_or, concat}
 use Rattle.sha2.specs.Sha256.{sha256}
 use Rattle.hash_tree.specs.declared.difference.Place.{Place}
 use Rattle.hash_tree.specs.Chain.{ChainRecord, IsGood, formed}
-use Rattle.hash_tree.specs.Difference.{IsTopmostDifference, block_at as chain_block}
+use Rattle.hash_tree.specs.Difference.{IsTopmostDifference, chain_at as chain_block}
 use Rattle.tree_shape.specs.Digests.{digest}
 use Rattle.hash_tree.specs.Laws.{AreBlocks}
 use Rattle.tree_shape.specs.Shape.{area_blocks}
@@ -18,7 +18,7 @@ use Rattle.stack_rules.specs.Lines.{line_at}
 use Rattle.stack_rules.specs.Names.{mapped}
 use Rattle.stack_rules.specs.Records.{Configuration}
 use Rattle.stack_rules.specs.Rules.{IsLoaded}
-use Rattle.stack_rules.specs.Trees.{tree_of, data_sectors, block_sectors, zero_block}
+use Rattle.stack_rules.specs.Trees.{tree_of, line_data_sectors, block_sectors, zero_block}
 use Rattle.stack_meaning.specs.Blocks.{hash_sectors, is_ignored}
 use Rattle.stack_meaning.specs.Found.{FoundRecord}
 use Rattle.stack_meaning.specs.Leaves.{steady_images, AreSteady}
@@ -41,16 +41,16 @@ use Rattle.stack_engine.specs.Stacks.{StackRecord, AnswerRecord}
 abbrev pub named_sector : Configuration → Images → List ℕ → ℕ → Outcome
 named_sector c images name s = (said_by_name c name s).means images
 
-abbrev pub digests_of : Verity → List (List ℕ) → List (List ℕ)
-digests_of v blocks = map (digest v.salt) blocks
+abbrev pub verity_digests : Verity → List (List ℕ) → List (List ℕ)
+verity_digests v blocks = map (digest v.salt) blocks
 
 -- The data device of a verity line begins with the blocks, the hash device has their tree where the line says, and
 -- the line has its root.
 pub record AreFormatted (c : Configuration) (images : Images) (v : Verity) (blocks : List (List ℕ)) : Type 0 where
   pub sized : AreBlocks v.blocks v.data_block blocks
-  pub on_data : span (named_sector c images v.data) 0 (data_sectors v) ≡ Ok (concat blocks)
-  pub on_hash : span (named_sector c images v.hash) (hash_sectors v * v.start) (hash_sectors v * area_blocks (tree_of v)) ≡ Ok (concat (area v.hash_block v.salt (digests_of v blocks)))
-  pub root_is : v.root ≡ root v.hash_block v.salt (digests_of v blocks)
+  pub on_data : span (named_sector c images v.data) 0 (line_data_sectors v) ≡ Ok (concat blocks)
+  pub on_hash : span (named_sector c images v.hash) (hash_sectors v * v.start) (hash_sectors v * area_blocks (tree_of v)) ≡ Ok (concat (area v.hash_block v.salt (verity_digests v blocks)))
+  pub root_is : v.root ≡ root v.hash_block v.salt (verity_digests v blocks)
 
 -- sector s of a device lies in a verity line, the l-th
 pub record LiesInVerity (c : Configuration) (d s l : ℕ) (line : Line) (v : Verity) : Type 0 where
@@ -104,7 +104,7 @@ pub record IsSha256Collision (a b : List ℕ) : Type 0 where
 abbrev pub ForgedAnswersCollide : Type 0
 ForgedAnswersCollide = (c : Configuration) → IsLoaded c → (lower : Lower) (first n : ℕ) (bytes : List ℕ) (chains : List FoundRecord) → MayBe c lower first n bytes chains
     → (x : FoundRecord) → Contains chains x → (v : Verity) → HasVerity c x.device x.line v
-    → (blocks : List (List ℕ)) → AreBlocks v.blocks v.data_block blocks → v.root ≡ root v.hash_block v.salt (digests_of v blocks)
+    → (blocks : List (List ℕ)) → AreBlocks v.blocks v.data_block blocks → v.root ≡ root v.hash_block v.salt (verity_digests v blocks)
     → x.chain.content ≢ slice_index_or blocks x.chain.index []
     → (place : Place) × (IsTopmostDifference (formed (tree_of v) v.salt blocks x.chain.index) x.chain place
     × IsSha256Collision (v.salt ++ chain_block (formed (tree_of v) v.salt blocks x.chain.index) place) (v.salt ++ chain_block x.chain place))
@@ -113,7 +113,7 @@ ForgedAnswersCollide = (c : Configuration) → IsLoaded c → (lower : Lower) (f
 abbrev pub ForgedBytesCollide : Type 0
 ForgedBytesCollide = (c : Configuration) → IsLoaded c → (lower : Lower) (first n : ℕ) (bytes : List ℕ) (may : MayBeBytes c lower first n bytes)
     → (x : FoundRecord) → Contains may.chains x → (v : Verity) → HasVerity c x.device x.line v
-    → (blocks : List (List ℕ)) → AreBlocks v.blocks v.data_block blocks → v.root ≡ root v.hash_block v.salt (digests_of v blocks)
+    → (blocks : List (List ℕ)) → AreBlocks v.blocks v.data_block blocks → v.root ≡ root v.hash_block v.salt (verity_digests v blocks)
     → x.chain.content ≢ slice_index_or blocks x.chain.index []
     → (place : Place) × (IsTopmostDifference (formed (tree_of v) v.salt blocks x.chain.index) x.chain place
     × IsSha256Collision (v.salt ++ chain_block (formed (tree_of v) v.salt blocks x.chain.index) place) (v.salt ++ chain_block x.chain place))
@@ -132,7 +132,7 @@ pub record ChainCollides (v : Verity) (blocks : List (List ℕ)) (index : ℕ) :
 abbrev pub ForgedSectorsCollide : Type 0
 ForgedSectorsCollide = (c : Configuration) → IsLoaded c → (d first n : ℕ) (bytes : List ℕ) → MayBeBytes c (mapped d) first n bytes
     → (j : ℕ) → j < n → (l : ℕ) (line : Line) (v : Verity) → LiesInVerity c d (first + j) l line v
-    → (blocks : List (List ℕ)) → AreBlocks v.blocks v.data_block blocks → v.root ≡ root v.hash_block v.salt (digests_of v blocks)
+    → (blocks : List (List ℕ)) → AreBlocks v.blocks v.data_block blocks → v.root ≡ root v.hash_block v.salt (verity_digests v blocks)
     → let w = first + j - line.start in let index = w / block_sectors v in
     part bytes j ≢ content_part v w (slice_index_or blocks index []) → ChainCollides v blocks index
 

@@ -8,7 +8,7 @@ use Rattle.stack_meaning.specs.declared.fault.IoFault.{IoFault}
 use Rattle.stack_meaning.specs.Changes.{NoneRead}
 use Rattle.stack_lines.specs.declared.source.Source.{Source}
 use Rattle.stack_lines.specs.WriteBudgets.{Counter, CountsAtMost, write_budget, source_write_budget}
-use Rattle.stack_lines.specs.Writing.{sectors_in, destination_of, Writes, source_destination}
+use Rattle.stack_lines.specs.Writing.{sectors_in, destination_of, WritesSectors, source_destination}
 use Rattle.stack_engine.specs.declared.backing.Backing.{Backing}
 use Rattle.stack_engine.specs.Backings.{leaves_in}
 use Rattle.stack_engine.specs.Premises.{CanWrite}
@@ -21,7 +21,7 @@ CanPut state c backing source bytes = CanWrite c (leaves_in state backing) backi
 -- ---- to a source
 
 abbrev pub PutTo : {D : Type 0} → (D → Device) → Configuration → Source → List ℕ → Backing D → Backing D → Result Unit IoFault → Type 0
-PutTo state c source bytes old new result = Writes (source_destination c source) 0 (sectors_in bytes) (leaves_in state old) (leaves_in state new) result
+PutTo state c source bytes old new result = WritesSectors (source_destination c source) 0 (sectors_in bytes) (leaves_in state old) (leaves_in state new) result
 
 -- where no unit is cut none is read
 abbrev pub UncutTo : {D : Type 0} → (D → Device) → Configuration → Source → List ℕ → Backing D → Backing D → Type 0
@@ -34,7 +34,7 @@ PaidTo state c source bytes old new = (k : Counter) → CountsAtMost k (source_w
 -- ---- to a leaf or a device
 
 abbrev pub PutAt : {D : Type 0} → (D → Device) → Configuration → Lower → ℕ → List ℕ → Backing D → Backing D → Result Unit IoFault → Type 0
-PutAt state c lower first bytes old new result = Writes (destination_of c lower) first (sectors_in bytes) (leaves_in state old) (leaves_in state new) result
+PutAt state c lower first bytes old new result = WritesSectors (destination_of c lower) first (sectors_in bytes) (leaves_in state old) (leaves_in state new) result
 
 abbrev pub UncutAt : {D : Type 0} → (D → Device) → Configuration → Lower → ℕ → List ℕ → Backing D → Backing D → Type 0
 UncutAt state c lower first bytes old new = CutsNone c lower first (length bytes / 512) → NoneRead (leaves_in state old) (leaves_in state new)

@@ -8,7 +8,7 @@ ghost use Rattle.stack_meaning.specs.Found.{FoundRecord};
 ghost use Rattle.stack_meaning.specs.Meaning.{said_at};
 ghost use Rattle.stack_meaning.specs.Reading.{Gets, Reads, IsPlain, buffer_answer};
 ghost use Rattle.stack_lines.specs.Sources.{ReadsSource};
-ghost use Rattle.stack_lines.specs.Extents.{LiesInside};
+ghost use Rattle.stack_lines.specs.Extents.{LiesInsideLower};
 ghost use Rattle.stack_lines.specs.Touches.{AsksOnly, leaves_of, source_leaves};
 ghost use Rattle.stack_lines.specs.Walks.{HasDataBlock};
 ghost use Rattle.stack_lines.specs.Caches.{IsCached, IsPlaceOf};
@@ -517,7 +517,7 @@ fn read_checked<D: BlockDev>(
     expected: &Digest,
 ) -> Result<Vec<u8>, IoFault>
     requires stack { IsBacking D.state config.now backing.old }
-    requires lies { LiesInside config.now extent }
+    requires lies { LiesInsideLower config.now extent }
     ensures reads { GetsBy D.state (extent_wanted config.now extent salt.now expected.now) backing.old backing.new result }
     ensures cached { StaysSound D.state config.now backing.old backing.new }
     ensures touches { Asks D.state (leaves_of config.now extent.lower) backing.old backing.new result }

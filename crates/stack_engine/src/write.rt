@@ -4,7 +4,7 @@ ghost use Rattle.stack_rules.specs.Names.{mapped, may_write};
 ghost use Rattle.stack_lines.specs.declared.source.Source.TheVariants.{Below};
 ghost use Rattle.stack_meaning.specs.Meaning.{said_at};
 ghost use Rattle.stack_lines.specs.Sources.{source_said};
-ghost use Rattle.stack_lines.specs.Writing.{AreHeld, sectors_in, destination_of, Writes};
+ghost use Rattle.stack_lines.specs.Writing.{AreHeld, sectors_in, destination_of, WritesSectors};
 ghost use Rattle.stack_lines.specs.Touches.{leaves_of, source_leaves};
 ghost use Rattle.stack_engine.specs.Stacks.{IsSound};
 ghost use Rattle.stack_engine.specs.Premises.{FitsIn};
@@ -30,7 +30,7 @@ fn write_sectors<D: BlockDev>(
     requires sound { IsSound config.now (map D.state devices.old) }
     requires allowed { IsTrue (may_write config.now (Lower.Leaf leaf)) }
     requires fits { FitsIn config.now (Below (Lower.Leaf leaf) first) bytes.now }
-    ensures { Writes (destination_of config.now (Lower.Leaf leaf)) first (sectors_in bytes.now)
+    ensures { WritesSectors (destination_of config.now (Lower.Leaf leaf)) first (sectors_in bytes.now)
         (map D.state devices.old) (map D.state devices.new) result }
 {
     match devices[leaf as usize].write(first, bytes) {

@@ -14,13 +14,13 @@ use Rattle.stack_meaning.specs.Meaning.{Said, said_at}
 use Rattle.stack_lines.specs.declared.source.BlockPart.{BlockPart}
 use Rattle.stack_lines.specs.declared.source.Source.{Source}
 use Rattle.stack_lines.specs.declared.source.Source.TheVariants.{Below, Units, UnitPart, Zeros, Fails, Block, Blocks}
-use Rattle.stack_lines.specs.Sources.{AreBlocks, BeginsAt, IsServed, LieInBlock, source_said}
+use Rattle.stack_lines.specs.Sources.{AreWholeBlocks, BeginsAt, IsServed, LieInBlock, source_said}
 use Rattle.stack_lines.specs.Walks.{IsOnVerity}
 use Rattle.stack_lines.proofs.lemmas.SourceLemmas.{served-said}
 use Rattle.stack_extents.specs.declared.extent.Extent.{Extent}
 use Rattle.stack_extents.specs.declared.extent.ExtentKind.{ExtentKind}
 use Rattle.stack_extents.specs.declared.extent.ExtentKind.TheVariants as known
-use Rattle.stack_extents.specs.Extents.{IgnoresZeros, by_line, by_lower, is_same_kind, IsExtent, IsIgnoringLine, ReadsAsZeros, SourceIgnores}
+use Rattle.stack_extents.specs.Extents.{IgnoresZeros, by_line, by_lower, is_same_kind, IsToldExtent, IsIgnoringLine, ReadsAsZeros, SourceIgnores}
 
 zeros-other : known.Zeros ≡ known.IgnoresZeros → ⊥
 zeros-other is = cc
@@ -31,7 +31,7 @@ unknown-zeros is = cc
 unknown-other : known.Unknown ≡ known.IgnoresZeros → ⊥
 unknown-other is = cc
 
-pub zeros-extent : (c : Configuration) (most : ℕ) → 0 < most → IsExtent (source_said c Zeros) (SourceIgnores c Zeros) 0 most (record { count = most; kind = known.Zeros })
+pub zeros-extent : (c : Configuration) (most : ℕ) → 0 < most → IsToldExtent (source_said c Zeros) (SourceIgnores c Zeros) 0 most (record { count = most; kind = known.Zeros })
 zeros-extent c most some = record {
   some = some;
   few = omega arith;
@@ -39,7 +39,7 @@ zeros-extent c most some = record {
   ignores = λ is j below. absurd (zeros-other is);
 }
 
-pub unknown-extent : (said : ℕ → Said) (Ignores : ℕ → Type 0) (first most : ℕ) → 0 < most → IsExtent said Ignores first most (record { count = most; kind = known.Unknown })
+pub unknown-extent : (said : ℕ → Said) (Ignores : ℕ → Type 0) (first most : ℕ) → 0 < most → IsToldExtent said Ignores first most (record { count = most; kind = known.Unknown })
 unknown-extent said Ignores first most some = record {
   some = some;
   few = omega arith;
@@ -51,7 +51,7 @@ ignores-zeros : known.IgnoresZeros ≡ known.Zeros → ⊥
 ignores-zeros is = cc
 
 pub ignoring-extent : (c : Configuration) (b : BlockPart) (most : ℕ) → 0 < most → IsIgnoringLine c b.device.0 b.line
-    → IsExtent (source_said c (Block b)) (SourceIgnores c (Block b)) 0 most (record { count = most; kind = known.IgnoresZeros })
+    → IsToldExtent (source_said c (Block b)) (SourceIgnores c (Block b)) 0 most (record { count = most; kind = known.IgnoresZeros })
 ignoring-extent c b most some line = record {
   some = some;
   few = omega arith;
@@ -63,11 +63,11 @@ ignoring-extent c b most some line = record {
 pub block-line : (c : Configuration) (b : BlockPart) (n : ℕ) → LieInBlock c b.device.0 b.line b.first n → IsOnVerity c b.device.0 b.line
 block-line c b n p = (p.verity, record { line = p.has.line; is = p.has.is; has = p.has.has; fits = omega arith })
 
-pub blocks-line : (c : Configuration) (b : BlockPart) (n : ℕ) → AreBlocks c b.device.0 b.line b.first n → IsOnVerity c b.device.0 b.line
+pub blocks-line : (c : Configuration) (b : BlockPart) (n : ℕ) → AreWholeBlocks c b.device.0 b.line b.first n → IsOnVerity c b.device.0 b.line
 blocks-line c b n p = (p.verity, record { line = p.has.line; is = p.has.is; has = p.has.has; fits = omega arith })
 
-pub below-extent : (c : Configuration) (lower : Lower) (first most : ℕ) (extent : Extent) → IsExtent (said_at c lower) (IgnoresZeros c lower) first most extent
-    → IsExtent (source_said c (Below lower first)) (SourceIgnores c (Below lower first)) 0 most extent
+pub below-extent : (c : Configuration) (lower : Lower) (first most : ℕ) (extent : Extent) → IsToldExtent (said_at c lower) (IgnoresZeros c lower) first most extent
+    → IsToldExtent (source_said c (Below lower first)) (SourceIgnores c (Below lower first)) 0 most extent
 below-extent c lower first most extent p = record {
   some = p.some;
   few = p.few;
@@ -98,8 +98,8 @@ served-ignores c d s n j Fails below r p = absurd p
 served-ignores c d s n j (Block b) below r p = line-ignores c d r.number (s + j) r.line b (s - r.line.start) r.come.0 r.is (omega (arith, r.start)) (omega (arith, below, r.fits)) p
 served-ignores c d s n j (Blocks b) below r p = line-ignores c d r.number (s + j) r.line b (s - r.line.start) r.come.0 r.is (omega (arith, r.start)) (omega (arith, below, r.fits)) p
 
-pub device-extent : (c : Configuration) (d first most n : ℕ) (source : Source) (extent : Extent) → IsLoaded c → IsServed c d first n source → n ≤ most → IsExtent (source_said c source) (SourceIgnores c source) 0 n extent
-    → IsExtent (said_at c (mapped d)) (IgnoresZeros c (mapped d)) first most extent
+pub device-extent : (c : Configuration) (d first most n : ℕ) (source : Source) (extent : Extent) → IsLoaded c → IsServed c d first n source → n ≤ most → IsToldExtent (source_said c source) (SourceIgnores c source) 0 n extent
+    → IsToldExtent (said_at c (mapped d)) (IgnoresZeros c (mapped d)) first most extent
 device-extent c d first most n source extent loaded served few p = record {
   some = p.some;
   few = omega (arith, p.few, few);
@@ -128,8 +128,8 @@ kind-same known.Unknown known.IgnoresZeros is = absurd (not-true is)
 kind-same known.Unknown known.Unknown is = refl
 
 -- the sectors behind it are alike
-pub joined-extent : (said : ℕ → Said) (Ignores : ℕ → Type 0) (first most : ℕ) (extent next : Extent) → IsExtent said Ignores first most extent → extent.count < most
-    → IsExtent said Ignores (first + extent.count) (most - extent.count) next → next.kind ≡ extent.kind → IsExtent said Ignores first most (record { count = extent.count + next.count; kind = extent.kind })
+pub joined-extent : (said : ℕ → Said) (Ignores : ℕ → Type 0) (first most : ℕ) (extent next : Extent) → IsToldExtent said Ignores first most extent → extent.count < most
+    → IsToldExtent said Ignores (first + extent.count) (most - extent.count) next → next.kind ≡ extent.kind → IsToldExtent said Ignores first most (record { count = extent.count + next.count; kind = extent.kind })
 joined-extent said Ignores first most extent next p low q same = record {
   some = omega (arith, p.some);
   few = omega (arith, q.few, low);

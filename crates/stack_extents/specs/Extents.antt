@@ -48,7 +48,7 @@ is_same_kind known.Unknown known.Unknown = true
 is_same_kind a b = false
 
 -- at least one sector and at most so many, which are zeros where it says so, or ignore blocks of zeros
-pub record IsExtent (said : ℕ → Said) (Ignores : ℕ → Type 0) (first most : ℕ) (extent : Extent) : Type 0 where
+pub record IsToldExtent (said : ℕ → Said) (Ignores : ℕ → Type 0) (first most : ℕ) (extent : Extent) : Type 0 where
   pub some : 0 < extent.count
   pub few : extent.count ≤ most
   pub zeros : extent.kind ≡ known.Zeros → AreZeros said first extent.count

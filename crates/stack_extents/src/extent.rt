@@ -6,7 +6,7 @@ ghost use Rattle.stack_meaning.specs.Meaning.{said_at};
 ghost use Rattle.stack_lines.specs.Sources.{SourceHolds, source_said};
 ghost use Rattle.stack_lines.specs.Walks.{IsOnVerity};
 ghost use Rattle.stack_lines.specs.declared.source.Source.TheVariants.{Block};
-ghost use Rattle.stack_extents.specs.Extents.{IgnoresZeros, IsExtent, SourceIgnores, is_same_kind};
+ghost use Rattle.stack_extents.specs.Extents.{IgnoresZeros, IsToldExtent, SourceIgnores, is_same_kind};
 
 use stack_config::{Config, DevId, Lower};
 use stack_lines::tree::verity_at;
@@ -50,7 +50,7 @@ fn verity_extent(config: &Config, part: BlockPart, most: u64) -> Extent
     requires loaded { IsLoaded config.now }
     requires some { 0 < most }
     requires line { IsOnVerity config.now part.device.0 part.line }
-    ensures { IsExtent (source_said config.now (Block part)) (SourceIgnores config.now (Block part)) 0 most result }
+    ensures { IsToldExtent (source_said config.now (Block part)) (SourceIgnores config.now (Block part)) 0 most result }
 {
     let verity = verity_at(config, part.device, part.line);
     if verity.ignore_zero_blocks {
@@ -71,7 +71,7 @@ fn source_extent(config: &Config, source: Source, most: u64) -> Extent
     requires loaded { IsLoaded config.now }
     requires some { 0 < most }
     requires inside { SourceHolds config.now source most }
-    ensures { IsExtent (source_said config.now source) (SourceIgnores config.now source) 0 most result }
+    ensures { IsToldExtent (source_said config.now source) (SourceIgnores config.now source) 0 most result }
 {
     match source {
         Source::Zeros => Extent {
@@ -94,7 +94,7 @@ fn lower_extent(config: &Config, lower: Lower, first: u64, most: u64) -> Extent
     requires loaded { IsLoaded config.now }
     requires some { 0 < most }
     requires inside { first + most ≤ size config.now lower }
-    ensures { IsExtent (said_at config.now lower) (IgnoresZeros config.now lower) first most result }
+    ensures { IsToldExtent (said_at config.now lower) (IgnoresZeros config.now lower) first most result }
 {
     match lower {
         Lower::Leaf(_) => Extent {
@@ -111,7 +111,7 @@ fn device_extent(config: &Config, d: DevId, first: u64, most: u64) -> Extent
     requires loaded { IsLoaded config.now }
     requires some { 0 < most }
     requires inside { first + most ≤ size config.now (mapped d.0) }
-    ensures { IsExtent (said_at config.now (mapped d.0)) (IgnoresZeros config.now (mapped d.0)) first most result }
+    ensures { IsToldExtent (said_at config.now (mapped d.0)) (IgnoresZeros config.now (mapped d.0)) first most result }
 {
     let run = run_at(config, d, first, most);
     source_extent(config, run.source, run.count)
@@ -123,7 +123,7 @@ pub fn extent_at(config: &Config, d: DevId, first: u64, most: u64) -> Extent
     requires loaded { IsLoaded config.now }
     requires some { 0 < most }
     requires inside { first + most ≤ size config.now (mapped d.0) }
-    ensures { IsExtent (said_at config.now (mapped d.0)) (IgnoresZeros config.now (mapped d.0)) first most result }
+    ensures { IsToldExtent (said_at config.now (mapped d.0)) (IgnoresZeros config.now (mapped d.0)) first most result }
 {
     let mut extent = device_extent(config, d, first, most);
     for _run in 0..MOST_RUNS {

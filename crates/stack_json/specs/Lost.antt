@@ -14,16 +14,16 @@ leaf_member (Device leaf) = member (codes "leaf") (number (unsigned leaf)) no_me
 leaf_member fault = no_members
 
 -- a run by how many sectors it has, the name of the fault and its first sector
-abbrev pub run_json : LostRun → Data
-run_json run =
+abbrev pub lost_run_json : LostRun → Data
+lost_run_json run =
     object
     (member (codes "count") (number (unsigned run.count))
     (member (codes "fault") (string (io_name run.fault))
     (member (codes "first") (number (unsigned run.first))
     (leaf_member run.fault))))
 
-abbrev pub runs_json : List LostRun → List Data
-runs_json runs = map run_json runs
+abbrev pub lost_runs_json : List LostRun → List Data
+lost_runs_json runs = map lost_run_json runs
 
 -- how many sectors are lost and how many were had, and the lost runs
 abbrev pub lost_json : List LostRun → Counts → Data
@@ -31,5 +31,5 @@ lost_json runs counts =
     object
     (member (codes "lost") (number (unsigned counts.lost))
     (member (codes "read") (number (unsigned counts.read))
-    (member (codes "runs") (array (items_of (runs_json runs)))
+    (member (codes "runs") (array (items_of (lost_runs_json runs)))
     no_members)))

@@ -3,7 +3,7 @@ ghost use Rattle.std.specs.Prelude.{◌≡◌, string_bytes, IfOk};
 ghost use Rattle.reply_json.specs.Lines.{json_line};
 ghost use Rattle.serde_json.specs.Data.{array};
 ghost use Rattle.serde_json.specs.View.{items_of, view};
-ghost use Rattle.stack_json.specs.Lost.{lost_json, run_json, runs_json};
+ghost use Rattle.stack_json.specs.Lost.{lost_json, lost_run_json, lost_runs_json};
 
 use reply_json::line_of;
 use serde_json::{Value, json};
@@ -32,7 +32,7 @@ fn lost_value(alloc: Global, runs: &[LostRun], counts: Counts) -> Result<Value, 
 
 // An array of the runs.
 fn runs_value(alloc: Global, runs: &[LostRun]) -> Result<Value, AllocError>
-    ensures { IfOk result (λ value. view value ≡ array (items_of (runs_json runs.now))) }
+    ensures { IfOk result (λ value. view value ≡ array (items_of (lost_runs_json runs.now))) }
 {
     let mut values = Vec::new(alloc);
     'runs: for run in runs {
@@ -44,7 +44,7 @@ fn runs_value(alloc: Global, runs: &[LostRun]) -> Result<Value, AllocError>
 
 // The members in the order of their keys.
 fn run_value(alloc: Global, run: LostRun) -> Result<Value, AllocError>
-    ensures { IfOk result (λ value. view value ≡ run_json run) }
+    ensures { IfOk result (λ value. view value ≡ lost_run_json run) }
 {
     let LostRun {
         first,

@@ -8,20 +8,20 @@ use Rattle.verified_cache.specs.Cache.{CachedBlock, CacheRecord, IsCache}
 use Rattle.verified_cache.specs.declared.key.Key.{Key}
 use Rattle.stack_lines.specs.declared.tree.Extent.{Extent}
 use Rattle.stack_lines.specs.declared.leaf_set.LeafSet.{LeafSet}
-use Rattle.stack_lines.specs.Extents.{LiesInside}
+use Rattle.stack_lines.specs.Extents.{LiesInsideLower}
 use Rattle.stack_lines.specs.Standing.{AreLeafSets, CoversBlocks, name_stands_on}
 use Rattle.stack_meaning.specs.Outcomes.{span}
 use Rattle.stack_meaning.specs.Blocks.{hash_sectors, hash_place}
 use Rattle.stack_meaning.specs.Leaves.{steady_images, AreSteady}
 use Rattle.stack_meaning.specs.Meaning.{said_by_name}
-use Rattle.stack_lines.specs.Walks.{HasVerity, IsBlock}
+use Rattle.stack_lines.specs.Walks.{HasVerity, IsBlockOfDigest}
 
 -- A block that is kept for a verity line has the digest that it is kept under; and where the leaves beneath the hash
 -- device are steady it is what that one's span gives now at its place.
 pub record IsCached (c : Configuration) (leaves : List Device) (b : CachedBlock) : Type 0 where
   pub verity : Verity
   pub line : HasVerity c b.key.device b.key.line verity
-  pub block : IsBlock (hash_sectors verity) verity.salt b.digest b.bytes
+  pub block : IsBlockOfDigest (hash_sectors verity) verity.salt b.digest b.bytes
   pub exact : AreSteady (λ i. name_stands_on c i verity.hash) leaves → span (λ s. (said_by_name c verity.hash s).means (steady_images leaves)) (hash_place verity b.key.level b.key.block) (hash_sectors verity) ≡ Ok b.bytes
 
 -- The blocks that are kept; the leaves on which each mapped device stands; and those on which the hash devices of
@@ -32,7 +32,7 @@ pub record StackCache : Type 0 where
   pub covered : LeafSet
 
 -- no block is kept, and the leaves beneath each device are known
-pub record IsFresh (c : Configuration) (capacity : ℕ) (cache : StackCache) : Type 0 where
+pub record IsFreshCache (c : Configuration) (capacity : ℕ) (cache : StackCache) : Type 0 where
   pub empty : cache.blocks ≡ record { capacity = capacity; blocks = [] }
   pub sets : AreLeafSets c cache.beneath
 
@@ -56,4 +56,4 @@ pub record IsPlaceOf (c : Configuration) (salt : List ℕ) (key : Key) (extent :
   pub hash : named c verity.hash ≡ Some extent.lower
   pub first : extent.first ≡ hash_place verity key.level key.block
   pub sectors : extent.sectors ≡ hash_sectors verity
-  pub lies : LiesInside c extent
+  pub lies : LiesInsideLower c extent

@@ -6,11 +6,11 @@ use Rattle.stack_rules.specs.Names.{size}
 use Rattle.stack_lines.specs.declared.tree.Extent.{Extent}
 
 -- some sectors, which lie inside the leaf or device
-pub record LiesInside (c : Configuration) (extent : Extent) : Type 0 where
+pub record LiesInsideLower (c : Configuration) (extent : Extent) : Type 0 where
   pub some : 0 < extent.sectors
   pub inside : extent.first + extent.sectors ≤ size c extent.lower
 
 -- n sectors of that one from its sector s on, which lie inside it
 pub record IsExtent (c : Configuration) (on : Lower) (s n : ℕ) (extent : Extent) : Type 0 where
   pub value : extent ≡ record { lower = on; first = s; sectors = n }
-  pub lies : LiesInside c extent
+  pub lies : LiesInsideLower c extent

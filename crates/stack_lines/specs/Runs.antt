@@ -7,7 +7,7 @@ use Rattle.stack_meaning.specs.Puts.{together, in_one_run}
 use Rattle.stack_lines.specs.Sources.{HasTarget, ComeFrom, EndsRun, IsServed}
 
 -- line l of device d has that target, and n sectors from its sector w on, at least one
-pub record HasSectors (c : Configuration) (d l : ℕ) (target : Target) (w n : ℕ) : Type 0 where
+pub record HasLineSectors (c : Configuration) (d l : ℕ) (target : Target) (w n : ℕ) : Type 0 where
   pub has : HasTarget c d l target (w + n)
   pub some : 0 < n
 

@@ -24,7 +24,7 @@ use Rattle.stack_meaning.specs.Units.{unit_first}
 use Rattle.stack_meaning.specs.Puts.{together}
 use Rattle.stack_meaning.specs.Beneath.{beneath, HandsOn}
 use Rattle.stack_meaning.specs.Meaning.{Said, none_said, zero_said, error_said, line_said, said_at, said_by_name}
-use Rattle.stack_meaning.specs.Places.{Place, Read}
+use Rattle.stack_meaning.specs.Places.{Place, LeafRead}
 use Rattle.stack_lines.specs.Touches.{source_leaves}
 use Rattle.stack_meaning.specs.Reading.{Finds}
 
@@ -49,7 +49,7 @@ pub record LieInBlock (c : Configuration) (d l w n : ℕ) : Type 0 where
   pub within : w % block_sectors verity + n ≤ block_sectors verity
 
 -- n sectors of a verity line, the l-th of device d, from its sector w on are whole data blocks
-pub record AreBlocks (c : Configuration) (d l w n : ℕ) : Type 0 where
+pub record AreWholeBlocks (c : Configuration) (d l w n : ℕ) : Type 0 where
   pub verity : Verity
   pub has : HasTarget c d l (verity_target verity) (w + n)
   pub aligned : w % block_sectors verity ≡ 0
@@ -111,7 +111,7 @@ ComeFrom c at target w n (UnitPart b) = BeginsAt at.0 at.1 w b × LieInUnit c at
 ComeFrom c at target w n Zeros = target ≡ Zero
 ComeFrom c at target w n Fails = target ≡ Error
 ComeFrom c at target w n (Block b) = BeginsAt at.0 at.1 w b × LieInBlock c at.0 at.1 w n
-ComeFrom c at target w n (Blocks b) = BeginsAt at.0 at.1 w b × AreBlocks c at.0 at.1 w n
+ComeFrom c at target w n (Blocks b) = BeginsAt at.0 at.1 w b × AreWholeBlocks c at.0 at.1 w n
 
 -- n sectors of device d from s on lie in one line, and come from there
 pub record IsServed (c : Configuration) (d s n : ℕ) (source : Source) : Type 0 where
@@ -180,8 +180,8 @@ SourceHolds c (UnitPart b) n = LieInUnit c b.device.0 b.line b.first n
 SourceHolds c Zeros n = Unit {0}
 SourceHolds c Fails n = Unit {0}
 SourceHolds c (Block b) n = LieInBlock c b.device.0 b.line b.first n
-SourceHolds c (Blocks b) n = AreBlocks c b.device.0 b.line b.first n
+SourceHolds c (Blocks b) n = AreWholeBlocks c b.device.0 b.line b.first n
 
 -- a read of its first n sectors
-abbrev pub ReadsSource : Configuration → Source → ℕ → Read → Result (List ℕ) IoFault → Type 0
+abbrev pub ReadsSource : Configuration → Source → ℕ → LeafRead → Result (List ℕ) IoFault → Type 0
 ReadsSource c source n did answer = Finds (source_place c source) c 0 n did answer

@@ -18,12 +18,12 @@ pub use Rattle.stack_meaning.specs.LeavesBeneath.{stands_on, name_stands_on}
 
 -- ---- sets of leaves
 
-abbrev pub contains : LeafSet → ℕ → Bool
-contains set i = bit_at set.bits i == 1
+abbrev pub has_leaf : LeafSet → ℕ → Bool
+has_leaf set i = bit_at set.bits i == 1
 
 -- set d, where there is none the empty one
-abbrev pub set_at : List LeafSet → ℕ → LeafSet
-set_at sets d = slice_index_or sets d (record { bits = 0 })
+abbrev pub leaf_set_at : List LeafSet → ℕ → LeafSet
+leaf_set_at sets d = slice_index_or sets d (record { bits = 0 })
 
 -- ---- what stands on a leaf
 
@@ -48,27 +48,27 @@ cache_without_leaf c i = cache_without (key_stands_on c i)
 -- ---- what is found out of a configuration
 
 -- a leaf or device that a configuration may have
-abbrev pub IsInside : Lower → Type 0
-IsInside (leaf i) = i < most_leaves
-IsInside (device d) = d.0 < most_devices
+abbrev pub IsPossibleLower : Lower → Type 0
+IsPossibleLower (leaf i) = i < most_leaves
+IsPossibleLower (device d) = d.0 < most_devices
 
 -- the set has the leaves on which it stands
 abbrev pub HasLeaves : Configuration → Lower → LeafSet → Type 0
-HasLeaves c lower set = (i : ℕ) → contains set i ≡ stands_on c i lower
+HasLeaves c lower set = (i : ℕ) → has_leaf set i ≡ stands_on c i lower
 
 -- a leaf, or a device that has its set
 abbrev pub KnowsLeaves : Configuration → List LeafSet → Lower → Type 0
 KnowsLeaves c sets (leaf i) = Unit {0}
-KnowsLeaves c sets (device d) = HasLeaves c (device d) (set_at sets d.0)
+KnowsLeaves c sets (device d) = HasLeaves c (device d) (leaf_set_at sets d.0)
 
 -- each device that is less deep has its set
 abbrev pub AreSetsBelow : Configuration → ℕ → List LeafSet → Type 0
-AreSetsBelow c deep sets = (d : ℕ) → d < length c.devices → depth c (mapped d) < deep → HasLeaves c (mapped d) (set_at sets d)
+AreSetsBelow c deep sets = (d : ℕ) → d < length c.devices → depth c (mapped d) < deep → HasLeaves c (mapped d) (leaf_set_at sets d)
 
 -- each device has its set
 abbrev pub AreLeafSets : Configuration → List LeafSet → Type 0
-AreLeafSets c sets = (d : ℕ) → d < length c.devices → HasLeaves c (mapped d) (set_at sets d)
+AreLeafSets c sets = (d : ℕ) → d < length c.devices → HasLeaves c (mapped d) (leaf_set_at sets d)
 
 -- the set has each leaf on which the hash device of a kept block's line stands
 abbrev pub CoversBlocks : Configuration → LeafSet → List CachedBlock → Type 0
-CoversBlocks c set blocks = All (λ b. (i : ℕ) → i < most_leaves → key_stands_on c i b.key ≡ true → contains set i ≡ true) blocks
+CoversBlocks c set blocks = All (λ b. (i : ℕ) → i < most_leaves → key_stands_on c i b.key ≡ true → has_leaf set i ≡ true) blocks

@@ -15,7 +15,7 @@ use Rattle.stack_lines.specs.declared.tree.Tree.{Tree}
 use Rattle.stack_meaning.specs.Sectors.{SomeOf}
 use Rattle.stack_meaning.specs.declared.fault.Fault.{Fault}
 use Rattle.stack_meaning.specs.Outcomes.{Outcome, mismatch, Images}
-use Rattle.stack_meaning.specs.Blocks.{hash_sectors, checked_span, data_block_at, block_below, block_at, BlockMeets}
+use Rattle.stack_meaning.specs.Blocks.{hash_sectors, checked_span, data_block_at, block_below, verified_block, BlockMeets}
 use Rattle.stack_meaning.specs.Leaves.{steady_images, AreSteady, AreRead}
 use Rattle.stack_meaning.specs.Meaning.{said_by_name}
 use Rattle.stack_meaning.specs.Places.{Place, Expected}
@@ -47,8 +47,8 @@ pub record HasDataBlock (c : Configuration) (v : Verity) (tree : Tree) (index : 
 -- ---- one block
 
 -- a block of n sectors that has the digest
-abbrev pub IsBlock : ℕ → List ℕ → List ℕ → List ℕ → Type 0
-IsBlock n salt expected block = (length block ≡ 512 * n) × (digest salt block ≡ expected)
+abbrev pub IsBlockOfDigest : ℕ → List ℕ → List ℕ → List ℕ → Type 0
+IsBlockOfDigest n salt expected block = (length block ≡ 512 * n) × (digest salt block ≡ expected)
 
 -- the fault is that of a digest, or one of n sectors meets it
 abbrev pub SpanMeets : Place → ℕ → ℕ → Fault → Type 0
@@ -57,7 +57,7 @@ SpanMeets place first n fault = (fault ≡ mismatch) ⊎ SomeOf (λ s. (place.sa
 -- of n sectors of a place from the first on, as a block that has the digest
 abbrev pub checked_expected : {A : Type 0} → (A → List ℕ) → Place → ℕ → ℕ → List ℕ → List ℕ → Expected A
 checked_expected bytes_of place first n salt expected = record {
-  is = λ x. IsBlock n salt expected (bytes_of x);
+  is = λ x. IsBlockOfDigest n salt expected (bytes_of x);
   faults = SpanMeets place first n;
   bytes_of = bytes_of;
   means = λ images. checked_span (λ s. (place.said s).means images) first n salt expected;
@@ -88,7 +88,7 @@ means_below b images l expected = block_below b.verity (λ s. (b.on_data.said s)
 -- of itself, where that digest is expected of it
 abbrev pub data_expected : {A : Type 0} → (A → List ℕ) → DataBlock → List ℕ → Expected A
 data_expected bytes_of b expected = record {
-  is = λ x. IsBlock (block_sectors b.verity) b.verity.salt expected (bytes_of x);
+  is = λ x. IsBlockOfDigest (block_sectors b.verity) b.verity.salt expected (bytes_of x);
   faults = SpanMeets b.on_data (block_sectors b.verity * b.index) (block_sectors b.verity);
   bytes_of = bytes_of;
   means = λ images. data_block_at b.verity (λ s. (b.on_data.said s).means images) b.index expected;
@@ -102,7 +102,7 @@ chain_expected b = record {
   is = λ chain. (chain.index ≡ b.index) × IsGood (tree_of b.verity) b.verity.salt b.verity.root chain;
   faults = BlockMeets b.verity (λ s. (b.on_data.said s).meets) (λ s. (b.on_hash.said s).meets) b.index;
   bytes_of = λ chain. chain.content;
-  means = λ images. block_at b.verity (λ s. (b.on_data.said s).means images) (λ s. (b.on_hash.said s).means images) b.index;
+  means = λ images. verified_block b.verity (λ s. (b.on_data.said s).means images) (λ s. (b.on_hash.said s).means images) b.index;
   cost = block_sectors b.verity * b.on_data.cost + path_sectors b.verity * b.on_hash.cost;
   leaves = λ i. b.on_data.leaves i || b.on_hash.leaves i;
 }

@@ -116,7 +116,7 @@ with_some to = record { said = to.said; puts = put_some to.puts; cost = to.cost;
 -- ---- one write
 
 -- a write of sectors from the first on, all of whose growths were made before it
-pub record Writes (to : Destination) (first : ℕ) (sectors : List (List ℕ)) (old new : List Device) (result : Result Unit IoFault) : Type 0 where
+pub record WritesSectors (to : Destination) (first : ℕ) (sectors : List (List ℕ)) (old new : List Device) (result : Result Unit IoFault) : Type 0 where
   pub moved : AreWritten (reached (λ s. (to.said s).reaches) first (length sectors)) old (length sectors * to.cost) new
   pub ends : MayEnd (λ fault. SomeOf (λ s. (to.said s).meets fault) first (length sectors)) old new result
   pub grown : result ≡ Err io.NoMemory → ⊥

@@ -3,8 +3,8 @@ ghost use Rattle.std.specs.Prelude.{◌≡◌, ◌<◌, ◌≤◌, ◌||◌, ℕ
 ghost use Rattle.stack_rules.specs.Records.{Configuration};
 ghost use Rattle.stack_rules.specs.Rules.{IsLoaded, most_leaves};
 ghost use Rattle.verified_cache.specs.Cache.{block_under, cache_after_find, cache_after_keep};
-ghost use Rattle.stack_lines.specs.Standing.{contains, stands_on, cache_without_leaf, IsInside, KnowsLeaves, AreLeafSets, CoversBlocks};
-ghost use Rattle.stack_lines.specs.Caches.{IsFresh};
+ghost use Rattle.stack_lines.specs.Standing.{has_leaf, stands_on, cache_without_leaf, IsPossibleLower, KnowsLeaves, AreLeafSets, CoversBlocks};
+ghost use Rattle.stack_lines.specs.Caches.{IsFreshCache};
 
 use crate::keys_on_leaf::KeysOnLeaf;
 use crate::leaf_set::LeafSet;
@@ -37,7 +37,7 @@ impl Cache {
     /// An empty cache of at most `capacity` blocks.
     pub fn new(alloc: Global, config: &Config, capacity: u32) -> Result<Cache, AllocError>
         requires { IsLoaded config.now }
-        ensures { IfOk result (IsFresh config.now capacity) }
+        ensures { IfOk result (IsFreshCache config.now capacity) }
     {
         let blocks = BlockCache::new(alloc, capacity)?;
         Ok(Cache {
@@ -50,7 +50,7 @@ impl Cache {
     /// Drops all blocks, and finds out anew which leaves stand beneath which device.
     pub fn start_over(&mut self, config: &Config)
         requires { IsLoaded config.now }
-        ensures { IsFresh config.now self.old.blocks.capacity self.new }
+        ensures { IsFreshCache config.now self.old.blocks.capacity self.new }
     {
         self.blocks.forget_all();
         self.beneath = leaf_sets(config);
@@ -78,9 +78,9 @@ impl Cache {
 
     /// Notes that a block of a line with that hash device may be kept.
     pub fn cover(&mut self, hash: Lower)
-        requires { IsInside hash }
+        requires { IsPossibleLower hash }
         ensures rest { self.new ≡ record self.old { covered = self.new.covered } }
-        ensures covered { (c : Configuration) → IsLoaded c → KnowsLeaves c self.old.beneath hash → (i : ℕ) → contains self.new.covered i ≡ (contains self.old.covered i || stands_on c i hash) }
+        ensures covered { (c : Configuration) → IsLoaded c → KnowsLeaves c self.old.beneath hash → (i : ℕ) → has_leaf self.new.covered i ≡ (has_leaf self.old.covered i || stands_on c i hash) }
     {
         self.covered = self.covered.union(lower_leaves(&self.beneath, hash));
     }

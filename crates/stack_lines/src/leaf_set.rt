@@ -9,17 +9,17 @@ pub(crate) struct LeafSet {
 impl LeafSet {
     ghost use Rattle.std.specs.Prelude.{◌≡◌, ◌==◌, ◌<◌, ◌||◌, ◌&&◌, not, false, ℕ};
     ghost use Rattle.stack_rules.specs.Rules.{most_leaves};
-    ghost use Rattle.stack_lines.specs.Standing.{contains};
+    ghost use Rattle.stack_lines.specs.Standing.{has_leaf};
 
     pub(crate) fn empty() -> LeafSet
-        ensures { (i : ℕ) → contains result i ≡ false }
+        ensures { (i : ℕ) → has_leaf result i ≡ false }
     {
         LeafSet { bits: 0 }
     }
 
     pub(crate) fn contains(self, leaf: u32) -> bool
         requires { leaf < most_leaves }
-        ensures { result ≡ contains self leaf }
+        ensures { result ≡ has_leaf self leaf }
     {
         self.bits >> leaf & 1 == 1
     }
@@ -27,7 +27,7 @@ impl LeafSet {
     /// This set and the leaf.
     pub(crate) fn with(self, leaf: u32) -> LeafSet
         requires { leaf < most_leaves }
-        ensures { (i : ℕ) → contains result i ≡ (contains self i || i == leaf) }
+        ensures { (i : ℕ) → has_leaf result i ≡ (has_leaf self i || i == leaf) }
     {
         LeafSet {
             bits: self.bits | 1 << leaf,
@@ -37,7 +37,7 @@ impl LeafSet {
     /// This set but for the leaf.
     pub(crate) fn without(self, leaf: u32) -> LeafSet
         requires { leaf < most_leaves }
-        ensures { (i : ℕ) → i < most_leaves → contains result i ≡ (contains self i && not (i == leaf)) }
+        ensures { (i : ℕ) → i < most_leaves → has_leaf result i ≡ (has_leaf self i && not (i == leaf)) }
     {
         LeafSet {
             bits: self.bits & !(1 << leaf),
@@ -46,7 +46,7 @@ impl LeafSet {
 
     /// What is in this set or in the other.
     pub(crate) fn union(self, other: LeafSet) -> LeafSet
-        ensures { (i : ℕ) → contains result i ≡ (contains self i || contains other i) }
+        ensures { (i : ℕ) → has_leaf result i ≡ (has_leaf self i || has_leaf other i) }
     {
         LeafSet {
             bits: self.bits | other.bits,

@@ -6,7 +6,7 @@ ghost use Rattle.stack_rules.specs.Lines.{names_at};
 ghost use Rattle.stack_rules.specs.Names.{mapped, names};
 ghost use Rattle.stack_rules.specs.Records.{Configuration};
 ghost use Rattle.stack_rules.specs.Rules.{IsLoaded};
-ghost use Rattle.stack_lines.specs.Standing.{contains, is_verity, name_stands_on, IsInside, HasLeaves, KnowsLeaves, AreSetsBelow, AreLeafSets};
+ghost use Rattle.stack_lines.specs.Standing.{has_leaf, is_verity, name_stands_on, IsPossibleLower, HasLeaves, KnowsLeaves, AreSetsBelow, AreLeafSets};
 
 use crate::leaf_set::LeafSet;
 use dm_table::Target;
@@ -18,7 +18,7 @@ const MOST_DEPTH: u32 = 8;
 
 /// The leaves on which a leaf or device stands, by the sets of the devices.
 pub(crate) fn lower_leaves(sets: &[LeafSet; 64], lower: Lower) -> LeafSet
-    requires { IsInside lower }
+    requires { IsPossibleLower lower }
     ensures { (c : Configuration) → IsLoaded c → KnowsLeaves c sets.now lower → HasLeaves c lower result }
 {
     match lower {
@@ -40,7 +40,7 @@ fn line_leaves(config: &Config, sets: &[LeafSet; 64], d: DevId, line: u32, count
     requires device { d.0 < length config.now.devices }
     requires count { count ≡ length (names_at config.now d.0 line) }
     requires below { AreSetsBelow config.now (depth config.now (mapped d.0)) sets.now }
-    ensures { (k : ℕ) → contains result k ≡ list_any (name_stands_on config.now k) (names_at config.now d.0 line) }
+    ensures { (k : ℕ) → has_leaf result k ≡ list_any (name_stands_on config.now k) (names_at config.now d.0 line) }
 {
     let mut leaves = LeafSet::empty();
     for i in 0..count {

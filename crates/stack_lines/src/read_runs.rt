@@ -5,7 +5,7 @@ ghost use Rattle.stack_rules.specs.Rules.{IsLoaded};
 ghost use Rattle.stack_rules.specs.Trees.{block_sectors};
 ghost use Rattle.stack_lines.specs.AtOnce.{AreBefore, CanGo, GoAtOnce};
 ghost use Rattle.stack_meaning.specs.Puts.{in_one_run};
-ghost use Rattle.stack_lines.specs.Sources.{AreBlocks, EndsRun, IsServed};
+ghost use Rattle.stack_lines.specs.Sources.{AreWholeBlocks, EndsRun, IsServed};
 ghost use Rattle.dm_table.specs.declared.verity.Verity.{Verity};
 ghost use Rattle.stack_lines.specs.Walks.{HasVerity, IsOnVerity};
 
@@ -35,7 +35,7 @@ fn are_before(found: &[Found], device: u32, line: u32, index: u64) -> bool
 /// Whether whole data blocks can be read at once.
 fn go_at_once(config: &Config, part: BlockPart, count: u64, found: &[Found]) -> bool
     requires loaded { IsLoaded config.now }
-    requires blocks { AreBlocks config.now part.device.0 part.line part.first count }
+    requires blocks { AreWholeBlocks config.now part.device.0 part.line part.first count }
     ensures { IsTrue result → GoAtOnce config.now part count found.now }
 {
     if count > MOST {

@@ -6,7 +6,7 @@ ghost use Rattle.stack_rules.specs.Rules.{IsLoaded};
 ghost use Rattle.stack_rules.specs.Trees.{block_sectors};
 ghost use Rattle.stack_rules.specs.Units.{unit_sectors};
 ghost use Rattle.stack_lines.specs.Sources.{ComeFrom, HasTarget};
-ghost use Rattle.stack_lines.specs.Runs.{HasSectors, IsRunOfLine, IsRunAt};
+ghost use Rattle.stack_lines.specs.Runs.{HasLineSectors, IsRunOfLine, IsRunAt};
 
 use crate::source::{BlockPart, Run, Source};
 use crate::unstriped::unstriped_run;
@@ -51,7 +51,7 @@ fn units_run(config: &Config, d: DevId, line: u32, crypt: &Crypt, within: u64, c
 
 /// The sectors that lie in one unit and aren't all of it.
 fn unit_run(config: &Config, d: DevId, line: u32, crypt: &Crypt, within: u64, count: u64) -> Run
-    requires line { HasSectors config.now d.0 line (Target.Crypt crypt.now) within count }
+    requires line { HasLineSectors config.now d.0 line (Target.Crypt crypt.now) within count }
     requires part { within % unit_sectors crypt.now ≡ 0 → count < unit_sectors crypt.now }
     ensures { IsRunOfLine config.now (d.0, line) (Target.Crypt crypt.now) within count result }
 {
@@ -72,7 +72,7 @@ fn unit_run(config: &Config, d: DevId, line: u32, crypt: &Crypt, within: u64, co
 
 /// Whole units, or sectors of one unit.
 fn crypt_run(config: &Config, d: DevId, line: u32, crypt: &Crypt, within: u64, count: u64) -> Run
-    requires line { HasSectors config.now d.0 line (Target.Crypt crypt.now) within count }
+    requires line { HasLineSectors config.now d.0 line (Target.Crypt crypt.now) within count }
     ensures { IsRunOfLine config.now (d.0, line) (Target.Crypt crypt.now) within count result }
 {
     let few = unit_sectors(crypt);
@@ -90,7 +90,7 @@ fn crypt_run(config: &Config, d: DevId, line: u32, crypt: &Crypt, within: u64, c
 fn striped_run(config: &Config, from: BlockPart, chunk: u64, bases: &[Base], count: u64) -> Run
     requires loaded { IsLoaded config.now }
     requires grammar { IsStripedOfGrammar chunk bases.now }
-    requires line { HasSectors config.now from.device.0 from.line (Target.Striped chunk bases.now) from.first count }
+    requires line { HasLineSectors config.now from.device.0 from.line (Target.Striped chunk bases.now) from.first count }
     ensures { IsRunOfLine config.now (from.device.0, from.line) (Target.Striped chunk bases.now) from.first count result }
 {
     let number = from.first / chunk;
@@ -134,7 +134,7 @@ fn blocks_run(config: &Config, d: DevId, line: u32, verity: &Verity, within: u64
 fn block_run(config: &Config, d: DevId, line: u32, verity: &Verity, within: u64, count: u64) -> Run
     requires loaded { IsLoaded config.now }
     requires grammar { IsVerityOfGrammar verity.now }
-    requires line { HasSectors config.now d.0 line (Target.Verity verity.now) within count }
+    requires line { HasLineSectors config.now d.0 line (Target.Verity verity.now) within count }
     ensures { IsRunOfLine config.now (d.0, line) (Target.Verity verity.now) within count result }
 {
     let _config = config;
@@ -156,7 +156,7 @@ fn block_run(config: &Config, d: DevId, line: u32, verity: &Verity, within: u64,
 fn verity_run(config: &Config, d: DevId, line: u32, verity: &Verity, within: u64, count: u64) -> Run
     requires loaded { IsLoaded config.now }
     requires grammar { IsVerityOfGrammar verity.now }
-    requires line { HasSectors config.now d.0 line (Target.Verity verity.now) within count }
+    requires line { HasLineSectors config.now d.0 line (Target.Verity verity.now) within count }
     ensures { IsRunOfLine config.now (d.0, line) (Target.Verity verity.now) within count result }
 {
     let sectors = u64::from(verity.data_block / 512);
@@ -173,7 +173,7 @@ fn verity_run(config: &Config, d: DevId, line: u32, verity: &Verity, within: u64
 fn line_run(config: &Config, d: DevId, number: u32, line: &Line, within: u64, count: u64) -> Run
     requires loaded { IsLoaded config.now }
     requires grammar { IsTargetOfGrammar line.now.target }
-    requires line { HasSectors config.now d.0 number line.now.target within count }
+    requires line { HasLineSectors config.now d.0 number line.now.target within count }
     ensures { IsRunOfLine config.now (d.0, number) line.now.target within count result }
 {
     match &line.target {

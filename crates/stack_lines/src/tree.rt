@@ -4,7 +4,7 @@ ghost use Rattle.tree_shape.specs.Shape.{ancestor, levels};
 ghost use Rattle.stack_rules.specs.Rules.{IsLoaded};
 ghost use Rattle.stack_rules.specs.Trees.{tree_of, block_sectors};
 ghost use Rattle.stack_meaning.specs.Blocks.{hash_sectors, hash_start, is_ignored};
-ghost use Rattle.stack_meaning.specs.Found.{FoundRecord, entry_of};
+ghost use Rattle.stack_meaning.specs.Found.{FoundRecord, found_entry};
 ghost use Rattle.stack_lines.specs.Extents.{IsExtent};
 ghost use Rattle.stack_lines.specs.Walks.{HasVerity, HasDataBlock, IsOnVerity, IsTreeOf};
 
@@ -129,8 +129,8 @@ pub fn is_ignored(config: &Config, verity: &Verity, tree: &Tree, expected: &Dige
 
 /// The place of the chain of that block in the list, if it was found.
 pub fn find(found: &[Found], device: u32, line: u32, index: u64) -> Option<usize>
-    ensures some { IfSome result (λ k. (k < length found.now) × ((x : FoundRecord) → entry_of (get_or found.now k x) ≡ (device, line, index))) }
-    ensures none { IfNone result ((k : ℕ) → k < length found.now → (x : FoundRecord) → entry_of (get_or found.now k x) ≡ (device, line, index) → ⊥) }
+    ensures some { IfSome result (λ k. (k < length found.now) × ((x : FoundRecord) → found_entry (get_or found.now k x) ≡ (device, line, index))) }
+    ensures none { IfNone result ((k : ℕ) → k < length found.now → (x : FoundRecord) → found_entry (get_or found.now k x) ≡ (device, line, index) → ⊥) }
 {
     let mut at = 0;
     for one in found {

@@ -3,7 +3,7 @@ ghost use Rattle.std.specs.Prelude.{◌≡◌, ℕ, ◌<◌, ◌≤◌, ◌+◌,
 ghost use Rattle.stack_rules.specs.Rules.{IsLoaded};
 ghost use Rattle.dm_table.specs.Crypt.{sector_size};
 ghost use Rattle.stack_rules.specs.Units.{unit_sectors};
-ghost use Rattle.stack_meaning.specs.Units.{unit_number, encrypted_units, decrypted_units};
+ghost use Rattle.stack_meaning.specs.Units.{crypt_unit_number, encrypted_units, decrypted_units};
 ghost use Rattle.stack_lines.specs.Sources.{HasTarget, HasCrypt, IsOnCrypt, IsUnitAt, IsWholeOf};
 
 use crate::source::BlockPart;
@@ -100,7 +100,7 @@ fn sector_number(crypt: &Crypt, k: u64) -> u64
 
 /// The number of unit `k`, as the cipher takes it.
 fn unit_number(crypt: &Crypt, k: u64) -> u64
-    ensures { result ≡ unit_number crypt.now k }
+    ensures { result ≡ crypt_unit_number crypt.now k }
 {
     let sector = sector_number(crypt, k);
     let few = unit_sectors(crypt);
@@ -116,7 +116,7 @@ fn unit_number(crypt: &Crypt, k: u64) -> u64
 fn unit_numbers(crypt: &Crypt, k: u64, count: usize) -> [u64; AT_ONCE]
     requires few { count ≤ AT_ONCE }
     requires fits { k + count < 2 ^ 64 }
-    ensures { (j : ℕ) → j < count → slice_index result j ≡ unit_number crypt.now (k + j) }
+    ensures { (j : ℕ) → j < count → slice_index result j ≡ crypt_unit_number crypt.now (k + j) }
 {
     let mut numbers = [0; AT_ONCE];
     for j in 0..count {

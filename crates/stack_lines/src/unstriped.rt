@@ -2,7 +2,7 @@
 ghost use Rattle.std.specs.Prelude.{◌≡◌};
 ghost use Rattle.dm_table.specs.Grammar.{IsUnstripedOfGrammar};
 ghost use Rattle.stack_rules.specs.Rules.{IsLoaded};
-ghost use Rattle.stack_lines.specs.Runs.{HasSectors, IsRunOfLine};
+ghost use Rattle.stack_lines.specs.Runs.{HasLineSectors, IsRunOfLine};
 
 use crate::source::{Run, Source};
 use dm_table::{Target, Unstriped};
@@ -19,7 +19,7 @@ pub(crate) fn unstriped_run(
 ) -> Run
     requires loaded { IsLoaded config.now }
     requires grammar { IsUnstripedOfGrammar unstriped.now }
-    requires line { HasSectors config.now d.0 line (Target.Unstriped unstriped.now) within count }
+    requires line { HasLineSectors config.now d.0 line (Target.Unstriped unstriped.now) within count }
     ensures { IsRunOfLine config.now (d.0, line) (Target.Unstriped unstriped.now) within count result }
 {
     let chunk = u64::from(unstriped.chunk);

@@ -8,7 +8,7 @@ use Rattle.std.proofs.lemmas.List.Elements.{All-from_recursion}
 use Rattle.stack_rules.specs.declared.refusal.ConfigFault.{ConfigFault}
 use Rattle.stack_rules.specs.declared.refusal.ConfigFault.TheVariants.{DuplicateLeaf, TooMany, BadName, TooLarge}
 use Rattle.stack_rules.specs.Records.{LeafRecord}
-use Rattle.stack_rules.specs.Leaves.{has_duplicate, first_fault}
+use Rattle.stack_rules.specs.Leaves.{has_duplicate, first_leaf_fault}
 use Rattle.stack_rules.specs.Rules.{AreLeaves, is_leaf_name, most_leaves, most_sectors}
 
 none-or : (a b : Bool) → (a || b) ≡ false → (a ≡ false) × (b ≡ false)
@@ -48,8 +48,8 @@ none-chosen false false true f h = let clash : Some BadName ≡ None = h in cc
 none-chosen false false false true h = let clash : Some TooLarge ≡ None = h in cc
 none-chosen false false false false h = (refl, refl, refl, refl)
 
-pub leaves-sound : (leaves : List LeafRecord) → first_fault leaves ≡ None → AreLeaves leaves
-unfolding first_fault
+pub leaves-sound : (leaves : List LeafRecord) → first_leaf_fault leaves ≡ None → AreLeaves leaves
+unfolding first_leaf_fault
 leaves-sound leaves h =
     let all = none-chosen (has_duplicate leaves) (nat_lt most_leaves (length leaves)) (list_any (λ (l : LeafRecord). not (is_leaf_name l.name)) leaves) (list_any (λ (l : LeafRecord). nat_lt most_sectors l.sectors) leaves) h in
     record {

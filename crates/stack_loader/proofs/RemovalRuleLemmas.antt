@@ -15,7 +15,7 @@ use Rattle.stack_rules.specs.declared.refusal.LoadKind.{LoadKind}
 use Rattle.stack_rules.specs.declared.refusal.LoadKind.TheVariants.{TooMany, NoSuchDevice, StandsOnItself, TooDeep, CostTooLarge}
 use Rattle.stack_rules.specs.declared.refusal.Refusal.{Refusal}
 use Rattle.stack_rules.specs.Records.{Configuration, DeviceRecord}
-use Rattle.stack_rules.specs.Names.{mapped, named, names, lowers, sectors_of, size, may_write}
+use Rattle.stack_rules.specs.Names.{mapped, named, names, lowers, table_sectors, size, may_write}
 use Rattle.stack_rules.specs.RulesOf.{rules_of}
 use Rattle.stack_rules.proofs.lemmas.TargetLaws.{OfRange}
 use Rattle.stack_rules.proofs.lemmas.RulesLawsOf.{rules-laws}
@@ -146,10 +146,10 @@ table_rules-after : (c : Configuration) (d : ℕ) → IsUnused c d → first (ea
 table_rules-after c d unused h =
     each-after c d unused (table_rules c) (table_rules (without c d)) h
     (λ e k x is stands none.
-    first-each (λ l line. line_rules (without c d) x.writable (k + 1) l (sectors_of (take (l - 1) x.table)) line) 1 x.table
+    first-each (λ l line. line_rules (without c d) x.writable (k + 1) l (table_sectors (take (l - 1) x.table)) line) 1 x.table
     (λ l m line there place.
-    line_rules-after c d unused x.writable (sectors_of (take (m - 1) x.table)) line (line-avoids c d unused e x stands l line there) (e + 1) m (k + 1) m
-    (at_place (λ l line. line_rules c x.writable (e + 1) l (sectors_of (take (l - 1) x.table)) line) 1 x.table none l m line there place)))
+    line_rules-after c d unused x.writable (table_sectors (take (m - 1) x.table)) line (line-avoids c d unused e x stands l line there) (e + 1) m (k + 1) m
+    (at_place (λ l line. line_rules c x.writable (e + 1) l (table_sectors (take (l - 1) x.table)) line) 1 x.table none l m line there place)))
 
 -- ---- cycles
 

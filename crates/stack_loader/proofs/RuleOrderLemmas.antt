@@ -16,7 +16,7 @@ use Rattle.stack_rules.specs.Descend.{depth, read_cost}
 use Rattle.stack_rules.specs.Kept.{each_mapped}
 use Rattle.stack_rules.specs.Passing.{IsFirst, above}
 use Rattle.stack_rules.specs.Rules.{first, refuse, rules, is_too_many, unknown_names, cycles, each_device, table_rules, device_rules, depth_rules, cost_rules, most_depth, most_cost}
-use Rattle.stack_costs.specs.Costs.{capped}
+use Rattle.stack_costs.specs.Costs.{capped_cost}
 use Rattle.stack_costs.proofs.lemmas.CappedLemmas.{above-capped}
 use Rattle.stack_rules.proofs.lemmas.FirstRefusalLemmas.{first-none, first-some}
 
@@ -90,8 +90,8 @@ above-from kind most f k (x ∷ xs) =
 pub depths-above : (c : Configuration) (values : List ℕ) → values ≡ each_mapped (depth c) (length c.devices) → above TooDeep most_depth values ≡ depth_rules c
 depths-above c values is = ap (above TooDeep most_depth) is ∙ above-from TooDeep most_depth (depth c) 0 c.devices
 
-pub costs-above : (c : Configuration) (values : List ℕ) → values ≡ each_mapped (λ x. capped Read (read_cost c x)) (length c.devices) → above CostTooLarge most_cost values ≡ cost_rules c
-costs-above c values is = ap (above CostTooLarge most_cost) is ∙ above-from CostTooLarge most_cost (λ x. capped Read (read_cost c x)) 0 c.devices ∙ above-capped (read_cost c) (enumerate_from 1 c.devices)
+pub costs-above : (c : Configuration) (values : List ℕ) → values ≡ each_mapped (λ x. capped_cost Read (read_cost c x)) (length c.devices) → above CostTooLarge most_cost values ≡ cost_rules c
+costs-above c values is = ap (above CostTooLarge most_cost) is ∙ above-from CostTooLarge most_cost (λ x. capped_cost Read (read_cost c x)) 0 c.devices ∙ above-capped (read_cost c) (enumerate_from 1 c.devices)
 
 pub length-values : (f : Lower → ℕ) (n : ℕ) (values : List ℕ) → values ≡ each_mapped f n → length values ≡ n
 length-values f n values is = ap length is ∙ length-map-range_with_len (λ d. f (mapped d)) 0 n

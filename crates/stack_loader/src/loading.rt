@@ -1,6 +1,6 @@
 //! New configurations, and loads into them.
 ghost use Rattle.std.specs.Prelude.{◌≡◌, None, Some, [], IfOk, IfErr, OnOk, OnErr, Err};
-ghost use Rattle.stack_rules.specs.Leaves.{first_fault};
+ghost use Rattle.stack_rules.specs.Leaves.{first_leaf_fault};
 ghost use Rattle.stack_rules.specs.declared.refusal.Refusal.{Refusal};
 ghost use Rattle.stack_rules.specs.Rules.{IsRefusal, after_load, first_refusal};
 
@@ -14,8 +14,8 @@ use std::alloc::Global;
 /// A configuration of these leaves and no mapped device.
 pub fn config_over(alloc: Global, leaves: Vec<Leaf>) -> Result<Config, ConfigFault>
     ensures ok { IfOk result (λ c. c ≡ record { leaves = leaves.items; devices = [] }) }
-    ensures leaves { OnOk result (first_fault leaves.items ≡ None) }
-    ensures err { IfErr result (λ fault. first_fault leaves.items ≡ Some fault) }
+    ensures leaves { OnOk result (first_leaf_fault leaves.items ≡ None) }
+    ensures err { IfErr result (λ fault. first_leaf_fault leaves.items ≡ Some fault) }
 {
     match leaves_fault(leaves.as_slice()) {
         Some(fault) => Err(fault),

@@ -4,7 +4,7 @@ use Rattle.block_device.specs.Device.{Device}
 use Rattle.command_line.specs.Bindings.{BindingRecord, binding_record}
 use Rattle.command_line.specs.declared.bindings.Binding.{Binding}
 use Rattle.image_files.specs.Opener.{Calls, Opener, calls}
-use Rattle.stack_rules.specs.Leaves.{first_fault}
+use Rattle.stack_rules.specs.Leaves.{first_leaf_fault}
 use Rattle.stack_rules.specs.Records.{LeafRecord}
 use Rattle.stack_engine.specs.Pieces.{stack_over}
 use Rattle.stack_engine.specs.Stacks.{StackRecord}
@@ -24,7 +24,7 @@ pub record StandsOnLeaves {S D : Type 0} (w : Calls S D) (bindings : List Bindin
 
 -- leaves are refused, or memory ran out
 abbrev pub RefusesLeaves : List LeafRecord → StackFault → Type 0
-RefusesLeaves leaves (Leaves fault) = first_fault leaves ≡ Some fault
+RefusesLeaves leaves (Leaves fault) = first_leaf_fault leaves ≡ Some fault
 RefusesLeaves leaves NoMemory = Unit {0}
 RefusesLeaves leaves fault = ⊥
 

@@ -6,7 +6,7 @@ use Rattle.dm_table.specs.StackText.{stack_of}
 use Rattle.stack_rules.specs.declared.refusal.ConfigFault.{ConfigFault}
 use Rattle.stack_rules.specs.declared.refusal.Refusal.{Refusal}
 use Rattle.stack_rules.specs.Records.{Configuration, LeafRecord}
-use Rattle.stack_rules.specs.Leaves.{first_fault}
+use Rattle.stack_rules.specs.Leaves.{first_leaf_fault}
 use Rattle.stack_rules.specs.Rules.{first_refusal, after_load}
 use Rattle.stack_making.specs.declared.fault.StackFault.{StackFault}
 use Rattle.stack_making.specs.declared.fault.StackFault.TheVariants.{Leaves, Load, NoMemory, Text}
@@ -31,7 +31,7 @@ with_leaves leaves (Some fault) entries = Err (Leaves fault)
 
 -- the configuration that a stack text makes of leaves, or the first fault: of the leaves, the text, the load
 unfoldable pub configuration_of : List LeafRecord → List ℕ → Result Configuration StackFault
-configuration_of leaves text = with_leaves leaves (first_fault leaves) (stack_of text)
+configuration_of leaves text = with_leaves leaves (first_leaf_fault leaves) (stack_of text)
 
 -- the first fault, or memory ran out
 abbrev pub FailsToConfigure : List LeafRecord → List ℕ → StackFault → Type 0

@@ -18,15 +18,15 @@ use Rattle.stack_making.specs.StacksOfTexts.{FailsBehind, FailsToLoad, IsStackOf
 use Rattle.stack_rules.specs.declared.lower.DevId.{DevId}
 
 -- a mapped device of a stack
-pub record Place : Type 0 where
+pub record DevicePlace : Type 0 where
   pub stack : StackRecord
   pub d : ℕ
 
-abbrev pub place_of : StackRecord → ℕ → Place
-place_of stack d = record { stack = stack; d = d }
+abbrev pub device_place : StackRecord → ℕ → DevicePlace
+device_place stack d = record { stack = stack; d = d }
 
 -- the device of that name, of the stack that the text makes of the open leaves
-pub record HasDevice {D : Type 0} (state : D → Device) (name : List ℕ) (over : OpenStack D) (cache : ℕ) (at : Place) : Type 0 where
+pub record HasDevice {D : Type 0} (state : D → Device) (name : List ℕ) (over : OpenStack D) (cache : ℕ) (at : DevicePlace) : Type 0 where
   pub made : IsStackOf state over cache at.stack
   pub named : device_named at.stack.config name ≡ Some at.d
 
@@ -57,7 +57,7 @@ abbrev pub words_for : StackFile → NamedDevice → DeviceWords
 words_for file device = device_words (stack_words file) device.name.now device.cache
 
 -- the device of that name, of the stack that STACK's text makes of the bindings' leaves
-pub record Finds {S D : Type 0} (w : Calls S D) (words : DeviceWords) (at : Place) : Type 0 where
+pub record FindsDevice {S D : Type 0} (w : Calls S D) (words : DeviceWords) (at : DevicePlace) : Type 0 where
   pub loaded : Loads w words.words words.cache at.stack
   pub named : device_named at.stack.config words.name ≡ Some at.d
 
@@ -67,7 +67,7 @@ FailsToFindDevice w words fault = FailsBehind w words.words (FailsToFind words.n
 -- ---- beside an image that is copied to
 
 -- all was opened, and there is such a device
-pub record FindsOutput {S D : Type 0} (w : Calls S D) (words : DeviceWords) (out : List ℕ) (at : Place) (image : OpenImage D) : Type 0 where
+pub record FindsOutput {S D : Type 0} (w : Calls S D) (words : DeviceWords) (out : List ℕ) (at : DevicePlace) (image : OpenImage D) : Type 0 where
   pub over : OpenStack D
   pub opened : OpensOutput w words.words out over image
   pub has : HasDevice w.state words.name over words.cache at
@@ -86,11 +86,11 @@ FailsToFindOutput w words out fault = IsOpeningEnd (FailsToOpenOutput w words.wo
 
 -- a device by its name, in the stack of a text over open leaves
 abbrev pub HasNamed : {D : Type 0} → (D → Device) → OpenStack D → NamedDevice → StackRecord × DevId → Type 0
-HasNamed state over device = λ found. HasDevice state device.name.now over device.cache (place_of found.0 found.1.0)
+HasNamed state over device = λ found. HasDevice state device.name.now over device.cache (device_place found.0 found.1.0)
 
 -- a device by its name, in the stack of a stack file
 abbrev pub FindsBy : {S D : Type 0} → Opener S D → (D → Device) → S → S → StackFile → NamedDevice → StackRecord × DevId → Type 0
-FindsBy relations state old new file device = λ found. Finds (calls relations state old new) (words_for file device) (place_of found.0 found.1.0)
+FindsBy relations state old new file device = λ found. FindsDevice (calls relations state old new) (words_for file device) (device_place found.0 found.1.0)
 
 -- there is none
 abbrev pub FailsToFindBy : {S D : Type 0} → Opener S D → (D → Device) → S → S → StackFile → NamedDevice → StackFault → Type 0
@@ -99,7 +99,7 @@ FailsToFindBy relations state old new file device = FailsToFindDevice (calls rel
 -- a device, and beside it the image that it is copied to
 abbrev pub FindsTo : {S D : Type 0} → Opener S D → (D → Device) → S → S → StackFile → NamedDevice → List ℕ → StackRecord × DevId × OpenImage D → Type 0
 FindsTo relations state old new file device out =
-    λ found. FindsOutput (calls relations state old new) (words_for file device) out (place_of found.0 found.1.0) found.2
+    λ found. FindsOutput (calls relations state old new) (words_for file device) out (device_place found.0 found.1.0) found.2
 
 -- one of them is missing
 abbrev pub LacksTo : {S D : Type 0} → Opener S D → (D → Device) → S → S → StackFile → NamedDevice → List ℕ → StackFault → Type 0

@@ -1,6 +1,6 @@
 -- Worked values of the definitions.
 use Rattle.std.proofs.Common.{◌≡◌, ℕ, List, [], ◌∷◌, ◌++◌, ◌-◌, ◌^◌, replicate, refl, codes, true, Ok, Err}
-use Rattle.block_device.specs.Device.{filled, ramp_image, zeros_image}
+use Rattle.block_device.specs.Device.{filled_sector, ramp_image, zeros_image}
 use Rattle.dm_table.specs.Crypt.{sector_size, iv_large_sectors}
 use Rattle.dm_table.specs.declared.crypt.Crypt.{Crypt}
 use Rattle.dm_table.specs.declared.table.Base.{Base}
@@ -14,7 +14,7 @@ use Rattle.stack_meaning.specs.Outcomes.{Outcome, span, error_target, mismatch, 
 use Rattle.stack_meaning.specs.Meaning.{said_at, sector}
 use Rattle.stack_meaning.specs.Puts.{done, stopped, put_on}
 use Rattle.stack_meaning.specs.Found.{FoundRecord}
-use Rattle.stack_meaning.specs.Units.{unit_number}
+use Rattle.stack_meaning.specs.Units.{crypt_unit_number}
 
 abbrev leaf_of : List ℕ → ℕ → LeafRecord
 leaf_of name sectors = record { name = name; sectors = sectors; writable = true }
@@ -39,7 +39,7 @@ ramp_and_zeros = record {
 abbrev read1 : ℕ → ℕ → Outcome
 read1 first n = span (sector ramp_and_zeros (ramp_image 8 ∷ []) (mapped 0)) first n
 
-reads_ramp_and_zeros : (read1 3 2 ≡ Ok (filled 5 ++ filled 0)) × (read1 0 1 ≡ Ok (filled 2)) × (read1 8 1 ≡ Err error_target)
+reads_ramp_and_zeros : (read1 3 2 ≡ Ok (filled_sector 5 ++ filled_sector 0)) × (read1 0 1 ≡ Ok (filled_sector 2)) × (read1 8 1 ≡ Err error_target)
 unfolding descend zero_sector
 reads_ramp_and_zeros = (refl, refl, refl)
 
@@ -59,7 +59,7 @@ stripes = record {
 abbrev read2 : ℕ → ℕ → Outcome
 read2 first n = span (sector stripes (ramp_image 16 ∷ ramp_image 32 ∷ []) (mapped 0)) first n
 
-reads_stripes : (read2 7 2 ≡ Ok (filled 7 ++ filled 0x10)) × (read2 16 1 ≡ Ok (filled 8)) × (read2 31 1 ≡ Ok (filled 0x1f))
+reads_stripes : (read2 7 2 ≡ Ok (filled_sector 7 ++ filled_sector 0x10)) × (read2 16 1 ≡ Ok (filled_sector 8)) × (read2 31 1 ≡ Ok (filled_sector 0x1f))
 unfolding descend
 reads_stripes = (refl, refl, refl)
 
@@ -71,7 +71,7 @@ single_chunks = record {
   devices = dev (codes "s") (line 0 6 (Striped 1 (base (codes "A") 0 ∷ base (codes "A") 3 ∷ base (codes "A") 6 ∷ [])) ∷ []) ∷ [];
 }
 
-reads_single_chunks : span (sector single_chunks (ramp_image 9 ∷ []) (mapped 0)) 0 6 ≡ Ok (filled 0 ++ (filled 3 ++ (filled 6 ++ (filled 1 ++ (filled 4 ++ filled 7)))))
+reads_single_chunks : span (sector single_chunks (ramp_image 9 ∷ []) (mapped 0)) 0 6 ≡ Ok (filled_sector 0 ++ (filled_sector 3 ++ (filled_sector 6 ++ (filled_sector 1 ++ (filled_sector 4 ++ filled_sector 7)))))
 unfolding descend
 reads_single_chunks = refl
 
@@ -84,7 +84,7 @@ two_levels = record {
       ∷ dev (codes "top") (line 0 16 (Linear (base (codes "/dev/mapper/mid") 0)) ∷ []) ∷ [];
 }
 
-reads_two_levels : (sector two_levels (ramp_image 16 ∷ []) (mapped 1) 15 ≡ Ok (filled 15)) × (read_cost two_levels (mapped 1) ≡ 1)
+reads_two_levels : (sector two_levels (ramp_image 16 ∷ []) (mapped 1) 15 ≡ Ok (filled_sector 15)) × (read_cost two_levels (mapped 1) ≡ 1)
 unfolding descend
 reads_two_levels = (refl, refl)
 
@@ -101,7 +101,7 @@ half_failing = record {
 abbrev read16 : ℕ → ℕ → Outcome
 read16 first n = span (sector half_failing (zeros_image 8 ∷ []) (mapped 2)) first n
 
-reads_half_failing : (read16 2 2 ≡ Ok (filled 0 ++ filled 0)) × (read16 3 2 ≡ Err error_target) × (read16 4 1 ≡ Err error_target)
+reads_half_failing : (read16 2 2 ≡ Ok (filled_sector 0 ++ filled_sector 0)) × (read16 3 2 ≡ Err error_target) × (read16 4 1 ≡ Err error_target)
 unfolding descend
 reads_half_failing = (refl, refl, refl)
 
@@ -160,14 +160,14 @@ eight = codes "sector_size:4096" ∷ []
 abbrev counted : List (List ℕ)
 counted = codes "sector_size:4096" ∷ codes "iv_large_sectors" ∷ []
 
-numbers_from_0 : (unit_number (units_of 0 eight) 0 ≡ 0) × (unit_number (units_of 0 eight) 1 ≡ 8) × (unit_number (units_of 0 counted) 0 ≡ 0) × (unit_number (units_of 0 counted) 1 ≡ 1)
+numbers_from_0 : (crypt_unit_number (units_of 0 eight) 0 ≡ 0) × (crypt_unit_number (units_of 0 eight) 1 ≡ 8) × (crypt_unit_number (units_of 0 counted) 0 ≡ 0) × (crypt_unit_number (units_of 0 counted) 1 ≡ 1)
 unfolding sector_size iv_large_sectors
 numbers_from_0 = (refl, refl, refl, refl)
 
-numbers_from_8 : (unit_number (units_of 8 eight) 0 ≡ 8) × (unit_number (units_of 8 eight) 1 ≡ 16) × (unit_number (units_of 8 counted) 0 ≡ 1) × (unit_number (units_of 8 counted) 1 ≡ 2)
+numbers_from_8 : (crypt_unit_number (units_of 8 eight) 0 ≡ 8) × (crypt_unit_number (units_of 8 eight) 1 ≡ 16) × (crypt_unit_number (units_of 8 counted) 0 ≡ 1) × (crypt_unit_number (units_of 8 counted) 1 ≡ 2)
 unfolding sector_size iv_large_sectors
 numbers_from_8 = (refl, refl, refl, refl)
 
-numbers_from_the_last : (unit_number (units_of (2 ^ 64 - 8) eight) 1 ≡ 0) × (unit_number (units_of (2 ^ 64 - 8) counted) 0 ≡ 2 ^ 61 - 1) × (unit_number (units_of (2 ^ 64 - 8) counted) 1 ≡ 0) × (unit_number (units_of (2 ^ 64 - 1) []) 1 ≡ 0)
+numbers_from_the_last : (crypt_unit_number (units_of (2 ^ 64 - 8) eight) 1 ≡ 0) × (crypt_unit_number (units_of (2 ^ 64 - 8) counted) 0 ≡ 2 ^ 61 - 1) × (crypt_unit_number (units_of (2 ^ 64 - 8) counted) 1 ≡ 0) × (crypt_unit_number (units_of (2 ^ 64 - 1) []) 1 ≡ 0)
 unfolding sector_size iv_large_sectors
 numbers_from_the_last = (refl, refl, refl, refl)

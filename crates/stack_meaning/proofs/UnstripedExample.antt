@@ -1,6 +1,6 @@
 -- Worked values of `unstriped`: the second stripe of chunks of eight on two leaves.
 use Rattle.std.proofs.Common.{◌≡◌, ℕ, true, List, [], ◌∷◌, ◌++◌, refl, codes, Ok}
-use Rattle.block_device.specs.Device.{filled, ramp_image}
+use Rattle.block_device.specs.Device.{filled_sector, ramp_image}
 use Rattle.dm_table.specs.declared.table.Base.{Base}
 use Rattle.dm_table.specs.declared.table.Target.{Target}
 use Rattle.dm_table.specs.declared.table.Target.TheVariants.{Striped, Unstriped}
@@ -32,6 +32,6 @@ abbrev read : ℕ → ℕ → Outcome
 read first n = span (sector second_stripe (ramp_image 16 ∷ ramp_image 32 ∷ []) (mapped 1)) first n
 
 -- its sectors are those of the second leaf from 16 on
-reads_second_stripe : (read 0 1 ≡ Ok (filled 0x10)) × (read 7 2 ≡ Ok (filled 0x17 ++ filled 0x18)) × (read 15 1 ≡ Ok (filled 0x1f))
+reads_second_stripe : (read 0 1 ≡ Ok (filled_sector 0x10)) × (read 7 2 ≡ Ok (filled_sector 0x17 ++ filled_sector 0x18)) × (read 15 1 ≡ Ok (filled_sector 0x1f))
 unfolding descend
 reads_second_stripe = (refl, refl, refl)

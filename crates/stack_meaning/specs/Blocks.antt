@@ -52,8 +52,8 @@ block_below v on_data on_hash i (suc l) expected =
     (λ block. block_below v on_data on_hash i l (next_digest v l i block))
 
 -- data block i: the root is expected of the topmost block
-abbrev pub block_at : Verity → (ℕ → Outcome) → (ℕ → Outcome) → ℕ → Outcome
-block_at v on_data on_hash i = block_below v on_data on_hash i (levels (tree_of v)) v.root
+abbrev pub verified_block : Verity → (ℕ → Outcome) → (ℕ → Outcome) → ℕ → Outcome
+verified_block v on_data on_hash i = block_below v on_data on_hash i (levels (tree_of v)) v.root
 
 -- The faults that the way to data block i meets: that a block has another digest, and those that the sectors of
 -- the data block, ignored or not, or of a hash block meet.

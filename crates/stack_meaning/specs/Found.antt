@@ -13,19 +13,19 @@ pub record FoundRecord : Type 0 where
 abbrev pub Entry : Type 0
 Entry = ℕ × ℕ × ℕ
 
-abbrev pub entry_of : FoundRecord → Entry
-entry_of x = (x.device, x.line, x.chain.index)
+abbrev pub found_entry : FoundRecord → Entry
+found_entry x = (x.device, x.line, x.chain.index)
 
 -- no two of one device, line and block
 abbrev pub AreDistinct : List FoundRecord → Type 0
-AreDistinct found = AllPairs (λ x y. entry_of x ≢ entry_of y) found
+AreDistinct found = AllPairs (λ x y. found_entry x ≢ found_entry y) found
 
 -- each is on the way of one of n sectors, where entries says what is on a sector's way
 abbrev pub AreUsed : (ℕ → List Entry) → ℕ → ℕ → List FoundRecord → Type 0
-AreUsed entries first n found = All (λ x. SomeOf (λ s. Contains (entries s) (entry_of x)) first n) found
+AreUsed entries first n found = All (λ x. SomeOf (λ s. Contains (entries s) (found_entry x)) first n) found
 
 -- some were added behind those that were there, each on the way of one of n sectors, and none twice
-pub record Grown (entries : ℕ → List Entry) (first n : ℕ) (old new : List FoundRecord) : Type 0 where
+pub record HasGrown (entries : ℕ → List Entry) (first n : ℕ) (old new : List FoundRecord) : Type 0 where
   pub added : List FoundRecord
   pub is : new ≡ old ++ added
   pub used : AreUsed entries first n added

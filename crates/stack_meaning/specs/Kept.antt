@@ -11,7 +11,7 @@ use Rattle.stack_rules.specs.Lines.{IsLine}
 use Rattle.stack_rules.specs.Names.{names}
 use Rattle.stack_meaning.specs.LeavesBeneath.{name_stands_on}
 use Rattle.stack_meaning.specs.Outcomes.{Images, Outcome}
-use Rattle.stack_meaning.specs.Blocks.{block_at}
+use Rattle.stack_meaning.specs.Blocks.{verified_block}
 use Rattle.stack_meaning.specs.Found.{FoundRecord}
 use Rattle.stack_meaning.specs.Meaning.{none_said, said_by_name}
 use Rattle.stack_meaning.specs.Beneath.{below}
@@ -20,8 +20,8 @@ use Rattle.stack_meaning.specs.MeaningOf.{meaning_of}
 pub use Rattle.stack_meaning.specs.targets.Verity.{IsOfVerity}
 
 -- data block i of a verity line
-abbrev pub block_of : Configuration → Images → Verity → ℕ → Outcome
-block_of c images v i = block_at v (λ t. (said_by_name c v.data t).means images) (λ t. (said_by_name c v.hash t).means images) i
+abbrev pub verity_block : Configuration → Images → Verity → ℕ → Outcome
+verity_block c images v i = verified_block v (λ t. (said_by_name c v.data t).means images) (λ t. (said_by_name c v.hash t).means images) i
 
 -- the leaves on which what a line of that target names stands
 abbrev pub target_leaves : Configuration → Target → ℕ → Bool

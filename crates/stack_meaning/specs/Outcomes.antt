@@ -1,6 +1,6 @@
 -- What a sector's place may hold: bytes, or a fault.
 use Rattle.std.specs.Prelude.{ℕ, zero, suc, ◌*◌, List, [], ◌++◌, take, drop, Result, Ok, Err, All}
-use Rattle.block_device.specs.Device.{filled, IsSector}
+use Rattle.block_device.specs.Device.{filled_sector, IsSector}
 use Rattle.stack_meaning.specs.declared.fault.Fault.{Fault}
 use Rattle.stack_meaning.specs.declared.fault.Fault.TheVariants.{ErrorTarget, Mismatch}
 
@@ -28,7 +28,7 @@ abbrev pub Outcome : Type 0
 Outcome = Result (List ℕ) Fault
 
 unfoldable pub zero_sector : List ℕ
-zero_sector = filled 0
+zero_sector = filled_sector 0
 
 -- a function of the bytes, where there are some
 abbrev pub changed_outcome : (List ℕ → List ℕ) → Outcome → Outcome

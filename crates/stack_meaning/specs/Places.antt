@@ -43,7 +43,7 @@ run_expected place chains first n = record {
 }
 
 -- what a read went from and to: the leaves, and the chains that were found
-pub record Read : Type 0 where
+pub record LeafRead : Type 0 where
   pub old : List Device
   pub new : List Device
   pub before : List FoundRecord

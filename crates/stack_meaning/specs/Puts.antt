@@ -25,15 +25,15 @@ abbrev pub Run : Type 0
 Run = ℕ × List (List ℕ)
 
 -- sector s before the runs of what follows it, in the first of these where they belong together
-abbrev pub run_before : ℕ → List ℕ → Bool → List Run → List Run
-run_before s bytes true [] = (s, bytes ∷ []) ∷ []
-run_before s bytes true (run ∷ more) = (s, bytes ∷ run.1) ∷ more
-run_before s bytes false runs = (s, bytes ∷ []) ∷ runs
+abbrev pub sector_before : ℕ → List ℕ → Bool → List Run → List Run
+sector_before s bytes true [] = (s, bytes ∷ []) ∷ []
+sector_before s bytes true (run ∷ more) = (s, bytes ∷ run.1) ∷ more
+sector_before s bytes false runs = (s, bytes ∷ []) ∷ runs
 
 -- sectors from s on, cut behind each that doesn't belong together with the next one
 abbrev pub runs_from : (ℕ → Bool) → ℕ → List (List ℕ) → List Run
 runs_from together s [] = []
-runs_from together s (bytes ∷ more) = run_before s bytes (together s) (runs_from together (suc s) more)
+runs_from together s (bytes ∷ more) = sector_before s bytes (together s) (runs_from together (suc s) more)
 
 -- runs put in rising order, up to the first fault
 abbrev pub put_runs : (ℕ → Putting) → List Run → Images → Put

@@ -13,9 +13,9 @@ use Rattle.stack_meaning.specs.Sectors.{SomeOf}
 use Rattle.stack_meaning.specs.Changes.{reached}
 use Rattle.stack_meaning.specs.Meaning.{Said}
 use Rattle.stack_meaning.specs.Stops.{ReadStops}
-use Rattle.stack_meaning.specs.Found.{Grown}
+use Rattle.stack_meaning.specs.Found.{HasGrown}
 use Rattle.stack_meaning.specs.Kept.{AllKept}
-use Rattle.stack_meaning.specs.Places.{Place, place_of, Expected, run_expected, Read}
+use Rattle.stack_meaning.specs.Places.{Place, place_of, Expected, run_expected, LeafRead}
 
 -- Whatever the leaves answer: with an x that is so, or by a fault that may come. The number of a leaf
 -- that failed counts from 1.
@@ -55,11 +55,11 @@ pub record IsPlain (said : ℕ → Said) (first n : ℕ) (old new : List Device)
   pub stops : (MeetVerity said first n → ⊥) → ReadStops said first n old new result
 
 -- A read of n sectors of a place, from the first on. Each may be its bytes with the chains that are there after it.
-pub record Finds (place : Place) (c : Configuration) (first n : ℕ) (did : Read) (answer : Result (List ℕ) IoFault) : Type 0 where
+pub record Finds (place : Place) (c : Configuration) (first n : ℕ) (did : LeafRead) (answer : Result (List ℕ) IoFault) : Type 0 where
   pub got : Gets (run_expected place did.after first n) did.old did.new answer
-  pub grown : Grown (λ s. (place.said s).entries) first n did.before did.after
+  pub grown : HasGrown (λ s. (place.said s).entries) first n did.before did.after
   pub kept : AllKept c did.new did.after
 
 -- of a leaf or device
-abbrev pub Reads : Configuration → Lower → ℕ → ℕ → Read → Result (List ℕ) IoFault → Type 0
+abbrev pub Reads : Configuration → Lower → ℕ → ℕ → LeafRead → Result (List ℕ) IoFault → Type 0
 Reads c lower first n did answer = Finds (place_of c lower) c first n did answer

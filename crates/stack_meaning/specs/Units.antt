@@ -9,16 +9,16 @@ use Rattle.xts_sector.specs.Xts.{encrypted, decrypted}
 use Rattle.stack_meaning.specs.Outcomes.{part}
 
 -- the number of unit k: that of its first sector, which counts units with `iv_large_sectors` and sectors without
-abbrev pub unit_number : Crypt → ℕ → ℕ
-unit_number crypt k =
+abbrev pub crypt_unit_number : Crypt → ℕ → ℕ
+crypt_unit_number crypt k =
     let sector = (k * unit_sectors crypt + crypt.iv_offset) % 2 ^ 64 in
     if iv_large_sectors crypt then sector / unit_sectors crypt else sector
 
 abbrev pub encrypted_unit : Crypt → ℕ → List ℕ → List ℕ
-encrypted_unit crypt k bytes = encrypted crypt.key (unit_number crypt k) bytes
+encrypted_unit crypt k bytes = encrypted crypt.key (crypt_unit_number crypt k) bytes
 
 abbrev pub decrypted_unit : Crypt → ℕ → List ℕ → List ℕ
-decrypted_unit crypt k bytes = decrypted crypt.key (unit_number crypt k) bytes
+decrypted_unit crypt k bytes = decrypted crypt.key (crypt_unit_number crypt k) bytes
 
 -- sector s of the line, of the bytes of its unit as they stand beneath
 abbrev pub unit_part : Crypt → ℕ → List ℕ → List ℕ

@@ -18,7 +18,7 @@ use Rattle.stack_meaning.specs.Leaves.{ServeLeaves}
 use Rattle.stack_opening.specs.declared.leaves.OpenLeaves.{OpenLeaves}
 
 -- an image was opened under its path, clashes with none of the files that are open, and is one of them from then on
-pub record OpensFile {S D : Type 0} (w : Calls S D) (files : List FileUse) (path : List ℕ) (writable : Bool) (device : D) (files' : List FileUse) : Type 0 where
+pub record OpensBackingFile {S D : Type 0} (w : Calls S D) (files : List FileUse) (path : List ℕ) (writable : Bool) (device : D) (files' : List FileUse) : Type 0 where
   pub image : OpenImage D
   pub opened : OpensApart w files path writable image
   pub is : device ≡ image.device
@@ -42,7 +42,7 @@ pub record MakesMemory {S D : Type 0} (w : Calls S D) (image : List (List ℕ)) 
 
 -- the device is the one that stands behind the name
 abbrev pub OpensBacking : {S D : Type 0} → Calls S D → List FileUse → BackingRecord → D → List FileUse → Type 0
-OpensBacking w files (file path writable) device files' = OpensFile w files path writable device files'
+OpensBacking w files (file path writable) device files' = OpensBackingFile w files path writable device files'
 OpensBacking w files (part path writable at) device files' = OpensPartOf w files path writable (device_part at) device files'
 OpensBacking w files (zeros n) device files' = MakesMemory w (zeros_image n) device × (files' ≡ files)
 OpensBacking w files (ramp n) device files' = MakesMemory w (ramp_image n) device × (files' ≡ files)

@@ -6,13 +6,13 @@ use Rattle.image_files.specs.Apart.{OpensApart, RefusesApart}
 use Rattle.image_files.specs.declared.images.FileText.{FileText}
 use Rattle.image_files.specs.declared.images.OpenImage.{OpenImage}
 use Rattle.image_files.specs.FileUses.{image_use, text_use}
-use Rattle.image_files.specs.Opened.{RefusesText, Tells}
+use Rattle.image_files.specs.Opened.{RefusesText, TellsFile}
 use Rattle.image_files.specs.Opener.{Calls, Opener, calls}
 use Rattle.stack_opening.specs.declared.fault.OpeningFault.{OpeningFault}
 use Rattle.stack_opening.specs.declared.stack_file.OpenStack.{OpenStack}
 use Rattle.stack_opening.specs.declared.stack_file.StackFile.{StackFile}
 use Rattle.stack_opening.specs.Bindings.{AreBound}
-use Rattle.stack_opening.specs.Openings.{IsBindingEnd, IsTextEnd, IsUnopened, TellsStack, most_source}
+use Rattle.stack_opening.specs.Openings.{IsBindingEnd, IsTextEnd, IsFileUnopened, TellsStack, most_source}
 
 -- the path of a stack file, and bindings
 pub record StackWords : Type 0 where
@@ -43,7 +43,7 @@ FailsToOpen w words fault = IsTextEnd w words.stack fault ⊎ FailsToBind w word
 pub record TellsBoth {S D : Type 0} (w : Calls S D) (stack source : List ℕ) (text source_text : FileText) : Type 0 where
   pub between : S
   pub told : TellsStack (record w { new = between }) stack text
-  pub source_told : Tells (record w { old = between }) source most_source source_text
+  pub source_told : TellsFile (record w { old = between }) source most_source source_text
 
 -- and then the images of the bindings opened beside both
 pub record OpensSource {S D : Type 0} (w : Calls S D) (words : StackWords) (source : List ℕ) (over : OpenStack D) (source_text : FileText) : Type 0 where
@@ -56,7 +56,7 @@ pub record FailsAtSource {S D : Type 0} (w : Calls S D) (stack source : List ℕ
   pub text : FileText
   pub between : S
   pub told : TellsStack (record w { new = between }) stack text
-  pub fails : IsUnopened (RefusesText (record w { old = between }) source most_source) fault
+  pub fails : IsFileUnopened (RefusesText (record w { old = between }) source most_source) fault
 
 -- both were told, and then the bindings weren't all opened
 pub record FailsBehindSource {S D : Type 0} (w : Calls S D) (words : StackWords) (source : List ℕ) (fault : OpeningFault) : Type 0 where
@@ -87,7 +87,7 @@ pub record FailsAtImage {S D : Type 0} (w : Calls S D) (stack path : List ℕ) (
   pub text : FileText
   pub between : S
   pub told : TellsStack (record w { new = between }) stack text
-  pub fails : IsUnopened (RefusesApart (record w { old = between }) (text_use text ∷ []) path writable) fault
+  pub fails : IsFileUnopened (RefusesApart (record w { old = between }) (text_use text ∷ []) path writable) fault
 
 -- the image is open, and then the bindings weren't all opened
 pub record FailsBehindImage {S D : Type 0} (w : Calls S D) (words : StackWords) (path : List ℕ) (writable : Bool) (fault : OpeningFault) : Type 0 where

@@ -9,7 +9,7 @@ use Rattle.image_files.specs.Apart.{RefusesApart}
 use Rattle.image_files.specs.declared.file_use.FileUse.{FileUse}
 use Rattle.image_files.specs.declared.images.FileText.{FileText}
 use Rattle.image_files.specs.declared.opening.UnopenedFile.{UnopenedFile}
-use Rattle.image_files.specs.Opened.{RefusesText, Tells}
+use Rattle.image_files.specs.Opened.{RefusesText, TellsFile}
 use Rattle.image_files.specs.declared.parts.UnopenedPart.{UnopenedPart}
 use Rattle.image_files.specs.declared.parts.UnopenedPart.TheVariants as unopened_part
 use Rattle.image_files.specs.Opener.{Calls, Opener, calls}
@@ -24,25 +24,25 @@ part_ending (unopened_part.File unopened) = Open unopened
 part_ending (unopened_part.Outside path) = Outside path
 
 -- a file isn't opened or told, as is said of it
-abbrev pub IsUnopened : (UnopenedFile → Type 0) → OpeningFault → Type 0
-IsUnopened Refused (Open unopened) = Refused unopened
-IsUnopened Refused fault = ⊥
+abbrev pub IsFileUnopened : (UnopenedFile → Type 0) → OpeningFault → Type 0
+IsFileUnopened Refused (Open unopened) = Refused unopened
+IsFileUnopened Refused fault = ⊥
 
 -- the text under STACK's path was told, of at most 1 MiB
 pub record TellsStack {S D : Type 0} (w : Calls S D) (path : List ℕ) (text : FileText) : Type 0 where
-  pub told : Tells w path (2 ^ 20 + 1) text
+  pub told : TellsFile w path (2 ^ 20 + 1) text
   pub short : length text.bytes.items ≤ 2 ^ 20
 
 -- it has more
 pub record TellsLongText {S D : Type 0} (w : Calls S D) (path : List ℕ) : Type 0 where
   pub text : FileText
-  pub told : Tells w path (2 ^ 20 + 1) text
+  pub told : TellsFile w path (2 ^ 20 + 1) text
   pub long : 2 ^ 20 < length text.bytes.items
 
 -- or it wasn't told
 abbrev pub IsTextEnd : {S D : Type 0} → Calls S D → List ℕ → OpeningFault → Type 0
 IsTextEnd w path TooLong = TellsLongText w path
-IsTextEnd w path fault = IsUnopened (RefusesText w path (2 ^ 20 + 1)) fault
+IsTextEnd w path fault = IsFileUnopened (RefusesText w path (2 ^ 20 + 1)) fault
 
 -- one sector more than a write may have, in bytes
 abbrev pub most_source : ℕ

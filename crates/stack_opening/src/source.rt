@@ -1,6 +1,6 @@
 //! The texts that a command takes: stack texts, and what is written.
 ghost use Rattle.std.specs.Prelude.{IfOk, IfErr};
-ghost use Rattle.image_files.specs.Opened.{Tells};
+ghost use Rattle.image_files.specs.Opened.{TellsFile};
 ghost use Rattle.image_files.specs.Opener.{calls};
 ghost use Rattle.stack_opening.specs.Openings.{IsTextEnd, RefusesSource, TellsStack, most_source};
 
@@ -33,7 +33,7 @@ pub fn read_source<'a, I: Images>(
     images: &mut I,
     path: &'a str,
 ) -> Result<FileText, UnopenedFile<'a>>
-    ensures ok { IfOk result (Tells (calls I.relations I.Dev.state images.old images.new) path.now most_source) }
+    ensures ok { IfOk result (TellsFile (calls I.relations I.Dev.state images.old images.new) path.now most_source) }
     ensures err { IfErr result (RefusesSource I.relations I.Dev.state images.old images.new path.now) }
 {
     read_text(images, path, MOST_BYTES)

@@ -5,8 +5,8 @@ use Rattle.rescue_map.specs.Aheads.{marks_ahead}
 use Rattle.rescue_map.specs.declared.ahead.Ahead.{Ahead}
 use Rattle.rescue_map.specs.declared.map.Run.{Run}
 use Rattle.rescue_map.specs.Maps.{marks}
-use Rattle.stack_recovery.specs.Recoveries.{IsNoted, NotesMore, is_had}
-use Rattle.stack_recovery.specs.Surveys.{AreMarked, State}
+use Rattle.stack_recovery.specs.Recoveries.{AreMarksNoted, NotesMore, is_had}
+use Rattle.stack_recovery.specs.Surveys.{AreMarked, SectorState}
 
 -- some of the next sectors, which are alike
 pub marked-next : (before : List Bool) (at n count : ℕ) (had : Bool) (rest : List Bool) → n ≤ count → drop at before ≡ replicate count had ++ rest → AreMarked before at n had
@@ -43,26 +43,26 @@ notes-some None (Some new) more p = absurd p
 notes-some (Some old) None more p = absurd p
 notes-some (Some old) (Some new) more p = refl
 
-map-append : (xs ys : List State) → map is_had (xs ++ ys) ≡ map is_had xs ++ map is_had ys
+map-append : (xs ys : List SectorState) → map is_had (xs ++ ys) ≡ map is_had xs ++ map is_had ys
 map-append [] ys = refl
 map-append (x ∷ xs) ys = ap (λ (l : List Bool). is_had x ∷ l) (map-append xs ys)
 
-map-replicate : (n : ℕ) (s : State) → map is_had (replicate n s) ≡ replicate n (is_had s)
+map-replicate : (n : ℕ) (s : SectorState) → map is_had (replicate n s) ≡ replicate n (is_had s)
 map-replicate zero s = refl
 map-replicate (suc n) s = ap (λ (l : List Bool). is_had s ∷ l) (map-replicate n s)
 
-pub noted-more : (old new : Option (List Run)) (states : List State) (n : ℕ) (s : State) → IsNoted old states → NotesMore old new (replicate n (is_had s)) → IsNoted new (states ++ replicate n s)
+pub noted-more : (old new : Option (List Run)) (states : List SectorState) (n : ℕ) (s : SectorState) → AreMarksNoted old states → NotesMore old new (replicate n (is_had s)) → AreMarksNoted new (states ++ replicate n s)
 noted-more None None states n s p q = tt
 noted-more None (Some new) states n s p q = absurd q
 noted-more (Some old) None states n s p q = absurd q
 noted-more (Some old) (Some new) states n s p q =
     q ∙ ap (λ (l : List Bool). l ++ replicate n (is_had s)) p ∙ sym (map-append states (replicate n s) ∙ ap (λ (l : List Bool). map is_had states ++ l) (map-replicate n s))
 
-length-map : (states : List State) → length (map is_had states) ≡ length states
+length-map : (states : List SectorState) → length (map is_had states) ≡ length states
 length-map [] = refl
 length-map (x ∷ states) = ap suc (length-map states)
 
-pub length-noted : (runs : List Run) (states : List State) → IsNoted (Some runs) states → length (marks runs) ≡ length states
+pub length-noted : (runs : List Run) (states : List SectorState) → AreMarksNoted (Some runs) states → length (marks runs) ≡ length states
 length-noted runs states p = ap length p ∙ length-map states
 
 -- where none was had before

@@ -6,8 +6,8 @@ use Rattle.std.proofs.lemmas.List.Elements.{All-nil, All-cons}
 use Rattle.stack_meaning.specs.declared.fault.IoFault.{IoFault}
 use Rattle.stack_recovery.specs.declared.lost_run.LostRun.{LostRun}
 use Rattle.stack_recovery.specs.Laws.{IsLongestRun, RunsAreLongest}
-use Rattle.stack_recovery.specs.LostRuns.{follows, is_same, lost_runs, run, run_before}
-use Rattle.stack_recovery.specs.Surveys.{State}
+use Rattle.stack_recovery.specs.LostRuns.{follows_lost, is_same_fault, lost_runs, run_lost, lost_before}
+use Rattle.stack_recovery.specs.Surveys.{SectorState}
 use Rattle.stack_recovery.proofs.LostRunLemmas.{is_same-refl, is_same-true}
 
 is_empty : List LostRun → Bool
@@ -18,7 +18,7 @@ empty-none : (r : LostRun) (rs : List LostRun) → [] ≡ r ∷ rs → ⊥
 unfolding is_empty
 empty-none r rs e = false≢true (sym (ap is_empty e))
 
-is_lost : State → Bool
+is_lost : SectorState → Bool
 is_lost None = false
 is_lost (Some f) = true
 
@@ -27,19 +27,19 @@ unfolding is_lost
 had-none f e = false≢true (ap is_lost e)
 
 -- the state of sector t, where the first is that of sector s
-state_at : ℕ → List State → ℕ → State
+state_at : ℕ → List SectorState → ℕ → SectorState
 state_at s states t = get_or states (t - s) None
 
-state_at-more : (s t : ℕ) (x : State) (more : List State) → s < t → state_at s (x ∷ more) t ≡ state_at (suc s) more t
+state_at-more : (s t : ℕ) (x : SectorState) (more : List SectorState) → s < t → state_at s (x ∷ more) t ≡ state_at (suc s) more t
 unfolding state_at
 state_at-more s t x more low = let step : t - s ≡ suc (t - suc s) = omega (arith, low) in ap (λ (k : ℕ). get_or (x ∷ more) k None) step
 
-state_at-first : (s : ℕ) (x : State) (more : List State) → state_at s (x ∷ more) s ≡ x
+state_at-first : (s : ℕ) (x : SectorState) (more : List SectorState) → state_at s (x ∷ more) s ≡ x
 unfolding state_at
 state_at-first s x more = let none : s - s ≡ 0 = omega arith in ap (λ (k : ℕ). get_or (x ∷ more) k None) none
 
 -- a longest run of the sectors from s on
-record IsRunFrom (s : ℕ) (states : List State) (r : LostRun) : Type 0 where
+record IsRunFrom (s : ℕ) (states : List SectorState) (r : LostRun) : Type 0 where
   some : 1 ≤ r.count
   from : s ≤ r.first
   lost : (j : ℕ) → j < r.count → state_at s states (r.first + j) ≡ Some r.fault
@@ -47,12 +47,12 @@ record IsRunFrom (s : ℕ) (states : List State) (r : LostRun) : Type 0 where
   behind : state_at s states (r.first + r.count) ≢ Some r.fault
 
 -- runs from s on, each behind the one before
-abbrev AreRunsFrom : ℕ → ℕ → List State → List LostRun → Type 0
+abbrev AreRunsFrom : ℕ → ℕ → List SectorState → List LostRun → Type 0
 AreRunsFrom low s states [] = Unit {0}
 AreRunsFrom low s states (r ∷ more) = (low ≤ r.first) × IsRunFrom s states r × AreRunsFrom (r.first + r.count) s states more
 
 -- a sector before those from s on, of another fault than the run's, where that begins at s
-lift : (s : ℕ) (x : State) (more : List State) (r : LostRun) → (r.first ≡ suc s → x ≢ Some r.fault) → IsRunFrom (suc s) more r → IsRunFrom s (x ∷ more) r
+lift : (s : ℕ) (x : SectorState) (more : List SectorState) (r : LostRun) → (r.first ≡ suc s → x ≢ Some r.fault) → IsRunFrom (suc s) more r → IsRunFrom s (x ∷ more) r
 lift s x more r apart p = record {
   some = p.some;
   from = omega (arith, p.from);
@@ -65,13 +65,13 @@ lift s x more r apart p = record {
   behind = λ e. p.behind (sym (state_at-more s (r.first + r.count) x more (omega (arith, p.from))) ∙ e);
 }
 
-lift-behind : (low s : ℕ) (x : State) (more : List State) (rs : List LostRun) → suc s < low → AreRunsFrom low (suc s) more rs → AreRunsFrom low s (x ∷ more) rs
+lift-behind : (low s : ℕ) (x : SectorState) (more : List SectorState) (rs : List LostRun) → suc s < low → AreRunsFrom low (suc s) more rs → AreRunsFrom low s (x ∷ more) rs
 lift-behind low s x more [] above p = tt
 lift-behind low s x more (r ∷ rs) above p =
     (p.0, lift s x more r (λ e. absurd (omega (arith, e, above, p.0))) p.1, lift-behind (r.first + r.count) s x more rs (omega (arith, above, p.0, p.1.some)) p.2)
 
 -- the first run begins where the first sector is lost
-first-run : (s : ℕ) (states : List State) (f : IoFault) (rs : List LostRun) → lost_runs s states ≡ rs → get_or states 0 None ≡ Some f → (b : LostRun) × (more : List LostRun) × (rs ≡ b ∷ more) × (b.first ≡ s) × (b.fault ≡ f)
+first-run : (s : ℕ) (states : List SectorState) (f : IoFault) (rs : List LostRun) → lost_runs s states ≡ rs → get_or states 0 None ≡ Some f → (b : LostRun) × (more : List LostRun) × (rs ≡ b ∷ more) × (b.first ≡ s) × (b.fault ≡ f)
 first-run s [] f rs is e = let clash : None ≡ Some f = e in cc
 first-run s (None ∷ states) f rs is e = let clash : None ≡ Some f = e in cc
 first-run s (Some g ∷ states) f rs is e = go (lost_runs (suc s) states) is
@@ -79,16 +79,16 @@ first-run s (Some g ∷ states) f rs is e = go (lost_runs (suc s) states) is
     same : g ≡ f
     same = let both : Some g ≡ Some f = e in cc
 
-    go : (below : List LostRun) → run_before (run s 1 g) below ≡ rs → (b : LostRun) × (more : List LostRun) × (rs ≡ b ∷ more) × (b.first ≡ s) × (b.fault ≡ f)
-    go [] at = (run s 1 g, [], sym at, refl, same)
-    go (x ∷ more) at = split (follows (run s 1 g) x) at
+    go : (below : List LostRun) → lost_before (run_lost s 1 g) below ≡ rs → (b : LostRun) × (more : List LostRun) × (rs ≡ b ∷ more) × (b.first ≡ s) × (b.fault ≡ f)
+    go [] at = (run_lost s 1 g, [], sym at, refl, same)
+    go (x ∷ more) at = split (follows_lost (run_lost s 1 g) x) at
       where
-        split : (b : Bool) → cond b (run s (1 + x.count) g ∷ more) (run s 1 g ∷ x ∷ more) ≡ rs → (b : LostRun) × (more : List LostRun) × (rs ≡ b ∷ more) × (b.first ≡ s) × (b.fault ≡ f)
-        split true by = (run s (1 + x.count) g, more, sym by, refl, same)
-        split false by = (run s 1 g, x ∷ more, sym by, refl, same)
+        split : (b : Bool) → cond b (run_lost s (1 + x.count) g ∷ more) (run_lost s 1 g ∷ x ∷ more) ≡ rs → (b : LostRun) × (more : List LostRun) × (rs ≡ b ∷ more) × (b.first ≡ s) × (b.fault ≡ f)
+        split true by = (run_lost s (1 + x.count) g, more, sym by, refl, same)
+        split false by = (run_lost s 1 g, x ∷ more, sym by, refl, same)
 
 -- one sector, behind which none is lost by its fault
-alone : (s : ℕ) (f : IoFault) (more : List State) → state_at (suc s) more (suc s) ≢ Some f → IsRunFrom s (Some f ∷ more) (run s 1 f)
+alone : (s : ℕ) (f : IoFault) (more : List SectorState) → state_at (suc s) more (suc s) ≢ Some f → IsRunFrom s (Some f ∷ more) (run_lost s 1 f)
 alone s f more none = record {
   some = omega arith;
   from = omega arith;
@@ -98,7 +98,7 @@ alone s f more none = record {
 }
 
 -- one sector and a run of its fault behind it
-grown : (s : ℕ) (f : IoFault) (more : List State) (b : LostRun) → b.first ≡ s + 1 → f ≡ b.fault → IsRunFrom (suc s) more b → IsRunFrom s (Some f ∷ more) (run s (1 + b.count) f)
+grown : (s : ℕ) (f : IoFault) (more : List SectorState) (b : LostRun) → b.first ≡ s + 1 → f ≡ b.fault → IsRunFrom (suc s) more b → IsRunFrom s (Some f ∷ more) (run_lost s (1 + b.count) f)
 grown s f more b at same p = record {
   some = omega arith;
   from = omega arith;
@@ -115,11 +115,11 @@ grown s f more b at same p = record {
         let next : s + suc j ≡ b.first + j = omega (arith, at) in
         ap (state_at s (Some f ∷ more)) next ∙ state_at-more s (b.first + j) (Some f) more (omega (arith, at)) ∙ p.lost j (omega (arith, low)) ∙ ap (λ (g : IoFault). Some g) (sym same)
 
-state_at-here : (s : ℕ) (states : List State) → state_at s states s ≡ get_or states 0 None
+state_at-here : (s : ℕ) (states : List SectorState) → state_at s states s ≡ get_or states 0 None
 unfolding state_at
 state_at-here s states = let none : s - s ≡ 0 = omega arith in ap (λ (k : ℕ). get_or states k None) none
 
-runs-from : (s : ℕ) (states : List State) → AreRunsFrom s s states (lost_runs s states)
+runs-from : (s : ℕ) (states : List SectorState) → AreRunsFrom s s states (lost_runs s states)
 runs-from s [] = tt
 runs-from s (None ∷ more) = go (lost_runs (suc s) more) (runs-from (suc s) more)
   where
@@ -132,13 +132,13 @@ runs-from s (Some f ∷ more) = go (lost_runs (suc s) more) refl (runs-from (suc
     next : (rs : List LostRun) → lost_runs (suc s) more ≡ rs → state_at (suc s) more (suc s) ≡ Some f → (b : LostRun) × (rest : List LostRun) × (rs ≡ b ∷ rest) × (b.first ≡ suc s) × (b.fault ≡ f)
     next rs is e = first-run (suc s) more f rs is (sym (state_at-here (suc s) more) ∙ e)
 
-    go : (rs : List LostRun) → lost_runs (suc s) more ≡ rs → AreRunsFrom (suc s) (suc s) more rs → AreRunsFrom s s (Some f ∷ more) (run_before (run s 1 f) rs)
+    go : (rs : List LostRun) → lost_runs (suc s) more ≡ rs → AreRunsFrom (suc s) (suc s) more rs → AreRunsFrom s s (Some f ∷ more) (lost_before (run_lost s 1 f) rs)
     go [] is p = (omega arith, alone s f more (λ e. let found = next [] is e in empty-none found.0 found.1 found.2), tt)
-    go (b ∷ rest) is p = split (follows (run s 1 f) b) refl
+    go (b ∷ rest) is p = split (follows_lost (run_lost s 1 f) b) refl
       where
-        split : (t : Bool) → follows (run s 1 f) b ≡ t → AreRunsFrom s s (Some f ∷ more) (cond t (run s (1 + b.count) f ∷ rest) (run s 1 f ∷ b ∷ rest))
+        split : (t : Bool) → follows_lost (run_lost s 1 f) b ≡ t → AreRunsFrom s s (Some f ∷ more) (cond t (run_lost s (1 + b.count) f ∷ rest) (run_lost s 1 f ∷ b ∷ rest))
         split true e =
-            let both = and_parts (b.first == (s + 1)) (is_same f b.fault) e in
+            let both = and_parts (b.first == (s + 1)) (is_same_fault f b.fault) e in
             let at : b.first ≡ s + 1 = eqb-true b.first (s + 1) both.0 in
             let end : b.first + b.count ≡ s + (1 + b.count) = omega (arith, at) in (
               omega arith,
@@ -148,7 +148,7 @@ runs-from s (Some f ∷ more) = go (lost_runs (suc s) more) refl (runs-from (suc
         split false e =
             let apart : b.first ≡ suc s → f ≡ b.fault → ⊥ = λ at same.
             let here : b.first ≡ s + 1 = omega (arith, at) in
-            false≢true (sym e ∙ and_from (b.first == (s + 1)) (is_same f b.fault) (eq-eqb b.first (s + 1) here) (ap (is_same f) (sym same) ∙ is_same-refl f)) in (
+            false≢true (sym e ∙ and_from (b.first == (s + 1)) (is_same_fault f b.fault) (eq-eqb b.first (s + 1) here) (ap (is_same_fault f) (sym same) ∙ is_same-refl f)) in (
               omega arith,
               alone s f more (λ e'. let found = next (b ∷ rest) is e' in
                   let lists : b ∷ rest ≡ found.0 ∷ found.1 = found.2 in
@@ -161,12 +161,12 @@ runs-from s (Some f ∷ more) = go (lost_runs (suc s) more) refl (runs-from (suc
               ),
             )
 
-state_at-zero : (states : List State) (t : ℕ) → state_at 0 states t ≡ get_or states t None
+state_at-zero : (states : List SectorState) (t : ℕ) → state_at 0 states t ≡ get_or states t None
 unfolding state_at
 state_at-zero states t = let none : t - 0 ≡ t = omega arith in ap (λ (k : ℕ). get_or states k None) none
 
 -- a run of all sectors, from sector 0 on
-longest : (states : List State) (r : LostRun) → IsRunFrom 0 states r → IsLongestRun states r
+longest : (states : List SectorState) (r : LostRun) → IsRunFrom 0 states r → IsLongestRun states r
 longest states r p = record {
   some = p.some;
   lost = λ j low. sym (state_at-zero states (r.first + j)) ∙ p.lost j low;
@@ -174,7 +174,7 @@ longest states r p = record {
   behind = λ e. p.behind (state_at-zero states (r.first + r.count) ∙ e);
 }
 
-each-longest : (low : ℕ) (states : List State) (rs : List LostRun) → AreRunsFrom low 0 states rs → All (IsLongestRun states) rs
+each-longest : (low : ℕ) (states : List SectorState) (rs : List LostRun) → AreRunsFrom low 0 states rs → All (IsLongestRun states) rs
 each-longest low states [] p = All-nil (IsLongestRun states)
 each-longest low states (r ∷ rs) p = All-cons (IsLongestRun states) r rs (longest states r p.1) (each-longest (r.first + r.count) states rs p.2)
 

@@ -17,7 +17,7 @@ use Rattle.stack_engine.specs.Stacks.{StackRecord}
 use Rattle.stack_meaning.proofs.lemmas.LeafListLemmas.{AreSteady-kept, images-kept, same_length}
 use Rattle.stack_recovery.specs.Alike.{AreAlike}
 use Rattle.stack_recovery.specs.Laws.{AreSure, StatesAreMeant, meant_state, meant_states}
-use Rattle.stack_recovery.specs.Surveys.{Finding, IsPieceRead, State, again, all_states, had, kept, lost, states_found, states_of}
+use Rattle.stack_recovery.specs.Surveys.{Finding, IsPieceSurveyed, SectorState, again, all_states, had, kept, lost, states_found, states_of}
 use Rattle.stack_recovery.proofs.lemmas.LostLemmas.{span-fault}
 
 -- ---- sectors of a span
@@ -31,15 +31,15 @@ meant-add at first (suc n) m =
     let more : suc n + m ≡ suc (n + m) = omega arith in
     let from : suc first + n ≡ first + suc n = omega arith in
     ap (meant_states at first) more
-    ∙ ap (λ (l : List State). meant_state (at first) ∷ l) (meant-add at (suc first) n m ∙ ap (λ (k : ℕ). meant_states at (suc first) n ++ meant_states at k m) from)
+    ∙ ap (λ (l : List SectorState). meant_state (at first) ∷ l) (meant-add at (suc first) n m ∙ ap (λ (k : ℕ). meant_states at (suc first) n ++ meant_states at k m) from)
 
-meant-each : (at : ℕ → Outcome) (first n : ℕ) (s : State) → ((k : ℕ) → k < n → meant_state (at (first + k)) ≡ s) → meant_states at first n ≡ replicate n s
+meant-each : (at : ℕ → Outcome) (first n : ℕ) (s : SectorState) → ((k : ℕ) → k < n → meant_state (at (first + k)) ≡ s) → meant_states at first n ≡ replicate n s
 meant-each at first zero s each = refl
 meant-each at first (suc n) s each =
     let here : first + 0 ≡ first = omega arith in
     let one : meant_state (at first) ≡ s = ap (λ (k : ℕ). meant_state (at k)) (sym here) ∙ each 0 (omega arith) in
     let rest = meant-each at (suc first) n s (λ k low. let step : suc first + k ≡ first + suc k = omega arith in ap (λ (t : ℕ). meant_state (at t)) step ∙ each (suc k) (omega (arith, low))) in
-    ap (λ (x : State). x ∷ meant_states at (suc first) n) one ∙ ap (λ (l : List State). s ∷ l) rest
+    ap (λ (x : SectorState). x ∷ meant_states at (suc first) n) one ∙ ap (λ (l : List SectorState). s ∷ l) rest
 
 joint-first : (a b : Outcome) (bytes : List ℕ) → joint_outcome a b ≡ Ok bytes → meant_state a ≡ None
 joint-first (Ok a) b bytes e = refl
@@ -55,7 +55,7 @@ meant-bytes : (at : ℕ → Outcome) (first n : ℕ) (bytes : List ℕ) → span
 meant-bytes at first zero bytes e = refl
 meant-bytes at first (suc n) bytes e =
     let rest = joint-rest (at first) (span at (suc first) n) bytes e in
-    ap (λ (x : State). x ∷ meant_states at (suc first) n) (joint-first (at first) (span at (suc first) n) bytes e) ∙ ap (λ (l : List State). None ∷ l) (meant-bytes at (suc first) n rest.0 rest.1)
+    ap (λ (x : SectorState). x ∷ meant_states at (suc first) n) (joint-first (at first) (span at (suc first) n) bytes e) ∙ ap (λ (l : List SectorState). None ∷ l) (meant-bytes at (suc first) n rest.0 rest.1)
 
 -- sectors that are lost together, by the fault of one
 meant-fault : (c : Configuration) (images : Images) (d first n : ℕ) (fault : Fault) → AreAlike c d first n → span (sector c images (mapped d)) first n ≡ Err fault
@@ -85,17 +85,17 @@ module _ (d first : ℕ) (w : StackRecord) (sure : AreSure (λ i. stands_on w.co
   meant-lost (DeviceFailed i) p alike kind = let failed = p.any.may.1 in absurd (failed.unsure some-device (sure.never_fail (i - 1) some-device failed.inside p.any.touches.fault))
   meant-lost NoMemory p alike kind = absurd (kind refl)
 
-  pub meant-piece : (found : Finding) → IsPieceRead [] d first w (record { count = n; found = found; after = after })
+  pub meant-piece : (found : Finding) → IsPieceSurveyed [] d first w (record { count = n; found = found; after = after })
       → states_found n found ≡ meant_states (sector w.config (steady_images w.leaves) (mapped d)) first (length (states_found n found))
   meant-piece (had bytes) p =
-      sym (ap (meant_states at first) (length-replicate {A = State} n None) ∙ meant-bytes at first n bytes (p.answered.steady sure.steady).exact)
+      sym (ap (meant_states at first) (length-replicate {A = SectorState} n None) ∙ meant-bytes at first n bytes (p.answered.steady sure.steady).exact)
   meant-piece (lost fault) p =
-      sym (ap (meant_states at first) (length-replicate {A = State} n (Some fault)) ∙ meant-lost fault p.answered p.may.0 p.may.1)
+      sym (ap (meant_states at first) (length-replicate {A = SectorState} n (Some fault)) ∙ meant-lost fault p.answered p.may.0 p.may.1)
   meant-piece (again fault) p = refl
   meant-piece kept p = absurd (false≢true (p.marked 0 p.may))
 
 -- what a piece leaves, of sectors of which none was had before
-moved : (d first : ℕ) (w : StackRecord) (n : ℕ) (found : Finding) (after : StackRecord) → IsPieceRead [] d first w (record { count = n; found = found; after = after })
+moved : (d first : ℕ) (w : StackRecord) (n : ℕ) (found : Finding) (after : StackRecord) → IsPieceSurveyed [] d first w (record { count = n; found = found; after = after })
     → (k : ℕ) × AreRead w.leaves k after.leaves × (after.config ≡ w.config)
 moved d first w n (had bytes) after p = (_, p.answered.any.moved, p.answered.any.config)
 moved d first w n (lost fault) after p = (_, p.answered.any.moved, p.answered.any.config)
@@ -115,5 +115,5 @@ states-meant d first w (r ∷ more) w' s sure =
     let rest = states-meant d (first + n) r.after more w' s.1 (subst (λ (c : Configuration). AreSure (λ i. stands_on c i (mapped d)) r.after.leaves) (sym config) (sure-kept left.1 sure)) in
     let tail : all_states more ≡ meant_states at (first + n) m =
     rest ∙ ap (λ (c : Configuration). meant_states (sector c (steady_images r.after.leaves) (mapped d)) (first + n) m) config ∙ ap (λ (i : Images). meant_states (sector w.config i (mapped d)) (first + n) m) images in
-    ap (λ (l : List State). l ++ all_states more) head ∙ ap (λ (l : List State). meant_states at first n ++ l) tail
+    ap (λ (l : List SectorState). l ++ all_states more) head ∙ ap (λ (l : List SectorState). meant_states at first n ++ l) tail
     ∙ sym (ap (meant_states at first) (length-append (states_of r) (all_states more)) ∙ meant-add at first n m)

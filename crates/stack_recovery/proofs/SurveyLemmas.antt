@@ -3,20 +3,20 @@ use Rattle.std.proofs.Common.{◌≡◌, ℕ, ◌+◌, Bool, false, List, [], �
 use Rattle.std.proofs.lemmas.List.{append-nil, length-append}
 use Rattle.std.proofs.lemmas.List.Concat.{flat_map-append}
 use Rattle.stack_engine.specs.Stacks.{StackRecord}
-use Rattle.stack_recovery.specs.Surveys.{IsPieceRead, IsSurveyOver, PieceRead, State, all_states, states_of}
+use Rattle.stack_recovery.specs.Surveys.{IsPieceSurveyed, IsSurveyOver, PieceRead, SectorState, all_states, states_of}
 
 pub states-push : (reads : List PieceRead) (r : PieceRead) → all_states (reads ++ r ∷ []) ≡ all_states reads ++ states_of r
-states-push reads r = flat_map-append states_of reads (r ∷ []) ∙ ap (λ (l : List State). all_states reads ++ l) (append-nil (states_of r))
+states-push reads r = flat_map-append states_of reads (r ∷ []) ∙ ap (λ (l : List SectorState). all_states reads ++ l) (append-nil (states_of r))
 
 -- a piece behind those so far
 pub survey-push : (marks : List Bool) (d first : ℕ) (w : StackRecord) (reads : List PieceRead) (mid : StackRecord) (r : PieceRead) → IsSurveyOver marks d first w reads mid
-    → IsPieceRead marks d (first + length (all_states reads)) mid r → IsSurveyOver marks d first w (reads ++ r ∷ []) r.after
+    → IsPieceSurveyed marks d (first + length (all_states reads)) mid r → IsSurveyOver marks d first w (reads ++ r ∷ []) r.after
 survey-push marks d first w [] mid r s p =
     let at : first + 0 ≡ first = omega arith in
-    (subst (λ (v : StackRecord). IsPieceRead marks d first v r) s (subst (λ (k : ℕ). IsPieceRead marks d k mid r) at p), refl)
+    (subst (λ (v : StackRecord). IsPieceSurveyed marks d first v r) s (subst (λ (k : ℕ). IsPieceSurveyed marks d k mid r) at p), refl)
 survey-push marks d first w (x ∷ more) mid r s p =
     let at : first + length (all_states (x ∷ more)) ≡ first + length (states_of x) + length (all_states more) = omega (arith, length-append (states_of x) (all_states more)) in
-    (s.0, survey-push marks d (first + length (states_of x)) x.after more mid r s.1 (subst (λ (k : ℕ). IsPieceRead marks d k mid r) at p))
+    (s.0, survey-push marks d (first + length (states_of x)) x.after more mid r s.1 (subst (λ (k : ℕ). IsPieceSurveyed marks d k mid r) at p))
 
 -- the same marks
 pub survey-same : (marks others : List Bool) (d first : ℕ) (w : StackRecord) (reads : List PieceRead) (w' : StackRecord) → ((k : ℕ) → get_or others k false ≡ get_or marks k false)

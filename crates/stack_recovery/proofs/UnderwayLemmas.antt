@@ -17,11 +17,11 @@ use Rattle.stack_recovery.specs.declared.recovery.Counts.{Counts}
 use Rattle.stack_recovery.specs.declared.tally.Tally.{Tally}
 use Rattle.stack_recovery.specs.Alike.{AreAlike}
 use Rattle.stack_recovery.specs.Copies.{IsCopied}
-use Rattle.stack_recovery.specs.LostRuns.{lost_in, run}
-use Rattle.stack_recovery.specs.Recoveries.{EndsEarly, FindsNoMemory, GoesOver, IsBegunOver, IsNoted, IsRecoveryEnd, NotesMore, Recovers, RunsShort, Sides, sides}
-use Rattle.stack_recovery.specs.Surveys.{AreMarked, IsPieceRead, IsSurveyOver, PieceRead, State, again, all_states, had, kept, lost, states_of}
-use Rattle.stack_recovery.specs.Tallies.{closed_by, listed, opened_by}
-use Rattle.stack_recovery.specs.Texts.{runs_text}
+use Rattle.stack_recovery.specs.LostRuns.{lost_in, run_lost}
+use Rattle.stack_recovery.specs.Recoveries.{EndsEarly, FindsNoMemory, GoesOver, IsBegunOver, AreMarksNoted, IsRecoveryEnd, NotesMore, Recovers, RunsShort, Sides, sides}
+use Rattle.stack_recovery.specs.Surveys.{AreMarked, IsPieceSurveyed, IsSurveyOver, PieceRead, SectorState, again, all_states, had, kept, lost, states_of}
+use Rattle.stack_recovery.specs.Tallies.{closed_lost, listed_lost, opened_lost}
+use Rattle.stack_recovery.specs.Texts.{lost_text}
 use Rattle.stack_recovery.proofs.AheadLemmas.{length-noted, marks-none, noted-more}
 use Rattle.stack_recovery.proofs.CopyLemmas.{copied-had, copied-lost, copied-none}
 use Rattle.stack_recovery.proofs.LostRunLemmas.{IsTallied, lost_in-append, lost_in-had, lost_in-lost, lost_in-most, tallied-all, tallied-had, tallied-lost, tallied-none}
@@ -37,10 +37,10 @@ pub record IsUnderway (before : List Bool) (d : ℕ) (old new : Sides) (at : ℕ
   pub tallied : IsTallied (all_states reads) closed tally.last
   pub lost : tally.lost ≡ lost_in (all_states reads)
   pub copied : IsCopied reads old.out new.out
-  pub printed : Appends old.printed new.printed (runs_text closed)
-  pub noted : IsNoted made (all_states reads)
+  pub printed : Appends old.printed new.printed (lost_text closed)
+  pub noted : AreMarksNoted made (all_states reads)
 
-pub underway-none : (before : List Bool) (d : ℕ) (old : Sides) (noted : Option (List Run)) → IsNoted noted [] → IsUnderway before d old old 0 (record { last = None; lost = 0 }) noted
+pub underway-none : (before : List Bool) (d : ℕ) (old : Sides) (noted : Option (List Run)) → AreMarksNoted noted [] → IsUnderway before d old old 0 (record { last = None; lost = 0 }) noted
 underway-none before d old noted p = record {
   reads = [];
   closed = [];
@@ -60,7 +60,7 @@ module _ (before : List Bool) (d : ℕ) (old now : Sides) (at : ℕ) (tally : Ta
     reads = u.reads;
     left = now.stack;
     runs = u.closed;
-    more = listed tally.last;
+    more = listed_lost tally.last;
     survey = u.survey;
     first = tallied-all (all_states u.reads) u.closed tally.last u.tallied;
     printed = u.printed;
@@ -83,66 +83,66 @@ module _ (before : List Bool) (d : ℕ) (old now : Sides) (at : ℕ) (tally : Ta
   -- there is room for more sectors in the map
   pub note-room : (n : ℕ) → at + n ≤ 2 ^ 54 → (runs : List Run) → noted ≡ Some runs → length (marks runs) + n ≤ 2 ^ 54
   note-room n room runs e =
-      omega (arith, room, u.here, length-noted runs (all_states u.reads) (subst (λ (m : Option (List Run)). IsNoted m (all_states u.reads)) e u.noted))
+      omega (arith, room, u.here, length-noted runs (all_states u.reads) (subst (λ (m : Option (List Run)). AreMarksNoted m (all_states u.reads)) e u.noted))
 
-  next-survey : (r : PieceRead) → IsPieceRead before d at now.stack r → IsSurveyOver before d 0 old.stack (u.reads ++ r ∷ []) r.after
+  next-survey : (r : PieceRead) → IsPieceSurveyed before d at now.stack r → IsSurveyOver before d 0 old.stack (u.reads ++ r ∷ []) r.after
   next-survey r p =
       let here : at ≡ 0 + length (all_states u.reads) = omega (arith, u.here) in
-      survey-push before d 0 old.stack u.reads now.stack r u.survey (subst (λ (k : ℕ). IsPieceRead before d k now.stack r) here p)
+      survey-push before d 0 old.stack u.reads now.stack r u.survey (subst (λ (k : ℕ). IsPieceSurveyed before d k now.stack r) here p)
 
   -- a piece that was had, written, and told
   pub underway-had : (n : ℕ) (bytes : List ℕ) (stack : StackRecord) (k : ℕ) (ok : Bool) (out : Device) (printed : Option (List ℕ)) (next : Tally) (more : Option (List Run)) → 1 ≤ n → EachBytes now.stack d at n (Ok bytes) stack → AreMarked before at n false → NotesMore noted more (replicate n true) → k ≡ n
       → IsWritten now.out at k ok out → (IsTrue now.out.steady → out.image ≡ spliced now.out.image at (sectors_of k bytes))
-      → Appends now.printed printed (runs_text (listed tally.last)) → next ≡ record { last = None; lost = tally.lost } → IsUnderway before d old (sides stack out printed) (at + n) next more
+      → Appends now.printed printed (lost_text (listed_lost tally.last)) → next ≡ record { last = None; lost = tally.lost } → IsUnderway before d old (sides stack out printed) (at + n) next more
   underway-had n bytes stack k ok out printed next more some p marked noting count w image told is =
       let r : PieceRead = record { count = n; found = had bytes; after = stack } in
       let states : all_states (u.reads ++ r ∷ []) ≡ all_states u.reads ++ replicate n None = states-push u.reads r in
       subst (λ (t : Tally). IsUnderway before d old (sides stack out printed) (at + n) t more) (sym is) (record {
         reads = u.reads ++ r ∷ [];
-        closed = u.closed ++ listed tally.last;
+        closed = u.closed ++ listed_lost tally.last;
         survey = next-survey r (record { answered = p; may = tt; marked = marked });
-        here = omega (arith, u.here, ap length states, length-append (all_states u.reads) (states_of r), length-replicate {A = State} n None);
+        here = omega (arith, u.here, ap length states, length-append (all_states u.reads) (states_of r), length-replicate {A = SectorState} n None);
         tallied = rw states (tallied-had (all_states u.reads) u.closed tally.last n some u.tallied);
         lost = u.lost ∙ sym (ap lost_in states ∙ lost_in-append (all_states u.reads) (states_of r) ∙ ap (λ (m : ℕ). lost_in (all_states u.reads) + m) (lost_in-had n) ∙ omega arith);
         copied = copied-had u.reads n at k bytes stack ok old.out now.out out u.here count u.copied w image;
-        printed = runs-then old.printed now.printed printed u.closed (listed tally.last) u.printed told;
+        printed = runs-then old.printed now.printed printed u.closed (listed_lost tally.last) u.printed told;
         noted = rw states (noted-more noted more (all_states u.reads) n None u.noted noting);
       })
 
   -- sectors that were had before
   pub underway-kept : (n : ℕ) (printed : Option (List ℕ)) (next : Tally) (more : Option (List Run)) → 1 ≤ n → AreMarked before at n true → NotesMore noted more (replicate n true)
-      → Appends now.printed printed (runs_text (listed tally.last)) → next ≡ record { last = None; lost = tally.lost } → IsUnderway before d old (sides now.stack now.out printed) (at + n) next more
+      → Appends now.printed printed (lost_text (listed_lost tally.last)) → next ≡ record { last = None; lost = tally.lost } → IsUnderway before d old (sides now.stack now.out printed) (at + n) next more
   underway-kept n printed next more some marked noting told is =
       let r : PieceRead = record { count = n; found = kept; after = now.stack } in
       let states : all_states (u.reads ++ r ∷ []) ≡ all_states u.reads ++ replicate n None = states-push u.reads r in
       subst (λ (t : Tally). IsUnderway before d old (sides now.stack now.out printed) (at + n) t more) (sym is) (record {
         reads = u.reads ++ r ∷ [];
-        closed = u.closed ++ listed tally.last;
+        closed = u.closed ++ listed_lost tally.last;
         survey = next-survey r (record { answered = refl; may = some; marked = marked });
-        here = omega (arith, u.here, ap length states, length-append (all_states u.reads) (states_of r), length-replicate {A = State} n None);
+        here = omega (arith, u.here, ap length states, length-append (all_states u.reads) (states_of r), length-replicate {A = SectorState} n None);
         tallied = rw states (tallied-had (all_states u.reads) u.closed tally.last n some u.tallied);
         lost = u.lost ∙ sym (ap lost_in states ∙ lost_in-append (all_states u.reads) (states_of r) ∙ ap (λ (m : ℕ). lost_in (all_states u.reads) + m) (lost_in-had n) ∙ omega arith);
         copied = copied-lost u.reads r old.out now.out (λ first m image. refl) u.copied;
-        printed = runs-then old.printed now.printed printed u.closed (listed tally.last) u.printed told;
+        printed = runs-then old.printed now.printed printed u.closed (listed_lost tally.last) u.printed told;
         noted = rw states (noted-more noted more (all_states u.reads) n None u.noted noting);
       })
 
   -- a piece that is lost, and told
   pub underway-lost : (n : ℕ) (fault : IoFault) (stack : StackRecord) (printed : Option (List ℕ)) (next : Tally) (more : Option (List Run)) → 1 ≤ n → EachBytes now.stack d at n (Err fault) stack → AreMarked before at n false → NotesMore noted more (replicate n false) → AreAlike now.stack.config d at n → fault ≢ NoMemory
-      → Appends now.printed printed (runs_text (closed_by tally.last (run at n fault))) → next ≡ record { last = Some (opened_by tally.last (run at n fault)); lost = tally.lost + n }
+      → Appends now.printed printed (lost_text (closed_lost tally.last (run_lost at n fault))) → next ≡ record { last = Some (opened_lost tally.last (run_lost at n fault)); lost = tally.lost + n }
       → IsUnderway before d old (sides stack now.out printed) (at + n) next more
   underway-lost n fault stack printed next more some p marked noting alike kind told is =
       let r : PieceRead = record { count = n; found = lost fault; after = stack } in
       let states : all_states (u.reads ++ r ∷ []) ≡ all_states u.reads ++ replicate n (Some fault) = states-push u.reads r in
       subst (λ (t : Tally). IsUnderway before d old (sides stack now.out printed) (at + n) t more) (sym is) (record {
         reads = u.reads ++ r ∷ [];
-        closed = u.closed ++ closed_by tally.last (run at n fault);
+        closed = u.closed ++ closed_lost tally.last (run_lost at n fault);
         survey = next-survey r (record { answered = p; may = (alike, kind); marked = marked });
-        here = omega (arith, u.here, ap length states, length-append (all_states u.reads) (states_of r), length-replicate {A = State} n (Some fault));
+        here = omega (arith, u.here, ap length states, length-append (all_states u.reads) (states_of r), length-replicate {A = SectorState} n (Some fault));
         tallied = rw states (tallied-lost (all_states u.reads) u.closed tally.last at n fault u.here some u.tallied);
         lost = ap (λ (m : ℕ). m + n) u.lost ∙ sym (ap lost_in states ∙ lost_in-append (all_states u.reads) (states_of r) ∙ ap (λ (m : ℕ). lost_in (all_states u.reads) + m) (lost_in-lost n fault));
         copied = copied-lost u.reads r old.out now.out (λ first m image. refl) u.copied;
-        printed = runs-then old.printed now.printed printed u.closed (closed_by tally.last (run at n fault)) u.printed told;
+        printed = runs-then old.printed now.printed printed u.closed (closed_lost tally.last (run_lost at n fault)) u.printed told;
         noted = rw states (noted-more noted more (all_states u.reads) n (Some fault) u.noted noting);
       })
 
@@ -164,7 +164,7 @@ module _ (before : List Bool) (d : ℕ) (old now : Sides) (at : ℕ) (tally : Ta
       }
 
   -- all sectors
-  pub underway-all : (printed : Option (List ℕ)) (sectors : ℕ) (counts : Counts) → at ≡ size old.stack.config (mapped d) → sectors ≡ at → Appends now.printed printed (runs_text (listed tally.last))
+  pub underway-all : (printed : Option (List ℕ)) (sectors : ℕ) (counts : Counts) → at ≡ size old.stack.config (mapped d) → sectors ≡ at → Appends now.printed printed (lost_text (listed_lost tally.last))
       → counts ≡ record { read = sectors - tally.lost; lost = tally.lost } → now.out.failures ≡ old.out.failures → GoesOver before d old counts noted (sides now.stack now.out printed)
   underway-all printed sectors counts end all told is unfailed = record {
     reads = u.reads;
@@ -172,7 +172,7 @@ module _ (before : List Bool) (d : ℕ) (old now : Sides) (at : ℕ) (tally : Ta
     whole = sym u.here ∙ end;
     copied = u.copied;
     unfailed = unfailed;
-    printed = rw (tallied-all (all_states u.reads) u.closed tally.last u.tallied) (runs-then old.printed now.printed printed u.closed (listed tally.last) u.printed told);
+    printed = rw (tallied-all (all_states u.reads) u.closed tally.last u.tallied) (runs-then old.printed now.printed printed u.closed (listed_lost tally.last) u.printed told);
     counted = is ∙ ap (λ (m : ℕ). record { read = m - tally.lost; lost = tally.lost }) (all ∙ u.here) ∙ ap (λ (m : ℕ). record { read = length (all_states u.reads) - m; lost = m }) u.lost;
     noted = u.noted;
   }

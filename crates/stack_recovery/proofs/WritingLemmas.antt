@@ -7,7 +7,7 @@ use Rattle.std.proofs.lemmas.List.Concat.{flat_map-append}
 use Rattle.stack_recovery.specs.declared.fault.RecoveryFault.{RecoveryFault}
 use Rattle.stack_recovery.specs.declared.lost_run.LostRun.{LostRun}
 use Rattle.stack_recovery.specs.declared.recovery.Counts.{Counts}
-use Rattle.stack_recovery.specs.Texts.{run_text, runs_text}
+use Rattle.stack_recovery.specs.Texts.{lost_run_text, lost_text}
 
 pub writes_nothing : (known : Option (List ℕ)) → Appends known known []
 writes_nothing None = tt
@@ -19,12 +19,12 @@ writes-then (Some a) None c xs ys p q = absurd p
 writes-then (Some a) (Some b) None xs ys p q = absurd q
 writes-then (Some a) (Some b) (Some c) xs ys p q = q ∙ ap (λ (l : List ℕ). l ++ ys) p ∙ append_assoc a xs ys
 
-pub runs-then : (a b c : Option (List ℕ)) (runs more : List LostRun) → Appends a b (runs_text runs) → Appends b c (runs_text more) → Appends a c (runs_text (runs ++ more))
-runs-then a b c runs more p q = rw (flat_map-append run_text runs more) (writes-then a b c (runs_text runs) (runs_text more) p q)
+pub runs-then : (a b c : Option (List ℕ)) (runs more : List LostRun) → Appends a b (lost_text runs) → Appends b c (lost_text more) → Appends a c (lost_text (runs ++ more))
+runs-then a b c runs more p q = rw (flat_map-append lost_run_text runs more) (writes-then a b c (lost_text runs) (lost_text more) p q)
 
 -- the text of one run more
-pub runs_text_last : (runs : List LostRun) (run : LostRun) → runs_text (runs ++ run ∷ []) ≡ runs_text runs ++ run_text run
-runs_text_last runs run = flat_map-append run_text runs (run ∷ []) ∙ ap (λ (l : List ℕ). runs_text runs ++ l) (append-nil (run_text run))
+pub runs_text_last : (runs : List LostRun) (run : LostRun) → lost_text (runs ++ run ∷ []) ≡ lost_text runs ++ lost_run_text run
+runs_text_last runs run = flat_map-append lost_run_text runs (run ∷ []) ∙ ap (λ (l : List ℕ). lost_text runs ++ l) (append-nil (lost_run_text run))
 
 -- what holds of a fault holds of the result that hands it on
 pub err-from : {T : Type 0} (r : Result T RecoveryFault) (P : RecoveryFault → Type 0) (fault : RecoveryFault) → IsErrAnd r (λ e. e ≡ fault) → P fault → IfErr r P

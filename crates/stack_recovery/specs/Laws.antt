@@ -9,7 +9,7 @@ use Rattle.stack_rules.specs.Records.{Configuration}
 use Rattle.stack_rules.specs.Rules.{IsLoaded}
 use Rattle.stack_rules.specs.Trees.{block_sectors}
 use Rattle.stack_meaning.specs.declared.fault.IoFault.TheVariants.{Stack}
-use Rattle.stack_meaning.specs.Kept.{block_of}
+use Rattle.stack_meaning.specs.Kept.{verity_block}
 use Rattle.stack_engine.specs.Laws.{LiesInVerity}
 use Rattle.stack_meaning.specs.Leaves.{AreSteady, steady_images}
 use Rattle.stack_meaning.specs.LeavesBeneath.{stands_on}
@@ -19,7 +19,7 @@ use Rattle.stack_meaning.specs.Outcomes.{Images, Outcome}
 use Rattle.stack_engine.specs.Stacks.{StackRecord}
 use Rattle.stack_recovery.specs.declared.lost_run.LostRun.{LostRun}
 use Rattle.stack_recovery.specs.LostRuns.{lost_runs}
-use Rattle.stack_recovery.specs.Surveys.{IsSurvey, PieceRead, State, all_states}
+use Rattle.stack_recovery.specs.Surveys.{IsStackSurvey, PieceRead, SectorState, all_states}
 
 -- ---- over leaves that are steady and never fail
 
@@ -29,24 +29,24 @@ pub record AreSure (these : ℕ → Bool) (leaves : List Device) : Type 0 where
   pub never_fail : (i : ℕ) (x : Device) → i < length leaves → IsTrue (these i) → IsTrue (slice_index_or leaves i x).never_fails
 
 -- what becomes of a sector that means this
-abbrev pub meant_state : Outcome → State
+abbrev pub meant_state : Outcome → SectorState
 meant_state (Ok bytes) = None
 meant_state (Err fault) = Some (Stack fault)
 
 -- of n sectors from the first on, where at says what each means
-abbrev pub meant_states : (ℕ → Outcome) → ℕ → ℕ → List State
+abbrev pub meant_states : (ℕ → Outcome) → ℕ → ℕ → List SectorState
 meant_states at first zero = []
 meant_states at first (suc n) = meant_state (at first) ∷ meant_states at (suc first) n
 
 -- where those beneath the device are such, a sector is lost where it means a fault, by that fault
 abbrev pub StatesAreMeant : Type 0
-StatesAreMeant = (d first : ℕ) (w : StackRecord) (reads : List PieceRead) (w' : StackRecord) → IsSurvey d first w reads w' → AreSure (λ i. stands_on w.config i (mapped d)) w.leaves
+StatesAreMeant = (d first : ℕ) (w : StackRecord) (reads : List PieceRead) (w' : StackRecord) → IsStackSurvey d first w reads w' → AreSure (λ i. stands_on w.config i (mapped d)) w.leaves
     → all_states reads ≡ meant_states (sector w.config (steady_images w.leaves) (mapped d)) first (length (all_states reads))
 
 -- ---- runs
 
 -- sectors that are lost by the run's fault, while those directly before and behind it aren't
-pub record IsLongestRun (states : List State) (r : LostRun) : Type 0 where
+pub record IsLongestRun (states : List SectorState) (r : LostRun) : Type 0 where
   pub some : 1 ≤ r.count
   pub lost : (j : ℕ) → j < r.count → get_or states (r.first + j) None ≡ Some r.fault
   pub before : (s : ℕ) → suc s ≡ r.first → get_or states s None ≢ Some r.fault
@@ -54,11 +54,11 @@ pub record IsLongestRun (states : List State) (r : LostRun) : Type 0 where
 
 -- each run is one of the longest
 abbrev pub RunsAreLongest : Type 0
-RunsAreLongest = (states : List State) → All (IsLongestRun states) (lost_runs 0 states)
+RunsAreLongest = (states : List SectorState) → All (IsLongestRun states) (lost_runs 0 states)
 
 -- ---- verity lines
 
 -- a sector of a verity line means a fault where its data block does
 abbrev pub LostBlocksAreLost : Type 0
 LostBlocksAreLost = (c : Configuration) → IsLoaded c → (images : Images) (d s l : ℕ) (line : Line) (v : Verity) → LiesInVerity c d s l line v → (fault : Fault)
-    → (sector c images (mapped d) s ≡ Err fault) ↔ (block_of c images v ((s - line.start) / block_sectors v) ≡ Err fault)
+    → (sector c images (mapped d) s ≡ Err fault) ↔ (verity_block c images v ((s - line.start) / block_sectors v) ≡ Err fault)

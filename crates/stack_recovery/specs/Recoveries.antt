@@ -17,8 +17,8 @@ use Rattle.stack_recovery.specs.declared.recovery.Counts.{Counts}
 use Rattle.stack_recovery.specs.declared.rescued.Rescued.{Rescued}
 use Rattle.stack_recovery.specs.Copies.{IsCopied}
 use Rattle.stack_recovery.specs.LostRuns.{lost_in, lost_runs}
-use Rattle.stack_recovery.specs.Surveys.{IsSurvey, IsSurveyOver, PieceRead, State, all_states}
-use Rattle.stack_recovery.specs.Texts.{runs_text}
+use Rattle.stack_recovery.specs.Surveys.{IsStackSurvey, IsSurveyOver, PieceRead, SectorState, all_states}
+use Rattle.stack_recovery.specs.Texts.{lost_text}
 
 -- the stack, the device to which is copied, and what was printed, where that is known
 pub record Sides : Type 0 where
@@ -33,11 +33,11 @@ sides stack out printed = record { stack = stack; out = out; printed = printed }
 -- and the counts are those of the sectors.
 pub record Recovers (d : ℕ) (old : Sides) (counts : Counts) (new : Sides) : Type 0 where
   pub reads : List PieceRead
-  pub survey : IsSurvey d 0 old.stack reads new.stack
+  pub survey : IsStackSurvey d 0 old.stack reads new.stack
   pub whole : length (all_states reads) ≡ size old.stack.config (mapped d)
   pub copied : IsCopied reads old.out new.out
   pub unfailed : new.out.failures ≡ old.out.failures
-  pub printed : Appends old.printed new.printed (runs_text (lost_runs 0 (all_states reads)))
+  pub printed : Appends old.printed new.printed (lost_text (lost_runs 0 (all_states reads)))
   pub counted : counts ≡ record { read = length (all_states reads) - lost_in (all_states reads); lost = lost_in (all_states reads) }
 
 -- some first pieces of the device were read, and the first of their lost runs printed
@@ -48,7 +48,7 @@ pub record IsBegunOver (marks : List Bool) (d : ℕ) (old new : Sides) : Type 0 
   pub more : List LostRun
   pub survey : IsSurveyOver marks d 0 old.stack reads left
   pub first : lost_runs 0 (all_states reads) ≡ runs ++ more
-  pub printed : Appends old.printed new.printed (runs_text runs)
+  pub printed : Appends old.printed new.printed (lost_text runs)
 
 -- a read of some sectors from that one on found no memory, and a `verity` line is on their way: no other read takes any
 pub record FindsNoMemory (d at : ℕ) (w w' : StackRecord) : Type 0 where
@@ -88,26 +88,26 @@ abbrev pub parties : {O L : Type 0} → StackRecord → O → L → Parties O L
 parties stack out listing = record { stack = stack; out = out; listing = listing }
 
 -- what a proof sees of them
-abbrev pub seen : {O L : Type 0} → (O → Device) → (L → Option (List ℕ)) → Parties O L → Sides
-seen state told p = sides p.stack (state p.out) (told p.listing)
+abbrev pub seen_sides : {O L : Type 0} → (O → Device) → (L → Option (List ℕ)) → Parties O L → Sides
+seen_sides state told p = sides p.stack (state p.out) (told p.listing)
 
 abbrev pub RecoversBy : {O L : Type 0} → (O → Device) → (L → Option (List ℕ)) → ℕ → Parties O L → Parties O L → Counts → Type 0
-RecoversBy state told d old new counts = Recovers d (seen state told old) counts (seen state told new)
+RecoversBy state told d old new counts = Recovers d (seen_sides state told old) counts (seen_sides state told new)
 
 abbrev pub EndsRecovery : {O L : Type 0} → (O → Device) → (L → Option (List ℕ)) → (L → Bool) → ℕ → Parties O L → Parties O L → RecoveryFault → Type 0
-EndsRecovery state told failed d old new fault = IsRecoveryEnd d (seen state told old) (seen state told new) (failed new.listing) fault
+EndsRecovery state told failed d old new fault = IsRecoveryEnd d (seen_sides state told old) (seen_sides state told new) (failed new.listing) fault
 
 -- ---- where some sectors were had before
 
 -- whether a sector is had
-abbrev pub is_had : State → Bool
+abbrev pub is_had : SectorState → Bool
 is_had None = true
 is_had (Some fault) = false
 
 -- the marks of a map, where one is made, are those of the states
-abbrev pub IsNoted : Option (List Run) → List State → Type 0
-IsNoted None states = Unit {0}
-IsNoted (Some runs) states = marks runs ≡ map is_had states
+abbrev pub AreMarksNoted : Option (List Run) → List SectorState → Type 0
+AreMarksNoted None states = Unit {0}
+AreMarksNoted (Some runs) states = marks runs ≡ map is_had states
 
 -- Each sector of device d was had, before or now, or is lost: as above, and a map is made of all of them.
 pub record GoesOver (before : List Bool) (d : ℕ) (old : Sides) (counts : Counts) (made : Option (List Run)) (new : Sides) : Type 0 where
@@ -116,9 +116,9 @@ pub record GoesOver (before : List Bool) (d : ℕ) (old : Sides) (counts : Count
   pub whole : length (all_states reads) ≡ size old.stack.config (mapped d)
   pub copied : IsCopied reads old.out new.out
   pub unfailed : new.out.failures ≡ old.out.failures
-  pub printed : Appends old.printed new.printed (runs_text (lost_runs 0 (all_states reads)))
+  pub printed : Appends old.printed new.printed (lost_text (lost_runs 0 (all_states reads)))
   pub counted : counts ≡ record { read = length (all_states reads) - lost_in (all_states reads); lost = lost_in (all_states reads) }
-  pub noted : IsNoted made (all_states reads)
+  pub noted : AreMarksNoted made (all_states reads)
 
 -- it answers that map
 abbrev pub Rescues : List Bool → ℕ → Sides → Rescued → Sides → Type 0
@@ -126,16 +126,16 @@ Rescues before d old rescued new = GoesOver before d old rescued.counts (Some re
 
 -- the same, as a call sees them
 abbrev pub GoesOverBy : {O L : Type 0} → (O → Device) → (L → Option (List ℕ)) → List Bool → ℕ → Parties O L → Option (List Run) → Parties O L → Counts → Type 0
-GoesOverBy state told before d old made new counts = GoesOver before d (seen state told old) counts made (seen state told new)
+GoesOverBy state told before d old made new counts = GoesOver before d (seen_sides state told old) counts made (seen_sides state told new)
 
 abbrev pub EndsEarlyBy : {O L : Type 0} → (O → Device) → (L → Option (List ℕ)) → (L → Bool) → Bool → List Bool → ℕ → Parties O L → Parties O L → RecoveryFault → Type 0
-EndsEarlyBy state told failed makes_map before d old new fault = EndsEarly makes_map before d (seen state told old) (seen state told new) (failed new.listing) fault
+EndsEarlyBy state told failed makes_map before d old new fault = EndsEarly makes_map before d (seen_sides state told old) (seen_sides state told new) (failed new.listing) fault
 
 abbrev pub RescuesBy : {O L : Type 0} → (O → Device) → (L → Option (List ℕ)) → List Bool → ℕ → Parties O L → Parties O L → Rescued → Type 0
-RescuesBy state told before d old new rescued = Rescues before d (seen state told old) rescued (seen state told new)
+RescuesBy state told before d old new rescued = Rescues before d (seen_sides state told old) rescued (seen_sides state told new)
 
 abbrev pub EndsRescue : {O L : Type 0} → (O → Device) → (L → Option (List ℕ)) → (L → Bool) → List Bool → ℕ → Parties O L → Parties O L → RecoveryFault → Type 0
-EndsRescue state told failed before d old new fault = IsRescueEnd before d (seen state told old) (seen state told new) (failed new.listing) fault
+EndsRescue state told failed before d old new fault = IsRescueEnd before d (seen_sides state told old) (seen_sides state told new) (failed new.listing) fault
 
 -- these sectors were noted behind those before
 abbrev pub NotesMore : Option (List Run) → Option (List Run) → List Bool → Type 0

@@ -26,11 +26,11 @@ pub record PieceRead : Type 0 where
   pub after : StackRecord
 
 -- how the stack answered, and what this left
-abbrev pub Answers : StackRecord → ℕ → ℕ → ℕ → Finding → StackRecord → Type 0
-Answers w d first n (had bytes) w' = EachBytes w d first n (Ok bytes) w'
-Answers w d first n (lost fault) w' = EachBytes w d first n (Err fault) w'
-Answers w d first n (again fault) w' = EachBytes w d first n (Err fault) w'
-Answers w d first n kept w' = w' ≡ w
+abbrev pub AnswersFinding : StackRecord → ℕ → ℕ → ℕ → Finding → StackRecord → Type 0
+AnswersFinding w d first n (had bytes) w' = EachBytes w d first n (Ok bytes) w'
+AnswersFinding w d first n (lost fault) w' = EachBytes w d first n (Err fault) w'
+AnswersFinding w d first n (again fault) w' = EachBytes w d first n (Err fault) w'
+AnswersFinding w d first n kept w' = w' ≡ w
 
 -- Sectors are lost only by a read of one alone, or of some that are lost together; and want of memory is no loss.
 abbrev pub MayFind : Configuration → ℕ → ℕ → ℕ → Finding → Type 0
@@ -49,34 +49,34 @@ mark_of kept = true
 mark_of other = false
 
 -- a piece of device d from sector first on, which the stack answered so, unless its sectors were had before
-pub record IsPieceRead (marks : List Bool) (d first : ℕ) (w : StackRecord) (r : PieceRead) : Type 0 where
-  pub answered : Answers w d first r.count r.found r.after
+pub record IsPieceSurveyed (marks : List Bool) (d first : ℕ) (w : StackRecord) (r : PieceRead) : Type 0 where
+  pub answered : AnswersFinding w d first r.count r.found r.after
   pub may : MayFind w.config d first r.count r.found
   pub marked : AreMarked marks first r.count (mark_of r.found)
 
 -- what became of a sector: it is had, or lost by that fault
-abbrev pub State : Type 0
-State = Option IoFault
+abbrev pub SectorState : Type 0
+SectorState = Option IoFault
 
-abbrev pub states_found : ℕ → Finding → List State
+abbrev pub states_found : ℕ → Finding → List SectorState
 states_found n (had bytes) = replicate n None
 states_found n (lost fault) = replicate n (Some fault)
 states_found n (again fault) = []
 states_found n kept = replicate n None
 
 -- of the sectors of a piece, and of several pieces
-abbrev pub states_of : PieceRead → List State
+abbrev pub states_of : PieceRead → List SectorState
 states_of r = states_found r.count r.found
 
-abbrev pub all_states : List PieceRead → List State
+abbrev pub all_states : List PieceRead → List SectorState
 all_states reads = flat_map states_of reads
 
 -- The pieces are read one after another, from sector first of device d on, and leave the stack w'. A sector that was had
 -- before isn't in a piece that is read, and no other is kept.
 abbrev pub IsSurveyOver : List Bool → ℕ → ℕ → StackRecord → List PieceRead → StackRecord → Type 0
 IsSurveyOver marks d first w [] w' = w' ≡ w
-IsSurveyOver marks d first w (r ∷ more) w' = IsPieceRead marks d first w r × IsSurveyOver marks d (first + length (states_of r)) r.after more w'
+IsSurveyOver marks d first w (r ∷ more) w' = IsPieceSurveyed marks d first w r × IsSurveyOver marks d (first + length (states_of r)) r.after more w'
 
 -- the same where no sector was had before
-abbrev pub IsSurvey : ℕ → ℕ → StackRecord → List PieceRead → StackRecord → Type 0
-IsSurvey d first w reads w' = IsSurveyOver [] d first w reads w'
+abbrev pub IsStackSurvey : ℕ → ℕ → StackRecord → List PieceRead → StackRecord → Type 0
+IsStackSurvey d first w reads w' = IsSurveyOver [] d first w reads w'

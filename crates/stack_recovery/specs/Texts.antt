@@ -5,9 +5,9 @@ use Rattle.io_fault_text.specs.Texts.{io_words}
 use Rattle.stack_recovery.specs.declared.lost_run.LostRun.{LostRun}
 
 -- `lost FIRST COUNT FAULT`
-unfoldable pub run_text : LostRun → List ℕ
-run_text run = codes "lost " ++ (decimal run.first ++ (codes " " ++ (decimal run.count ++ (codes " " ++ io_words run.fault))))
+unfoldable pub lost_run_text : LostRun → List ℕ
+lost_run_text run = codes "lost " ++ (decimal run.first ++ (codes " " ++ (decimal run.count ++ (codes " " ++ io_words run.fault))))
 
 -- a line for each run
-abbrev pub runs_text : List LostRun → List ℕ
-runs_text runs = flat_map run_text runs
+abbrev pub lost_text : List LostRun → List ℕ
+lost_text runs = flat_map lost_run_text runs

@@ -1,7 +1,7 @@
 //! Who is told of lost runs: a writer, or a list in memory.
 ghost use Rattle.std.specs.Prelude.{◌≡◌, ◌++◌, ◌∷◌, [], ℕ, Bool, List, Option, OnOk};
-ghost use Rattle.stack_recovery.specs.Listings.{Tells};
-ghost use Rattle.stack_recovery.specs.Texts.{run_text};
+ghost use Rattle.stack_recovery.specs.Listings.{TellsLost};
+ghost use Rattle.stack_recovery.specs.Texts.{lost_run_text};
 
 use crate::lost_run::{LostRun, say_run};
 use counted_io::{Counted, WriteFault};
@@ -18,7 +18,7 @@ pub trait Listing {
 
     /// Tells a run.
     fn tell(&mut self, run: LostRun) -> Result<(), WriteFault>
-        ensures { Tells told failed self.old self.new (run_text run) result };
+        ensures { TellsLost told failed self.old self.new (lost_run_text run) result };
 }
 
 impl<W: Write> Listing for Counted<W> {
@@ -52,9 +52,9 @@ impl KeptRuns {
 
 impl Listing for KeptRuns {
     ghost use Rattle.std.specs.Prelude.{Some};
-    ghost use Rattle.stack_recovery.specs.Texts.{runs_text};
+    ghost use Rattle.stack_recovery.specs.Texts.{lost_text};
 
-    ghost told = { λ kept. Some (runs_text kept.runs.items) };
+    ghost told = { λ kept. Some (lost_text kept.runs.items) };
 
     ghost failed = { λ kept. kept.refused };
 

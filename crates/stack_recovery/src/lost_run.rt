@@ -1,8 +1,8 @@
 //! A run of sectors that are lost by one fault.
 ghost use Rattle.std.specs.Prelude.{◌≡◌};
 ghost use Rattle.counted_io.specs.Counted.{Writes};
-ghost use Rattle.stack_recovery.specs.LostRuns.{is_same};
-ghost use Rattle.stack_recovery.specs.Texts.{run_text};
+ghost use Rattle.stack_recovery.specs.LostRuns.{is_same_fault};
+ghost use Rattle.stack_recovery.specs.Texts.{lost_run_text};
 
 use counted_io::{Counted, WriteFault};
 use io_fault_text::say_io_words;
@@ -19,7 +19,7 @@ pub struct LostRun {
 
 /// Whether both are one fault, of a device also of one leaf.
 pub fn is_same(a: IoFault, b: IoFault) -> bool
-    ensures { result ≡ is_same a b }
+    ensures { result ≡ is_same_fault a b }
 {
     match (a, b) {
         (IoFault::Stack(Fault::ErrorTarget), IoFault::Stack(Fault::ErrorTarget))
@@ -31,9 +31,9 @@ pub fn is_same(a: IoFault, b: IoFault) -> bool
 }
 
 /// `lost FIRST COUNT FAULT`
-#[tactic(auto, unfolding(crate::specs::Texts::run_text))]
+#[tactic(auto, unfolding(crate::specs::Texts::lost_run_text))]
 pub(crate) fn say_run<W: Write>(writer: &mut Counted<W>, run: LostRun) -> Result<(), WriteFault>
-    ensures { Writes W.contents writer.old writer.new (run_text run) result }
+    ensures { Writes W.contents writer.old writer.new (lost_run_text run) result }
 {
     let LostRun {
         first,

@@ -3,7 +3,7 @@ ghost use Rattle.std.specs.Prelude.{◌≡◌, ◌≤◌, ◌<◌, [], length, I
 ghost use Rattle.stack_rules.specs.Names.{mapped, size};
 ghost use Rattle.std.specs.Option.{is_some};
 ghost use Rattle.rescue_map.specs.Aheads.{marks_ahead};
-ghost use Rattle.stack_recovery.specs.Recoveries.{EndsEarlyBy, EndsRecovery, GoesOverBy, IsNoted, RecoversBy, parties};
+ghost use Rattle.stack_recovery.specs.Recoveries.{EndsEarlyBy, EndsRecovery, GoesOverBy, AreMarksNoted, RecoversBy, parties};
 
 use crate::fault::RecoveryFault;
 use crate::listing::Listing;
@@ -78,7 +78,7 @@ pub(crate) fn go_over<D: BlockDev, O: BlockDev, L: Listing, P: Progress>(
     requires fits { length (marks_ahead ahead) ≡ size stack.old.config (mapped d.0) }
     requires room { size stack.old.config (mapped d.0) ≤ (O.state out.old).size }
     requires allowed { IsTrue (O.state out.old).may_write }
-    requires begun { IsNoted noted.old [] }
+    requires begun { AreMarksNoted noted.old [] }
     ensures ok { IfOk result (GoesOverBy O.state L.told (marks_ahead ahead.entry) d.0 (parties stack.old out.old listing.old) noted.new (parties stack.new out.new listing.new)) }
     ensures err { IfErr result (EndsEarlyBy O.state L.told L.failed (is_some noted.old) (marks_ahead ahead.entry) d.0 (parties stack.old out.old listing.old) (parties stack.new out.new listing.new)) }
     ensures noted { OnOk result (is_some noted.new ≡ is_some noted.old) }
@@ -111,7 +111,7 @@ fn go_over_by<D: BlockDev, O: BlockDev, L: Listing, P: Progress>(
     requires fits { length (marks_ahead ahead) ≡ size stack.old.config (mapped d.0) }
     requires room { size stack.old.config (mapped d.0) ≤ (O.state out.old).size }
     requires allowed { IsTrue (O.state out.old).may_write }
-    requires begun { IsNoted noted.old [] }
+    requires begun { AreMarksNoted noted.old [] }
     requires buffer { length room.old ≡ 65536 }
     ensures ok { IfOk result (GoesOverBy O.state L.told (marks_ahead ahead.entry) d.0 (parties stack.old out.old listing.old) noted.new (parties stack.new out.new listing.new)) }
     ensures err { IfErr result (EndsEarlyBy O.state L.told L.failed (is_some noted.old) (marks_ahead ahead.entry) d.0 (parties stack.old out.old listing.old) (parties stack.new out.new listing.new)) }

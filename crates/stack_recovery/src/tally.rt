@@ -1,8 +1,8 @@
 //! The lost sectors of a device, while it is gone over.
 ghost use Rattle.std.specs.Prelude.{◌≡◌, ◌+◌, ◌<◌, ◌≤◌, ◌^◌, None, Some, OnOk};
-ghost use Rattle.stack_recovery.specs.Listings.{Tells};
-ghost use Rattle.stack_recovery.specs.Tallies.{EndsAt, closed_by, joined, listed, opened_by};
-ghost use Rattle.stack_recovery.specs.Texts.{runs_text};
+ghost use Rattle.stack_recovery.specs.Listings.{TellsLost};
+ghost use Rattle.stack_recovery.specs.Tallies.{EndsAtSector, closed_lost, joined_lost, listed_lost, opened_lost};
+ghost use Rattle.stack_recovery.specs.Texts.{lost_text};
 
 use crate::listing::Listing;
 use crate::lost_run::{LostRun, is_same};
@@ -17,9 +17,9 @@ pub(crate) struct Tally {
 
 /// Both runs as one, where they are lost by one fault.
 fn joined(last: Option<LostRun>, run: LostRun) -> Option<LostRun>
-    requires ends { EndsAt last run.first }
+    requires ends { EndsAtSector last run.first }
     requires room { run.first + run.count < 2 ^ 64 }
-    ensures { result ≡ joined last run }
+    ensures { result ≡ joined_lost last run }
 {
     let last = last?;
     if !is_same(last.fault, run.fault) {
@@ -45,7 +45,7 @@ impl Tally {
     /// Tells the run that may still grow, since it doesn't.
     #[tactic(auto, using(crate::proofs::WritingLemmas::writes_nothing))]
     pub(crate) fn close<L: Listing>(&mut self, listing: &mut L) -> Result<(), WriteFault>
-        ensures text { Tells L.told L.failed listing.old listing.new (runs_text (listed self.old.last)) result }
+        ensures text { TellsLost L.told L.failed listing.old listing.new (lost_text (listed_lost self.old.last)) result }
         ensures last { OnOk result (self.new.last ≡ None) }
         ensures lost { self.new.lost ≡ self.old.lost }
     {
@@ -66,11 +66,11 @@ impl Tally {
         listing: &mut L,
         run: LostRun,
     ) -> Result<(), WriteFault>
-        requires ends { EndsAt self.old.last run.first }
+        requires ends { EndsAtSector self.old.last run.first }
         requires lost { self.old.lost ≤ run.first }
         requires room { run.first + run.count < 2 ^ 64 }
-        ensures text { Tells L.told L.failed listing.old listing.new (runs_text (closed_by self.old.last run)) result }
-        ensures last { OnOk result (self.new.last ≡ Some (opened_by self.old.last run)) }
+        ensures text { TellsLost L.told L.failed listing.old listing.new (lost_text (closed_lost self.old.last run)) result }
+        ensures last { OnOk result (self.new.last ≡ Some (opened_lost self.old.last run)) }
         ensures lost { OnOk result (self.new.lost ≡ self.old.lost + run.count) }
     {
         match joined(self.last, run) {

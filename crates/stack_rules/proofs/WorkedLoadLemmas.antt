@@ -9,7 +9,7 @@ use Rattle.stack_rules.specs.declared.refusal.LoadKind.{LoadKind}
 use Rattle.stack_rules.specs.declared.refusal.LoadKind.TheVariants.{DuplicateName, NoSuchDevice, StandsOnItself, ZeroLength, Gap, TooLarge, StripesDontDivide, BeyondDevice, LowerReadOnly, TooDeep}
 use Rattle.stack_rules.specs.declared.refusal.Refusal.{Refusal}
 use Rattle.stack_rules.specs.declared.refusal.ConfigFault.TheVariants.{TooLarge as LeafTooLarge}
-use Rattle.stack_rules.specs.Leaves.{first_fault}
+use Rattle.stack_rules.specs.Leaves.{first_leaf_fault}
 use Rattle.stack_rules.specs.Records.{Configuration, LeafRecord}
 use Rattle.stack_rules.specs.Descend.{descend, depth, read_cost, write_cost}
 use Rattle.stack_rules.specs.Names.{mapped}
@@ -109,9 +109,9 @@ abbrev largest : Configuration
 largest = with_leaves (leaf_of (codes "D") 18014398509481984 ∷ [])
 
 -- a leaf has at most 2^54 sectors, and a line may map its last one
-leaves : (first_fault largest.leaves ≡ None)
-    × (first_fault (leaf_of (codes "D") 18014398509481985 ∷ []) ≡ Some LeafTooLarge)
+leaves : (first_leaf_fault largest.leaves ≡ None)
+    × (first_leaf_fault (leaf_of (codes "D") 18014398509481985 ∷ []) ≡ Some LeafTooLarge)
     × (first_refusal largest (a (line 0 1 (Linear (base (codes "D") 18014398509481983)) ∷ [])) ≡ None)
     × (first_refusal largest (a (line 0 2 (Linear (base (codes "D") 18014398509481983)) ∷ [])) ≡ refused BeyondDevice 1 1)
-unfolding first_fault is_leaf_name first_refusal is_on_cycle leads_below descend
+unfolding first_leaf_fault is_leaf_name first_refusal is_on_cycle leads_below descend
 leaves = (refl, refl, refl, refl)

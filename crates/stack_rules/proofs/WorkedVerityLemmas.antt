@@ -12,7 +12,7 @@ use Rattle.stack_rules.specs.declared.refusal.Refusal.{Refusal}
 use Rattle.stack_rules.specs.Records.{Configuration}
 use Rattle.stack_rules.specs.Cycles.{is_on_cycle, leads_below}
 use Rattle.stack_rules.specs.Descend.{descend, read_cost, write_cost}
-use Rattle.stack_rules.specs.Lines.{key_at}
+use Rattle.stack_rules.specs.Lines.{key_of_line}
 use Rattle.stack_rules.specs.Names.{mapped}
 use Rattle.stack_rules.specs.Rules.{first_refusal, after_load}
 
@@ -74,7 +74,7 @@ crypts = (refl, refl, refl)
 abbrev with : ℕ → Target → Configuration
 with sectors target = after_load (over 1032 32 true) (one false sectors target)
 
-keys : (key_at (with 6 (Crypt (crypt 2))) 0 0 ≡ Some (replicate 32 7)) × (key_at (with 6 (Crypt (crypt 2))) 0 1 ≡ None) × (key_at (with 1032 (tree d h 129 1)) 0 0 ≡ None)
+keys : (key_of_line (with 6 (Crypt (crypt 2))) 0 0 ≡ Some (replicate 32 7)) × (key_of_line (with 6 (Crypt (crypt 2))) 0 1 ≡ None) × (key_of_line (with 1032 (tree d h 129 1)) 0 0 ≡ None)
 keys = (refl, refl, refl)
 
 -- a data block and a hash block of each of two levels

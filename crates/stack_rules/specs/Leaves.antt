@@ -13,8 +13,8 @@ has_duplicate [] = false
 has_duplicate (l ∷ more) = list_any (λ other. bytes_eq l.name other.name) more || has_duplicate more
 
 -- the first rule that refuses the leaves
-unfoldable pub first_fault : List LeafRecord → Option ConfigFault
-first_fault leaves =
+unfoldable pub first_leaf_fault : List LeafRecord → Option ConfigFault
+first_leaf_fault leaves =
     if has_duplicate leaves then Some DuplicateLeaf
     else if nat_lt most_leaves (length leaves) then Some TooMany
     else if list_any (λ l. not (is_leaf_name l.name)) leaves then Some BadName

@@ -53,8 +53,8 @@ abbrev pub key_of : Target → Option (List ℕ)
 key_of target = (rules_of target).key
 
 -- the key of line l of device d, if it is a crypt line
-abbrev pub key_at : Configuration → ℕ → ℕ → Option (List ℕ)
-key_at c d l = option_and_then (λ line. key_of line.target) (slice_get (lines_of c d) l)
+abbrev pub key_of_line : Configuration → ℕ → ℕ → Option (List ℕ)
+key_of_line c d l = option_and_then (λ line. key_of line.target) (slice_get (lines_of c d) l)
 
 -- the digest of a data block of zeros, if a target is a verity line that ignores such blocks
 abbrev pub zero_digest_of : Target → Option (List ℕ)

@@ -49,12 +49,12 @@ lowers_of c (leaf i) = []
 lowers_of c (device d) = lowers c d.0
 
 -- how many sectors there are
-abbrev pub sectors_of : List Line → ℕ
-sectors_of lines = sum_by (λ line. line.length) lines
+abbrev pub table_sectors : List Line → ℕ
+table_sectors lines = sum_by (λ line. line.length) lines
 
 abbrev pub size : Configuration → Lower → ℕ
 size c (leaf i) = option_map_or (λ l. l.sectors) (slice_get c.leaves i) 0
-size c (device d) = sectors_of (lines_of c d.0)
+size c (device d) = table_sectors (lines_of c d.0)
 
 -- whether it may be written
 abbrev pub may_write : Configuration → Lower → Bool

@@ -13,7 +13,7 @@ use Rattle.stack_rules.specs.declared.refusal.LoadKind.{LoadKind}
 use Rattle.stack_rules.specs.declared.refusal.LoadKind.TheVariants.{DuplicateName, TooMany, NoSuchDevice, StandsOnItself, ZeroLength, Gap, TooLarge, StripesDontDivide, BeyondDevice, LineBeyondTree, TreeBeyondDevice, NeedsReadOnly, LowerReadOnly, TooDeep, CostTooLarge, UnitDoesntDivide, IvOffset}
 use Rattle.stack_rules.specs.declared.refusal.Refusal.{Refusal}
 use Rattle.stack_rules.specs.Records.{Configuration, DeviceRecord, LeafRecord}
-use Rattle.stack_rules.specs.Names.{mapped, named, names, sectors_of, size, may_write, device_named}
+use Rattle.stack_rules.specs.Names.{mapped, named, names, table_sectors, size, may_write, device_named}
 pub use Rattle.stack_rules.specs.TargetRules.{range_from}
 use Rattle.stack_rules.specs.TargetRules.{has_fault}
 use Rattle.stack_rules.specs.RulesOf.{rules_of}
@@ -147,7 +147,7 @@ cycles c = each_device c (λ d x. refuse StandsOnItself d 0 (is_on_cycle c (d - 
 
 -- the rules of each line of device d
 abbrev pub table_rules : Configuration → ℕ → DeviceRecord → List (Option Refusal)
-table_rules c d x = flat_map (λ p. line_rules c x.writable d p.0 (sectors_of (take (p.0 - 1) x.table)) p.1) (enumerate_from 1 x.table)
+table_rules c d x = flat_map (λ p. line_rules c x.writable d p.0 (table_sectors (take (p.0 - 1) x.table)) p.1) (enumerate_from 1 x.table)
 
 -- more devices or lines than may stand
 abbrev pub is_too_many : List DeviceRecord → Bool

@@ -1,20 +1,20 @@
 -- The data blocks of a verity line, and the hash tree over them.
 use Rattle.std.specs.Prelude.{ℕ, ◌*◌, ◌/◌, List, replicate, Option, Some, None}
-use Rattle.tree_shape.specs.Shape.{ShapeRecord, shape_of, sectors_of, levels, area_end}
+use Rattle.tree_shape.specs.Shape.{ShapeRecord, shape_with, blocks_sectors, levels, area_end}
 use Rattle.dm_table.specs.declared.table.Target.{Target}
 use Rattle.dm_table.specs.declared.table.Target.TheVariants.{Verity as verity_target}
 use Rattle.dm_table.specs.declared.verity.Verity.{Verity}
 
 -- the shape that its arguments say
 abbrev pub tree_of : Verity → ShapeRecord
-tree_of verity = shape_of verity.data_block verity.hash_block verity.blocks verity.start
+tree_of verity = shape_with verity.data_block verity.hash_block verity.blocks verity.start
 
 -- the sectors of all data blocks, and those up to the end of the tree
-abbrev pub data_sectors : Verity → ℕ
-data_sectors verity = sectors_of verity.blocks verity.data_block
+abbrev pub line_data_sectors : Verity → ℕ
+line_data_sectors verity = blocks_sectors verity.blocks verity.data_block
 
-abbrev pub tree_sectors : Verity → ℕ
-tree_sectors verity = sectors_of (area_end (tree_of verity)) verity.hash_block
+abbrev pub line_tree_sectors : Verity → ℕ
+line_tree_sectors verity = blocks_sectors (area_end (tree_of verity)) verity.hash_block
 
 -- the sectors of a data block, and of a hash block of each level
 abbrev pub block_sectors : Verity → ℕ

@@ -1,7 +1,7 @@
 //! A mapped device of a configuration.
 ghost use Rattle.std.specs.Prelude.{◌≡◌, IfOk, position};
 ghost use Rattle.std.specs.Str.{bytes_eq};
-ghost use Rattle.stack_rules.specs.Names.{sectors_of};
+ghost use Rattle.stack_rules.specs.Names.{table_sectors};
 
 use dm_table::{Line, Table};
 use std::alloc::{AllocError, Global};
@@ -19,18 +19,18 @@ pub struct Mapped {
 impl Model for Mapped {
     ghost use Rattle.std.specs.Prelude.{◌≡◌};
     ghost use Rattle.stack_rules.specs.Records.{DeviceRecord};
-    ghost use Rattle.stack_rules.specs.Names.{sectors_of};
+    ghost use Rattle.stack_rules.specs.Names.{table_sectors};
 
     ghost Value = { DeviceRecord };
 
     ghost view = { λ d. record { name = d.name.items; writable = d.writable; table = d.table } };
 
-    ghost invariant = { λ d. d.size ≡ sectors_of d.table };
+    ghost invariant = { λ d. d.size ≡ table_sectors d.table };
 }
 
 /// The sum of the lines' lengths.
 pub fn sectors_of(lines: &[Line]) -> u128
-    ensures { result ≡ sectors_of lines.now }
+    ensures { result ≡ table_sectors lines.now }
 {
     let mut sectors: u128 = 0;
     for line in lines {
@@ -41,7 +41,7 @@ pub fn sectors_of(lines: &[Line]) -> u128
 
 impl Mapped {
     ghost use Rattle.std.specs.Prelude.{◌≡◌, IfOk};
-    ghost use Rattle.stack_rules.specs.Names.{sectors_of};
+    ghost use Rattle.stack_rules.specs.Names.{table_sectors};
 
     /// A device of these parts, which are copied.
     pub fn new(
@@ -82,7 +82,7 @@ impl Mapped {
     }
 
     pub fn size(&self) -> u128
-        ensures { result ≡ sectors_of self.now.table }
+        ensures { result ≡ table_sectors self.now.table }
     {
         self.size
     }

@@ -1,6 +1,6 @@
 //! A mapped device of a configuration to come, of which nothing is copied yet.
 ghost use Rattle.std.specs.Prelude.{◌≡◌};
-ghost use Rattle.stack_rules.specs.Names.{sectors_of};
+ghost use Rattle.stack_rules.specs.Names.{table_sectors};
 
 use crate::mapped::sectors_of;
 use dm_table::Table;
@@ -18,18 +18,18 @@ pub struct Planned<'a> {
 impl<'a> Model for Planned<'a> {
     ghost use Rattle.std.specs.Prelude.{◌≡◌};
     ghost use Rattle.stack_rules.specs.Records.{DeviceRecord};
-    ghost use Rattle.stack_rules.specs.Names.{sectors_of};
+    ghost use Rattle.stack_rules.specs.Names.{table_sectors};
 
     ghost Value = { DeviceRecord };
 
     ghost view = { λ d. record { name = d.name.now; writable = d.writable; table = d.table.now } };
 
-    ghost invariant = { λ d. d.size ≡ sectors_of d.table.now };
+    ghost invariant = { λ d. d.size ≡ table_sectors d.table.now };
 }
 
 impl<'a> Planned<'a> {
     ghost use Rattle.std.specs.Prelude.{◌≡◌};
-    ghost use Rattle.stack_rules.specs.Names.{sectors_of};
+    ghost use Rattle.stack_rules.specs.Names.{table_sectors};
 
     pub fn new(name: &'a [u8], writable: bool, table: &'a Table) -> Planned<'a>
         ensures { result ≡ record { name = name.now; writable = writable; table = table.now } }
@@ -62,7 +62,7 @@ impl<'a> Planned<'a> {
     }
 
     pub fn size(&self) -> u128
-        ensures { result ≡ sectors_of self.now.table }
+        ensures { result ≡ table_sectors self.now.table }
     {
         self.size
     }

@@ -2,7 +2,7 @@
 ghost use Rattle.std.specs.Prelude.{◌≡◌, ◌≤◌, ◌<◌, ◌^◌, option_copied};
 ghost use Rattle.dm_table.specs.Grammar.{IsVerityOfGrammar};
 ghost use Rattle.tree_shape.specs.Shape.{levels, area_blocks};
-ghost use Rattle.stack_rules.specs.Trees.{tree_of, data_sectors, tree_sectors, block_sectors, path_sectors, verity_of};
+ghost use Rattle.stack_rules.specs.Trees.{tree_of, line_data_sectors, line_tree_sectors, block_sectors, path_sectors, verity_of};
 
 use dm_table::{Target, Verity};
 
@@ -45,7 +45,7 @@ fn tree_size(verity: &Verity) -> TreeSize
 
 /// The sectors of all data blocks.
 pub fn data_sectors(verity: &Verity) -> u128
-    ensures { result ≡ data_sectors verity.now }
+    ensures { result ≡ line_data_sectors verity.now }
 {
     u128::from(verity.blocks) * u128::from(verity.data_block / 512)
 }
@@ -53,7 +53,7 @@ pub fn data_sectors(verity: &Verity) -> u128
 /// The sectors up to the end of the tree; a tree of no blocks ends at 0.
 pub fn tree_sectors(verity: &Verity) -> u128
     requires { IsVerityOfGrammar verity.now }
-    ensures { result ≡ tree_sectors verity.now }
+    ensures { result ≡ line_tree_sectors verity.now }
 {
     let blocks = tree_size(verity).blocks;
     if blocks == 0 {

@@ -7,7 +7,7 @@ use Rattle.std.proofs.lemmas.List.Elements.{All-append, All-nil, All-push}
 use Rattle.counted_io.specs.Counted.{Grows}
 use Rattle.stack_session.specs.declared.fault.SessionFault.{SessionFault}
 use Rattle.stack_session.specs.declared.fault.SessionFault.TheVariants.{WriteFault, NoMemory}
-use Rattle.stack_session.specs.Session.{Replying, ended, IsOneLine, IsStopped, ServesFront, ServesWhole}
+use Rattle.stack_session.specs.Session.{Replying, ended, IsOneLine, IsSessionStopped, ServesFront, ServesWhole}
 use Rattle.stack_session.proofs.SessionLemmas.{Feeding, ServesLines-append}
 
 -- no line was served
@@ -82,8 +82,8 @@ grows-none replies first input w = record { text = []; holds = front-none replie
 
 -- a session that stops in a piece stops in all that was taken
 pub stopped-then : {S T U : Type 0} {replies : Replying S} {first now last : S} {input rest : List ℕ} {old mid new : Option (List ℕ)} {result : Result T SessionFault} (more : List ℕ) (fault : SessionFault)
-    → result ≡ Err fault → Grows old mid (ServesWhole replies first input now rest) → IsStopped mid new (ServesFront replies now (rest ++ more) last) result
-    → IsStopped {T = U} old new (ServesFront replies first (input ++ more) last) (Err fault)
+    → result ≡ Err fault → Grows old mid (ServesWhole replies first input now rest) → IsSessionStopped mid new (ServesFront replies now (rest ++ more) last) result
+    → IsSessionStopped {T = U} old new (ServesFront replies first (input ++ more) last) (Err fault)
 stopped-then {replies = replies} {first = first} {last = last} {input = input} {result = result} more fault ends f s = record {
   write_fault = λ is.
       let same : fault ≡ WriteFault = cc in
@@ -97,7 +97,7 @@ stopped-then {replies = replies} {first = first} {last = last} {input = input} {
 
 -- the reply to the line can't be written
 pub stopped-line : {S T : Type 0} (replies : Replying S) (first last : S) (input line reply : List ℕ) (old new : Option (List ℕ)) → line ≡ input → IsOneLine input → replies first line reply last
-    → IsStopped {T = T} old new (ServesFront replies first input last) (Err WriteFault)
+    → IsSessionStopped {T = T} old new (ServesFront replies first input last) (Err WriteFault)
 stopped-line replies first last input line reply old new same one is = record {
   write_fault = λ e. (reply, front-one replies first last input reply one (subst (λ l. replies first l reply last) same is));
   no_memory = λ e. (cc);
@@ -105,7 +105,7 @@ stopped-line replies first last input line reply old new same one is = record {
 
 -- the line can't be kept
 pub stopped-none : {S T U : Type 0} (replies : Replying S) (first : S) (input : List ℕ) (w : Option (List ℕ)) (fault : SessionFault) → IsErrOf {T = U} (Err fault) NoMemory
-    → IsStopped {T = T} w w (ServesFront replies first input first) (Err fault)
+    → IsSessionStopped {T = T} w w (ServesFront replies first input first) (Err fault)
 stopped-none replies first input w fault kind = record {
   write_fault = λ e. let same : fault ≡ NoMemory = cc in let clash : WriteFault ≡ NoMemory = cc in cc;
   no_memory = λ e. grows-none replies first input w;
@@ -113,7 +113,7 @@ stopped-none replies first input w fault kind = record {
 
 -- the replies to the whole lines can't be handed on
 pub stopped-whole : {S T : Type 0} {replies : Replying S} {first now : S} {input rest : List ℕ} {old mid : Option (List ℕ)} (new : Option (List ℕ))
-    → Grows old mid (ServesWhole replies first input now rest) → IsStopped {T = T} old new (ServesFront replies first input now) (Err WriteFault)
+    → Grows old mid (ServesWhole replies first input now rest) → IsSessionStopped {T = T} old new (ServesFront replies first input now) (Err WriteFault)
 stopped-whole new g = record { write_fault = λ e. (g.text, front-whole g.holds); no_memory = λ e. (cc) }
 
 -- ---- within a piece
@@ -121,7 +121,7 @@ stopped-whole new g = record { write_fault = λ e. (g.text, front-whole g.holds)
 -- of a piece that was fed up to a line, and then stopped in that
 pub feeding_stops : {S T U : Type 0} {replies : Replying S} {first now last : S} {piece left rest : List ℕ} {old mid new : Option (List ℕ)} {result : Result T SessionFault} (start head tail : List ℕ) (fault : SessionFault)
     → left ≡ head ++ 10 ∷ tail → result ≡ Err fault → Feeding piece left (λ done. Grows old mid (ServesWhole replies first (start ++ done) now rest))
-    → IsStopped mid new (ServesFront replies now (rest ++ head) last) result → IsStopped {T = U} old new (ServesFront replies first (start ++ piece) last) (Err fault)
+    → IsSessionStopped mid new (ServesFront replies now (rest ++ head) last) result → IsSessionStopped {T = U} old new (ServesFront replies first (start ++ piece) last) (Err fault)
 feeding_stops {replies = replies} {first = first} {last = last} {piece = piece} {old = old} {new = new} start head tail fault cut ends f s =
     let all : ((start ++ f.done) ++ head) ++ 10 ∷ tail ≡ start ++ piece =
     append_assoc (start ++ f.done) head (10 ∷ tail) ∙ append_assoc start f.done (head ++ 10 ∷ tail) ∙ ap (λ t. start ++ (f.done ++ t)) (sym cut) ∙ ap (λ t. start ++ t) (sym f.split) in
@@ -137,7 +137,7 @@ feeding_stops {replies = replies} {first = first} {last = last} {piece = piece} 
 
 -- what is left of a piece can't be kept
 pub feeding_full : {S T : Type 0} {replies : Replying S} {first now : S} {piece left rest : List ℕ} {old new : Option (List ℕ)} (start : List ℕ) (result : Result T SessionFault)
-    → OnErr result (result ≡ Err NoMemory) → Feeding piece left (λ done. Grows old new (ServesWhole replies first (start ++ done) now rest)) → IsStopped old new (ServesFront replies first (start ++ piece) now) result
+    → OnErr result (result ≡ Err NoMemory) → Feeding piece left (λ done. Grows old new (ServesWhole replies first (start ++ done) now rest)) → IsSessionStopped old new (ServesFront replies first (start ++ piece) now) result
 feeding_full start (Ok value) kind f = record { write_fault = λ is. (cc); no_memory = λ is. (cc) }
 feeding_full {replies = replies} {first = first} {now = now} {piece = piece} {left = left} {rest = rest} {old = old} {new = new} start (Err fault) kind f = record {
   write_fault = λ is. let clash : WriteFault ≡ NoMemory = cc in cc;

@@ -6,7 +6,7 @@ use Rattle.std.proofs.KnownBytes.{Consumes-nil, Consumes-trans, Consumes-kept}
 use Rattle.counted_io.specs.Counted.{CountedRecord, Grows}
 use Rattle.stack_session.specs.declared.fault.SessionFault.{SessionFault}
 use Rattle.stack_session.specs.declared.fault.SessionFault.TheVariants.{WriteFault, NoMemory}
-use Rattle.stack_session.specs.Session.{Replying, IsOneLine, IsSession, IsStopped, ServesFront, ServesWhole, Taking, WritesAll, WritesReply, WritesWhole}
+use Rattle.stack_session.specs.Session.{Replying, IsOneLine, IsSession, IsSessionStopped, ServesFront, ServesWhole, Taking, WritesAll, WritesReply, WritesWholeLines}
 use Rattle.counted_io.specs.Streams.{Streams}
 use Rattle.stack_session.proofs.FrontLemmas.{front-one, front-then, front-whole, grows-then}
 use Rattle.stack_session.proofs.SessionLemmas.{serves_nothing, serves_more, serves_end}
@@ -78,7 +78,7 @@ front-of {left = left} piece r = subst (λ n. take n (r.taken ++ piece) ≡ r.ta
 pub intake_too_long : {S : Type 0} {replies : Replying S} {first now : S} {left : ℕ} {rest : List ℕ} {old mid : Streams} (new : Streams) (last : S) (tail piece : List ℕ)
     → Intake old mid left (λ taken. ServesWhole replies first taken now rest) → Consumes mid.input new.input piece → left < length piece
     → Grows mid.output new.output (ServesWhole replies now (rest ++ take left piece) last tail)
-    → Taking old new (λ taken. (16777216 < length taken) × WritesWhole replies first (take 16777216 taken) last old new)
+    → Taking old new (λ taken. (16777216 < length taken) × WritesWholeLines replies first (take 16777216 taken) last old new)
 intake_too_long {replies = replies} {first = first} {left = left} {old = old} {mid = mid} new last tail piece r c more w = record {
   taken = r.taken ++ piece;
   consumed = Consumes-trans old.input mid.input new.input r.taken piece r.consumed c;
@@ -90,7 +90,7 @@ intake_too_long {replies = replies} {first = first} {left = left} {old = old} {m
 
 -- the reader failed, or was called too often
 pub intake_fails : {S : Type 0} {replies : Replying S} {first now : S} {left : ℕ} {rest : List ℕ} {old new : Streams}
-    → Intake old new left (λ taken. ServesWhole replies first taken now rest) → Taking old new (λ taken. (length taken ≤ 16777216) × WritesWhole replies first taken now old new)
+    → Intake old new left (λ taken. ServesWhole replies first taken now rest) → Taking old new (λ taken. (length taken ≤ 16777216) × WritesWholeLines replies first taken now old new)
 intake_fails {rest = rest} r = record { taken = r.taken; consumed = r.consumed; holds = (omega (arith, r.counted), (rest, r.whole)) }
 
 -- ---- the writer failed, or memory ran out
@@ -123,7 +123,7 @@ intake_unwritten {replies = replies} {first = first} {now = now} {rest = rest} {
 -- the writer failed in a piece
 pub intake_write_fault : {S T : Type 0} {replies : Replying S} {first now : S} {left : ℕ} {rest : List ℕ} {old mid : Streams} {result : Result T SessionFault} (new : Streams) (last : S) (piece : List ℕ)
     → Intake old mid left (λ taken. ServesWhole replies first taken now rest) → Consumes mid.input new.input piece
-    → IsStopped mid.output new.output (ServesFront replies now (rest ++ take left piece) last) result → IsErrOf result WriteFault → Taking old new (Front replies first last)
+    → IsSessionStopped mid.output new.output (ServesFront replies now (rest ++ take left piece) last) result → IsErrOf result WriteFault → Taking old new (Front replies first last)
 intake_write_fault {replies = replies} {first = first} {left = left} {old = old} {mid = mid} new last piece r c s is =
     let p = s.write_fault is in
     record {
@@ -135,7 +135,7 @@ intake_write_fault {replies = replies} {first = first} {left = left} {old = old}
 -- memory ran out there
 pub intake_no_memory : {S T : Type 0} {replies : Replying S} {first now : S} {left : ℕ} {rest : List ℕ} {old mid : Streams} {result : Result T SessionFault} (new : Streams) (last : S) (piece : List ℕ)
     → Intake old mid left (λ taken. ServesWhole replies first taken now rest) → Consumes mid.input new.input piece
-    → IsStopped mid.output new.output (ServesFront replies now (rest ++ take left piece) last) result → IsErrOf result NoMemory
+    → IsSessionStopped mid.output new.output (ServesFront replies now (rest ++ take left piece) last) result → IsErrOf result NoMemory
     → Taking old new (λ taken. Grows old.output new.output (ServesFront replies first (take 16777216 taken) last))
 intake_no_memory {replies = replies} {first = first} {left = left} {old = old} {mid = mid} new last piece r c s is = record {
   taken = r.taken ++ piece;

@@ -3,7 +3,7 @@ use Rattle.std.proofs.Common.{take, ℕ, List, [], ◌∷◌, ◌++◌, Result, 
 use Rattle.std.specs.Prelude.{OnOk}
 use Rattle.stack_session.specs.declared.fault.SessionFault.{SessionFault}
 use Rattle.counted_io.specs.Counted.{Grows}
-use Rattle.stack_session.specs.Session.{Replying, ServesLines, ServesWhole, ServesAll, ServesFront, Taking, WritesAll, WritesWhole, IsSession}
+use Rattle.stack_session.specs.Session.{Replying, ServesLines, ServesWhole, ServesAll, ServesFront, Taking, WritesAll, WritesWholeLines, IsSession}
 use Rattle.counted_io.specs.Streams.{Streams}
 
 -- each reply of one way is one of the other, and a fact about the states goes on
@@ -46,7 +46,7 @@ ServesFront-as r q P f a input b output p w = record {
 }
 
 WritesWhole-as : {S : Type 0} (r q : Replying S) (P : S → Type 0) → Follows r q P
-    → (a : S) (input : List ℕ) (b : S) (old new : Streams) → P a → WritesWhole r a input b old new → WritesWhole q a input b old new
+    → (a : S) (input : List ℕ) (b : S) (old new : Streams) → P a → WritesWholeLines r a input b old new → WritesWholeLines q a input b old new
 WritesWhole-as r q P f a input b old new p w =
     let grows : Grows old.output new.output (ServesWhole q a input b w.0) = record {
       text = w.1.text;

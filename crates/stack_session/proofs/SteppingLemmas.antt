@@ -19,7 +19,7 @@ use Rattle.stack_session.specs.declared.fault.SessionFault.TheVariants as fault
 use Rattle.stack_session.specs.Session.{IsSession}
 use Rattle.counted_io.specs.Streams.{Streams}
 use Rattle.stack_session.specs.QueueSessions.{IsQueueSession, SteadyBeneath}
-use Rattle.stack_session.specs.Commands.{CommandRecord, nothing, load, run, submit, step, remove, cost, table, moved, usage, command_of}
+use Rattle.stack_session.specs.Commands.{CommandRecord, nothing, load, run, submit, step, remove, cost, table, moved, usage, line_command}
 use Rattle.stack_session.specs.Replies.{Stepping, WholeStep, RepliesToText, RepliesTo, Replies}
 use Rattle.stack_session.proofs.ReplyingLemmas.{IsSession-as}
 use Rattle.stack_session.proofs.lemmas.QueueRunLemmas.{lines-led}
@@ -53,7 +53,7 @@ module _ (a b : Stepping) (P : List Device → Type 0) (yields : Yields a b P) w
   command-as w moved reply w' p r = (r, same-leaves w w' r.1 p)
 
   line-as : (w : World) (line reply : List ℕ) (w' : World) → P w.stack.leaves → Replies a w line reply w' → Replies b w line reply w' × P w'.stack.leaves
-  line-as w line reply w' p r = let s = command-as w (command_of line) reply w' p r.to in (record { to = s.0 }, s.1)
+  line-as w line reply w' p r = let s = command-as w (line_command line) reply w' p r.to in (record { to = s.0 }, s.1)
 
   -- a session over another relation of steps
   pub session-as : (first last : World) (old new : Streams) (result : Result Unit SessionFault) → P first.stack.leaves

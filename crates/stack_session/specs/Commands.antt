@@ -51,17 +51,17 @@ read_where name (Some first) None = None
 read_where name None count = None
 
 -- `NAME FIRST COUNT`
-abbrev pub read_of : List Word → Option RequestRecord
-read_of (name ∷ first ∷ count ∷ []) = read_where name (number first) (number count)
-read_of words = None
+abbrev pub session_read : List Word → Option RequestRecord
+session_read (name ∷ first ∷ count ∷ []) = read_where name (number first) (number count)
+session_read words = None
 
 -- how many sectors a write may ask for: one too many is refused, and more are no command
 abbrev pub write_count : Word → Option ℕ
 write_count word = number_if (λ n. nat_le n 2049) (number word)
 
 -- the byte of two hexadecimal digits
-unfoldable pub byte_of : Word → Option ℕ
-byte_of word = option_map (λ bytes. slice_index bytes 0) (result_ok (decode_sized word 1))
+unfoldable pub hex_byte : Word → Option ℕ
+hex_byte word = option_map (λ bytes. slice_index bytes 0) (result_ok (decode_sized word 1))
 
 -- a write of so many sectors of that byte, where all numbers were read
 abbrev pub write_where : Word → Option ℕ → Option ℕ → Option ℕ → Option RequestRecord
@@ -71,9 +71,9 @@ write_where name (Some first) None byte = None
 write_where name None count byte = None
 
 -- `NAME FIRST COUNT BB`
-abbrev pub write_of : List Word → Option RequestRecord
-write_of (name ∷ first ∷ count ∷ byte ∷ []) = write_where name (number first) (write_count count) (byte_of byte)
-write_of words = None
+abbrev pub session_write : List Word → Option RequestRecord
+session_write (name ∷ first ∷ count ∷ byte ∷ []) = write_where name (number first) (write_count count) (hex_byte byte)
+session_write words = None
 
 -- ---- commands
 
@@ -112,21 +112,21 @@ verb_of word =
 
 -- `read NAME FIRST COUNT` or `write NAME FIRST COUNT BB`
 abbrev pub access_in : Option Verb → List Word → Option RequestRecord
-access_in (Some verb.Read) words = read_of words
-access_in (Some verb.Write) words = write_of words
+access_in (Some verb.Read) words = session_read words
+access_in (Some verb.Write) words = session_write words
 access_in verb words = None
 
-abbrev pub access_of : List Word → Option RequestRecord
-access_of [] = None
-access_of (word ∷ words) = access_in (verb_of word) words
+abbrev pub session_access : List Word → Option RequestRecord
+session_access [] = None
+session_access (word ∷ words) = access_in (verb_of word) words
 
 -- `load TEXT`, where the text is the rest of the line, `read NAME FIRST COUNT`, `write NAME FIRST COUNT BB`,
 -- `submit` and one of these two, `step T`, `remove NAME`, `cost NAME`, `table NAME` or `moved`
 abbrev pub verb_command : Option Verb → List ℕ → List Word → CommandRecord
 verb_command (Some verb.Load) line words = load (after_word line)
-verb_command (Some verb.Read) line words = command_with run (read_of words)
-verb_command (Some verb.Write) line words = command_with run (write_of words)
-verb_command (Some verb.Submit) line words = command_with submit (access_of words)
+verb_command (Some verb.Read) line words = command_with run (session_read words)
+verb_command (Some verb.Write) line words = command_with run (session_write words)
+verb_command (Some verb.Submit) line words = command_with submit (session_access words)
 verb_command (Some verb.Step) line words = command_with step (ticket_of words)
 verb_command (Some verb.Remove) line words = command_with remove (only_word words)
 verb_command (Some verb.Cost) line words = command_with cost (only_word words)
@@ -139,8 +139,8 @@ abbrev pub words_command : List ℕ → List Word → CommandRecord
 words_command line [] = nothing
 words_command line (verb ∷ words) = verb_command (verb_of verb) line words
 
-unfoldable pub command_of : List ℕ → CommandRecord
-command_of line = words_command line (words line)
+unfoldable pub line_command : List ℕ → CommandRecord
+line_command line = words_command line (words line)
 
 -- what a command of the program asks for
 abbrev pub command_record : Command → CommandRecord
@@ -156,14 +156,14 @@ command_record Moved = moved
 command_record Usage = usage
 
 -- a text to load has at most n bytes, and a write at most 2,049 sectors
-abbrev pub IsWithin : ℕ → Command → Type 0
-IsWithin n Nothing = Unit {0}
-IsWithin n (Load text) = length text.now ≤ n
-IsWithin n (Run access) = IsSmall access
-IsWithin n (Submit access) = IsSmall access
-IsWithin n (Step ticket) = Unit {0}
-IsWithin n (Remove name) = Unit {0}
-IsWithin n (Cost name) = Unit {0}
-IsWithin n (Table name) = Unit {0}
-IsWithin n Moved = Unit {0}
-IsWithin n Usage = Unit {0}
+abbrev pub IsWithinLimits : ℕ → Command → Type 0
+IsWithinLimits n Nothing = Unit {0}
+IsWithinLimits n (Load text) = length text.now ≤ n
+IsWithinLimits n (Run access) = IsSmall access
+IsWithinLimits n (Submit access) = IsSmall access
+IsWithinLimits n (Step ticket) = Unit {0}
+IsWithinLimits n (Remove name) = Unit {0}
+IsWithinLimits n (Cost name) = Unit {0}
+IsWithinLimits n (Table name) = Unit {0}
+IsWithinLimits n Moved = Unit {0}
+IsWithinLimits n Usage = Unit {0}

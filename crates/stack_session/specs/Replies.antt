@@ -6,7 +6,7 @@ use Rattle.dm_table.specs.declared.stack.Entry.{Entry}
 use Rattle.dm_table.specs.declared.fault.TextFault.{TextFault}
 use Rattle.dm_table.specs.Words.{Word}
 use Rattle.dm_table.specs.StackText.{stack_of}
-use Rattle.table_printer.specs.Print.{table_text}
+use Rattle.table_printer.specs.Print.{printed_table}
 use Rattle.stack_rules.specs.declared.refusal.LoadFault.{LoadFault}
 use Rattle.stack_rules.specs.declared.refusal.RemoveFault.{RemoveFault}
 use Rattle.stack_rules.specs.Records.{Configuration}
@@ -27,9 +27,9 @@ use Rattle.request_queue.specs.World.{World, Event, Step}
 use Rattle.request_queue.specs.World as event
 use Rattle.io_fault_text.specs.Texts.{no_memory}
 use Rattle.stack_session.specs.Accesses.{access_record, first_of}
-use Rattle.stack_session.specs.Commands.{CommandRecord, nothing, load, run, submit, step, remove, cost, table, moved, usage, command_of}
+use Rattle.stack_session.specs.Commands.{CommandRecord, nothing, load, run, submit, step, remove, cost, table, moved, usage, line_command}
 use Rattle.stack_session.specs.Session.{WritesReply}
-use Rattle.stack_session.specs.Texts.{usage_text, fault_text, submit_text, load_text, remove_text, submission_text, run_text, step_text, cost_text, moved_text}
+use Rattle.stack_session.specs.Texts.{usage_text, fault_text, submit_text, load_reply_text, remove_text, submission_text, run_reply_text, step_text, cost_text, moved_text}
 use Rattle.stack_session.specs.declared.access.Access.{Access}
 use Rattle.counted_io.specs.Counted.{CountedRecord}
 use Rattle.counted_io.specs.declared.fault.WriteFault.{WriteFault}
@@ -43,14 +43,14 @@ abbrev pub Says : List ℕ → World → List ℕ → World → Type 0
 Says text w reply w' = (reply ≡ text) × (w' ≡ w)
 
 -- memory ran out, and nothing happened
-abbrev pub RunsOut : World → List ℕ → World → Type 0
-RunsOut w reply w' = Says no_memory w reply w'
+abbrev pub RepliesNoMemory : World → List ℕ → World → Type 0
+RepliesNoMemory w reply w' = Says no_memory w reply w'
 
 -- to a text that is to be loaded
 abbrev pub RepliesToText : Stepping → World → Result (List Entry) TextFault → List ℕ → World → Type 0
 RepliesToText steps w (Err fault) reply w' = Says (fault_text fault) w reply w'
 RepliesToText steps w (Ok entries) reply w' =
-    (result : Result Unit (Held LoadFault)) × steps w (event.load entries result) w' × (reply ≡ load_text (length entries) result)
+    (result : Result Unit (Held LoadFault)) × steps w (event.load entries result) w' × (reply ≡ load_reply_text (length entries) result)
 
 -- the first sector of the request with that ticket
 abbrev pub first_sector : World → ℕ → ℕ
@@ -65,47 +65,47 @@ abbrev pub cost_of : Configuration → ℕ → List ℕ
 cost_of c d = cost_text (size c (mapped d)) (depth c (mapped d)) (read_cost c (mapped d)) (write_cost c (mapped d))
 
 -- its table, with zeros for keys
-abbrev pub table_of : Configuration → ℕ → List ℕ
-table_of c d = table_text false (lines_of c d)
+abbrev pub device_table : Configuration → ℕ → List ℕ
+device_table c d = printed_table false (lines_of c d)
 
 -- what the leaves have read and written
-abbrev pub moved_of : List Device → List ℕ
-moved_of leaves = moved_text (capped (reads_of leaves)) (capped (writes_of leaves))
+abbrev pub leaves_moved_text : List Device → List ℕ
+leaves_moved_text leaves = moved_text (capped (reads_of leaves)) (capped (writes_of leaves))
 
 -- A command may get this reply, and leave the second world: it is one event of the queue, or changes nothing.
 abbrev pub RepliesTo : Stepping → World → CommandRecord → List ℕ → World → Type 0
 RepliesTo steps w nothing reply w' = Says [] w reply w'
 RepliesTo steps w usage reply w' = Says usage_text w reply w'
-RepliesTo steps w (load text) reply w' = RepliesToText steps w (stack_of text) reply w' ⊎ RunsOut w reply w'
+RepliesTo steps w (load text) reply w' = RepliesToText steps w (stack_of text) reply w' ⊎ RepliesNoMemory w reply w'
 RepliesTo steps w (run r) reply w' =
-    ((result : Result (Result Reply IoFault) SubmitFault) × steps w (event.run r result) w' × (reply ≡ run_text (first_of r) result)) ⊎ RunsOut w reply w'
-RepliesTo steps w (submit r) reply w' = ((result : Result ℕ SubmitFault) × steps w (event.submit r result) w' × (reply ≡ submission_text result)) ⊎ RunsOut w reply w'
+    ((result : Result (Result Reply IoFault) SubmitFault) × steps w (event.run r result) w' × (reply ≡ run_reply_text (first_of r) result)) ⊎ RepliesNoMemory w reply w'
+RepliesTo steps w (submit r) reply w' = ((result : Result ℕ SubmitFault) × steps w (event.submit r result) w' × (reply ≡ submission_text result)) ⊎ RepliesNoMemory w reply w'
 RepliesTo steps w (step ticket) reply w' =
     (result : Result Progress NoSuchTicket) × steps w (event.step ticket result) w' × (reply ≡ step_text (first_sector w ticket) result)
 RepliesTo steps w (remove name) reply w' = (result : Result Unit (Held RemoveFault)) × steps w (event.remove_device name result) w' × (reply ≡ remove_text result)
 RepliesTo steps w (cost name) reply w' = Says (device_text w.stack.config name (cost_of w.stack.config)) w reply w'
-RepliesTo steps w (table name) reply w' = Says (device_text w.stack.config name (table_of w.stack.config)) w reply w' ⊎ RunsOut w reply w'
-RepliesTo steps w moved reply w' = Says (moved_of w.stack.leaves) w reply w'
+RepliesTo steps w (table name) reply w' = Says (device_text w.stack.config name (device_table w.stack.config)) w reply w' ⊎ RepliesNoMemory w reply w'
+RepliesTo steps w moved reply w' = Says (leaves_moved_text w.stack.leaves) w reply w'
 
 -- a line may get this reply
 pub record Replies (steps : Stepping) (w : World) (line reply : List ℕ) (w' : World) : Type 0 where
-  pub to : RepliesTo steps w (command_of line) reply w'
+  pub to : RepliesTo steps w (line_command line) reply w'
 
 -- a run answers for its request as a whole
-abbrev pub IsWhole : World → Event → World → Type 0
-IsWhole w (event.submit r result) w' = Unit {0}
-IsWhole w (event.step ticket result) w' = Unit {0}
-IsWhole w (event.read_bytes d first bytes result) w' = Unit {0}
-IsWhole w (event.write_piece d first bytes result) w' = Unit {0}
-IsWhole w (event.load text result) w' = Unit {0}
-IsWhole w (event.remove_device name result) w' = Unit {0}
-IsWhole w (event.run r result) w' = RunAnswers w r result w'
-IsWhole w (event.sync result) w' = Unit {0}
+abbrev pub IsWholeAnswer : World → Event → World → Type 0
+IsWholeAnswer w (event.submit r result) w' = Unit {0}
+IsWholeAnswer w (event.step ticket result) w' = Unit {0}
+IsWholeAnswer w (event.read_bytes d first bytes result) w' = Unit {0}
+IsWholeAnswer w (event.write_piece d first bytes result) w' = Unit {0}
+IsWholeAnswer w (event.load text result) w' = Unit {0}
+IsWholeAnswer w (event.remove_device name result) w' = Unit {0}
+IsWholeAnswer w (event.run r result) w' = RunAnswers w r result w'
+IsWholeAnswer w (event.sync result) w' = Unit {0}
 
 -- all that is known of a step: of each piece, and of each run as a whole
 pub record WholeStep (w : World) (e : Event) (w' : World) : Type 0 where
   pub each : Step EachPart w e w'
-  pub whole : IsWhole w e w'
+  pub whole : IsWholeAnswer w e w'
 
 -- of a text that is the reply to a command: all that is known
 abbrev pub IsReplyTo : World → CommandRecord → World → List ℕ → Type 0

@@ -64,12 +64,12 @@ pub record ServesFront {S : Type 0} (replies : Replying S) (first : S) (input : 
   pub joined : output ≡ flat_map (λ text. text) texts
 
 -- a text of which P holds was written
-abbrev pub Adds : {T : Type 0} → (T → Option (List ℕ)) → CountedRecord T → CountedRecord T → (List ℕ → Type 0) → Type 0
-Adds contents old new P = Grows (contents old.inner) (contents new.inner) P
+abbrev pub AddsText : {T : Type 0} → (T → Option (List ℕ)) → CountedRecord T → CountedRecord T → (List ℕ → Type 0) → Type 0
+AddsText contents old new P = Grows (contents old.inner) (contents new.inner) P
 
 -- and handed on
-abbrev pub HandsOn : {T : Type 0} → (T → Option (List ℕ)) → CountedRecord T → CountedRecord T → (List ℕ → Type 0) → Type 0
-HandsOn contents old new P = (new.pending ≡ false) × Adds contents old new P
+abbrev pub HandsOnText : {T : Type 0} → (T → Option (List ℕ)) → CountedRecord T → CountedRecord T → (List ℕ → Type 0) → Type 0
+HandsOnText contents old new P = (new.pending ≡ false) × AddsText contents old new P
 
 -- a reply of which P holds was written, or the writer failed in it
 pub record WritesReply {T : Type 0} (contents : T → Option (List ℕ)) (old new : CountedRecord T) (P : List ℕ → Type 0) (result : Result Unit WriterFailed) : Type 0 where
@@ -90,21 +90,21 @@ pub record WritesAll {S : Type 0} (replies : Replying S) (first last : S) (old n
   pub written : Grows old.output new.output (ServesAll replies first input last)
 
 -- the replies to the whole lines of the input were written, and the server is as they left it
-abbrev pub WritesWhole : {S : Type 0} → Replying S → S → List ℕ → S → Streams → Streams → Type 0
-WritesWhole replies first input last old new = (rest : List ℕ) × Grows old.output new.output (ServesWhole replies first input last rest)
+abbrev pub WritesWholeLines : {S : Type 0} → Replying S → S → List ℕ → S → Streams → Streams → Type 0
+WritesWholeLines replies first input last old new = (rest : List ℕ) × Grows old.output new.output (ServesWhole replies first input last rest)
 
 -- the lines that were served, where the writer failed within their replies, or where memory ran out behind them
-pub record IsStopped {T : Type 0} (old new : Option (List ℕ)) (Front : List ℕ → Type 0) (result : Result T SessionFault) : Type 0 where
+pub record IsSessionStopped {T : Type 0} (old new : Option (List ℕ)) (Front : List ℕ → Type 0) (result : Result T SessionFault) : Type 0 where
   pub write_fault : IsErrOf result WriteFault → (output : List ℕ) × Front output
   pub no_memory : IsErrOf result NoMemory → Grows old new Front
 
 -- the same of a counted writer
 abbrev pub StopsWriting : {T A : Type 0} → (T → Option (List ℕ)) → CountedRecord T → CountedRecord T → (List ℕ → Type 0) → Result A SessionFault → Type 0
-StopsWriting contents old new Front result = IsStopped (contents old.inner) (contents new.inner) Front result
+StopsWriting contents old new Front result = IsSessionStopped (contents old.inner) (contents new.inner) Front result
 
 -- of what was left of the limit a piece was taken, and the rest of a line that is kept stays within it
-abbrev pub IsWithin : ℕ → List ℕ → List ℕ → ℕ → Type 0
-IsWithin left piece rest after = (after + length piece ≡ left) × (length rest + after ≤ LIMIT)
+abbrev pub IsWithinLine : ℕ → List ℕ → List ℕ → ℕ → Type 0
+IsWithinLine left piece rest after = (after + length piece ≡ left) × (length rest + after ≤ LIMIT)
 
 -- no more is kept than there was
 abbrev pub KeepsAtMost : List ℕ → List ℕ → List ℕ → Type 0
@@ -119,9 +119,9 @@ pub record IsSession {S : Type 0} (replies : Replying S) (first last : S) (old n
   -- all was read and served, and what is written is the replies
   pub ok : OnOk result (Taking old new (WritesAll replies first last old new))
   -- more than the limit was taken, and the replies to the whole lines within it are written
-  pub too_long : IsErrOf result TooLong → Taking old new (λ taken. (LIMIT < length taken) × WritesWhole replies first (take LIMIT taken) last old new)
+  pub too_long : IsErrOf result TooLong → Taking old new (λ taken. (LIMIT < length taken) × WritesWholeLines replies first (take LIMIT taken) last old new)
   -- the replies to the whole lines of what was taken are written, which isn't past the limit
-  pub read_fault : IsErrOf result ReadFault → Taking old new (λ taken. (length taken ≤ LIMIT) × WritesWhole replies first taken last old new)
+  pub read_fault : IsErrOf result ReadFault → Taking old new (λ taken. (length taken ≤ LIMIT) × WritesWholeLines replies first taken last old new)
   -- the writer failed within the replies to the first lines, none behind the limit, and the server is as these left it
   pub write_fault : IsErrOf result WriteFault → Taking old new (λ taken. (output : List ℕ) × ServesFront replies first (take LIMIT taken) last output)
   -- memory ran out behind them, and what is written is their replies

@@ -48,15 +48,15 @@ abbrev pub fault_text : TextFault → List ℕ
 fault_text f = codes "text fault " ++ (decimal f.entry ++ (codes " " ++ (decimal f.line ++ (codes " " ++ kind_then (text_number f.kind) (text_name f.kind) (codes "\n")))))
 
 -- a load that is refused, with the device and the line
-abbrev pub refusal_text : Refusal → List ℕ
-refusal_text r = codes "refused " ++ kind_then (load_number r.kind) (load_name r.kind) (codes " device " ++ (decimal r.device ++ (codes " line " ++ (decimal r.line ++ codes "\n"))))
+abbrev pub load_refusal_text : Refusal → List ℕ
+load_refusal_text r = codes "refused " ++ kind_then (load_number r.kind) (load_name r.kind) (codes " device " ++ (decimal r.device ++ (codes " line " ++ (decimal r.line ++ codes "\n"))))
 
 -- a load of so many entries
-abbrev pub load_text : ℕ → Result Unit (Held LoadFault) → List ℕ
-load_text count (Ok done) = loaded_text count
-load_text count (Err Busy) = busy_text
-load_text count (Err (Fault (load.Refused refusal))) = refusal_text refusal
-load_text count (Err (Fault load.NoMemory)) = no_memory
+abbrev pub load_reply_text : ℕ → Result Unit (Held LoadFault) → List ℕ
+load_reply_text count (Ok done) = loaded_text count
+load_reply_text count (Err Busy) = busy_text
+load_reply_text count (Err (Fault (load.Refused refusal))) = load_refusal_text refusal
+load_reply_text count (Err (Fault load.NoMemory)) = no_memory
 
 abbrev pub removed_text : List ℕ
 removed_text = codes "removed\n"
@@ -99,19 +99,19 @@ answer_text first (Ok reply) = reply_text first reply
 answer_text first (Err fault) = io_text fault
 
 -- a request that was served to its end, unless it wasn't begun
-abbrev pub run_text : ℕ → Result (Result Reply IoFault) SubmitFault → List ℕ
-run_text first (Ok answer) = answer_text first answer
-run_text first (Err fault) = submit_text fault
+abbrev pub run_reply_text : ℕ → Result (Result Reply IoFault) SubmitFault → List ℕ
+run_reply_text first (Ok answer) = answer_text first answer
+run_reply_text first (Err fault) = submit_text fault
 
-abbrev pub more_text : List ℕ
-more_text = codes "more\n"
+abbrev pub more_reply : List ℕ
+more_reply = codes "more\n"
 
 abbrev pub no_ticket_text : List ℕ
 no_ticket_text = codes "refused 1 NoSuchTicket\n"
 
 -- a piece of a request that began at that sector
 abbrev pub step_text : ℕ → Result Progress NoSuchTicket → List ℕ
-step_text first (Ok More) = more_text
+step_text first (Ok More) = more_reply
 step_text first (Ok (Done answer)) = answer_text first answer
 step_text first (Err none) = no_ticket_text
 

@@ -1,7 +1,7 @@
 //! What a line of a session asks for.
 ghost use Rattle.std.specs.Prelude.{◌≡◌, ◌≤◌, length, option_map, IfSome};
 ghost use Rattle.stack_session.specs.Accesses.{IsSmall, access_record};
-ghost use Rattle.stack_session.specs.Commands.{IsWithin, access_in, access_of, after_word, byte_of, command_of, command_record, command_with, cost, lone_command, moved, only_word, read_of, remove, step, submit, table, ticket_of, write_count, write_of};
+ghost use Rattle.stack_session.specs.Commands.{IsWithinLimits, access_in, session_access, after_word, hex_byte, line_command, command_record, command_with, cost, lone_command, moved, only_word, session_read, remove, step, submit, table, ticket_of, write_count, session_write};
 ghost use Rattle.stack_session.specs.Commands.{run};
 
 use crate::access::{Access, Filling};
@@ -39,8 +39,8 @@ pub enum Command<'a> {
 /// `load TEXT`, where the text is the rest of the line, `read NAME FIRST COUNT`, `write NAME FIRST COUNT BB`,
 /// `submit` and one of these two, `step T`, `remove NAME`, `cost NAME`, `table NAME` or `moved`.
 pub fn command_of(line: &[u8]) -> Command<'_>
-    ensures value { command_record result ≡ command_of line.now }
-    ensures short { IsWithin (length line.now) result }
+    ensures value { command_record result ≡ line_command line.now }
+    ensures short { IsWithinLimits (length line.now) result }
 {
     let mut words = Words::new(line);
     let Some(word) = words.next_word() else {
@@ -63,7 +63,7 @@ pub fn command_of(line: &[u8]) -> Command<'_>
 fn run_of(access: Option<Access<'_>>) -> Command<'_>
     requires { IfSome access IsSmall }
     ensures value { command_record result ≡ command_with run (option_map access_record access.entry) }
-    ensures short { IsWithin 0 result }
+    ensures short { IsWithinLimits 0 result }
 {
     match access {
         Some(access) => Command::Run(access),
@@ -74,7 +74,7 @@ fn run_of(access: Option<Access<'_>>) -> Command<'_>
 fn submit_of(access: Option<Access<'_>>) -> Command<'_>
     requires { IfSome access IsSmall }
     ensures value { command_record result ≡ command_with submit (option_map access_record access.entry) }
-    ensures short { IsWithin 0 result }
+    ensures short { IsWithinLimits 0 result }
 {
     match access {
         Some(access) => Command::Submit(access),
@@ -84,7 +84,7 @@ fn submit_of(access: Option<Access<'_>>) -> Command<'_>
 
 // `read NAME FIRST COUNT` or `write NAME FIRST COUNT BB`
 fn access_of(mut words: Words<'_>) -> Option<Access<'_>>
-    ensures value { option_map access_record result ≡ access_of words.entry }
+    ensures value { option_map access_record result ≡ session_access words.entry }
     ensures small { IfSome result IsSmall }
 {
     let word = words.next_word()?;
@@ -97,7 +97,7 @@ fn access_of(mut words: Words<'_>) -> Option<Access<'_>>
 
 // `NAME FIRST COUNT`
 fn read_of(mut words: Words<'_>) -> Option<Access<'_>>
-    ensures value { option_map access_record result ≡ read_of words.entry }
+    ensures value { option_map access_record result ≡ session_read words.entry }
     ensures small { IfSome result IsSmall }
 {
     let (Some(name), Some(first), Some(count), None) = (
@@ -116,7 +116,7 @@ fn read_of(mut words: Words<'_>) -> Option<Access<'_>>
 
 // `NAME FIRST COUNT BB`
 fn write_of(mut words: Words<'_>) -> Option<Access<'_>>
-    ensures value { option_map access_record result ≡ write_of words.entry }
+    ensures value { option_map access_record result ≡ session_write words.entry }
     ensures small { IfSome result IsSmall }
 {
     let (Some(name), Some(first), Some(count), Some(byte), None) = (
@@ -154,7 +154,7 @@ fn write_count(word: &[u8]) -> Option<u64>
 
 // A byte of two hexadecimal digits.
 fn byte_of(word: &[u8]) -> Option<u8>
-    ensures { result ≡ byte_of word.now }
+    ensures { result ≡ hex_byte word.now }
 {
     let mut byte = [0u8; 1];
     match hex::decode_to_slice(word, &mut byte) {
@@ -166,7 +166,7 @@ fn byte_of(word: &[u8]) -> Option<u8>
 // `T`
 fn step_of(words: Words<'_>) -> Command<'_>
     ensures value { command_record result ≡ command_with step (ticket_of words.entry) }
-    ensures short { IsWithin 0 result }
+    ensures short { IsWithinLimits 0 result }
 {
     match ticket_of(words) {
         Some(ticket) => Command::Step(ticket),
@@ -183,7 +183,7 @@ fn ticket_of(words: Words<'_>) -> Option<u64>
 // `NAME`
 fn remove_of(words: Words<'_>) -> Command<'_>
     ensures value { command_record result ≡ command_with remove (only_word words.entry) }
-    ensures short { IsWithin 0 result }
+    ensures short { IsWithinLimits 0 result }
 {
     match only_word(words) {
         Some(name) => Command::Remove(name),
@@ -194,7 +194,7 @@ fn remove_of(words: Words<'_>) -> Command<'_>
 // `NAME`
 fn cost_of(words: Words<'_>) -> Command<'_>
     ensures value { command_record result ≡ command_with cost (only_word words.entry) }
-    ensures short { IsWithin 0 result }
+    ensures short { IsWithinLimits 0 result }
 {
     match only_word(words) {
         Some(name) => Command::Cost(name),
@@ -205,7 +205,7 @@ fn cost_of(words: Words<'_>) -> Command<'_>
 // `NAME`
 fn table_of(words: Words<'_>) -> Command<'_>
     ensures value { command_record result ≡ command_with table (only_word words.entry) }
-    ensures short { IsWithin 0 result }
+    ensures short { IsWithinLimits 0 result }
 {
     match only_word(words) {
         Some(name) => Command::Table(name),
@@ -216,7 +216,7 @@ fn table_of(words: Words<'_>) -> Command<'_>
 // No further word.
 fn moved_of(mut words: Words<'_>) -> Command<'_>
     ensures value { command_record result ≡ lone_command moved words.entry }
-    ensures short { IsWithin 0 result }
+    ensures short { IsWithinLimits 0 result }
 {
     match words.next_word() {
         None => Command::Moved,

@@ -1,6 +1,6 @@
 //! A session over any server of lines: reads the input, cuts it into lines, and has each line served.
 ghost use Rattle.std.specs.Prelude.{false, ◌≡◌, ◌≢◌, ℕ, ◌+◌, ◌≤◌, ◌<◌, List, [], ◌∷◌, ◌++◌, length, take, IfOk, OnOk, OnErr, MatchOption, ◌⊎◌};
-ghost use Rattle.stack_session.specs.Session.{Adds, HandsOn, IsEnding, IsOneLine, IsRemembered, IsSessionOf, KeepsAtMost, OnTooLong, ServesFront, ServesWhole, IsWithin, StopsWriting, WritesReply, StopsLine};
+ghost use Rattle.stack_session.specs.Session.{AddsText, HandsOnText, IsEnding, IsOneLine, IsRemembered, IsSessionOf, KeepsAtMost, OnTooLong, ServesFront, ServesWhole, IsWithinLine, StopsWriting, WritesReply, StopsLine};
 
 use crate::fault::SessionFault;
 use counted_io::{Counted, WriteFault};
@@ -59,7 +59,7 @@ fn end_line<S: LineServer, W: Write>(
 ) -> Result<(), SessionFault>
     requires line { IsOneLine (rest.old.items ++ end.now) }
     requires room { length rest.old.items + length end.now ≤ LIMIT }
-    ensures ok { OnOk result ((rest.new.items ≡ []) × Adds W.contents writer.old writer.new
+    ensures ok { OnOk result ((rest.new.items ≡ []) × AddsText W.contents writer.old writer.new
         (λ reply. S.replies server.old (rest.old.items ++ end.now) reply server.new)) }
     ensures stopped { StopsLine S.replies server.old server.new W.contents writer.old writer.new rest.old end.now result }
     ensures writer { IsRemembered writer.old writer.new result }
@@ -86,7 +86,7 @@ fn feed<S: LineServer, W: Write>(
     requires line { IsOneLine rest.old.items }
     requires room { length rest.old.items + length piece.now ≤ LIMIT }
     ensures ok { OnOk result (KeepsAtMost rest.old.items piece.now rest.new.items
-        × Adds W.contents writer.old writer.new (ServesWhole S.replies server.old (rest.old.items ++ piece.now) server.new rest.new.items)) }
+        × AddsText W.contents writer.old writer.new (ServesWhole S.replies server.old (rest.old.items ++ piece.now) server.new rest.new.items)) }
     ensures stopped { StopsLine S.replies server.old server.new W.contents writer.old writer.new rest.old piece.now result }
     ensures writer { IsRemembered writer.old writer.new result }
     ensures kinds { OnErr result ((result ≡ Err SessionFault.WriteFault) ⊎ (result ≡ Err SessionFault.NoMemory)) }
@@ -111,10 +111,10 @@ fn absorb<S: LineServer, W: Write>(
 ) -> Result<usize, SessionFault>
     requires line { IsOneLine rest.old.items }
     requires room { length rest.old.items + left ≤ LIMIT }
-    ensures ok { IfOk result (λ after. IsWithin left piece.now rest.new.items after
-        × Adds W.contents writer.old writer.new (ServesWhole S.replies server.old (rest.old.items ++ piece.now) server.new rest.new.items)) }
+    ensures ok { IfOk result (λ after. IsWithinLine left piece.now rest.new.items after
+        × AddsText W.contents writer.old writer.new (ServesWhole S.replies server.old (rest.old.items ++ piece.now) server.new rest.new.items)) }
     ensures too_long { OnTooLong result ((left < length piece.now)
-        × HandsOn W.contents writer.old writer.new (ServesWhole S.replies server.old (rest.old.items ++ take left piece.now) server.new rest.new.items)) }
+        × HandsOnText W.contents writer.old writer.new (ServesWhole S.replies server.old (rest.old.items ++ take left piece.now) server.new rest.new.items)) }
     ensures stopped { StopsWriting W.contents writer.old writer.new (ServesFront S.replies server.old (rest.old.items ++ take left piece.now) server.new) result }
     ensures writer { IsRemembered writer.old writer.new result × (result ≢ Err SessionFault.ReadFault) }
 {

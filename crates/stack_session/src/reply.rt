@@ -2,7 +2,7 @@
 ghost use Rattle.std.specs.Prelude.{◌≡◌, ◌+◌, ◌*◌, ◌<◌, decimal, ◌==◌, length, slice_index};
 ghost use Rattle.std.specs.List.{list_all};
 ghost use Rattle.counted_io.specs.Counted.{Writes};
-ghost use Rattle.stack_session.specs.Texts.{busy_text, loaded_text, fault_text, refusal_text, removed_text, removal_text, ticket_text, more_text, no_ticket_text, written_text, submit_text, reply_text, sector_line, moved_text, digits_line, sectors_text};
+ghost use Rattle.stack_session.specs.Texts.{busy_text, loaded_text, fault_text, load_refusal_text, removed_text, removal_text, ticket_text, more_reply, no_ticket_text, written_text, submit_text, reply_text, sector_line, moved_text, digits_line, sectors_text};
 ghost use Rattle.stack_session.specs.Replies.{cost_of};
 
 use counted_io::{Counted, WriteFault};
@@ -40,7 +40,7 @@ pub fn say_text_fault<W: Write>(writer: &mut Counted<W>, fault: TextFault) -> Re
 
 /// `refused K NAME device D line L`
 pub fn say_refusal<W: Write>(writer: &mut Counted<W>, refusal: Refusal) -> Result<(), WriteFault>
-    ensures { Writes W.contents writer.old writer.new (refusal_text refusal) result }
+    ensures { Writes W.contents writer.old writer.new (load_refusal_text refusal) result }
 {
     let Refusal { kind, device, line } = refusal;
     let (number, name) = (kind.number(), kind.name());
@@ -57,7 +57,7 @@ pub fn say_ticket<W: Write>(writer: &mut Counted<W>, ticket: Ticket) -> Result<(
 
 /// `more`
 pub fn say_more<W: Write>(writer: &mut Counted<W>) -> Result<(), WriteFault>
-    ensures { Writes W.contents writer.old writer.new more_text result }
+    ensures { Writes W.contents writer.old writer.new more_reply result }
 {
     writer.put(b"more\n")
 }

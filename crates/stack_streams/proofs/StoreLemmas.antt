@@ -11,7 +11,7 @@ use Rattle.stack_engine.proofs.lemmas.WritePieceLemmas.{write-none, write-then}
 use Rattle.stack_streams.specs.declared.fault.StoreCause.{StoreCause}
 use Rattle.stack_streams.specs.declared.fault.StoreCause.TheVariants as cause
 use Rattle.stack_streams.specs.declared.fault.StoreFault.{StoreFault}
-use Rattle.stack_streams.specs.Stores.{HasStored, IsProbeEnd, LastEnds, StopsAt, StoreSide, StoresPiece, store_side, whole_of}
+use Rattle.stack_streams.specs.Stores.{HasStored, IsProbeEnd, LastEnds, StopsStore, StoreSide, StoresPiece, store_side, whole_of}
 
 -- bytes that were taken at once, as if in two parts
 pub consumes-part : (a c : Option (List ℕ)) (x y : List ℕ) → Consumes a c (x ++ y) → Consumes a (prepend_known y c) x
@@ -62,7 +62,7 @@ module _ (d first k : ℕ) (old mid : StoreSide) (p : HasStored d first k old mi
 
   -- or aren't, or aren't written
   pub last-err : (bytes : List ℕ) (stack : StackRecord) (input : Option (List ℕ)) (broken : Type 0) (n : ℕ) (why : StoreCause) → Consumes mid.input input bytes → IsAtEnd input
-      → LastEnds d (first + k) bytes mid.stack stack k n why → StopsAt d first n old (store_side stack input) broken why
+      → LastEnds d (first + k) bytes mid.stack stack k n why → StopsStore d first n old (store_side stack input) broken why
   last-err bytes stack input broken n cause.PartSector taken ended h =
       let part : List ℕ = drop (length bytes / 512 * 512) bytes in
       let whole : List ℕ = whole_of bytes in
@@ -108,7 +108,7 @@ module _ (d first k : ℕ) (old mid : StoreSide) (p : HasStored d first k old mi
     taken = subst (λ (l : List ℕ). Consumes old.input input l) (append-nil p.bytes) (Consumes-trans old.input mid.input input p.bytes [] p.taken none);
   }
 
-  pub probe-err : (input : Option (List ℕ)) (broken : Type 0) (n : ℕ) (why : StoreCause) → n ≡ k → first + k ≡ size old.stack.config (mapped d) → IsProbeEnd mid.input input broken why → StopsAt d first n old (store_side mid.stack input) broken why
+  pub probe-err : (input : Option (List ℕ)) (broken : Type 0) (n : ℕ) (why : StoreCause) → n ≡ k → first + k ≡ size old.stack.config (mapped d) → IsProbeEnd mid.input input broken why → StopsStore d first n old (store_side mid.stack input) broken why
   probe-err input broken n cause.TooLong is full h = (
     h.0,
     h.1,

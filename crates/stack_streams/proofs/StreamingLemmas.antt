@@ -9,12 +9,12 @@ use Rattle.stack_streams.specs.declared.fault.StoreCause.TheVariants as cause
 use Rattle.stack_streams.specs.declared.fault.StoreFault.{StoreFault}
 use Rattle.stack_streams.specs.declared.input.StorePlace.{StorePlace}
 use Rattle.stack_streams.specs.Cats.{IsCat, IsCatEnd, cat_side}
-use Rattle.stack_streams.specs.Stores.{IsStoreEnd, StopsAt, StoreSide}
+use Rattle.stack_streams.specs.Stores.{IsStoreEnd, StopsStore, StoreSide}
 use Rattle.stack_streams.specs.declared.fault.StreamFault.TheVariants.{Cat}
-use Rattle.stack_making.specs.NamedDevices.{DeviceWords, Finds, Place}
+use Rattle.stack_making.specs.NamedDevices.{DeviceWords, FindsDevice, DevicePlace}
 use Rattle.stack_streams.specs.Streaming.{FailsToCat, PrintsBytes, count_from}
 
-module _ {S D : Type 0} (w : Calls S D) (words : DeviceWords) (at : Place) (found : Finds w words at) (first n : ℕ) (count : Option ℕ)
+module _ {S D : Type 0} (w : Calls S D) (words : DeviceWords) (at : DevicePlace) (found : FindsDevice w words at) (first n : ℕ) (count : Option ℕ)
     (is : n ≡ count_from count first (size at.stack.config (mapped at.d))) (old new : Option (List ℕ)) (left : StackRecord) where
   pub bytes-printed : IsCat at.d first n (cat_side at.stack old) (cat_side left new) → PrintsBytes w words first count old new
   bytes-printed done = record {
@@ -34,7 +34,7 @@ module _ {S D : Type 0} (w : Calls S D) (words : DeviceWords) (at : Place) (foun
   }
 
 -- what ended it holds whether the reader is broken or not
-stop-told : (d first n : ℕ) (old new : StoreSide) (broken : Type 0) (why : StoreCause) → StopsAt d first n old new broken why → StopsAt d first n old new (Unit {0}) why
+stop-told : (d first n : ℕ) (old new : StoreSide) (broken : Type 0) (why : StoreCause) → StopsStore d first n old new broken why → StopsStore d first n old new (Unit {0}) why
 stop-told d first n old new broken cause.ReadOnly ends = ends
 stop-told d first n old new broken cause.Range ends = ends
 stop-told d first n old new broken cause.Length ends = ends

@@ -8,7 +8,7 @@ use Rattle.stack_streams.specs.declared.fault.StoreCause.{StoreCause}
 use Rattle.stack_streams.specs.declared.fault.StoreCause.TheVariants as cause
 use Rattle.stack_streams.specs.declared.fault.StoreFault.{StoreFault}
 use Rattle.stack_streams.specs.declared.input.StorePlace.{StorePlace}
-use Rattle.stack_streams.specs.Stores.{IsSynced, IsUnsynced, refusal_of}
+use Rattle.stack_streams.specs.Stores.{IsSynced, IsStoreUnsynced, put_refusal}
 
 -- all sectors of a source are to come behind that one
 abbrev pub image_place : ℕ → Device → StorePlace
@@ -40,17 +40,17 @@ ImageStopsAt d first n w source w' source' other = ⊥
 pub record IsImageSyncStop (d first : ℕ) (w : StackRecord) (source : Device) (w' : StackRecord) (fault : StoreFault) : Type 0 where
   pub left : StackRecord
   pub stored : HasStoredImage d first fault.written w source left
-  pub unsynced : IsUnsynced fault.cause left w'
+  pub unsynced : IsStoreUnsynced fault.cause left w'
 
 -- or it was known before, and nothing was done
 pub record IsImageRefused (d first : ℕ) (w : StackRecord) (source : Device) (w' : StackRecord) (source' : Device) (fault : StoreFault) : Type 0 where
-  pub why : refusal_of w.config d (image_place first source) ≡ Some fault.cause
+  pub why : put_refusal w.config d (image_place first source) ≡ Some fault.cause
   pub none : fault.written ≡ 0
   pub same : w' ≡ w
   pub unread : source' ≡ source
 
-abbrev pub IsImageEnd : ℕ → ℕ → StackRecord → Device → StackRecord → Device → StoreFault → Type 0
-IsImageEnd d first w source w' source' fault =
+abbrev pub IsStoredEnd : ℕ → ℕ → StackRecord → Device → StackRecord → Device → StoreFault → Type 0
+IsStoredEnd d first w source w' source' fault =
     IsImageRefused d first w source w' source' fault
     ⊎ (ImageStopsAt d first fault.written w source w' source' fault.cause ⊎ IsImageSyncStop d first w source w' fault)
 

@@ -12,16 +12,16 @@ use Rattle.stack_opening.specs.OpenStacks.{FailsToOpenBeside, OpensBeside}
 use Rattle.stack_streams.specs.declared.device_in.Target.{Target}
 use Rattle.stack_streams.specs.declared.fault.StoreCause.TheVariants.{Length}
 use Rattle.stack_streams.specs.declared.fault.StoreFault.{StoreFault}
-use Rattle.stack_streams.specs.Images.{IsImageEnd, StoresImage}
+use Rattle.stack_streams.specs.Images.{IsStoredEnd, StoresImage}
 use Rattle.stack_streams.specs.declared.fault.StreamFault.{StreamFault}
 use Rattle.stack_streams.specs.declared.fault.StreamFault.TheVariants.{Store}
-use Rattle.stack_streams.specs.Streaming.{IsStackless, IsUnwritten, words_to}
+use Rattle.stack_streams.specs.Streaming.{IsStackless, IsStreamUnwritten, words_to}
 use Rattle.stack_streams.specs.StreamTexts.{stored_text}
 use Rattle.stack_making.specs.declared.fault.StackFault.{StackFault}
 use Rattle.stack_making.specs.declared.fault.StackFault.TheVariants.{Open}
 use Rattle.stack_making.specs.Closings.{IsGivenBack}
 use Rattle.stack_making.specs.Endings.{IsOpeningEnd}
-use Rattle.stack_making.specs.NamedDevices.{DeviceWords, FailsToFind, HasDevice, Place}
+use Rattle.stack_making.specs.NamedDevices.{DeviceWords, FailsToFind, HasDevice, DevicePlace}
 
 -- a stack file, the name of one of its devices, bindings, the source, and the first sector that is written
 pub record FileWords : Type 0 where
@@ -36,21 +36,21 @@ abbrev pub words_to_store : StackFile → Target → List ℕ → FileWords
 words_to_store file target source = file_words (words_to file target) source target.first
 
 -- all was opened, SOURCE to be read alone, and whether it ends inside a sector was told
-pub record OpensFile {S D : Type 0} (w : Calls S D) (words : FileWords) (over : OpenStack D) (image : OpenImage D) (part : Bool) : Type 0 where
+pub record OpensSourceFile {S D : Type 0} (w : Calls S D) (words : FileWords) (over : OpenStack D) (image : OpenImage D) (part : Bool) : Type 0 where
   pub between : S
   pub opened : OpensBeside (record w { new = between }) words.words.words words.source false over image
   pub measured : w.relations.measures between words.source (Ok part) w.new
 
 -- and there is such a device
-pub record FindsTarget {S D : Type 0} (w : Calls S D) (words : FileWords) (at : Place) (image : OpenImage D) (part : Bool) : Type 0 where
+pub record FindsTarget {S D : Type 0} (w : Calls S D) (words : FileWords) (at : DevicePlace) (image : OpenImage D) (part : Bool) : Type 0 where
   pub over : OpenStack D
-  pub opened : OpensFile w words over image part
+  pub opened : OpensSourceFile w words over image part
   pub has : HasDevice w.state words.words.name over words.words.cache at
 
 -- All sectors of SOURCE, which ends with a whole one, were written to the device, n of them, and are on the media. What then
 -- stood in the images of the bindings was given back.
 pub record StoresFile {S D : Type 0} (w : Calls S D) (words : FileWords) (n : ℕ) : Type 0 where
-  pub at : Place
+  pub at : DevicePlace
   pub image : OpenImage D
   pub left : StackRecord
   pub between : S
@@ -66,7 +66,7 @@ pub record PrintsFileStored {S D : Type 0} (w : Calls S D) (words : FileWords) (
 -- a source that ends inside a sector is refused, and nothing is done; or not all sectors of one were stored
 abbrev pub IsWholeEnd : Bool → ℕ → ℕ → StackRecord → Device → StackRecord → Device → StoreFault → Type 0
 IsWholeEnd true d first old source new source' fault = (fault ≡ record { written = 0; cause = Length }) × (new ≡ old) × (source' ≡ source)
-IsWholeEnd false d first old source new source' fault = IsImageEnd d first old source new source' fault
+IsWholeEnd false d first old source new source' fault = IsStoredEnd d first old source new source' fault
 
 -- not all were, and what then stood in the images was given back
 abbrev pub IsFileFault : (StoreFault → Type 0) → StreamFault → Type 0
@@ -74,7 +74,7 @@ IsFileFault Ends (Store fault) = Ends fault
 IsFileFault Ends fault = ⊥
 
 pub record FailsToStoreFile {S D : Type 0} (w : Calls S D) (words : FileWords) (old new : Option (List ℕ)) (fault : StreamFault) : Type 0 where
-  pub at : Place
+  pub at : DevicePlace
   pub image : OpenImage D
   pub part : Bool
   pub left : StackRecord
@@ -90,7 +90,7 @@ abbrev pub IsOpenEnd : List ℕ → (OpenFault → Type 0) → StackFault → Ty
 IsOpenEnd path Fails (Open file) = (file.path.now ≡ path) × Fails file.fault
 IsOpenEnd path Fails fault = ⊥
 
-pub record FailsToMeasure {S D : Type 0} (w : Calls S D) (words : FileWords) (fault : StackFault) : Type 0 where
+pub record FailsToMeasureSource {S D : Type 0} (w : Calls S D) (words : FileWords) (fault : StackFault) : Type 0 where
   pub over : OpenStack D
   pub image : OpenImage D
   pub between : S
@@ -102,17 +102,17 @@ pub record FindsNoTarget {S D : Type 0} (w : Calls S D) (words : FileWords) (fau
   pub over : OpenStack D
   pub image : OpenImage D
   pub part : Bool
-  pub opened : OpensFile w words over image part
+  pub opened : OpensSourceFile w words over image part
   pub fails : FailsToFind words.words.name over fault
 
 -- nothing is written where it isn't begun
 abbrev pub IsUnstored : {S D : Type 0} → Calls S D → FileWords → StackFault → Type 0
 IsUnstored w words fault =
-    IsOpeningEnd (FailsToOpenBeside w words.words.words words.source false) fault ⊎ (FailsToMeasure w words fault ⊎ FindsNoTarget w words fault)
+    IsOpeningEnd (FailsToOpenBeside w words.words.words words.source false) fault ⊎ (FailsToMeasureSource w words fault ⊎ FindsNoTarget w words fault)
 
 abbrev pub IsFileEnd : {S D : Type 0} → Calls S D → FileWords → Option (List ℕ) → Option (List ℕ) → Bool → StreamFault → Type 0
 IsFileEnd w words old new failed fault =
-    ((new ≡ old) × IsStackless (IsUnstored w words) fault) ⊎ (FailsToStoreFile w words old new fault ⊎ ((n : ℕ) × StoresFile w words n × IsUnwritten failed fault))
+    ((new ≡ old) × IsStackless (IsUnstored w words) fault) ⊎ (FailsToStoreFile w words old new fault ⊎ ((n : ℕ) × StoresFile w words n × IsStreamUnwritten failed fault))
 
 -- ---- as a call sees them
 

@@ -23,8 +23,8 @@ length_refusal sectors None = None
 length_refusal sectors (Some bytes) = if not (bytes % 512 == 0) then Some cause.Length else if nat_lt sectors (bytes / 512) then Some cause.Range else None
 
 -- why nothing is written: the first of these reasons
-abbrev pub refusal_of : Configuration → ℕ → StorePlace → Option StoreCause
-refusal_of c d place =
+abbrev pub put_refusal : Configuration → ℕ → StorePlace → Option StoreCause
+put_refusal c d place =
     if not (may_write c (mapped d)) then Some cause.ReadOnly
     else if nat_lt (size c (mapped d)) place.first then Some cause.Range
     else length_refusal (size c (mapped d) - place.first) place.length
@@ -79,37 +79,37 @@ pub record IsWriteStop (d first n : ℕ) (old new : StoreSide) (fault : IoFault)
   pub failed : EachWrite left.stack d (first + n) piece (Err fault) new.stack
 
 -- all was written, and a leaf couldn't be synced
-abbrev pub IsUnsynced : StoreCause → StackRecord → StackRecord → Type 0
-IsUnsynced (cause.Sync fault) old new = (new.config ≡ old.config) × (new.capacity ≡ old.capacity) × (new.kept ≡ old.kept) × FailsToSync old.leaves new.leaves fault
-IsUnsynced other old new = ⊥
+abbrev pub IsStoreUnsynced : StoreCause → StackRecord → StackRecord → Type 0
+IsStoreUnsynced (cause.Sync fault) old new = (new.config ≡ old.config) × (new.capacity ≡ old.capacity) × (new.kept ≡ old.kept) × FailsToSync old.leaves new.leaves fault
+IsStoreUnsynced other old new = ⊥
 
 -- why it ended early behind so many sectors, where the reader may be broken
-abbrev pub StopsAt : ℕ → ℕ → ℕ → StoreSide → StoreSide → Type 0 → StoreCause → Type 0
-StopsAt d first n old new broken cause.TooLong = (more : List ℕ) × (0 < length more) × IsLeftOver d first n old new more × (first + n ≡ size old.stack.config (mapped d))
-StopsAt d first n old new broken cause.PartSector = (more : List ℕ) × (0 < length more) × (length more < 512) × IsLeftOver d first n old new more × IsAtEnd new.input
-StopsAt d first n old new broken cause.Read = (more : List ℕ) × IsLeftOver d first n old new more × broken
-StopsAt d first n old new broken (cause.Write fault) = IsWriteStop d first n old new fault
-StopsAt d first n old new broken other = ⊥
+abbrev pub StopsStore : ℕ → ℕ → ℕ → StoreSide → StoreSide → Type 0 → StoreCause → Type 0
+StopsStore d first n old new broken cause.TooLong = (more : List ℕ) × (0 < length more) × IsLeftOver d first n old new more × (first + n ≡ size old.stack.config (mapped d))
+StopsStore d first n old new broken cause.PartSector = (more : List ℕ) × (0 < length more) × (length more < 512) × IsLeftOver d first n old new more × IsAtEnd new.input
+StopsStore d first n old new broken cause.Read = (more : List ℕ) × IsLeftOver d first n old new more × broken
+StopsStore d first n old new broken (cause.Write fault) = IsWriteStop d first n old new fault
+StopsStore d first n old new broken other = ⊥
 
 abbrev pub IsStoreStop : ℕ → ℕ → StoreSide → StoreSide → Type 0 → StoreFault → Type 0
-IsStoreStop d first old new broken fault = StopsAt d first fault.written old new broken fault.cause
+IsStoreStop d first old new broken fault = StopsStore d first fault.written old new broken fault.cause
 
 -- nothing was written to the media: the fault was known before, and nothing was done; or all but the sync was
-pub record IsRefused (d : ℕ) (place : StorePlace) (old new : StoreSide) (fault : StoreFault) : Type 0 where
+pub record IsStoreRefused (d : ℕ) (place : StorePlace) (old new : StoreSide) (fault : StoreFault) : Type 0 where
   pub none : fault.written ≡ 0
   pub same : new ≡ old
-  pub why : refusal_of old.stack.config d place ≡ Some fault.cause
+  pub why : put_refusal old.stack.config d place ≡ Some fault.cause
 
 pub record IsSyncStop (d first : ℕ) (old new : StoreSide) (fault : StoreFault) : Type 0 where
   pub left : StackRecord
   pub stored : HasStored d first fault.written old (store_side left new.input)
   pub ended : IsAtEnd new.input
-  pub unsynced : IsUnsynced fault.cause left new.stack
+  pub unsynced : IsStoreUnsynced fault.cause left new.stack
 
 -- one of the three
 abbrev pub IsStoreEnd : ℕ → StorePlace → StoreSide → StoreSide → Type 0 → StoreFault → Type 0
 IsStoreEnd d place old new broken fault =
-    IsRefused d place old new fault ⊎ (IsStoreStop d place.first old new broken fault ⊎ IsSyncStop d place.first old new fault)
+    IsStoreRefused d place old new fault ⊎ (IsStoreStop d place.first old new broken fault ⊎ IsSyncStop d place.first old new fault)
 
 -- ---- on the way
 

@@ -12,11 +12,11 @@ use Rattle.stack_streams.specs.declared.fault.StoreCause.TheVariants as store
 use Rattle.stack_streams.specs.declared.fault.StoreFault.{StoreFault}
 
 -- what can't be asked for, as of a request
-abbrev pub request_text : SubmitFault → List ℕ
-request_text fault = refused_text (submit_number fault) (submit_name fault)
+abbrev pub refused_request_text : SubmitFault → List ℕ
+refused_request_text fault = refused_text (submit_number fault) (submit_name fault)
 
 abbrev pub cat_text : CatFault → List ℕ
-cat_text cat.Range = request_text submit.OutOfRange
+cat_text cat.Range = refused_request_text submit.OutOfRange
 cat_text (cat.Read fault) = io_text fault
 cat_text cat.Write = []
 
@@ -33,18 +33,18 @@ stored_text n = codes "written " ++ (decimal n ++ codes "\n")
 unfoldable pub late_text : ℕ → List ℕ → List ℕ
 late_text n line = stored_text n ++ line
 
-abbrev pub cause_text : ℕ → StoreCause → List ℕ
-cause_text n store.ReadOnly = request_text submit.ReadOnly
-cause_text n store.Range = request_text submit.OutOfRange
-cause_text n store.Length = request_text submit.Length
-cause_text n store.TooLong = late_text n (codes "refused 7 TooLong\n")
-cause_text n store.PartSector = late_text n (codes "refused 8 PartSector\n")
-cause_text n store.Read = late_text n (codes "refused 9 Input\n")
-cause_text n (store.Write fault) = stored_text n ++ io_text fault
-cause_text n (store.Sync fault) = stored_text n ++ io_text fault
+abbrev pub store_cause_text : ℕ → StoreCause → List ℕ
+store_cause_text n store.ReadOnly = refused_request_text submit.ReadOnly
+store_cause_text n store.Range = refused_request_text submit.OutOfRange
+store_cause_text n store.Length = refused_request_text submit.Length
+store_cause_text n store.TooLong = late_text n (codes "refused 7 TooLong\n")
+store_cause_text n store.PartSector = late_text n (codes "refused 8 PartSector\n")
+store_cause_text n store.Read = late_text n (codes "refused 9 Input\n")
+store_cause_text n (store.Write fault) = stored_text n ++ io_text fault
+store_cause_text n (store.Sync fault) = stored_text n ++ io_text fault
 
 abbrev pub store_text : StoreFault → List ℕ
-store_text fault = cause_text fault.written fault.cause
+store_text fault = store_cause_text fault.written fault.cause
 
 abbrev pub cause_status : StoreCause → ℕ
 cause_status (store.Write io.NoMemory) = 1

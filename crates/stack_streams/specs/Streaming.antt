@@ -17,7 +17,7 @@ use Rattle.stack_streams.specs.declared.fault.StreamFault.TheVariants.{Cat, Stac
 use Rattle.stack_streams.specs.StreamTexts.{stored_text}
 use Rattle.stack_making.specs.declared.fault.StackFault.{StackFault}
 use Rattle.stack_making.specs.Closings.{IsGivenBack}
-use Rattle.stack_making.specs.NamedDevices.{DeviceWords, FailsToFindDevice, Finds, Place, device_words}
+use Rattle.stack_making.specs.NamedDevices.{DeviceWords, FailsToFindDevice, FindsDevice, DevicePlace, device_words}
 use Rattle.stack_opening.specs.declared.stack_file.StackFile.{StackFile}
 use Rattle.stack_opening.specs.OpenStacks.{stack_words}
 
@@ -34,9 +34,9 @@ IsStackless Fails (Stack fault) = Fails fault
 IsStackless Fails fault = ⊥
 
 -- a line can't be written: the writer failed
-abbrev pub IsUnwritten : Bool → StreamFault → Type 0
-IsUnwritten failed Write = failed ≡ true
-IsUnwritten failed fault = ⊥
+abbrev pub IsStreamUnwritten : Bool → StreamFault → Type 0
+IsStreamUnwritten failed Write = failed ≡ true
+IsStreamUnwritten failed fault = ⊥
 
 -- ---- `cat`
 
@@ -46,15 +46,15 @@ count_from None first sectors = sectors - first
 count_from (Some count) first sectors = count
 
 -- which sectors of a device those are
-abbrev pub wanted_of : Place → ℕ → Option ℕ → SectorRange
-wanted_of at first count = record { first = first; count = count_from count first (size at.stack.config (mapped at.d)) }
+abbrev pub wanted_sectors : DevicePlace → ℕ → Option ℕ → SectorRange
+wanted_sectors at first count = record { first = first; count = count_from count first (size at.stack.config (mapped at.d)) }
 
 -- their bytes were written, and nothing else
 pub record PrintsBytes {S D : Type 0} (w : Calls S D) (words : DeviceWords) (first : ℕ) (count : Option ℕ) (old new : Option (List ℕ)) : Type 0 where
-  pub at : Place
+  pub at : DevicePlace
   pub left : StackRecord
-  pub found : Finds w words at
-  pub written : IsCat at.d first (wanted_of at first count).count (cat_side at.stack old) (cat_side left new)
+  pub found : FindsDevice w words at
+  pub written : IsCat at.d first (wanted_sectors at first count).count (cat_side at.stack old) (cat_side left new)
 
 -- not all of them were
 abbrev pub IsCatFault : ℕ → SectorRange → CatSide → CatSide → Bool → StreamFault → Type 0
@@ -62,10 +62,10 @@ IsCatFault d range old new failed (Cat fault) = IsCatEnd d range old new failed 
 IsCatFault d range old new failed fault = ⊥
 
 pub record FailsToCat {S D : Type 0} (w : Calls S D) (words : DeviceWords) (first : ℕ) (count : Option ℕ) (old new : Option (List ℕ)) (failed : Bool) (fault : StreamFault) : Type 0 where
-  pub at : Place
+  pub at : DevicePlace
   pub left : StackRecord
-  pub found : Finds w words at
-  pub fails : IsCatFault at.d (wanted_of at first count) (cat_side at.stack old) (cat_side left new) failed fault
+  pub found : FindsDevice w words at
+  pub fails : IsCatFault at.d (wanted_sectors at first count) (cat_side at.stack old) (cat_side left new) failed fault
 
 -- nothing is written where the stack isn't loaded or has no such device
 abbrev pub IsBytesEnd : {S D : Type 0} → Calls S D → DeviceWords → ℕ → Option ℕ → Option (List ℕ) → Option (List ℕ) → Bool → StreamFault → Type 0
@@ -73,14 +73,14 @@ IsBytesEnd w words first count old new failed fault =
     ((new ≡ old) × IsStackless (FailsToFindDevice w words) fault) ⊎ FailsToCat w words first count old new failed fault
 
 -- the sectors that are wanted, as words name them
-abbrev pub words_for : StackFile → Wanted → DeviceWords
-words_for file wanted = device_words (stack_words file) wanted.name.now wanted.cache
+abbrev pub wanted_words : StackFile → Wanted → DeviceWords
+wanted_words file wanted = device_words (stack_words file) wanted.name.now wanted.cache
 
 abbrev pub PrintsWanted : {S D : Type 0} → Calls S D → StackFile → Wanted → Option (List ℕ) → Option (List ℕ) → Type 0
-PrintsWanted w file wanted old new = PrintsBytes w (words_for file wanted) wanted.first wanted.count old new
+PrintsWanted w file wanted old new = PrintsBytes w (wanted_words file wanted) wanted.first wanted.count old new
 
 abbrev pub IsWantedEnd : {S D : Type 0} → Calls S D → StackFile → Wanted → Option (List ℕ) → Option (List ℕ) → Bool → StreamFault → Type 0
-IsWantedEnd w file wanted old new failed fault = IsBytesEnd w (words_for file wanted) wanted.first wanted.count old new failed fault
+IsWantedEnd w file wanted old new failed fault = IsBytesEnd w (wanted_words file wanted) wanted.first wanted.count old new failed fault
 
 -- ---- `store`
 
@@ -91,10 +91,10 @@ place_from first = record { first = first; length = None }
 -- All bytes of the input were written to the device, those of n sectors, and are on the media. What then stood in the images
 -- was given back.
 pub record StoresInput {S D : Type 0} (w : Calls S D) (words : DeviceWords) (first : ℕ) (old new : Streams) (n : ℕ) : Type 0 where
-  pub at : Place
+  pub at : DevicePlace
   pub left : StackRecord
   pub between : S
-  pub found : Finds (record w { new = between }) words at
+  pub found : FindsDevice (record w { new = between }) words at
   pub stored : Stores at.d first (store_side at.stack old.input) (store_side left new.input) n
   pub back : IsGivenBack (record w { old = between }) words.words.bindings left.leaves
 
@@ -110,10 +110,10 @@ IsStoreFault d place old new fault = ⊥
 
 -- and what then stood in the images was given back
 pub record FailsToStore {S D : Type 0} (w : Calls S D) (words : DeviceWords) (first : ℕ) (old new : Streams) (fault : StreamFault) : Type 0 where
-  pub at : Place
+  pub at : DevicePlace
   pub left : StackRecord
   pub between : S
-  pub found : Finds (record w { new = between }) words at
+  pub found : FindsDevice (record w { new = between }) words at
   pub fails : IsStoreFault at.d (place_from first) (store_side at.stack old.input) (store_side left new.input) fault
   pub quiet : new.output ≡ old.output
   pub back : IsGivenBack (record w { old = between }) words.words.bindings left.leaves
@@ -122,26 +122,26 @@ pub record FailsToStore {S D : Type 0} (w : Calls S D) (words : DeviceWords) (fi
 abbrev pub IsStoringEnd : {S D : Type 0} → Calls S D → DeviceWords → ℕ → Streams → Streams → Bool → StreamFault → Type 0
 IsStoringEnd w words first old new failed fault =
     ((new ≡ old) × IsStackless (FailsToFindDevice w words) fault)
-    ⊎ (FailsToStore w words first old new fault ⊎ ((n : ℕ) × StoresInput w words first old new n × IsUnwritten failed fault))
+    ⊎ (FailsToStore w words first old new fault ⊎ ((n : ℕ) × StoresInput w words first old new n × IsStreamUnwritten failed fault))
 
 -- a counted reader and a counted writer, and what a proof sees of them
-pub record Ends (R W : Type 0) : Type 0 where
+pub record StreamEnds (R W : Type 0) : Type 0 where
   pub reader : CountedRecord R
   pub writer : CountedRecord W
 
-abbrev pub ends : {R W : Type 0} → CountedRecord R → CountedRecord W → Ends R W
+abbrev pub ends : {R W : Type 0} → CountedRecord R → CountedRecord W → StreamEnds R W
 ends reader writer = record { reader = reader; writer = writer }
 
-abbrev pub streams_of : {R W : Type 0} → (R → Option (List ℕ)) → (W → Option (List ℕ)) → Ends R W → Streams
+abbrev pub streams_of : {R W : Type 0} → (R → Option (List ℕ)) → (W → Option (List ℕ)) → StreamEnds R W → Streams
 streams_of remaining contents e = streams (remaining e.reader.inner) (contents e.writer.inner)
 
 -- where bytes go, as words name it
 abbrev pub words_to : StackFile → Target → DeviceWords
 words_to file target = device_words (stack_words file) target.name.now target.cache
 
-abbrev pub StoresTarget : {S D R W : Type 0} → Calls S D → StackFile → Target → (R → Option (List ℕ)) → (W → Option (List ℕ)) → Ends R W → Ends R W → Type 0
+abbrev pub StoresTarget : {S D R W : Type 0} → Calls S D → StackFile → Target → (R → Option (List ℕ)) → (W → Option (List ℕ)) → StreamEnds R W → StreamEnds R W → Type 0
 StoresTarget w file target remaining contents old new = PrintsStored w (words_to file target) target.first (streams_of remaining contents old) (streams_of remaining contents new)
 
-abbrev pub IsTargetEnd : {S D R W : Type 0} → Calls S D → StackFile → Target → (R → Option (List ℕ)) → (W → Option (List ℕ)) → Ends R W → Ends R W → StreamFault → Type 0
+abbrev pub IsTargetEnd : {S D R W : Type 0} → Calls S D → StackFile → Target → (R → Option (List ℕ)) → (W → Option (List ℕ)) → StreamEnds R W → StreamEnds R W → StreamFault → Type 0
 IsTargetEnd w file target remaining contents old new fault =
     IsStoringEnd w (words_to file target) target.first (streams_of remaining contents old) (streams_of remaining contents new) new.writer.failed fault

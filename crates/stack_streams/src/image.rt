@@ -1,8 +1,8 @@
 //! Writes the sectors of another device to a mapped device.
 ghost use Rattle.std.specs.Prelude.{◌≡◌, ◌+◌, ◌≤◌, ◌<◌, length, IsTrue, None, IsOk, IfOk, IfErr};
 ghost use Rattle.stack_rules.specs.Names.{mapped, may_write, size};
-ghost use Rattle.stack_streams.specs.Images.{HasStoredAll, IsImageEnd, StopsImage, StoresImage, image_place};
-ghost use Rattle.stack_streams.specs.Stores.{refusal_of};
+ghost use Rattle.stack_streams.specs.Images.{HasStoredAll, IsStoredEnd, StopsImage, StoresImage, image_place};
+ghost use Rattle.stack_streams.specs.Stores.{put_refusal};
 
 use crate::fault::{StoreCause, StoreFault};
 use crate::input::{MOST_PIECE, ROOM, StorePlace, refusal_of, sync_stored, tell};
@@ -22,8 +22,8 @@ pub fn store_image<D: SyncDev, S: BlockDev, P: Progress>(
 ) -> Result<u64, StoreFault>
     requires { d.0 < length stack.old.config.devices }
     ensures ok { IfOk result (StoresImage d.0 first stack.old (S.state source.old) stack.new) }
-    ensures err { IfErr result (IsImageEnd d.0 first stack.old (S.state source.old) stack.new (S.state source.new)) }
-    ensures fits { IsOk result → refusal_of stack.old.config d.0 (image_place first (S.state source.old)) ≡ None }
+    ensures err { IfErr result (IsStoredEnd d.0 first stack.old (S.state source.old) stack.new (S.state source.new)) }
+    ensures fits { IsOk result → put_refusal stack.old.config d.0 (image_place first (S.state source.old)) ≡ None }
 {
     let sectors = source.sectors();
     let place = StorePlace {

@@ -2,7 +2,7 @@
 ghost use Rattle.std.specs.Prelude.{◌≡◌, ◌≢◌, ◌+◌, ◌/◌, ◌%◌, ◌≤◌, ◌<◌, ◌^◌, length, IsTrue, None, Err, IsOk, OnOk, IfOk, IfErr};
 ghost use Rattle.stack_rules.specs.Names.{mapped, may_write, size};
 ghost use Rattle.stack_engine.specs.WritePieces.{EachWrite};
-ghost use Rattle.stack_streams.specs.Stores.{EndsStoreBy, EndsThere, GoesFurther, HasStoredBy, IsLastEnd, IsSynced, IsUnsynced, StopsStoreBy, StoresBy, StoresLast, StoresPiece, refusal_of};
+ghost use Rattle.stack_streams.specs.Stores.{EndsStoreBy, EndsThere, GoesFurther, HasStoredBy, IsLastEnd, IsSynced, IsStoreUnsynced, StopsStoreBy, StoresBy, StoresLast, StoresPiece, put_refusal};
 
 use crate::fault::{StoreCause, StoreFault};
 use crate::filling::fill;
@@ -29,7 +29,7 @@ pub(crate) const MOST_PIECE: u64 = 128;
 // Why nothing is written, as far as that is known before.
 pub(crate) fn refusal_of(config: &Config, d: DevId, place: StorePlace) -> Option<StoreCause>
     requires { d.0 < length config.now.devices }
-    ensures { result ≡ refusal_of config.now d.0 place }
+    ensures { result ≡ put_refusal config.now d.0 place }
 {
     if !config.writable(d) {
         return Some(StoreCause::ReadOnly);
@@ -61,8 +61,8 @@ pub fn store<D: SyncDev, R: Read, P: Progress>(
     requires { d.0 < length stack.old.config.devices }
     ensures ok { IfOk result (StoresBy R.remaining d.0 place stack.old reader.old stack.new reader.new) }
     ensures err { IfErr result (EndsStoreBy R.remaining d.0 place stack.old reader.old stack.new reader.new) }
-    ensures fits { IsOk result → refusal_of stack.old.config d.0 place ≡ None }
-    ensures untouched { refusal_of stack.old.config d.0 place ≢ None → (reader.new ≡ reader.old) × (stack.new ≡ stack.old) }
+    ensures fits { IsOk result → put_refusal stack.old.config d.0 place ≡ None }
+    ensures untouched { put_refusal stack.old.config d.0 place ≢ None → (reader.new ≡ reader.old) × (stack.new ≡ stack.old) }
 {
     match refusal_of(stack.config(), d, place) {
         Some(cause) => Err(StoreFault { written: 0, cause }),
@@ -79,7 +79,7 @@ pub fn store<D: SyncDev, R: Read, P: Progress>(
 // Has what was written put on the media.
 pub(crate) fn sync_stored<D: SyncDev>(stack: &mut Stack<D>, written: u64) -> Result<u64, StoreFault>
     ensures ok { IfOk result (λ n. (n ≡ written) × IsSynced stack.old stack.new) }
-    ensures err { IfErr result (λ fault. (fault.written ≡ written) × IsUnsynced fault.cause stack.old stack.new) }
+    ensures err { IfErr result (λ fault. (fault.written ≡ written) × IsStoreUnsynced fault.cause stack.old stack.new) }
 {
     match stack.sync() {
         Ok(()) => Ok(written),

@@ -1,7 +1,7 @@
 //! What is printed where bytes of a device are read or stored.
 ghost use Rattle.std.specs.Prelude.{◌≡◌};
 ghost use Rattle.counted_io.specs.Counted.{Writes};
-ghost use Rattle.stack_streams.specs.StreamTexts.{cat_text, cause_text, late_text, request_text, store_text, stored_text};
+ghost use Rattle.stack_streams.specs.StreamTexts.{cat_text, store_cause_text, late_text, refused_request_text, store_text, stored_text};
 
 use crate::fault::{CatFault, StoreCause, StoreFault};
 use counted_io::{Counted, WriteFault};
@@ -62,7 +62,7 @@ fn say_request_fault<W: Write>(
     writer: &mut Counted<W>,
     fault: SubmitFault,
 ) -> Result<(), WriteFault>
-    ensures { Writes W.contents writer.old writer.new (request_text fault) result }
+    ensures { Writes W.contents writer.old writer.new (refused_request_text fault) result }
 {
     say_refused(writer, fault.number(), fault.name())
 }

@@ -11,7 +11,7 @@ use Rattle.dm_table.specs.declared.table.Target.TheVariants.{Crypt as crypt_targ
 use Rattle.dm_table.specs.Grammar.{IsCryptOfGrammar, IsTargetOfGrammar, IsLineOfGrammar, IsTableOfGrammar}
 use Rattle.table_printer.specs.ArgumentWords.{crypt_words}
 use Rattle.dm_table.specs.TableText.{table_of}
-use Rattle.table_printer.specs.Print.{target_words, line_text, table_text}
+use Rattle.table_printer.specs.Print.{target_words, line_text, printed_table}
 use Rattle.table_printer.specs.Keys.{crypt_without_key, target_without_key, line_without_key, printed_lines}
 use Rattle.table_printer.proofs.RoundTripLemmas.{table-shown}
 
@@ -60,12 +60,12 @@ line_text-hidden : (line : Line) → line_text false line ≡ line_text true (li
 unfolding line_text
 line_text-hidden line = rw (target_words-hidden line.target) refl
 
-table_text-hidden : (lines : List Line) → table_text false lines ≡ table_text true (map line_without_key lines)
+table_text-hidden : (lines : List Line) → printed_table false lines ≡ printed_table true (map line_without_key lines)
 table_text-hidden [] = refl
 table_text-hidden (line ∷ lines) = rw (line_text-hidden line, table_text-hidden lines) refl
 
 -- what was printed gives the table back, with the keys or without them
-pub table-printed : (show : Bool) (lines : List Line) → IsTableOfGrammar lines → table_of (table_text show lines) ≡ Ok (printed_lines show lines)
+pub table-printed : (show : Bool) (lines : List Line) → IsTableOfGrammar lines → table_of (printed_table show lines) ≡ Ok (printed_lines show lines)
 table-printed true lines h = table-shown lines h
 table-printed false lines h =
     let some = h.some in

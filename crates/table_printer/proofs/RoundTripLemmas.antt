@@ -12,13 +12,13 @@ use Rattle.dm_table.specs.declared.table.Target.{Target}
 use Rattle.dm_table.specs.declared.table.Target.TheVariants as targets
 use Rattle.dm_table.specs.declared.target_type.TargetType.TheVariants as types
 use Rattle.dm_table.specs.declared.fault.TextKind.TheVariants as kinds
-use Rattle.dm_table.specs.Words.{Word, is_white, is_graphic, words, lines_of}
+use Rattle.dm_table.specs.Words.{Word, is_white, is_graphic, words, text_lines}
 use Rattle.dm_table.specs.Numbers.{number_if}
 use Rattle.dm_table.specs.Reading.{◌>>=◌, at_place}
 use Rattle.dm_table.specs.Lines.{linear_at, bases_at, stripes_at, chunk_at, bare_at, line_of}
 use Rattle.dm_table.specs.Grammar.{IsBaseOfGrammar, IsTargetOfGrammar, IsLineOfGrammar, IsTableOfGrammar}
 use Rattle.dm_table.specs.TableText.{is_skipped, table_lines, some_lines, table_of}
-use Rattle.table_printer.specs.Print.{base_words, target_words, line_words, line_text, table_text}
+use Rattle.table_printer.specs.Print.{base_words, target_words, line_words, line_text, printed_table}
 use Rattle.dm_table.proofs.lemmas.ReadLineLemmas.{striped-bases, line-target}
 use Rattle.dm_table.proofs.lemmas.ReadLineLemmas.{table-lines, table_lines-full, some_lines-some}
 use Rattle.table_printer.proofs.PrintedLemmas.{ArePrinted, words-joined, text-joined, one_line-joined, printed-decimal, number-decimal, number_at-decimal, digit-no_comment, printed-device, base_at-printed}
@@ -97,38 +97,38 @@ line-kept line h =
     ap is_skipped (words-line line h) ∙ digit-no_comment (decimal line.start) numeral.0.0 numeral.0.1
 
 -- tables
-split-table : (line : Line) (lines : List Line) → IsLineOfGrammar line → slice_split (λ b. eqb b 10) (table_text true (line ∷ lines)) ≡ line_text true line ∷ slice_split (λ b. eqb b 10) (table_text true lines)
+split-table : (line : Line) (lines : List Line) → IsLineOfGrammar line → slice_split (λ b. eqb b 10) (printed_table true (line ∷ lines)) ≡ line_text true line ∷ slice_split (λ b. eqb b 10) (printed_table true lines)
 unfolding line_text
 split-table line lines h =
-    ap (slice_split (λ b. eqb b 10)) (append_assoc (line_text true line) (10 ∷ []) (table_text true lines))
-    ∙ slice_split_at (λ b. eqb b 10) (line_text true line) 10 (table_text true lines) (one_line-joined (decimal line.start) (decimal line.length ∷ target_words true line.target) (printed-line line h)) refl
+    ap (slice_split (λ b. eqb b 10)) (append_assoc (line_text true line) (10 ∷ []) (printed_table true lines))
+    ∙ slice_split_at (λ b. eqb b 10) (line_text true line) 10 (printed_table true lines) (one_line-joined (decimal line.start) (decimal line.length ∷ target_words true line.target) (printed-line line h)) refl
 
-table_lines-printed : (n : ℕ) (lines : List Line) → All IsLineOfGrammar lines → table_lines n (slice_split (λ b. eqb b 10) (table_text true lines)) ≡ Ok lines
+table_lines-printed : (n : ℕ) (lines : List Line) → All IsLineOfGrammar lines → table_lines n (slice_split (λ b. eqb b 10) (printed_table true lines)) ≡ Ok lines
 unfolding words
 table_lines-printed n [] h = refl
 table_lines-printed n (line ∷ lines) h =
     let first = All-head IsLineOfGrammar line lines h in
-    let rest = slice_split (λ b. eqb b 10) (table_text true lines) in
+    let rest = slice_split (λ b. eqb b 10) (printed_table true lines) in
     ap (table_lines n) (split-table line lines first)
     ∙ table_lines-full n (line_text true line) rest (line-kept line first)
     ∙ ap (λ r. at_place 0 n r >>= (λ line. table_lines (n + 1) rest >>= (λ lines. Ok (line ∷ lines)))) (ap line_of (words-line line first) ∙ line-printed line first)
     ∙ ap (λ r. r >>= (λ lines. Ok (line ∷ lines))) (table_lines-printed (n + 1) lines (All-tail IsLineOfGrammar line lines h))
 
-text-table : (lines : List Line) → All IsLineOfGrammar lines → list_all (λ b. is_white b || is_graphic b) (table_text true lines) ≡ true
+text-table : (lines : List Line) → All IsLineOfGrammar lines → list_all (λ b. is_white b || is_graphic b) (printed_table true lines) ≡ true
 unfolding line_text
 text-table [] h = refl
 text-table (line ∷ lines) h =
     let test = λ (b : ℕ). is_white b || is_graphic b in
     let first = text-joined (decimal line.start) (decimal line.length ∷ target_words true line.target) (printed-line line (All-head IsLineOfGrammar line lines h)) in
-    list_all-append test (line_text true line ++ 10 ∷ []) (table_text true lines)
+    list_all-append test (line_text true line ++ 10 ∷ []) (printed_table true lines)
     ∙ and_from _ _ (list_all-append test (line_text true line) (10 ∷ []) ∙ and_from _ _ first refl) (text-table lines (All-tail IsLineOfGrammar line lines h))
 
 -- what was printed with its keys gives the table back
-pub table-shown : (lines : List Line) → IsTableOfGrammar lines → table_of (table_text true lines) ≡ Ok lines
-unfolding lines_of
+pub table-shown : (lines : List Line) → IsTableOfGrammar lines → table_of (printed_table true lines) ≡ Ok lines
+unfolding text_lines
 table-shown lines h =
     let some = h.some in
-    table-lines (table_text true lines) (text-table lines h.each)
+    table-lines (printed_table true lines) (text-table lines h.each)
     ∙ ap (λ r. r >>= some_lines) (table_lines-printed 1 lines h.each)
     ∙ some_lines-some lines (λ none. omega arith)
 
@@ -143,7 +143,7 @@ text-line line h = text-joined (decimal line.start) (decimal line.length ∷ tar
 
 -- a line that was printed with its key gives the line back
 pub line-shown : (line : Line) → IsLineOfGrammar line → table_of (line_text true line) ≡ Ok (line ∷ [])
-unfolding lines_of
+unfolding text_lines
 line-shown line h =
     table-lines (line_text true line) (text-line line h)
     ∙ ap (λ r. r >>= some_lines) (

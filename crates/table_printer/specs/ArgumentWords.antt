@@ -6,7 +6,7 @@ use Rattle.tree_shape.specs.declared.algorithm.Algorithm.TheVariants.{Sha256}
 use Rattle.tree_shape.specs.Algorithms.{algorithm_name}
 use Rattle.dm_table.specs.declared.crypt.Crypt.{Crypt}
 use Rattle.dm_table.specs.declared.verity.Verity.{Verity}
-use Rattle.dm_table.specs.Crypt.{cipher}
+use Rattle.dm_table.specs.Crypt.{cipher_name}
 use Rattle.dm_table.specs.Verity.{verity_options}
 
 -- options behind their count, and no count where there is none
@@ -21,15 +21,15 @@ key_word show key = if show then encode_lower key else replicate (2 * length key
 -- of a `crypt` line
 unfoldable pub crypt_words : Bool → Crypt → List Word
 crypt_words show crypt =
-    cipher ∷ key_word show crypt.key ∷ decimal crypt.iv_offset ∷ crypt.base.device ∷ decimal crypt.base.offset ∷ options_words crypt.options
+    cipher_name ∷ key_word show crypt.key ∷ decimal crypt.iv_offset ∷ crypt.base.device ∷ decimal crypt.base.offset ∷ options_words crypt.options
 
 -- a salt's digits, or `-` where it is empty
-abbrev pub salt_word : List ℕ → Word
-salt_word [] = codes "-"
-salt_word (byte ∷ more) = encode_lower (byte ∷ more)
+abbrev pub table_salt_word : List ℕ → Word
+table_salt_word [] = codes "-"
+table_salt_word (byte ∷ more) = encode_lower (byte ∷ more)
 
 -- of a `verity` line
 unfoldable pub verity_words : Verity → List Word
 verity_words verity =
     codes "1" ∷ verity.data ∷ verity.hash ∷ decimal verity.data_block ∷ decimal verity.hash_block ∷ decimal verity.blocks ∷ decimal verity.start
-    ∷ algorithm_name Sha256 ∷ encode_lower verity.root ∷ salt_word verity.salt ∷ options_words (verity_options verity.ignore_zero_blocks)
+    ∷ algorithm_name Sha256 ∷ encode_lower verity.root ∷ table_salt_word verity.salt ∷ options_words (verity_options verity.ignore_zero_blocks)

@@ -30,8 +30,8 @@ unfoldable pub line_text : Bool → Line → List ℕ
 line_text show line = join_with_byte 32 (line_words show line)
 
 -- numbers without leading zeros, and a newline after each line
-abbrev pub table_text : Bool → List Line → List ℕ
-table_text show lines = flat_map (λ line. line_text show line ++ 10 ∷ []) lines
+abbrev pub printed_table : Bool → List Line → List ℕ
+printed_table show lines = flat_map (λ line. line_text show line ++ 10 ∷ []) lines
 
 -- a word after a space
 abbrev pub spaced_word : Word → List ℕ

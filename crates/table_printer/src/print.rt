@@ -2,7 +2,7 @@
 ghost use Rattle.std.specs.Prelude.{◌≡◌, ◌∷◌, ◌++◌, [], OnOk, IfOk, Ok, codes, decimal, flat_map, length};
 ghost use Rattle.table_printer.specs.Keys.{printed_lines};
 ghost use Rattle.dm_table.specs.TableText.{table_of};
-ghost use Rattle.table_printer.specs.Print.{PrintsWords, base_words, line_text, striped_words, table_text, target_words};
+ghost use Rattle.table_printer.specs.Print.{PrintsWords, base_words, line_text, striped_words, printed_table, target_words};
 
 use crate::print_crypt::print_crypt;
 use crate::print_unstriped::print_unstriped;
@@ -18,7 +18,7 @@ use std::alloc::{AllocError, Global};
 ///
 /// Memory for the text was refused.
 pub fn print_table(alloc: Global, table: &Table, show_keys: bool) -> Result<Vec<u8>, AllocError>
-    ensures text { IfOk result (λ text. text.items ≡ table_text show_keys table.now) }
+    ensures text { IfOk result (λ text. text.items ≡ printed_table show_keys table.now) }
     ensures reads_back { IfOk result (λ text. table_of text.items ≡ Ok (printed_lines show_keys table.now)) }
 {
     let mut text = Vec::new(alloc);

@@ -11,7 +11,7 @@ use Rattle.dm_table.specs.declared.target_type.TargetType.{TargetType}
 use Rattle.dm_table.specs.declared.target_type.TargetType.TheVariants as types
 use Rattle.dm_table.specs.declared.stack.Entry.{Entry}
 use Rattle.dm_table.specs.declared.fault.TextKind.TheVariants as kinds
-use Rattle.dm_table.specs.Words.{Word, is_white, is_text, words, trimmed_text, lines_of, entries_of, fields_of}
+use Rattle.dm_table.specs.Words.{Word, is_white, is_text, words, trimmed_text, text_lines, entries_of, fields_of}
 use Rattle.dm_table.specs.Numbers.{number}
 use Rattle.dm_table.specs.Names.{is_mapped_name}
 use Rattle.dm_table.specs.Reading.{Read, ◌>>=◌, at_place}
@@ -140,9 +140,9 @@ unfolding table_of
 table-grammar text lines e = elim (cases_Bool (not (is_text text))) [
   | inl other ↦ let h = sym (cond-true (not (is_text text)) _ _ other) ∙ e in cc
   | inr good ↦
-      let read = bind_ok (table_lines 1 (lines_of text)) some_lines lines (sym (cond-false (not (is_text text)) _ _ good) ∙ e) in
+      let read = bind_ok (table_lines 1 (text_lines text)) some_lines lines (sym (cond-false (not (is_text text)) _ _ good) ∙ e) in
       let some = some_lines-same read.0 lines read.2 in
-      let all : IsTableOfGrammar read.0 = record { some = some.1; each = table_lines-grammar 1 (lines_of text) read.0 read.1 } in
+      let all : IsTableOfGrammar read.0 = record { some = some.1; each = table_lines-grammar 1 (text_lines text) read.0 read.1 } in
       subst IsTableOfGrammar some.0 all
 ]
 

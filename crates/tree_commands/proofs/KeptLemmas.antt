@@ -6,7 +6,7 @@ use Rattle.tree_difference.specs.declared.difference.Roots.{Roots}
 use Rattle.tree_difference.specs.declared.fault.DifferenceFault.{DifferenceFault}
 use Rattle.tree_difference.specs.declared.fault.DifferenceFault.TheVariants as difference
 use Rattle.tree_difference.specs.declared.fault.Which.TheVariants.{First, Second}
-use Rattle.tree_difference.specs.Comparisons.{world}
+use Rattle.tree_difference.specs.Comparisons.{difference_world}
 use Rattle.tree_difference.specs.Differences.{IsDifferenceCause}
 use Rattle.tree_survey.specs.declared.fault.SurveyFault.{SurveyFault}
 use Rattle.tree_survey.specs.declared.fault.SurveyFault.TheVariants as survey
@@ -16,7 +16,7 @@ use Rattle.tree_commands.specs.Diffs as diffs
 use Rattle.tree_commands.specs.Surveys.{IsKeptCause}
 use Rattle.tree_commands.specs.Surveys as surveys
 
-pub trees_cause : (d e d' e' : Device) (old new : Option (List ℕ)) (roots : Roots) (failed : Bool) (fault : DifferenceFault) → IsDifferenceCause (world d e d' e' old new) roots failed fault → IsTreesCause d e d' e' roots (diffs.unkept fault)
+pub trees_cause : (d e d' e' : Device) (old new : Option (List ℕ)) (roots : Roots) (failed : Bool) (fault : DifferenceFault) → IsDifferenceCause (difference_world d e d' e' old new) roots failed fault → IsTreesCause d e d' e' roots (diffs.unkept_difference fault)
 trees_cause d e d' e' old new roots failed (difference.Image First f) h = h
 trees_cause d e d' e' old new roots failed (difference.Image Second f) h = h
 trees_cause d e d' e' old new roots failed (difference.Unlike field) h = h
@@ -25,7 +25,7 @@ trees_cause d e d' e' old new roots failed (difference.Hash Second level n) h = 
 trees_cause d e d' e' old new roots failed difference.NoMemory h = tt
 trees_cause d e d' e' old new roots failed difference.Write h = tt
 
-pub kept_cause : (d h d' h' : Device) (failed : Bool) (fault : SurveyFault) → IsSurveyCause d h d' h' failed fault → IsKeptCause d h d' h' (surveys.unkept fault)
+pub kept_cause : (d h d' h' : Device) (failed : Bool) (fault : SurveyFault) → IsSurveyCause d h d' h' failed fault → IsKeptCause d h d' h' (surveys.unkept_survey fault)
 kept_cause d h d' h' failed (survey.Image (verify.Super f)) p = p
 kept_cause d h d' h' failed (survey.Image verify.TooSmall) p = p
 kept_cause d h d' h' failed (survey.Image verify.Device) p = p

@@ -33,37 +33,37 @@ unlike_text unlike.HashBlockSize = codes "refused 21 OtherHashBlockSize\n"
 unlike_text unlike.Salt = codes "refused 22 OtherSalt\n"
 
 -- a hash block that isn't the one whose digest stands above it: of which tree, its level and its number there
-abbrev pub hash_text : Which → ℕ → ℕ → List ℕ
-hash_text of level index = codes "fault hash " ++ (which_name of ++ (codes " " ++ (decimal level ++ (codes " " ++ (decimal index ++ codes "\n")))))
+abbrev pub hash_fault_text : Which → ℕ → ℕ → List ℕ
+hash_fault_text of level index = codes "fault hash " ++ (which_name of ++ (codes " " ++ (decimal level ++ (codes " " ++ (decimal index ++ codes "\n")))))
 
 abbrev pub difference_text : DifferenceFault → List ℕ
 difference_text (difference.Image of fault) = hash_image_text of fault
 difference_text (difference.Unlike found) = unlike_text found
-difference_text (difference.Hash of level index) = hash_text of level index
+difference_text (difference.Hash of level index) = hash_fault_text of level index
 difference_text difference.NoMemory = no_memory
 difference_text difference.Write = []
 
 -- ---- an image that isn't gone over
 
 -- no superblock, or too small, or a device failed
-abbrev pub image_text : VerifyFault → List ℕ
-image_text verify.NoMemory = no_memory
-image_text fault = codes "refused " ++ kind_then (verify_number fault) (verify_name fault) (codes "\n")
+abbrev pub image_fault_text : VerifyFault → List ℕ
+image_fault_text verify.NoMemory = no_memory
+image_fault_text fault = codes "refused " ++ kind_then (verify_number fault) (verify_name fault) (codes "\n")
 
 abbrev pub survey_text : SurveyFault → List ℕ
-survey_text (survey.Image fault) = image_text fault
+survey_text (survey.Image fault) = image_fault_text fault
 survey_text survey.Write = []
 
 -- ---- all of them
 
-abbrev pub tree_text : TreeFault → List ℕ
-tree_text (trees.Open file) = open_text file
-tree_text (trees.Trees fault) = difference_text fault
-tree_text trees.Differs = []
-tree_text (trees.Survey fault) = survey_text fault
-tree_text trees.Unaligned = codes "refused 18 Unaligned\n"
-tree_text trees.Damaged = []
-tree_text trees.Write = []
+abbrev pub tree_fault_text : TreeFault → List ℕ
+tree_fault_text (trees.Open file) = open_text file
+tree_fault_text (trees.Trees fault) = difference_text fault
+tree_fault_text trees.Differs = []
+tree_fault_text (trees.Survey fault) = survey_text fault
+tree_fault_text trees.Unaligned = codes "refused 18 Unaligned\n"
+tree_fault_text trees.Damaged = []
+tree_fault_text trees.Write = []
 
 -- 3 where they differ, or a block isn't the one that was formatted
 abbrev pub tree_status : TreeFault → ℕ

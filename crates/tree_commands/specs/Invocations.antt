@@ -11,7 +11,7 @@ use Rattle.tree_difference.specs.declared.difference.Roots.{Roots}
 use Rattle.tree_commands.specs.declared.fault.TreeFault.{TreeFault}
 use Rattle.tree_commands.specs.Diffs.{IsDiffFilesEnd, PrintsSame}
 use Rattle.tree_commands.specs.Openings.{BothPaths}
-use Rattle.tree_commands.specs.Surveys.{IsSurveyFilesEnd, Places, PrintsGood}
+use Rattle.tree_commands.specs.Surveys.{IsSurveyFilesEnd, SurveyedPlaces, PrintsGood}
 
 -- ---- `diff`
 
@@ -29,7 +29,7 @@ IsDiffWordsEnd w d old new failed fault = IsDiffFilesEnd d.json w (diff_paths d)
 
 -- ---- `verify --all`
 
-abbrev pub survey_at : VerifyRecord → Places
+abbrev pub survey_at : VerifyRecord → SurveyedPlaces
 survey_at v = record { paths = record { first_path = v.data_path; second_path = v.hash_path }; first = v.hash_offset / 512 }
 
 abbrev pub SurveysAt : {S D : Type 0} → Calls S D → VerifyRecord → List ℕ → Option (List ℕ) → Option (List ℕ) → Type 0

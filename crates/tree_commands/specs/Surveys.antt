@@ -27,13 +27,13 @@ use Rattle.tree_commands.specs.declared.fault.TreeFault.TheVariants.{Damaged, Su
 use Rattle.tree_commands.specs.declared.paths.TwoHashes.{TwoHashes}
 use Rattle.tree_commands.specs.declared.survey.Bounds.{Bounds}
 use Rattle.tree_commands.specs.declared.survey.SurveyOrder.{SurveyOrder}
-use Rattle.tree_commands.specs.Diffs.{IsUnopened}
+use Rattle.tree_commands.specs.Diffs.{IsEitherUnopened}
 use Rattle.tree_commands.specs.Objects.{survey_json}
 use Rattle.tree_commands.specs.Openings.{BothPaths, OpensBoth}
 
 -- `good N changed N unknown N`
-unfoldable pub totals_text : Totals → List ℕ
-totals_text t = codes "good " ++ (decimal t.good ++ (codes " changed " ++ (decimal t.changed ++ (codes " unknown " ++ (decimal t.unknown ++ codes "\n")))))
+unfoldable pub survey_totals : Totals → List ℕ
+survey_totals t = codes "good " ++ (decimal t.good ++ (codes " changed " ++ (decimal t.changed ++ (codes " unknown " ++ (decimal t.unknown ++ codes "\n")))))
 
 -- no data block is changed or unknown, and all hash blocks are good
 abbrev pub is_all_good : Found → Bool
@@ -44,7 +44,7 @@ pub record SaysSurvey (w : Pass) (root : List ℕ) (good : Bool) : Type 0 where
   pub found : Found
   pub between : Option (List ℕ)
   pub survey : IsSurvey (record w { printed' = between }) root found
-  pub printed_are : Appends between w.printed' (totals_text found.totals)
+  pub printed_are : Appends between w.printed' (survey_totals found.totals)
   pub is : is_all_good found ≡ good
 
 -- the same, where one object was printed: of the lines and totals that are printed else
@@ -61,9 +61,9 @@ SaysFound true w root good = SaysObject w root good
 SaysFound false w root good = SaysSurvey w root good
 
 -- a line that isn't kept in memory is want of it
-abbrev pub unkept : SurveyFault → SurveyFault
-unkept survey_fault.Write = Image verify.NoMemory
-unkept (Image fault) = Image fault
+abbrev pub unkept_survey : SurveyFault → SurveyFault
+unkept_survey survey_fault.Write = Image verify.NoMemory
+unkept_survey (Image fault) = Image fault
 
 -- why an image isn't gone over, where lines are kept in memory
 abbrev pub IsKeptCause : Device → Device → Device → Device → SurveyFault → Type 0
@@ -85,27 +85,27 @@ IsSurveyEnd json w root failed fault = ⊥
 -- ---- a place for the hash image in its file
 
 -- a tree of such blocks may stand behind that sector: it is the first one of such a block
-abbrev pub is_aligned : ℕ → ℕ → Bool
-is_aligned first size = if nat_lt size 512 then true else first % (size / 512) == 0
+abbrev pub begins_block : ℕ → ℕ → Bool
+begins_block first size = if nat_lt size 512 then true else first % (size / 512) == 0
 
 -- where the data end: in one file before the hash image, else at the end of theirs
-abbrev pub data_end : {D : Type 0} → TwoHashes D → ℕ → ℕ
-data_end two first = if nat_lt 0 first && is_one_file two.first.id two.second.id then first else 2 ^ 64 - 1
+abbrev pub hashes_data_end : {D : Type 0} → TwoHashes D → ℕ → ℕ
+hashes_data_end two first = if nat_lt 0 first && is_one_file two.first.id two.second.id then first else 2 ^ 64 - 1
 
 -- the hash image, and what lies before a sector, as devices of their own
-abbrev pub behind : Device → ℕ → Device
-behind device first = windowed device (part_behind device first)
+abbrev pub hash_behind : Device → ℕ → Device
+hash_behind device first = windowed device (part_behind device first)
 
-abbrev pub before : Device → ℕ → Device
-before device end = windowed device (part_before device end)
+abbrev pub data_before : Device → ℕ → Device
+data_before device end = windowed device (part_before device end)
 
 -- the superblock was read once before
 pub record SurveysPlaced (json : Bool) (data_dev hash_dev : Device) (end first : ℕ) (root : List ℕ) (old new : Option (List ℕ)) : Type 0 where
   pub read_dev : Device
   pub data_dev' : Device
   pub hash_dev' : Device
-  pub first_read : IsOnlyRead (behind hash_dev first) read_dev
-  pub says : SaysFound json (pass (before data_dev end) read_dev data_dev' hash_dev' old new) root true
+  pub first_read : IsOnlyRead (hash_behind hash_dev first) read_dev
+  pub says : SaysFound json (pass (data_before data_dev end) read_dev data_dev' hash_dev' old new) root true
 
 -- there is no superblock behind that sector
 abbrev pub IsSuperEnd : Device → Device → TreeFault → Type 0
@@ -113,46 +113,46 @@ IsSuperEnd hash_dev hash_dev' (Survey (Image fault)) = IsReadCause hash_dev hash
 IsSuperEnd hash_dev hash_dev' fault = ⊥
 
 -- there is one, but no hash block begins there
-pub record IsUnaligned (hash_dev : Device) (first : ℕ) (fault : TreeFault) : Type 0 where
+pub record IsSurveyUnaligned (hash_dev : Device) (first : ℕ) (fault : TreeFault) : Type 0 where
   pub super : SuperRecord
   pub sector : List ℕ
-  pub read : IsReadFrom (behind hash_dev first) sector super
-  pub unaligned : is_aligned first super.hash_block ≡ false
+  pub read : IsReadFrom (hash_behind hash_dev first) sector super
+  pub unaligned : begins_block first super.hash_block ≡ false
   pub is : fault ≡ Unaligned
 
-pub record EndsPlaced (json : Bool) (data_dev hash_dev : Device) (end first : ℕ) (root : List ℕ) (old new : Option (List ℕ)) (failed : Bool) (fault : TreeFault) : Type 0 where
+pub record EndsPlacedSurvey (json : Bool) (data_dev hash_dev : Device) (end first : ℕ) (root : List ℕ) (old new : Option (List ℕ)) (failed : Bool) (fault : TreeFault) : Type 0 where
   pub read_dev : Device
   pub data_dev' : Device
   pub hash_dev' : Device
-  pub first_read : IsOnlyRead (behind hash_dev first) read_dev
-  pub ends : IsSurveyEnd json (pass (before data_dev end) read_dev data_dev' hash_dev' old new) root failed fault
+  pub first_read : IsOnlyRead (hash_behind hash_dev first) read_dev
+  pub ends : IsSurveyEnd json (pass (data_before data_dev end) read_dev data_dev' hash_dev' old new) root failed fault
 
-abbrev pub IsPlacedEnd : Bool → Device → Device → ℕ → ℕ → List ℕ → Option (List ℕ) → Option (List ℕ) → Bool → TreeFault → Type 0
-IsPlacedEnd json data_dev hash_dev end first root old new failed fault =
-    ((hash_dev' : Device) × IsSuperEnd (behind hash_dev first) hash_dev' fault) ⊎ (IsUnaligned hash_dev first fault ⊎ EndsPlaced json data_dev hash_dev end first root old new failed fault)
+abbrev pub IsPlacedSurveyEnd : Bool → Device → Device → ℕ → ℕ → List ℕ → Option (List ℕ) → Option (List ℕ) → Bool → TreeFault → Type 0
+IsPlacedSurveyEnd json data_dev hash_dev end first root old new failed fault =
+    ((hash_dev' : Device) × IsSuperEnd (hash_behind hash_dev first) hash_dev' fault) ⊎ (IsSurveyUnaligned hash_dev first fault ⊎ EndsPlacedSurvey json data_dev hash_dev end first root old new failed fault)
 
 -- ---- of images that were opened
 
-pub record Places : Type 0 where
+pub record SurveyedPlaces : Type 0 where
   pub paths : BothPaths
   pub first : ℕ
 
-abbrev pub survey_places : SurveyOrder → Places
+abbrev pub survey_places : SurveyOrder → SurveyedPlaces
 survey_places p = record { paths = record { first_path = p.data.now; second_path = p.hash.now }; first = p.hash_first }
 
-pub record PrintsGood {S D : Type 0} (json : Bool) (w : Calls S D) (places : Places) (root : List ℕ) (old new : Option (List ℕ)) : Type 0 where
+pub record PrintsGood {S D : Type 0} (json : Bool) (w : Calls S D) (places : SurveyedPlaces) (root : List ℕ) (old new : Option (List ℕ)) : Type 0 where
   pub two : TwoHashes D
   pub opened : OpensBoth w places.paths two
-  pub surveys : SurveysPlaced json (w.state two.first.device) (w.state two.second.device) (data_end two places.first) places.first root old new
+  pub surveys : SurveysPlaced json (w.state two.first.device) (w.state two.second.device) (hashes_data_end two places.first) places.first root old new
 
-pub record EndsSurvey {S D : Type 0} (json : Bool) (w : Calls S D) (places : Places) (root : List ℕ) (old new : Option (List ℕ)) (failed : Bool) (fault : TreeFault) : Type 0 where
+pub record EndsTreeSurvey {S D : Type 0} (json : Bool) (w : Calls S D) (places : SurveyedPlaces) (root : List ℕ) (old new : Option (List ℕ)) (failed : Bool) (fault : TreeFault) : Type 0 where
   pub two : TwoHashes D
   pub opened : OpensBoth w places.paths two
-  pub ends : IsPlacedEnd json (w.state two.first.device) (w.state two.second.device) (data_end two places.first) places.first root old new failed fault
+  pub ends : IsPlacedSurveyEnd json (w.state two.first.device) (w.state two.second.device) (hashes_data_end two places.first) places.first root old new failed fault
 
 -- one of the two isn't opened, or it ends so
-abbrev pub IsSurveyFilesEnd : {S D : Type 0} → Bool → Calls S D → Places → List ℕ → Option (List ℕ) → Option (List ℕ) → Bool → TreeFault → Type 0
-IsSurveyFilesEnd json w places root old new failed fault = IsUnopened w places.paths fault ⊎ EndsSurvey json w places root old new failed fault
+abbrev pub IsSurveyFilesEnd : {S D : Type 0} → Bool → Calls S D → SurveyedPlaces → List ℕ → Option (List ℕ) → Option (List ℕ) → Bool → TreeFault → Type 0
+IsSurveyFilesEnd json w places root old new failed fault = IsEitherUnopened w places.paths fault ⊎ EndsTreeSurvey json w places root old new failed fault
 
 -- ---- as a call sees them, as in `Diffs`
 
@@ -162,21 +162,21 @@ gone_over data_state hash_state data_dev hash_dev data_dev' hash_dev' contents w
     pass (data_state data_dev) (hash_state hash_dev) (data_state data_dev') (hash_state hash_dev') (contents writer.inner) (contents writer'.inner)
 
 -- the same, where lines are kept in memory
-abbrev pub listed : {D H : Type 0} → (D → Device) → (H → Device) → D → H → D → H → KeptLines → KeptLines → Pass
-listed data_state hash_state data_dev hash_dev data_dev' hash_dev' kept kept' =
+abbrev pub listed_survey : {D H : Type 0} → (D → Device) → (H → Device) → D → H → D → H → KeptLines → KeptLines → Pass
+listed_survey data_state hash_state data_dev hash_dev data_dev' hash_dev' kept kept' =
     pass (data_state data_dev) (hash_state hash_dev) (data_state data_dev') (hash_state hash_dev') (Some (lines_text kept.lines.items)) (Some (lines_text kept'.lines.items))
 
-abbrev pub FailsToList : {D H : Type 0} → (D → Device) → (H → Device) → D → H → D → H → SurveyFault → Type 0
-FailsToList data_state hash_state data_dev hash_dev data_dev' hash_dev' = IsKeptCause (data_state data_dev) (hash_state hash_dev) (data_state data_dev') (hash_state hash_dev')
+abbrev pub FailsToListSurvey : {D H : Type 0} → (D → Device) → (H → Device) → D → H → D → H → SurveyFault → Type 0
+FailsToListSurvey data_state hash_state data_dev hash_dev data_dev' hash_dev' = IsKeptCause (data_state data_dev) (hash_state hash_dev) (data_state data_dev') (hash_state hash_dev')
 
 -- what lies before the data's end, and what lies behind a sector
 abbrev pub SurveysBehind : {D H W : Type 0} → (D → Device) → (H → Device) → D → H → (W → Option (List ℕ)) → CountedRecord W → CountedRecord W → Bounds → List ℕ → Bool → Type 0
 SurveysBehind data_state hash_state data_dev hash_dev contents writer writer' bounds root json =
     SurveysPlaced json (data_state data_dev) (hash_state hash_dev) bounds.end bounds.first root (contents writer.inner) (contents writer'.inner)
 
-abbrev pub FailsBehind : {D H W : Type 0} → (D → Device) → (H → Device) → D → H → (W → Option (List ℕ)) → CountedRecord W → CountedRecord W → Bounds → List ℕ → Bool → TreeFault → Type 0
-FailsBehind data_state hash_state data_dev hash_dev contents writer writer' bounds root json =
-    IsPlacedEnd json (data_state data_dev) (hash_state hash_dev) bounds.end bounds.first root (contents writer.inner) (contents writer'.inner) writer'.failed
+abbrev pub FailsToSurveyBehind : {D H W : Type 0} → (D → Device) → (H → Device) → D → H → (W → Option (List ℕ)) → CountedRecord W → CountedRecord W → Bounds → List ℕ → Bool → TreeFault → Type 0
+FailsToSurveyBehind data_state hash_state data_dev hash_dev contents writer writer' bounds root json =
+    IsPlacedSurveyEnd json (data_state data_dev) (hash_state hash_dev) bounds.end bounds.first root (contents writer.inner) (contents writer'.inner) writer'.failed
 
 -- two images
 abbrev pub SurveysImages : {S D W : Type 0} → Opener S D → (D → Device) → S → S → (W → Option (List ℕ)) → CountedRecord W → CountedRecord W → SurveyOrder → List ℕ → Type 0

@@ -1,7 +1,7 @@
 //! The command `diff`: which data blocks of two images differ, by their hash trees.
 ghost use Rattle.std.specs.Prelude.{◌≡◌, true, false, OnOk, IfErr};
 ghost use Rattle.counted_io.specs.Counted.{Writes};
-ghost use Rattle.tree_commands.specs.Diffs.{DiffsImages, FailsToDiff, IsDiffEnd, Says, SaysDifference, compared, is_unchanged, totals_text};
+ghost use Rattle.tree_commands.specs.Diffs.{DiffsImages, FailsToDiff, IsDiffEnd, SaysSame, SaysDifference, compared, is_unchanged, difference_totals};
 
 use crate::diff_object::diff_object;
 use crate::fault::TreeFault;
@@ -67,7 +67,7 @@ fn diff_lines<'a, D: BlockDev, E: BlockDev, W: Write>(
     most: Option<u64>,
     writer: &mut Counted<W>,
 ) -> Result<(), TreeFault<'a>>
-    ensures ok { OnOk result (Says (compared D.state E.state first.old second.old first.new second.new W.contents writer.old writer.new) roots most true) }
+    ensures ok { OnOk result (SaysSame (compared D.state E.state first.old second.old first.new second.new W.contents writer.old writer.new) roots most true) }
     ensures err { IfErr result (IsDiffEnd false (compared D.state E.state first.old second.old first.new second.new W.contents writer.old writer.new) roots most writer.new.failed) }
 {
     let totals = compare_trees(alloc, first, second, roots, most, writer)?;
@@ -85,9 +85,9 @@ pub(crate) fn is_unchanged(totals: Totals) -> bool
     totals.changed == 0 && totals.removed == 0 && totals.added == 0
 }
 
-#[tactic(auto, unfolding(crate::specs::Diffs::totals_text))]
+#[tactic(auto, unfolding(crate::specs::Diffs::difference_totals))]
 fn say_totals<W: Write>(writer: &mut Counted<W>, totals: Totals) -> Result<(), WriteFault>
-    ensures { Writes W.contents writer.old writer.new (totals_text totals) result }
+    ensures { Writes W.contents writer.old writer.new (difference_totals totals) result }
 {
     let Totals {
         same,

@@ -4,7 +4,7 @@ ghost use Rattle.reply_json.specs.Lines.{json_line};
 ghost use Rattle.serde_json.specs.View.{view};
 ghost use Rattle.tree_difference.specs.declared.fault.DifferenceFault.TheVariants as difference_fault;
 ghost use Rattle.tree_difference.specs.Differences.{IsDifference};
-ghost use Rattle.tree_commands.specs.Diffs.{FailsToList, IsDiffEnd, SaysObject, compared, listed, unkept};
+ghost use Rattle.tree_commands.specs.Diffs.{FailsToListDiff, IsDiffEnd, SaysSameObject, compared, listed_diff, unkept_difference};
 ghost use Rattle.tree_commands.specs.Objects.{difference_json};
 
 use crate::diff::is_unchanged;
@@ -27,7 +27,7 @@ pub(crate) fn diff_object<'a, D: BlockDev, E: BlockDev, W: Write>(
     most: Option<u64>,
     writer: &mut Counted<W>,
 ) -> Result<(), TreeFault<'a>>
-    ensures ok { OnOk result (SaysObject (compared D.state E.state first.old second.old first.new second.new W.contents writer.old writer.new) roots most true) }
+    ensures ok { OnOk result (SaysSameObject (compared D.state E.state first.old second.old first.new second.new W.contents writer.old writer.new) roots most true) }
     ensures err { IfErr result (IsDiffEnd true (compared D.state E.state first.old second.old first.new second.new W.contents writer.old writer.new) roots most writer.new.failed) }
 {
     let mut kept = KeptLines::new(alloc);
@@ -50,8 +50,8 @@ fn keep_difference<D: BlockDev, E: BlockDev>(
     most: Option<u64>,
     kept: &mut KeptLines,
 ) -> Result<Totals, DifferenceFault>
-    ensures ok { IfOk result (IsDifference (listed D.state E.state first.old second.old first.new second.new kept.old kept.new) roots most) }
-    ensures err { IfErr result (FailsToList D.state E.state first.old second.old first.new second.new roots) }
+    ensures ok { IfOk result (IsDifference (listed_diff D.state E.state first.old second.old first.new second.new kept.old kept.new) roots most) }
+    ensures err { IfErr result (FailsToListDiff D.state E.state first.old second.old first.new second.new roots) }
 {
     match compare_trees(alloc, first, second, roots, most, kept) {
         Ok(totals) => Ok(totals),
@@ -60,7 +60,7 @@ fn keep_difference<D: BlockDev, E: BlockDev>(
 }
 
 fn unkept(fault: DifferenceFault) -> DifferenceFault
-    ensures { result ≡ unkept fault }
+    ensures { result ≡ unkept_difference fault }
 {
     match fault {
         DifferenceFault::Write => DifferenceFault::NoMemory,

@@ -2,7 +2,7 @@
 //! that aren't good.
 ghost use Rattle.std.specs.Prelude.{◌≡◌};
 ghost use Rattle.counted_io.specs.Counted.{Writes};
-ghost use Rattle.tree_commands.specs.FaultTexts.{difference_text, hash_image_text, image_text, survey_text, tree_status, tree_text, unlike_text, which_name};
+ghost use Rattle.tree_commands.specs.FaultTexts.{difference_text, hash_image_text, image_fault_text, survey_text, tree_status, tree_fault_text, unlike_text, which_name};
 
 use crate::fault::TreeFault;
 use counted_io::{Counted, WriteFault};
@@ -21,7 +21,7 @@ pub fn say_tree_fault<W: Write>(
     writer: &mut Counted<W>,
     fault: TreeFault<'_>,
 ) -> Result<(), WriteFault>
-    ensures { Writes W.contents writer.old writer.new (tree_text fault.entry) result }
+    ensures { Writes W.contents writer.old writer.new (tree_fault_text fault.entry) result }
 {
     match fault {
         TreeFault::Open(file) => say_unopened(writer, file),
@@ -99,7 +99,7 @@ fn say_survey_fault<W: Write>(writer: &mut Counted<W>, fault: SurveyFault) -> Re
 }
 
 fn say_image_fault<W: Write>(writer: &mut Counted<W>, fault: VerifyFault) -> Result<(), WriteFault>
-    ensures { Writes W.contents writer.old writer.new (image_text fault) result }
+    ensures { Writes W.contents writer.old writer.new (image_fault_text fault) result }
 {
     if fault == VerifyFault::NoMemory {
         return say_no_memory(writer);

@@ -1,7 +1,7 @@
 //! The command `verify --all`: which data blocks of an image are good, and which hash blocks aren't.
 ghost use Rattle.std.specs.Prelude.{◌≡◌, ◌&&◌, nat_lt, true, false, OnOk, IfErr};
 ghost use Rattle.counted_io.specs.Counted.{Writes};
-ghost use Rattle.tree_commands.specs.Surveys.{FailsBehind, FailsToSurvey, IsSurveyEnd, SaysFound, SaysSurvey, SurveysBehind, SurveysImages, data_end, gone_over, is_aligned, is_all_good, totals_text};
+ghost use Rattle.tree_commands.specs.Surveys.{FailsToSurveyBehind, FailsToSurvey, IsSurveyEnd, SaysFound, SaysSurvey, SurveysBehind, SurveysImages, hashes_data_end, gone_over, begins_block, is_all_good, survey_totals};
 
 use crate::fault::TreeFault;
 use crate::paths::{HashPaths, TwoHashes, open_both};
@@ -103,7 +103,7 @@ fn watch<D: BlockDev + Drop, S: Watchers>(
 
 // The sector where the data end: in one file before the hash image, else at the end of theirs.
 fn data_end<D>(two: &TwoHashes<D>, first: u64) -> u64
-    ensures { result ≡ data_end two.now first }
+    ensures { result ≡ hashes_data_end two.now first }
 {
     if first > 0 && is_one_file(two.first.id, two.second.id) {
         return first;
@@ -113,7 +113,7 @@ fn data_end<D>(two: &TwoHashes<D>, first: u64) -> u64
 
 // Whether a tree of hash blocks of that size may stand behind that sector: one begins there.
 fn is_aligned(first: u64, size: u32) -> bool
-    ensures { result ≡ is_aligned first size }
+    ensures { result ≡ begins_block first size }
 {
     if size < 512 {
         return true;
@@ -132,7 +132,7 @@ fn survey_behind<'a, D: BlockDev + Drop, H: BlockDev + Drop, W: Write>(
     writer: &mut Counted<W>,
 ) -> Result<(), TreeFault<'a>>
     ensures ok { OnOk result (SurveysBehind D.state H.state data_dev hash_dev W.contents writer.old writer.new bounds root.now json) }
-    ensures err { IfErr result (FailsBehind D.state H.state data_dev hash_dev W.contents writer.old writer.new bounds root.now json) }
+    ensures err { IfErr result (FailsToSurveyBehind D.state H.state data_dev hash_dev W.contents writer.old writer.new bounds root.now json) }
 {
     let mut before = Window::<D, Brand>::before(data_dev, bounds.end);
     let mut behind = Window::<H, Brand>::behind(hash_dev, bounds.first);
@@ -188,9 +188,9 @@ pub(crate) fn is_all_good(found: Survey) -> bool
 }
 
 // `good N changed N unknown N`
-#[tactic(auto, unfolding(crate::specs::Surveys::totals_text))]
+#[tactic(auto, unfolding(crate::specs::Surveys::survey_totals))]
 fn say_totals<W: Write>(writer: &mut Counted<W>, totals: Totals) -> Result<(), WriteFault>
-    ensures { Writes W.contents writer.old writer.new (totals_text totals) result }
+    ensures { Writes W.contents writer.old writer.new (survey_totals totals) result }
 {
     let Totals {
         good,

@@ -7,7 +7,7 @@ ghost use Rattle.verity_format.specs.declared.verifying.VerifyFault.TheVariants 
 ghost use Rattle.tree_survey.specs.declared.fault.SurveyFault.TheVariants as survey_fault;
 ghost use Rattle.tree_survey.specs.Passes.{IsSurvey};
 ghost use Rattle.tree_commands.specs.Objects.{survey_json};
-ghost use Rattle.tree_commands.specs.Surveys.{FailsToList, IsSurveyEnd, SaysObject, gone_over, listed, unkept};
+ghost use Rattle.tree_commands.specs.Surveys.{FailsToListSurvey, IsSurveyEnd, SaysObject, gone_over, listed_survey, unkept_survey};
 
 use crate::fault::TreeFault;
 use crate::survey::is_all_good;
@@ -52,8 +52,8 @@ fn keep_survey<D: BlockDev, H: BlockDev>(
     root: &Digest,
     kept: &mut KeptLines,
 ) -> Result<Survey, SurveyFault>
-    ensures ok { IfOk result (IsSurvey (listed D.state H.state data_dev.old hash_dev.old data_dev.new hash_dev.new kept.old kept.new) root.now) }
-    ensures err { IfErr result (FailsToList D.state H.state data_dev.old hash_dev.old data_dev.new hash_dev.new) }
+    ensures ok { IfOk result (IsSurvey (listed_survey D.state H.state data_dev.old hash_dev.old data_dev.new hash_dev.new kept.old kept.new) root.now) }
+    ensures err { IfErr result (FailsToListSurvey D.state H.state data_dev.old hash_dev.old data_dev.new hash_dev.new) }
 {
     match survey_image(alloc, data_dev, hash_dev, root, kept) {
         Ok(found) => Ok(found),
@@ -62,7 +62,7 @@ fn keep_survey<D: BlockDev, H: BlockDev>(
 }
 
 fn unkept(fault: SurveyFault) -> SurveyFault
-    ensures { result ≡ unkept fault }
+    ensures { result ≡ unkept_survey fault }
 {
     match fault {
         SurveyFault::Write => SurveyFault::Image(VerifyFault::NoMemory),

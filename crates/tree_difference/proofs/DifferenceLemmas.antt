@@ -26,11 +26,11 @@ use Rattle.tree_difference.specs.declared.fault.Unlike.TheVariants.{DataBlockSiz
 use Rattle.tree_difference.specs.declared.fault.Which.TheVariants.{First, Second}
 use Rattle.tree_difference.specs.declared.walk.Walk.{Walk}
 use Rattle.tree_difference.specs.Causes.{IsBadBlock, IsWalkCause}
-use Rattle.tree_difference.specs.Comparisons.{AreSeen, Compares, Reads, World, images_of, world}
+use Rattle.tree_difference.specs.Comparisons.{AreStatesSeen, Compares, ReadsDiffering, DifferenceWorld, hash_images, difference_world}
 use Rattle.tree_difference.specs.Differences.{CanCompare, HaveTrees, IsAligned, IsComparisonCause, IsDifference, IsDifferenceCause, IsWalkOf, sectors_before, trees_in, trees_of}
-use Rattle.tree_difference.specs.Superblocks.{IsImageCause, IsImageRead, unlike}
-use Rattle.tree_difference.specs.Trees.{Trees, AreAlike, IsStoredAs, common_levels}
-use Rattle.tree_difference.specs.Walks.{AreSameTrees, IsOn, Sides, sides}
+use Rattle.tree_difference.specs.Superblocks.{IsOneImageCause, IsImageRead, unlike}
+use Rattle.tree_difference.specs.Trees.{Trees, AreComparable, IsStoredAs, common_levels}
+use Rattle.tree_difference.specs.Walks.{AreSameTrees, IsOn, WalkSides, walk_sides}
 use Rattle.tree_difference.proofs.WalkLemmas.{bad-same, cause-then, on-read}
 
 -- which field is named, by what is the same
@@ -44,7 +44,7 @@ all-same false y z e = let clash : Some DataBlockSize ≡ None = e in cc
 all-same true false z e = let clash : Some HashBlockSize ≡ None = e in cc
 all-same true true false e = let clash : Some Salt ≡ None = e in cc
 
-pub alike-of : (a b : SuperRecord) (roots : Roots) → unlike a b ≡ None → AreAlike (trees_of a b roots)
+pub alike-of : (a b : SuperRecord) (roots : Roots) → unlike a b ≡ None → AreComparable (trees_of a b roots)
 unfolding field_by
 alike-of a b roots none =
     let parts = all-same (a.data_block == b.data_block) (a.hash_block == b.hash_block) (bytes_eq a.salt b.salt) none in
@@ -62,14 +62,14 @@ have-trees a b roots w d d' e e' of none first second ds es =
     let second_shape : w.second.shape ≡ shape_of b = ap (λ (x : Trees). x.second) of.trees in
     record {
       of = subst (λ (x : Trees). IsWalkOf x w) (sym of.trees) of;
-      alike = subst AreAlike (sym of.trees) (alike-of a b roots none);
+      alike = subst AreComparable (sym of.trees) (alike-of a b roots none);
       first_valid = subst IsShape (sym first_shape) first.from.carried.valid.shape;
       second_valid = subst IsShape (sym second_shape) second.from.carried.valid.shape;
       first_fits = omega (arith, first.fits, ds, ap tree_sectors first_shape);
       second_fits = omega (arith, second.fits, es, ap tree_sectors second_shape);
     }
 
-module _ (w w' : Walk) (d e d' e' : Device) (have : HaveTrees w d e) (h : IsAligned (sides w w' d e d' e')) where
+module _ (w w' : Walk) (d e d' e' : Device) (have : HaveTrees w d e) (h : IsAligned (walk_sides w w' d e d' e')) where
   pub aligned-trees : AreSameTrees w w'
   aligned-trees = record { first = h.first.same; second = h.second.same; shape = h.shape; levels = h.levels; blocks = h.blocks }
 
@@ -108,7 +108,7 @@ module _ (w w' : Walk) (d e d' e' : Device) (have : HaveTrees w d e) (h : IsAlig
         levels = h.levels ∙ have.of.levels;
         blocks = h.blocks ∙ have.of.blocks;
       });
-      alike = subst AreAlike (sym same-trees) have.alike;
+      alike = subst AreComparable (sym same-trees) have.alike;
       first_valid = subst IsShape (sym h.first.same.shape_is) have.first_valid;
       second_valid = subst IsShape (sym h.second.same.shape_is) have.second_valid;
       first_fits = omega (arith, have.first_fits, h.first.full.read.same.size, ap tree_sectors h.first.same.shape_is);
@@ -118,7 +118,7 @@ module _ (w w' : Walk) (d e d' e' : Device) (have : HaveTrees w d e) (h : IsAlig
   }
 
 -- what is seen of devices that were read before
-seen-was : (t : Trees) (d e d' e' d'' e'' : Device) (old new : Option (List ℕ)) (compared : List State) → IsOnlyRead d d' → IsOnlyRead e e' → AreSeen t (world d' e' d'' e'' old new) compared → AreSeen t (world d e d'' e'' old new) compared
+seen-was : (t : Trees) (d e d' e' d'' e'' : Device) (old new : Option (List ℕ)) (compared : List State) → IsOnlyRead d d' → IsOnlyRead e e' → AreStatesSeen t (difference_world d' e' d'' e'' old new) compared → AreStatesSeen t (difference_world d e d'' e'' old new) compared
 seen-was t d e d' e' d'' e'' old new compared p q s = record {
   seen = s.seen;
   stored = λ steady steady' j low.
@@ -127,7 +127,7 @@ seen-was t d e d' e' d'' e'' old new compared p q s = record {
       (s.stored (steady-then p.same steady) (steady-then q.same steady') j low));
 }
 
-pub compares-was : (t : Trees) (d e d' e' d'' e'' : Device) (old new : Option (List ℕ)) (most : Option ℕ) (totals : Totals) → IsOnlyRead d d' → IsOnlyRead e e' → Compares t (world d' e' d'' e'' old new) most totals → Compares t (world d e d'' e'' old new) most totals
+pub compares-was : (t : Trees) (d e d' e' d'' e'' : Device) (old new : Option (List ℕ)) (most : Option ℕ) (totals : Totals) → IsOnlyRead d d' → IsOnlyRead e e' → Compares t (difference_world d' e' d'' e'' old new) most totals → Compares t (difference_world d e d'' e'' old new) most totals
 compares-was t d e d' e' d'' e'' old new most totals p q c = record {
   compared = c.compared;
   count = c.count;
@@ -136,7 +136,7 @@ compares-was t d e d' e' d'' e'' old new most totals p q c = record {
   printed_are = c.printed_are;
 }
 
-pub reads-was : (t : Trees) (d e d' e' d'' e'' : Device) (old new : Option (List ℕ)) (n m : ℕ) → IsFullRead d n d' → IsFullRead e m e' → Reads t (world d' e' d'' e'' old new) 0 0 → Reads t (world d e d'' e'' old new) n m
+pub reads-was : (t : Trees) (d e d' e' d'' e'' : Device) (old new : Option (List ℕ)) (n m : ℕ) → IsFullRead d n d' → IsFullRead e m e' → ReadsDiffering t (difference_world d' e' d'' e'' old new) 0 0 → ReadsDiffering t (difference_world d e d'' e'' old new) n m
 reads-was t d e d' e' d'' e'' old new n m p q r = record {
   entries = r.entries;
   entered = r.entered;
@@ -146,7 +146,7 @@ reads-was t d e d' e' d'' e'' old new n m p q r = record {
 
 -- ---- causes
 
-pub image-second : (i : World) (roots : Roots) (failed : Bool) (fault : DifferenceFault) → IsImageCause i.second i.second' Second fault → IsDifferenceCause i roots failed fault
+pub image-second : (i : DifferenceWorld) (roots : Roots) (failed : Bool) (fault : DifferenceFault) → IsOneImageCause i.second i.second' Second fault → IsDifferenceCause i roots failed fault
 image-second i roots failed (Image Second f) h = h.1
 image-second i roots failed (Image First f) h = let clash : First ≡ Second = h.0 in absurd (cc)
 image-second i roots failed (Unlike f) h = absurd h
@@ -161,7 +161,7 @@ module _ (a b : SuperRecord) (roots : Roots) (w : Walk) (d d' e e' d'' e'' : Dev
   second-path : PathRecord
   second-path = record { shape = shape_of b; salt = b.salt; root = roots.second; blocks = [] }
 
-  pub walk-cause : (fault : DifferenceFault) → IsWalkCause w d' e' d'' e'' fault → IsDifferenceCause (world d e d'' e'' old new) roots failed fault
+  pub walk-cause : (fault : DifferenceFault) → IsWalkCause w d' e' d'' e'' fault → IsDifferenceCause (difference_world d e d'' e'' old new) roots failed fault
   unfolding first-path second-path
   walk-cause (Hash First level number) h = (
     a,
@@ -203,7 +203,7 @@ module _ (a b : SuperRecord) (roots : Roots) (w : Walk) (d d' e e' d'' e'' : Dev
   walk-cause NoMemory h = absurd h
   walk-cause Write h = absurd h
 
-  pub comparison-cause : (fault : DifferenceFault) → IsComparisonCause w d' e' d'' e'' failed fault → IsDifferenceCause (world d e d'' e'' old new) roots failed fault
+  pub comparison-cause : (fault : DifferenceFault) → IsComparisonCause w d' e' d'' e'' failed fault → IsDifferenceCause (difference_world d e d'' e'' old new) roots failed fault
   comparison-cause Write h = h
   comparison-cause (Hash tree level number) h = walk-cause (Hash tree level number) h
   comparison-cause (Image tree f) h = walk-cause (Image tree f) h
@@ -212,12 +212,12 @@ module _ (a b : SuperRecord) (roots : Roots) (w : Walk) (d d' e e' d'' e'' : Dev
 
 -- ---- what was read beside the pairs
 
-pub aligned-read : (w w' : Walk) (d0 d d' e e' : Device) (s : ShapeRecord) (t : Trees) → IsFullRead d0 1 d → w.first.shape ≡ s → w.levels ≡ common_levels t → IsAligned (sides w w' d e d' e') → IsFullRead d0 (sectors_before s t) d'
+pub aligned-read : (w w' : Walk) (d0 d d' e e' : Device) (s : ShapeRecord) (t : Trees) → IsFullRead d0 1 d → w.first.shape ≡ s → w.levels ≡ common_levels t → IsAligned (walk_sides w w' d e d' e') → IsFullRead d0 (sectors_before s t) d'
 aligned-read w w' d0 d d' e e' s t p shape few h =
     full_read-then 1 ((levels s - common_levels t) * (s.hash_block / 512)) (sectors_before s t) p
     (subst (λ (n : ℕ). IsFullRead d ((levels s - n) * (s.hash_block / 512)) d') few (subst (λ (x : ShapeRecord). IsFullRead d ((levels x - w.levels) * (x.hash_block / 512)) d') shape h.first.full)) (omega arith)
 
-pub aligned-read-second : (w w' : Walk) (e0 d d' e e' : Device) (s : ShapeRecord) (t : Trees) → IsFullRead e0 1 e → w.second.shape ≡ s → w.levels ≡ common_levels t → IsAligned (sides w w' d e d' e') → IsFullRead e0 (sectors_before s t) e'
+pub aligned-read-second : (w w' : Walk) (e0 d d' e e' : Device) (s : ShapeRecord) (t : Trees) → IsFullRead e0 1 e → w.second.shape ≡ s → w.levels ≡ common_levels t → IsAligned (walk_sides w w' d e d' e') → IsFullRead e0 (sectors_before s t) e'
 aligned-read-second w w' e0 d d' e e' s t p shape few h =
     full_read-then 1 ((levels s - common_levels t) * (s.hash_block / 512)) (sectors_before s t) p
     (subst (λ (n : ℕ). IsFullRead e ((levels s - n) * (s.hash_block / 512)) e') few (subst (λ (x : ShapeRecord). IsFullRead e ((levels x - w.levels) * (x.hash_block / 512)) e') shape h.second.full)) (omega arith)

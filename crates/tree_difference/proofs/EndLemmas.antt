@@ -12,8 +12,8 @@ use Rattle.tree_path.specs.Spans.{IsTopAt}
 use Rattle.tree_runs.specs.declared.run.Kind.{Kind}
 use Rattle.tree_runs.specs.declared.run.Kind.TheVariants.{Changed}
 use Rattle.tree_runs.specs.declared.run.Run.{Run}
-use Rattle.tree_runs.specs.Limits.{lines_of}
-use Rattle.tree_runs.specs.Runs.{State, count_of, is_state, weight}
+use Rattle.tree_runs.specs.Limits.{limited_lines}
+use Rattle.tree_runs.specs.Runs.{State, count_of, is_state, one_if}
 use Rattle.tree_runs.proofs.lemmas.ListingLemmas.{IsListed}
 use Rattle.tree_difference.specs.declared.difference.Totals.{Totals}
 use Rattle.tree_difference.specs.declared.fault.DifferenceFault.{DifferenceFault}
@@ -21,14 +21,14 @@ use Rattle.tree_difference.specs.declared.fault.DifferenceFault.TheVariants.{Ima
 use Rattle.tree_difference.specs.declared.fault.Which.TheVariants.{First, Second}
 use Rattle.tree_difference.specs.declared.walk.Walk.{Walk}
 use Rattle.tree_difference.specs.Causes.{IsWalkCause}
-use Rattle.tree_difference.specs.Comparisons.{Compares, Reads, World, totals_of}
-use Rattle.tree_difference.specs.Differences.{HaveTrees, IsComparisonCause, rest_of, trees_in}
+use Rattle.tree_difference.specs.Comparisons.{Compares, ReadsDiffering, DifferenceWorld, compared_totals}
+use Rattle.tree_difference.specs.Differences.{HaveTrees, IsComparisonCause, rest_run, trees_in}
 use Rattle.tree_difference.specs.Rests.{last_runs}
 use Rattle.tree_difference.specs.Walks.{AreSameTrees}
 use Rattle.tree_difference.proofs.RestLemmas.{listed-rest, rest_by}
 use Rattle.tree_difference.proofs.UnderwayLemmas.{IsUnderway, Progress, width}
 
-weight-most : (b : Bool) → weight b ≤ 1
+weight-most : (b : Bool) → one_if b ≤ 1
 weight-most true = omega arith
 weight-most false = omega arith
 
@@ -51,14 +51,14 @@ top-is w0 w d e at top have trees is =
 pub blocks-few : (w0 : Walk) (d e : Device) → HaveTrees w0 d e → w0.blocks ≤ 2 ^ 54
 blocks-few w0 d e have = omega (arith, have.of.blocks, (blocks-le w0.first.shape have.first_valid).0)
 
-module _ (w0 w : Walk) (d e : Device) (have : HaveTrees w0 d e) (i : World) (most : Option ℕ) (g : Progress) (u : IsUnderway w0 w i most g) where
+module _ (w0 w : Walk) (d e : Device) (have : HaveTrees w0 d e) (i : DifferenceWorld) (most : Option ℕ) (g : Progress) (u : IsUnderway w0 w i most g) where
   pub changed-few : g.changed ≤ g.at
   changed-few = omega (arith, u.counted, u.here, count_of-most Changed u.compared)
 
   made : ℕ → ℕ → ℕ → ℕ → Totals
   made a b c x = record { same = a; changed = b; removed = c; added = x }
 
-  totals-are : g.at ≡ w0.blocks → (totals : Totals) → totals ≡ record { same = w.blocks - g.changed; changed = g.changed; removed = w.first.shape.blocks - w.blocks; added = w.second.shape.blocks - w.blocks } → totals ≡ totals_of (trees_in w0) u.compared
+  totals-are : g.at ≡ w0.blocks → (totals : Totals) → totals ≡ record { same = w.blocks - g.changed; changed = g.changed; removed = w.first.shape.blocks - w.blocks; added = w.second.shape.blocks - w.blocks } → totals ≡ compared_totals (trees_in w0) u.compared
   unfolding made
   totals-are end totals is =
       let first : w.first.shape.blocks ≡ w0.first.shape.blocks = ap (λ (s : ShapeRecord). s.blocks) u.trees.first.shape_is in
@@ -72,24 +72,24 @@ module _ (w0 w : Walk) (d e : Device) (have : HaveTrees w0 d e) (i : World) (mos
       ∙ ap (λ (n : ℕ). made (min w0.first.shape.blocks w0.second.shape.blocks - count_of Changed u.compared) (count_of Changed u.compared) (w0.first.shape.blocks - w0.second.shape.blocks) n) added
 
   -- which run comes last doesn't depend on the walk
-  rest-same : rest_of w ≡ rest_by w0.blocks w0.first.shape.blocks w0.second.shape.blocks
+  rest-same : rest_run w ≡ rest_by w0.blocks w0.first.shape.blocks w0.second.shape.blocks
   rest-same =
       ap (λ (b : ℕ). rest_by b w.first.shape.blocks w.second.shape.blocks) u.trees.blocks
       ∙ ap (λ (n : ℕ). rest_by w0.blocks n w.second.shape.blocks) (ap (λ (s : ShapeRecord). s.blocks) u.trees.first.shape_is)
       ∙ ap (rest_by w0.blocks w0.first.shape.blocks) (ap (λ (s : ShapeRecord). s.blocks) u.trees.second.shape_is)
 
   pub underway-all : g.at ≡ w0.blocks → (totals : Totals) → totals ≡ record { same = w.blocks - g.changed; changed = g.changed; removed = w.first.shape.blocks - w.blocks; added = w.second.shape.blocks - w.blocks }
-      → (new : Option (List ℕ)) → Appends i.printed' new (lines_of g.tally.limit (last_runs g.tally.last (rest_of w))) → Compares (trees_in w0) (record i { printed' = new }) most totals
+      → (new : Option (List ℕ)) → Appends i.printed' new (limited_lines g.tally.limit (last_runs g.tally.last (rest_run w))) → Compares (trees_in w0) (record i { printed' = new }) most totals
   underway-all end totals is new told = record {
     compared = u.compared;
     count = sym u.here ∙ end ∙ have.of.blocks;
     seen = record { seen = u.seen.seen; stored = u.seen.stored };
     totals_are = totals-are end totals is;
     printed_are = listed-rest w0.blocks w0.first.shape.blocks w0.second.shape.blocks most u.compared g.tally i.printed i.printed' new have.of.blocks (sym u.here ∙ end) u.listed
-        (subst (λ (r : Option Run). Appends i.printed' new (lines_of g.tally.limit (last_runs g.tally.last r))) rest-same told);
+        (subst (λ (r : Option Run). Appends i.printed' new (limited_lines g.tally.limit (last_runs g.tally.last r))) rest-same told);
   }
 
-  pub reads-all : (new : Option (List ℕ)) → Reads (trees_in w0) (record i { printed' = new }) 0 0
+  pub reads-all : (new : Option (List ℕ)) → ReadsDiffering (trees_in w0) (record i { printed' = new }) 0 0
   reads-all new = record {
     entries = u.entries;
     entered = u.entered;

@@ -9,15 +9,15 @@ use Rattle.hash_tree.specs.Tree.{root}
 use Rattle.tree_path.specs.Laws.{Collide}
 use Rattle.tree_path.specs.Path.{PathRecord, IsPathOf, LeadsTo, digest_on}
 use Rattle.tree_path.proofs.lemmas.ChainLemmas.{Ends, hangs-on, hang-together}
-use Rattle.tree_difference.specs.Laws.{AreChains, AreContents, SameBlocksAreSame, ChangedBlocksDiffer, SameContentsAreSame, ChangedContentsDiffer}
-use Rattle.tree_difference.specs.Trees.{Trees, AreAlike, AreWays, common_blocks, common_levels}
+use Rattle.tree_difference.specs.Laws.{AreChains, AreBothContents, SameBlocksAreSame, ChangedChainsDiffer, SameContentsAreSame, ChangedListsDiffer}
+use Rattle.tree_difference.specs.Trees.{Trees, AreComparable, AreWays, common_blocks, common_levels}
 
 good-of : (s : ShapeRecord) (salt r : List ℕ) (p : PathRecord) (c : ChainRecord) → IsPathOf s salt r p → IsGood s salt r c → IsGood p.shape p.salt p.root c
 good-of s salt r p c is good =
     subst (λ (x : List ℕ). IsGood p.shape p.salt x c) (sym is.root_is)
     (subst (λ (x : List ℕ). IsGood p.shape x r c) (sym is.salt_is) (subst (λ (x : ShapeRecord). IsGood x salt r c) (sym is.shape_is) good))
 
-module _ (t : Trees) (alike : AreAlike t) (i k : ℕ) (p q : PathRecord) (ways : AreWays t i k p q) (a b : ChainRecord) (chains : AreChains t i a b) where
+module _ (t : Trees) (alike : AreComparable t) (i k : ℕ) (p q : PathRecord) (ways : AreWays t i k p q) (a b : ChainRecord) (chains : AreChains t i a b) where
   first-ends : Ends p i k a.content ⊎ Collide t.first_salt
   first-ends =
       subst (λ (x : List ℕ). Ends p i k a.content ⊎ Collide x) ways.first_is.salt_is
@@ -57,7 +57,7 @@ digest-here : (p : PathRecord) (i : ℕ) (content : List ℕ) (rest : List (List
 digest-here p i content [] count hangs = hangs.1
 digest-here p i content (x ∷ rest) count hangs = absurd (omega (arith, count))
 
-module _ (t : Trees) (alike : AreAlike t) (i : ℕ) (p q : PathRecord) (ways : AreWays t i 0 p q) (a b : ChainRecord) (chains : AreChains t i a b) where
+module _ (t : Trees) (alike : AreComparable t) (i : ℕ) (p q : PathRecord) (ways : AreWays t i 0 p q) (a b : ChainRecord) (chains : AreChains t i a b) where
   changed-found : digest_on p i 0 ≢ digest_on q i 0 → (a.content ≢ b.content) ⊎ Collide t.first_salt
   changed-found apart = elim (first-ends t alike i 0 p q ways a b chains) [
     | inr clash ↦ inr clash
@@ -72,11 +72,11 @@ module _ (t : Trees) (alike : AreAlike t) (i : ℕ) (p q : PathRecord) (ways : A
 pub same-blocks : SameBlocksAreSame
 same-blocks t alike i (k, (p, (q, (ways, same)))) a b chains = same-found t alike i k p q ways a b chains same
 
-pub changed-blocks : ChangedBlocksDiffer
+pub changed-blocks : ChangedChainsDiffer
 changed-blocks t alike i (p, (q, (ways, differ))) a b chains = changed-found t alike i p q ways a b chains differ
 
 -- the chains that are formed of the data
-module _ (form : FormedChainsAreGood) (t : Trees) (first second : List (List ℕ)) (are : AreContents t first second) (i : ℕ) (inside : i < common_blocks t) where
+module _ (form : FormedChainsAreGood) (t : Trees) (first second : List (List ℕ)) (are : AreBothContents t first second) (i : ℕ) (inside : i < common_blocks t) where
   chain-first : ChainRecord
   chain-first = formed t.first t.first_salt first i
 
@@ -99,7 +99,7 @@ unfolding formed chain-first chain-second
 same-contents form t alike first second are i inside same =
     same-blocks t alike i same (chain-first form t first second are i inside) (chain-second form t first second are i inside) (formed-chains form t first second are i inside)
 
-pub changed-contents : FormedChainsAreGood → ChangedContentsDiffer
+pub changed-contents : FormedChainsAreGood → ChangedListsDiffer
 unfolding formed chain-first chain-second
 changed-contents form t alike first second are i inside differ =
     changed-blocks t alike i differ (chain-first form t first second are i inside) (chain-second form t first second are i inside) (formed-chains form t first second are i inside)

@@ -7,14 +7,14 @@ use Rattle.tree_shape.specs.Shape.{ShapeRecord}
 use Rattle.tree_runs.specs.declared.run.Run.{Run}
 use Rattle.tree_runs.specs.declared.run.Kind.TheVariants.{Changed, Removed, Added}
 use Rattle.tree_runs.specs.declared.tally.Tally.{Tally}
-use Rattle.tree_runs.specs.Limits.{lines_of}
+use Rattle.tree_runs.specs.Limits.{limited_lines}
 use Rattle.tree_runs.specs.Runs.{State, run, runs_of}
 use Rattle.tree_runs.specs.Tallies.{closed_by, listed, opened_by}
 use Rattle.tree_runs.specs.Texts.{listing_text}
 use Rattle.tree_runs.proofs.lemmas.ListingLemmas.{IsListed, listed-all, listed-last}
 use Rattle.tree_difference.specs.declared.walk.Walk.{Walk}
 use Rattle.tree_difference.specs.Comparisons.{rest_states}
-use Rattle.tree_difference.specs.Differences.{rest_of}
+use Rattle.tree_difference.specs.Differences.{rest_run}
 use Rattle.tree_difference.specs.Rests.{last_runs}
 use Rattle.tree_difference.specs.Trees.{Trees, common_blocks}
 
@@ -26,7 +26,7 @@ abbrev rest_list : ℕ → ℕ → List State
 rest_list n m = replicate (n - m) (Some Removed) ++ replicate (m - n) (Some Added)
 
 pub listed-rest : (b n m : ℕ) (most : Option ℕ) (compared : List State) (tally : Tally) (old now new : Option (List ℕ)) → b ≡ min n m → length compared ≡ b → IsListed most compared tally old now
-    → Appends now new (lines_of tally.limit (last_runs tally.last (rest_by b n m))) → Appends old new (listing_text most (runs_of 0 (compared ++ (replicate (n - m) (Some Removed) ++ replicate (m - n) (Some Added)))))
+    → Appends now new (limited_lines tally.limit (last_runs tally.last (rest_by b n m))) → Appends old new (listing_text most (runs_of 0 (compared ++ (replicate (n - m) (Some Removed) ++ replicate (m - n) (Some Added)))))
 listed-rest b n m most compared tally old now new least here t told = elim (cases_lt b n) [
   | inl longer ↦
       let none : m - n ≡ 0 = omega (arith, least, longer) in
@@ -35,7 +35,7 @@ listed-rest b n m most compared tally old now new least here t told = elim (case
       let states : rest_list n m ≡ replicate (n - b) (Some Removed) =
       ap (λ (k : ℕ). replicate k (Some Removed) ++ replicate (m - n) (Some Added)) some ∙ ap (λ (k : ℕ). replicate (n - b) (Some Removed) ++ replicate k (Some Added)) none ∙ append-nil (replicate (n - b) (Some Removed)) in
       subst (λ (l : List State). Appends old new (listing_text most (runs_of 0 (compared ++ l)))) (sym states)
-      (listed-last most compared tally old now new b (n - b) Removed (sym here) (omega (arith, longer)) t (subst (λ (r : Option Run). Appends now new (lines_of tally.limit (last_runs tally.last r))) rest told))
+      (listed-last most compared tally old now new b (n - b) Removed (sym here) (omega (arith, longer)) t (subst (λ (r : Option Run). Appends now new (limited_lines tally.limit (last_runs tally.last r))) rest told))
   | inr not_longer ↦ elim (cases_lt b m) [
     | inl longer ↦
         let none : n - m ≡ 0 = omega (arith, least, not_longer) in
@@ -46,7 +46,7 @@ listed-rest b n m most compared tally old now new least here t told = elim (case
         let states : rest_list n m ≡ replicate (m - b) (Some Added) =
         ap (λ (k : ℕ). replicate k (Some Removed) ++ replicate (m - n) (Some Added)) none ∙ ap (λ (k : ℕ). replicate k (Some Added)) some in
         subst (λ (l : List State). Appends old new (listing_text most (runs_of 0 (compared ++ l)))) (sym states)
-        (listed-last most compared tally old now new b (m - b) Added (sym here) (omega (arith, longer)) t (subst (λ (r : Option Run). Appends now new (lines_of tally.limit (last_runs tally.last r))) rest told))
+        (listed-last most compared tally old now new b (m - b) Added (sym here) (omega (arith, longer)) t (subst (λ (r : Option Run). Appends now new (limited_lines tally.limit (last_runs tally.last r))) rest told))
     | inr no_longer ↦
         let none : n - m ≡ 0 = omega (arith, least, not_longer, no_longer) in
         let none' : m - n ≡ 0 = omega (arith, least, not_longer, no_longer) in
@@ -56,6 +56,6 @@ listed-rest b n m most compared tally old now new least here t told = elim (case
         let states : rest_list n m ≡ [] =
         ap (λ (k : ℕ). replicate k (Some Removed) ++ replicate (m - n) (Some Added)) none ∙ ap (λ (k : ℕ). replicate k (Some Added)) none' in
         subst (λ (l : List State). Appends old new (listing_text most (runs_of 0 l))) (sym (ap (λ (l : List State). compared ++ l) states ∙ append-nil compared))
-        (listed-all most compared tally old now new t (subst (λ (r : Option Run). Appends now new (lines_of tally.limit (last_runs tally.last r))) rest told))
+        (listed-all most compared tally old now new t (subst (λ (r : Option Run). Appends now new (limited_lines tally.limit (last_runs tally.last r))) rest told))
   ]
 ]

@@ -24,10 +24,10 @@ use Rattle.tree_runs.specs.declared.tally.Tally.{Tally}
 use Rattle.tree_runs.specs.Runs.{State, count_of}
 use Rattle.tree_runs.proofs.lemmas.ListingLemmas.{IsListed}
 use Rattle.tree_difference.specs.declared.walk.Walk.{Walk}
-use Rattle.tree_difference.specs.Comparisons.{AreApart, AreBehind, AreEntered, AreSeen, Entry, IsBehind, IsEntered, World, images_of}
+use Rattle.tree_difference.specs.Comparisons.{AreDistinctPairs, AreBehind, AreEntered, AreStatesSeen, HashPair, IsReadAfter, IsEntered, DifferenceWorld, hash_images}
 use Rattle.tree_difference.specs.Differences.{CanCompare, HaveTrees, IsWalkOf, trees_in}
 use Rattle.tree_difference.specs.Trees.{Trees, AreWays, IsSeenAs, IsStoredAs, common_blocks, common_levels, first_digest, second_digest}
-use Rattle.tree_difference.specs.Walks.{AreSameTrees, HasStopped, HaveBlock, IsOn, Sides, sides}
+use Rattle.tree_difference.specs.Walks.{AreSameTrees, HasStopped, HaveBlock, IsOn, WalkSides, walk_sides}
 use Rattle.tree_difference.proofs.AlongLemmas.{HasWidth, IsTop, first-same, next-same, none-above, on-along, on-higher, second-same}
 use Rattle.tree_difference.proofs.WalkLemmas.{have-then, on-was, trees-none, trees-then}
 
@@ -44,16 +44,16 @@ abbrev pub width : Walk → ℕ
 width w = per_block w.first.shape
 
 -- the data blocks before that one are compared
-pub record IsUnderway (w0 w : Walk) (i : World) (most : Option ℕ) (g : Progress) : Type 0 where
+pub record IsUnderway (w0 w : Walk) (i : DifferenceWorld) (most : Option ℕ) (g : Progress) : Type 0 where
   pub compared : List State
   pub here : g.at ≡ length compared
   pub within : g.at ≤ w0.blocks
   pub trees : AreSameTrees w0 w
   pub next : g.at < w0.blocks → (k : ℕ) → k ≤ w0.levels → IsTop (width w0) w0.levels g.at k → IsOn w i.first i.second g.at k
-  pub seen : AreSeen (trees_in w0) i compared
-  pub entries : List Entry
+  pub seen : AreStatesSeen (trees_in w0) i compared
+  pub entries : List HashPair
   pub entered : AreEntered (trees_in w0) entries
-  pub before : All (λ (e : Entry). e.index < g.at) entries
+  pub before : All (λ (e : HashPair). e.index < g.at) entries
   pub first_read : IsFullRead i.first (length entries * (w0.first.shape.hash_block / 512)) i.first'
   pub second_read : IsFullRead i.second (length entries * (w0.second.shape.hash_block / 512)) i.second'
   pub listed : IsListed most compared g.tally i.printed i.printed'
@@ -62,27 +62,27 @@ pub record IsUnderway (w0 w : Walk) (i : World) (most : Option ℕ) (g : Progres
 -- ---- the hash blocks that were entered
 
 -- those of the levels from l on, n of them, on the way to a data block
-abbrev pub entered_from : ℕ → ℕ → ℕ → List Entry → List Entry
+abbrev pub entered_from : ℕ → ℕ → ℕ → List HashPair → List HashPair
 entered_from at l zero rest = rest
 entered_from at l (suc n) rest = record { index = at; level = l } ∷ entered_from at (l + 1) n rest
 
-length-entered : (at l n : ℕ) (rest : List Entry) → length (entered_from at l n rest) ≡ n + length rest
+length-entered : (at l n : ℕ) (rest : List HashPair) → length (entered_from at l n rest) ≡ n + length rest
 length-entered at l zero rest = omega arith
 length-entered at l (suc n) rest = omega (arith, length-entered at (l + 1) n rest)
 
-behind-all : (e : Entry) (rest : List Entry) → All (λ (f : Entry). f.index < e.index) rest → AreBehind e rest
+behind-all : (e : HashPair) (rest : List HashPair) → All (λ (f : HashPair). f.index < e.index) rest → AreBehind e rest
 behind-all e [] all = tt
-behind-all e (f ∷ rest) all = (inl (All-head (λ (f : Entry). f.index < e.index) f rest all), behind-all e rest (All-tail (λ (f : Entry). f.index < e.index) f rest all))
+behind-all e (f ∷ rest) all = (inl (All-head (λ (f : HashPair). f.index < e.index) f rest all), behind-all e rest (All-tail (λ (f : HashPair). f.index < e.index) f rest all))
 
-behind-entered : (at l k n : ℕ) (rest : List Entry) → l < k → All (λ (f : Entry). f.index < at) rest → AreBehind (record { index = at; level = l }) (entered_from at k n rest)
+behind-entered : (at l k n : ℕ) (rest : List HashPair) → l < k → All (λ (f : HashPair). f.index < at) rest → AreBehind (record { index = at; level = l }) (entered_from at k n rest)
 behind-entered at l k zero rest low all = behind-all (record { index = at; level = l }) rest all
 behind-entered at l k (suc n) rest low all = (inr (refl, low), behind-entered at l (k + 1) n rest (omega (arith, low)) all)
 
-apart-entered : (at l n : ℕ) (rest : List Entry) → All (λ (f : Entry). f.index < at) rest → AreApart rest → AreApart (entered_from at l n rest)
+apart-entered : (at l n : ℕ) (rest : List HashPair) → All (λ (f : HashPair). f.index < at) rest → AreDistinctPairs rest → AreDistinctPairs (entered_from at l n rest)
 apart-entered at l zero rest all apart = apart
 apart-entered at l (suc n) rest all apart = (behind-entered at l (l + 1) n rest (omega arith) all, apart-entered at (l + 1) n rest all apart)
 
-all-entered : (P : Entry → Type 0) (at l n : ℕ) (rest : List Entry) → All P rest → ((k : ℕ) → l ≤ k → k < l + n → P (record { index = at; level = k })) → All P (entered_from at l n rest)
+all-entered : (P : HashPair → Type 0) (at l n : ℕ) (rest : List HashPair) → All P rest → ((k : ℕ) → l ≤ k → k < l + n → P (record { index = at; level = k })) → All P (entered_from at l n rest)
 all-entered P at l zero rest all each = all
 all-entered P at l (suc n) rest all each =
     All-cons P (record { index = at; level = l }) (entered_from at (l + 1) n rest) (each l (omega arith) (omega arith))
@@ -91,7 +91,7 @@ all-entered P at l (suc n) rest all each =
 -- ---- one subtree more
 
 -- what is known of it
-pub record IsNext (w0 w w' : Walk) (i i' : World) (at top level count : ℕ) : Type 0 where
+pub record IsNext (w0 w w' : Walk) (i i' : DifferenceWorld) (at top level count : ℕ) : Type 0 where
   pub trees : AreSameTrees w0 w'
   pub inside : at < w0.blocks
   pub top_is : IsTopAt (width w0) w0.levels at top
@@ -103,7 +103,7 @@ pub record IsNext (w0 w w' : Walk) (i i' : World) (at top level count : ℕ) : T
   pub first_read : IsFullRead i.first' ((top - level) * (w0.first.shape.hash_block / 512)) i'.first'
   pub second_read : IsFullRead i.second' ((top - level) * (w0.second.shape.hash_block / 512)) i'.second'
 
-module _ (w0 w w' : Walk) (d e : Device) (have : HaveTrees w0 d e) (i i' : World) (at top level count : ℕ) (n : IsNext w0 w w' i i' at top level count) where
+module _ (w0 w w' : Walk) (d e : Device) (have : HaveTrees w0 d e) (i i' : DifferenceWorld) (at top level count : ℕ) (n : IsNext w0 w w' i i' at top level count) where
   t : Trees
   t = trees_in w0
 
@@ -151,13 +151,13 @@ module _ (w0 w w' : Walk) (d e : Device) (have : HaveTrees w0 d e) (i i' : World
   }
 
   -- the digests that stand on the devices
-  first-stored : (j m : ℕ) → IsTrue i.first.steady → m ≤ w0.levels → level ≤ m → IsOn w' i.first i.second j level → digest_on w'.first j m ≡ first_digest (trees_in w0) (images_of i) j m
+  first-stored : (j m : ℕ) → IsTrue i.first.steady → m ≤ w0.levels → level ≤ m → IsOn w' i.first i.second j level → digest_on w'.first j m ≡ first_digest (trees_in w0) (hash_images i) j m
   first-stored j m steady few le on =
       digest_on-stored w'.first i.first.image j m (omega (arith, few, have.of.levels, ap levels n.trees.first.shape_is)) (λ low. (on.first_stored steady).up m le low)
       ∙ ap (λ (s : ShapeRecord). stored_digest s w'.first.root i.first.image j m) n.trees.first.shape_is
       ∙ ap (λ (r : List ℕ). stored_digest w0.first.shape r i.first.image j m) n.trees.first.root_is
 
-  second-stored : (j m : ℕ) → IsTrue i.second.steady → m ≤ w0.levels → level ≤ m → IsOn w' i.first i.second j level → digest_on w'.second j m ≡ second_digest (trees_in w0) (images_of i) j m
+  second-stored : (j m : ℕ) → IsTrue i.second.steady → m ≤ w0.levels → level ≤ m → IsOn w' i.first i.second j level → digest_on w'.second j m ≡ second_digest (trees_in w0) (hash_images i) j m
   second-stored j m steady few le on =
       digest_on-stored w'.second i.second.image j m (omega (arith, few, have.of.levels, ap levels n.trees.second.shape_is)) (λ low. (on.second_stored steady).up m le low)
       ∙ ap (λ (s : ShapeRecord). stored_digest s w'.second.root i.second.image j m) n.trees.second.shape_is
@@ -168,7 +168,7 @@ module _ (w0 w w' : Walk) (d e : Device) (have : HaveTrees w0 d e) (i i' : World
   seen-same same j low =
       (level, (w'.first, (w'.second, (ways (at + j) level (omega (arith, low, count-inside)) few-levels (on-block j low), first-on j low ∙ same ∙ sym (second-on j low)))))
 
-  pub stored-same : digest_on w'.first at level ≡ digest_on w'.second at level → IsTrue i.first.steady → IsTrue i.second.steady → (j : ℕ) → j < count → IsStoredAs (trees_in w0) (images_of i) (at + j) None
+  pub stored-same : digest_on w'.first at level ≡ digest_on w'.second at level → IsTrue i.first.steady → IsTrue i.second.steady → (j : ℕ) → j < count → IsStoredAs (trees_in w0) (hash_images i) (at + j) None
   stored-same same steady steady' j low = (
     level,
     (
@@ -190,7 +190,7 @@ module _ (w0 w w' : Walk) (d e : Device) (have : HaveTrees w0 d e) (i i' : World
     ),
   )
 
-  pub stored-changed : level ≡ 0 → digest_on w'.first at level ≢ digest_on w'.second at level → IsTrue i.first.steady → IsTrue i.second.steady → (j : ℕ) → j < count → IsStoredAs (trees_in w0) (images_of i) (at + j) (Some Changed)
+  pub stored-changed : level ≡ 0 → digest_on w'.first at level ≢ digest_on w'.second at level → IsTrue i.first.steady → IsTrue i.second.steady → (j : ℕ) → j < count → IsStoredAs (trees_in w0) (hash_images i) (at + j) (Some Changed)
   stored-changed low_level differ steady steady' j low m most =
       let few : m ≤ w0.levels = omega (arith, most, have.of.levels) in
       let le : level ≤ m = omega (arith, low_level) in
@@ -224,7 +224,7 @@ module _ (w0 w w' : Walk) (d e : Device) (have : HaveTrees w0 d e) (i i' : World
       (on-higher w' i.first i.second at level k both.0 n.on)
 
   -- the pairs of hash blocks that were entered
-  pub entered-next : (entries : List Entry) → All (λ (e : Entry). e.index < at) entries → AreEntered (trees_in w0) entries → AreEntered (trees_in w0) (entered_from at level (top - level) entries)
+  pub entered-next : (entries : List HashPair) → All (λ (e : HashPair). e.index < at) entries → AreEntered (trees_in w0) entries → AreEntered (trees_in w0) (entered_from at level (top - level) entries)
   entered-next entries before entered = record {
     each = all-entered (IsEntered (trees_in w0)) at level (top - level) entries entered.each (λ k low high. record {
       p = w'.first;
@@ -236,23 +236,23 @@ module _ (w0 w w' : Walk) (d e : Device) (have : HaveTrees w0 d e) (i i' : World
     apart = apart-entered at level (top - level) entries before entered.apart;
   }
 
-  pub before-next : (entries : List Entry) → All (λ (e : Entry). e.index < at) entries → All (λ (e : Entry). e.index < at + count) (entered_from at level (top - level) entries)
+  pub before-next : (entries : List HashPair) → All (λ (e : HashPair). e.index < at) entries → All (λ (e : HashPair). e.index < at + count) (entered_from at level (top - level) entries)
   before-next entries before =
-      all-entered (λ (e : Entry). e.index < at + count) at level (top - level) entries
-      (All-weaker (λ (e : Entry). e.index < at) (λ (e : Entry). e.index < at + count) (λ e low. omega (arith, low)) entries before)
+      all-entered (λ (e : HashPair). e.index < at + count) at level (top - level) entries
+      (All-weaker (λ (e : HashPair). e.index < at) (λ (e : HashPair). e.index < at + count) (λ e low. omega (arith, low)) entries before)
       (λ k low high. omega (arith, count-some))
 
-  pub reads-next : (d0 dm d' : Device) (entries : List Entry) (size : ℕ) → IsFullRead d0 (length entries * size) dm → IsFullRead dm ((top - level) * size) d' → IsFullRead d0 (length (entered_from at level (top - level) entries) * size) d'
+  pub reads-next : (d0 dm d' : Device) (entries : List HashPair) (size : ℕ) → IsFullRead d0 (length entries * size) dm → IsFullRead dm ((top - level) * size) d' → IsFullRead d0 (length (entered_from at level (top - level) entries) * size) d'
   reads-next d0 dm d' entries size p q =
       full_read-then (length entries * size) ((top - level) * size) (length (entered_from at level (top - level) entries) * size) p q
       ((let e : length entries * size + (top - level) * size ≡ (top - level + length entries) * size = grind arith in e) ∙ ap (λ (k : ℕ). k * size) (sym (length-entered at level (top - level) entries)))
 
   -- the states of the blocks so far and of these
-  pub seen-next : (compared : List State) (x : State) → at ≡ length compared → AreSeen (trees_in w0) i compared → ((j : ℕ) → j < count → IsSeenAs (trees_in w0) (at + j) x)
-      → (IsTrue i.first.steady → IsTrue i.second.steady → (j : ℕ) → j < count → IsStoredAs (trees_in w0) (images_of i) (at + j) x) → AreSeen (trees_in w0) i (compared ++ replicate count x)
+  pub seen-next : (compared : List State) (x : State) → at ≡ length compared → AreStatesSeen (trees_in w0) i compared → ((j : ℕ) → j < count → IsSeenAs (trees_in w0) (at + j) x)
+      → (IsTrue i.first.steady → IsTrue i.second.steady → (j : ℕ) → j < count → IsStoredAs (trees_in w0) (hash_images i) (at + j) x) → AreStatesSeen (trees_in w0) i (compared ++ replicate count x)
   seen-next compared x here seen each stored = record {
     seen = λ j inside. both (IsSeenAs (trees_in w0)) seen.seen each j inside;
-    stored = λ steady steady' j inside. both (IsStoredAs (trees_in w0) (images_of i)) (seen.stored steady steady') (stored steady steady') j inside;
+    stored = λ steady steady' j inside. both (IsStoredAs (trees_in w0) (hash_images i)) (seen.stored steady steady') (stored steady steady') j inside;
   }
     where
       both : (P : ℕ → State → Type 0) → ((j : ℕ) → j < length compared → P j (get_or compared j None)) → ((j : ℕ) → j < count → P (at + j) x)
@@ -285,7 +285,7 @@ underway-none w0 d e most printed tally can listed = record {
   seen = record { seen = λ j low. absurd (omega (arith, low)); stored = λ steady steady' j low. absurd (omega (arith, low)) };
   entries = [];
   entered = record { each = All-nil (IsEntered (trees_in w0)); apart = tt };
-  before = All-nil (λ (e : Entry). e.index < 0);
+  before = All-nil (λ (e : HashPair). e.index < 0);
   first_read = rw zero-mul (full_read-none d);
   second_read = rw zero-mul (full_read-none e);
   listed = listed;
@@ -296,10 +296,10 @@ underway-none w0 d e most printed tally can listed = record {
     zero_mod b = zero-mod b
 
 -- one subtree more, of data blocks in that state
-pub underway-next : (w0 w w' : Walk) (d e : Device) (have : HaveTrees w0 d e) (i i' : World) (most : Option ℕ) (g g' : Progress) (top level count : ℕ) (x : State)
+pub underway-next : (w0 w w' : Walk) (d e : Device) (have : HaveTrees w0 d e) (i i' : DifferenceWorld) (most : Option ℕ) (g g' : Progress) (top level count : ℕ) (x : State)
     → (u : IsUnderway w0 w i most g) (n : IsNext w0 w w' i i' g.at top level count)
     → ((j : ℕ) → j < count → IsSeenAs (trees_in w0) (g.at + j) x)
-    → (IsTrue i.first.steady → IsTrue i.second.steady → (j : ℕ) → j < count → IsStoredAs (trees_in w0) (images_of i) (g.at + j) x)
+    → (IsTrue i.first.steady → IsTrue i.second.steady → (j : ℕ) → j < count → IsStoredAs (trees_in w0) (hash_images i) (g.at + j) x)
     → IsListed most (u.compared ++ replicate count x) g'.tally i'.printed i'.printed' → g'.changed ≡ count_of Changed (u.compared ++ replicate count x) → g'.at ≡ g.at + count
     → IsUnderway w0 w' i' most g'
 underway-next w0 w w' d e have i i' most g g' top level count x u n seen stored listed counted at_is = record {
@@ -313,7 +313,7 @@ underway-next w0 w w' d e have i i' most g g' top level count x u n seen stored 
       subst (λ (a : ℕ). IsOn w' i'.first i'.second a k) (sym at_is)
       (subst (λ (y : Device). IsOn w' i'.first y (g.at + count) k) (sym n.second_same) (subst (λ (y : Device). IsOn w' y i.second (g.at + count) k) (sym n.first_same) on));
   seen =
-      let both : AreSeen (trees_in w0) i (u.compared ++ replicate count x) = seen-next w0 w w' d e have i i' g.at top level count n u.compared x u.here u.seen seen stored in
+      let both : AreStatesSeen (trees_in w0) i (u.compared ++ replicate count x) = seen-next w0 w w' d e have i i' g.at top level count n u.compared x u.here u.seen seen stored in
       record {
         seen = both.seen;
         stored = subst (λ (y : Device). IsTrue y.steady → IsTrue i'.second.steady → (j : ℕ) → j < length (u.compared ++ replicate count x) → IsStoredAs (trees_in w0) (record { first_image = y.image; second_image = i'.second.image }) j (get_or (u.compared ++ replicate count x) j None)) (sym n.first_same)
@@ -321,7 +321,7 @@ underway-next w0 w w' d e have i i' most g g' top level count x u n seen stored 
       };
   entries = entered_from g.at level (top - level) u.entries;
   entered = entered-next w0 w w' d e have i i' g.at top level count n u.entries u.before u.entered;
-  before = subst (λ (a : ℕ). All (λ (e : Entry). e.index < a) (entered_from g.at level (top - level) u.entries)) (sym at_is) (before-next w0 w w' d e have i i' g.at top level count n u.entries u.before);
+  before = subst (λ (a : ℕ). All (λ (e : HashPair). e.index < a) (entered_from g.at level (top - level) u.entries)) (sym at_is) (before-next w0 w w' d e have i i' g.at top level count n u.entries u.before);
   first_read = subst (λ (y : Device). IsFullRead y (length (entered_from g.at level (top - level) u.entries) * (w0.first.shape.hash_block / 512)) i'.first') (sym n.first_same)
       (reads-next w0 w w' d e have i i' g.at top level count n i.first i.first' i'.first' u.entries (w0.first.shape.hash_block / 512) u.first_read n.first_read);
   second_read = subst (λ (y : Device). IsFullRead y (length (entered_from g.at level (top - level) u.entries) * (w0.second.shape.hash_block / 512)) i'.second') (sym n.second_same)
@@ -349,7 +349,7 @@ top-of p most i k is = elim (cases_lt k most) [
 
 -- a walk that ended is the next subtree
 pub next-of : (w0 w w' : Walk) (d0 e0 d e d' e' : Device) (old now new : Option (List ℕ)) (at top level count : ℕ) (same : Bool) → AreSameTrees w0 w → at < w0.blocks → IsTopAt (width w0) w0.levels at top → IsOnlyRead d0 d → IsOnlyRead e0 e
-    → HasStopped (sides w w' d e d' e') at top level same → count ≡ min (width w0 ^ level) (w0.blocks - at)
+    → HasStopped (walk_sides w w' d e d' e') at top level same → count ≡ min (width w0 ^ level) (w0.blocks - at)
     → IsNext w0 w w' (record { first = d0; second = e0; first' = d; second' = e; printed = old; printed' = now }) (record { first = d0; second = e0; first' = d'; second' = e'; printed = old; printed' = new }) at top level count
 next-of w0 w w' d0 e0 d e d' e' old now new at top level count same trees inside is p q h span = record {
   trees = trees-then w0 w w' trees h.trees;

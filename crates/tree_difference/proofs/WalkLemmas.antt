@@ -16,8 +16,8 @@ use Rattle.tree_difference.specs.declared.fault.DifferenceFault.TheVariants.{Ima
 use Rattle.tree_difference.specs.declared.fault.Which.{Which}
 use Rattle.tree_difference.specs.declared.fault.Which.TheVariants.{First, Second}
 use Rattle.tree_difference.specs.declared.walk.Walk.{Walk}
-use Rattle.tree_difference.specs.Causes.{IsBadBlock, IsReadingCause, IsWalkCause}
-use Rattle.tree_difference.specs.Walks.{AreSameTrees, CanEnter, HasEntered, HaveBlock, IsOn, Sides, sides}
+use Rattle.tree_difference.specs.Causes.{IsBadBlock, IsWayCause, IsWalkCause}
+use Rattle.tree_difference.specs.Walks.{AreSameTrees, CanEnter, HasEntered, HaveBlock, IsOn, WalkSides, walk_sides}
 
 pub path-none : (p : PathRecord) → IsPathOf p.shape p.salt p.root p
 path-none p = record { shape_is = refl; salt_is = refl; root_is = refl }
@@ -37,7 +37,7 @@ trees-then a b c p q = record {
   blocks = q.blocks ∙ p.blocks;
 }
 
-pub trees-entered : (s : Sides) (i level : ℕ) → HasEntered s i level → AreSameTrees s.old s.new
+pub trees-entered : (s : WalkSides) (i level : ℕ) → HasEntered s i level → AreSameTrees s.old s.new
 trees-entered s i level h = record { first = h.first.same; second = h.second.same; shape = h.shape; levels = h.levels; blocks = h.blocks }
 
 pub have-then : (w w' : Walk) (d e d' e' : Device) (i : ℕ) → AreSameTrees w w' → d'.size ≡ d.size → e'.size ≡ e.size → HaveBlock w d e i → HaveBlock w' d' e' i
@@ -71,7 +71,7 @@ on-was w d e d' e' i k p q on = record {
 }
 
 -- one level further down, where the digests differ
-pub on-entered : (w w' : Walk) (d e d' e' : Device) (i level : ℕ) → IsOn w d e i (level + 1) → digest_on w.first i (level + 1) ≢ digest_on w.second i (level + 1) → HasEntered (sides w w' d e d' e') i level → IsOn w' d e i level
+pub on-entered : (w w' : Walk) (d e d' e' : Device) (i level : ℕ) → IsOn w d e i (level + 1) → digest_on w.first i (level + 1) ≢ digest_on w.second i (level + 1) → HasEntered (walk_sides w w' d e d' e') i level → IsOn w' d e i level
 on-entered w w' d e d' e' i level on apart h = record {
   first_leads = leads-down w.first w'.first d d' i (level + 1) level level h.first on.first_leads;
   second_leads = leads-down w.second w'.second e e' i (level + 1) level level h.second on.second_leads;
@@ -135,7 +135,7 @@ cause-then w w' d e dm em d' e' NoMemory t p q df ef h = absurd h
 cause-then w w' d e dm em d' e' Write t p q df ef h = absurd h
 
 -- a fault of one of the two that are read in turn
-pub entering-first : (w : Walk) (q : PathRecord) (d e d' : Device) (i level : ℕ) (fault : DifferenceFault) → CanEnter w d e i level → IsReadingCause (steps w.first q d d' i (level + 1)) First level fault → IsWalkCause w d e d' e fault
+pub entering-first : (w : Walk) (q : PathRecord) (d e d' : Device) (i level : ℕ) (fault : DifferenceFault) → CanEnter w d e i level → IsWayCause (steps w.first q d d' i (level + 1)) First level fault → IsWalkCause w d e d' e fault
 entering-first w q d e d' i level (Hash First at number) can h = bad-block w.first q d d' i level at number h.1 can.on.first_leads can.on.first_stored can.have.first_block (omega (arith, can.low, can.have.first_levels)) h.2
 entering-first w q d e d' i level (Hash Second at number) can h = let clash : Second ≡ First = h.0 in absurd (cc)
 entering-first w q d e d' i level (Image First DeviceFailed) can h = h.1
@@ -150,7 +150,7 @@ entering-first w q d e d' i level (Unlike f) can h = absurd h
 entering-first w q d e d' i level NoMemory can h = absurd h
 entering-first w q d e d' i level Write can h = absurd h
 
-pub entering-second : (w : Walk) (q : PathRecord) (d e d' e' : Device) (i level : ℕ) (fault : DifferenceFault) → CanEnter w d e i level → IsReadingCause (steps w.second q e e' i (level + 1)) Second level fault → IsWalkCause w d e d' e' fault
+pub entering-second : (w : Walk) (q : PathRecord) (d e d' e' : Device) (i level : ℕ) (fault : DifferenceFault) → CanEnter w d e i level → IsWayCause (steps w.second q e e' i (level + 1)) Second level fault → IsWalkCause w d e d' e' fault
 entering-second w q d e d' e' i level (Hash Second at number) can h = bad-block w.second q e e' i level at number h.1 can.on.second_leads can.on.second_stored can.have.second_block (omega (arith, can.low, can.have.second_levels)) h.2
 entering-second w q d e d' e' i level (Hash First at number) can h = let clash : First ≡ Second = h.0 in absurd (cc)
 entering-second w q d e d' e' i level (Image Second DeviceFailed) can h = h.1

@@ -19,10 +19,10 @@ use Rattle.tree_difference.specs.declared.fault.Which.TheVariants.{First, Second
 use Rattle.tree_difference.specs.declared.walk.Walk.{Walk}
 
 -- on the way to a data block the hash block of a level has another digest than stands above it, or the device failed
-abbrev pub IsReadingCause : Steps → Which → ℕ → DifferenceFault → Type 0
-IsReadingCause w which to (Hash tree level number) = (tree ≡ which) × IsStopped w to level × (number ≡ ancestor w.old.shape (level + 1) w.index)
-IsReadingCause w which to (Image tree DeviceFailed) = (tree ≡ which) × HasFailed w.device w.device'
-IsReadingCause w which to fault = ⊥
+abbrev pub IsWayCause : Steps → Which → ℕ → DifferenceFault → Type 0
+IsWayCause w which to (Hash tree level number) = (tree ≡ which) × IsStopped w to level × (number ≡ ancestor w.old.shape (level + 1) w.index)
+IsWayCause w which to (Image tree DeviceFailed) = (tree ≡ which) × HasFailed w.device w.device'
+IsWayCause w which to fault = ⊥
 
 -- The hash block of that level and number has another digest than stands above it, and those above it are good. Over a
 -- steady device that is what stands there.
@@ -48,8 +48,8 @@ IsWalkCause w first second first' second' fault = ⊥
 -- ---- calls, by what a proof sees of devices: as they were before, and then after
 
 -- why the hash blocks on the way to a data block, from a level down to one, weren't read or aren't good
-abbrev pub FailsToRead : {H : Type 0} → (H → Device) → PathRecord → PathRecord → H → H → ℕ → ℕ → Which → ℕ → DifferenceFault → Type 0
-FailsToRead state old new h h' index from which to fault = IsReadingCause (steps old new (state h) (state h') index from) which to fault
+abbrev pub FailsToReadDown : {H : Type 0} → (H → Device) → PathRecord → PathRecord → H → H → ℕ → ℕ → Which → ℕ → DifferenceFault → Type 0
+FailsToReadDown state old new h h' index from which to fault = IsWayCause (steps old new (state h) (state h') index from) which to fault
 
 -- why a walk ended early
 abbrev pub EndsWalk : {D E : Type 0} → (D → Device) → (E → Device) → Walk → D → E → D → E → DifferenceFault → Type 0

@@ -10,10 +10,10 @@ use Rattle.tree_runs.specs.declared.run.Kind.TheVariants.{Changed, Removed, Adde
 use Rattle.tree_runs.specs.Runs.{State, count_of, runs_of}
 use Rattle.tree_runs.specs.Texts.{listing_text}
 use Rattle.tree_difference.specs.declared.difference.Totals.{Totals}
-use Rattle.tree_difference.specs.Trees.{Trees, Images, AreWays, IsSeenAs, IsStoredAs, common_blocks, common_levels}
+use Rattle.tree_difference.specs.Trees.{Trees, HashImages, AreWays, IsSeenAs, IsStoredAs, common_blocks, common_levels}
 
 -- two devices before and after, and what was printed, where that is known
-pub record World : Type 0 where
+pub record DifferenceWorld : Type 0 where
   pub first : Device
   pub second : Device
   pub first' : Device
@@ -21,30 +21,30 @@ pub record World : Type 0 where
   pub printed : Option (List ℕ)
   pub printed' : Option (List ℕ)
 
-abbrev pub world : Device → Device → Device → Device → Option (List ℕ) → Option (List ℕ) → World
-world first second first' second' printed printed' = record { first = first; second = second; first' = first'; second' = second'; printed = printed; printed' = printed' }
+abbrev pub difference_world : Device → Device → Device → Device → Option (List ℕ) → Option (List ℕ) → DifferenceWorld
+difference_world first second first' second' printed printed' = record { first = first; second = second; first' = first'; second' = second'; printed = printed; printed' = printed' }
 
-abbrev pub images_of : World → Images
-images_of w = record { first_image = w.first.image; second_image = w.second.image }
+abbrev pub hash_images : DifferenceWorld → HashImages
+hash_images w = record { first_image = w.first.image; second_image = w.second.image }
 
 -- the states of the data blocks that one image alone has
 abbrev pub rest_states : Trees → List State
 rest_states t = replicate (t.first.blocks - t.second.blocks) (Some Removed) ++ replicate (t.second.blocks - t.first.blocks) (Some Added)
 
 -- the states of the first data blocks, each with the ways that show it
-pub record AreSeen (t : Trees) (w : World) (compared : List State) : Type 0 where
+pub record AreStatesSeen (t : Trees) (w : DifferenceWorld) (compared : List State) : Type 0 where
   pub seen : (i : ℕ) → i < length compared → IsSeenAs t i (slice_index_or compared i None)
-  pub stored : IsTrue w.first.steady → IsTrue w.second.steady → (i : ℕ) → i < length compared → IsStoredAs t (images_of w) i (slice_index_or compared i None)
+  pub stored : IsTrue w.first.steady → IsTrue w.second.steady → (i : ℕ) → i < length compared → IsStoredAs t (hash_images w) i (slice_index_or compared i None)
 
 -- ---- the cost
 
 -- the hash blocks of a level on the way to a data block, of both trees
-pub record Entry : Type 0 where
+pub record HashPair : Type 0 where
   pub index : ℕ
   pub level : ℕ
 
 -- they were read since their digests differ; the data block is the first beneath them
-pub record IsEntered (t : Trees) (e : Entry) : Type 0 where
+pub record IsEntered (t : Trees) (e : HashPair) : Type 0 where
   pub p : PathRecord
   pub q : PathRecord
   pub ways : AreWays t e.index (e.level + 1) p q
@@ -52,34 +52,34 @@ pub record IsEntered (t : Trees) (e : Entry) : Type 0 where
   pub begins : e.index % per_block t.first ^ (e.level + 1) ≡ 0
 
 -- the first was read after the second: it is beneath it, or of a later data block
-abbrev pub IsBehind : Entry → Entry → Type 0
-IsBehind e f = (f.index < e.index) ⊎ ((f.index ≡ e.index) × (e.level < f.level))
+abbrev pub IsReadAfter : HashPair → HashPair → Type 0
+IsReadAfter e f = (f.index < e.index) ⊎ ((f.index ≡ e.index) × (e.level < f.level))
 
 -- each behind the ones that were read before, so that none is twice among them
-abbrev pub AreBehind : Entry → List Entry → Type 0
+abbrev pub AreBehind : HashPair → List HashPair → Type 0
 AreBehind e [] = Unit {0}
-AreBehind e (f ∷ more) = IsBehind e f × AreBehind e more
+AreBehind e (f ∷ more) = IsReadAfter e f × AreBehind e more
 
-abbrev pub AreApart : List Entry → Type 0
-AreApart [] = Unit {0}
-AreApart (e ∷ more) = AreBehind e more × AreApart more
+abbrev pub AreDistinctPairs : List HashPair → Type 0
+AreDistinctPairs [] = Unit {0}
+AreDistinctPairs (e ∷ more) = AreBehind e more × AreDistinctPairs more
 
 -- these pairs of hash blocks, and the only ones of the levels that both trees have, were read
-pub record AreEntered (t : Trees) (entries : List Entry) : Type 0 where
+pub record AreEntered (t : Trees) (entries : List HashPair) : Type 0 where
   pub each : All (IsEntered t) entries
-  pub apart : AreApart entries
+  pub apart : AreDistinctPairs entries
 
 -- Beside so many sectors of each image the pairs of hash blocks that differ were read, each once.
-pub record Reads (t : Trees) (w : World) (first_more second_more : ℕ) : Type 0 where
-  pub entries : List Entry
+pub record ReadsDiffering (t : Trees) (w : DifferenceWorld) (first_more second_more : ℕ) : Type 0 where
+  pub entries : List HashPair
   pub entered : AreEntered t entries
   pub first_read : IsFullRead w.first (first_more + length entries * (t.first.hash_block / 512)) w.first'
   pub second_read : IsFullRead w.second (second_more + length entries * (t.second.hash_block / 512)) w.second'
 
 -- ---- what is found
 
-abbrev pub totals_of : Trees → List State → Totals
-totals_of t compared = record {
+abbrev pub compared_totals : Trees → List State → Totals
+compared_totals t compared = record {
   same = common_blocks t - count_of Changed compared;
   changed = count_of Changed compared;
   removed = t.first.blocks - t.second.blocks;
@@ -87,9 +87,9 @@ totals_of t compared = record {
 }
 
 -- Each data block that both have is the same or changed. The longest runs were printed, in rising order.
-pub record Compares (t : Trees) (w : World) (most : Option ℕ) (totals : Totals) : Type 0 where
+pub record Compares (t : Trees) (w : DifferenceWorld) (most : Option ℕ) (totals : Totals) : Type 0 where
   pub compared : List State
   pub count : length compared ≡ common_blocks t
-  pub seen : AreSeen t w compared
-  pub totals_are : totals ≡ totals_of t compared
+  pub seen : AreStatesSeen t w compared
+  pub totals_are : totals ≡ compared_totals t compared
   pub printed_are : Appends w.printed w.printed' (listing_text most (runs_of 0 (compared ++ rest_states t)))

@@ -10,7 +10,7 @@ use Rattle.tree_path.specs.Steps.{IsDown, steps}
 use Rattle.tree_runs.specs.declared.run.Kind.TheVariants.{Removed, Added}
 use Rattle.tree_runs.specs.declared.run.Run.{Run}
 use Rattle.tree_runs.specs.declared.tally.Tally.{Tally}
-use Rattle.tree_runs.specs.Limits.{lines_of}
+use Rattle.tree_runs.specs.Limits.{limited_lines}
 use Rattle.tree_runs.specs.Runs.{run}
 use Rattle.tree_difference.specs.declared.difference.Roots.{Roots}
 use Rattle.tree_difference.specs.declared.difference.Totals.{Totals}
@@ -19,11 +19,11 @@ use Rattle.tree_difference.specs.declared.fault.DifferenceFault.TheVariants.{Ima
 use Rattle.tree_difference.specs.declared.fault.Which.TheVariants.{First, Second}
 use Rattle.tree_difference.specs.declared.walk.Walk.{Walk}
 use Rattle.tree_difference.specs.Causes.{IsBadBlock, IsWalkCause}
-use Rattle.tree_difference.specs.Comparisons.{Compares, Reads, World, world}
+use Rattle.tree_difference.specs.Comparisons.{Compares, ReadsDiffering, DifferenceWorld, difference_world}
 use Rattle.tree_difference.specs.Rests.{last_runs}
-use Rattle.tree_difference.specs.Superblocks.{IsCut, IsImageRead, unlike}
-use Rattle.tree_difference.specs.Trees.{Trees, AreAlike, common_blocks, common_levels}
-use Rattle.tree_difference.specs.Walks.{HaveBlock, IsOn, Sides, sides}
+use Rattle.tree_difference.specs.Superblocks.{IsTreeCut, IsImageRead, unlike}
+use Rattle.tree_difference.specs.Trees.{Trees, AreComparable, common_blocks, common_levels}
+use Rattle.tree_difference.specs.Walks.{HaveBlock, IsOn, WalkSides, walk_sides}
 
 -- the trees of two superblocks and two roots
 abbrev pub trees_of : SuperRecord → SuperRecord → Roots → Trees
@@ -43,14 +43,14 @@ pub record IsWalkOf (t : Trees) (w : Walk) : Type 0 where
 -- both trees are shapes, and lie on the devices
 pub record HaveTrees (w : Walk) (first second : Device) : Type 0 where
   pub of : IsWalkOf (trees_in w) w
-  pub alike : AreAlike (trees_in w)
+  pub alike : AreComparable (trees_in w)
   pub first_valid : IsShape w.first.shape
   pub second_valid : IsShape w.second.shape
   pub first_fits : tree_sectors w.first.shape ≤ first.size
   pub second_fits : tree_sectors w.second.shape ≤ second.size
 
 -- the hash blocks of the levels that the other tree doesn't have were read
-pub record IsAligned (s : Sides) : Type 0 where
+pub record IsAligned (s : WalkSides) : Type 0 where
   pub first : IsDown (steps s.old.first s.new.first s.first s.first' 0 (levels s.old.first.shape)) s.old.levels s.old.levels
   pub second : IsDown (steps s.old.second s.new.second s.second s.second' 0 (levels s.old.second.shape)) s.old.levels s.old.levels
   pub shape : s.new.shape ≡ s.old.shape
@@ -62,15 +62,15 @@ pub record CanCompare (w : Walk) (first second : Device) : Type 0 where
   pub on : IsOn w first second 0 w.levels
 
 -- the data blocks that one of the two trees alone has
-abbrev pub rest_of : Walk → Option Run
-rest_of w =
+abbrev pub rest_run : Walk → Option Run
+rest_run w =
     if nat_lt w.blocks w.first.shape.blocks then Some (run w.blocks (w.first.shape.blocks - w.blocks) Removed)
     else if nat_lt w.blocks w.second.shape.blocks then Some (run w.blocks (w.second.shape.blocks - w.blocks) Added)
     else None
 
 -- what is told at last, of the run that may still grow and of those blocks
 abbrev pub last_lines : Tally → Walk → List ℕ
-last_lines tally w = lines_of tally.limit (last_runs tally.last (rest_of w))
+last_lines tally w = limited_lines tally.limit (last_runs tally.last (rest_run w))
 
 -- the totals of a walk, of which so many data blocks changed
 abbrev pub totals_in : Walk → ℕ → Totals
@@ -87,26 +87,26 @@ abbrev pub sectors_before : ShapeRecord → Trees → ℕ
 sectors_before s t = 1 + (levels s - common_levels t) * (s.hash_block / 512)
 
 -- both superblocks were read, and the trees compared
-pub record IsDifference (w : World) (roots : Roots) (most : Option ℕ) (totals : Totals) : Type 0 where
+pub record IsDifference (w : DifferenceWorld) (roots : Roots) (most : Option ℕ) (totals : Totals) : Type 0 where
   pub a : SuperRecord
   pub b : SuperRecord
   pub first_image : IsImageRead w.first a
   pub second_image : IsImageRead w.second b
   pub alike : unlike a b ≡ None
   pub compares : Compares (trees_of a b roots) w most totals
-  pub reads : Reads (trees_of a b roots) w (sectors_before (shape_of a) (trees_of a b roots)) (sectors_before (shape_of b) (trees_of a b roots))
+  pub reads : ReadsDiffering (trees_of a b roots) w (sectors_before (shape_of a) (trees_of a b roots)) (sectors_before (shape_of b) (trees_of a b roots))
 
 -- both superblocks were read, and say this
-abbrev pub AreRead : World → (SuperRecord → SuperRecord → Type 0) → Type 0
-AreRead w P = (a : SuperRecord) × ((b : SuperRecord) × (IsImageRead w.first a × (IsImageRead w.second b × P a b)))
+abbrev pub AreSuperblocksRead : DifferenceWorld → (SuperRecord → SuperRecord → Type 0) → Type 0
+AreSuperblocksRead w P = (a : SuperRecord) × ((b : SuperRecord) × (IsImageRead w.first a × (IsImageRead w.second b × P a b)))
 
 -- why two images aren't compared
-abbrev pub IsDifferenceCause : World → Roots → Bool → DifferenceFault → Type 0
-IsDifferenceCause w roots failed (Image First fault) = IsReadCause w.first w.first' fault ⊎ IsCut w.first fault
-IsDifferenceCause w roots failed (Image Second fault) = IsReadCause w.second w.second' fault ⊎ IsCut w.second fault
-IsDifferenceCause w roots failed (Unlike field) = AreRead w (λ a b. unlike a b ≡ Some field)
-IsDifferenceCause w roots failed (Hash First level number) = AreRead w (λ a b. IsBadBlock (shape_of a) a.salt roots.first w.first level number)
-IsDifferenceCause w roots failed (Hash Second level number) = AreRead w (λ a b. IsBadBlock (shape_of b) b.salt roots.second w.second level number)
+abbrev pub IsDifferenceCause : DifferenceWorld → Roots → Bool → DifferenceFault → Type 0
+IsDifferenceCause w roots failed (Image First fault) = IsReadCause w.first w.first' fault ⊎ IsTreeCut w.first fault
+IsDifferenceCause w roots failed (Image Second fault) = IsReadCause w.second w.second' fault ⊎ IsTreeCut w.second fault
+IsDifferenceCause w roots failed (Unlike field) = AreSuperblocksRead w (λ a b. unlike a b ≡ Some field)
+IsDifferenceCause w roots failed (Hash First level number) = AreSuperblocksRead w (λ a b. IsBadBlock (shape_of a) a.salt roots.first w.first level number)
+IsDifferenceCause w roots failed (Hash Second level number) = AreSuperblocksRead w (λ a b. IsBadBlock (shape_of b) b.salt roots.second w.second level number)
 IsDifferenceCause w roots failed NoMemory = (w.first'.failures ≡ w.first.failures) × (w.second'.failures ≡ w.second.failures)
 IsDifferenceCause w roots failed Write = failed ≡ true
 
@@ -114,20 +114,20 @@ IsDifferenceCause w roots failed Write = failed ≡ true
 
 -- the first hash blocks of the levels that the other tree doesn't have were read
 abbrev pub Aligns : {D E : Type 0} → (D → Device) → (E → Device) → Walk → Walk → D → E → D → E → Type 0
-Aligns first_state second_state old new d e d' e' = IsAligned (sides old new (first_state d) (second_state e) (first_state d') (second_state e'))
+Aligns first_state second_state old new d e d' e' = IsAligned (walk_sides old new (first_state d) (second_state e) (first_state d') (second_state e'))
 
 -- what a proof sees of the devices and of what was told, before and after
-abbrev pub seen : {D E L : Type 0} → (D → Device) → (E → Device) → (L → Option (List ℕ)) → D → E → D → E → L → L → World
-seen first_state second_state told d e d' e' l l' = world (first_state d) (second_state e) (first_state d') (second_state e') (told l) (told l')
+abbrev pub seen_world : {D E L : Type 0} → (D → Device) → (E → Device) → (L → Option (List ℕ)) → D → E → D → E → L → L → DifferenceWorld
+seen_world first_state second_state told d e d' e' l l' = difference_world (first_state d) (second_state e) (first_state d') (second_state e') (told l) (told l')
 
 -- the data blocks of both trees were compared, and at most so many lines were told
 abbrev pub ComparesBlocks : {D E L : Type 0} → (D → Device) → (E → Device) → (L → Option (List ℕ)) → Walk → D → E → D → E → L → L → Option ℕ → Totals → Type 0
-ComparesBlocks first_state second_state told w d e d' e' l l' most totals = Compares (trees_in w) (seen first_state second_state told d e d' e' l l') most totals
+ComparesBlocks first_state second_state told w d e d' e' l l' most totals = Compares (trees_in w) (seen_world first_state second_state told d e d' e' l l') most totals
 
 -- the pairs of hash blocks that differ were read, each once, and nothing else
 abbrev pub ReadsPairs : {D E L : Type 0} → (D → Device) → (E → Device) → (L → Option (List ℕ)) → Walk → D → E → D → E → L → L → Type 0
-ReadsPairs first_state second_state told w d e d' e' l l' = Reads (trees_in w) (seen first_state second_state told d e d' e' l l') 0 0
+ReadsPairs first_state second_state told w d e d' e' l l' = ReadsDiffering (trees_in w) (seen_world first_state second_state told d e d' e' l l') 0 0
 
 -- why the comparison of the data blocks ended early
-abbrev pub EndsEarly : {D E : Type 0} → (D → Device) → (E → Device) → Walk → D → E → D → E → Bool → DifferenceFault → Type 0
-EndsEarly first_state second_state w d e d' e' failed fault = IsComparisonCause w (first_state d) (second_state e) (first_state d') (second_state e') failed fault
+abbrev pub EndsDifference : {D E : Type 0} → (D → Device) → (E → Device) → Walk → D → E → D → E → Bool → DifferenceFault → Type 0
+EndsDifference first_state second_state w d e d' e' failed fault = IsComparisonCause w (first_state d) (second_state e) (first_state d') (second_state e') failed fault

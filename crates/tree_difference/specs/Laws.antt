@@ -7,7 +7,7 @@ use Rattle.hash_tree.specs.Chain.{ChainRecord, IsGood}
 use Rattle.hash_tree.specs.Laws.{AreBlocks}
 use Rattle.hash_tree.specs.Tree.{root}
 use Rattle.tree_path.specs.Laws.{Collide}
-use Rattle.tree_difference.specs.Trees.{Trees, AreAlike, IsSame, IsDifferent, common_blocks}
+use Rattle.tree_difference.specs.Trees.{Trees, AreComparable, IsSame, IsDifferent, common_blocks}
 use Rattle.std.specs.Prelude.{◌<◌}
 
 -- two chains to one data block, each good under one of the roots
@@ -19,14 +19,14 @@ pub record AreChains (t : Trees) (i : ℕ) (a b : ChainRecord) : Type 0 where
 
 -- a data block that is seen as the same has one content in both chains, or two different inputs have one digest
 abbrev pub SameBlocksAreSame : Type 0
-SameBlocksAreSame = (t : Trees) → AreAlike t → (i : ℕ) → IsSame t i → (a b : ChainRecord) → AreChains t i a b → (a.content ≡ b.content) ⊎ Collide t.first_salt
+SameBlocksAreSame = (t : Trees) → AreComparable t → (i : ℕ) → IsSame t i → (a b : ChainRecord) → AreChains t i a b → (a.content ≡ b.content) ⊎ Collide t.first_salt
 
 -- one that is seen as changed has two contents, or two different inputs have one digest
-abbrev pub ChangedBlocksDiffer : Type 0
-ChangedBlocksDiffer = (t : Trees) → AreAlike t → (i : ℕ) → IsDifferent t i → (a b : ChainRecord) → AreChains t i a b → (a.content ≢ b.content) ⊎ Collide t.first_salt
+abbrev pub ChangedChainsDiffer : Type 0
+ChangedChainsDiffer = (t : Trees) → AreComparable t → (i : ℕ) → IsDifferent t i → (a b : ChainRecord) → AreChains t i a b → (a.content ≢ b.content) ⊎ Collide t.first_salt
 
 -- lists of data blocks whose trees have these roots
-pub record AreContents (t : Trees) (first second : List (List ℕ)) : Type 0 where
+pub record AreBothContents (t : Trees) (first second : List (List ℕ)) : Type 0 where
   pub first_shape : IsShape t.first
   pub second_shape : IsShape t.second
   pub first_blocks : AreBlocks t.first.blocks t.first.data_block first
@@ -36,9 +36,9 @@ pub record AreContents (t : Trees) (first second : List (List ℕ)) : Type 0 whe
 
 -- the same of the data blocks themselves
 abbrev pub SameContentsAreSame : Type 0
-SameContentsAreSame = (t : Trees) → AreAlike t → (first second : List (List ℕ)) → AreContents t first second → (i : ℕ) → i < common_blocks t → IsSame t i
+SameContentsAreSame = (t : Trees) → AreComparable t → (first second : List (List ℕ)) → AreBothContents t first second → (i : ℕ) → i < common_blocks t → IsSame t i
     → (slice_index_or first i [] ≡ slice_index_or second i []) ⊎ Collide t.first_salt
 
-abbrev pub ChangedContentsDiffer : Type 0
-ChangedContentsDiffer = (t : Trees) → AreAlike t → (first second : List (List ℕ)) → AreContents t first second → (i : ℕ) → i < common_blocks t → IsDifferent t i
+abbrev pub ChangedListsDiffer : Type 0
+ChangedListsDiffer = (t : Trees) → AreComparable t → (first second : List (List ℕ)) → AreBothContents t first second → (i : ℕ) → i < common_blocks t → IsDifferent t i
     → (slice_index_or first i [] ≢ slice_index_or second i []) ⊎ Collide t.first_salt

@@ -20,7 +20,7 @@ pub record IsImageRead (device : Device) (s : SuperRecord) : Type 0 where
   pub fits : tree_sectors (shape_of s) ≤ device.size
 
 -- a superblock was read, but its tree goes past the device
-pub record IsCut (device : Device) (fault : VerifyFault) : Type 0 where
+pub record IsTreeCut (device : Device) (fault : VerifyFault) : Type 0 where
   pub s : SuperRecord
   pub sector : List ℕ
   pub from : IsReadFrom device sector s
@@ -28,9 +28,9 @@ pub record IsCut (device : Device) (fault : VerifyFault) : Type 0 where
   pub is : fault ≡ TooSmall
 
 -- why there is no superblock of that image
-abbrev pub IsImageCause : Device → Device → Which → DifferenceFault → Type 0
-IsImageCause device device' which (Image tree fault) = (tree ≡ which) × (IsReadCause device device' fault ⊎ IsCut device fault)
-IsImageCause device device' which fault = ⊥
+abbrev pub IsOneImageCause : Device → Device → Which → DifferenceFault → Type 0
+IsOneImageCause device device' which (Image tree fault) = (tree ≡ which) × (IsReadCause device device' fault ⊎ IsTreeCut device fault)
+IsOneImageCause device device' which fault = ⊥
 
 -- the first field in which two superblocks differ
 abbrev pub unlike : SuperRecord → SuperRecord → Option Field

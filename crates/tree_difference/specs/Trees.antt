@@ -16,7 +16,7 @@ pub record Trees : Type 0 where
   pub second_root : List ℕ
 
 -- they have the same block sizes and the same salt
-pub record AreAlike (t : Trees) : Type 0 where
+pub record AreComparable (t : Trees) : Type 0 where
   pub data_block : t.second.data_block ≡ t.first.data_block
   pub hash_block : t.second.hash_block ≡ t.first.hash_block
   pub salt : t.second_salt ≡ t.first_salt
@@ -51,18 +51,18 @@ IsSeenAs t i (Some Changed) = IsDifferent t i
 IsSeenAs t i (Some kind) = ⊥
 
 -- the images of two hash devices
-pub record Images : Type 0 where
+pub record HashImages : Type 0 where
   pub first_image : List (List ℕ)
   pub second_image : List (List ℕ)
 
-abbrev pub first_digest : Trees → Images → ℕ → ℕ → List ℕ
+abbrev pub first_digest : Trees → HashImages → ℕ → ℕ → List ℕ
 first_digest t w i m = stored_digest t.first t.first_root w.first_image i m
 
-abbrev pub second_digest : Trees → Images → ℕ → ℕ → List ℕ
+abbrev pub second_digest : Trees → HashImages → ℕ → ℕ → List ℕ
 second_digest t w i m = stored_digest t.second t.second_root w.second_image i m
 
 -- The same as it stands on the devices: a data block is changed where the digests on the way down to it differ at each
 -- level that both trees have, its own among them.
-abbrev pub IsStoredAs : Trees → Images → ℕ → State → Type 0
+abbrev pub IsStoredAs : Trees → HashImages → ℕ → State → Type 0
 IsStoredAs t w i None = (m : ℕ) × ((m ≤ common_levels t) × (first_digest t w i m ≡ second_digest t w i m))
 IsStoredAs t w i (Some kind) = (m : ℕ) → m ≤ common_levels t → first_digest t w i m ≢ second_digest t w i m

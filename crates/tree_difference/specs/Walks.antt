@@ -11,7 +11,7 @@ use Rattle.tree_difference.specs.declared.walk.Stop.{Stop}
 use Rattle.tree_difference.specs.declared.walk.Walk.{Walk}
 
 -- two walks and their devices, before and after
-pub record Sides : Type 0 where
+pub record WalkSides : Type 0 where
   pub old : Walk
   pub new : Walk
   pub first : Device
@@ -19,8 +19,8 @@ pub record Sides : Type 0 where
   pub first' : Device
   pub second' : Device
 
-abbrev pub sides : Walk → Walk → Device → Device → Device → Device → Sides
-sides old new first second first' second' = record { old = old; new = new; first = first; second = second; first' = first'; second' = second' }
+abbrev pub walk_sides : Walk → Walk → Device → Device → Device → Device → WalkSides
+walk_sides old new first second first' second' = record { old = old; new = new; first = first; second = second; first' = first'; second' = second' }
 
 -- both are of the same two trees
 pub record AreSameTrees (old new : Walk) : Type 0 where
@@ -58,7 +58,7 @@ pub record CanEnter (w : Walk) (first second : Device) (i level : ℕ) : Type 0 
   pub low : level < w.levels
 
 -- the hash blocks of that level were read
-pub record HasEntered (s : Sides) (i level : ℕ) : Type 0 where
+pub record HasEntered (s : WalkSides) (i level : ℕ) : Type 0 where
   pub first : IsDown (steps s.old.first s.new.first s.first s.first' i (level + 1)) level level
   pub second : IsDown (steps s.old.second s.new.second s.second s.second' i (level + 1)) level level
   pub shape : s.new.shape ≡ s.old.shape
@@ -67,7 +67,7 @@ pub record HasEntered (s : Sides) (i level : ℕ) : Type 0 where
 
 -- The hash blocks of the levels from top - 1 down to one were read, each once. There the digests are the same, or those
 -- of the data block differ.
-pub record HasStopped (s : Sides) (i top level : ℕ) (same : Bool) : Type 0 where
+pub record HasStopped (s : WalkSides) (i top level : ℕ) (same : Bool) : Type 0 where
   pub trees : AreSameTrees s.old s.new
   pub few : level ≤ top
   pub on : IsOn s.new s.first s.second i level
@@ -80,11 +80,11 @@ pub record HasStopped (s : Sides) (i top level : ℕ) (same : Bool) : Type 0 whe
 
 -- the hash blocks of that level were read, of both trees
 abbrev pub Enters : {D E : Type 0} → (D → Device) → (E → Device) → Walk → Walk → D → E → D → E → ℕ → ℕ → Type 0
-Enters first_state second_state old new d e d' e' i level = HasEntered (sides old new (first_state d) (second_state e) (first_state d') (second_state e')) i level
+Enters first_state second_state old new d e d' e' i level = HasEntered (walk_sides old new (first_state d) (second_state e) (first_state d') (second_state e')) i level
 
 -- the way down from a level ended there
-abbrev pub Stops : {D E : Type 0} → (D → Device) → (E → Device) → Walk → Walk → D → E → D → E → ℕ → ℕ → Stop → Type 0
-Stops first_state second_state old new d e d' e' i top stop = HasStopped (sides old new (first_state d) (second_state e) (first_state d') (second_state e')) i top stop.level stop.same
+abbrev pub StopsWalk : {D E : Type 0} → (D → Device) → (E → Device) → Walk → Walk → D → E → D → E → ℕ → ℕ → Stop → Type 0
+StopsWalk first_state second_state old new d e d' e' i top stop = HasStopped (walk_sides old new (first_state d) (second_state e) (first_state d') (second_state e')) i top stop.level stop.same
 
 -- the hash blocks on the way to a data block, from a level down to one, were read and are good
 abbrev pub ReadsDown : {H : Type 0} → (H → Device) → PathRecord → PathRecord → H → H → ℕ → ℕ → ℕ → Type 0

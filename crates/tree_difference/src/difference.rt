@@ -3,7 +3,7 @@ ghost use Rattle.std.specs.Prelude.{◌≡◌, ◌≤◌, ◌<◌, ◌+◌, ◌^
 ghost use Rattle.tree_runs.specs.Listings.{Tells};
 ghost use Rattle.tree_runs.specs.Tallies.{EndsAt};
 ghost use Rattle.tree_difference.specs.Causes.{EndsWalk};
-ghost use Rattle.tree_difference.specs.Differences.{Aligns, CanCompare, EndsEarly, HaveTrees, IsDifference, IsDifferenceCause, IsWalkOf, ReadsPairs, ComparesBlocks, last_lines, rest_of, seen, totals_in, trees_of};
+ghost use Rattle.tree_difference.specs.Differences.{Aligns, CanCompare, EndsDifference, HaveTrees, IsDifference, IsDifferenceCause, IsWalkOf, ReadsPairs, ComparesBlocks, last_lines, rest_run, seen_world, totals_in, trees_of};
 
 use crate::fault::{DifferenceFault, Which};
 use crate::reading::read_down;
@@ -45,8 +45,8 @@ pub fn compare_trees<D: BlockDev, E: BlockDev, L: Listing>(
     most: Option<u64>,
     listing: &mut L,
 ) -> Result<Totals, DifferenceFault>
-    ensures ok { IfOk result (IsDifference (seen D.state E.state L.told first.old second.old first.new second.new listing.old listing.new) roots most) }
-    ensures err { IfErr result (IsDifferenceCause (seen D.state E.state L.told first.old second.old first.new second.new listing.old listing.new) roots (L.failed listing.new)) }
+    ensures ok { IfOk result (IsDifference (seen_world D.state E.state L.told first.old second.old first.new second.new listing.old listing.new) roots most) }
+    ensures err { IfErr result (IsDifferenceCause (seen_world D.state E.state L.told first.old second.old first.new second.new listing.old listing.new) roots (L.failed listing.new)) }
 {
     let one = superblock_of(first, Which::First)?;
     let two = superblock_of(second, Which::Second)?;
@@ -109,7 +109,7 @@ fn compare<D: BlockDev, E: BlockDev, L: Listing>(
     requires { CanCompare walk.old (D.state first.old) (E.state second.old) }
     ensures ok { IfOk result (ComparesBlocks D.state E.state L.told walk.old first.old second.old first.new second.new listing.old listing.new most) }
     ensures reads { OnOk result (ReadsPairs D.state E.state L.told walk.old first.old second.old first.new second.new listing.old listing.new) }
-    ensures err { IfErr result (EndsEarly D.state E.state walk.old first.old second.old first.new second.new (L.failed listing.new)) }
+    ensures err { IfErr result (EndsDifference D.state E.state walk.old first.old second.old first.new second.new (L.failed listing.new)) }
 {
     let mut tally = Tally::new(most);
     let mut changed = 0;
@@ -169,7 +169,7 @@ fn totals_after(walk: &Walk, changed: u64) -> Totals
 
 // The data blocks that one of the two trees alone has.
 fn rest(walk: &Walk) -> Option<Run>
-    ensures value { result ≡ rest_of walk.now }
+    ensures value { result ≡ rest_run walk.now }
     ensures inside { IfSome result (λ r. r.first + r.count < 2 ^ 64) }
 {
     let removed = walk.first.data_blocks();

@@ -1,5 +1,5 @@
 //! Laws of what a comparison finds: each function's contract is the law, and its call gives it.
-ghost use Rattle.tree_difference.specs.Laws.{SameBlocksAreSame, ChangedBlocksDiffer, SameContentsAreSame, ChangedContentsDiffer};
+ghost use Rattle.tree_difference.specs.Laws.{SameBlocksAreSame, ChangedChainsDiffer, SameContentsAreSame, ChangedListsDiffer};
 
 use hash_tree::laws::formed_chains_are_good;
 
@@ -11,7 +11,7 @@ pub fn same_blocks_are_same()
 
 /// One that is listed as changed has two contents, or two different inputs have one digest.
 pub fn changed_blocks_differ()
-    ensures { ChangedBlocksDiffer }
+    ensures { ChangedChainsDiffer }
 {}
 
 /// The same of all data whose trees have these roots.
@@ -23,7 +23,7 @@ pub fn same_contents_are_same()
 
 /// The same of all data whose trees have these roots.
 pub fn changed_contents_differ()
-    ensures { ChangedContentsDiffer }
+    ensures { ChangedListsDiffer }
 {
     formed_chains_are_good()
 }

@@ -2,7 +2,7 @@
 ghost use Rattle.std.specs.Prelude.{◌≡◌, OnOk, IfErr};
 ghost use Rattle.verity_format.specs.Blocks.{IsOnlyRead};
 ghost use Rattle.tree_path.specs.Steps.{CanDescend};
-ghost use Rattle.tree_difference.specs.Causes.{FailsToRead};
+ghost use Rattle.tree_difference.specs.Causes.{FailsToReadDown};
 ghost use Rattle.tree_difference.specs.Walks.{ReadsDown};
 
 use crate::fault::{DifferenceFault, Which};
@@ -22,7 +22,7 @@ pub(crate) fn read_down<H: BlockDev>(
     requires { CanDescend path.old (H.state device.old) index from to }
     ensures read { IsOnlyRead (H.state device.old) (H.state device.new) }
     ensures ok { OnOk result (ReadsDown H.state path.old path.new device.old device.new index from to) }
-    ensures err { IfErr result (FailsToRead H.state path.old path.new device.old device.new index from which to) }
+    ensures err { IfErr result (FailsToReadDown H.state path.old path.new device.old device.new index from which to) }
 {
     match path.descend(device, index, from, to) {
         Ok(None) => Ok(()),

@@ -2,7 +2,7 @@
 ghost use Rattle.std.specs.Prelude.{◌≡◌, OnOk, IfOk, IfErr};
 ghost use Rattle.std.specs.Str.{bytes_eq};
 ghost use Rattle.verity_format.specs.Blocks.{IsOnlyRead, IsFullRead};
-ghost use Rattle.tree_difference.specs.Superblocks.{IsImageCause, IsImageRead, unlike};
+ghost use Rattle.tree_difference.specs.Superblocks.{IsOneImageCause, IsImageRead, unlike};
 
 use crate::fault::{DifferenceFault, Unlike, Which};
 use block_device::BlockDev;
@@ -17,7 +17,7 @@ pub(crate) fn superblock_of<H: BlockDev>(
     ensures read { IsOnlyRead (H.state device.old) (H.state device.new) }
     ensures found { IfOk result (IsImageRead (H.state device.old)) }
     ensures full { OnOk result (IsFullRead (H.state device.old) 1 (H.state device.new)) }
-    ensures err { IfErr result (IsImageCause (H.state device.old) (H.state device.new) which) }
+    ensures err { IfErr result (IsOneImageCause (H.state device.old) (H.state device.new) which) }
 {
     let superblock = match read_superblock(device) {
         Ok(superblock) => superblock,

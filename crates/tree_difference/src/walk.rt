@@ -2,7 +2,7 @@
 ghost use Rattle.std.specs.Prelude.{◌≡◌, ◌≤◌, OnOk, IfOk, IfErr};
 ghost use Rattle.std.specs.Str.{bytes_eq};
 ghost use Rattle.tree_difference.specs.Causes.{EndsWalk};
-ghost use Rattle.tree_difference.specs.Walks.{CanEnter, CanWalk, Enters, Stops};
+ghost use Rattle.tree_difference.specs.Walks.{CanEnter, CanWalk, Enters, StopsWalk};
 
 use crate::fault::{DifferenceFault, Which};
 use crate::reading::read_down;
@@ -37,7 +37,7 @@ impl Walk {
         top: u32,
     ) -> Result<Stop, DifferenceFault>
         requires { CanWalk self.old (D.state first.old) (E.state second.old) index top }
-        ensures ok { IfOk result (Stops D.state E.state self.old self.new first.old second.old first.new second.new index top) }
+        ensures ok { IfOk result (StopsWalk D.state E.state self.old self.new first.old second.old first.new second.new index top) }
         ensures err { IfErr result (EndsWalk D.state E.state self.old first.old second.old first.new second.new) }
     {
         let mut level = top;

@@ -29,7 +29,7 @@ pub record CanDescend (p : PathRecord) (device : Device) (i from to : ℕ) : Typ
   pub fits : tree_sectors p.shape ≤ device.size
 
 -- the hash block of level `from` was read, and is good where its digest stands above it
-pub record IsLoaded (w : Steps) (good : Bool) : Type 0 where
+pub record IsStepLoaded (w : Steps) (good : Bool) : Type 0 where
   pub block : List ℕ
   pub inside : w.from < length w.old.blocks
   pub is : w.new ≡ record w.old { blocks = slice_set w.old.blocks w.from block }

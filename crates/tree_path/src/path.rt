@@ -6,7 +6,7 @@ ghost use Rattle.tree_shape.specs.Shape.{ancestor, levels};
 ghost use Rattle.verity_format.specs.Blocks.{IsOnlyRead};
 ghost use Rattle.verity_format.specs.Image.{tree_sectors};
 ghost use Rattle.tree_path.specs.Path.{IsPathOf, digest_on};
-ghost use Rattle.tree_path.specs.Steps.{CanDescend, HasCome, HasReadAtMost, IsLoaded, steps};
+ghost use Rattle.tree_path.specs.Steps.{CanDescend, HasCome, HasReadAtMost, IsStepLoaded, steps};
 
 use crate::reading::{read_block, zero_blocks};
 use block_device::{BlockDev, DeviceFault};
@@ -25,13 +25,13 @@ pub struct TreePath {
 
 impl Model for TreePath {
     ghost use Rattle.tree_path.specs.Path.{IsPath, PathRecord};
-    ghost use Rattle.tree_path.specs.Seen.{seen};
+    ghost use Rattle.tree_path.specs.Seen.{seen_path};
 
     ghost Value = { PathRecord };
 
-    ghost view = { seen };
+    ghost view = { seen_path };
 
-    ghost invariant = { λ p. IsPath (seen p) };
+    ghost invariant = { λ p. IsPath (seen_path p) };
 }
 
 impl TreePath {
@@ -124,7 +124,7 @@ impl TreePath {
         requires index { index < self.old.shape.blocks }
         requires fits { tree_sectors self.old.shape ≤ (H.state device.old).size }
         ensures read { IsOnlyRead (H.state device.old) (H.state device.new) }
-        ensures ok { IfOk result (IsLoaded (steps self.old self.new (H.state device.old) (H.state device.new) index level)) }
+        ensures ok { IfOk result (IsStepLoaded (steps self.old self.new (H.state device.old) (H.state device.new) index level)) }
         ensures fault { OnErr result (HasFailed (H.state device.old) (H.state device.new)) }
         ensures asked { HasReadAtMost (H.state device.old) (self.old.shape.hash_block / 512) (H.state device.new) }
     {

@@ -6,44 +6,44 @@ use Rattle.tree_shape.specs.Shape.{ShapeRecord, IsShape, ancestor, per_block}
 use Rattle.verity_format.specs.Blocks.{IsOnlyRead}
 use Rattle.tree_path.proofs.lemmas.DeviceLemmas.{only_read-none}
 use Rattle.tree_path.specs.Steps.{HasReadAtMost}
-use Rattle.tree_repair.specs.Bills.{Bill, IsAskedOnce, Leaves, LeavesBeneath, LeavesBlock, LeavesHashVisit, LeavesVisit, beneath_over, data_over, hash_over, hash_up_to, left_of, made_over, reading, sectors_over, visits_over}
+use Rattle.tree_repair.specs.Bills.{Bill, IsAskedOnce, LeavesWorld, LeavesBeneath, LeavesBlock, LeavesHashVisit, LeavesVisit, beneath_over, data_over, hash_over, hash_up_to, left_of, made_over, reading, sectors_over, visits_over}
 use Rattle.tree_repair.specs.Mending.{IsFoundNowhere, Look}
-use Rattle.tree_repair.specs.Remaking.{count_at}
+use Rattle.tree_repair.specs.Remaking.{count_in}
 use Rattle.tree_repair.specs.Runs.{size_at}
 use Rattle.tree_repair.specs.Visits.{IsTreePut, KeepsData}
-use Rattle.tree_repair.specs.Worlds.{AreBothRead, World, world}
+use Rattle.tree_repair.specs.Worlds.{AreBothRead, RepairWorld, repair_world}
 use Rattle.tree_repair.proofs.BillLemmas.{IsHashAsked, leaves-data, leaves-hash, leaves-more, leaves-read, leaves-then, put-once}
 use Rattle.tree_repair.proofs.OverLemmas.{data-more, hash-more, left-above, left-next, left-some, sectors-more, sectors-next, times-more, up_to-more}
 
 -- ---- a block that is read to make another one
 
-module _ (s : ShapeRecord) (valid : IsShape s) (h k : ℕ) (inside : k < count_at s h) where
+module _ (s : ShapeRecord) (valid : IsShape s) (h k : ℕ) (inside : k < count_in s h) where
   next-here : sectors_over s h (left_of s h (k + 1)) + size_at s h / 512 ≤ sectors_over s h (left_of s h k)
   next-here = subst (λ (n : ℕ). sectors_over s h n + size_at s h / 512 ≤ sectors_over s h (left_of s h k)) (sym (left-next s h k)) (sectors-next s valid h (left_of s h k) (left-some s valid h k inside))
 
-pub made-data : (s : ShapeRecord) → IsShape s → (h k : ℕ) → h ≡ 0 → k < count_at s h → (w : World) (d' : Device) → IsOnlyRead w.data_dev d' → HasReadAtMost w.data_dev (s.data_block / 512) d'
-    → LeavesBlock (made_over s h) s h k w (world d' w.hash_dev w.data_copies w.hash_copies)
+pub made-data : (s : ShapeRecord) → IsShape s → (h k : ℕ) → h ≡ 0 → k < count_in s h → (w : RepairWorld) (d' : Device) → IsOnlyRead w.data_dev d' → HasReadAtMost w.data_dev (s.data_block / 512) d'
+    → LeavesBlock (made_over s h) s h k w (repair_world d' w.hash_dev w.data_copies w.hash_copies)
 made-data s valid zero k none inside w d' read asked =
     leaves-more (made_over s 0 (left_of s 0 k)) (made_over s 0 (left_of s 0 (k + 1)))
-    (leaves-read (s.data_block / 512) 0 w (world d' w.hash_dev w.data_copies w.hash_copies)
+    (leaves-read (s.data_block / 512) 0 w (repair_world d' w.hash_dev w.data_copies w.hash_copies)
     (record { devices = record { data_read = read; hash_read = only_read-none w.hash_dev }; data_copies_are = refl; hash_copies_are = refl }) asked (omega arith))
     (record { data_reads = omega (arith, next-here s valid 0 k inside); hash_reads = omega arith; data_once = omega arith; hash_once = omega arith })
 made-data s valid (suc l) k none inside w d' read asked = absurd (omega (arith, none))
 
-pub made-hash : (s : ShapeRecord) → IsShape s → (h l k : ℕ) → h ≡ suc l → k < count_at s h → (w : World) (d' : Device) → IsOnlyRead w.hash_dev d' → HasReadAtMost w.hash_dev (s.hash_block / 512) d'
-    → LeavesBlock (made_over s h) s h k w (world w.data_dev d' w.data_copies w.hash_copies)
+pub made-hash : (s : ShapeRecord) → IsShape s → (h l k : ℕ) → h ≡ suc l → k < count_in s h → (w : RepairWorld) (d' : Device) → IsOnlyRead w.hash_dev d' → HasReadAtMost w.hash_dev (s.hash_block / 512) d'
+    → LeavesBlock (made_over s h) s h k w (repair_world w.data_dev d' w.data_copies w.hash_copies)
 made-hash s valid zero l k some inside w d' read asked = absurd (omega (arith, some))
 made-hash s valid (suc m) l k some inside w d' read asked =
     leaves-more (made_over s (suc m) (left_of s (suc m) k)) (made_over s (suc m) (left_of s (suc m) (k + 1)))
-    (leaves-read 0 (s.hash_block / 512) w (world w.data_dev d' w.data_copies w.hash_copies)
+    (leaves-read 0 (s.hash_block / 512) w (repair_world w.data_dev d' w.data_copies w.hash_copies)
     (record { devices = record { data_read = only_read-none w.data_dev; hash_read = read }; data_copies_are = refl; hash_copies_are = refl }) (omega arith) asked)
     (record { data_reads = omega arith; hash_reads = omega (arith, next-here s valid (suc m) k inside); data_once = omega arith; hash_once = omega arith })
 
 -- ---- blocks that are read to make one
 
 -- those beneath it, up to some of them
-pub make-ends : (s : ShapeRecord) → IsShape s → (from low h number first slot : ℕ) → h ≡ suc low → first ≡ number * per_block s → slot ≤ per_block s → (w x : World)
-    → Leaves (made_over s from (left_of s low first)) (made_over s from (left_of s low (first + slot))) w x → LeavesBlock (made_over s from) s h number w x
+pub make-ends : (s : ShapeRecord) → IsShape s → (from low h number first slot : ℕ) → h ≡ suc low → first ≡ number * per_block s → slot ≤ per_block s → (w x : RepairWorld)
+    → LeavesWorld (made_over s from (left_of s low first)) (made_over s from (left_of s low (first + slot))) w x → LeavesBlock (made_over s from) s h number w x
 make-ends s valid from low h number first slot up at few w x leaves =
     let p : ℕ = per_block s in
     let q : ℕ = p ^ low in
@@ -55,7 +55,7 @@ make-ends s valid from low h number first slot up at few w x leaves =
     let same : left_of s low first ≡ left_of s h number = omega (arith, starts) in
     let less : left_of s h (number + 1) ≤ left_of s low (first + slot) = omega (arith, starts, whole, parts, most) in
     leaves-more (made_over s from (left_of s h number)) (made_over s from (left_of s h (number + 1)))
-    (subst (λ (n : ℕ). Leaves (made_over s from n) (made_over s from (left_of s low (first + slot))) w x) same leaves)
+    (subst (λ (n : ℕ). LeavesWorld (made_over s from n) (made_over s from (left_of s low (first + slot))) w x) same leaves)
     (record {
       data_reads = omega (arith, data-more s valid from (left_of s h (number + 1)) (left_of s low (first + slot)) less);
       hash_reads = omega (arith, hash-more s valid from (left_of s h (number + 1)) (left_of s low (first + slot)) less);
@@ -81,15 +81,15 @@ untried s n m g = reading (untried_data s n m g) (untried_hash s n m g)
 abbrev pub untried_of : ShapeRecord → ℕ → ℕ → ℕ → Bill
 untried_of s h k g = untried s (left_of s h k) (left_of s h (k + 1)) g
 
-pub tried-next : {a : Bill} (s : ShapeRecord) (h k g from steps : ℕ) → from ≡ suc g → g + steps ≡ h → (w x y : World) → Leaves a (untried_of s h k from) w x → LeavesBlock (made_over s g) s (g + steps) k x y → Leaves a (untried_of s h k g) w y
+pub tried-next : {a : Bill} (s : ShapeRecord) (h k g from steps : ℕ) → from ≡ suc g → g + steps ≡ h → (w x y : RepairWorld) → LeavesWorld a (untried_of s h k from) w x → LeavesBlock (made_over s g) s (g + steps) k x y → LeavesWorld a (untried_of s h k g) w y
 tried-next {a} s h k g from steps up high w x y before made =
-    leaves-then (subst (λ (n : ℕ). Leaves a (untried_of s h k n) w x) up before)
+    leaves-then (subst (λ (n : ℕ). LeavesWorld a (untried_of s h k n) w x) up before)
     (leaves-more (untried_of s h k (suc g)) (untried_of s h k g) (subst (λ (n : ℕ). LeavesBlock (made_over s g) s n k x y) high made)
     (record { data_reads = omega arith; hash_reads = omega arith; data_once = omega arith; hash_once = omega arith }))
 
 -- the block on the way to data block i
-pub tried-at : {a : Bill} (s : ShapeRecord) (l i g from steps number : ℕ) → from ≡ suc g → g + steps ≡ l + 1 → number ≡ ancestor s (l + 1) i → (w x y : World) → Leaves a (untried_of s (suc l) (ancestor s (suc l) i) from) w x
-    → LeavesBlock (made_over s g) s (g + steps) number x y → Leaves a (untried_of s (suc l) (ancestor s (suc l) i) g) w y
+pub tried-at : {a : Bill} (s : ShapeRecord) (l i g from steps number : ℕ) → from ≡ suc g → g + steps ≡ l + 1 → number ≡ ancestor s (l + 1) i → (w x y : RepairWorld) → LeavesWorld a (untried_of s (suc l) (ancestor s (suc l) i) from) w x
+    → LeavesBlock (made_over s g) s (g + steps) number x y → LeavesWorld a (untried_of s (suc l) (ancestor s (suc l) i) g) w y
 tried-at {a} s l i g from steps number up high at w x y before made =
     let same : number ≡ ancestor s (suc l) i = at ∙ ap (λ (n : ℕ). ancestor s n i) (add-one l) in
     tried-next s (suc l) (ancestor s (suc l) i) g from steps up (omega (arith, high)) w x y before (subst (λ (n : ℕ). LeavesBlock (made_over s g) s (g + steps) n x y) same made)
@@ -103,7 +103,7 @@ module _ (s : ShapeRecord) (valid : IsShape s) (n m : ℕ) (less : m ≤ n) wher
   tried-hash zero = omega arith
   tried-hash (suc l) = omega (arith, tried-hash l, sectors-more s valid (suc l) m n less)
 
-pub tried-all : {b : Bill} (s : ShapeRecord) → IsShape s → (l i : ℕ) (w x : World) → Leaves (untried_of s (suc l) (ancestor s (suc l) i) (suc l)) b w x → LeavesBeneath s l i w x
+pub tried-all : {b : Bill} (s : ShapeRecord) → IsShape s → (l i : ℕ) (w x : RepairWorld) → LeavesWorld (untried_of s (suc l) (ancestor s (suc l) i) (suc l)) b w x → LeavesBeneath s l i w x
 tried-all {b} s valid l i w x leaves =
     let k : ℕ = ancestor s (suc l) i in
     let n : ℕ = left_of s (suc l) k in
@@ -114,8 +114,8 @@ tried-all {b} s valid l i w x leaves =
 
 -- ---- a visit
 
-pub visit-data : (s : ShapeRecord) → IsShape s → (i : ℕ) → i < s.blocks → (w : World) (d' : Device) (cs' : List Device) → IsAskedOnce (s.data_block / 512) w.data_dev d' w.data_copies cs'
-    → LeavesVisit s 0 i w (world d' w.hash_dev cs' w.hash_copies)
+pub visit-data : (s : ShapeRecord) → IsShape s → (i : ℕ) → i < s.blocks → (w : RepairWorld) (d' : Device) (cs' : List Device) → IsAskedOnce (s.data_block / 512) w.data_dev d' w.data_copies cs'
+    → LeavesVisit s 0 i w (repair_world d' w.hash_dev cs' w.hash_copies)
 visit-data s valid i inside w d' cs' once =
     let k : ℕ = ancestor s 0 i in
     let next : sectors_over s 0 (left_of s 0 (k + 1)) + s.data_block / 512 ≤ sectors_over s 0 (left_of s 0 k) =
@@ -140,7 +140,7 @@ module _ (s : ShapeRecord) (valid : IsShape s) (l i : ℕ) (inside : i < s.block
   fewer : behind_here ≤ at_here
   fewer = omega (arith, left-next s (suc l) (ancestor s (suc l) i))
 
-  pub visit-hash : (w x : World) → IsHashAsked (s.hash_block / 512) data_beneath hash_beneath w x → LeavesHashVisit s l i w x
+  pub visit-hash : (w x : RepairWorld) → IsHashAsked (s.hash_block / 512) data_beneath hash_beneath w x → LeavesHashVisit s l i w x
   visit-hash w x asked =
       let next : sectors_over s (suc l) behind_here + s.hash_block / 512 ≤ sectors_over s (suc l) at_here =
       subst (λ (n : ℕ). sectors_over s (suc l) n + s.hash_block / 512 ≤ sectors_over s (suc l) at_here) (sym (left-next s (suc l) (ancestor s (suc l) i)))
@@ -154,7 +154,7 @@ module _ (s : ShapeRecord) (valid : IsShape s) (l i : ℕ) (inside : i < s.block
       })
 
   -- it is good, or was found in a copy, or is lost so far
-  pub visit-found : (w x : World) → KeepsData w x → IsAskedOnce (s.hash_block / 512) w.hash_dev x.hash_dev w.hash_copies x.hash_copies → LeavesHashVisit s l i w x
+  pub visit-found : (w x : RepairWorld) → KeepsData w x → IsAskedOnce (s.hash_block / 512) w.hash_dev x.hash_dev w.hash_copies x.hash_copies → LeavesHashVisit s l i w x
   visit-found w x keeps once = visit-hash w x (record {
     data_reads = omega (arith, ap (λ (d : Device). d.reads) keeps.device_is);
     hash_reads = omega (arith, once.reads);
@@ -165,7 +165,7 @@ module _ (s : ShapeRecord) (valid : IsShape s) (l i : ℕ) (inside : i < s.block
   })
 
   -- all beneath it was read
-  module _ (w x y : World) (keeps : KeepsData w x) (once : IsAskedOnce (s.hash_block / 512) w.hash_dev x.hash_dev w.hash_copies x.hash_copies) (unwritten : x.hash_dev.writes ≡ w.hash_dev.writes) (read : AreBothRead x y) (beneath : LeavesBeneath s l i x y) where
+  module _ (w x y : RepairWorld) (keeps : KeepsData w x) (once : IsAskedOnce (s.hash_block / 512) w.hash_dev x.hash_dev w.hash_copies x.hash_copies) (unwritten : x.hash_dev.writes ≡ w.hash_dev.writes) (read : AreBothRead x y) (beneath : LeavesBeneath s l i x y) where
     lost-asked : IsHashAsked (s.hash_block / 512) data_beneath hash_beneath w y
     lost-asked = record {
       data_reads = omega (arith, ap (λ (d : Device). d.reads) keeps.device_is, beneath.data_reads, sectors-more s valid 0 behind_here at_here fewer);
@@ -180,7 +180,7 @@ module _ (s : ShapeRecord) (valid : IsShape s) (l i : ℕ) (inside : i < s.block
     visit-lost = visit-hash w y lost-asked
 
     -- and it was written, or the write failed
-    pub visit-made : (write done : Bool) (first : ℕ) (bytes : List ℕ) (z : World) → length bytes ≡ s.hash_block → IsTreePut write first bytes done y z → LeavesHashVisit s l i w z
+    pub visit-made : (write done : Bool) (first : ℕ) (bytes : List ℕ) (z : RepairWorld) → length bytes ≡ s.hash_block → IsTreePut write first bytes done y z → LeavesHashVisit s l i w z
     visit-made write done first bytes z long put =
         let once-put = put-once write y.hash_dev first (length bytes / 512) bytes done z.hash_dev put.put in
         let size : length bytes / 512 ≡ s.hash_block / 512 = ap (λ (n : ℕ). n / 512) long in

@@ -8,10 +8,10 @@ use Rattle.std.specs.Prelude.{IfSome, OnOk, Option, None, Some}
 use Rattle.tree_shape.specs.Shape.{ShapeRecord, levels}
 use Rattle.verity_format.specs.Image.{data_sectors}
 use Rattle.tree_path.specs.Steps.{HasReadAtMost}
-use Rattle.tree_repair.specs.Bills.{AreEachLeft, Bill, IsAskedOnce, Leaves, nothing_due, pass_over, piece_of, reading}
+use Rattle.tree_repair.specs.Bills.{AreEachLeft, Bill, IsAskedOnce, LeavesWorld, nothing_due, pass_over, piece_of, reading}
 use Rattle.tree_repair.specs.Bounds.{AreReadAtMost, HasWrittenAtMost, IsOnePass, area_block_sectors}
-use Rattle.tree_repair.specs.Mending.{IsPut}
-use Rattle.tree_repair.specs.Worlds.{AreBothRead, World, world}
+use Rattle.tree_repair.specs.Mending.{IsAllowedPut}
+use Rattle.tree_repair.specs.Worlds.{AreBothRead, RepairWorld, repair_world}
 
 -- ---- one device
 
@@ -20,7 +20,7 @@ pub record IsPutOnce (n : ℕ) (old new : Device) : Type 0 where
   pub reads : new.reads ≡ old.reads
   pub writes : HasWrittenAtMost old n new
 
-pub put-once : (write : Bool) (old : Device) (first sectors : ℕ) (bytes : List ℕ) (done : Bool) (new : Device) → IsPut write old first sectors bytes done new → IsPutOnce sectors old new
+pub put-once : (write : Bool) (old : Device) (first sectors : ℕ) (bytes : List ℕ) (done : Bool) (new : Device) → IsAllowedPut write old first sectors bytes done new → IsPutOnce sectors old new
 put-once true old first sectors bytes done new put = record { reads = put.moved.reads; writes = omega (arith, put.moved.writes) }
 put-once false old first sectors bytes done new put = record { reads = ap (λ (d : Device). d.reads) put.0; writes = omega (arith, ap (λ (d : Device). d.writes) put.0) }
 
@@ -100,7 +100,7 @@ pub record IsMore (a b c e : Bill) : Type 0 where
   pub data_once : a.data_once + e.data_once ≤ c.data_once + b.data_once
   pub hash_once : a.hash_once + e.hash_once ≤ c.hash_once + b.hash_once
 
-pub leaves-none : (a : Bill) (w : World) → Leaves a a w w
+pub leaves-none : (a : Bill) (w : RepairWorld) → LeavesWorld a a w w
 leaves-none a w = record {
   data_reads = omega arith;
   hash_reads = omega arith;
@@ -110,7 +110,7 @@ leaves-none a w = record {
   hash_copies = left-same a.hash_once a.hash_once w.hash_copies w.hash_copies refl (omega arith);
 }
 
-pub leaves-then : {a b c : Bill} {w x y : World} → Leaves a b w x → Leaves b c x y → Leaves a c w y
+pub leaves-then : {a b c : Bill} {w x y : RepairWorld} → LeavesWorld a b w x → LeavesWorld b c x y → LeavesWorld a c w y
 leaves-then {a} {b} {c} {w} {x} {y} p q = record {
   data_reads = omega (arith, p.data_reads, q.data_reads);
   hash_reads = omega (arith, p.hash_reads, q.hash_reads);
@@ -120,7 +120,7 @@ leaves-then {a} {b} {c} {w} {x} {y} p q = record {
   hash_copies = left-then a.hash_once b.hash_once c.hash_once w.hash_copies x.hash_copies y.hash_copies p.hash_copies q.hash_copies;
 }
 
-pub leaves-more : {a b : Bill} {w x : World} (c e : Bill) → Leaves a b w x → IsMore a b c e → Leaves c e w x
+pub leaves-more : {a b : Bill} {w x : RepairWorld} (c e : Bill) → LeavesWorld a b w x → IsMore a b c e → LeavesWorld c e w x
 leaves-more {a} {b} {w} {x} c e p more = record {
   data_reads = omega (arith, p.data_reads, more.data_reads);
   hash_reads = omega (arith, p.hash_reads, more.hash_reads);
@@ -131,11 +131,11 @@ leaves-more {a} {b} {w} {x} c e p more = record {
 }
 
 -- what is left doesn't matter
-pub leaves-end : {a b : Bill} {w x : World} → Leaves a b w x → Leaves a nothing_due w x
+pub leaves-end : {a b : Bill} {w x : RepairWorld} → LeavesWorld a b w x → LeavesWorld a nothing_due w x
 leaves-end {a} {b} {w} {x} p = leaves-more a nothing_due p (record { data_reads = omega arith; hash_reads = omega arith; data_once = omega arith; hash_once = omega arith })
 
 -- data device and hash device were read, and no copy
-pub leaves-read : (d t : ℕ) (w x : World) → AreBothRead w x → HasReadAtMost w.data_dev d x.data_dev → HasReadAtMost w.hash_dev t x.hash_dev → Leaves (reading d t) nothing_due w x
+pub leaves-read : (d t : ℕ) (w x : RepairWorld) → AreBothRead w x → HasReadAtMost w.data_dev d x.data_dev → HasReadAtMost w.hash_dev t x.hash_dev → LeavesWorld (reading d t) nothing_due w x
 leaves-read d t w x read one two = record {
   data_reads = omega (arith, one);
   hash_reads = omega (arith, two);
@@ -146,8 +146,8 @@ leaves-read d t w x read one two = record {
 }
 
 -- a block of the data device was looked at
-pub leaves-data : (n : ℕ) (w : World) (d' : Device) (cs' : List Device) → IsAskedOnce n w.data_dev d' w.data_copies cs'
-    → Leaves (record { data_reads = n; hash_reads = 0; data_once = n; hash_once = 0 }) nothing_due w (world d' w.hash_dev cs' w.hash_copies)
+pub leaves-data : (n : ℕ) (w : RepairWorld) (d' : Device) (cs' : List Device) → IsAskedOnce n w.data_dev d' w.data_copies cs'
+    → LeavesWorld (record { data_reads = n; hash_reads = 0; data_once = n; hash_once = 0 }) nothing_due w (repair_world d' w.hash_dev cs' w.hash_copies)
 leaves-data n w d' cs' once = record {
   data_reads = omega (arith, once.reads);
   hash_reads = omega arith;
@@ -158,7 +158,7 @@ leaves-data n w d' cs' once = record {
 }
 
 -- one of the hash device was, and all beneath it may have been read
-pub record IsHashAsked (n d t : ℕ) (w x : World) : Type 0 where
+pub record IsHashAsked (n d t : ℕ) (w x : RepairWorld) : Type 0 where
   pub data_reads : HasReadAtMost w.data_dev d x.data_dev
   pub hash_reads : HasReadAtMost w.hash_dev (n + t) x.hash_dev
   pub data_writes : HasWrittenAtMost w.data_dev 0 x.data_dev
@@ -166,7 +166,7 @@ pub record IsHashAsked (n d t : ℕ) (w x : World) : Type 0 where
   pub data_copies : x.data_copies ≡ w.data_copies
   pub hash_copies : AreReadAtMost w.hash_copies n x.hash_copies
 
-pub leaves-hash : (n d t : ℕ) (w x : World) → IsHashAsked n d t w x → Leaves (record { data_reads = d; hash_reads = n + t; data_once = 0; hash_once = n }) nothing_due w x
+pub leaves-hash : (n d t : ℕ) (w x : RepairWorld) → IsHashAsked n d t w x → LeavesWorld (record { data_reads = d; hash_reads = n + t; data_once = 0; hash_once = n }) nothing_due w x
 leaves-hash n d t w x asked = record {
   data_reads = omega (arith, asked.data_reads);
   hash_reads = omega (arith, asked.hash_reads);
@@ -182,7 +182,7 @@ on_ok-map (Ok x) P Q f holds = f holds
 on_ok-map (Err e) P Q f holds = tt
 
 -- a superblock, and then a pass
-pub one-pass : (s : ShapeRecord) (w x y : World) → Leaves (reading 0 1) nothing_due w x → Leaves (pass_over s) nothing_due x y → IsOnePass s w y
+pub one-pass : (s : ShapeRecord) (w x y : RepairWorld) → LeavesWorld (reading 0 1) nothing_due w x → LeavesWorld (pass_over s) nothing_due x y → IsOnePass s w y
 one-pass s w x y first rest =
     let all = leaves-then (leaves-more (record (pass_over s) { hash_reads = 1 + 2 * levels s * area_block_sectors s }) (pass_over s) first
     (record { data_reads = omega arith; hash_reads = omega arith; data_once = omega arith; hash_once = omega arith })) rest in

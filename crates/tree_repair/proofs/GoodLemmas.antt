@@ -21,8 +21,8 @@ use Rattle.tree_repair.specs.declared.mending.Mended.TheVariants as mended
 use Rattle.tree_repair.specs.declared.place.Row.{Row}
 use Rattle.tree_repair.specs.Coverage.{AreDigestsOn, AreGoodFrom, AreThere, IsGoodRow, IsOfRow, IsVisitedIn}
 use Rattle.tree_repair.specs.Passes.{HasNoted, bad_of}
-use Rattle.tree_repair.specs.Runs.{IsDone, Job, Runs, Visit, line_of, visit}
-use Rattle.tree_repair.specs.Worlds.{IsWorldRead, World}
+use Rattle.tree_repair.specs.Runs.{IsDone, Job, VisitsAll, Visit, visit_line, visit}
+use Rattle.tree_repair.specs.Worlds.{IsWorldRead, RepairWorld}
 use Rattle.tree_repair.proofs.RunLemmas.{runs-then, world-none}
 use Rattle.tree_repair.proofs.SourceLemmas.{each-none, there-before}
 
@@ -80,7 +80,7 @@ abbrev good_visits : ℕ → List (List ℕ) → List Visit
 good_visits i [] = []
 good_visits i (b ∷ more) = visit 0 i mended.Good b true ∷ good_visits (i + 1) more
 
-good-runs : (j : Job) (p : PathRecord) (w : World) (i : ℕ) (cs : List (List ℕ)) → ((k : ℕ) → i ≤ k → k < i + length cs → (k < j.tree.shape.blocks) × IsWay j.tree k 0 p) → AreThere j p w.data_dev i cs → Runs j (good_visits i cs) w w
+good-runs : (j : Job) (p : PathRecord) (w : RepairWorld) (i : ℕ) (cs : List (List ℕ)) → ((k : ℕ) → i ≤ k → k < i + length cs → (k < j.tree.shape.blocks) × IsWay j.tree k 0 p) → AreThere j p w.data_dev i cs → VisitsAll j (good_visits i cs) w w
 good-runs j p w i [] ways are = world-none w
 good-runs j p w i (b ∷ more) ways are =
     let here = ways i (omega arith) (omega arith) in (
@@ -109,7 +109,7 @@ good-done : (i : ℕ) (cs : List (List ℕ)) → All IsDone (good_visits i cs)
 good-done i [] = All-nil IsDone
 good-done i (b ∷ more) = All-cons IsDone (visit 0 i mended.Good b true) (good_visits (i + 1) more) refl (good-done (i + 1) more)
 
-good-told : (j : Job) (i : ℕ) (cs : List (List ℕ)) → flat_map (line_of j) (good_visits i cs) ≡ []
+good-told : (j : Job) (i : ℕ) (cs : List (List ℕ)) → flat_map (visit_line j) (good_visits i cs) ≡ []
 good-told j i [] = refl
 good-told j i (b ∷ more) = good-told j (i + 1) more
 
@@ -125,7 +125,7 @@ good-in s i (b ∷ more) k from below = elim (cases_eq k i) [
 ]
 
 -- so a row that was seen to be good is a run over its blocks
-pub noted-good : {j : Job} {w w' : World} {old : Option (List ℕ)} {a : BadBlocks} (p : PathRecord) (row : Row) → IsWorldRead w w' → IsGoodRow j p row w.data_dev
+pub noted-good : {j : Job} {w w' : RepairWorld} {old : Option (List ℕ)} {a : BadBlocks} (p : PathRecord) (row : Row) → IsWorldRead w w' → IsGoodRow j p row w.data_dev
     → ((k : ℕ) → row.first ≤ k → k < row.end → (k < j.tree.shape.blocks) × IsWay j.tree k row.height p) → HasNoted j (IsOfRow row) w w' old old a a true
 noted-good {j} {w} {w'} {old} {a} p row read good ways =
     let cs = good.good.contents in
@@ -134,7 +134,7 @@ noted-good {j} {w} {w'} {old} {a} p row read good ways =
     record {
       run = record {
         visits = vs;
-        runs = subst (λ (l : List Visit). Runs j l w w') (append-nil vs)
+        runs = subst (λ (l : List Visit). VisitsAll j l w w') (append-nil vs)
             (runs-then j vs [] w w w' (good-runs j p w row.first cs
             (λ k from below.
             let here = ways k from (omega (arith, from, below, good.good.count)) in

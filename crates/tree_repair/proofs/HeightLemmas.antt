@@ -8,10 +8,10 @@ use Rattle.std.proofs.lemmas.List.FromFn.{map-range_with_len_more}
 use Rattle.std.proofs.lemmas.List.Sums.{sum_by-append}
 use Rattle.tree_shape.specs.Shape.{ShapeRecord, IsShape, ancestor, area_blocks, level_blocks, levels, per_block}
 use Rattle.tree_repair.specs.declared.place.Row.{Row}
-use Rattle.tree_repair.specs.Bills.{Bill, Leaves, LeavesRow, LeavesVisit, data_over, hash_over, hash_up_to, height_over, left_of, nothing_due, pass_over, reading, rows_over, sectors_over, visits_over}
+use Rattle.tree_repair.specs.Bills.{Bill, LeavesWorld, LeavesRow, LeavesVisit, data_over, hash_over, hash_up_to, height_over, left_of, nothing_due, pass_over, reading, rows_over, sectors_over, visits_over}
 use Rattle.tree_repair.specs.Bounds.{area_block_sectors}
 use Rattle.tree_repair.specs.Jobs.{IsRow}
-use Rattle.tree_repair.specs.Worlds.{World}
+use Rattle.tree_repair.specs.Worlds.{RepairWorld}
 use Rattle.tree_repair.proofs.BillLemmas.{leaves-more, leaves-then}
 use Rattle.tree_repair.proofs.OverLemmas.{block-fits, data-all, data-more, data-row, hash-more, left-at, left-next, sectors-more, up_to-higher, up_to-more, ways-next}
 use Rattle.tree_repair.proofs.RowLemmas.{per_block-some}
@@ -19,14 +19,14 @@ use Rattle.tree_repair.proofs.RowLemmas.{per_block-some}
 -- ---- a row, block by block
 
 -- a block that begins there
-pub visit-at : (s : ShapeRecord) → IsShape s → (h i : ℕ) → i % per_block s ^ h ≡ 0 → (w x : World) → LeavesVisit s h i w x → Leaves (visits_over s h (s.blocks - i)) (visits_over s h (s.blocks - i - per_block s ^ h)) w x
+pub visit-at : (s : ShapeRecord) → IsShape s → (h i : ℕ) → i % per_block s ^ h ≡ 0 → (w x : RepairWorld) → LeavesVisit s h i w x → LeavesWorld (visits_over s h (s.blocks - i)) (visits_over s h (s.blocks - i - per_block s ^ h)) w x
 visit-at s valid h i begins w x leaves =
     let here : left_of s h (ancestor s h i) ≡ s.blocks - i = left-at s valid h i begins in
     let behind : left_of s h (ancestor s h i + 1) ≡ s.blocks - i - per_block s ^ h = left-next s h (ancestor s h i) ∙ ap (λ (n : ℕ). n - per_block s ^ h) here in
-    subst (λ (n : ℕ). Leaves (visits_over s h (s.blocks - i)) (visits_over s h n) w x) behind (subst (λ (n : ℕ). Leaves (visits_over s h n) (visits_over s h (left_of s h (ancestor s h i + 1))) w x) here leaves)
+    subst (λ (n : ℕ). LeavesWorld (visits_over s h (s.blocks - i)) (visits_over s h n) w x) behind (subst (λ (n : ℕ). LeavesWorld (visits_over s h n) (visits_over s h (left_of s h (ancestor s h i + 1))) w x) here leaves)
 
 -- fewer are left
-pub visits-fewer : {a : Bill} (s : ShapeRecord) → IsShape s → (h n m : ℕ) (w x : World) → m ≤ n → Leaves a (visits_over s h n) w x → Leaves a (visits_over s h m) w x
+pub visits-fewer : {a : Bill} (s : ShapeRecord) → IsShape s → (h n m : ℕ) (w x : RepairWorld) → m ≤ n → LeavesWorld a (visits_over s h n) w x → LeavesWorld a (visits_over s h m) w x
 visits-fewer {a} s valid h n m w x less leaves =
     leaves-more a (visits_over s h m) leaves
     (record {
@@ -52,8 +52,8 @@ module _ (s : ShapeRecord) (valid : IsShape s) (row : Row) (is : IsRow s row) wh
   next-left i = omega (arith, is.step_is)
 
   -- the row was seen to be good
-  row-reading : (w x : World) → Leaves (reading (data_over s row.height (row.end - row.first)) 0) nothing_due w x
-      → Leaves (rows_over s row.height n_here) (record (visits_over s row.height n_here) { data_reads = sectors_over s 0 n_here + data_over s row.height n_behind }) w x
+  row-reading : (w x : RepairWorld) → LeavesWorld (reading (data_over s row.height (row.end - row.first)) 0) nothing_due w x
+      → LeavesWorld (rows_over s row.height n_here) (record (visits_over s row.height n_here) { data_reads = sectors_over s 0 n_here + data_over s row.height n_behind }) w x
   row-reading w x read =
       leaves-more (rows_over s row.height n_here) (record (visits_over s row.height n_here) { data_reads = sectors_over s 0 n_here + data_over s row.height n_behind }) read
       (record {
@@ -63,7 +63,7 @@ module _ (s : ShapeRecord) (valid : IsShape s) (row : Row) (is : IsRow s row) wh
         hash_once = omega arith;
       })
 
-  pub row-visited : (w x y : World) → Leaves (reading (data_over s row.height (row.end - row.first)) 0) nothing_due w x → LeavesRow visits_over s row x y → LeavesRow rows_over s row w y
+  pub row-visited : (w x y : RepairWorld) → LeavesWorld (reading (data_over s row.height (row.end - row.first)) 0) nothing_due w x → LeavesRow visits_over s row x y → LeavesRow rows_over s row w y
   row-visited w x y read visits =
       leaves-then (row-reading w x read)
       (leaves-more (record (visits_over s row.height n_here) { data_reads = sectors_over s 0 n_here + data_over s row.height n_behind }) (rows_over s row.height n_behind) visits
@@ -72,7 +72,7 @@ module _ (s : ShapeRecord) (valid : IsShape s) (row : Row) (is : IsRow s row) wh
   rows-fewer : n_behind ≤ n_here
   rows-fewer = omega arith
 
-  pub row-seen : (w x : World) → Leaves (reading (data_over s row.height (row.end - row.first)) 0) nothing_due w x → LeavesRow rows_over s row w x
+  pub row-seen : (w x : RepairWorld) → LeavesWorld (reading (data_over s row.height (row.end - row.first)) 0) nothing_due w x → LeavesRow rows_over s row w x
   row-seen w x read =
       leaves-more (rows_over s row.height n_here) (rows_over s row.height n_behind) (row-reading w x read)
       (record {
@@ -86,20 +86,20 @@ module _ (s : ShapeRecord) (valid : IsShape s) (row : Row) (is : IsRow s row) wh
   abbrev way_left : Bill
   way_left = record (rows_over s row.height n_here) { hash_reads = hash_up_to s row.height n_here + sectors_over s (suc row.height) n_behind * (levels s - row.height) }
 
-  row-way : row.first < s.blocks → (w x : World) → Leaves (reading 0 ((levels s - row.height) * (s.hash_block / 512))) nothing_due w x → Leaves (height_over s row.height n_here) way_left w x
+  row-way : row.first < s.blocks → (w x : RepairWorld) → LeavesWorld (reading 0 ((levels s - row.height) * (s.hash_block / 512))) nothing_due w x → LeavesWorld (height_over s row.height n_here) way_left w x
   row-way some w x read =
       let same : n_here - per_block s ^ suc row.height ≡ n_behind = ap (λ (k : ℕ). n_here - per_block s ^ k) (sym (add-one row.height)) in
       let next = subst (λ (k : ℕ). sectors_over s (suc row.height) k * (levels s - row.height) + (levels s - row.height) * (s.hash_block / 512) ≤ sectors_over s (suc row.height) n_here * (levels s - row.height)) same
       (ways-next s valid row.height n_here (levels s - row.height) (omega (arith, some))) in
       leaves-more (height_over s row.height n_here) way_left read (record { data_reads = omega arith; hash_reads = omega (arith, next); data_once = omega arith; hash_once = omega arith })
 
-  pub row-all : row.first < s.blocks → (w x y : World) → Leaves (reading 0 ((levels s - row.height) * (s.hash_block / 512))) nothing_due w x → LeavesRow rows_over s row x y → LeavesRow height_over s row w y
+  pub row-all : row.first < s.blocks → (w x y : RepairWorld) → LeavesWorld (reading 0 ((levels s - row.height) * (s.hash_block / 512))) nothing_due w x → LeavesRow rows_over s row x y → LeavesRow height_over s row w y
   row-all some w x y read rows =
       leaves-then (row-way some w x read)
       (leaves-more way_left (height_over s row.height n_behind) rows (record { data_reads = omega arith; hash_reads = omega arith; data_once = omega arith; hash_once = omega arith }))
 
   -- there is none
-  pub row-cut : row.first < s.blocks → (w x : World) → Leaves (reading 0 ((levels s - row.height) * (s.hash_block / 512))) nothing_due w x → LeavesRow height_over s row w x
+  pub row-cut : row.first < s.blocks → (w x : RepairWorld) → LeavesWorld (reading 0 ((levels s - row.height) * (s.hash_block / 512))) nothing_due w x → LeavesRow height_over s row w x
   row-cut some w x read =
       leaves-more (height_over s row.height n_here) (height_over s row.height n_behind) (row-way some w x read)
       (record {
@@ -156,9 +156,9 @@ heights_over s (suc h) = record {
   hash_once = hash_over s h s.blocks + (heights_over s h).hash_once;
 }
 
-pub heights-next : {a : Bill} (s : ShapeRecord) (height h : ℕ) → height ≡ suc h → (w x y : World) → Leaves a (heights_over s height) w x → Leaves (height_over s h s.blocks) nothing_due x y → Leaves a (heights_over s h) w y
+pub heights-next : {a : Bill} (s : ShapeRecord) (height h : ℕ) → height ≡ suc h → (w x y : RepairWorld) → LeavesWorld a (heights_over s height) w x → LeavesWorld (height_over s h s.blocks) nothing_due x y → LeavesWorld a (heights_over s h) w y
 heights-next {a} s height h up w x y before here =
-    leaves-then (subst (λ (n : ℕ). Leaves a (heights_over s n) w x) up before)
+    leaves-then (subst (λ (n : ℕ). LeavesWorld a (heights_over s n) w x) up before)
     (leaves-more (heights_over s (suc h)) (heights_over s h) here (record { data_reads = omega arith; hash_reads = omega arith; data_once = omega arith; hash_once = omega arith }))
 
 module _ (s : ShapeRecord) (valid : IsShape s) where
@@ -218,9 +218,9 @@ module _ (s : ShapeRecord) (valid : IsShape s) where
   tree-is : hash_up_to s (levels s) s.blocks ≡ area_block_sectors s
   tree-is = up_to-is s (levels s) ∙ ap (λ (n : ℕ). n * (s.hash_block / 512)) (sym (area-is s))
 
-  pub heights-pass : {b : Bill} (w x : World) → Leaves (heights_over s (levels s + 1)) b w x → Leaves (pass_over s) nothing_due w x
+  pub heights-pass : {b : Bill} (w x : RepairWorld) → LeavesWorld (heights_over s (levels s + 1)) b w x → LeavesWorld (pass_over s) nothing_due w x
   heights-pass {b} w x leaves =
-      leaves-more (pass_over s) nothing_due (subst (λ (n : ℕ). Leaves (heights_over s n) b w x) (add-one (levels s)) leaves)
+      leaves-more (pass_over s) nothing_due (subst (λ (n : ℕ). LeavesWorld (heights_over s n) b w x) (add-one (levels s)) leaves)
       (record {
         data_reads = omega (arith, heights-data (levels s));
         hash_reads = omega (arith, heights-all (levels s) refl, ap (λ (n : ℕ). 2 * levels s * n) tree-is);

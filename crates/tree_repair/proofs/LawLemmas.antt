@@ -15,8 +15,8 @@ use Rattle.tree_survey.specs.Laws.{AreContents, IsChain}
 use Rattle.tree_survey.specs.Surveys.{Tree, IsWay}
 use Rattle.tree_repair.specs.declared.mending.Mended.{Mended}
 use Rattle.tree_repair.specs.declared.mending.Mended.TheVariants as mended
-use Rattle.tree_repair.specs.Laws.{MendedBlocksAreFormatted, MendedBlocksAreGood, NoHashBlockIsLost, block_below, block_in}
-use Rattle.tree_repair.specs.Mending.{IsFound, IsMended, Look}
+use Rattle.tree_repair.specs.Laws.{MendedBlocksAreFormatted, MendedBlocksAreGood, NoHashBlockIsLost, chain_block_below, block_of_height}
+use Rattle.tree_repair.specs.Mending.{IsBlockFound, IsMended, Look}
 use Rattle.tree_repair.specs.Remaking.{ground, made, made_on}
 use Rattle.tree_repair.specs.Runs.{IsMadeOf, look_at}
 use Rattle.tree_repair.proofs.FormedLemmas.{below-path, level-made}
@@ -24,7 +24,7 @@ use Rattle.tree_repair.proofs.FormedLemmas.{below-path, level-made}
 -- the block of a chain d blocks beneath its top has the digest to which a path leads there, or two blocks collide
 module _ (p : PathRecord) (i k : ℕ) (content : List ℕ) (leads : LeadsTo p i k) where
   meets : (d : ℕ) (path : List (List ℕ)) → length path ≡ k + d → k + d ≤ levels p.shape → HangsFrom p.shape p.salt i (digest_on p i (k + d)) path content
-      → (digest p.salt (block_below path content d) ≡ digest_on p i k) ⊎ Collide p.salt
+      → (digest p.salt (chain_block_below path content d) ≡ digest_on p i k) ⊎ Collide p.salt
   meets zero [] count few hangs = let none : k + 0 ≡ k = omega arith in inl (hangs.1 ∙ ap (digest_on p i) none)
   meets zero (b ∷ path) count few hangs = let none : k + 0 ≡ k = omega arith in inl (hangs.1 ∙ ap (digest_on p i) none)
   meets (suc d) [] count few hangs = absurd (omega (arith, count))
@@ -45,7 +45,7 @@ module _ (p : PathRecord) (i k : ℕ) (content : List ℕ) (leads : LeadsTo p i 
 
 -- of a path in its own tree
 path-digest : (p : PathRecord) (i h : ℕ) (c : ChainRecord) → LeadsTo p i h → h ≤ levels p.shape → c.index ≡ i → IsGood p.shape p.salt p.root c
-    → (digest p.salt (block_below c.path c.content (levels p.shape - h)) ≡ digest_on p i h) ⊎ Collide p.salt
+    → (digest p.salt (chain_block_below c.path c.content (levels p.shape - h)) ≡ digest_on p i h) ⊎ Collide p.salt
 path-digest p i h c leads few at good =
     let d : ℕ = levels p.shape - h in
     let all : h + d ≡ levels p.shape = omega (arith, few) in
@@ -55,24 +55,24 @@ path-digest p i h c leads few at good =
     meets p i h c.content leads d c.path (good.path ∙ sym all) (omega (arith, all)) hangs
 
 -- a chain's block has the digest to which a way leads
-way-digest : (t : Tree) (p : PathRecord) (i h : ℕ) (c : ChainRecord) → IsWay t i h p → IsChain t i c → (digest t.salt (block_in t c h) ≡ digest_on p i h) ⊎ Collide t.salt
+way-digest : (t : Tree) (p : PathRecord) (i h : ℕ) (c : ChainRecord) → IsWay t i h p → IsChain t i c → (digest t.salt (block_of_height t c h) ≡ digest_on p i h) ⊎ Collide t.salt
 way-digest t p i h c way chain =
     let good : IsGood p.shape p.salt p.root c =
     subst (λ (x : List ℕ). IsGood p.shape p.salt x c) (sym way.is.root_is)
     (subst (λ (x : List ℕ). IsGood p.shape x t.root c) (sym way.is.salt_is) (subst (λ (x : ShapeRecord). IsGood x t.salt t.root c) (sym way.is.shape_is) chain.good)) in
     let few : h ≤ levels p.shape = omega (arith, way.few, ap levels way.is.shape_is) in
-    subst (λ (x : List ℕ). (digest x (block_in t c h) ≡ digest_on p i h) ⊎ Collide x) way.is.salt_is
-    (subst (λ (s : ShapeRecord). (digest p.salt (block_below c.path c.content (levels s - h)) ≡ digest_on p i h) ⊎ Collide p.salt) way.is.shape_is (path-digest p i h c way.leads few chain.index good))
+    subst (λ (x : List ℕ). (digest x (block_of_height t c h) ≡ digest_on p i h) ⊎ Collide x) way.is.salt_is
+    (subst (λ (s : ShapeRecord). (digest p.salt (chain_block_below c.path c.content (levels s - h)) ≡ digest_on p i h) ⊎ Collide p.salt) way.is.shape_is (path-digest p i h c way.leads few chain.index good))
 
 -- so one of the same digest is that block
-way-good : (t : Tree) (p : PathRecord) (i h : ℕ) (bytes : List ℕ) (c : ChainRecord) → IsWay t i h p → IsChain t i c → digest t.salt bytes ≡ digest_on p i h → (bytes ≡ block_in t c h) ⊎ Collide t.salt
+way-good : (t : Tree) (p : PathRecord) (i h : ℕ) (bytes : List ℕ) (c : ChainRecord) → IsWay t i h p → IsChain t i c → digest t.salt bytes ≡ digest_on p i h → (bytes ≡ block_of_height t c h) ⊎ Collide t.salt
 way-good t p i h bytes c way chain same =
     elim (way-digest t p i h c way chain) [
       | inr clash ↦ inr clash
-      | inl met ↦ blocks-one t.salt bytes (block_in t c h) (same ∙ sym met)
+      | inl met ↦ blocks-one t.salt bytes (block_of_height t c h) (same ∙ sym met)
     ]
 
-found-good : (l : Look) (bytes : List ℕ) (done : Bool) (m : Mended) → IsMended l bytes done m → IsFound m → digest l.w.salt bytes ≡ l.w.digest_is
+found-good : (l : Look) (bytes : List ℕ) (done : Bool) (m : Mended) → IsMended l bytes done m → IsBlockFound m → digest l.w.salt bytes ≡ l.w.digest_is
 found-good l bytes done mended.Good looked found = absurd found
 found-good l bytes done (mended.Copy n) looked found = looked.good
 found-good l bytes done mended.Remade looked found = looked.good
@@ -101,7 +101,7 @@ mended-formatted form j v w w' m contents are =
 module _ (t : Tree) (contents : List (List ℕ)) (d h : Device) (l i : ℕ) (valid : IsShape t.shape) (inside : i < t.shape.blocks) (few : suc l ≤ levels t.shape)
     (stand : contents ≡ blocks_at d.image t.shape.data_block 0 t.shape.blocks) where
   -- what is made of the data is the block of the chain that is formed of them
-  made-formed : made_on (ground t.shape t.salt d h 0) l i ≡ block_in t (formed t.shape t.salt contents i) (suc l)
+  made-formed : made_on (ground t.shape t.salt d h 0) l i ≡ block_of_height t (formed t.shape t.salt contents i) (suc l)
   unfolding formed
   made-formed =
       let steps : l + 1 - 0 ≡ suc l = omega arith in

@@ -9,9 +9,9 @@ use Rattle.tree_path.proofs.lemmas.SpanLemmas.{along, lower-mod}
 use Rattle.tree_repair.specs.declared.place.Row.{Row}
 use Rattle.tree_repair.specs.Coverage.{IsLookedAt, IsVisitedIn}
 use Rattle.tree_repair.specs.Jobs.{IsRow}
-use Rattle.tree_repair.specs.Runs.{Job, Runs, Visit}
+use Rattle.tree_repair.specs.Runs.{Job, VisitsAll, Visit}
 use Rattle.tree_repair.specs.Tries.{IsCutOff}
-use Rattle.tree_repair.specs.Worlds.{IsWorldRead, World}
+use Rattle.tree_repair.specs.Worlds.{IsWorldRead, RepairWorld}
 use Rattle.tree_repair.proofs.RowLemmas.{per_block-some}
 use Rattle.tree_repair.proofs.RunLemmas.{runs-read, runs-then, world-none}
 
@@ -24,7 +24,7 @@ in-right : (s : ShapeRecord) (h i : ℕ) (vs us : List Visit) → IsVisitedIn s 
 in-right s h i [] us at = at
 in-right s h i (v ∷ more) us at = inr (in-right s h i more us at)
 
-pub looked-left : (j : Job) (h i : ℕ) (vs us : List Visit) (x y z : World) → IsLookedAt j h i vs x y → Runs j us y z → IsLookedAt j h i (vs ++ us) x z
+pub looked-left : (j : Job) (h i : ℕ) (vs us : List Visit) (x y z : RepairWorld) → IsLookedAt j h i vs x y → VisitsAll j us y z → IsLookedAt j h i (vs ++ us) x z
 looked-left j h i vs us x y z (inl at) runs = inl (in-left j.tree.shape h i vs us at)
 looked-left j h i vs us x y z (inr by) runs = inr (record {
   earlier = by.earlier;
@@ -40,7 +40,7 @@ looked-left j h i vs us x y z (inr by) runs = inr (record {
   cut = by.cut;
 })
 
-pub looked-right : (j : Job) (h i : ℕ) (vs us : List Visit) (x y z : World) → Runs j vs x y → IsLookedAt j h i us y z → IsLookedAt j h i (vs ++ us) x z
+pub looked-right : (j : Job) (h i : ℕ) (vs us : List Visit) (x y z : RepairWorld) → VisitsAll j vs x y → IsLookedAt j h i us y z → IsLookedAt j h i (vs ++ us) x z
 looked-right j h i vs us x y z runs (inl at) = inl (in-right j.tree.shape h i vs us at)
 looked-right j h i vs us x y z runs (inr by) = inr (record {
   earlier = vs ++ by.earlier;
@@ -56,7 +56,7 @@ looked-right j h i vs us x y z runs (inr by) = inr (record {
   cut = by.cut;
 })
 
-pub looked-behind : (j : Job) (h i : ℕ) (vs : List Visit) (x y z : World) → IsWorldRead x y → IsLookedAt j h i vs y z → IsLookedAt j h i vs x z
+pub looked-behind : (j : Job) (h i : ℕ) (vs : List Visit) (x y z : RepairWorld) → IsWorldRead x y → IsLookedAt j h i vs y z → IsLookedAt j h i vs x z
 looked-behind j h i vs x y z read (inl at) = inl at
 looked-behind j h i vs x y z read (inr by) = inr (record {
   earlier = by.earlier;
@@ -73,7 +73,7 @@ looked-behind j h i vs x y z read (inr by) = inr (record {
 })
 
 -- none of a row was looked at, for no good hash blocks lead to it
-pub looked-cut : (j : Job) (h i k : ℕ) (x y : World) → IsWorldRead x y → ancestor j.tree.shape (h + 1) k ≡ ancestor j.tree.shape (h + 1) i → HasFailed x.hash_dev y.hash_dev ⊎ IsCutOff j.tree k h x.hash_dev → IsLookedAt j h i [] x y
+pub looked-cut : (j : Job) (h i k : ℕ) (x y : RepairWorld) → IsWorldRead x y → ancestor j.tree.shape (h + 1) k ≡ ancestor j.tree.shape (h + 1) i → HasFailed x.hash_dev y.hash_dev ⊎ IsCutOff j.tree k h x.hash_dev → IsLookedAt j h i [] x y
 looked-cut j h i k x y read same cut = inr (record {
   earlier = [];
   later = [];

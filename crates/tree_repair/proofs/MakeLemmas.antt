@@ -18,8 +18,8 @@ use Rattle.hash_tree.proofs.lemmas.PackingLemmas.{length-concat}
 use Rattle.hash_tree.proofs.lemmas.TreeLemmas.{length-digest}
 use Rattle.verity_format.specs.Blocks.{AreOnlyRead}
 use Rattle.tree_path.proofs.lemmas.DeviceLemmas.{only_read-none, only_read-then, steady-then}
-use Rattle.tree_repair.specs.Remaking.{Ground, HaveBlocks, IsOver, IsUnlike, count_at, ground, made, stands}
-use Rattle.tree_repair.specs.Worlds.{AreBothRead, World}
+use Rattle.tree_repair.specs.Remaking.{Ground, HaveBlocks, IsOver, IsUnlike, count_in, ground, made, standing_block}
+use Rattle.tree_repair.specs.Worlds.{AreBothRead, RepairWorld}
 
 -- ---- how many blocks there are
 
@@ -78,10 +78,10 @@ read-none d h = record { data_read = only_read-none d; hash_read = only_read-non
 read-then : (d h d1 h1 d2 h2 : Device) → AreOnlyRead d h d1 h1 → AreOnlyRead d1 h1 d2 h2 → AreOnlyRead d h d2 h2
 read-then d h d1 h1 d2 h2 p q = record { data_read = only_read-then p.data_read q.data_read; hash_read = only_read-then p.hash_read q.hash_read }
 
-pub both-none : (a : World) → AreBothRead a a
+pub both-none : (a : RepairWorld) → AreBothRead a a
 both-none a = record { devices = read-none a.data_dev a.hash_dev; data_copies_are = refl; hash_copies_are = refl }
 
-pub both-then : (a b c : World) → AreBothRead a b → AreBothRead b c → AreBothRead a c
+pub both-then : (a b c : RepairWorld) → AreBothRead a b → AreBothRead b c → AreBothRead a c
 both-then a b c p q = record {
   devices = read-then a.data_dev a.hash_dev b.data_dev b.hash_dev c.data_dev c.hash_dev p.devices q.devices;
   data_copies_are = q.data_copies_are ∙ p.data_copies_are;
@@ -116,12 +116,12 @@ pub above : (from steps : ℕ) → 0 < steps → from + steps ≡ suc (from + (s
 above from steps some = omega (arith, some)
 
 made-suc : (g : Ground) (steps n : ℕ)
-    → made g (suc steps) n ≡ filled g.shape.hash_block (digests g steps (n * per_block g.shape) (min (per_block g.shape) (count_at g.shape (g.height + steps) - n * per_block g.shape)))
+    → made g (suc steps) n ≡ filled g.shape.hash_block (digests g steps (n * per_block g.shape) (min (per_block g.shape) (count_in g.shape (g.height + steps) - n * per_block g.shape)))
 unfolding made
 made-suc g steps n = refl
 
 pub made-all : (g : Ground) (steps n first count : ℕ) → 0 < steps → first ≡ n * per_block g.shape
-    → count ≡ min (per_block g.shape) (count_at g.shape (g.height + (steps - 1)) - n * per_block g.shape)
+    → count ≡ min (per_block g.shape) (count_in g.shape (g.height + (steps - 1)) - n * per_block g.shape)
     → made g steps n ≡ filled g.shape.hash_block (digests g (steps - 1) first count)
 made-all g steps n first count some from few =
     let up : steps ≡ suc (steps - 1) = omega (arith, some) in
@@ -134,6 +134,6 @@ pub none-yet : (g : Ground) (steps first size : ℕ) → filled size (digests g 
 none-yet g steps first size = let all : size - 0 ≡ size = omega arith in ap (λ (n : ℕ). replicate n 0) all
 
 -- no step above the height
-pub made-none : (g : Ground) (steps n : ℕ) → steps ≡ 0 → made g steps n ≡ stands g.shape g.data_image g.hash_image g.height n
+pub made-none : (g : Ground) (steps n : ℕ) → steps ≡ 0 → made g steps n ≡ standing_block g.shape g.data_image g.hash_image g.height n
 unfolding made
 made-none g steps n none = ap (λ (k : ℕ). made g k n) none

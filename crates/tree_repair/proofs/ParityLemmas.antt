@@ -9,10 +9,10 @@ use Rattle.tree_path.specs.Path.{PathRecord, digest_on}
 use Rattle.tree_path.proofs.lemmas.DeviceLemmas.{IsBlock, block-inside, block-size, only_read-none}
 use Rattle.tree_survey.specs.Surveys.{IsWay}
 use Rattle.tree_repair.specs.declared.mending.Mended.TheVariants as mended
-use Rattle.tree_repair.specs.Mending.{IsReplaced}
+use Rattle.tree_repair.specs.Mending.{IsBlockReplaced}
 use Rattle.tree_repair.specs.Parity.{FailsToPlace, IsGoodNow, IsPlace, IsPlaced, IsPutOr, end_at}
 use Rattle.tree_repair.specs.Runs.{IsVisited, Job, sector_at, size_at, visit}
-use Rattle.tree_repair.specs.Worlds.{world}
+use Rattle.tree_repair.specs.Worlds.{repair_world}
 use Rattle.tree_repair.specs.Sources.{IsThere, wanted}
 use Rattle.tree_repair.specs.Tries.{IsCoveredOr}
 use Rattle.tree_repair.proofs.SourceLemmas.{each-none}
@@ -69,16 +69,16 @@ end-small s (suc l) valid = valid.tree_fits
 -- ---- a block that was put is a visit
 
 module _ (j : Job) (p : PathRecord) (h i : ℕ) (bytes : List ℕ) (d d' e : Device) (cs es : List Device) (asked : IsTrue j.parity) (inside : i < j.tree.shape.blocks) (way : IsWay j.tree i h p) where
-  data-visit : (done : Bool) → h ≡ 0 → IsReplaced d (sector_at j.tree.shape h i) (wanted j.tree.salt (digest_on p i h) (size_at j.tree.shape h / 512)) j.write bytes done d'
-      → IsVisited j (visit h i mended.Parity bytes done) (world d e cs es) (world d' e cs es)
+  data-visit : (done : Bool) → h ≡ 0 → IsBlockReplaced d (sector_at j.tree.shape h i) (wanted j.tree.salt (digest_on p i h) (size_at j.tree.shape h / 512)) j.write bytes done d'
+      → IsVisited j (visit h i mended.Parity bytes done) (repair_world d e cs es) (repair_world d' e cs es)
   data-visit done none put =
-      subst (λ (n : ℕ). IsVisited j (visit n i mended.Parity bytes done) (world d e cs es) (world d' e cs es)) (sym none)
+      subst (λ (n : ℕ). IsVisited j (visit n i mended.Parity bytes done) (repair_world d e cs es) (repair_world d' e cs es)) (sym none)
       (record {
         inside = inside;
         p = p;
         way = subst (λ (n : ℕ). IsWay j.tree i n p) none way;
         mended_as = record {
-          replaced = subst (λ (n : ℕ). IsReplaced d (sector_at j.tree.shape n i) (wanted j.tree.salt (digest_on p i n) (size_at j.tree.shape n / 512)) j.write bytes done d') none put;
+          replaced = subst (λ (n : ℕ). IsBlockReplaced d (sector_at j.tree.shape n i) (wanted j.tree.salt (digest_on p i n) (size_at j.tree.shape n / 512)) j.write bytes done d') none put;
           copies_read = each-none cs;
         };
         made_of = asked;
@@ -86,16 +86,16 @@ module _ (j : Job) (p : PathRecord) (h i : ℕ) (bytes : List ℕ) (d d' e : Dev
         copies_are = refl;
       })
 
-  hash-visit : (l : ℕ) (done : Bool) → h ≡ suc l → IsReplaced d (sector_at j.tree.shape h i) (wanted j.tree.salt (digest_on p i h) (size_at j.tree.shape h / 512)) j.write bytes done d'
-      → IsVisited j (visit h i mended.Parity bytes done) (world e d es cs) (world e d' es cs)
+  hash-visit : (l : ℕ) (done : Bool) → h ≡ suc l → IsBlockReplaced d (sector_at j.tree.shape h i) (wanted j.tree.salt (digest_on p i h) (size_at j.tree.shape h / 512)) j.write bytes done d'
+      → IsVisited j (visit h i mended.Parity bytes done) (repair_world e d es cs) (repair_world e d' es cs)
   hash-visit l done some put =
-      subst (λ (n : ℕ). IsVisited j (visit n i mended.Parity bytes done) (world e d es cs) (world e d' es cs)) (sym some)
+      subst (λ (n : ℕ). IsVisited j (visit n i mended.Parity bytes done) (repair_world e d es cs) (repair_world e d' es cs)) (sym some)
       (record {
         inside = inside;
         p = p;
         way = subst (λ (n : ℕ). IsWay j.tree i n p) some way;
         mended_as = record {
-          replaced = subst (λ (n : ℕ). IsReplaced d (sector_at j.tree.shape n i) (wanted j.tree.salt (digest_on p i n) (size_at j.tree.shape n / 512)) j.write bytes done d') some put;
+          replaced = subst (λ (n : ℕ). IsBlockReplaced d (sector_at j.tree.shape n i) (wanted j.tree.salt (digest_on p i n) (size_at j.tree.shape n / 512)) j.write bytes done d') some put;
           copies_read = each-none cs;
         };
         made_of = asked;
@@ -103,9 +103,9 @@ module _ (j : Job) (p : PathRecord) (h i : ℕ) (bytes : List ℕ) (d d' e : Dev
         copies_are = refl;
       })
 
-  good-data : h ≡ 0 → (read : List ℕ) × IsThere d (sector_at j.tree.shape h i) (wanted j.tree.salt (digest_on p i h) (size_at j.tree.shape h / 512)) read → IsGoodNow j h i (world d e cs es)
+  good-data : h ≡ 0 → (read : List ℕ) × IsThere d (sector_at j.tree.shape h i) (wanted j.tree.salt (digest_on p i h) (size_at j.tree.shape h / 512)) read → IsGoodNow j h i (repair_world d e cs es)
   good-data none there =
-      subst (λ (n : ℕ). IsGoodNow j n i (world d e cs es)) (sym none)
+      subst (λ (n : ℕ). IsGoodNow j n i (repair_world d e cs es)) (sym none)
       (record {
         p = p;
         way = subst (λ (n : ℕ). IsWay j.tree i n p) none way;
@@ -113,9 +113,9 @@ module _ (j : Job) (p : PathRecord) (h i : ℕ) (bytes : List ℕ) (d d' e : Dev
         there = subst (λ (n : ℕ). IsThere d (sector_at j.tree.shape n i) (wanted j.tree.salt (digest_on p i n) (size_at j.tree.shape n / 512)) there.0) none there.1;
       })
 
-  good-hash : (l : ℕ) → h ≡ suc l → (read : List ℕ) × IsThere d (sector_at j.tree.shape h i) (wanted j.tree.salt (digest_on p i h) (size_at j.tree.shape h / 512)) read → IsGoodNow j h i (world e d es cs)
+  good-hash : (l : ℕ) → h ≡ suc l → (read : List ℕ) × IsThere d (sector_at j.tree.shape h i) (wanted j.tree.salt (digest_on p i h) (size_at j.tree.shape h / 512)) read → IsGoodNow j h i (repair_world e d es cs)
   good-hash l some there =
-      subst (λ (n : ℕ). IsGoodNow j n i (world e d es cs)) (sym some)
+      subst (λ (n : ℕ). IsGoodNow j n i (repair_world e d es cs)) (sym some)
       (record {
         p = p;
         way = subst (λ (n : ℕ). IsWay j.tree i n p) some way;
@@ -123,30 +123,30 @@ module _ (j : Job) (p : PathRecord) (h i : ℕ) (bytes : List ℕ) (d d' e : Dev
         there = subst (λ (n : ℕ). IsThere d (sector_at j.tree.shape n i) (wanted j.tree.salt (digest_on p i n) (size_at j.tree.shape n / 512)) there.0) some there.1;
       })
 
-  data-or : (back : Bool) → h ≡ 0 → IsPutOr d (sector_at j.tree.shape h i) (wanted j.tree.salt (digest_on p i h) (size_at j.tree.shape h / 512)) j.write bytes d' back → IsPlaced j h i bytes (world d e cs es) (world d' e cs es) back
+  data-or : (back : Bool) → h ≡ 0 → IsPutOr d (sector_at j.tree.shape h i) (wanted j.tree.salt (digest_on p i h) (size_at j.tree.shape h / 512)) j.write bytes d' back → IsPlaced j h i bytes (repair_world d e cs es) (repair_world d' e cs es) back
   data-or true none put = data-visit true none put
   data-or false none put = (record { data_read = put.0; hash_read = only_read-none e; data_copies_read = each-none cs; hash_copies_read = each-none es }, good-data none put.1)
 
-  hash-or : (l : ℕ) (back : Bool) → h ≡ suc l → IsPutOr d (sector_at j.tree.shape h i) (wanted j.tree.salt (digest_on p i h) (size_at j.tree.shape h / 512)) j.write bytes d' back → IsPlaced j h i bytes (world e d es cs) (world e d' es cs) back
+  hash-or : (l : ℕ) (back : Bool) → h ≡ suc l → IsPutOr d (sector_at j.tree.shape h i) (wanted j.tree.salt (digest_on p i h) (size_at j.tree.shape h / 512)) j.write bytes d' back → IsPlaced j h i bytes (repair_world e d es cs) (repair_world e d' es cs) back
   hash-or l true some put = hash-visit l true some put
   hash-or l false some put = (record { data_read = only_read-none e; hash_read = put.0; data_copies_read = each-none es; hash_copies_read = each-none cs }, good-hash l some put.1)
 
   pub data-placed : {E : Type 0} (r : Result Bool E) → h ≡ 0 → IfOk r (IsPutOr d (sector_at j.tree.shape h i) (wanted j.tree.salt (digest_on p i h) (size_at j.tree.shape h / 512)) j.write bytes d')
-      → IfOk r (IsPlaced j h i bytes (world d e cs es) (world d' e cs es))
+      → IfOk r (IsPlaced j h i bytes (repair_world d e cs es) (repair_world d' e cs es))
   data-placed (Ok back) none put = data-or back none put
   data-placed (Err fault) none put = tt
 
-  pub data-unplaced : {E : Type 0} (r : Result Bool E) → h ≡ 0 → OnErr r (IsReplaced d (sector_at j.tree.shape h i) (wanted j.tree.salt (digest_on p i h) (size_at j.tree.shape h / 512)) j.write bytes false d')
-      → OnErr r (FailsToPlace j h i bytes (world d e cs es) (world d' e cs es))
+  pub data-unplaced : {E : Type 0} (r : Result Bool E) → h ≡ 0 → OnErr r (IsBlockReplaced d (sector_at j.tree.shape h i) (wanted j.tree.salt (digest_on p i h) (size_at j.tree.shape h / 512)) j.write bytes false d')
+      → OnErr r (FailsToPlace j h i bytes (repair_world d e cs es) (repair_world d' e cs es))
   data-unplaced (Ok back) none put = tt
   data-unplaced (Err fault) none put = data-visit false none put
 
   pub hash-placed : {E : Type 0} (l : ℕ) (r : Result Bool E) → h ≡ suc l → IfOk r (IsPutOr d (sector_at j.tree.shape h i) (wanted j.tree.salt (digest_on p i h) (size_at j.tree.shape h / 512)) j.write bytes d')
-      → IfOk r (IsPlaced j h i bytes (world e d es cs) (world e d' es cs))
+      → IfOk r (IsPlaced j h i bytes (repair_world e d es cs) (repair_world e d' es cs))
   hash-placed l (Ok back) some put = hash-or l back some put
   hash-placed l (Err fault) some put = tt
 
-  pub hash-unplaced : {E : Type 0} (l : ℕ) (r : Result Bool E) → h ≡ suc l → OnErr r (IsReplaced d (sector_at j.tree.shape h i) (wanted j.tree.salt (digest_on p i h) (size_at j.tree.shape h / 512)) j.write bytes false d')
-      → OnErr r (FailsToPlace j h i bytes (world e d es cs) (world e d' es cs))
+  pub hash-unplaced : {E : Type 0} (l : ℕ) (r : Result Bool E) → h ≡ suc l → OnErr r (IsBlockReplaced d (sector_at j.tree.shape h i) (wanted j.tree.salt (digest_on p i h) (size_at j.tree.shape h / 512)) j.write bytes false d')
+      → OnErr r (FailsToPlace j h i bytes (repair_world e d es cs) (repair_world e d' es cs))
   hash-unplaced l (Ok back) some put = tt
   hash-unplaced l (Err fault) some put = hash-visit l false some put

@@ -8,10 +8,10 @@ use Rattle.tree_repair.specs.declared.fault.RepairFault.{RepairFault}
 use Rattle.tree_repair.specs.declared.repair.Plan.{Plan}
 use Rattle.tree_repair.specs.Repairs.{IsAllowed, IsUnrepairedBy, Repairs, job_of}
 use Rattle.tree_repair.specs.Runs.{CanRun, HasRun, Job}
-use Rattle.tree_repair.specs.Worlds.{IsWorldRead, World}
+use Rattle.tree_repair.specs.Worlds.{IsWorldRead, RepairWorld}
 use Rattle.tree_repair.proofs.RunLemmas.{has-behind}
 
-module _ (s : SuperRecord) (plan : Plan) (parity : Bool) (j : Job) (w b : World) (same : j ≡ job_of s plan parity) (read : IsWorldRead w b) (images : AreImages w.data_dev w.hash_dev s) where
+module _ (s : SuperRecord) (plan : Plan) (parity : Bool) (j : Job) (w b : RepairWorld) (same : j ≡ job_of s plan parity) (read : IsWorldRead w b) (images : AreImages w.data_dev w.hash_dev s) where
   begin-of : IsShape (shape_of s) → IsAllowed plan.write w.data_dev w.hash_dev → plan.copy_first ≤ 2 ^ 55 → CanRun (job_of s plan parity) b
   begin-of valid allowed small = record {
     valid = valid;
@@ -25,14 +25,14 @@ module _ (s : SuperRecord) (plan : Plan) (parity : Bool) (j : Job) (w b : World)
   pub can-begin : IsShape (shape_of s) → IsAllowed plan.write w.data_dev w.hash_dev → plan.copy_first ≤ 2 ^ 55 → CanRun j b
   can-begin valid allowed small = subst (λ (x : Job). CanRun x b) (sym same) (begin-of valid allowed small)
 
-  abbrev pub repairs-of : (w' : World) (old new : Option (List ℕ)) (ok : Bool) → HasRun j b w' old new ok → Repairs plan parity w w' old new ok
+  abbrev pub repairs-of : (w' : RepairWorld) (old new : Option (List ℕ)) (ok : Bool) → HasRun j b w' old new ok → Repairs plan parity w w' old new ok
   repairs-of w' old new ok run = record { s = s; images = images; run = subst (λ (x : Job). HasRun x w w' old new ok) same (has-behind read run) }
 
-  pub whole-ok : (w' : World) (old new : Option (List ℕ)) (r : Result (Unit {0}) RepairFault) → HasRun j b w' old new (is_ok r) → OnOk r (Repairs plan parity w w' old new true)
+  pub whole-ok : (w' : RepairWorld) (old new : Option (List ℕ)) (r : Result (Unit {0}) RepairFault) → HasRun j b w' old new (is_ok r) → OnOk r (Repairs plan parity w w' old new true)
   whole-ok w' old new (Ok x) run = repairs-of w' old new true run
   whole-ok w' old new (Err e) run = tt
 
-  pub whole-err : (w' : World) (old new : Option (List ℕ)) (r : Result (Unit {0}) RepairFault) → HasRun j b w' old new (is_ok r) → IfErr r (IsUnrepairedBy plan parity w w' old new)
+  pub whole-err : (w' : RepairWorld) (old new : Option (List ℕ)) (r : Result (Unit {0}) RepairFault) → HasRun j b w' old new (is_ok r) → IfErr r (IsUnrepairedBy plan parity w w' old new)
   whole-err w' old new (Ok x) run = tt
   whole-err w' old new (Err e) run = inr (repairs-of w' old new false run)
 

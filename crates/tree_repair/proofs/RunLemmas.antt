@@ -15,15 +15,15 @@ use Rattle.verity_format.specs.Blocks.{IsOnlyRead}
 use Rattle.tree_path.proofs.lemmas.DeviceLemmas.{only_read-none, only_read-then, same-none, same-then}
 use Rattle.tree_repair.specs.declared.mending.Mended.{Mended}
 use Rattle.tree_repair.specs.declared.mending.Mended.TheVariants as mended
-use Rattle.tree_repair.specs.Mending.{IsMended, IsPut, Look}
-use Rattle.tree_repair.specs.Runs.{CanRun, HasRun, IsDone, IsVisited, Job, OtherStays, Runs, Visit, line_of, look_at, other, own}
-use Rattle.tree_repair.specs.Worlds.{IsWorldRead, World, world}
+use Rattle.tree_repair.specs.Mending.{IsMended, IsAllowedPut, Look}
+use Rattle.tree_repair.specs.Runs.{CanRun, HasRun, IsDone, IsVisited, Job, OtherStays, VisitsAll, Visit, visit_line, look_at, other, own}
+use Rattle.tree_repair.specs.Worlds.{IsWorldRead, RepairWorld, repair_world}
 use Rattle.tree_repair.proofs.SourceLemmas.{each-none, each-then}
 
-pub world-none : (w : World) → IsWorldRead w w
+pub world-none : (w : RepairWorld) → IsWorldRead w w
 world-none w = record { data_read = only_read-none w.data_dev; hash_read = only_read-none w.hash_dev; data_copies_read = each-none w.data_copies; hash_copies_read = each-none w.hash_copies }
 
-pub world-then : (a b c : World) → IsWorldRead a b → IsWorldRead b c → IsWorldRead a c
+pub world-then : (a b c : RepairWorld) → IsWorldRead a b → IsWorldRead b c → IsWorldRead a c
 world-then a b c p q = record {
   data_read = only_read-then p.data_read q.data_read;
   hash_read = only_read-then p.hash_read q.hash_read;
@@ -33,62 +33,62 @@ world-then a b c p q = record {
 
 -- ---- one behind the other
 
-pub runs-read : (j : Job) (vs : List Visit) (a b c : World) → IsWorldRead a b → Runs j vs b c → Runs j vs a c
+pub runs-read : (j : Job) (vs : List Visit) (a b c : RepairWorld) → IsWorldRead a b → VisitsAll j vs b c → VisitsAll j vs a c
 runs-read j [] a b c read runs = world-then a b c read runs
 runs-read j (v ∷ more) a b c read (x, (y, (q, (here, rest)))) = (x, (y, (world-then a b x read q, (here, rest))))
 
-pub runs-then : (j : Job) (vs us : List Visit) (a b c : World) → Runs j vs a b → Runs j us b c → Runs j (vs ++ us) a c
+pub runs-then : (j : Job) (vs us : List Visit) (a b c : RepairWorld) → VisitsAll j vs a b → VisitsAll j us b c → VisitsAll j (vs ++ us) a c
 runs-then j [] us a b c p q = runs-read j us a b c p q
 runs-then j (v ∷ more) us a b c (x, (y, (read, (here, rest)))) q = (x, (y, (read, (here, runs-then j more us y b c rest q))))
 
-abbrev pub has-none : {j : Job} {w : World} {old : Option (List ℕ)} → HasRun j w w old old true
+abbrev pub has-none : {j : Job} {w : RepairWorld} {old : Option (List ℕ)} → HasRun j w w old old true
 has-none {j} {w} {old} = record { visits = []; runs = world-none w; done = λ ok. All-nil IsDone; printed = λ ok. Appends-nil old }
 
-abbrev pub has-read : {j : Job} {a b : World} {old : Option (List ℕ)} → IsWorldRead a b → HasRun j a b old old true
+abbrev pub has-read : {j : Job} {a b : RepairWorld} {old : Option (List ℕ)} → IsWorldRead a b → HasRun j a b old old true
 has-read {j} {a} {b} {old} read = record { visits = []; runs = read; done = λ ok. All-nil IsDone; printed = λ ok. Appends-nil old }
 
 -- a run that came to its end goes on
-abbrev pub has-then : {j : Job} {a b c : World} {old now new : Option (List ℕ)} {ok : Bool} → HasRun j a b old now true → HasRun j b c now new ok → HasRun j a c old new ok
+abbrev pub has-then : {j : Job} {a b c : RepairWorld} {old now new : Option (List ℕ)} {ok : Bool} → HasRun j a b old now true → HasRun j b c now new ok → HasRun j a c old new ok
 has-then {j} {a} {b} {c} {old} {now} {new} {ok} p q = record {
   visits = p.visits ++ q.visits;
   runs = runs-then j p.visits q.visits a b c p.runs q.runs;
   done = λ end. All-append IsDone p.visits q.visits (p.done refl) (q.done end);
-  printed = λ end. subst (Appends old new) (sym (flat_map-append (line_of j) p.visits q.visits))
-      (Appends-trans old now new (flat_map (line_of j) p.visits) (flat_map (line_of j) q.visits) (p.printed refl) (q.printed end));
+  printed = λ end. subst (Appends old new) (sym (flat_map-append (visit_line j) p.visits q.visits))
+      (Appends-trans old now new (flat_map (visit_line j) p.visits) (flat_map (visit_line j) q.visits) (p.printed refl) (q.printed end));
 }
 
 -- one behind a reading
-abbrev pub has-behind : {j : Job} {a b c : World} {old new : Option (List ℕ)} {ok : Bool} → IsWorldRead a b → HasRun j b c old new ok → HasRun j a c old new ok
+abbrev pub has-behind : {j : Job} {a b c : RepairWorld} {old new : Option (List ℕ)} {ok : Bool} → IsWorldRead a b → HasRun j b c old new ok → HasRun j a c old new ok
 has-behind {j} {a} {b} {c} read run = record { visits = run.visits; runs = runs-read j run.visits a b c read run.runs; done = run.done; printed = run.printed }
 
 -- what holds of a run that didn't come to its end holds of the result that hands its fault on
-pub ended-from : {T E : Type 0} {j : Job} {a b : World} {old new : Option (List ℕ)} (r : Result T E) (P : E → Type 0) → IsErrAnd r P → HasRun j a b old new false → HasRun j a b old new (is_ok r)
+pub ended-from : {T E : Type 0} {j : Job} {a b : RepairWorld} {old new : Option (List ℕ)} (r : Result T E) (P : E → Type 0) → IsErrAnd r P → HasRun j a b old new false → HasRun j a b old new (is_ok r)
 ended-from (Ok x) P is run = absurd is
 ended-from (Err e) P is run = run
 
 -- a reading that didn't come to its end, of which no more is said
-pub ends-read : {j : Job} {a b : World} {old new : Option (List ℕ)} → IsWorldRead a b → HasRun j a b old new false
+pub ends-read : {j : Job} {a b : RepairWorld} {old new : Option (List ℕ)} → IsWorldRead a b → HasRun j a b old new false
 ends-read read = record { visits = []; runs = read; done = λ end. absurd (false≢true end); printed = λ end. absurd (false≢true end) }
 
 -- one block
-pub runs-one : (j : Job) (v : Visit) (a b : World) → IsVisited j v a b → Runs j (v ∷ []) a b
+pub runs-one : (j : Job) (v : Visit) (a b : RepairWorld) → IsVisited j v a b → VisitsAll j (v ∷ []) a b
 runs-one j v a b here = (a, (b, (world-none a, (here, world-none b))))
 
-abbrev pub has-one : {j : Job} {v : Visit} {a b : World} {old new : Option (List ℕ)} → IsVisited j v a b → v.done ≡ true → Appends old new (line_of j v) → HasRun j a b old new true
+abbrev pub has-one : {j : Job} {v : Visit} {a b : RepairWorld} {old new : Option (List ℕ)} → IsVisited j v a b → v.done ≡ true → Appends old new (visit_line j v) → HasRun j a b old new true
 has-one {j} {v} {a} {b} {old} {new} here done told = record {
   visits = v ∷ [];
   runs = runs-one j v a b here;
   done = λ ok. All-cons IsDone v [] done (All-nil IsDone);
-  printed = λ ok. subst (Appends old new) (sym (append-nil (line_of j v))) told;
+  printed = λ ok. subst (Appends old new) (sym (append-nil (visit_line j v))) told;
 }
 
 -- and one behind which the run didn't come to its end
-pub ends-one : {j : Job} {v : Visit} {a b : World} {old new : Option (List ℕ)} → IsVisited j v a b → HasRun j a b old new false
+pub ends-one : {j : Job} {v : Visit} {a b : RepairWorld} {old new : Option (List ℕ)} → IsVisited j v a b → HasRun j a b old new false
 ends-one {j} {v} {a} {b} here = record { visits = v ∷ []; runs = runs-one j v a b here; done = λ end. absurd (false≢true end); printed = λ end. absurd (false≢true end) }
 
 -- ---- the devices stay the same ones
 
-put-same : (write : Bool) (old : Device) (first sectors : ℕ) (bytes : List ℕ) (done : Bool) (new : Device) → IsPut write old first sectors bytes done new → IsSameDevice old new
+put-same : (write : Bool) (old : Device) (first sectors : ℕ) (bytes : List ℕ) (done : Bool) (new : Device) → IsAllowedPut write old first sectors bytes done new → IsSameDevice old new
 put-same true old first sectors bytes done new put = put.moved.same
 put-same false old first sectors bytes done new put = subst (IsSameDevice old) (sym put.0) (same-none old)
 
@@ -121,30 +121,30 @@ other-image (suc l) mended.Remade old new stays steady = stays.image steady
 other-image (suc l) mended.Parity old new stays steady = ap (λ (x : Device). x.image) stays
 other-image (suc l) mended.Lost old new stays steady = stays.image steady
 
-pub record AreSame (a b : World) : Type 0 where
+pub record AreSame (a b : RepairWorld) : Type 0 where
   pub data_same : IsSameDevice a.data_dev b.data_dev
   pub hash_same : IsSameDevice a.hash_dev b.hash_dev
 
-are-then : (a b c : World) → AreSame a b → AreSame b c → AreSame a c
+are-then : (a b c : RepairWorld) → AreSame a b → AreSame b c → AreSame a c
 are-then a b c p q = record { data_same = same-then p.data_same q.data_same; hash_same = same-then p.hash_same q.hash_same }
 
-pub read-same : (a b : World) → IsWorldRead a b → AreSame a b
+pub read-same : (a b : RepairWorld) → IsWorldRead a b → AreSame a b
 read-same a b read = record { data_same = read.data_read.same; hash_same = read.hash_read.same }
 
-at-same : (h : ℕ) (a b : World) → IsSameDevice (own h a) (own h b) → IsSameDevice (other h a) (other h b) → AreSame a b
+at-same : (h : ℕ) (a b : RepairWorld) → IsSameDevice (own h a) (own h b) → IsSameDevice (other h a) (other h b) → AreSame a b
 at-same zero a b here there = record { data_same = here; hash_same = there }
 at-same (suc l) a b here there = record { data_same = there; hash_same = here }
 
-pub visited-same : (j : Job) (v : Visit) (a b : World) → IsVisited j v a b → AreSame a b
+pub visited-same : (j : Job) (v : Visit) (a b : RepairWorld) → IsVisited j v a b → AreSame a b
 visited-same j v a b here =
     at-same v.height a b (mended-same (look_at j here.p v.height v.index a b) v.bytes v.done v.mended here.mended_as)
     (other-same v.height v.mended (other v.height a) (other v.height b) here.other_stays)
 
-runs-same : (j : Job) (vs : List Visit) (a b : World) → Runs j vs a b → AreSame a b
+runs-same : (j : Job) (vs : List Visit) (a b : RepairWorld) → VisitsAll j vs a b → AreSame a b
 runs-same j [] a b read = read-same a b read
 runs-same j (v ∷ more) a b (x, (y, (read, (here, rest)))) = are-then a x b (read-same a x read) (are-then x y b (visited-same j v x y here) (runs-same j more y b rest))
 
-can-same : (j : Job) (a b : World) → AreSame a b → CanRun j a → CanRun j b
+can-same : (j : Job) (a b : RepairWorld) → AreSame a b → CanRun j a → CanRun j b
 can-same j a b same can = record {
   valid = can.valid;
   data_fits = omega (arith, can.data_fits, same.data_same.size);
@@ -154,26 +154,26 @@ can-same j a b same can = record {
   copy_small = can.copy_small;
 }
 
-pub can-later : {j : Job} {a b : World} {old new : Option (List ℕ)} {ok : Bool} → HasRun j a b old new ok → CanRun j a → CanRun j b
+pub can-later : {j : Job} {a b : RepairWorld} {old new : Option (List ℕ)} {ok : Bool} → HasRun j a b old new ok → CanRun j a → CanRun j b
 can-later {j} {a} {b} run can = can-same j a b (runs-same j run.visits a b run.runs) can
 
-pub can-read : {j : Job} {a b : World} → IsWorldRead a b → CanRun j a → CanRun j b
+pub can-read : {j : Job} {a b : RepairWorld} → IsWorldRead a b → CanRun j a → CanRun j b
 can-read {j} {a} {b} read can = can-same j a b (read-same a b read) can
 
 -- the hash device alone was read
-pub tree-read : (w : World) (d : Device) → IsOnlyRead w.hash_dev d → IsWorldRead w (world w.data_dev d w.data_copies w.hash_copies)
+pub tree-read : (w : RepairWorld) (d : Device) → IsOnlyRead w.hash_dev d → IsWorldRead w (repair_world w.data_dev d w.data_copies w.hash_copies)
 tree-read w d read = record { data_read = only_read-none w.data_dev; hash_read = read; data_copies_read = each-none w.data_copies; hash_copies_read = each-none w.hash_copies }
 
 -- the data device alone was
-pub data-read : (w : World) (d : Device) → IsOnlyRead w.data_dev d → IsWorldRead w (world d w.hash_dev w.data_copies w.hash_copies)
+pub data-read : (w : RepairWorld) (d : Device) → IsOnlyRead w.data_dev d → IsWorldRead w (repair_world d w.hash_dev w.data_copies w.hash_copies)
 data-read w d read = record { data_read = read; hash_read = only_read-none w.hash_dev; data_copies_read = each-none w.data_copies; hash_copies_read = each-none w.hash_copies }
 
 -- covered blocks still lie on the devices
-laid-same : (l : Layout) (a b : World) → AreSame a b → IsLaidOn l a.data_dev a.hash_dev → IsLaidOn l b.data_dev b.hash_dev
+laid-same : (l : Layout) (a b : RepairWorld) → AreSame a b → IsLaidOn l a.data_dev a.hash_dev → IsLaidOn l b.data_dev b.hash_dev
 laid-same l a b same laid = record { layout = laid.layout; data_room = omega (arith, laid.data_room, same.data_same.size); hash_room = omega (arith, laid.hash_room, same.hash_same.size) }
 
-pub laid-later : {l : Layout} {j : Job} {a b : World} {old new : Option (List ℕ)} {ok : Bool} → HasRun j a b old new ok → IsLaidOn l a.data_dev a.hash_dev → IsLaidOn l b.data_dev b.hash_dev
+pub laid-later : {l : Layout} {j : Job} {a b : RepairWorld} {old new : Option (List ℕ)} {ok : Bool} → HasRun j a b old new ok → IsLaidOn l a.data_dev a.hash_dev → IsLaidOn l b.data_dev b.hash_dev
 laid-later {l} {j} {a} {b} run laid = laid-same l a b (runs-same j run.visits a b run.runs) laid
 
-pub laid-read : {l : Layout} {a b : World} → IsWorldRead a b → IsLaidOn l a.data_dev a.hash_dev → IsLaidOn l b.data_dev b.hash_dev
+pub laid-read : {l : Layout} {a b : RepairWorld} → IsWorldRead a b → IsLaidOn l a.data_dev a.hash_dev → IsLaidOn l b.data_dev b.hash_dev
 laid-read {l} {a} {b} read laid = laid-same l a b (read-same a b read) laid

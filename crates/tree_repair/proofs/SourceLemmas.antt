@@ -9,9 +9,9 @@ use Rattle.block_device.specs.Device.{Device, run_of}
 use Rattle.tree_shape.specs.Digests.{digest}
 use Rattle.verity_format.specs.Blocks.{IsOnlyRead}
 use Rattle.tree_path.proofs.lemmas.DeviceLemmas.{only_read-none, only_read-then, steady-then}
-use Rattle.tree_repair.specs.Sources.{AreEachRead, AreIn, AreNotIn, IsThere, IsWithout, Wanted, bytes_at}
+use Rattle.tree_repair.specs.Sources.{AreEachRead, AreIn, AreNotIn, IsThere, IsWithout, Wanted, bytes_on_device}
 
-bytes-before : (a b : Device) (first n : ℕ) → IsOnlyRead a b → IsTrue a.steady → bytes_at b first n ≡ bytes_at a first n
+bytes-before : (a b : Device) (first n : ℕ) → IsOnlyRead a b → IsTrue a.steady → bytes_on_device b first n ≡ bytes_on_device a first n
 bytes-before a b first n read steady = ap (λ (im : List (List ℕ)). concat (run_of im first n)) (read.image steady)
 
 -- what a device hasn't, it hadn't before it was read

@@ -6,14 +6,14 @@ use Rattle.tree_path.specs.Path.{PathRecord}
 use Rattle.tree_path.proofs.lemmas.DeviceLemmas.{steady-then}
 use Rattle.tree_repair.specs.declared.mending.Mended.{Mended}
 use Rattle.tree_repair.specs.declared.mending.Mended.TheVariants as mended
-use Rattle.tree_repair.specs.Laws.{AreOff, IsOffData, IsOffTree, IsOutside, OtherSectorsStay}
-use Rattle.tree_repair.specs.Mending.{IsFound, IsMended, IsPut, Look}
-use Rattle.tree_repair.specs.Runs.{Job, OtherStays, Runs, Visit, look_at, other}
-use Rattle.tree_repair.specs.Worlds.{World}
+use Rattle.tree_repair.specs.Laws.{AreOff, IsOffData, IsOffTree, IsSectorOutside, OtherSectorsStay}
+use Rattle.tree_repair.specs.Mending.{IsBlockFound, IsMended, IsAllowedPut, Look}
+use Rattle.tree_repair.specs.Runs.{Job, OtherStays, VisitsAll, Visit, look_at, other}
+use Rattle.tree_repair.specs.Worlds.{RepairWorld}
 use Rattle.tree_repair.proofs.RunLemmas.{other-image, visited-same}
 
 module _ (k : ℕ) (d : List ℕ) where
-  written-stays : (old : Device) (first n : ℕ) (done : Bool) (new : Device) → IsWritten old first n done new → IsTrue old.steady → IsOutside first n k → get_or new.image k d ≡ get_or old.image k d
+  written-stays : (old : Device) (first n : ℕ) (done : Bool) (new : Device) → IsWritten old first n done new → IsTrue old.steady → IsSectorOutside first n k → get_or new.image k d ≡ get_or old.image k d
   written-stays old first n done new moved steady (inl low) =
       sym (get_or-take first new.image k d low) ∙ ap (λ (im : List (List ℕ)). get_or im k d) (moved.before steady) ∙ get_or-take first old.image k d low
   written-stays old first n done new moved steady (inr high) =
@@ -23,12 +23,12 @@ module _ (k : ℕ) (d : List ℕ) where
       ∙ ap (λ (im : List (List ℕ)). get_or im r d) (moved.after steady)
       ∙ get_or-drop (first + n) old.image r d ∙ ap (λ (m : ℕ). get_or old.image m d) at
 
-  put-stays : (write : Bool) (old : Device) (first n : ℕ) (bytes : List ℕ) (done : Bool) (new : Device) → IsPut write old first n bytes done new → IsTrue old.steady → IsOutside first n k
+  put-stays : (write : Bool) (old : Device) (first n : ℕ) (bytes : List ℕ) (done : Bool) (new : Device) → IsAllowedPut write old first n bytes done new → IsTrue old.steady → IsSectorOutside first n k
       → get_or new.image k d ≡ get_or old.image k d
   put-stays true old first n bytes done new put steady outside = written-stays old first n done new put.moved steady outside
   put-stays false old first n bytes done new put steady outside = ap (λ (x : Device). get_or x.image k d) put.0
 
-  look-stays : (l : Look) (bytes : List ℕ) (done : Bool) (m : Mended) → IsMended l bytes done m → IsTrue l.old.steady → (IsFound m → IsOutside l.first l.w.sectors k)
+  look-stays : (l : Look) (bytes : List ℕ) (done : Bool) (m : Mended) → IsMended l bytes done m → IsTrue l.old.steady → (IsBlockFound m → IsSectorOutside l.first l.w.sectors k)
       → get_or l.new.image k d ≡ get_or l.old.image k d
   look-stays l bytes done mended.Good found steady outside = ap (λ (im : List (List ℕ)). get_or im k d) (found.read.image steady)
   look-stays l bytes done (mended.Copy n) found steady outside =
@@ -45,17 +45,17 @@ module _ (k : ℕ) (d : List ℕ) where
       ap (λ (im : List (List ℕ)). get_or im k d) (found.beneath_read.image (steady-then found.read.same steady) ∙ found.read.image steady)
 
   module _ (j : Job) (p : PathRecord) where
-    data-visit : (h i : ℕ) (m : Mended) (bytes : List ℕ) (done : Bool) (w w' : World) → IsMended (look_at j p h i w w') bytes done m → OtherStays h m (other h w) (other h w') → IsTrue w.data_dev.steady
-        → (IsFound m → IsOffData j k h i) → get_or w'.data_dev.image k d ≡ get_or w.data_dev.image k d
+    data-visit : (h i : ℕ) (m : Mended) (bytes : List ℕ) (done : Bool) (w w' : RepairWorld) → IsMended (look_at j p h i w w') bytes done m → OtherStays h m (other h w) (other h w') → IsTrue w.data_dev.steady
+        → (IsBlockFound m → IsOffData j k h i) → get_or w'.data_dev.image k d ≡ get_or w.data_dev.image k d
     data-visit zero i m bytes done w w' looked stays steady off = look-stays (look_at j p zero i w w') bytes done m looked steady off
     data-visit (suc l) i m bytes done w w' looked stays steady off = ap (λ (im : List (List ℕ)). get_or im k d) (other-image (suc l) m w.data_dev w'.data_dev stays steady)
 
-    tree-visit : (h i : ℕ) (m : Mended) (bytes : List ℕ) (done : Bool) (w w' : World) → IsMended (look_at j p h i w w') bytes done m → OtherStays h m (other h w) (other h w') → IsTrue w.hash_dev.steady
-        → (IsFound m → IsOffTree j k h i) → get_or w'.hash_dev.image k d ≡ get_or w.hash_dev.image k d
+    tree-visit : (h i : ℕ) (m : Mended) (bytes : List ℕ) (done : Bool) (w w' : RepairWorld) → IsMended (look_at j p h i w w') bytes done m → OtherStays h m (other h w) (other h w') → IsTrue w.hash_dev.steady
+        → (IsBlockFound m → IsOffTree j k h i) → get_or w'.hash_dev.image k d ≡ get_or w.hash_dev.image k d
     tree-visit zero i m bytes done w w' looked stays steady off = ap (λ (im : List (List ℕ)). get_or im k d) (other-image zero m w.hash_dev w'.hash_dev stays steady)
     tree-visit (suc l) i m bytes done w w' looked stays steady off = look-stays (look_at j p (suc l) i w w') bytes done m looked steady off
 
-  data-run : (j : Job) (vs : List Visit) (w w' : World) → Runs j vs w w' → IsTrue w.data_dev.steady → AreOff (IsOffData j k) vs → get_or w'.data_dev.image k d ≡ get_or w.data_dev.image k d
+  data-run : (j : Job) (vs : List Visit) (w w' : RepairWorld) → VisitsAll j vs w w' → IsTrue w.data_dev.steady → AreOff (IsOffData j k) vs → get_or w'.data_dev.image k d ≡ get_or w.data_dev.image k d
   data-run j [] w w' read steady off = ap (λ (im : List (List ℕ)). get_or im k d) (read.data_read.image steady)
   data-run j (v ∷ more) w w' (x, (y, (read, (here, rest)))) steady off =
       let before : IsTrue x.data_dev.steady = steady-then read.data_read.same steady in
@@ -63,7 +63,7 @@ module _ (k : ℕ) (d : List ℕ) where
       ∙ data-visit j here.p v.height v.index v.mended v.bytes v.done x y here.mended_as here.other_stays before off.0
       ∙ ap (λ (im : List (List ℕ)). get_or im k d) (read.data_read.image steady)
 
-  tree-run : (j : Job) (vs : List Visit) (w w' : World) → Runs j vs w w' → IsTrue w.hash_dev.steady → AreOff (IsOffTree j k) vs → get_or w'.hash_dev.image k d ≡ get_or w.hash_dev.image k d
+  tree-run : (j : Job) (vs : List Visit) (w w' : RepairWorld) → VisitsAll j vs w w' → IsTrue w.hash_dev.steady → AreOff (IsOffTree j k) vs → get_or w'.hash_dev.image k d ≡ get_or w.hash_dev.image k d
   tree-run j [] w w' read steady off = ap (λ (im : List (List ℕ)). get_or im k d) (read.hash_read.image steady)
   tree-run j (v ∷ more) w w' (x, (y, (read, (here, rest)))) steady off =
       let before : IsTrue x.hash_dev.steady = steady-then read.hash_read.same steady in

@@ -14,8 +14,8 @@ use Rattle.tree_path.proofs.lemmas.PathLemmas.{is_same-cases}
 use Rattle.tree_repair.specs.declared.bad.BadBlock.{BadBlock}
 use Rattle.tree_repair.specs.Parity.{IsCoveredAt, IsPlaced}
 use Rattle.tree_repair.specs.Runs.{Job}
-use Rattle.tree_repair.specs.Tries.{AreCovered, AreSought, IsCoveredOr, IsMadeOrVain, IsSought, IsSoughtAt, IsTried, Trial, listed, trial}
-use Rattle.tree_repair.specs.Worlds.{IsWorldRead, World}
+use Rattle.tree_repair.specs.Tries.{AreCovered, AreSought, IsCoveredOr, IsMadeOrVain, IsSought, IsSoughtAt, IsTried, Trial, listed_number, trial}
+use Rattle.tree_repair.specs.Worlds.{IsWorldRead, RepairWorld}
 use Rattle.tree_repair.proofs.RunLemmas.{world-then}
 use Rattle.verity_format.specs.Blocks.{IsOnlyRead}
 
@@ -27,41 +27,41 @@ made-or j p h i t k bytes true at made is = tt
 made-or j p h i t k bytes false at made is = λ place. inr (k, (at, inr (record { bytes = bytes; other = is_same-cases (digest j.tree.salt bytes) (digest_on p i h) false is; made = made })))
 
 -- what was put came back, or stands there
-pub tried-placed : {E : Type 0} (j : Job) (h i : ℕ) (l : Layout) (lost : List ℕ) (w a w' : World) (p p' : Device) (bytes : List ℕ) (r : Result Bool E) → IsWorldRead w a → IsOnlyRead p p' → IfOk r (IsPlaced j h i bytes a w')
+pub tried-placed : {E : Type 0} (j : Job) (h i : ℕ) (l : Layout) (lost : List ℕ) (w a w' : RepairWorld) (p p' : Device) (bytes : List ℕ) (r : Result Bool E) → IsWorldRead w a → IsOnlyRead p p' → IfOk r (IsPlaced j h i bytes a w')
     → IfOk r (IsTried j h i (trial l lost w w' p p'))
 tried-placed j h i l lost w a w' p p' bytes (Ok true) read parity placed = (record { between = a; read = read; bytes = bytes; visited = placed }, parity)
 tried-placed j h i l lost w a w' p p' bytes (Ok false) read parity placed =
     (record { image = world-then w a w' read placed.0; parity = parity }, inr (record { between = a; read = read; good = placed.1 }))
 tried-placed j h i l lost w a w' p p' bytes (Err e) read parity placed = tt
 
-pub sought-behind : {E : Type 0} (j : Job) (h i : ℕ) (found : Bool) (l : Layout) (lost : List ℕ) (w a w' : World) (p p' : Device) (r : Result Bool E) → IsWorldRead w a → found ≡ false → IfOk r (IsTried j h i (trial l lost a w' p p'))
+pub sought-behind : {E : Type 0} (j : Job) (h i : ℕ) (found : Bool) (l : Layout) (lost : List ℕ) (w a w' : RepairWorld) (p p' : Device) (r : Result Bool E) → IsWorldRead w a → found ≡ false → IfOk r (IsTried j h i (trial l lost a w' p p'))
     → IfOk r (λ back. IsSoughtAt j h i (trial l lost w w' p p') found back)
 sought-behind j h i true l lost w a w' p p' r read not tried = absurd (true≢false not)
 sought-behind j h i false l lost w a w' p p' (Ok back) read not tried = inr (record { between = a; read = read; tried = tried })
 sought-behind j h i false l lost w a w' p p' (Err e) read not tried = tt
 
 -- one more
-sought-last : (j : Job) (l : Layout) (lost : List ℕ) (bs : List BadBlock) (b : BadBlock) (w a w' : World) (p q p' : Device) (back : Bool) → AreSought j l lost bs w a p q → IsSought j b (trial l lost a w' q p') back
+sought-last : (j : Job) (l : Layout) (lost : List ℕ) (bs : List BadBlock) (b : BadBlock) (w a w' : RepairWorld) (p q p' : Device) (back : Bool) → AreSought j l lost bs w a p q → IsSought j b (trial l lost a w' q p') back
     → AreSought j l lost (bs ++ b ∷ []) w w' p p'
 sought-last j l lost [] b w a w' p q p' back before last =
-    (w', (p', (back, (subst (λ (x : World). IsSought j b (trial l lost x w' p p') back) before.0 (subst (λ (d : Device). IsSought j b (trial l lost a w' d p') back) before.1 last), (refl, refl)))))
+    (w', (p', (back, (subst (λ (x : RepairWorld). IsSought j b (trial l lost x w' p p') back) before.0 (subst (λ (d : Device). IsSought j b (trial l lost a w' d p') back) before.1 last), (refl, refl)))))
 sought-last j l lost (c ∷ more) b w a w' p q p' back (x, (d, (y, (here, rest)))) last = (x, (d, (y, (here, sought-last j l lost more b x a w' d q p' back rest last))))
 
-pub sought-next : (j : Job) (l : Layout) (lost : List ℕ) (bs : List BadBlock) (i : ℕ) (b : BadBlock) (w a w' : World) (p q p' : Device) (back : Bool) → i < length bs
+pub sought-next : (j : Job) (l : Layout) (lost : List ℕ) (bs : List BadBlock) (i : ℕ) (b : BadBlock) (w a w' : RepairWorld) (p q p' : Device) (back : Bool) → i < length bs
     → AreSought j l lost (take i bs) w a p q → IsSought j (get_or bs i b) (trial l lost a w' q p') back → AreSought j l lost (take (i + 1) bs) w w' p p'
 sought-next j l lost bs i b w a w' p q p' back inside before last =
     subst (λ (xs : List BadBlock). AreSought j l lost xs w w' p p') (sym (take_more bs i b inside)) (sought-last j l lost (take i bs) (get_or bs i b) w a w' p q p' back before last)
 
 -- ---- those that are covered
 
-covered-last : (s : ShapeRecord) (l : Layout) (bs : List BadBlock) (b : BadBlock) (lost : List ℕ) (r : Option ℕ) → AreCovered s l bs lost → IsCoveredOr s l b.place.height b.place.index r → AreCovered s l (bs ++ b ∷ []) (lost ++ listed r)
+covered-last : (s : ShapeRecord) (l : Layout) (bs : List BadBlock) (b : BadBlock) (lost : List ℕ) (r : Option ℕ) → AreCovered s l bs lost → IsCoveredOr s l b.place.height b.place.index r → AreCovered s l (bs ++ b ∷ []) (lost ++ listed_number r)
 covered-last s l [] b lost None are last = inr (last, append-nil lost ∙ are)
 covered-last s l [] b lost (Some k) are last = inl (k, ([], (ap (λ (x : List ℕ). x ++ k ∷ []) are, (last, refl))))
 covered-last s l (c ∷ more) b lost r (inl (k, (rest, (is, (at, are))))) last =
-    inl (k, (rest ++ listed r, (ap (λ (x : List ℕ). x ++ listed r) is, (at, covered-last s l more b rest r are last))))
+    inl (k, (rest ++ listed_number r, (ap (λ (x : List ℕ). x ++ listed_number r) is, (at, covered-last s l more b rest r are last))))
 covered-last s l (c ∷ more) b lost r (inr (not, are)) last = inr (not, covered-last s l more b lost r are last)
 
 pub covered-next : (s : ShapeRecord) (l : Layout) (bs : List BadBlock) (i : ℕ) (b : BadBlock) (lost : List ℕ) (r : Option ℕ) → i < length bs → AreCovered s l (take i bs) lost
-    → IsCoveredOr s l (get_or bs i b).place.height (get_or bs i b).place.index r → AreCovered s l (take (i + 1) bs) (lost ++ listed r)
+    → IsCoveredOr s l (get_or bs i b).place.height (get_or bs i b).place.index r → AreCovered s l (take (i + 1) bs) (lost ++ listed_number r)
 covered-next s l bs i b lost r inside before last =
-    subst (λ (xs : List BadBlock). AreCovered s l xs (lost ++ listed r)) (sym (take_more bs i b inside)) (covered-last s l (take i bs) (get_or bs i b) lost r before last)
+    subst (λ (xs : List BadBlock). AreCovered s l xs (lost ++ listed_number r)) (sym (take_more bs i b inside)) (covered-last s l (take i bs) (get_or bs i b) lost r before last)

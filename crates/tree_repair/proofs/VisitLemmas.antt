@@ -10,13 +10,13 @@ use Rattle.tree_path.specs.Path.{PathRecord, digest_on}
 use Rattle.tree_survey.specs.Surveys.{IsWay}
 use Rattle.tree_repair.specs.declared.mending.Mended.{Mended}
 use Rattle.tree_repair.specs.declared.mending.Mended.TheVariants as mended
-use Rattle.tree_repair.specs.Mending.{IsBareOf, IsFoundNowhere, IsMended, IsNotRemade, IsPut, IsUnmended}
+use Rattle.tree_repair.specs.Mending.{IsBareOf, IsFoundNowhere, IsMended, IsNotRemade, IsAllowedPut, IsUnmended}
 use Rattle.tree_repair.specs.Remaking.{IsMadeBeneath, IsNowhereBeneath}
 use Rattle.tree_repair.specs.Runs.{IsVisited, Job, visit}
 use Rattle.tree_repair.specs.Sources.{AreEachRead}
-use Rattle.tree_repair.specs.Worlds.{AreBothRead, World, world}
+use Rattle.tree_repair.specs.Worlds.{AreBothRead, RepairWorld, repair_world}
 use Rattle.tree_repair.proofs.MakeLemmas.{over-before, unlike-before}
-use Rattle.tree_repair.specs.Visits.{FailsToMake, IsHashLooked, IsHashSeen, IsHashUnmended, IsLooked, IsMade, IsTreePut, KeepsData, data_look, hash_look}
+use Rattle.tree_repair.specs.Visits.{FailsToStoreBlock, IsHashLooked, IsHashSeen, IsHashUnmended, IsLooked, IsBlockMade, IsTreePut, KeepsData, data_look, hash_look}
 
 plain-bare : (parity : Bool) (m : Mended) → IsNotRemade m → IsBareOf parity m
 plain-bare parity mended.Good plain = tt
@@ -27,20 +27,20 @@ plain-bare parity mended.Lost plain = tt
 
 module _ (j : Job) (p : PathRecord) (h i : ℕ) (inside : i < j.tree.shape.blocks) (way : IsWay j.tree i h p) where
   module _ (none : h ≡ 0) (d d' e : Device) (cs cs' es : List Device) where
-    data-visit : (m : Mended) (bytes : List ℕ) (done : Bool) → IsNotRemade m → IsMended (data_look j p i d d' cs cs') bytes done m → IsVisited j (visit h i m bytes done) (world d e cs es) (world d' e cs' es)
+    data-visit : (m : Mended) (bytes : List ℕ) (done : Bool) → IsNotRemade m → IsMended (data_look j p i d d' cs cs') bytes done m → IsVisited j (visit h i m bytes done) (repair_world d e cs es) (repair_world d' e cs' es)
     data-visit m bytes done plain looked =
-        subst (λ (n : ℕ). IsVisited j (visit n i m bytes done) (world d e cs es) (world d' e cs' es)) (sym none)
+        subst (λ (n : ℕ). IsVisited j (visit n i m bytes done) (repair_world d e cs es) (repair_world d' e cs' es)) (sym none)
         (record { inside = inside; p = p; way = subst (λ (n : ℕ). IsWay j.tree i n p) none way; mended_as = looked; made_of = plain-bare j.parity m plain; other_stays = refl; copies_are = refl })
 
-    pub data-made : {E : Type 0} (r : Result Mended E) → IfOk r IsNotRemade → IfOk r (IsLooked (data_look j p i d d' cs cs')) → IfOk r (IsMade j h i (world d e cs es) (world d' e cs' es))
+    pub data-made : {E : Type 0} (r : Result Mended E) → IfOk r IsNotRemade → IfOk r (IsLooked (data_look j p i d d' cs cs')) → IfOk r (IsBlockMade j h i (repair_world d e cs es) (repair_world d' e cs' es))
     data-made (Ok m) plain looked = (looked.0, data-visit m looked.0 true plain looked.1)
     data-made (Err f) plain looked = tt
 
-    pub data-fails : {E : Type 0} (r : Result Mended E) → OnErr r (IsUnmended (data_look j p i d d' cs cs')) → OnErr r (FailsToMake j h i (world d e cs es) (world d' e cs' es))
+    pub data-fails : {E : Type 0} (r : Result Mended E) → OnErr r (IsUnmended (data_look j p i d d' cs cs')) → OnErr r (FailsToStoreBlock j h i (repair_world d e cs es) (repair_world d' e cs' es))
     data-fails (Ok m) looked = tt
     data-fails (Err f) looked = (mended.Copy looked.0, (looked.1.0, (tt, data-visit (mended.Copy looked.0) looked.1.0 false tt looked.1.1)))
 
-  module _ (l : ℕ) (some : h ≡ suc l) (w w' : World) where
+  module _ (l : ℕ) (some : h ≡ suc l) (w w' : RepairWorld) where
     hash-visit : (m : Mended) (bytes : List ℕ) (done : Bool) → IsHashSeen j p l i w w' bytes done m → IsVisited j (visit h i m bytes done) w w'
     hash-visit m bytes done seen =
         subst (λ (n : ℕ). IsVisited j (visit n i m bytes done) w w') (sym some)
@@ -54,18 +54,18 @@ module _ (j : Job) (p : PathRecord) (h i : ℕ) (inside : i < j.tree.shape.block
           copies_are = seen.copies_are;
         })
 
-    pub hash-made : {E : Type 0} (r : Result Mended E) → IfOk r (IsHashLooked j p l i w w') → IfOk r (IsMade j h i w w')
+    pub hash-made : {E : Type 0} (r : Result Mended E) → IfOk r (IsHashLooked j p l i w w') → IfOk r (IsBlockMade j h i w w')
     hash-made (Ok m) seen = (seen.0, hash-visit m seen.0 true seen.1)
     hash-made (Err f) seen = tt
 
-    pub hash-fails : {E : Type 0} (r : Result Mended E) → OnErr r (IsHashUnmended j p l i w w') → OnErr r (FailsToMake j h i w w')
+    pub hash-fails : {E : Type 0} (r : Result Mended E) → OnErr r (IsHashUnmended j p l i w w') → OnErr r (FailsToStoreBlock j h i w w')
     hash-fails (Ok m) seen = tt
     hash-fails (Err f) seen = (seen.0, (seen.1.0, (seen.1.1.0, hash-visit seen.0 seen.1.0 false seen.1.1.1)))
 
 -- ---- a hash block that no copy has
 
 -- an image before, once its copies were asked, and once the blocks beneath were read
-module _ (j : Job) (p : PathRecord) (l i : ℕ) (a m b : World) where
+module _ (j : Job) (p : PathRecord) (l i : ℕ) (a m b : RepairWorld) where
   pub hash-same : IsFoundNowhere (hash_look j p l i a.hash_dev m.hash_dev a.hash_copies m.hash_copies) → AreBothRead m b → IsSameDevice a.hash_dev b.hash_dev
   hash-same found beneath = same-then found.read.same (same-then found.beneath_read.same beneath.devices.hash_read.same)
 
@@ -90,7 +90,7 @@ module _ (j : Job) (p : PathRecord) (l i : ℕ) (a m b : World) where
     }
 
     -- it was made, and was written, or not
-    pub remade-seen : (bytes : List ℕ) (done : Bool) (c : World) → digest j.tree.salt bytes ≡ digest_on p i (l + 1) → IsMadeBeneath j.tree.shape j.tree.salt m.data_dev m.hash_dev l i bytes
+    pub remade-seen : (bytes : List ℕ) (done : Bool) (c : RepairWorld) → digest j.tree.salt bytes ≡ digest_on p i (l + 1) → IsMadeBeneath j.tree.shape j.tree.salt m.data_dev m.hash_dev l i bytes
         → length bytes ≡ j.tree.shape.hash_block → IsTreePut j.write (position j.tree.shape l (ancestor j.tree.shape (l + 1) i) * (j.tree.shape.hash_block / 512)) bytes done b c
         → IsHashSeen j p l i a c bytes done mended.Remade
     remade-seen bytes done c good made long put = record {
@@ -103,7 +103,7 @@ module _ (j : Job) (p : PathRecord) (l i : ℕ) (a m b : World) where
         between = b.hash_dev;
         beneath_read = only_read-then found.beneath_read beneath.devices.hash_read;
         good = good;
-        put = subst (λ (n : ℕ). IsPut j.write b.hash_dev (position j.tree.shape l (ancestor j.tree.shape (l + 1) i) * (j.tree.shape.hash_block / 512)) (n / 512) bytes done c.hash_dev) long put.put;
+        put = subst (λ (n : ℕ). IsAllowedPut j.write b.hash_dev (position j.tree.shape l (ancestor j.tree.shape (l + 1) i) * (j.tree.shape.hash_block / 512)) (n / 512) bytes done c.hash_dev) long put.put;
       };
       made_of = record {
         from = made.from;

@@ -8,7 +8,7 @@ use Rattle.tree_repair.specs.declared.place.Row.{Row}
 use Rattle.tree_path.specs.Steps.{HasReadAtMost}
 use Rattle.tree_repair.specs.Bounds.{AreReadAtMost, HasWrittenAtMost, area_block_sectors}
 use Rattle.tree_repair.specs.Runs.{size_at}
-use Rattle.tree_repair.specs.Worlds.{World}
+use Rattle.tree_repair.specs.Worlds.{RepairWorld}
 use Rattle.verity_format.specs.Image.{data_sectors}
 
 -- How many sectors may be read of the data device and of the hash device; and how many written there, and read of each copy.
@@ -37,7 +37,7 @@ pub record AreEachLeft (a b : ℕ) (old new : List Device) : Type 0 where
   pub each : (j : ℕ) → j < length old → (d : Device) → (slice_index_or new j d).reads + b ≤ (slice_index_or old j d).reads + a
 
 -- a may be asked before, and b still behind
-pub record Leaves (a b : Bill) (w w' : World) : Type 0 where
+pub record LeavesWorld (a b : Bill) (w w' : RepairWorld) : Type 0 where
   pub data_reads : w'.data_dev.reads + b.data_reads ≤ w.data_dev.reads + a.data_reads
   pub hash_reads : w'.hash_dev.reads + b.hash_reads ≤ w.hash_dev.reads + a.hash_reads
   pub data_writes : w'.data_dev.writes + b.data_once ≤ w.data_dev.writes + a.data_once
@@ -101,20 +101,20 @@ abbrev pub left_of : ShapeRecord → ℕ → ℕ → ℕ
 left_of s h k = s.blocks - k * per_block s ^ h
 
 -- what is due for blocks of a height was asked for block k
-abbrev pub LeavesBlock : (ℕ → Bill) → ShapeRecord → ℕ → ℕ → World → World → Type 0
-LeavesBlock due s h k w w' = Leaves (due (left_of s h k)) (due (left_of s h (k + 1))) w w'
+abbrev pub LeavesBlock : (ℕ → Bill) → ShapeRecord → ℕ → ℕ → RepairWorld → RepairWorld → Type 0
+LeavesBlock due s h k w w' = LeavesWorld (due (left_of s h k)) (due (left_of s h (k + 1))) w w'
 
 -- the same of the block above data block i
-abbrev pub LeavesVisit : ShapeRecord → ℕ → ℕ → World → World → Type 0
+abbrev pub LeavesVisit : ShapeRecord → ℕ → ℕ → RepairWorld → RepairWorld → Type 0
 LeavesVisit s h i w w' = LeavesBlock (visits_over s h) s h (ancestor s h i) w w'
 
 -- the same of a hash block of level l, and of all beneath it
-abbrev pub LeavesHashVisit : ShapeRecord → ℕ → ℕ → World → World → Type 0
+abbrev pub LeavesHashVisit : ShapeRecord → ℕ → ℕ → RepairWorld → RepairWorld → Type 0
 LeavesHashVisit s l i w w' = LeavesVisit s (suc l) i w w'
 
-abbrev pub LeavesBeneath : ShapeRecord → ℕ → ℕ → World → World → Type 0
+abbrev pub LeavesBeneath : ShapeRecord → ℕ → ℕ → RepairWorld → RepairWorld → Type 0
 LeavesBeneath s l i w w' = LeavesBlock (beneath_over s l) s (suc l) (ancestor s (suc l) i) w w'
 
 -- the same of the blocks of a row
-abbrev pub LeavesRow : (ShapeRecord → ℕ → ℕ → Bill) → ShapeRecord → Row → World → World → Type 0
-LeavesRow due s row w w' = Leaves (due s row.height (s.blocks - row.first)) (due s row.height (s.blocks - row.first - per_block s ^ (row.height + 1))) w w'
+abbrev pub LeavesRow : (ShapeRecord → ℕ → ℕ → Bill) → ShapeRecord → Row → RepairWorld → RepairWorld → Type 0
+LeavesRow due s row w w' = LeavesWorld (due s row.height (s.blocks - row.first)) (due s row.height (s.blocks - row.first - per_block s ^ (row.height + 1))) w w'

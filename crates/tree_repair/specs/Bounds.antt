@@ -3,15 +3,15 @@ use Rattle.std.specs.Prelude.{◌≡◌, ◌⊎◌, ℕ, ◌+◌, ◌*◌, ◌<�
 use Rattle.std.specs.List.{slice_index_or}
 use Rattle.block_device.specs.Device.{Device}
 use Rattle.counted_io.specs.Counted.{CountedRecord}
-use Rattle.tree_shape.specs.Shape.{ShapeRecord, area_blocks, levels, sectors_of}
+use Rattle.tree_shape.specs.Shape.{ShapeRecord, area_blocks, levels, blocks_sectors}
 use Rattle.tree_path.specs.Steps.{HasReadAtMost}
 use Rattle.verity_format.specs.Blocks.{IsOnlyRead}
 use Rattle.verity_format.specs.Image.{data_sectors}
 use Rattle.verity_format.specs.Superblock.{shape_of}
 use Rattle.tree_repair.specs.declared.repair.Plan.{Plan}
 use Rattle.tree_repair.specs.declared.fault.RepairFault.{RepairFault}
-use Rattle.tree_repair.specs.Repairs.{IsImageCause, Repairs}
-use Rattle.tree_repair.specs.Worlds.{World}
+use Rattle.tree_repair.specs.Repairs.{IsNoImageCause, Repairs}
+use Rattle.tree_repair.specs.Worlds.{RepairWorld}
 
 -- ---- devices
 
@@ -28,12 +28,12 @@ pub record AreReadAtMost (old : List Device) (n : ℕ) (new : List Device) : Typ
 
 -- how many sectors the hash blocks of a tree take
 abbrev pub area_block_sectors : ShapeRecord → ℕ
-area_block_sectors s = sectors_of (area_blocks s) s.hash_block
+area_block_sectors s = blocks_sectors (area_blocks s) s.hash_block
 
 -- Of the data each block is read once with its row, once alone, and once for each level, whose hash blocks it is made into. Of
 -- the tree there are the superblock, the way to each row, each block once alone, and once for each level above. No block is
 -- written twice, nor sought twice in a copy.
-pub record IsOnePass (s : ShapeRecord) (w w' : World) : Type 0 where
+pub record IsOnePass (s : ShapeRecord) (w w' : RepairWorld) : Type 0 where
   pub data_reads : HasReadAtMost w.data_dev ((levels s + 2) * data_sectors s) w'.data_dev
   pub hash_reads : HasReadAtMost w.hash_dev (1 + 2 * levels s * area_block_sectors s) w'.hash_dev
   pub data_writes : HasWrittenAtMost w.data_dev (data_sectors s) w'.data_dev
@@ -42,18 +42,18 @@ pub record IsOnePass (s : ShapeRecord) (w w' : World) : Type 0 where
   pub hash_copies : AreReadAtMost w.hash_copies (area_block_sectors s) w'.hash_copies
 
 -- an image was repaired in one pass, by the shape that its superblock says
-pub record RepairsInOnePass (plan : Plan) (w w' : World) (old new : Option (List ℕ)) (ok : Bool) : Type 0 where
+pub record RepairsInOnePass (plan : Plan) (w w' : RepairWorld) (old new : Option (List ℕ)) (ok : Bool) : Type 0 where
   pub repairs : Repairs plan false w w' old new ok
   pub within : IsOnePass (shape_of repairs.s) w w'
 
 -- the hash device alone was asked, and only read
-pub record IsHashReadAlone (w w' : World) : Type 0 where
+pub record IsHashReadAlone (w w' : RepairWorld) : Type 0 where
   pub data_is : w'.data_dev ≡ w.data_dev
   pub read : IsOnlyRead w.hash_dev w'.hash_dev
   pub data_copies_are : w'.data_copies ≡ w.data_copies
   pub hash_copies_are : w'.hash_copies ≡ w.hash_copies
 
 -- so, whether to the end or not; or there was nothing to be gone over
-abbrev pub IsRepairWithin : {W T : Type 0} → (W → Option (List ℕ)) → Plan → World → World → CountedRecord W → CountedRecord W → Result T RepairFault → Type 0
+abbrev pub IsRepairWithin : {W T : Type 0} → (W → Option (List ℕ)) → Plan → RepairWorld → RepairWorld → CountedRecord W → CountedRecord W → Result T RepairFault → Type 0
 IsRepairWithin contents plan w w' old new result =
-    (IsErrAnd result (IsImageCause w.data_dev w.hash_dev w'.hash_dev) × IsHashReadAlone w w') ⊎ RepairsInOnePass plan w w' (contents old.inner) (contents new.inner) (is_ok result)
+    (IsErrAnd result (IsNoImageCause w.data_dev w.hash_dev w'.hash_dev) × IsHashReadAlone w w') ⊎ RepairsInOnePass plan w w' (contents old.inner) (contents new.inner) (is_ok result)

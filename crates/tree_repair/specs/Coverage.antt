@@ -6,10 +6,10 @@ use Rattle.tree_shape.specs.Shape.{ShapeRecord, ancestor, levels}
 use Rattle.tree_path.specs.Path.{PathRecord, digest_on}
 use Rattle.tree_repair.specs.declared.place.Place.{Place}
 use Rattle.tree_repair.specs.declared.place.Row.{Row}
-use Rattle.tree_repair.specs.Runs.{Job, Runs, Visit}
+use Rattle.tree_repair.specs.Runs.{Job, VisitsAll, Visit}
 use Rattle.tree_repair.specs.Sources.{IsThere, wanted}
 use Rattle.tree_repair.specs.Tries.{IsCutOff}
-use Rattle.tree_repair.specs.Worlds.{IsWorldRead, World}
+use Rattle.tree_repair.specs.Worlds.{IsWorldRead, RepairWorld}
 
 -- ---- data blocks that are good
 
@@ -48,21 +48,21 @@ IsVisitedIn s h i (v ∷ more) = IsVisitAt s h i v ⊎ IsVisitedIn s h i more
 
 -- When its turn came, behind some of the visits, a hash block above it wasn't good, or the hash device failed. It was tried
 -- with a block beside it, which has the same hash blocks above.
-pub record IsPassedBy (j : Job) (h i : ℕ) (visits : List Visit) (w w' : World) : Type 0 where
+pub record IsPassedBy (j : Job) (h i : ℕ) (visits : List Visit) (w w' : RepairWorld) : Type 0 where
   pub earlier : List Visit
   pub later : List Visit
   pub are : visits ≡ earlier ++ later
-  pub a : World
-  pub b : World
-  pub before : Runs j earlier w a
+  pub a : RepairWorld
+  pub b : RepairWorld
+  pub before : VisitsAll j earlier w a
   pub read : IsWorldRead a b
-  pub behind : Runs j later b w'
+  pub behind : VisitsAll j later b w'
   pub beside : ℕ
   pub same : ancestor j.tree.shape (h + 1) beside ≡ ancestor j.tree.shape (h + 1) i
   pub cut : HasFailed a.hash_dev b.hash_dev ⊎ IsCutOff j.tree beside h a.hash_dev
 
 -- it was looked at, if good hash blocks led to it
-abbrev pub IsLookedAt : Job → ℕ → ℕ → List Visit → World → World → Type 0
+abbrev pub IsLookedAt : Job → ℕ → ℕ → List Visit → RepairWorld → RepairWorld → Type 0
 IsLookedAt j h i visits w w' = IsVisitedIn j.tree.shape h i visits ⊎ IsPassedBy j h i visits w w'
 
 -- ---- the blocks that are due

@@ -13,8 +13,8 @@ abbrev pub job : Repair → Job
 job r = record { tree = record { shape = r.shape; salt = r.salt; root = r.root }; copy_first = r.copy_first; write = r.write; parity = r.parity }
 
 -- the lines of a block
-abbrev pub line_at : Repair → Place → Mended → List ℕ
-line_at r place m = mended_line (job r) place.height place.index m
+abbrev pub block_lines : Repair → Place → Mended → List ℕ
+block_lines r place m = mended_line (job r) place.height place.index m
 
 abbrev pub copy_line_at : Repair → Place → ℕ → List ℕ
 copy_line_at r place k = copy_line (job r) place.height place.index k

@@ -5,7 +5,7 @@ use Rattle.tree_repair.specs.declared.mending.Sought.{Sought}
 use Rattle.tree_repair.specs.declared.place.Repair.{Repair}
 use Rattle.tree_repair.specs.Mending.{Look}
 use Rattle.tree_repair.specs.Sources.{wanted}
-use Rattle.tree_repair.specs.Worlds.{World}
+use Rattle.tree_repair.specs.Worlds.{RepairWorld}
 
 abbrev pub look : Sought → List ℕ → ℕ → Bool → Device → Device → List Device → List Device → Look
 look s salt sectors write old new copies copies' = record {
@@ -20,5 +20,5 @@ look s salt sectors write old new copies copies' = record {
 }
 
 -- the same of a hash block of an image
-abbrev pub tree_look : Sought → Repair → List ℕ → World → World → Look
+abbrev pub tree_look : Sought → Repair → List ℕ → RepairWorld → RepairWorld → Look
 tree_look s r block w w' = look s r.salt (length block / 512) r.write w.hash_dev w'.hash_dev w.hash_copies w'.hash_copies

@@ -25,13 +25,13 @@ pub record IsBlockPut (old : Device) (first sectors : ℕ) (bytes : List ℕ) (d
   pub image : IsTrue done → IsTrue old.steady → new.image ≡ spliced old.image first (sectors_of sectors bytes)
 
 -- the same where anything may be written
-abbrev pub IsPut : Bool → Device → ℕ → ℕ → List ℕ → Bool → Device → Type 0
-IsPut true old first sectors bytes done new = IsBlockPut old first sectors bytes done new
-IsPut false old first sectors bytes done new = (new ≡ old) × (done ≡ true)
+abbrev pub IsAllowedPut : Bool → Device → ℕ → ℕ → List ℕ → Bool → Device → Type 0
+IsAllowedPut true old first sectors bytes done new = IsBlockPut old first sectors bytes done new
+IsAllowedPut false old first sectors bytes done new = (new ≡ old) × (done ≡ true)
 
 -- the same of all that is at hand
 abbrev pub IsPutAt : Bool → Device → ℕ → List ℕ → Bool → Device → Type 0
-IsPutAt write old first bytes done new = IsPut write old first (length bytes / 512) bytes done new
+IsPutAt write old first bytes done new = IsAllowedPut write old first (length bytes / 512) bytes done new
 
 -- it is good: nothing is written
 pub record IsFoundGood (l : Look) (bytes : List ℕ) : Type 0 where
@@ -40,14 +40,14 @@ pub record IsFoundGood (l : Look) (bytes : List ℕ) : Type 0 where
   pub there : IsThere l.old l.first l.w bytes
 
 -- it isn't, and copy k has it: its bytes were written, or the write failed
-pub record IsFoundIn (l : Look) (k : ℕ) (bytes : List ℕ) (done : Bool) : Type 0 where
+pub record IsFoundInCopy (l : Look) (k : ℕ) (bytes : List ℕ) (done : Bool) : Type 0 where
   pub between : Device
   pub read : IsOnlyRead l.old between
   pub bad : IsBad l.old l.first l.w between
   pub copies_read : AreEachRead l.copies l.copies'
   pub copy : AreIn l.copies l.copy_first l.w k bytes
   pub good : digest l.w.salt bytes ≡ l.w.digest_is
-  pub put : IsPut l.write between l.first l.w.sectors bytes done l.new
+  pub put : IsAllowedPut l.write between l.first l.w.sectors bytes done l.new
 
 -- It isn't, and no copy has it, but it was made again of blocks that were read behind it: its bytes were written, or the
 -- write failed.
@@ -60,19 +60,19 @@ pub record IsFoundBeneath (l : Look) (bytes : List ℕ) (done : Bool) : Type 0 w
   pub between : Device
   pub beneath_read : IsOnlyRead seen between
   pub good : digest l.w.salt bytes ≡ l.w.digest_is
-  pub put : IsPut l.write between l.first l.w.sectors bytes done l.new
+  pub put : IsAllowedPut l.write between l.first l.w.sectors bytes done l.new
 
 -- it isn't good, and good bytes are at hand: they were written, or the write failed
-pub record IsReplaced (old : Device) (first : ℕ) (w : Wanted) (write : Bool) (bytes : List ℕ) (done : Bool) (new : Device) : Type 0 where
+pub record IsBlockReplaced (old : Device) (first : ℕ) (w : Wanted) (write : Bool) (bytes : List ℕ) (done : Bool) (new : Device) : Type 0 where
   pub between : Device
   pub read : IsOnlyRead old between
   pub bad : IsBad old first w between
   pub good : digest w.salt bytes ≡ w.digest_is
-  pub put : IsPut write between first w.sectors bytes done new
+  pub put : IsAllowedPut write between first w.sectors bytes done new
 
 -- so, by parity that was asked before
 pub record IsFoundByParity (l : Look) (bytes : List ℕ) (done : Bool) : Type 0 where
-  pub replaced : IsReplaced l.old l.first l.w l.write bytes done l.new
+  pub replaced : IsBlockReplaced l.old l.first l.w l.write bytes done l.new
   pub copies_read : AreEachRead l.copies l.copies'
 
 -- it isn't, and no copy has it, nor was it made again: nothing is written
@@ -86,18 +86,18 @@ pub record IsFoundNowhere (l : Look) : Type 0 where
 
 abbrev pub IsMended : Look → List ℕ → Bool → Mended → Type 0
 IsMended l bytes done mended.Good = IsFoundGood l bytes
-IsMended l bytes done (mended.Copy k) = IsFoundIn l k bytes done
+IsMended l bytes done (mended.Copy k) = IsFoundInCopy l k bytes done
 IsMended l bytes done mended.Remade = IsFoundBeneath l bytes done
 IsMended l bytes done mended.Parity = IsFoundByParity l bytes done
 IsMended l bytes done mended.Lost = IsFoundNowhere l
 
 -- it wasn't good, and its bytes were found or made
-abbrev pub IsFound : Mended → Type 0
-IsFound mended.Good = ⊥
-IsFound (mended.Copy k) = Unit {0}
-IsFound mended.Remade = Unit {0}
-IsFound mended.Parity = Unit {0}
-IsFound mended.Lost = ⊥
+abbrev pub IsBlockFound : Mended → Type 0
+IsBlockFound mended.Good = ⊥
+IsBlockFound (mended.Copy k) = Unit {0}
+IsBlockFound mended.Remade = Unit {0}
+IsBlockFound mended.Parity = Unit {0}
+IsBlockFound mended.Lost = ⊥
 
 -- it wasn't made again, nor brought back by parity
 abbrev pub IsNotRemade : Mended → Type 0
@@ -117,4 +117,4 @@ IsBareOf parity mended.Lost = Unit {0}
 
 -- it was found in a copy, but can't be written
 abbrev pub IsUnmended : Look → Type 0
-IsUnmended l = (k : ℕ) × ((bytes : List ℕ) × IsFoundIn l k bytes false)
+IsUnmended l = (k : ℕ) × ((bytes : List ℕ) × IsFoundInCopy l k bytes false)

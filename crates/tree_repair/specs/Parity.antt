@@ -13,9 +13,9 @@ use Rattle.verity_format.specs.Blocks.{IsOnlyRead}
 use Rattle.verity_format.specs.Image.{data_sectors, tree_sectors}
 use Rattle.tree_repair.specs.declared.mending.Mended.TheVariants as mended
 use Rattle.tree_repair.specs.declared.parity.Losses.{Losses}
-use Rattle.tree_repair.specs.Mending.{IsReplaced}
+use Rattle.tree_repair.specs.Mending.{IsBlockReplaced}
 use Rattle.tree_repair.specs.Runs.{IsVisited, Job, own, sector_at, size_at, visit}
-use Rattle.tree_repair.specs.Worlds.{IsWorldRead, World}
+use Rattle.tree_repair.specs.Worlds.{IsWorldRead, RepairWorld}
 use Rattle.tree_repair.specs.Sources.{IsThere, Wanted, wanted}
 
 -- the tree has a block of that height on the way to a data block
@@ -42,29 +42,29 @@ end_at s (suc l) = tree_sectors s
 
 -- a block was put where it wasn't good, or is good and was only read
 abbrev pub IsPutOr : Device → ℕ → Wanted → Bool → List ℕ → Device → Bool → Type 0
-IsPutOr old first w write bytes new true = IsReplaced old first w write bytes true new
+IsPutOr old first w write bytes new true = IsBlockReplaced old first w write bytes true new
 IsPutOr old first w write bytes new false = IsOnlyRead old new × ((read : List ℕ) × IsThere old first w read)
 
 -- a block of an image is good
-pub record IsGoodNow (j : Job) (h i : ℕ) (w : World) : Type 0 where
+pub record IsGoodNow (j : Job) (h i : ℕ) (w : RepairWorld) : Type 0 where
   pub p : PathRecord
   pub way : IsWay j.tree i h p
   pub bytes : List ℕ
   pub there : IsThere (own h w) (sector_at j.tree.shape h i) (wanted j.tree.salt (digest_on p i h) (size_at j.tree.shape h / 512)) bytes
 
 -- the same of a block of an image
-abbrev pub IsPlaced : Job → ℕ → ℕ → List ℕ → World → World → Bool → Type 0
+abbrev pub IsPlaced : Job → ℕ → ℕ → List ℕ → RepairWorld → RepairWorld → Bool → Type 0
 IsPlaced j h i bytes w w' true = IsVisited j (visit h i mended.Parity bytes true) w w'
 IsPlaced j h i bytes w w' false = IsWorldRead w w' × IsGoodNow j h i w
 
 -- it wasn't good, but can't be written
-abbrev pub FailsToPlace : Job → ℕ → ℕ → List ℕ → World → World → Type 0
+abbrev pub FailsToPlace : Job → ℕ → ℕ → List ℕ → RepairWorld → RepairWorld → Type 0
 FailsToPlace j h i bytes w w' = IsVisited j (visit h i mended.Parity bytes false) w w'
 
 -- ---- by parity
 
 -- a covered block was made again, over steady devices of what stands there
-abbrev pub IsBack : Losses → World → Device → ℕ → List ℕ → Bool → Type 0
+abbrev pub IsBack : Losses → RepairWorld → Device → ℕ → List ℕ → Bool → Type 0
 IsBack l w parity_dev index bytes back = IsTrue back → IsTrue w.data_dev.steady → IsTrue w.hash_dev.steady → IsTrue parity_dev.steady
     → IsMadeAgain l.layout w.data_dev.image w.hash_dev.image parity_dev.image l.lost.items index bytes
 
@@ -76,6 +76,6 @@ IsOfBlocks DeviceFailed = Unit {0}
 IsOfBlocks NoMemory = ⊥
 
 -- or it wasn't, and that has such a cause
-abbrev pub IsNotBack : Losses → ℕ → World → World → Device → Device → Bool → Type 0
+abbrev pub IsNotBack : Losses → ℕ → RepairWorld → RepairWorld → Device → Device → Bool → Type 0
 IsNotBack l index w w' parity_dev parity_dev' back = back ≡ false
     → (fault : RestoreFault) × (IsOfBlocks fault × IsRestoreCause l.layout l.lost.items index w.data_dev w.hash_dev parity_dev w'.data_dev w'.hash_dev parity_dev' fault)

@@ -10,39 +10,39 @@ use Rattle.tree_repair.specs.declared.bad.BadBlock.{BadBlock}
 use Rattle.tree_repair.specs.declared.bad.BadBlocks.{BadBlocks}
 use Rattle.tree_repair.specs.Coverage.{IsLookedAt}
 use Rattle.tree_repair.specs.Noting.{bad_blocks, found_of}
-use Rattle.tree_repair.specs.Runs.{HasRun, Job, Runs, Visit}
+use Rattle.tree_repair.specs.Runs.{HasRun, Job, VisitsAll, Visit}
 use Rattle.tree_repair.specs.Tries.{HasSought}
-use Rattle.tree_repair.specs.Worlds.{World}
+use Rattle.tree_repair.specs.Worlds.{RepairWorld}
 
 -- that of a visit
 abbrev pub bad_of : Job → Visit → List BadBlock
 bad_of j v = bad_blocks (record { height = v.height; index = v.index }) (found_of j.write v.mended)
 
 -- A run of which the blocks were noted that aren't good behind it, where that is asked. It looked at each block that was due.
-pub record HasNoted (j : Job) (Due : ℕ → ℕ → Type 0) (w w' : World) (old new : Option (List ℕ)) (a b : BadBlocks) (ok : Bool) : Type 0 where
+pub record HasNoted (j : Job) (Due : ℕ → ℕ → Type 0) (w w' : RepairWorld) (old new : Option (List ℕ)) (a b : BadBlocks) (ok : Bool) : Type 0 where
   pub run : HasRun j w w' old new ok
   pub asked : b.asked ≡ a.asked
   pub noted : IsTrue ok → IsTrue a.asked → b.blocks.items ≡ a.blocks.items ++ flat_map (bad_of j) run.visits
   pub looked : IsTrue ok → (h i : ℕ) → Due h i → IsLookedAt j h i run.visits w w'
 
 -- the same by a writer before and behind, and by the result of the run
-abbrev pub Notes : {W T E : Type 0} → (W → Option (List ℕ)) → Job → (ℕ → ℕ → Type 0) → World → World → BadBlocks → BadBlocks → CountedRecord W → CountedRecord W → Result T E → Type 0
+abbrev pub Notes : {W T E : Type 0} → (W → Option (List ℕ)) → Job → (ℕ → ℕ → Type 0) → RepairWorld → RepairWorld → BadBlocks → BadBlocks → CountedRecord W → CountedRecord W → Result T E → Type 0
 Notes contents j Due w w' a b old new result = HasNoted j Due w w' (contents old.inner) (contents new.inner) a b (is_ok result)
 
 -- All blocks were gone over, from the top down, and each that was lost was then sought by parity, where all that aren't good
 -- count as lost.
-pub record IsPass (j : Job) (l : Layout) (w w' : World) (p p' : Device) : Type 0 where
+pub record IsPass (j : Job) (l : Layout) (w w' : RepairWorld) (p p' : Device) : Type 0 where
   pub visits : List Visit
-  pub behind : World
-  pub runs : Runs j visits w behind
+  pub behind : RepairWorld
+  pub runs : VisitsAll j visits w behind
   pub looked : (h i : ℕ) → h ≤ levels j.tree.shape → i < j.tree.shape.blocks → IsLookedAt j h i visits w behind
   pub sought : HasSought j l (flat_map (bad_of j) visits) behind w' p p'
 
 -- a run ends with one
-pub record EndsInPass (j : Job) (l : Layout) (w w' : World) (p p' : Device) : Type 0 where
+pub record EndsInPass (j : Job) (l : Layout) (w w' : RepairWorld) (p p' : Device) : Type 0 where
   pub earlier : List Visit
-  pub last : World
+  pub last : RepairWorld
   pub last_parity : Device
-  pub before : Runs j earlier w last
+  pub before : VisitsAll j earlier w last
   pub parity_read : IsOnlyRead p last_parity
   pub pass : IsPass j l last w' last_parity p'

@@ -11,18 +11,18 @@ use Rattle.verity_format.specs.Image.{data_sectors, tree_sectors}
 -- ---- blocks by their height (a data block has height 0, a hash block of level l height l + 1) and their number within it
 
 -- how many there are
-abbrev pub count_at : ShapeRecord → ℕ → ℕ
-count_at s zero = s.blocks
-count_at s (suc l) = level_blocks s l
+abbrev pub count_in : ShapeRecord → ℕ → ℕ
+count_in s zero = s.blocks
+count_in s (suc l) = level_blocks s l
 
 -- those of a height whose digests stand in block n of the height above
 abbrev pub children : ShapeRecord → ℕ → ℕ → List ℕ
-children s h n = range_with_len (n * per_block s) (min (per_block s) (count_at s h - n * per_block s))
+children s h n = range_with_len (n * per_block s) (min (per_block s) (count_in s h - n * per_block s))
 
 -- block n of a height as it stands on the data device and the hash device
-abbrev pub stands : ShapeRecord → List (List ℕ) → List (List ℕ) → ℕ → ℕ → List ℕ
-stands s data_image hash_image zero n = block_at data_image s.data_block n
-stands s data_image hash_image (suc l) n = block_at hash_image s.hash_block (position s l n)
+abbrev pub standing_block : ShapeRecord → List (List ℕ) → List (List ℕ) → ℕ → ℕ → List ℕ
+standing_block s data_image hash_image zero n = block_at data_image s.data_block n
+standing_block s data_image hash_image (suc l) n = block_at hash_image s.hash_block (position s l n)
 
 -- ---- made again
 
@@ -40,7 +40,7 @@ ground s salt data_dev hash_dev h = record { shape = s; salt = salt; data_image 
 
 -- block n of so many heights above: the digests of those beneath it in their order, and zeros behind them
 unfoldable pub made : Ground → ℕ → ℕ → List ℕ
-made g zero n = stands g.shape g.data_image g.hash_image g.height n
+made g zero n = standing_block g.shape g.data_image g.hash_image g.height n
 made g (suc steps) n = filled g.shape.hash_block (concat (map (λ i. digest g.salt (made g steps i)) (children g.shape (g.height + steps) n)))
 
 -- the hash block of level l on the way to data block i

@@ -9,7 +9,7 @@ use Rattle.tree_repair.specs.declared.fault.RepairFault.{RepairFault}
 use Rattle.tree_repair.specs.declared.fault.RepairFault.TheVariants.{Image, Write}
 use Rattle.tree_repair.specs.declared.repair.Plan.{Plan}
 use Rattle.tree_repair.specs.Runs.{HasRun, Job}
-use Rattle.tree_repair.specs.Worlds.{IsWorldRead, World}
+use Rattle.tree_repair.specs.Worlds.{IsWorldRead, RepairWorld}
 
 -- that of the tree of a superblock under the plan's root, with parity or without
 abbrev pub job_of : SuperRecord → Plan → Bool → Job
@@ -21,32 +21,32 @@ pub record IsAllowed (write : Bool) (data_dev hash_dev : Device) : Type 0 where
   pub hash_writable : IsTrue write → IsTrue hash_dev.may_write
 
 -- the superblock was read, and then the blocks of its tree were gone over
-pub record Repairs (plan : Plan) (parity : Bool) (w w' : World) (old new : Option (List ℕ)) (ok : Bool) : Type 0 where
+pub record Repairs (plan : Plan) (parity : Bool) (w w' : RepairWorld) (old new : Option (List ℕ)) (ok : Bool) : Type 0 where
   pub s : SuperRecord
   pub images : AreImages w.data_dev w.hash_dev s
   pub run : HasRun (job_of s plan parity) w w' old new ok
 
 -- to the end, by a writer before and behind
-abbrev pub IsRepair : {W : Type 0} → (W → Option (List ℕ)) → Plan → World → World → CountedRecord W → CountedRecord W → Type 0
+abbrev pub IsRepair : {W : Type 0} → (W → Option (List ℕ)) → Plan → RepairWorld → RepairWorld → CountedRecord W → CountedRecord W → Type 0
 IsRepair contents plan w w' old new = Repairs plan false w w' (contents old.inner) (contents new.inner) true
 
 -- the same with parity
-abbrev pub IsParityRepair : {W : Type 0} → (W → Option (List ℕ)) → Plan → World → World → CountedRecord W → CountedRecord W → Type 0
+abbrev pub IsParityRepair : {W : Type 0} → (W → Option (List ℕ)) → Plan → RepairWorld → RepairWorld → CountedRecord W → CountedRecord W → Type 0
 IsParityRepair contents plan w w' old new = Repairs plan true w w' (contents old.inner) (contents new.inner) true
 
 -- ---- why there was nothing to be gone over
 
 -- there is no superblock, or data or tree go past their device
-abbrev pub IsImageCause : Device → Device → Device → RepairFault → Type 0
-IsImageCause data_dev hash_dev hash_dev' (Image fault) = IsSuperblockCause data_dev hash_dev hash_dev' (survey.Image fault)
-IsImageCause data_dev hash_dev hash_dev' Write = ⊥
+abbrev pub IsNoImageCause : Device → Device → Device → RepairFault → Type 0
+IsNoImageCause data_dev hash_dev hash_dev' (Image fault) = IsSuperblockCause data_dev hash_dev hash_dev' (survey.Image fault)
+IsNoImageCause data_dev hash_dev hash_dev' Write = ⊥
 
 -- so, and the devices were only read; or the blocks were gone over, and not to the end
-abbrev pub IsUnrepairedBy : Plan → Bool → World → World → Option (List ℕ) → Option (List ℕ) → RepairFault → Type 0
-IsUnrepairedBy plan parity w w' old new fault = (IsWorldRead w w' × IsImageCause w.data_dev w.hash_dev w'.hash_dev fault) ⊎ Repairs plan parity w w' old new false
+abbrev pub IsUnrepairedBy : Plan → Bool → RepairWorld → RepairWorld → Option (List ℕ) → Option (List ℕ) → RepairFault → Type 0
+IsUnrepairedBy plan parity w w' old new fault = (IsWorldRead w w' × IsNoImageCause w.data_dev w.hash_dev w'.hash_dev fault) ⊎ Repairs plan parity w w' old new false
 
-abbrev pub IsUnrepaired : {W : Type 0} → (W → Option (List ℕ)) → Plan → World → World → CountedRecord W → CountedRecord W → RepairFault → Type 0
+abbrev pub IsUnrepaired : {W : Type 0} → (W → Option (List ℕ)) → Plan → RepairWorld → RepairWorld → CountedRecord W → CountedRecord W → RepairFault → Type 0
 IsUnrepaired contents plan w w' old new fault = IsUnrepairedBy plan false w w' (contents old.inner) (contents new.inner) fault
 
-abbrev pub IsParityUnrepaired : {W : Type 0} → (W → Option (List ℕ)) → Plan → World → World → CountedRecord W → CountedRecord W → RepairFault → Type 0
+abbrev pub IsParityUnrepaired : {W : Type 0} → (W → Option (List ℕ)) → Plan → RepairWorld → RepairWorld → CountedRecord W → CountedRecord W → RepairFault → Type 0
 IsParityUnrepaired contents plan w w' old new fault = IsUnrepairedBy plan true w w' (contents old.inner) (contents new.inner) fault

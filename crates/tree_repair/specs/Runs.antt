@@ -14,7 +14,7 @@ use Rattle.tree_repair.specs.declared.mending.Mended.TheVariants as mended
 use Rattle.tree_repair.specs.Mending.{Look, IsBareOf, IsMended}
 use Rattle.tree_repair.specs.Remaking.{IsMadeBeneath, IsNowhereBeneath}
 use Rattle.tree_repair.specs.Sources.{wanted}
-use Rattle.tree_repair.specs.Worlds.{IsWorldRead, World}
+use Rattle.tree_repair.specs.Worlds.{IsWorldRead, RepairWorld}
 
 -- a tree, the sector at which hash blocks begin on a copy, whether anything may be written, and whether there is parity
 pub record Job : Type 0 where
@@ -26,20 +26,20 @@ pub record Job : Type 0 where
 -- ---- a block: a data block has height 0, a hash block of level l height l + 1; its index is that of the first data block beneath
 
 -- the device that has it, and the other one
-abbrev pub own : ℕ → World → Device
+abbrev pub own : ℕ → RepairWorld → Device
 own zero w = w.data_dev
 own (suc l) w = w.hash_dev
 
-abbrev pub other : ℕ → World → Device
+abbrev pub other : ℕ → RepairWorld → Device
 other zero w = w.hash_dev
 other (suc l) w = w.data_dev
 
 -- the copies of that, and those of the other one
-abbrev pub own_copies : ℕ → World → List Device
+abbrev pub own_copies : ℕ → RepairWorld → List Device
 own_copies zero w = w.data_copies
 own_copies (suc l) w = w.hash_copies
 
-abbrev pub other_copies : ℕ → World → List Device
+abbrev pub other_copies : ℕ → RepairWorld → List Device
 other_copies zero w = w.hash_copies
 other_copies (suc l) w = w.data_copies
 
@@ -58,7 +58,7 @@ copy_sector_at j zero i = sector_at j.tree.shape zero i
 copy_sector_at j (suc l) i = j.copy_first + sector_at j.tree.shape (suc l) i
 
 -- a look at it, where a path leads to the digest that should be its own
-abbrev pub look_at : Job → PathRecord → ℕ → ℕ → World → World → Look
+abbrev pub look_at : Job → PathRecord → ℕ → ℕ → RepairWorld → RepairWorld → Look
 look_at j p h i w w' = record {
   old = own h w;
   new = own h w';
@@ -103,7 +103,7 @@ IsMadeOf j p (suc l) i data_dev hash_dev bytes mended.Parity = IsTrue j.parity
 IsMadeOf j p (suc l) i data_dev hash_dev bytes mended.Lost = IsNowhereBeneath j.tree.shape j.tree.salt data_dev hash_dev l i (digest_on p i (l + 1))
 
 -- Good hash blocks lead from the root to the block's digest, and by that it was found good, mended or lost.
-pub record IsVisited (j : Job) (v : Visit) (w w' : World) : Type 0 where
+pub record IsVisited (j : Job) (v : Visit) (w w' : RepairWorld) : Type 0 where
   pub inside : v.index < j.tree.shape.blocks
   pub p : PathRecord
   pub way : IsWay j.tree v.index v.height p
@@ -113,9 +113,9 @@ pub record IsVisited (j : Job) (v : Visit) (w w' : World) : Type 0 where
   pub copies_are : other_copies v.height w' ≡ other_copies v.height w
 
 -- these blocks were visited, and all else was only read
-abbrev pub Runs : Job → List Visit → World → World → Type 0
-Runs j [] w w' = IsWorldRead w w'
-Runs j (v ∷ more) w w' = (a : World) × ((b : World) × (IsWorldRead w a × (IsVisited j v a b × Runs j more b w')))
+abbrev pub VisitsAll : Job → List Visit → RepairWorld → RepairWorld → Type 0
+VisitsAll j [] w w' = IsWorldRead w w'
+VisitsAll j (v ∷ more) w w' = (a : RepairWorld) × ((b : RepairWorld) × (IsWorldRead w a × (IsVisited j v a b × VisitsAll j more b w')))
 
 -- ---- what is printed
 
@@ -127,8 +127,8 @@ verb false = codes "repairable"
 unfoldable pub data_line : Bool → ℕ → ℕ → List ℕ
 data_line write i k = verb write ++ (codes " data " ++ (decimal i ++ (codes " copy " ++ (decimal k ++ codes "\n"))))
 
-unfoldable pub hash_line : Bool → ℕ → ℕ → ℕ → List ℕ
-hash_line write l n k = verb write ++ (codes " hash " ++ (decimal l ++ (codes " " ++ (decimal n ++ (codes " copy " ++ (decimal k ++ codes "\n"))))))
+unfoldable pub repaired_hash_line : Bool → ℕ → ℕ → ℕ → List ℕ
+repaired_hash_line write l n k = verb write ++ (codes " hash " ++ (decimal l ++ (codes " " ++ (decimal n ++ (codes " copy " ++ (decimal k ++ codes "\n"))))))
 
 -- `VERB hash LEVEL NUMBER remade`
 unfoldable pub remade_line : Bool → ℕ → ℕ → List ℕ
@@ -151,7 +151,7 @@ parity_line j (suc l) i = hash_parity_line j.write l (ancestor j.tree.shape (l +
 
 abbrev pub copy_line : Job → ℕ → ℕ → ℕ → List ℕ
 copy_line j zero i k = data_line j.write i k
-copy_line j (suc l) i k = hash_line j.write l (ancestor j.tree.shape (l + 1) i) k
+copy_line j (suc l) i k = repaired_hash_line j.write l (ancestor j.tree.shape (l + 1) i) k
 
 -- one line for a block that was mended
 abbrev pub mended_line : Job → ℕ → ℕ → Mended → List ℕ
@@ -161,8 +161,8 @@ mended_line j h i mended.Remade = made_line j h i
 mended_line j h i mended.Parity = parity_line j h i
 mended_line j h i mended.Lost = []
 
-abbrev pub line_of : Job → Visit → List ℕ
-line_of j v = mended_line j v.height v.index v.mended
+abbrev pub visit_line : Job → Visit → List ℕ
+visit_line j v = mended_line j v.height v.index v.mended
 
 -- ---- the whole
 
@@ -170,18 +170,18 @@ abbrev pub IsDone : Visit → Type 0
 IsDone v = v.done ≡ true
 
 -- A run, whether it came to its end or not. If so, no write failed, and a line was printed for each block that was mended.
-pub record HasRun (j : Job) (w w' : World) (old new : Option (List ℕ)) (ok : Bool) : Type 0 where
+pub record HasRun (j : Job) (w w' : RepairWorld) (old new : Option (List ℕ)) (ok : Bool) : Type 0 where
   pub visits : List Visit
-  pub runs : Runs j visits w w'
+  pub runs : VisitsAll j visits w w'
   pub done : IsTrue ok → All IsDone visits
-  pub printed : IsTrue ok → Appends old new (flat_map (line_of j) visits)
+  pub printed : IsTrue ok → Appends old new (flat_map (visit_line j) visits)
 
 -- the same by a writer before and behind, and by the result of the run
-abbrev pub Ran : {W T E : Type 0} → (W → Option (List ℕ)) → Job → World → World → CountedRecord W → CountedRecord W → Result T E → Type 0
+abbrev pub Ran : {W T E : Type 0} → (W → Option (List ℕ)) → Job → RepairWorld → RepairWorld → CountedRecord W → CountedRecord W → Result T E → Type 0
 Ran contents j w w' old new result = HasRun j w w' (contents old.inner) (contents new.inner) (is_ok result)
 
 -- data and tree lie on the devices, which may be written if anything may
-pub record CanRun (j : Job) (w : World) : Type 0 where
+pub record CanRun (j : Job) (w : RepairWorld) : Type 0 where
   pub valid : IsShape j.tree.shape
   pub data_fits : data_sectors j.tree.shape ≤ w.data_dev.size
   pub tree_fits : tree_sectors j.tree.shape ≤ w.hash_dev.size

@@ -19,19 +19,19 @@ abbrev pub due : List ℕ → List ℕ → List ℕ → Wanted
 due salt digest_is block = wanted salt digest_is (length block / 512)
 
 -- n sectors of a device from the first on, joined
-abbrev pub bytes_at : Device → ℕ → ℕ → List ℕ
-bytes_at device first n = concat (run_of device.image first n)
+abbrev pub bytes_on_device : Device → ℕ → ℕ → List ℕ
+bytes_on_device device first n = concat (run_of device.image first n)
 
 -- these are the bytes; over a steady device they stand there
 pub record IsThere (device : Device) (first : ℕ) (w : Wanted) (bytes : List ℕ) : Type 0 where
   pub good : digest w.salt bytes ≡ w.digest_is
-  pub stand : IsTrue device.steady → bytes ≡ bytes_at device first w.sectors
+  pub stand : IsTrue device.steady → bytes ≡ bytes_on_device device first w.sectors
 
 -- other bytes were read there; over a steady device they stand there
 pub record IsOther (device : Device) (first : ℕ) (w : Wanted) : Type 0 where
   pub bytes : List ℕ
   pub other : digest w.salt bytes ≢ w.digest_is
-  pub stand : IsTrue device.steady → bytes ≡ bytes_at device first w.sectors
+  pub stand : IsTrue device.steady → bytes ≡ bytes_on_device device first w.sectors
 
 -- they weren't read there: the device failed, or gave other bytes
 abbrev pub IsBad : Device → ℕ → Wanted → Device → Type 0
@@ -39,7 +39,7 @@ IsBad old first w new = HasFailed old new ⊎ IsOther old first w
 
 -- a steady device that can't fail hasn't them there
 abbrev pub IsWithout : Device → ℕ → Wanted → Type 0
-IsWithout device first w = IsTrue device.steady → IsTrue device.never_fails → first + w.sectors ≤ device.size → digest w.salt (bytes_at device first w.sectors) ≢ w.digest_is
+IsWithout device first w = IsTrue device.steady → IsTrue device.never_fails → first + w.sectors ≤ device.size → digest w.salt (bytes_on_device device first w.sectors) ≢ w.digest_is
 
 -- each of some devices was only read
 pub record AreEachRead (old new : List Device) : Type 0 where

@@ -13,7 +13,7 @@ use Rattle.tree_repair.specs.declared.bad.BadBlock.{BadBlock}
 use Rattle.tree_repair.specs.declared.mending.Mended.TheVariants as mended
 use Rattle.tree_repair.specs.Parity.{IsCoveredAt, IsGoodNow, IsOfBlocks, IsPlace}
 use Rattle.tree_repair.specs.Runs.{IsVisited, Job, size_at, visit}
-use Rattle.tree_repair.specs.Worlds.{IsWorldRead, World}
+use Rattle.tree_repair.specs.Worlds.{IsWorldRead, RepairWorld}
 use Rattle.verity_format.specs.Blocks.{IsOnlyRead}
 
 -- ---- the way to a block
@@ -48,9 +48,9 @@ IsCoveredOr s l h i None = IsPlace s h i → IsUncovered s l h i
 IsCoveredOr s l h i (Some k) = IsCoveredAt s l h i k
 
 -- the number that was found, if one was
-abbrev pub listed : Option ℕ → List ℕ
-listed None = []
-listed (Some k) = k ∷ []
+abbrev pub listed_number : Option ℕ → List ℕ
+listed_number None = []
+listed_number (Some k) = k ∷ []
 
 -- the covered ones among some
 abbrev pub AreCovered : ShapeRecord → Layout → List BadBlock → List ℕ → Type 0
@@ -65,17 +65,17 @@ AreCovered s l (b ∷ more) lost =
 pub record Trial : Type 0 where
   pub layout : Layout
   pub lost : List ℕ
-  pub w : World
-  pub w' : World
+  pub w : RepairWorld
+  pub w' : RepairWorld
   pub parity_dev : Device
   pub parity_dev' : Device
 
-abbrev pub trial : Layout → List ℕ → World → World → Device → Device → Trial
+abbrev pub trial : Layout → List ℕ → RepairWorld → RepairWorld → Device → Device → Trial
 trial layout lost w w' parity_dev parity_dev' = record { layout = layout; lost = lost; w = w; w' = w'; parity_dev = parity_dev; parity_dev' = parity_dev' }
 
 -- Covered block k isn't made again: too many of its round are lost, parity is too short, a device failed.
-abbrev pub IsUnmade : Trial → ℕ → Type 0
-IsUnmade t k =
+abbrev pub IsBlockUnmade : Trial → ℕ → Type 0
+IsBlockUnmade t k =
     (fault : RestoreFault) × (IsOfBlocks fault × IsRestoreCause t.layout t.lost k t.w.data_dev t.w.hash_dev t.parity_dev t.w'.data_dev t.w'.hash_dev t.parity_dev' fault)
 
 -- or what is made of the others and the parity has another digest
@@ -88,7 +88,7 @@ pub record IsMadeOther (salt digest_is : List ℕ) (t : Trial) (k : ℕ) : Type 
 -- parity hasn't a block to which a path leads
 abbrev pub IsVain : Job → PathRecord → ℕ → ℕ → Trial → Type 0
 IsVain j p h i t = IsUncovered j.tree.shape t.layout h i
-    ⊎ ((k : ℕ) × (IsCoveredAt j.tree.shape t.layout h i k × (IsUnmade t k ⊎ IsMadeOther j.tree.salt (digest_on p i h) t k)))
+    ⊎ ((k : ℕ) × (IsCoveredAt j.tree.shape t.layout h i k × (IsBlockUnmade t k ⊎ IsMadeOther j.tree.salt (digest_on p i h) t k)))
 
 -- it is made again, or parity hasn't it
 abbrev pub IsMadeOrVain : Job → PathRecord → ℕ → ℕ → Trial → Bool → Type 0
@@ -96,8 +96,8 @@ IsMadeOrVain j p h i t true = Unit {0}
 IsMadeOrVain j p h i t false = IsPlace j.tree.shape h i → IsVain j p h i t
 
 -- it came back
-pub record IsBroughtBack (j : Job) (h i : ℕ) (w w' : World) : Type 0 where
-  pub between : World
+pub record IsBroughtBack (j : Job) (h i : ℕ) (w w' : RepairWorld) : Type 0 where
+  pub between : RepairWorld
   pub read : IsWorldRead w between
   pub bytes : List ℕ
   pub visited : IsVisited j (visit h i mended.Parity bytes true) between w'
@@ -109,8 +109,8 @@ pub record IsVainAlong (j : Job) (h i : ℕ) (t : Trial) : Type 0 where
   pub vain : IsVain j p h i t
 
 -- it stands there by now
-pub record IsGoodBehind (j : Job) (h i : ℕ) (w : World) : Type 0 where
-  pub between : World
+pub record IsGoodBehind (j : Job) (h i : ℕ) (w : RepairWorld) : Type 0 where
+  pub between : RepairWorld
   pub read : IsWorldRead w between
   pub good : IsGoodNow j h i between
 
@@ -125,7 +125,7 @@ IsTried j h i t true = IsBroughtBack j h i t.w t.w' × IsOnlyRead t.parity_dev t
 IsTried j h i t false = IsLeft t × (IsVainAlong j h i t ⊎ IsGoodBehind j h i t.w)
 
 pub record IsTriedBehind (j : Job) (h i : ℕ) (t : Trial) (back : Bool) : Type 0 where
-  pub between : World
+  pub between : RepairWorld
   pub read : IsWorldRead t.w between
   pub tried : IsTried j h i (record t { w = between }) back
 
@@ -142,13 +142,13 @@ abbrev pub IsSought : Job → BadBlock → Trial → Bool → Type 0
 IsSought j b t back = IsSoughtAt j b.place.height b.place.index t b.found back
 
 -- one after another
-abbrev pub AreSought : Job → Layout → List ℕ → List BadBlock → World → World → Device → Device → Type 0
+abbrev pub AreSought : Job → Layout → List ℕ → List BadBlock → RepairWorld → RepairWorld → Device → Device → Type 0
 AreSought j l lost [] w w' p p' = (w' ≡ w) × (p' ≡ p)
 AreSought j l lost (b ∷ more) w w' p p' =
-    (a : World) × ((q : Device) × ((back : Bool) × (IsSought j b (trial l lost w a p q) back × AreSought j l lost more a w' q p')))
+    (a : RepairWorld) × ((q : Device) × ((back : Bool) × (IsSought j b (trial l lost w a p q) back × AreSought j l lost more a w' q p')))
 
 -- all that are covered count as lost for each of them
-pub record HasSought (j : Job) (l : Layout) (blocks : List BadBlock) (w w' : World) (p p' : Device) : Type 0 where
+pub record HasSought (j : Job) (l : Layout) (blocks : List BadBlock) (w w' : RepairWorld) (p p' : Device) : Type 0 where
   pub lost : List ℕ
   pub are : AreCovered j.tree.shape l blocks lost
   pub sought : AreSought j l lost blocks w w' p p'

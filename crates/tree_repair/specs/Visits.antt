@@ -4,21 +4,21 @@ use Rattle.block_device.specs.Device.{Device}
 use Rattle.tree_shape.specs.Shape.{ShapeRecord, ancestor, position}
 use Rattle.tree_path.specs.Path.{PathRecord, digest_on}
 use Rattle.tree_repair.specs.declared.mending.Mended.{Mended}
-use Rattle.tree_repair.specs.Mending.{Look, IsFound, IsMended, IsPutAt}
+use Rattle.tree_repair.specs.Mending.{Look, IsBlockFound, IsMended, IsPutAt}
 use Rattle.tree_repair.specs.Runs.{IsMadeOf, IsVisited, Job, OtherStays, visit}
 use Rattle.tree_repair.specs.Sources.{wanted}
-use Rattle.tree_repair.specs.Worlds.{World}
+use Rattle.tree_repair.specs.Worlds.{RepairWorld}
 
 -- it came to that, and no write failed
 abbrev pub IsLooked : Look → Mended → Type 0
 IsLooked l m = (bytes : List ℕ) × IsMended l bytes true m
 
-abbrev pub IsMade : Job → ℕ → ℕ → World → World → Mended → Type 0
-IsMade j h i w w' m = (bytes : List ℕ) × IsVisited j (visit h i m bytes true) w w'
+abbrev pub IsBlockMade : Job → ℕ → ℕ → RepairWorld → RepairWorld → Mended → Type 0
+IsBlockMade j h i w w' m = (bytes : List ℕ) × IsVisited j (visit h i m bytes true) w w'
 
 -- it was found or made, but a write failed
-abbrev pub FailsToMake : Job → ℕ → ℕ → World → World → Type 0
-FailsToMake j h i w w' = (m : Mended) × ((bytes : List ℕ) × (IsFound m × IsVisited j (visit h i m bytes false) w w'))
+abbrev pub FailsToStoreBlock : Job → ℕ → ℕ → RepairWorld → RepairWorld → Type 0
+FailsToStoreBlock j h i w w' = (m : Mended) × ((bytes : List ℕ) × (IsBlockFound m × IsVisited j (visit h i m bytes false) w w'))
 
 -- ---- a data block
 
@@ -53,27 +53,27 @@ hash_look j p l i old new copies copies' = record {
 }
 
 -- a hash block of level l was looked at
-pub record IsHashSeen (j : Job) (p : PathRecord) (l i : ℕ) (w w' : World) (bytes : List ℕ) (done : Bool) (m : Mended) : Type 0 where
+pub record IsHashSeen (j : Job) (p : PathRecord) (l i : ℕ) (w w' : RepairWorld) (bytes : List ℕ) (done : Bool) (m : Mended) : Type 0 where
   pub looked : IsMended (hash_look j p l i w.hash_dev w'.hash_dev w.hash_copies w'.hash_copies) bytes done m
   pub made_of : IsMadeOf j p (suc l) i w.data_dev w.hash_dev bytes m
   pub data_stays : OtherStays (suc l) m w.data_dev w'.data_dev
   pub copies_are : w'.data_copies ≡ w.data_copies
 
-abbrev pub IsHashLooked : Job → PathRecord → ℕ → ℕ → World → World → Mended → Type 0
+abbrev pub IsHashLooked : Job → PathRecord → ℕ → ℕ → RepairWorld → RepairWorld → Mended → Type 0
 IsHashLooked j p l i w w' m = (bytes : List ℕ) × IsHashSeen j p l i w w' bytes true m
 
-abbrev pub IsHashUnmended : Job → PathRecord → ℕ → ℕ → World → World → Type 0
-IsHashUnmended j p l i w w' = (m : Mended) × ((bytes : List ℕ) × (IsFound m × IsHashSeen j p l i w w' bytes false m))
+abbrev pub IsHashUnmended : Job → PathRecord → ℕ → ℕ → RepairWorld → RepairWorld → Type 0
+IsHashUnmended j p l i w w' = (m : Mended) × ((bytes : List ℕ) × (IsBlockFound m × IsHashSeen j p l i w w' bytes false m))
 
 -- ---- what stays behind a part of it
 
 -- the data device and its copies weren't asked
-pub record KeepsData (w w' : World) : Type 0 where
+pub record KeepsData (w w' : RepairWorld) : Type 0 where
   pub device_is : w'.data_dev ≡ w.data_dev
   pub copies_are : w'.data_copies ≡ w.data_copies
 
 -- a block was put on the hash device, or the write failed
-pub record IsTreePut (write : Bool) (first : ℕ) (bytes : List ℕ) (done : Bool) (w w' : World) : Type 0 where
+pub record IsTreePut (write : Bool) (first : ℕ) (bytes : List ℕ) (done : Bool) (w w' : RepairWorld) : Type 0 where
   pub put : IsPutAt write w.hash_dev first bytes done w'.hash_dev
   pub keeps : KeepsData w w'
   pub hash_copies_are : w'.hash_copies ≡ w.hash_copies

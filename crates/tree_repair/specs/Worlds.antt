@@ -5,24 +5,24 @@ use Rattle.verity_format.specs.Blocks.{AreOnlyRead, IsOnlyRead}
 use Rattle.tree_repair.specs.Sources.{AreEachRead}
 
 -- the data device, the hash device and copies of each
-pub record World : Type 0 where
+pub record RepairWorld : Type 0 where
   pub data_dev : Device
   pub hash_dev : Device
   pub data_copies : List Device
   pub hash_copies : List Device
 
-abbrev pub world : Device → Device → List Device → List Device → World
-world data_dev hash_dev data_copies hash_copies = record { data_dev = data_dev; hash_dev = hash_dev; data_copies = data_copies; hash_copies = hash_copies }
+abbrev pub repair_world : Device → Device → List Device → List Device → RepairWorld
+repair_world data_dev hash_dev data_copies hash_copies = record { data_dev = data_dev; hash_dev = hash_dev; data_copies = data_copies; hash_copies = hash_copies }
 
 -- all devices were only read
-pub record IsWorldRead (w w' : World) : Type 0 where
+pub record IsWorldRead (w w' : RepairWorld) : Type 0 where
   pub data_read : IsOnlyRead w.data_dev w'.data_dev
   pub hash_read : IsOnlyRead w.hash_dev w'.hash_dev
   pub data_copies_read : AreEachRead w.data_copies w'.data_copies
   pub hash_copies_read : AreEachRead w.hash_copies w'.hash_copies
 
 -- data and hash device were only read, and no copy was asked
-pub record AreBothRead (w w' : World) : Type 0 where
+pub record AreBothRead (w w' : RepairWorld) : Type 0 where
   pub devices : AreOnlyRead w.data_dev w.hash_dev w'.data_dev w'.hash_dev
   pub data_copies_are : w'.data_copies ≡ w.data_copies
   pub hash_copies_are : w'.hash_copies ≡ w.hash_copies

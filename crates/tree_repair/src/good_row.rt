@@ -1,11 +1,11 @@
 //! Rows of data blocks that are good, seen at once.
 ghost use Rattle.std.specs.Prelude.{◌≡◌, ◌≤◌, ◌<◌, ◌+◌, ◌-◌, ◌*◌, ◌/◌, ◌^◌, IfSome, IsTrue, length};
 ghost use Rattle.tree_shape.specs.Shape.{IsShape};
-ghost use Rattle.tree_survey.specs.Pieces.{IsRunOn, IsRunRead};
+ghost use Rattle.tree_survey.specs.Pieces.{LieOnDevice, IsRunRead};
 ghost use Rattle.verity_format.specs.Blocks.{IsOnlyRead};
 ghost use Rattle.verity_format.specs.Image.{data_sectors};
 ghost use Rattle.tree_path.specs.Steps.{HasReadAtMost};
-ghost use Rattle.tree_repair.specs.Bills.{Leaves, data_over, nothing_due, piece_of, reading};
+ghost use Rattle.tree_repair.specs.Bills.{LeavesWorld, data_over, nothing_due, piece_of, reading};
 ghost use Rattle.tree_repair.specs.Coverage.{AreDigestsOn, AreGoodFrom, IsGoodRow};
 ghost use Rattle.tree_repair.specs.Jobs.{job};
 ghost use Rattle.tree_repair.specs.Worlds.{IsWorldRead};
@@ -35,7 +35,7 @@ pub(crate) fn is_good_row<D: BlockDev, H: BlockDev, C: BlockDev>(
     requires room { 65536 ≤ length memory.old }
     ensures read { IsWorldRead image.old image.new }
     ensures good { IsTrue result → IsGoodRow (job repair.now) path.now row image.old.data_dev }
-    ensures asked { Leaves (reading (data_over repair.now.shape row.height (row.end - row.first)) 0) nothing_due image.old image.new }
+    ensures asked { LeavesWorld (reading (data_over repair.now.shape row.height (row.end - row.first)) 0) nothing_due image.old image.new }
 {
     if row.height > 0 {
         return false;
@@ -113,7 +113,7 @@ fn read_run<D: BlockDev>(
     run: &mut [u8],
     digests: &mut [Digest],
 ) -> bool
-    requires { IsRunOn (D.state device.old) size first (length digests.old) (length run.old) }
+    requires { LieOnDevice (D.state device.old) size first (length digests.old) (length run.old) }
     ensures read { IsOnlyRead (D.state device.old) (D.state device.new) }
     ensures good { IsTrue result → IsRunRead (D.state device.old) salt.now size first digests.new (D.state device.new) }
     ensures asked { HasReadAtMost (D.state device.old) (length digests.old * (size / 512)) (D.state device.new) }

@@ -3,7 +3,7 @@ ghost use Rattle.std.specs.Prelude.{◌≡◌, ◌<◌, ◌≤◌, ◌-◌, ◌*
 ghost use Rattle.tree_shape.specs.Shape.{levels};
 ghost use Rattle.tree_survey.specs.Surveys.{IsWay};
 ghost use Rattle.tree_path.specs.Steps.{HasReadAtMost};
-ghost use Rattle.tree_repair.specs.Bills.{Leaves, LeavesRow, LeavesVisit, height_over, nothing_due, reading, rows_over, visits_over};
+ghost use Rattle.tree_repair.specs.Bills.{LeavesWorld, LeavesRow, LeavesVisit, height_over, nothing_due, reading, rows_over, visits_over};
 ghost use Rattle.tree_repair.specs.Coverage.{IsBlockAt, IsFromTo, IsOfRow};
 ghost use Rattle.tree_repair.specs.Jobs.{IsRow, job};
 ghost use Rattle.tree_repair.specs.Passes.{Notes};
@@ -40,7 +40,7 @@ pub(crate) fn repair_height<D: BlockDev, H: BlockDev, C: BlockDev, W: Write>(
     requires few { height ≤ 14 }
     requires room { 65536 ≤ length memory.old }
     ensures notes { Notes W.contents (job repair.now) (IsFromTo height 0 repair.now.shape.blocks) image.old image.new bad.old bad.new writer.old writer.new result }
-    ensures asked { Leaves (height_over repair.now.shape height repair.now.shape.blocks) nothing_due image.old image.new }
+    ensures asked { LeavesWorld (height_over repair.now.shape height repair.now.shape.blocks) nothing_due image.old image.new }
 {
     let blocks = repair.shape.blocks();
     let width = span(&repair.shape, height + 1, blocks);
@@ -118,7 +118,7 @@ pub(crate) fn way_to<D: BlockDev, H: BlockDev, C: BlockDev>(
     requires fits { tree_sectors repair.now.shape ≤ image.old.hash_dev.size }
     ensures read { IsWorldRead image.old image.new }
     ensures way { IfOk result (IsWayOr (job repair.now).tree index height image.old.hash_dev image.new.hash_dev) }
-    ensures asked { Leaves (reading 0 ((levels repair.now.shape - height) * (repair.now.shape.hash_block / 512))) nothing_due image.old image.new }
+    ensures asked { LeavesWorld (reading 0 ((levels repair.now.shape - height) * (repair.now.shape.hash_block / 512))) nothing_due image.old image.new }
 {
     way_on(repair, &mut image.hash, index, height)
 }

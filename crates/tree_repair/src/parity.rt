@@ -7,11 +7,11 @@ ghost use Rattle.tree_shape.specs.Shape.{levels};
 ghost use Rattle.tree_survey.specs.Surveys.{IsWay};
 ghost use Rattle.verity_format.specs.Blocks.{IsOnlyRead};
 ghost use Rattle.tree_repair.specs.Jobs.{AreGoodAt, job};
-ghost use Rattle.tree_repair.specs.Mending.{IsReplaced};
+ghost use Rattle.tree_repair.specs.Mending.{IsBlockReplaced};
 ghost use Rattle.tree_repair.specs.Parity.{FailsToPlace, IsBack, IsNotBack, IsPlace, IsPlaced, IsPutOr, end_at};
 ghost use Rattle.tree_repair.specs.Runs.{CanRun, Ran, sector_at, size_at};
 ghost use Rattle.tree_repair.specs.Sources.{due};
-ghost use Rattle.tree_repair.specs.Tries.{AreCovered, HasSought, IsCoveredOr, IsMadeOrVain, IsSought, IsTried, listed, trial};
+ghost use Rattle.tree_repair.specs.Tries.{AreCovered, HasSought, IsCoveredOr, IsMadeOrVain, IsSought, IsTried, listed_number, trial};
 ghost use Rattle.tree_repair.specs.Worlds.{IsWorldRead};
 
 use crate::bad::BadBlock;
@@ -85,7 +85,7 @@ fn covered_of(repair: &Repair, layout: &Layout, blocks: &[BadBlock]) -> Result<V
 }
 
 fn push_some(covered: &mut Vec<u64>, index: Option<u64>) -> Result<(), AllocError>
-    ensures { OnOk result (covered.new.items ≡ covered.old.items ++ listed index) }
+    ensures { OnOk result (covered.new.items ≡ covered.old.items ++ listed_number index) }
 {
     match index {
         None => Ok(()),
@@ -345,7 +345,7 @@ fn replace<B: BlockDev>(
     requires good { digest salt.now bytes.now ≡ expected.now }
     requires allowed { IsTrue write → IsTrue (B.state device.old).may_write }
     ensures ok { IfOk result (IsPutOr (B.state device.old) first (due salt.now expected.now bytes.now) write bytes.now (B.state device.new)) }
-    ensures err { OnErr result (IsReplaced (B.state device.old) first (due salt.now expected.now bytes.now) write bytes.now false (B.state device.new)) }
+    ensures err { OnErr result (IsBlockReplaced (B.state device.old) first (due salt.now expected.now bytes.now) write bytes.now false (B.state device.new)) }
 {
     if is_there(device, first, salt, expected, block) {
         return Ok(false);

@@ -5,12 +5,12 @@ ghost use Rattle.verity_format.specs.Blocks.{IsOnlyRead};
 ghost use Rattle.verity_format.specs.Superblock.{shape_of};
 ghost use Rattle.tree_survey.specs.Causes.{AreImages};
 ghost use Rattle.tree_path.specs.Steps.{HasReadAtMost};
-ghost use Rattle.tree_repair.specs.Bills.{Leaves, nothing_due, pass_over, reading};
+ghost use Rattle.tree_repair.specs.Bills.{LeavesWorld, nothing_due, pass_over, reading};
 ghost use Rattle.tree_repair.specs.Bounds.{IsHashReadAlone, IsRepairWithin};
 ghost use Rattle.tree_repair.specs.Coverage.{IsFromUp};
 ghost use Rattle.tree_repair.specs.Jobs.{job};
 ghost use Rattle.tree_repair.specs.Passes.{Notes};
-ghost use Rattle.tree_repair.specs.Repairs.{IsAllowed, IsImageCause, IsRepair, IsUnrepaired, job_of};
+ghost use Rattle.tree_repair.specs.Repairs.{IsAllowed, IsNoImageCause, IsRepair, IsUnrepaired, job_of};
 ghost use Rattle.tree_repair.specs.Runs.{CanRun};
 ghost use Rattle.tree_repair.specs.Worlds.{IsWorldRead};
 
@@ -79,8 +79,8 @@ pub(crate) fn superblock_of<D: BlockDev, H: BlockDev, C: BlockDev>(
 ) -> Result<Superblock, RepairFault>
     ensures read { IsWorldRead image.old image.new }
     ensures ok { IfOk result (AreImages image.old.data_dev image.old.hash_dev) }
-    ensures err { IfErr result (IsImageCause image.old.data_dev image.old.hash_dev image.new.hash_dev) }
-    ensures asked { OnOk result (Leaves (reading 0 1) nothing_due image.old image.new) }
+    ensures err { IfErr result (IsNoImageCause image.old.data_dev image.old.hash_dev image.new.hash_dev) }
+    ensures asked { OnOk result (LeavesWorld (reading 0 1) nothing_due image.old image.new) }
     ensures alone { IsHashReadAlone image.old image.new }
 {
     superblock_on(&image.data, &mut image.hash)
@@ -93,7 +93,7 @@ fn superblock_on<D: BlockDev, H: BlockDev>(
 ) -> Result<Superblock, RepairFault>
     ensures read { IsOnlyRead (H.state hash_dev.old) (H.state hash_dev.new) }
     ensures ok { IfOk result (AreImages (D.state data_dev.now) (H.state hash_dev.old)) }
-    ensures err { IfErr result (IsImageCause (D.state data_dev.now) (H.state hash_dev.old) (H.state hash_dev.new)) }
+    ensures err { IfErr result (IsNoImageCause (D.state data_dev.now) (H.state hash_dev.old) (H.state hash_dev.new)) }
     ensures asked { OnOk result (HasReadAtMost (H.state hash_dev.old) 1 (H.state hash_dev.new)) }
 {
     let superblock = read_superblock(hash_dev)?;
@@ -125,7 +125,7 @@ pub(crate) fn repair_heights<D: BlockDev, H: BlockDev, C: BlockDev, W: Write>(
 ) -> Result<(), RepairFault>
     requires { CanRun (job repair.now) image.old }
     ensures notes { Notes W.contents (job repair.now) (IsFromUp repair.now.shape 0) image.old image.new bad.old bad.new writer.old writer.new result }
-    ensures asked { Leaves (pass_over repair.now.shape) nothing_due image.old image.new }
+    ensures asked { LeavesWorld (pass_over repair.now.shape) nothing_due image.old image.new }
 {
     let mut room = zeros(repair.alloc, ROOM)?;
     let memory = room.as_mut_slice();

@@ -1,8 +1,8 @@
 //! A line for each block that was mended.
 ghost use Rattle.std.specs.Prelude.{◌≡◌, ◌<◌};
 ghost use Rattle.counted_io.specs.Counted.{Writes};
-ghost use Rattle.tree_repair.specs.Jobs.{copy_line_at, job, line_at, parity_line_at};
-ghost use Rattle.tree_repair.specs.Runs.{data_line, data_parity_line, hash_line, hash_parity_line, made_line, remade_line, verb};
+ghost use Rattle.tree_repair.specs.Jobs.{copy_line_at, job, block_lines, parity_line_at};
+ghost use Rattle.tree_repair.specs.Runs.{data_line, data_parity_line, repaired_hash_line, hash_parity_line, made_line, remade_line, verb};
 
 use crate::mending::Mended;
 use crate::place::{Place, Repair};
@@ -17,7 +17,7 @@ pub(crate) fn say_mended<W: Write>(
     mended: Mended,
 ) -> Result<(), WriteFault>
     requires { place.index < repair.now.shape.blocks }
-    ensures { Writes W.contents writer.old writer.new (line_at repair.now place mended) result }
+    ensures { Writes W.contents writer.old writer.new (block_lines repair.now place mended) result }
 {
     match mended {
         Mended::Good => writer.put(b""),
@@ -142,7 +142,7 @@ fn say_data<W: Write>(
 }
 
 // `VERB hash LEVEL NUMBER copy K`
-#[tactic(auto, unfolding(crate::specs::Runs::hash_line))]
+#[tactic(auto, unfolding(crate::specs::Runs::repaired_hash_line))]
 fn say_hash<W: Write>(
     writer: &mut Counted<W>,
     write: bool,
@@ -150,7 +150,7 @@ fn say_hash<W: Write>(
     block: u64,
     number: usize,
 ) -> Result<(), WriteFault>
-    ensures { Writes W.contents writer.old writer.new (hash_line write level block number) result }
+    ensures { Writes W.contents writer.old writer.new (repaired_hash_line write level block number) result }
 {
     let verb = verb(write);
     writer.print(format_args!("{verb} hash {level} {block} copy {number}\n"))

@@ -10,7 +10,7 @@ ghost use Rattle.tree_repair.specs.Jobs.{job};
 ghost use Rattle.tree_repair.specs.Looks.{tree_look};
 ghost use Rattle.tree_repair.specs.Mending.{IsNotRemade, IsUnmended};
 ghost use Rattle.tree_repair.specs.Runs.{CanRun, size_at};
-ghost use Rattle.tree_repair.specs.Visits.{FailsToMake, IsHashLooked, IsHashUnmended, IsLooked, IsMade, IsTreePut, KeepsData, hash_sector};
+ghost use Rattle.tree_repair.specs.Visits.{FailsToStoreBlock, IsHashLooked, IsHashUnmended, IsLooked, IsBlockMade, IsTreePut, KeepsData, hash_sector};
 
 use crate::image::DamagedImage;
 use crate::mending::{Mended, Sought, mend, put};
@@ -31,8 +31,8 @@ pub(crate) fn visit<D: BlockDev, H: BlockDev, C: BlockDev>(
     requires inside { place.index < repair.now.shape.blocks }
     requires way { IsWay (job repair.now).tree place.index place.height path.now }
     requires room { 65536 ≤ length memory.old }
-    ensures ok { IfOk result (IsMade (job repair.now) place.height place.index image.old image.new) }
-    ensures err { OnErr result (FailsToMake (job repair.now) place.height place.index image.old image.new) }
+    ensures ok { IfOk result (IsBlockMade (job repair.now) place.height place.index image.old image.new) }
+    ensures err { OnErr result (FailsToStoreBlock (job repair.now) place.height place.index image.old image.new) }
     ensures asked { LeavesVisit repair.now.shape place.height place.index image.old image.new }
 {
     let Place { height, index } = place;
@@ -56,8 +56,8 @@ fn visit_data<D: BlockDev, H: BlockDev, C: BlockDev>(
     requires inside { index < repair.now.shape.blocks }
     requires way { IsWay (job repair.now).tree index 0 path.now }
     requires size { length block.old ≡ size_at repair.now.shape 0 }
-    ensures ok { IfOk result (IsMade (job repair.now) 0 index image.old image.new) }
-    ensures err { OnErr result (FailsToMake (job repair.now) 0 index image.old image.new) }
+    ensures ok { IfOk result (IsBlockMade (job repair.now) 0 index image.old image.new) }
+    ensures err { OnErr result (FailsToStoreBlock (job repair.now) 0 index image.old image.new) }
     ensures asked { LeavesVisit repair.now.shape 0 index image.old image.new }
 {
     let size = block.len();

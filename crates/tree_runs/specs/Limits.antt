@@ -14,8 +14,8 @@ line_within (Some zero) false run = more_text
 line_within (Some zero) true run = []
 line_within (Some (suc n)) told run = run_text run
 
-abbrev pub line_of : Limit → Run → List ℕ
-line_of limit run = line_within limit.left limit.told run
+abbrev pub limited_line : Limit → Run → List ℕ
+limited_line limit run = line_within limit.left limit.told run
 
 abbrev pub next_within : Option ℕ → Bool → Limit
 next_within None told = record { left = None; told = told }
@@ -31,6 +31,6 @@ limit_after limit [] = limit
 limit_after limit (run ∷ more) = limit_after (limit_next limit) more
 
 -- what is printed of runs, one after another
-abbrev pub lines_of : Limit → List Run → List ℕ
-lines_of limit [] = []
-lines_of limit (run ∷ more) = line_of limit run ++ lines_of (limit_next limit) more
+abbrev pub limited_lines : Limit → List Run → List ℕ
+limited_lines limit [] = []
+limited_lines limit (run ∷ more) = limited_line limit run ++ limited_lines (limit_next limit) more

@@ -5,14 +5,14 @@ use Rattle.tree_runs.specs.declared.line.Line.{Line}
 use Rattle.tree_runs.specs.declared.line.Line.TheVariants.{Run, More, Hash}
 use Rattle.tree_runs.specs.Texts.{run_text, more_text, hash_text}
 
-abbrev pub line_text : Line → List ℕ
-line_text (Run run) = run_text run
-line_text More = more_text
-line_text (Hash level number) = hash_text level number
+abbrev pub listing_line : Line → List ℕ
+listing_line (Run run) = run_text run
+listing_line More = more_text
+listing_line (Hash level number) = hash_text level number
 
 -- one line behind another
 abbrev pub lines_text : List Line → List ℕ
-lines_text lines = flat_map line_text lines
+lines_text lines = flat_map listing_line lines
 
 abbrev pub is_more : Line → Bool
 is_more More = true

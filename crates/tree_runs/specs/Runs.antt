@@ -39,11 +39,11 @@ abbrev pub is_state : Kind → State → Bool
 is_state kind None = false
 is_state kind (Some other) = is_same kind other
 
-abbrev pub weight : Bool → ℕ
-weight true = 1
-weight false = 0
+abbrev pub one_if : Bool → ℕ
+one_if true = 1
+one_if false = 0
 
 -- how many of the blocks are of a kind
 abbrev pub count_of : Kind → List State → ℕ
 count_of kind [] = 0
-count_of kind (state ∷ more) = weight (is_state kind state) + count_of kind more
+count_of kind (state ∷ more) = one_if (is_state kind state) + count_of kind more

@@ -13,9 +13,9 @@ listed None = []
 listed (Some last) = last ∷ []
 
 -- it and the one behind it, where they are of one kind
-abbrev pub joined : Option Run → Run → Option Run
-joined None next = None
-joined (Some last) next = if is_same last.kind next.kind then Some (run last.first (last.count + next.count) last.kind) else None
+abbrev pub joined_run : Option Run → Run → Option Run
+joined_run None next = None
+joined_run (Some last) next = if is_same last.kind next.kind then Some (run last.first (last.count + next.count) last.kind) else None
 
 -- the runs that don't grow further once that one comes behind, and the one that may
 abbrev pub closed_from : Option Run → Option Run → List Run
@@ -27,7 +27,7 @@ opened_from next None = next
 opened_from next (Some both) = both
 
 abbrev pub closed_by : Option Run → Run → List Run
-closed_by last next = closed_from last (joined last next)
+closed_by last next = closed_from last (joined_run last next)
 
 abbrev pub opened_by : Option Run → Run → Run
-opened_by last next = opened_from next (joined last next)
+opened_by last next = opened_from next (joined_run last next)

@@ -1,6 +1,6 @@
 //! How many lines are printed.
 ghost use Rattle.std.specs.Prelude.{◌≡◌, OnOk};
-ghost use Rattle.tree_runs.specs.Limits.{line_of, begun, limit_next};
+ghost use Rattle.tree_runs.specs.Limits.{limited_line, begun, limit_next};
 ghost use Rattle.tree_runs.specs.Listings.{Tells};
 
 use crate::line::Line;
@@ -29,7 +29,7 @@ impl Limit {
     /// Tells a run's line, or `more` once where no line is left.
     #[tactic(auto, using(crate::proofs::WritingLemmas::writes_nothing))]
     pub(crate) fn say<L: Listing>(&mut self, listing: &mut L, run: Run) -> Result<(), WriteFault>
-        ensures text { Tells L.told L.failed listing.old listing.new (line_of self.old run) result }
+        ensures text { Tells L.told L.failed listing.old listing.new (limited_line self.old run) result }
         ensures next { OnOk result (self.new ≡ limit_next self.old) }
     {
         match self.left {

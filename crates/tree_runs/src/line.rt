@@ -1,7 +1,7 @@
 //! The lines that are told while trees are gone over.
 ghost use Rattle.std.specs.Prelude.{◌≡◌};
 ghost use Rattle.counted_io.specs.Counted.{Writes};
-ghost use Rattle.tree_runs.specs.Lines.{is_more, line_text};
+ghost use Rattle.tree_runs.specs.Lines.{is_more, listing_line};
 ghost use Rattle.tree_runs.specs.Texts.{hash_text, more_text};
 
 use crate::run::{Run, say_run};
@@ -35,7 +35,7 @@ impl Line {
 
 /// Writes the line.
 pub(crate) fn say_line<W: Write>(writer: &mut Counted<W>, line: Line) -> Result<(), WriteFault>
-    ensures { Writes W.contents writer.old writer.new (line_text line) result }
+    ensures { Writes W.contents writer.old writer.new (listing_line line) result }
 {
     match line {
         Line::Run(run) => say_run(writer, run),

@@ -1,6 +1,6 @@
 //! Who is told of lines: a writer, or a list in memory.
 ghost use Rattle.std.specs.Prelude.{◌≡◌, ◌++◌, ◌∷◌, [], ℕ, Bool, List, Option, OnOk};
-ghost use Rattle.tree_runs.specs.Lines.{line_text};
+ghost use Rattle.tree_runs.specs.Lines.{listing_line};
 ghost use Rattle.tree_runs.specs.Listings.{Tells};
 
 use crate::line::{Line, say_line};
@@ -18,7 +18,7 @@ pub trait Listing {
 
     /// Tells a line.
     fn tell(&mut self, line: Line) -> Result<(), WriteFault>
-        ensures { Tells told failed self.old self.new (line_text line) result };
+        ensures { Tells told failed self.old self.new (listing_line line) result };
 }
 
 impl<W: Write> Listing for Counted<W> {

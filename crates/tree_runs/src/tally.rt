@@ -1,8 +1,8 @@
 //! The run that may still grow, while blocks are gone over.
 ghost use Rattle.std.specs.Prelude.{◌≡◌, ◌+◌, ◌<◌, ◌^◌, None, Some, OnOk};
-ghost use Rattle.tree_runs.specs.Limits.{begun, limit_after, lines_of};
+ghost use Rattle.tree_runs.specs.Limits.{begun, limit_after, limited_lines};
 ghost use Rattle.tree_runs.specs.Listings.{Tells};
-ghost use Rattle.tree_runs.specs.Tallies.{EndsAt, closed_by, joined, listed, opened_by};
+ghost use Rattle.tree_runs.specs.Tallies.{EndsAt, closed_by, joined_run, listed, opened_by};
 
 use crate::limit::Limit;
 use crate::listing::Listing;
@@ -20,7 +20,7 @@ pub struct Tally {
 fn joined(last: Option<Run>, run: Run) -> Option<Run>
     requires ends { EndsAt last run.first }
     requires room { run.first + run.count < 2 ^ 64 }
-    ensures { result ≡ joined last run }
+    ensures { result ≡ joined_run last run }
 {
     let last = last?;
     if !last.kind.is_same(run.kind) {
@@ -47,7 +47,7 @@ impl Tally {
     /// Tells the run that may still grow, since it doesn't.
     #[tactic(auto, using(crate::proofs::WritingLemmas::writes_nothing))]
     pub fn close<L: Listing>(&mut self, listing: &mut L) -> Result<(), WriteFault>
-        ensures text { Tells L.told L.failed listing.old listing.new (lines_of self.old.limit (listed self.old.last)) result }
+        ensures text { Tells L.told L.failed listing.old listing.new (limited_lines self.old.limit (listed self.old.last)) result }
         ensures last { OnOk result (self.new.last ≡ None) }
         ensures limit { OnOk result (self.new.limit ≡ limit_after self.old.limit (listed self.old.last)) }
     {
@@ -66,7 +66,7 @@ impl Tally {
     pub fn add<L: Listing>(&mut self, listing: &mut L, run: Run) -> Result<(), WriteFault>
         requires ends { EndsAt self.old.last run.first }
         requires room { run.first + run.count < 2 ^ 64 }
-        ensures text { Tells L.told L.failed listing.old listing.new (lines_of self.old.limit (closed_by self.old.last run)) result }
+        ensures text { Tells L.told L.failed listing.old listing.new (limited_lines self.old.limit (closed_by self.old.last run)) result }
         ensures last { OnOk result (self.new.last ≡ Some (opened_by self.old.last run)) }
         ensures limit { OnOk result (self.new.limit ≡ limit_after self.old.limit (closed_by self.old.last run)) }
     {

@@ -15,8 +15,8 @@ pub record ShapeRecord : Type 0 where
   pub start : ℕ
 
 -- the shape of these parts
-abbrev pub shape_of : ℕ → ℕ → ℕ → ℕ → ShapeRecord
-shape_of data_block hash_block blocks start = record { data_block = data_block; hash_block = hash_block; blocks = blocks; start = start }
+abbrev pub shape_with : ℕ → ℕ → ℕ → ℕ → ShapeRecord
+shape_with data_block hash_block blocks start = record { data_block = data_block; hash_block = hash_block; blocks = blocks; start = start }
 
 -- how many digests stand in a hash block
 abbrev pub per_block : ShapeRecord → ℕ
@@ -70,8 +70,8 @@ abbrev pub is_block_size : ℕ → Bool
 is_block_size n = n == 512 || n == 1024 || n == 2048 || n == 4096
 
 -- the sectors of 512 bytes that n blocks of that size take
-abbrev pub sectors_of : ℕ → ℕ → ℕ
-sectors_of n size = n * (size / 512)
+abbrev pub blocks_sectors : ℕ → ℕ → ℕ
+blocks_sectors n size = n * (size / 512)
 
 -- more than 2^54 sectors
 abbrev pub is_too_large : ℕ → Bool
@@ -82,7 +82,7 @@ unfoldable pub first_fault : ShapeRecord → Option ShapeFault
 first_fault s =
     if not (is_block_size s.data_block && is_block_size s.hash_block) then Some BlockSize else
     if s.blocks == 0 then Some NoBlocks else
-    if is_too_large (sectors_of s.blocks s.data_block) || is_too_large (sectors_of (area_end s) s.hash_block) then Some TooLarge
+    if is_too_large (blocks_sectors s.blocks s.data_block) || is_too_large (blocks_sectors (area_end s) s.hash_block) then Some TooLarge
     else None
 
 -- a shape that is not refused
@@ -90,5 +90,5 @@ pub record IsShape (s : ShapeRecord) : Type 0 where
   pub data_size : IsTrue (is_block_size s.data_block)
   pub hash_size : IsTrue (is_block_size s.hash_block)
   pub some : 1 ≤ s.blocks
-  pub data_fits : sectors_of s.blocks s.data_block ≤ 2 ^ 54
-  pub tree_fits : sectors_of (area_end s) s.hash_block ≤ 2 ^ 54
+  pub data_fits : blocks_sectors s.blocks s.data_block ≤ 2 ^ 54
+  pub tree_fits : blocks_sectors (area_end s) s.hash_block ≤ 2 ^ 54

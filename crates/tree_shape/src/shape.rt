@@ -1,7 +1,7 @@
 //! The shape of a tree.
 ghost use Rattle.std.specs.Prelude.{◌≡◌, ◌+◌, ◌*◌, ◌^◌, ◌<◌, ◌≤◌, IfOk};
 ghost use Rattle.std.specs.Result.{result_err};
-ghost use Rattle.tree_shape.specs.Shape.{IsShape, shape_of, first_fault, is_block_size, is_too_large, sectors_of, per_block, levels, level_blocks, position, slot, ancestor, area_blocks, area_end, end_of};
+ghost use Rattle.tree_shape.specs.Shape.{IsShape, shape_with, first_fault, is_block_size, is_too_large, blocks_sectors, per_block, levels, level_blocks, position, slot, ancestor, area_blocks, area_end, end_of};
 
 use crate::Digest;
 use std::marker::Model;
@@ -31,13 +31,13 @@ pub struct Shape {
 }
 
 impl Model for Shape {
-    ghost use Rattle.tree_shape.specs.Shape.{ShapeRecord, IsShape, shape_of};
+    ghost use Rattle.tree_shape.specs.Shape.{ShapeRecord, IsShape, shape_with};
 
     ghost Value = { ShapeRecord };
 
-    ghost view = { λ s. shape_of s.data_block s.hash_block s.blocks s.start };
+    ghost view = { λ s. shape_with s.data_block s.hash_block s.blocks s.start };
 
-    ghost invariant = { λ s. IsShape (shape_of s.data_block s.hash_block s.blocks s.start) };
+    ghost invariant = { λ s. IsShape (shape_with s.data_block s.hash_block s.blocks s.start) };
 
     ghost inverse = { λ s. record { data_block = s.data_block; hash_block = s.hash_block; blocks = s.blocks; start = s.start } };
 }
@@ -51,9 +51,9 @@ impl Shape {
         blocks: u64,
         start: u64,
     ) -> Result<Shape, ShapeFault>
-        ensures value { IfOk result (λ s. s ≡ shape_of data_block hash_block blocks start) }
+        ensures value { IfOk result (λ s. s ≡ shape_with data_block hash_block blocks start) }
         ensures valid { IfOk result (λ s. IsShape s) }
-        ensures fault { result_err result ≡ first_fault (shape_of data_block hash_block blocks start) }
+        ensures fault { result_err result ≡ first_fault (shape_with data_block hash_block blocks start) }
     {
         if !is_block_size(data_block) || !is_block_size(hash_block) {
             return Err(ShapeFault::BlockSize);
@@ -244,7 +244,7 @@ pub fn is_block_size(size: u32) -> bool
 /// Whether that many blocks of that size take more than 2^54 sectors.
 fn is_too_large(blocks: u128, size: u32) -> bool
     requires { blocks < 2 ^ 65 }
-    ensures { result ≡ is_too_large (sectors_of blocks size) }
+    ensures { result ≡ is_too_large (blocks_sectors blocks size) }
 {
     blocks * u128::from(size / 512) > 1 << 54
 }
@@ -264,7 +264,7 @@ fn end_of(start: u64, blocks: u64) -> u128
 fn blocks_over(blocks: u64, hash_block: u32) -> u64
     requires some { 0 < blocks }
     requires digests { 96 ≤ hash_block }
-    ensures value { result ≡ area_blocks (shape_of 512 hash_block blocks 0) }
+    ensures value { result ≡ area_blocks (shape_with 512 hash_block blocks 0) }
     ensures fewer { result < blocks }
 {
     let per_block = u64::from(hash_block / Digest::SIZE as u32);

@@ -7,7 +7,7 @@ use Rattle.block_device.specs.Device.{Device}
 use Rattle.tree_shape.specs.Digests.{digest}
 use Rattle.tree_shape.specs.Shape.{ShapeRecord, levels}
 use Rattle.tree_path.specs.Path.{PathRecord, IsPathOf, block_of, digest_on, stored_block, stored_digest}
-use Rattle.tree_path.specs.Steps.{IsDown, IsLoaded, steps}
+use Rattle.tree_path.specs.Steps.{IsDown, IsStepLoaded, steps}
 use Rattle.tree_path.proofs.lemmas.DeviceLemmas.{steady-then}
 use Rattle.tree_path.proofs.lemmas.PathLemmas.{digest_on-stored, down-bad, down-good, down-none, down-read}
 use Rattle.tree_survey.specs.Failing.{IsReadOver}
@@ -39,7 +39,7 @@ module _ (p q : PathRecord) (d d' : Device) (i l : ℕ) where
       go true e = absurd (apart ((bytes_eq-Decides xs ys).0 e))
       go false e = sym e
 
-  pub one-read : (good : Bool) → IsLoaded (steps p q d d' i l) good → IsOneRead p q d d' i l good
+  pub one-read : (good : Bool) → IsStepLoaded (steps p q d d' i l) good → IsOneRead p q d d' i l good
   one-read true loaded = record {
     down = down-read p p q d d d' i (suc l) l (omega arith) (down-none p d i (suc l)) true loaded;
     test = test-true _ _ ((down-good p p q d d d' i (suc l) l (omega arith) (down-none p d i (suc l)) true loaded refl).goods l (omega arith) (omega arith));
@@ -53,7 +53,7 @@ module _ (p q : PathRecord) (d d' : Device) (i l : ℕ) where
   pub path-unloaded : IsUnloaded (steps p q d d' i l) → IsPathOf p.shape p.salt p.root q
   path-unloaded un = record { shape_is = ap (λ (x : PathRecord). x.shape) un.is; salt_is = ap (λ (x : PathRecord). x.salt) un.is; root_is = ap (λ (x : PathRecord). x.root) un.is }
 
-  pub above-read : (m : ℕ) → m + 1 ≡ l → (good : Bool) → IsLoaded (steps p q d d' i l) good → IsAbove p q d d' m i true
+  pub above-read : (m : ℕ) → m + 1 ≡ l → (good : Bool) → IsStepLoaded (steps p q d d' i l) good → IsAbove p q d d' m i true
   above-read m is good loaded =
       let one = one-read good loaded in
       record {
@@ -69,7 +69,7 @@ pub above-none : (p : PathRecord) (d : Device) (l i : ℕ) → l + 1 ≡ levels 
 above-none p d l i top = record { same = path-none p; stored = λ read steady low. absurd (omega (arith, low, top)); failed = λ not. absurd (false≢true (sym not)) }
 
 -- behind the one above it
-pub compared : (p q r : PathRecord) (d d' d'' : Device) (i l : ℕ) (good : Bool) → l < levels p.shape → IsReadOver d d' → IsAbove p q d d' l i true → IsLoaded (steps q r d' d'' i l) good → IsCompared p r d d'' l i good
+pub compared : (p q r : PathRecord) (d d' d'' : Device) (i l : ℕ) (good : Bool) → l < levels p.shape → IsReadOver d d' → IsAbove p q d d' l i true → IsStepLoaded (steps q r d' d'' i l) good → IsCompared p r d d'' l i good
 compared p q r d d' d'' i l good low over above loaded =
     let one : IsOneRead q r d' d'' i l good = one-read q r d' d'' i l good loaded in
     let same : IsPathOf p.shape p.salt p.root r = path-then p q r above.same one.down.same in

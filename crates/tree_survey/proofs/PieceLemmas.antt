@@ -12,7 +12,7 @@ use Rattle.verity_format.specs.Blocks.{IsFullRead, block_at, blocks_at}
 use Rattle.verity_format.specs.Image.{data_sectors}
 use Rattle.verity_format.specs.Premises.{IsBlockOn}
 use Rattle.tree_survey.specs.Failing.{HasFailedRead, IsReadOver, IsReadThrough}
-use Rattle.tree_survey.specs.Pieces.{IsDigestFound, IsDigestRead, IsRunOn, IsRunRead, IsRunTried, blocks_of}
+use Rattle.tree_survey.specs.Pieces.{IsDigestFound, IsDigestRead, LieOnDevice, IsRunRead, IsRunTried, blocks_of}
 use Rattle.tree_survey.proofs.FailingLemmas.{failed-later, failed-more, over-full, over-then, through-failed, through-full}
 use Rattle.tree_survey.proofs.RunLemmas.{quotient-some}
 use Rattle.tree_survey.proofs.SightLemmas.{IsDigestOr}
@@ -54,8 +54,8 @@ piece-is s valid at count left is =
 -- ---- and its blocks on a device
 
 module _ (s : ShapeRecord) (valid : IsShape s) (d d' : Device) (over : IsReadOver d d') (fits : data_sectors s ≤ d.size) where
-  pub run-on : (at count size bytes : ℕ) → size ≡ s.data_block → bytes ≡ count * size → IsPiece s at count → IsRunOn d' size at count bytes
-  run-on at count size bytes same all piece = subst (λ (n : ℕ). IsRunOn d' n at count bytes) (sym same) (record {
+  pub run-on : (at count size bytes : ℕ) → size ≡ s.data_block → bytes ≡ count * size → IsPiece s at count → LieOnDevice d' size at count bytes
+  run-on at count size bytes same all piece = subst (λ (n : ℕ). LieOnDevice d' n at count bytes) (sym same) (record {
     size = valid.data_size;
     some = piece.some;
     run = all ∙ ap (λ (n : ℕ). count * n) same;

@@ -6,7 +6,7 @@ use Rattle.tree_path.specs.Path.{PathRecord, block_of, digest_on}
 use Rattle.tree_path.specs.Steps.{IsDown, steps}
 use Rattle.tree_path.proofs.lemmas.PathLemmas.{digest_on-same}
 use Rattle.tree_survey.specs.Failing.{IsReadOver}
-use Rattle.tree_survey.specs.Paths.{IsCutOff, IsUnloaded}
+use Rattle.tree_survey.specs.Paths.{IsWayCutOff, IsUnloaded}
 use Rattle.tree_survey.proofs.FailingLemmas.{failed-later, over-full}
 
 module _ (old mid new : PathRecord) (d dm d' : Device) (index from l : ℕ) (low : l < from) (down : IsDown (steps old mid d dm index from) (suc l) (suc l)) (un : IsUnloaded (steps mid new dm d' index l)) where
@@ -35,7 +35,7 @@ module _ (old mid new : PathRecord) (d dm d' : Device) (index from l : ℕ) (low
     full = down.full;
   }
 
-  pub cut-off : IsReadOver dm d' → IsCutOff (steps old new d d' index from) l
+  pub cut-off : IsReadOver dm d' → IsWayCutOff (steps old new d d' index from) l
   cut-off over = record {
     low = low;
     between = dm;

@@ -14,7 +14,7 @@ use Rattle.tree_shape.proofs.lemmas.ShapeLemmas.{pow_pos}
 use Rattle.tree_path.specs.Path.{PathRecord, IsPathOf}
 use Rattle.tree_path.proofs.lemmas.DeviceLemmas.{steady-then}
 use Rattle.tree_survey.specs.Failing.{HasFailedRead, IsReadOver}
-use Rattle.tree_survey.specs.Hashes.{AreBad, HashBlock, IsCompared, IsWithin, SaysLevel, SaysTree, bad_of_level, bad_of_levels, first_below, hash_line, hash_lines, is_good_on, is_whole, tree_at, with_bad}
+use Rattle.tree_survey.specs.Hashes.{AreBad, HashBlock, IsCompared, AreWithinHashes, SaysLevel, TellsHashes, bad_of_level, bad_of_levels, first_below, hash_line, hash_lines, is_good_on, is_whole, tree_of_path, with_bad}
 use Rattle.tree_survey.specs.Surveys.{Tree}
 use Rattle.tree_survey.proofs.FailingLemmas.{failed-later, failed-more, over-none, over-then}
 use Rattle.tree_survey.proofs.HashLemmas.{path-none, path-then}
@@ -25,7 +25,7 @@ pub record IsSayingTree (p q : PathRecord) (d d' : Device) (level : ℕ) (old ne
   pub same : IsPathOf p.shape p.salt p.root q
   pub over : IsReadOver d d'
   pub bad : List HashBlock
-  pub are : AreBad (λ image. bad_of_levels (tree_at p) image (levels p.shape - level)) d d' bad
+  pub are : AreBad (λ image. bad_of_levels (tree_of_path p) image (levels p.shape - level)) d d' bad
   pub whole_is : whole ≡ is_whole bad
   pub printed_are : Appends old new (hash_lines bad)
 
@@ -34,25 +34,25 @@ pub record IsSayingLevel (p q : PathRecord) (d d' : Device) (level n : ℕ) (old
   pub same : IsPathOf p.shape p.salt p.root q
   pub over : IsReadOver d d'
   pub bad : List HashBlock
-  pub are : AreBad (λ image. bad_of_level (tree_at p) image level n) d d' bad
+  pub are : AreBad (λ image. bad_of_level (tree_of_path p) image level n) d d' bad
   pub whole_is : whole ≡ is_whole bad
   pub printed_are : Appends old new (hash_lines bad)
 
 -- ---- lists within others
 
-within-cons : (xs : List HashBlock) (y : HashBlock) (ys : List HashBlock) → IsWithin xs ys → IsWithin xs (y ∷ ys)
+within-cons : (xs : List HashBlock) (y : HashBlock) (ys : List HashBlock) → AreWithinHashes xs ys → AreWithinHashes xs (y ∷ ys)
 within-cons [] y ys h = tt
 within-cons (x ∷ xs) y ys h = inr h
 
-within-append : (xs xs' ys ys' : List HashBlock) → IsWithin xs ys → IsWithin xs' ys' → IsWithin (xs ++ xs') (ys ++ ys')
+within-append : (xs xs' ys ys' : List HashBlock) → AreWithinHashes xs ys → AreWithinHashes xs' ys' → AreWithinHashes (xs ++ xs') (ys ++ ys')
 within-append [] xs' [] ys' u v = v
 within-append [] xs' (y ∷ ys) ys' u v = within-cons xs' y (ys ++ ys') (within-append [] xs' ys ys' tt v)
 within-append (x ∷ xs) xs' [] ys' u v = absurd u
 within-append (x ∷ xs) xs' (y ∷ ys) ys' (inl (same, u)) v = inl (same, within-append xs xs' ys ys' u v)
 within-append (x ∷ xs) xs' (y ∷ ys) ys' (inr u) v = inr (within-append (x ∷ xs) xs' ys ys' u v)
 
-within-next : (good : Bool) (x : HashBlock) (xs ys : List HashBlock) → IsWithin xs ys → IsWithin (with_bad good x xs) (ys ++ x ∷ [])
-within-next true x xs ys h = subst (λ (zs : List HashBlock). IsWithin zs (ys ++ x ∷ [])) (append-nil xs) (within-append xs [] ys (x ∷ []) h tt)
+within-next : (good : Bool) (x : HashBlock) (xs ys : List HashBlock) → AreWithinHashes xs ys → AreWithinHashes (with_bad good x xs) (ys ++ x ∷ [])
+within-next true x xs ys h = subst (λ (zs : List HashBlock). AreWithinHashes zs (ys ++ x ∷ [])) (append-nil xs) (within-append xs [] ys (x ∷ []) h tt)
 within-next false x xs ys h = within-append xs (x ∷ []) ys (x ∷ []) h (inl (refl, tt))
 
 pub saying-none : (p : PathRecord) (d : Device) (level : ℕ) (old : Option (List ℕ)) → level ≡ levels p.shape → IsSayingTree p p d d level old old true
@@ -64,8 +64,8 @@ saying-none p d level old top =
       over = over-none d;
       bad = [];
       are = record {
-        all = λ steady. subst (λ (n : ℕ). IsWithin (bad_of_levels (tree_at p) d.image n) []) (sym none) tt;
-        stored = λ steady. inl (sym (ap (bad_of_levels (tree_at p) d.image) none));
+        all = λ steady. subst (λ (n : ℕ). AreWithinHashes (bad_of_levels (tree_of_path p) d.image n) []) (sym none) tt;
+        stored = λ steady. inl (sym (ap (bad_of_levels (tree_of_path p) d.image) none));
       };
       whole_is = refl;
       printed_are = Appends-nil old;
@@ -90,7 +90,7 @@ whole-append [] ys = refl
 whole-append (x ∷ xs) ys = refl
 
 -- what was said of a level stands under the path and the device before
-pub tree-same : (p q : PathRecord) → IsPathOf p.shape p.salt p.root q → tree_at q ≡ tree_at p
+pub tree-same : (p q : PathRecord) → IsPathOf p.shape p.salt p.root q → tree_of_path q ≡ tree_of_path p
 tree-same p q is =
     let f : ShapeRecord → List ℕ → List ℕ → Tree = λ s x r. record { shape = s; salt = x; root = r } in
     ap (λ (s : ShapeRecord). f s q.salt q.root) is.shape_is ∙ ap (λ (x : List ℕ). f p.shape x q.root) is.salt_is ∙ ap (f p.shape p.salt) is.root_is
@@ -102,19 +102,19 @@ module _ (p q r : PathRecord) (d d' d'' : Device) (level n i : ℕ) (old now : O
   here = record { level = level; number = n }
 
   abbrev before : List HashBlock
-  before = bad_of_level (tree_at p) d.image level n
+  before = bad_of_level (tree_of_path p) d.image level n
 
   is-good : (good : Bool) → IsCompared q r d' d'' level i good → IsTrue d.steady
-      → (good ≡ is_good_on (tree_at p) d.image level (first_below p.shape level n)) ⊎ ((good ≡ false) × HasFailedRead d d'')
+      → (good ≡ is_good_on (tree_of_path p) d.image level (first_below p.shape level n)) ⊎ ((good ≡ false) × HasFailedRead d d'')
   is-good good h steady = elim (h.stored (steady-then u.over.read.same steady)) [
     | inl e ↦
         inl (e ∙ ap (λ (t : Tree). is_good_on t d'.image level i) (tree-same p q u.same)
-        ∙ ap (λ (im : List (List ℕ)). is_good_on (tree_at p) im level i) (u.over.read.image steady)
-        ∙ ap (is_good_on (tree_at p) d.image level) at)
+        ∙ ap (λ (im : List (List ℕ)). is_good_on (tree_of_path p) im level i) (u.over.read.image steady)
+        ∙ ap (is_good_on (tree_of_path p) d.image level) at)
     | inr unread ↦ inr (unread.0, failed-later u.over over unread.1)
   ]
 
-  seen-good : IsCompared q r d' d'' level i true → IsTrue d.steady → true ≡ is_good_on (tree_at p) d.image level (first_below p.shape level n)
+  seen-good : IsCompared q r d' d'' level i true → IsTrue d.steady → true ≡ is_good_on (tree_of_path p) d.image level (first_below p.shape level n)
   seen-good h steady = elim (is-good true h steady) [
     | inl e ↦ e
     | inr unread ↦ absurd (false≢true (sym unread.0))
@@ -126,7 +126,7 @@ module _ (p q r : PathRecord) (d d' d'' : Device) (level n i : ℕ) (old now : O
     over = over-then u.over over;
     bad = u.bad;
     are = record {
-      all = λ steady. subst (λ (b : Bool). IsWithin (with_bad b here before) u.bad) (seen-good h steady) (u.are.all steady);
+      all = λ steady. subst (λ (b : Bool). AreWithinHashes (with_bad b here before) u.bad) (seen-good h steady) (u.are.all steady);
       stored = λ steady. elim (u.are.stored steady) [
         | inl e ↦ inl (e ∙ ap (λ (b : Bool). with_bad b here before) (seen-good h steady))
         | inr failed ↦ inr (failed-more d failed over)
@@ -136,7 +136,7 @@ module _ (p q r : PathRecord) (d d' d'' : Device) (level n i : ℕ) (old now : O
     printed_are = u.printed_are;
   }
 
-  bad-stored : IsCompared q r d' d'' level i false → IsTrue d.steady → (u.bad ++ here ∷ [] ≡ bad_of_level (tree_at p) d.image level (suc n)) ⊎ HasFailedRead d d''
+  bad-stored : IsCompared q r d' d'' level i false → IsTrue d.steady → (u.bad ++ here ∷ [] ≡ bad_of_level (tree_of_path p) d.image level (suc n)) ⊎ HasFailedRead d d''
   bad-stored h steady = elim (u.are.stored steady) [
     | inr failed ↦ inr (failed-more d failed over)
     | inl e ↦
@@ -152,7 +152,7 @@ module _ (p q r : PathRecord) (d d' d'' : Device) (level n i : ℕ) (old now : O
     over = over-then u.over over;
     bad = u.bad ++ here ∷ [];
     are = record {
-      all = λ steady. within-next (is_good_on (tree_at p) d.image level (first_below p.shape level n)) here before u.bad (u.are.all steady);
+      all = λ steady. within-next (is_good_on (tree_of_path p) d.image level (first_below p.shape level n)) here before u.bad (u.are.all steady);
       stored = bad-stored h;
     };
     whole_is = last u.bad;
@@ -168,7 +168,7 @@ pub level-all : (p q : PathRecord) (d d' : Device) (level n : ℕ) (old new : Op
 level-all p q d d' level n old new whole all u = record {
   same = u.same;
   bad = u.bad;
-  are = subst (λ (m : ℕ). AreBad (λ image. bad_of_level (tree_at p) image level m) d d' u.bad) all u.are;
+  are = subst (λ (m : ℕ). AreBad (λ image. bad_of_level (tree_of_path p) image level m) d d' u.bad) all u.are;
   whole_is = u.whole_is;
   printed_are = u.printed_are;
 }
@@ -177,25 +177,25 @@ level-all p q d d' level n old new whole all u = record {
 
 module _ (p q r : PathRecord) (d d' d'' : Device) (above l : ℕ) (old now new : Option (List ℕ)) (whole good : Bool) (is : above ≡ l + 1) (u : IsSayingTree p q d d' above old now whole) (over : IsReadOver d' d'') (h : SaysLevel q r d' d'' l now new good) where
   abbrev higher : List HashBlock
-  higher = bad_of_levels (tree_at p) d.image (levels p.shape - above)
+  higher = bad_of_levels (tree_of_path p) d.image (levels p.shape - above)
 
   abbrev there : List HashBlock
-  there = bad_of_level (tree_at p) d.image l (level_blocks p.shape l)
+  there = bad_of_level (tree_of_path p) d.image l (level_blocks p.shape l)
 
-  levels-more : bad_of_levels (tree_at p) d.image (levels p.shape - l) ≡ higher ++ there
+  levels-more : bad_of_levels (tree_of_path p) d.image (levels p.shape - l) ≡ higher ++ there
   levels-more =
       let more : levels p.shape - l ≡ suc (levels p.shape - above) = omega (arith, u.high, is) in
       let down : levels p.shape - suc (levels p.shape - above) ≡ l = omega (arith, u.high, is) in
-      ap (bad_of_levels (tree_at p) d.image) more
-      ∙ ap (λ (m : ℕ). bad_of_levels (tree_at p) d.image (levels p.shape - above) ++ bad_of_level (tree_at p) d.image m (level_blocks p.shape m)) down
+      ap (bad_of_levels (tree_of_path p) d.image) more
+      ∙ ap (λ (m : ℕ). bad_of_levels (tree_of_path p) d.image (levels p.shape - above) ++ bad_of_level (tree_of_path p) d.image m (level_blocks p.shape m)) down
 
-  level-same : IsTrue d.steady → bad_of_level (tree_at q) d'.image l (level_blocks q.shape l) ≡ there
+  level-same : IsTrue d.steady → bad_of_level (tree_of_path q) d'.image l (level_blocks q.shape l) ≡ there
   level-same steady =
-      ap (λ (s : ShapeRecord). bad_of_level (tree_at q) d'.image l (level_blocks s l)) u.same.shape_is
+      ap (λ (s : ShapeRecord). bad_of_level (tree_of_path q) d'.image l (level_blocks s l)) u.same.shape_is
       ∙ ap (λ (t : Tree). bad_of_level t d'.image l (level_blocks p.shape l)) (tree-same p q u.same)
-      ∙ ap (λ (im : List (List ℕ)). bad_of_level (tree_at p) im l (level_blocks p.shape l)) (u.over.read.image steady)
+      ∙ ap (λ (im : List (List ℕ)). bad_of_level (tree_of_path p) im l (level_blocks p.shape l)) (u.over.read.image steady)
 
-  tree-stored : IsTrue d.steady → (u.bad ++ h.bad ≡ bad_of_levels (tree_at p) d.image (levels p.shape - l)) ⊎ HasFailedRead d d''
+  tree-stored : IsTrue d.steady → (u.bad ++ h.bad ≡ bad_of_levels (tree_of_path p) d.image (levels p.shape - l)) ⊎ HasFailedRead d d''
   tree-stored steady = elim (u.are.stored steady) [
     | inr failed ↦ inr (failed-more d failed over)
     | inl e ↦
@@ -205,10 +205,10 @@ module _ (p q r : PathRecord) (d d' d'' : Device) (above l : ℕ) (old now new :
         ]
   ]
 
-  tree-within : IsTrue d.steady → IsWithin (bad_of_levels (tree_at p) d.image (levels p.shape - l)) (u.bad ++ h.bad)
+  tree-within : IsTrue d.steady → AreWithinHashes (bad_of_levels (tree_of_path p) d.image (levels p.shape - l)) (u.bad ++ h.bad)
   tree-within steady =
-      subst (λ (xs : List HashBlock). IsWithin xs (u.bad ++ h.bad)) (sym levels-more)
-      (within-append higher there u.bad h.bad (u.are.all steady) (subst (λ (xs : List HashBlock). IsWithin xs h.bad) (level-same steady) (h.are.all (steady-then u.over.read.same steady))))
+      subst (λ (xs : List HashBlock). AreWithinHashes xs (u.bad ++ h.bad)) (sym levels-more)
+      (within-append higher there u.bad h.bad (u.are.all steady) (subst (λ (xs : List HashBlock). AreWithinHashes xs h.bad) (level-same steady) (h.are.all (steady-then u.over.read.same steady))))
 
   pub tree-next : IsSayingTree p r d d'' l old new (whole && good)
   tree-next = record {
@@ -221,11 +221,11 @@ module _ (p q r : PathRecord) (d d' d'' : Device) (above l : ℕ) (old now new :
     printed_are = subst (Appends old new) (sym (lines-append u.bad h.bad)) (Appends-trans old now new (hash_lines u.bad) (hash_lines h.bad) u.printed_are h.printed_are);
   }
 
-pub tree-all : (p q : PathRecord) (d d' : Device) (level : ℕ) (old new : Option (List ℕ)) (whole : Bool) → level ≡ 0 → IsSayingTree p q d d' level old new whole → SaysTree p d d' old new whole
+pub tree-all : (p q : PathRecord) (d d' : Device) (level : ℕ) (old new : Option (List ℕ)) (whole : Bool) → level ≡ 0 → IsSayingTree p q d d' level old new whole → TellsHashes p d d' old new whole
 tree-all p q d d' level old new whole none u =
     let all : levels p.shape - level ≡ levels p.shape = omega (arith, none) in
     record {
-      found = record { bad = u.bad; are = subst (λ (m : ℕ). AreBad (λ image. bad_of_levels (tree_at p) image m) d d' u.bad) all u.are };
+      found = record { bad = u.bad; are = subst (λ (m : ℕ). AreBad (λ image. bad_of_levels (tree_of_path p) image m) d d' u.bad) all u.are };
       whole_is = u.whole_is;
       printed_are = u.printed_are;
     }

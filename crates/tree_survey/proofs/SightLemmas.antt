@@ -20,9 +20,9 @@ use Rattle.tree_path.proofs.lemmas.PathLemmas.{digest_on-along, digest_on-stored
 use Rattle.tree_path.proofs.lemmas.SpanLemmas.{behind, lower-mod, power-least}
 use Rattle.tree_runs.specs.declared.run.Kind.TheVariants.{Changed, Unknown}
 use Rattle.tree_survey.specs.declared.sight.Sight.{Sight}
-use Rattle.tree_survey.specs.Paths.{IsCutOff}
-use Rattle.tree_survey.specs.Sights.{CanGo, HasGone, IsOn, IsReady, read_to, state_at, state_with}
-use Rattle.tree_survey.specs.Surveys.{AllStand, IsLedTo, IsSeenAs, IsStoredBy, IsUnknownAt, IsUnreadAs, IsWay, Tree}
+use Rattle.tree_survey.specs.Paths.{IsWayCutOff}
+use Rattle.tree_survey.specs.Sights.{CanGoDown, HasGone, IsOnWay, IsReady, read_to, state_at, state_with}
+use Rattle.tree_survey.specs.Surveys.{AllStand, IsLedTo, IsContentSeenAs, IsStoredBy, IsUnknownAt, IsUnreadAs, IsWay, Tree}
 
 -- ---- the hash blocks that were read
 
@@ -33,7 +33,7 @@ read-between false n = (omega arith, omega arith)
 
 module _ (w : Sight) (q : PathRecord) (d d' : Device) (i top : ℕ) where
   -- all of them are good
-  pub gone-down : CanGo w d i → IsTopAt (per_block w.path.shape) (levels w.path.shape) i top → w.good ≤ top → IsDown (steps w.path q d d' i top) 0 0
+  pub gone-down : CanGoDown w d i → IsTopAt (per_block w.path.shape) (levels w.path.shape) i top → w.good ≤ top → IsDown (steps w.path q d d' i top) 0 0
       → HasGone w (record { path = q; shape = w.shape; good = 0; unread = false }) d d' i
   gone-down can is low down = record {
     same = down.same;
@@ -48,7 +48,7 @@ module _ (w : Sight) (q : PathRecord) (d d' : Device) (i top : ℕ) where
   }
 
   -- one of them isn't
-  pub gone-stopped : (level : ℕ) → CanGo w d i → IsTopAt (per_block w.path.shape) (levels w.path.shape) i top → w.good ≤ top → IsStopped (steps w.path q d d' i top) 0 level
+  pub gone-stopped : (level : ℕ) → CanGoDown w d i → IsTopAt (per_block w.path.shape) (levels w.path.shape) i top → w.good ≤ top → IsStopped (steps w.path q d d' i top) 0 level
       → HasGone w (record { path = q; shape = w.shape; good = level + 1; unread = false }) d d' i
   gone-stopped level can is low stopped =
       let same : level + 1 - 1 ≡ level = omega arith in
@@ -65,7 +65,7 @@ module _ (w : Sight) (q : PathRecord) (d d' : Device) (i top : ℕ) where
       }
 
   -- one of them couldn't be read
-  pub gone-cut : (level : ℕ) → CanGo w d i → IsTopAt (per_block w.path.shape) (levels w.path.shape) i top → w.good ≤ top → IsCutOff (steps w.path q d d' i top) level
+  pub gone-cut : (level : ℕ) → CanGoDown w d i → IsTopAt (per_block w.path.shape) (levels w.path.shape) i top → w.good ≤ top → IsWayCutOff (steps w.path q d d' i top) level
       → HasGone w (record { path = q; shape = w.shape; good = level + 1; unread = true }) d d' i
   gone-cut level can is low cut = record {
     same = cut.down.same;
@@ -81,7 +81,7 @@ module _ (w : Sight) (q : PathRecord) (d d' : Device) (i top : ℕ) where
 
 -- ---- a device that was read
 
-pub on-was : (w : Sight) (d d' : Device) (i : ℕ) → IsOnlyRead d d' → IsOn w d' i → IsOn w d i
+pub on-was : (w : Sight) (d d' : Device) (i : ℕ) → IsOnlyRead d d' → IsOnWay w d' i → IsOnWay w d i
 on-was w d d' i read on = record {
   few = on.few;
   leads = on.leads;
@@ -89,7 +89,7 @@ on-was w d d' i read on = record {
   stored = λ steady. subst (λ (im : List (List ℕ)). AreStored w.path im i (read_to w)) (read.image steady) (on.stored (steady-then read.same steady));
 }
 
-pub on-read : (w : Sight) (d d' : Device) (i : ℕ) → IsOnlyRead d d' → IsOn w d i → IsOn w d' i
+pub on-read : (w : Sight) (d d' : Device) (i : ℕ) → IsOnlyRead d d' → IsOnWay w d i → IsOnWay w d' i
 on-read w d d' i read on = record {
   few = on.few;
   leads = on.leads;
@@ -148,7 +148,7 @@ module _ (s : ShapeRecord) (valid : IsShape s) (i top : ℕ) (inside : i + 1 < s
         ancestor-is s m i ∙ sym (behind (per_block s) some i 0 m (omega arith) whole apart) ∙ ap (λ (n : ℕ). n / per_block s ^ m) one ∙ sym (ancestor-is s m (i + 1))
   ]
 
-module _ (w : Sight) (valid : IsShape w.path.shape) (d : Device) (i : ℕ) (inside : i + 1 < w.path.shape.blocks) (on : IsOn w d i) where
+module _ (w : Sight) (valid : IsShape w.path.shape) (d : Device) (i : ℕ) (inside : i + 1 < w.path.shape.blocks) (on : IsOnWay w d i) where
   pub ready-next : IsReady w d (i + 1)
   ready-next = record {
     stays = λ top is low.
@@ -188,7 +188,7 @@ not-positive n e = elim (cases_lt 0 n) [
   | inr not ↦ omega (arith, not)
 ]
 
-module _ (t : Tree) (w : Sight) (d : Device) (i : ℕ) (is : IsPathOf t.shape t.salt t.root w.path) (on : IsOn w d i) (data_failed hash_failed : Type 0) (unread : w.unread ≡ true → hash_failed) (content : List ℕ) where
+module _ (t : Tree) (w : Sight) (d : Device) (i : ℕ) (is : IsPathOf t.shape t.salt t.root w.path) (on : IsOnWay w d i) (data_failed hash_failed : Type 0) (unread : w.unread ≡ true → hash_failed) (content : List ℕ) where
   way : IsWay t i w.good w.path
   way = record { is = is; few = omega (arith, on.few, ap levels is.shape_is); leads = on.leads }
 
@@ -219,21 +219,21 @@ module _ (t : Tree) (w : Sight) (d : Device) (i : ℕ) (is : IsPathOf t.shape t.
   way0 : w.good ≡ 0 → IsWay t i 0 w.path
   way0 none = subst (λ (k : ℕ). IsWay t i k w.path) none way
 
-  digest-seen : (found : List ℕ) (e : Bool) → w.good ≡ 0 → found ≡ digest t.salt content → bytes_eq found (digest_on w.path i 0) ≡ e → IsSeenAs t i content (cond e None (Some Changed))
+  digest-seen : (found : List ℕ) (e : Bool) → w.good ≡ 0 → found ≡ digest t.salt content → bytes_eq found (digest_on w.path i 0) ≡ e → IsContentSeenAs t i content (cond e None (Some Changed))
   digest-seen found true none h e = (w.path, (way0 none, sym h ∙ (bytes_eq-Decides found (digest_on w.path i 0)).0 e))
   digest-seen found false none h e = (w.path, (way0 none, λ same. false≢true (sym e ∙ (bytes_eq-Decides found (digest_on w.path i 0)).1 (h ∙ same))))
 
   seen-by : (found : Option (List ℕ)) (b : Bool) → IsDigestOr data_failed t.salt content found → ltb 0 w.good ≡ b
-      → IsSeenAs t i content (cond b (Some Unknown) (state_with w.path i found)) ⊎ IsUnreadAs t (IsLedTo t i) data_failed hash_failed (cond b (Some Unknown) (state_with w.path i found))
+      → IsContentSeenAs t i content (cond b (Some Unknown) (state_with w.path i found)) ⊎ IsUnreadAs t (IsLedTo t i) data_failed hash_failed (cond b (Some Unknown) (state_with w.path i found))
   seen-by found true h bad = unknown-seen w.unread refl (positive w.good bad)
   seen-by (Some x) false h bad = digest-told (bytes_eq x (digest_on w.path i 0)) refl
     where
-      digest-told : (e : Bool) → bytes_eq x (digest_on w.path i 0) ≡ e → IsSeenAs t i content (cond e None (Some Changed)) ⊎ IsUnreadAs t (IsLedTo t i) data_failed hash_failed (cond e None (Some Changed))
+      digest-told : (e : Bool) → bytes_eq x (digest_on w.path i 0) ≡ e → IsContentSeenAs t i content (cond e None (Some Changed)) ⊎ IsUnreadAs t (IsLedTo t i) data_failed hash_failed (cond e None (Some Changed))
       digest-told e test = inl (digest-seen x e (not-positive w.good bad) h test)
   seen-by None false h bad = inr ((w.path, way0 (not-positive w.good bad)), h)
 
   pub seen-at : (found : Option (List ℕ)) → IsDigestOr data_failed t.salt content found
-      → IsSeenAs t i content (state_at w i found) ⊎ IsUnreadAs t (IsLedTo t i) data_failed hash_failed (state_at w i found)
+      → IsContentSeenAs t i content (state_at w i found) ⊎ IsUnreadAs t (IsLedTo t i) data_failed hash_failed (state_at w i found)
   seen-at found h = seen-by found (ltb 0 w.good) h refl
 
   -- ---- over a steady device

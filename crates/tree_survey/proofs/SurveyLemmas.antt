@@ -13,13 +13,13 @@ use Rattle.tree_survey.specs.declared.fault.SurveyFault.{SurveyFault}
 use Rattle.tree_survey.specs.declared.fault.SurveyFault.TheVariants.{Image, Write}
 use Rattle.tree_survey.specs.Causes.{IsImageCause, IsPassCause, IsSurveyCause}
 use Rattle.tree_survey.specs.Failing.{HasFailedRead, IsReadOver}
-use Rattle.tree_survey.specs.Hashes.{AreBad, HashesFound, IsWithin, bad_of_levels, tree_at}
-use Rattle.tree_survey.specs.Passes.{IsHidden, Surveys, pass, tree_of}
-use Rattle.tree_survey.specs.Surveys.{AllStand, IsLedTo, IsStoredAs, Tree}
+use Rattle.tree_survey.specs.Hashes.{AreBad, HashesFound, AreWithinHashes, bad_of_levels, tree_of_path}
+use Rattle.tree_survey.specs.Passes.{IsHidden, Surveys, pass, super_tree}
+use Rattle.tree_survey.specs.Surveys.{AllStand, IsLedTo, IsContentStoredAs, Tree}
 use Rattle.tree_survey.proofs.FailingLemmas.{failed-later, failed-more, or-more}
 
 -- the tree of a path
-pub tree-of : (s : SuperRecord) (root : List ℕ) (p : PathRecord) → IsPathOf (shape_of s) s.salt root p → tree_at p ≡ tree_of s root
+pub tree-of : (s : SuperRecord) (root : List ℕ) (p : PathRecord) → IsPathOf (shape_of s) s.salt root p → tree_of_path p ≡ super_tree s root
 tree-of s root p is =
     let f : ShapeRecord → List ℕ → List ℕ → Tree = λ h x r. record { shape = h; salt = x; root = r } in
     ap (λ (h : ShapeRecord). f h p.salt p.root) is.shape_is ∙ ap (λ (x : List ℕ). f (shape_of s) x p.root) is.salt_is ∙ ap (f (shape_of s) s.salt) is.root_is
@@ -48,7 +48,7 @@ module _ (t u : Tree) (d h h' d' h'' last : Device) (same : u ≡ t) (read : IsR
           seen = λ i low. or-more _ _ _ (hidden-was old new (IsLedTo t i) (get_or s.states i None)) (s.seen.seen i low);
           stored = λ steady steady' i low.
               or-more _ _ _ (hidden-was old new (AllStand t h.image i) (get_or s.states i None))
-              (subst (λ (im : List (List ℕ)). IsStoredAs t d.image im i (get_or s.states i None) ⊎ IsHidden t (pass d h' d' h'' old new) (AllStand t im i) (get_or s.states i None)) (read.read.image steady')
+              (subst (λ (im : List (List ℕ)). IsContentStoredAs t d.image im i (get_or s.states i None) ⊎ IsHidden t (pass d h' d' h'' old new) (AllStand t im i) (get_or s.states i None)) (read.read.image steady')
               (s.seen.stored steady (steady-then read.read.same steady') i low));
         };
         totals_are = s.totals_are;
@@ -61,7 +61,7 @@ pub hashes-were : (t u : Tree) (h h' last : Device) → u ≡ t → IsReadOver h
 hashes-were t u h h' last same read behind f =
     let bads : AreBad (λ image. bad_of_levels t image (levels t.shape)) h' last f.bad = subst (λ (x : Tree). AreBad (λ image. bad_of_levels x image (levels x.shape)) h' last f.bad) same f.are in
     record {
-      all = λ steady. subst (λ (im : List (List ℕ)). IsWithin (bad_of_levels t im (levels t.shape)) f.bad) (read.read.image steady) (bads.all (steady-then read.read.same steady));
+      all = λ steady. subst (λ (im : List (List ℕ)). AreWithinHashes (bad_of_levels t im (levels t.shape)) f.bad) (read.read.image steady) (bads.all (steady-then read.read.same steady));
       stored = λ steady. subst (λ (im : List (List ℕ)). (f.bad ≡ bad_of_levels t im (levels t.shape)) ⊎ HasFailedRead h last) (read.read.image steady)
           (or-more _ _ _ (λ failed. failed-later read behind failed) (bads.stored (steady-then read.read.same steady)));
     }

@@ -13,8 +13,8 @@ use Rattle.verity_format.specs.Image.{tree_sectors}
 use Rattle.tree_path.specs.Path.{IsPathOf}
 use Rattle.tree_runs.specs.declared.run.Kind.{Kind}
 use Rattle.tree_runs.specs.declared.run.Kind.TheVariants.{Changed, Unknown, Removed, Added}
-use Rattle.tree_runs.specs.Limits.{begun, lines_of}
-use Rattle.tree_runs.specs.Runs.{State, count_of, is_state, weight}
+use Rattle.tree_runs.specs.Limits.{begun, limited_lines}
+use Rattle.tree_runs.specs.Runs.{State, count_of, is_state, one_if}
 use Rattle.tree_runs.specs.Tallies.{EndsAt, listed}
 use Rattle.tree_runs.proofs.lemmas.ListingLemmas.{IsListed, listed-all, listed-ends, listed-had, listed-none, listed-run}
 use Rattle.tree_runs.proofs.lemmas.RunLemmas.{count_of-append}
@@ -24,8 +24,8 @@ use Rattle.tree_survey.specs.declared.sight.Sight.{Sight}
 use Rattle.tree_survey.specs.Counts.{AreFew, IsAdded, closed_at, counted, good_of, totals_of}
 use Rattle.tree_survey.specs.Passes.{CanPass, Surveys, pass, tree_in}
 use Rattle.tree_survey.specs.Failing.{HasFailedRead, IsReadOver, IsReadThrough}
-use Rattle.tree_survey.specs.Sights.{CanGo, HasGone, IsOn, IsReady, state_at}
-use Rattle.tree_survey.specs.Surveys.{AllStand, IsLedTo, IsSeenAs, IsStoredBy, IsUnreadAs, Tree}
+use Rattle.tree_survey.specs.Sights.{CanGoDown, HasGone, IsOnWay, IsReady, state_at}
+use Rattle.tree_survey.specs.Surveys.{AllStand, IsLedTo, IsContentSeenAs, IsStoredBy, IsUnreadAs, Tree}
 use Rattle.tree_survey.proofs.FailingLemmas.{failed-later, failed-more, or-more, over-none, over-then}
 use Rattle.tree_survey.proofs.HashLemmas.{path-none}
 use Rattle.tree_survey.proofs.SightLemmas.{IsDigestOr, on-was, ready-next, ready-none, ready-read, seen-at, stored-at}
@@ -42,7 +42,7 @@ pub record IsUnderway (t : Tree) (data_dev hash_dev data_dev' hash_dev' : Device
   pub also : at ≡ length states
   pub over : IsTrue data_dev.steady → contents ≡ blocks_at data_dev.image t.shape.data_block 0 at
   pub seen : (i : ℕ) → i < at
-      → IsSeenAs t i (get_or contents i []) (get_or states i None) ⊎ IsUnreadAs t (IsLedTo t i) (HasFailedRead data_dev data_dev') (HasFailedRead hash_dev hash_dev') (get_or states i None)
+      → IsContentSeenAs t i (get_or contents i []) (get_or states i None) ⊎ IsUnreadAs t (IsLedTo t i) (HasFailedRead data_dev data_dev') (HasFailedRead hash_dev hash_dev') (get_or states i None)
   pub stored : IsTrue hash_dev.steady → (i : ℕ) → i < at
       → IsStoredBy t hash_dev.image i (digest t.salt (get_or contents i [])) (get_or states i None)
       ⊎ IsUnreadAs t (AllStand t hash_dev.image i) (HasFailedRead data_dev data_dev') (HasFailedRead hash_dev hash_dev') (get_or states i None)
@@ -147,7 +147,7 @@ good-few [] = omega arith
 good-few (None ∷ more) = omega (arith, good-few more)
 good-few (Some kind ∷ more) = omega (arith, good-few more)
 
-weight-few : (b : Bool) → weight b ≤ 1
+weight-few : (b : Bool) → one_if b ≤ 1
 weight-few true = omega arith
 weight-few false = omega arith
 
@@ -156,7 +156,7 @@ count-few kind [] = omega arith
 count-few kind (state ∷ more) = omega (arith, weight-few (is_state kind state), count-few kind more)
 
 listed-next : (states : List State) (state : State) (g g' : Counts) (old now new : Option (List ℕ)) (at : ℕ) → at ≡ length states → IsListed None states g.tally old now
-    → Appends now new (lines_of g.tally.limit (closed_at g.tally.last at state)) → IsAdded g g' at state → IsListed None (states ++ state ∷ []) g'.tally old new
+    → Appends now new (limited_lines g.tally.limit (closed_at g.tally.last at state)) → IsAdded g g' at state → IsListed None (states ++ state ∷ []) g'.tally old new
 listed-next states None g g' old now new at is t told added = listed-had None states g.tally g'.tally old now new 1 (omega arith) t told added.last added.limit
 listed-next states (Some kind) g g' old now new at is t told added = listed-run None states g.tally g'.tally old now new at 1 kind is (omega arith) t told added.last added.limit
 
@@ -175,7 +175,7 @@ module _ (t : Tree) (valid : IsShape t.shape) (data_dev hash_dev data_dev' hash_
       unknown = omega (arith, few, count-few Unknown u.states, u.also);
     })
 
-    pub can-go : tree_sectors t.shape ≤ hash_dev.size → CanGo w hash_dev' at
+    pub can-go : tree_sectors t.shape ≤ hash_dev.size → CanGoDown w hash_dev' at
     can-go fits = record {
       index = omega (arith, low, ap (λ (s : ShapeRecord). s.blocks) u.is_of.shape_is);
       fits = omega (arith, fits, u.hash_over.read.same.size, ap tree_sectors u.is_of.shape_is);
@@ -196,11 +196,11 @@ module _ (t : Tree) (valid : IsShape t.shape) (data_dev hash_dev data_dev' hash_
         | inr failed ↦ failed-later u.hash_over hash_read failed
       ]
 
-      on : IsOn w' hash_dev at
+      on : IsOnWay w' hash_dev at
       on = on-was w' hash_dev hash_dev' at u.hash_over.read gone.on
 
       abbrev Seen : ℕ → List ℕ → State → Type 0
-      Seen i x state = IsSeenAs t i x state ⊎ IsUnreadAs t (IsLedTo t i) (HasFailedRead data_dev data_dev'') (HasFailedRead hash_dev hash_dev'') state
+      Seen i x state = IsContentSeenAs t i x state ⊎ IsUnreadAs t (IsLedTo t i) (HasFailedRead data_dev data_dev'') (HasFailedRead hash_dev hash_dev'') state
 
       abbrev Stored : ℕ → List ℕ → State → Type 0
       Stored i x state = IsStoredBy t hash_dev.image i (digest t.salt x) state ⊎ IsUnreadAs t (AllStand t hash_dev.image i) (HasFailedRead data_dev data_dev'') (HasFailedRead hash_dev hash_dev'') state
@@ -221,7 +221,7 @@ module _ (t : Tree) (valid : IsShape t.shape) (data_dev hash_dev data_dev' hash_
 
       -- one data block more
       pub underway-next : (g' : Counts) (new : Option (List ℕ)) → (IsTrue data_dev.steady → content ≡ block_at data_dev.image t.shape.data_block at)
-          → Appends now new (lines_of g.tally.limit (closed_at g.tally.last at (state_at w' at found))) → IsAdded g g' at (state_at w' at found)
+          → Appends now new (limited_lines g.tally.limit (closed_at g.tally.last at (state_at w' at found))) → IsAdded g g' at (state_at w' at found)
           → IsUnderway t data_dev hash_dev data_dev'' hash_dev'' old new w' g' (at + 1)
       unfolding later underway-more
       underway-next g' new over printed added =
@@ -249,7 +249,7 @@ module _ (t : Tree) (valid : IsShape t.shape) (data_dev hash_dev data_dev' hash_
           }
 
   -- all of them
-  pub underway-all : (new : Option (List ℕ)) → at ≡ t.shape.blocks → IsReadThrough data_dev (at * (t.shape.data_block / 512)) data_dev' → Appends now new (lines_of g.tally.limit (listed g.tally.last))
+  pub underway-all : (new : Option (List ℕ)) → at ≡ t.shape.blocks → IsReadThrough data_dev (at * (t.shape.data_block / 512)) data_dev' → Appends now new (limited_lines g.tally.limit (listed g.tally.last))
       → Surveys t (pass data_dev hash_dev data_dev' hash_dev' old new) g.totals
   underway-all new all full told =
       let over' : IsTrue data_dev.steady → u.contents ≡ blocks_at data_dev.image t.shape.data_block 0 t.shape.blocks = λ steady. u.over steady ∙ ap (blocks_at data_dev.image t.shape.data_block 0) all in

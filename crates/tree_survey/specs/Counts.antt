@@ -3,7 +3,7 @@ use Rattle.std.specs.Prelude.{◌≡◌, ℕ, suc, ◌+◌, ◌^◌, ◌<◌, Li
 use Rattle.tree_runs.specs.declared.run.Kind.TheVariants.{Changed, Unknown}
 use Rattle.tree_runs.specs.declared.run.Run.{Run}
 use Rattle.tree_runs.specs.declared.tally.Tally.{Tally}
-use Rattle.tree_runs.specs.Limits.{begun, limit_after, lines_of}
+use Rattle.tree_runs.specs.Limits.{begun, limit_after, limited_lines}
 use Rattle.tree_runs.specs.Runs.{State, count_of, run}
 use Rattle.tree_runs.specs.Tallies.{closed_by, listed, opened_by}
 use Rattle.tree_survey.specs.declared.counts.Counts.{Counts}
@@ -41,7 +41,7 @@ opened_at last i (Some kind) = Some (opened_by last (run i 1 kind))
 
 -- what is told of the runs that it ends
 abbrev pub lines_at : Tally → ℕ → State → List ℕ
-lines_at tally i state = lines_of tally.limit (closed_at tally.last i state)
+lines_at tally i state = limited_lines tally.limit (closed_at tally.last i state)
 
 -- no data block was added
 abbrev pub none_yet : Counts

@@ -22,8 +22,8 @@ abbrev pub hash_line : HashBlock → List ℕ
 hash_line b = hash_text b.level b.number
 
 -- that of one alone
-abbrev pub line_at : ℕ → ℕ → List ℕ
-line_at level number = hash_line (record { level = level; number = number })
+abbrev pub hash_line_at : ℕ → ℕ → List ℕ
+hash_line_at level number = hash_line (record { level = level; number = number })
 
 abbrev pub hash_lines : List HashBlock → List ℕ
 hash_lines blocks = flat_map hash_line blocks
@@ -56,15 +56,15 @@ bad_of_levels t image zero = []
 bad_of_levels t image (suc k) = bad_of_levels t image k ++ bad_of_level t image (levels t.shape - suc k) (level_blocks t.shape (levels t.shape - suc k))
 
 -- one list has all that another has, in that order
-abbrev pub IsWithin : List HashBlock → List HashBlock → Type 0
-IsWithin [] ys = Unit {0}
-IsWithin (x ∷ xs) [] = ⊥
-IsWithin (x ∷ xs) (y ∷ ys) = ((x ≡ y) × IsWithin xs ys) ⊎ IsWithin (x ∷ xs) ys
+abbrev pub AreWithinHashes : List HashBlock → List HashBlock → Type 0
+AreWithinHashes [] ys = Unit {0}
+AreWithinHashes (x ∷ xs) [] = ⊥
+AreWithinHashes (x ∷ xs) (y ∷ ys) = ((x ≡ y) × AreWithinHashes xs ys) ⊎ AreWithinHashes (x ∷ xs) ys
 
 -- Hash blocks of those that were read. Over a steady device each of the bad ones is among them; they are exactly these, or
 -- a read failed.
 pub record AreBad (bad_ones : List (List ℕ) → List HashBlock) (device device' : Device) (bad : List HashBlock) : Type 0 where
-  pub all : IsTrue device.steady → IsWithin (bad_ones device.image) bad
+  pub all : IsTrue device.steady → AreWithinHashes (bad_ones device.image) bad
   pub stored : IsTrue device.steady → (bad ≡ bad_ones device.image) ⊎ HasFailedRead device device'
 
 -- Hash blocks of the tree. Over a steady device all are there whose digest doesn't stand above them, and no others unless a
@@ -75,10 +75,10 @@ pub record HashesFound (t : Tree) (device device' : Device) : Type 0 where
 
 -- ---- one after another
 
-abbrev pub tree_at : PathRecord → Tree
-tree_at p = record { shape = p.shape; salt = p.salt; root = p.root }
+abbrev pub tree_of_path : PathRecord → Tree
+tree_of_path p = record { shape = p.shape; salt = p.salt; root = p.root }
 
-pub record CanCompare (p : PathRecord) (shape : ShapeRecord) (device : Device) : Type 0 where
+pub record CanCompareHashes (p : PathRecord) (shape : ShapeRecord) (device : Device) : Type 0 where
   pub valid : IsShape p.shape
   pub shape_is : shape ≡ p.shape
   pub fits : tree_sectors p.shape ≤ device.size
@@ -92,17 +92,17 @@ pub record IsAbove (old new : PathRecord) (device device' : Device) (l i : ℕ) 
 -- And that of level l, which is good, or not; where one of the two couldn't be read it isn't seen to be good.
 pub record IsCompared (old new : PathRecord) (device device' : Device) (l i : ℕ) (good : Bool) : Type 0 where
   pub same : IsPathOf old.shape old.salt old.root new
-  pub stored : IsTrue device.steady → (good ≡ is_good_on (tree_at old) device.image l i) ⊎ ((good ≡ false) × HasFailedRead device device')
+  pub stored : IsTrue device.steady → (good ≡ is_good_on (tree_of_path old) device.image l i) ⊎ ((good ≡ false) × HasFailedRead device device')
 
 pub record SaysLevel (old new : PathRecord) (device device' : Device) (l : ℕ) (printed printed' : Option (List ℕ)) (whole : Bool) : Type 0 where
   pub same : IsPathOf old.shape old.salt old.root new
   pub bad : List HashBlock
-  pub are : AreBad (λ image. bad_of_level (tree_at old) image l (level_blocks old.shape l)) device device' bad
+  pub are : AreBad (λ image. bad_of_level (tree_of_path old) image l (level_blocks old.shape l)) device device' bad
   pub whole_is : whole ≡ is_whole bad
   pub printed_are : Appends printed printed' (hash_lines bad)
 
-pub record SaysTree (old : PathRecord) (device device' : Device) (printed printed' : Option (List ℕ)) (whole : Bool) : Type 0 where
-  pub found : HashesFound (tree_at old) device device'
+pub record TellsHashes (old : PathRecord) (device device' : Device) (printed printed' : Option (List ℕ)) (whole : Bool) : Type 0 where
+  pub found : HashesFound (tree_of_path old) device device'
   pub whole_is : whole ≡ is_whole found.bad
   pub printed_are : Appends printed printed' (hash_lines found.bad)
 
@@ -111,4 +111,4 @@ abbrev pub TellsBad : {H L : Type 0} → (H → Device) → (L → Option (List 
 TellsBad state told old new h h' level l l' whole = SaysLevel old new (state h) (state h') level (told l) (told l') whole
 
 abbrev pub TellsTree : {H L : Type 0} → (H → Device) → (L → Option (List ℕ)) → PathRecord → H → H → L → L → Bool → Type 0
-TellsTree state told old h h' l l' whole = SaysTree old (state h) (state h') (told l) (told l') whole
+TellsTree state told old h h' l l' whole = TellsHashes old (state h) (state h') (told l) (told l') whole

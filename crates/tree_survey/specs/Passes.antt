@@ -17,7 +17,7 @@ use Rattle.tree_survey.specs.Causes.{AreImages}
 use Rattle.tree_survey.specs.Counts.{totals_of}
 use Rattle.tree_survey.specs.Failing.{HasFailedRead, IsReadOver, IsReadThrough}
 use Rattle.tree_survey.specs.Hashes.{HashesFound, hash_lines, is_whole}
-use Rattle.tree_survey.specs.Surveys.{AllStand, IsLedTo, IsSeenAs, IsStoredAs, IsUnreadAs, Tree}
+use Rattle.tree_survey.specs.Surveys.{AllStand, IsLedTo, IsContentSeenAs, IsContentStoredAs, IsUnreadAs, Tree}
 
 -- two devices before and after, and what was printed, where that is known
 pub record Pass : Type 0 where
@@ -61,9 +61,9 @@ pub record AreSeen (t : Tree) (w : Pass) (states : List State) : Type 0 where
   pub all : length contents ≡ t.shape.blocks
   pub over : IsTrue w.data_dev.steady → contents ≡ blocks_at w.data_dev.image t.shape.data_block 0 t.shape.blocks
   pub seen : (i : ℕ) → i < t.shape.blocks
-      → IsSeenAs t i (slice_index_or contents i []) (slice_index_or states i None) ⊎ IsHidden t w (IsLedTo t i) (slice_index_or states i None)
+      → IsContentSeenAs t i (slice_index_or contents i []) (slice_index_or states i None) ⊎ IsHidden t w (IsLedTo t i) (slice_index_or states i None)
   pub stored : IsTrue w.data_dev.steady → IsTrue w.hash_dev.steady → (i : ℕ) → i < t.shape.blocks
-      → IsStoredAs t w.data_dev.image w.hash_dev.image i (slice_index_or states i None) ⊎ IsHidden t w (AllStand t w.hash_dev.image i) (slice_index_or states i None)
+      → IsContentStoredAs t w.data_dev.image w.hash_dev.image i (slice_index_or states i None) ⊎ IsHidden t w (AllStand t w.hash_dev.image i) (slice_index_or states i None)
 
 -- Each data block was read once, or a read failed. A line was printed for each longest run of those that aren't good.
 pub record Surveys (t : Tree) (w : Pass) (totals : Totals) : Type 0 where
@@ -74,8 +74,8 @@ pub record Surveys (t : Tree) (w : Pass) (totals : Totals) : Type 0 where
   pub data_read : IsReadThrough w.data_dev (data_sectors t.shape) w.data_dev'
 
 -- the tree of a superblock under a root
-abbrev pub tree_of : SuperRecord → List ℕ → Tree
-tree_of s root = record { shape = shape_of s; salt = s.salt; root = root }
+abbrev pub super_tree : SuperRecord → List ℕ → Tree
+super_tree s root = record { shape = shape_of s; salt = s.salt; root = root }
 
 -- The superblock was read, and then all data blocks and all hash blocks. Behind the lines of runs of data blocks come those
 -- of hash blocks.
@@ -83,12 +83,12 @@ pub record IsSurvey (w : Pass) (root : List ℕ) (found : Survey) : Type 0 where
   pub s : SuperRecord
   pub images : AreImages w.data_dev w.hash_dev s
   pub between : Option (List ℕ)
-  pub surveys : Surveys (tree_of s root) (record w { printed' = between }) found.totals
-  pub hashes : HashesFound (tree_of s root) w.hash_dev w.hash_dev'
+  pub surveys : Surveys (super_tree s root) (record w { printed' = between }) found.totals
+  pub hashes : HashesFound (super_tree s root) w.hash_dev w.hash_dev'
   pub hash_read : IsReadOver w.hash_dev w.hash_dev'
   pub whole : found.whole_tree ≡ is_whole hashes.bad
   pub printed_are : Appends between w.printed' (hash_lines hashes.bad)
 
 -- what a proof sees of the devices and of what was told, before and after
-abbrev pub seen : {D H L : Type 0} → (D → Device) → (H → Device) → (L → Option (List ℕ)) → D → H → D → H → L → L → Pass
-seen data_state hash_state told d h d' h' l l' = pass (data_state d) (hash_state h) (data_state d') (hash_state h') (told l) (told l')
+abbrev pub seen_pass : {D H L : Type 0} → (D → Device) → (H → Device) → (L → Option (List ℕ)) → D → H → D → H → L → L → Pass
+seen_pass data_state hash_state told d h d' h' l l' = pass (data_state d) (hash_state h) (data_state d') (hash_state h') (told l) (told l')

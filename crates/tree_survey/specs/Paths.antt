@@ -1,7 +1,7 @@
 -- Hash blocks that are read on the way down to a data block, of which some may be unreadable.
 use Rattle.std.specs.Prelude.{◌≡◌, ℕ, ◌+◌, ◌<◌, Bool, List, length, Option, Some, None, slice_set}
 use Rattle.block_device.specs.Device.{Device}
-use Rattle.tree_path.specs.Steps.{IsDown, IsLoaded, IsStopped, Steps}
+use Rattle.tree_path.specs.Steps.{IsDown, IsStepLoaded, IsStopped, Steps}
 use Rattle.tree_survey.specs.declared.path.Reach.{Reach}
 use Rattle.tree_survey.specs.declared.path.Reach.TheVariants.{All, Bad, Unread}
 use Rattle.tree_survey.specs.Failing.{HasFailedRead}
@@ -15,11 +15,11 @@ pub record IsUnloaded (w : Steps) : Type 0 where
 
 -- it was read, and is good or not; or it couldn't be
 abbrev pub IsLoadedOr : Steps → Option Bool → Type 0
-IsLoadedOr w (Some good) = IsLoaded w good
+IsLoadedOr w (Some good) = IsStepLoaded w good
 IsLoadedOr w None = IsUnloaded w
 
 -- the hash blocks of the levels below `from` down to one are good, and the one beneath that couldn't be read
-pub record IsCutOff (w : Steps) (level : ℕ) : Type 0 where
+pub record IsWayCutOff (w : Steps) (level : ℕ) : Type 0 where
   pub low : level < w.from
   pub between : Device
   pub down : IsDown (record w { device' = between }) (level + 1) (level + 1)
@@ -29,4 +29,4 @@ pub record IsCutOff (w : Steps) (level : ℕ) : Type 0 where
 abbrev pub HasReached : Steps → Reach → Type 0
 HasReached w All = IsDown w 0 0
 HasReached w (Bad level) = IsStopped w 0 level
-HasReached w (Unread level) = IsCutOff w level
+HasReached w (Unread level) = IsWayCutOff w level

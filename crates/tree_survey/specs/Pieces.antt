@@ -7,7 +7,7 @@ use Rattle.verity_format.specs.Blocks.{IsFullRead, block_at, blocks_at}
 use Rattle.tree_survey.specs.Failing.{HasFailedRead}
 
 -- n blocks of that size, of so many bytes in all, lie on the device from block first on
-pub record IsRunOn (device : Device) (block first n bytes : ℕ) : Type 0 where
+pub record LieOnDevice (device : Device) (block first n bytes : ℕ) : Type 0 where
   pub size : IsTrue (is_block_size block)
   pub some : 0 < n
   pub run : bytes ≡ n * block

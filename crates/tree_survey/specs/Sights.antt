@@ -22,7 +22,7 @@ read_to w = if w.unread then w.good else w.good - 1
 
 -- From a level up the hash blocks on the way to data block i are good, and the one below that level, where there is one and
 -- it could be read, isn't. Over a steady device those that were read are those that stand there.
-pub record IsOn (w : Sight) (device : Device) (i : ℕ) : Type 0 where
+pub record IsOnWay (w : Sight) (device : Device) (i : ℕ) : Type 0 where
   pub few : w.good ≤ levels w.path.shape
   pub leads : LeadsTo w.path i w.good
   pub bad : 0 < w.good → w.unread ≡ false → digest w.path.salt (block_of w.path (w.good - 1)) ≢ digest_on w.path i w.good
@@ -31,11 +31,11 @@ pub record IsOn (w : Sight) (device : Device) (i : ℕ) : Type 0 where
 -- Data block i is the next one, and the greatest subtree that begins there has `top` levels: the hash blocks of the
 -- levels from there up stay. If one of them isn't good, the way ends there as before.
 pub record IsReady (w : Sight) (device : Device) (i : ℕ) : Type 0 where
-  pub stays : (top : ℕ) → IsTopAt (per_block w.path.shape) (levels w.path.shape) i top → top < w.good → IsOn w device i
+  pub stays : (top : ℕ) → IsTopAt (per_block w.path.shape) (levels w.path.shape) i top → top < w.good → IsOnWay w device i
   pub leads : (top : ℕ) → IsTopAt (per_block w.path.shape) (levels w.path.shape) i top → w.good ≤ top → LeadsTo w.path i top
   pub stored : IsTrue device.steady → (top : ℕ) → IsTopAt (per_block w.path.shape) (levels w.path.shape) i top → w.good ≤ top → AreStored w.path device.image i top
 
-pub record CanGo (w : Sight) (device : Device) (i : ℕ) : Type 0 where
+pub record CanGoDown (w : Sight) (device : Device) (i : ℕ) : Type 0 where
   pub index : i < w.path.shape.blocks
   pub fits : tree_sectors w.path.shape ≤ device.size
   pub shape : w.shape ≡ w.path.shape
@@ -46,7 +46,7 @@ pub record CanGo (w : Sight) (device : Device) (i : ℕ) : Type 0 where
 pub record HasGone (old new : Sight) (device device' : Device) (i : ℕ) : Type 0 where
   pub same : IsPathOf old.path.shape old.path.salt old.path.root new.path
   pub shape : new.shape ≡ old.shape
-  pub on : IsOn new device i
+  pub on : IsOnWay new device i
   pub failed : new.unread ≡ true → (old.unread ≡ true) ⊎ HasFailedRead device device'
 
 -- what is said of a data block of that digest, if it could be read, to which good hash blocks lead

@@ -47,29 +47,29 @@ IsGoodAt t i content = IsGoodBy t i (digest t.salt content)
 abbrev pub IsChangedAt : Tree → ℕ → List ℕ → Type 0
 IsChangedAt t i content = IsChangedBy t i (digest t.salt content)
 
-abbrev pub IsSeenAs : Tree → ℕ → List ℕ → State → Type 0
-IsSeenAs t i content state = IsSeenBy t i (digest t.salt content) state
+abbrev pub IsContentSeenAs : Tree → ℕ → List ℕ → State → Type 0
+IsContentSeenAs t i content state = IsSeenBy t i (digest t.salt content) state
 
 -- ---- by what stands on steady devices
 
 -- the hash block of level l on the way to data block i has the digest that stands above it
-abbrev pub Stands : Tree → List (List ℕ) → ℕ → ℕ → Type 0
-Stands t image l i = digest t.salt (stored_block t.shape image l i) ≡ stored_digest t.shape t.root image i (l + 1)
+abbrev pub HasDigestAbove : Tree → List (List ℕ) → ℕ → ℕ → Type 0
+HasDigestAbove t image l i = digest t.salt (stored_block t.shape image l i) ≡ stored_digest t.shape t.root image i (l + 1)
 
 abbrev pub AllStand : Tree → List (List ℕ) → ℕ → Type 0
-AllStand t image i = (l : ℕ) → l < levels t.shape → Stands t image l i
+AllStand t image i = (l : ℕ) → l < levels t.shape → HasDigestAbove t image l i
 
 -- A data block is good where all hash blocks above it are, and this is its digest that stands there; changed where they
 -- are, and another one stands there; unknown where one of them isn't good.
 abbrev pub IsStoredBy : Tree → List (List ℕ) → ℕ → List ℕ → State → Type 0
 IsStoredBy t image i found None = AllStand t image i × (found ≡ stored_digest t.shape t.root image i 0)
 IsStoredBy t image i found (Some Changed) = AllStand t image i × (found ≢ stored_digest t.shape t.root image i 0)
-IsStoredBy t image i found (Some Unknown) = (l : ℕ) × ((l < levels t.shape) × (Stands t image l i → ⊥))
+IsStoredBy t image i found (Some Unknown) = (l : ℕ) × ((l < levels t.shape) × (HasDigestAbove t image l i → ⊥))
 IsStoredBy t image i found (Some kind) = ⊥
 
 -- the same of what stands on the data device
-abbrev pub IsStoredAs : Tree → List (List ℕ) → List (List ℕ) → ℕ → State → Type 0
-IsStoredAs t data_image hash_image i state = IsStoredBy t hash_image i (digest t.salt (block_at data_image t.shape.data_block i)) state
+abbrev pub IsContentStoredAs : Tree → List (List ℕ) → List (List ℕ) → ℕ → State → Type 0
+IsContentStoredAs t data_image hash_image i state = IsStoredBy t hash_image i (digest t.salt (block_at data_image t.shape.data_block i)) state
 
 -- ---- where reads failed
 

@@ -4,7 +4,7 @@ ghost use Rattle.tree_shape.specs.Shape.{levels};
 ghost use Rattle.verity_format.specs.Image.{tree_sectors};
 ghost use Rattle.tree_runs.specs.Listings.{Tells};
 ghost use Rattle.tree_survey.specs.Failing.{IsReadOver};
-ghost use Rattle.tree_survey.specs.Hashes.{CanCompare, IsAbove, IsCompared, TellsBad, TellsTree, line_at};
+ghost use Rattle.tree_survey.specs.Hashes.{CanCompareHashes, IsAbove, IsCompared, TellsBad, TellsTree, hash_line_at};
 
 use crate::path::ReadPath;
 use block_device::BlockDev;
@@ -21,7 +21,7 @@ pub(crate) fn say_hashes<H: BlockDev, L: Listing>(
     device: &mut H,
     listing: &mut L,
 ) -> Result<bool, WriteFault>
-    requires { CanCompare path.old shape.now (H.state device.old) }
+    requires { CanCompareHashes path.old shape.now (H.state device.old) }
     ensures over { IsReadOver (H.state device.old) (H.state device.new) }
     ensures ok { IfOk result (TellsTree H.state L.told path.old device.old device.new listing.old listing.new) }
     ensures err { OnErr result (L.failed listing.new ≡ true) }
@@ -50,7 +50,7 @@ fn say_level<H: BlockDev, L: Listing>(
     level: u32,
     listing: &mut L,
 ) -> Result<bool, WriteFault>
-    requires can { CanCompare path.old shape.now (H.state device.old) }
+    requires can { CanCompareHashes path.old shape.now (H.state device.old) }
     requires level { level < levels path.old.shape }
     requires few { level < 14 }
     ensures over { IsReadOver (H.state device.old) (H.state device.new) }
@@ -108,7 +108,7 @@ fn read_above<H: BlockDev>(path: &mut ReadPath, device: &mut H, level: u32, inde
 
 // `hash LEVEL INDEX`
 fn say_hash<L: Listing>(listing: &mut L, level: u32, number: u64) -> Result<(), WriteFault>
-    ensures { Tells L.told L.failed listing.old listing.new (line_at level number) result }
+    ensures { Tells L.told L.failed listing.old listing.new (hash_line_at level number) result }
 {
     listing.tell(Line::Hash { level, number })
 }

@@ -2,7 +2,7 @@
 ghost use Rattle.std.specs.Prelude.{◌≡◌, ◌≤◌, ◌<◌, ◌*◌, IfOk, length, take};
 ghost use Rattle.verity_format.specs.Premises.{IsBlockOn};
 ghost use Rattle.tree_survey.specs.Failing.{IsReadOver};
-ghost use Rattle.tree_survey.specs.Pieces.{IsDigestFound, IsDigestRead, IsRunOn, IsRunTried, blocks_of};
+ghost use Rattle.tree_survey.specs.Pieces.{IsDigestFound, IsDigestRead, LieOnDevice, IsRunTried, blocks_of};
 
 use crate::attempt::{attempt, read_block};
 use block_device::BlockDev;
@@ -40,7 +40,7 @@ pub(crate) fn read_piece<D: BlockDev>(
     piece: &mut [u8],
     digests: &mut [Digest],
 ) -> bool
-    requires run { IsRunOn (D.state device.old) size first count (count * size) }
+    requires run { LieOnDevice (D.state device.old) size first count (count * size) }
     requires room { count * size ≤ length piece.old }
     requires few { count ≤ length digests.old }
     ensures over { IsReadOver (D.state device.old) (D.state device.new) }
@@ -60,7 +60,7 @@ fn read_run<D: BlockDev>(
     run: &mut [u8],
     digests: &mut [Digest],
 ) -> bool
-    requires { IsRunOn (D.state device.old) size first (length digests.old) (length run.old) }
+    requires { LieOnDevice (D.state device.old) size first (length digests.old) (length run.old) }
     ensures over { IsReadOver (D.state device.old) (D.state device.new) }
     ensures ends { IsRunTried (D.state device.old) salt.now size first digests.new result (D.state device.new) }
 {

@@ -2,7 +2,7 @@
 ghost use Rattle.std.specs.Prelude.{◌≡◌};
 ghost use Rattle.tree_shape.specs.Shape.{levels};
 ghost use Rattle.tree_survey.specs.Failing.{IsReadOver};
-ghost use Rattle.tree_survey.specs.Sights.{CanGo, HasGone, none_read, state_at, state_by};
+ghost use Rattle.tree_survey.specs.Sights.{CanGoDown, HasGone, none_read, state_at, state_by};
 
 use crate::path::{Reach, ReadPath, is_same};
 use block_device::BlockDev;
@@ -36,7 +36,7 @@ impl Sight {
     /// Goes on to the next data block: reads the hash blocks on the way to it that aren't those of the one before, down
     /// to the first that isn't good.
     pub(crate) fn go_to<H: BlockDev>(&mut self, device: &mut H, index: u64)
-        requires { CanGo self.old (H.state device.old) index }
+        requires { CanGoDown self.old (H.state device.old) index }
         ensures over { IsReadOver (H.state device.old) (H.state device.new) }
         ensures gone { HasGone self.old self.new (H.state device.old) (H.state device.new) index }
     {

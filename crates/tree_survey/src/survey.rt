@@ -3,7 +3,7 @@ ghost use Rattle.std.specs.Prelude.{◌≡◌, OnOk, IfOk, IfErr};
 ghost use Rattle.verity_format.specs.Blocks.{IsOnlyRead};
 ghost use Rattle.tree_survey.specs.Causes.{EndsPass, EndsSurvey, IsImageCause, AreImages};
 ghost use Rattle.tree_survey.specs.Failing.{IsReadOver};
-ghost use Rattle.tree_survey.specs.Passes.{CanPass, HasPassed, IsSurvey, Surveys, seen, tree_in};
+ghost use Rattle.tree_survey.specs.Passes.{CanPass, HasPassed, IsSurvey, Surveys, seen_pass, tree_in};
 
 use crate::counts::{Counts, Totals};
 use crate::fault::SurveyFault;
@@ -39,7 +39,7 @@ pub fn survey_image<D: BlockDev, H: BlockDev, L: Listing>(
 ) -> Result<Survey, SurveyFault>
     ensures data { IsOnlyRead (D.state data_dev.old) (D.state data_dev.new) }
     ensures hash { IsOnlyRead (H.state hash_dev.old) (H.state hash_dev.new) }
-    ensures ok { IfOk result (IsSurvey (seen D.state H.state L.told data_dev.old hash_dev.old data_dev.new hash_dev.new listing.old listing.new) root.now) }
+    ensures ok { IfOk result (IsSurvey (seen_pass D.state H.state L.told data_dev.old hash_dev.old data_dev.new hash_dev.new listing.old listing.new) root.now) }
     ensures err { IfErr result (EndsSurvey D.state H.state data_dev.old hash_dev.old data_dev.new hash_dev.new (L.failed listing.new)) }
 {
     let superblock = superblock_of(data_dev, hash_dev)?;
@@ -86,7 +86,7 @@ fn survey_data<D: BlockDev, H: BlockDev, L: Listing>(
     ensures data { IsReadOver (D.state data_dev.old) (D.state data_dev.new) }
     ensures hash { IsReadOver (H.state hash_dev.old) (H.state hash_dev.new) }
     ensures passed { OnOk result (HasPassed sight.old sight.new) }
-    ensures ok { IfOk result (Surveys (tree_in sight.old) (seen D.state H.state L.told data_dev.old hash_dev.old data_dev.new hash_dev.new listing.old listing.new)) }
+    ensures ok { IfOk result (Surveys (tree_in sight.old) (seen_pass D.state H.state L.told data_dev.old hash_dev.old data_dev.new hash_dev.new listing.old listing.new)) }
     ensures err { IfErr result (EndsPass D.state H.state data_dev.old hash_dev.old data_dev.new hash_dev.new (L.failed listing.new)) }
 {
     let mut memory = zeros(alloc, PIECE)?;

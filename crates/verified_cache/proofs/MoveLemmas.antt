@@ -13,7 +13,7 @@ use Rattle.lru.specs.LruCache.{promoted}
 use Rattle.verified_cache.specs.declared.key.Key.{Key}
 use Rattle.verified_cache.specs.declared.cache.DigestedBlock.{DigestedBlock}
 use Rattle.verified_cache.specs.Cache.{CachedBlock, CacheRecord, IsCache, same_key, cache_after_moves, cache_without, blocks_without}
-use Rattle.verified_cache.specs.Slots.{block_of}
+use Rattle.verified_cache.specs.Slots.{slot_block}
 use Rattle.verified_cache.proofs.lemmas.KeyLemmas.{same_key-refl, same_key-symm}
 use Rattle.verified_cache.proofs.lemmas.CacheLemmas.{is_under_another, IsAbsent, AreDistinct, IsCache-after_find, IsCache-take}
 use Rattle.verified_cache.proofs.SlotLemmas.{Slots, map-promoted, map-take, find-hit}
@@ -35,19 +35,19 @@ module _ {X : Type 0} where
       sym (take-append-drop i xs) ∙ ap (λ l. take i xs ++ l) rest
 
 -- what holds of each key holds of the last
-at_last : (key : Key) (us : Slots) (e : Key × DigestedBlock) → IsAbsent key (map block_of (us ++ e ∷ [])) → same_key key e.0 ≡ false
+at_last : (key : Key) (us : Slots) (e : Key × DigestedBlock) → IsAbsent key (map slot_block (us ++ e ∷ [])) → same_key key e.0 ≡ false
 at_last key [] e h = h.0
 at_last key (u ∷ us) e h = at_last key us e h.1
 
 -- the last slot is the one that its key finds, and the others are under other keys
-others_of_last : (us : Slots) (e : Key × DigestedBlock) → AreDistinct (map block_of (us ++ e ∷ [])) → filter (is_under_another e.0) (map block_of (us ++ e ∷ [])) ≡ map block_of us
+others_of_last : (us : Slots) (e : Key × DigestedBlock) → AreDistinct (map slot_block (us ++ e ∷ [])) → filter (is_under_another e.0) (map slot_block (us ++ e ∷ [])) ≡ map slot_block us
 unfolding IsDistinct
 others_of_last [] e d = rw (same_key-refl e.0) refl
 others_of_last (u ∷ us) e d =
     let other : same_key e.0 u.0 ≡ false = same_key-symm e.0 u.0 ∙ at_last u.0 us e d.0 in
-    rw other (ap (λ l. block_of u ∷ l) (others_of_last us e d.1))
+    rw other (ap (λ l. slot_block u ∷ l) (others_of_last us e d.1))
 
-lookup_last : (us : Slots) (e : Key × DigestedBlock) → AreDistinct (map block_of (us ++ e ∷ [])) → lookup (same_key e.0) (us ++ e ∷ []) ≡ Some e.1
+lookup_last : (us : Slots) (e : Key × DigestedBlock) → AreDistinct (map slot_block (us ++ e ∷ [])) → lookup (same_key e.0) (us ++ e ∷ []) ≡ Some e.1
 unfolding IsDistinct
 lookup_last [] e d = rw (same_key-refl e.0) refl
 lookup_last (u ∷ us) e d =
@@ -88,37 +88,37 @@ module _ (test : Key → Bool) where
       cut : slots ≡ before ++ e ∷ []
       cut = last_cut slots e last
 
-      one_move : cache_after_moves test 1 (cache_with (map block_of slots)) ≡ cache_with (kept (block_of e ∷ []) ++ map block_of before)
+      one_move : cache_after_moves test 1 (cache_with (map slot_block slots)) ≡ cache_with (kept (slot_block e ∷ []) ++ map slot_block before)
       one_move =
-          ap (cache_after_moves test 1) (ap cache_with (ap (map block_of) cut ∙ map-append block_of before (e ∷ []))) ∙ after_moves_of (map block_of before) (block_of e ∷ [])
+          ap (cache_after_moves test 1) (ap cache_with (ap (map slot_block) cut ∙ map-append slot_block before (e ∷ []))) ∙ after_moves_of (map slot_block before) (slot_block e ∷ [])
 
       -- where its key passes the test, the last slot goes
-      pub dropped : true ≡ test e.0 → (seen : CacheRecord) → cache_with (map block_of slots) ≡ seen → cache_with (map block_of before) ≡ cache_after_moves test 1 seen
+      pub dropped : true ≡ test e.0 → (seen : CacheRecord) → cache_with (map slot_block slots) ≡ seen → cache_with (map slot_block before) ≡ cache_after_moves test 1 seen
       dropped goes seen is =
-          let none : kept (block_of e ∷ []) ≡ [] = rw (← goes) refl in
-          sym (ap (cache_after_moves test 1) (sym is) ∙ one_move ∙ ap (λ l. cache_with (l ++ map block_of before)) none)
+          let none : kept (slot_block e ∷ []) ≡ [] = rw (← goes) refl in
+          sym (ap (cache_after_moves test 1) (sym is) ∙ one_move ∙ ap (λ l. cache_with (l ++ map slot_block before)) none)
 
-      found_last : AreDistinct (map block_of slots) → lookup (same_key e.0) slots ≡ Some e.1
-      found_last d = subst (λ l. lookup (same_key e.0) l ≡ Some e.1) (sym cut) (lookup_last before e (subst (λ l. AreDistinct (map block_of l)) cut d))
+      found_last : AreDistinct (map slot_block slots) → lookup (same_key e.0) slots ≡ Some e.1
+      found_last d = subst (λ l. lookup (same_key e.0) l ≡ Some e.1) (sym cut) (lookup_last before e (subst (λ l. AreDistinct (map slot_block l)) cut d))
 
       -- else it is promoted
-      pub moved : AreDistinct (map block_of slots) → false ≡ test e.0 → (seen : CacheRecord) → cache_with (map block_of slots) ≡ seen
-          → cache_with (map block_of (promoted (same_key e.0) slots)) ≡ cache_after_moves test 1 seen
+      pub moved : AreDistinct (map slot_block slots) → false ≡ test e.0 → (seen : CacheRecord) → cache_with (map slot_block slots) ≡ seen
+          → cache_with (map slot_block (promoted (same_key e.0) slots)) ≡ cache_after_moves test 1 seen
       moved d other seen is =
-          let one : kept (block_of e ∷ []) ≡ block_of e ∷ [] = rw (← other) refl in
-          let others : filter (is_under_another e.0) (map block_of slots) ≡ map block_of before =
-          subst (λ l. filter (is_under_another e.0) (map block_of l) ≡ map block_of before) (sym cut) (others_of_last before e (subst (λ l. AreDistinct (map block_of l)) cut d)) in
-          let first : map block_of (promoted (same_key e.0) slots) ≡ block_of e ∷ map block_of before = map-promoted e.0 slots e.1 d (found_last d) ∙ ap (λ l. block_of e ∷ l) others in
-          ap cache_with first ∙ sym (ap (cache_after_moves test 1) (sym is) ∙ one_move ∙ ap (λ l. cache_with (l ++ map block_of before)) one)
+          let one : kept (slot_block e ∷ []) ≡ slot_block e ∷ [] = rw (← other) refl in
+          let others : filter (is_under_another e.0) (map slot_block slots) ≡ map slot_block before =
+          subst (λ l. filter (is_under_another e.0) (map slot_block l) ≡ map slot_block before) (sym cut) (others_of_last before e (subst (λ l. AreDistinct (map slot_block l)) cut d)) in
+          let first : map slot_block (promoted (same_key e.0) slots) ≡ slot_block e ∷ map slot_block before = map-promoted e.0 slots e.1 d (found_last d) ∙ ap (λ l. slot_block e ∷ l) others in
+          ap cache_with first ∙ sym (ap (cache_after_moves test 1) (sym is) ∙ one_move ∙ ap (λ l. cache_with (l ++ map slot_block before)) one)
 
-      pub IsCache-moved : IsCache (cache_with (map block_of slots)) → IsCache (cache_with (map block_of (promoted (same_key e.0) slots)))
+      pub IsCache-moved : IsCache (cache_with (map slot_block slots)) → IsCache (cache_with (map slot_block (promoted (same_key e.0) slots)))
       IsCache-moved valid =
-          let hit = find-hit e.0 e.1.digest capacity slots (cache_with (map block_of slots)) refl valid.distinct e.1 (found_last valid.distinct) (same_bytes e.1.digest) in
-          subst IsCache (sym hit.cache_left) (IsCache-after_find e.0 e.1.digest (cache_with (map block_of slots)) valid)
+          let hit = find-hit e.0 e.1.digest capacity slots (cache_with (map slot_block slots)) refl valid.distinct e.1 (found_last valid.distinct) (same_bytes e.1.digest) in
+          subst IsCache (sym hit.cache_left) (IsCache-after_find e.0 e.1.digest (cache_with (map slot_block slots)) valid)
 
-      pub IsCache-dropped : IsCache (cache_with (map block_of slots)) → IsCache (cache_with (map block_of before))
+      pub IsCache-dropped : IsCache (cache_with (map slot_block slots)) → IsCache (cache_with (map slot_block before))
       IsCache-dropped valid =
-          subst (λ bs. IsCache (cache_with bs)) (sym (map-take (length slots - 1) slots)) (IsCache-take (length slots - 1) (cache_with (map block_of slots)) valid)
+          subst (λ bs. IsCache (cache_with bs)) (sym (map-take (length slots - 1) slots)) (IsCache-take (length slots - 1) (cache_with (map slot_block slots)) valid)
 
     front_moves : (blocks : List CachedBlock) (n : ℕ) → n < length blocks
         → cache_after_moves test 1 (cache_after_moves test n (cache_with blocks)) ≡ cache_after_moves test (suc n) (cache_with blocks)

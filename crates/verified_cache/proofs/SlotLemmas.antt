@@ -11,7 +11,7 @@ use Rattle.lru.specs.LruCache.{LruCache, promoted, put_entries}
 use Rattle.verified_cache.specs.declared.key.Key.{Key}
 use Rattle.verified_cache.specs.declared.cache.DigestedBlock.{DigestedBlock}
 use Rattle.verified_cache.specs.Cache.{CachedBlock, CacheRecord, IsCache, same_key, block_under, blocks_with, cache_after_find, cache_after_keep}
-use Rattle.verified_cache.specs.Slots.{block_of}
+use Rattle.verified_cache.specs.Slots.{slot_block}
 use Rattle.verified_cache.proofs.lemmas.KeyLemmas.{same_key-exact}
 use Rattle.verified_cache.proofs.lemmas.CacheLemmas.{is_under_another, IsAbsent, AreDistinct, filter-absent}
 use Rattle.verified_cache.proofs.lemmas.AnswerLemmas.{find-absent}
@@ -22,13 +22,13 @@ Slots = List (Key × DigestedBlock)
 -- a slot that the key finds
 pub record Finds (key : Key) (slots : Slots) (held : DigestedBlock) : Type 0 where
   pub entry : lookup_entry (same_key key) slots ≡ Some (key, held)
-  pub found : (t : CachedBlock → Bool) → find (λ b. same_key key b.key && t b) (map block_of slots) ≡ cond (t (block_of (key, held))) (Some (block_of (key, held))) None
+  pub found : (t : CachedBlock → Bool) → find (λ b. same_key key b.key && t b) (map slot_block slots) ≡ cond (t (slot_block (key, held))) (Some (slot_block (key, held))) None
 
 -- a key that finds no slot
 pub record Misses (key : Key) (slots : Slots) : Type 0 where
   pub entry : lookup_entry (same_key key) slots ≡ None
-  pub absent : IsAbsent key (map block_of slots)
-  pub found : (t : CachedBlock → Bool) → find (λ b. same_key key b.key && t b) (map block_of slots) ≡ None
+  pub absent : IsAbsent key (map slot_block slots)
+  pub found : (t : CachedBlock → Bool) → find (λ b. same_key key b.key && t b) (map slot_block slots) ≡ None
 
 pub missed : (key : Key) (slots : Slots) → lookup (same_key key) slots ≡ None → Misses key slots
 missed key [] h = record { entry = refl; absent = tt; found = λ t. refl }
@@ -38,21 +38,21 @@ missed key (s ∷ ss) h = (elim (same_key key s.0) as (λ y. same_key key s.0 �
 ]) refl
 
 -- no slot of the rest has the key of the first
-pub absent_rest : (key : Key) (s : Key × DigestedBlock) (ss : Slots) → AreDistinct (map block_of (s ∷ ss)) → same_key key s.0 ≡ true → IsAbsent key (map block_of ss)
+pub absent_rest : (key : Key) (s : Key × DigestedBlock) (ss : Slots) → AreDistinct (map slot_block (s ∷ ss)) → same_key key s.0 ≡ true → IsAbsent key (map slot_block ss)
 unfolding IsDistinct
-absent_rest key s ss h e = subst (λ k. IsAbsent k (map block_of ss)) (sym (same_key-exact key s.0 e)) h.0
+absent_rest key s ss h e = subst (λ k. IsAbsent k (map slot_block ss)) (sym (same_key-exact key s.0 e)) h.0
 
 slot_is : (s : Key × DigestedBlock) (key : Key) (held : DigestedBlock) → s.0 ≡ key → Some s.1 ≡ Some held → s ≡ (key, held)
 slot_is s key held k h = let v = same_Some s.1 held h in rw (← k, ← v)
 
-at_head : (key : Key) (s : Key × DigestedBlock) (ss : Slots) (held : DigestedBlock) → same_key key s.0 ≡ true → Some s.1 ≡ Some held → IsAbsent key (map block_of ss)
+at_head : (key : Key) (s : Key × DigestedBlock) (ss : Slots) (held : DigestedBlock) → same_key key s.0 ≡ true → Some s.1 ≡ Some held → IsAbsent key (map slot_block ss)
     → Finds key (s ∷ ss) held
 at_head key s ss held e same absent = record {
   entry = rw e (ap (λ x. Some x) (slot_is s key held (sym (same_key-exact key s.0 e)) same));
-  found = λ t. rw (e, find-absent key t (map block_of ss) absent) (ap (λ x. cond (t (block_of x)) (Some (block_of x)) None) (slot_is s key held (sym (same_key-exact key s.0 e)) same));
+  found = λ t. rw (e, find-absent key t (map slot_block ss) absent) (ap (λ x. cond (t (slot_block x)) (Some (slot_block x)) None) (slot_is s key held (sym (same_key-exact key s.0 e)) same));
 }
 
-pub found : (key : Key) (slots : Slots) (held : DigestedBlock) → AreDistinct (map block_of slots) → lookup (same_key key) slots ≡ Some held → Finds key slots held
+pub found : (key : Key) (slots : Slots) (held : DigestedBlock) → AreDistinct (map slot_block slots) → lookup (same_key key) slots ≡ Some held → Finds key slots held
 unfolding IsDistinct
 found key [] held d h = absurd cc
 found key (s ∷ ss) held d h = (elim (same_key key s.0) as (λ y. same_key key s.0 ≡ y → Finds key (s ∷ ss) held) [
@@ -61,19 +61,19 @@ found key (s ∷ ss) held d h = (elim (same_key key s.0) as (λ y. same_key key 
 ]) refl
 
 -- removing a key leaves the blocks under others
-pub removed : (key : Key) (slots : Slots) → AreDistinct (map block_of slots) → map block_of (remove_entry (same_key key) slots) ≡ filter (is_under_another key) (map block_of slots)
+pub removed : (key : Key) (slots : Slots) → AreDistinct (map slot_block slots) → map slot_block (remove_entry (same_key key) slots) ≡ filter (is_under_another key) (map slot_block slots)
 unfolding IsDistinct
 removed key [] d = refl
 removed key (s ∷ ss) d =
-    (elim (same_key key s.0) as (λ y. same_key key s.0 ≡ y → map block_of (remove_entry (same_key key) (s ∷ ss)) ≡ filter (is_under_another key) (map block_of (s ∷ ss))) [
-      | true ↦ λ e. rw e (sym (filter-absent key (map block_of ss) (absent_rest key s ss d e)))
-      | false ↦ λ e. rw e (ap (λ l. block_of s ∷ l) (removed key ss d.1))
+    (elim (same_key key s.0) as (λ y. same_key key s.0 ≡ y → map slot_block (remove_entry (same_key key) (s ∷ ss)) ≡ filter (is_under_another key) (map slot_block (s ∷ ss))) [
+      | true ↦ λ e. rw e (sym (filter-absent key (map slot_block ss) (absent_rest key s ss d e)))
+      | false ↦ λ e. rw e (ap (λ l. slot_block s ∷ l) (removed key ss d.1))
     ]) refl
 
 -- a key that is promoted stands first
-pub map-promoted : (key : Key) (slots : Slots) (held : DigestedBlock) → AreDistinct (map block_of slots) → lookup (same_key key) slots ≡ Some held
-    → map block_of (promoted (same_key key) slots) ≡ blocks_with (block_of (key, held)) (map block_of slots)
-map-promoted key slots held d h = rw (found key slots held d h).entry (ap (λ l. block_of (key, held) ∷ l) (removed key slots d))
+pub map-promoted : (key : Key) (slots : Slots) (held : DigestedBlock) → AreDistinct (map slot_block slots) → lookup (same_key key) slots ≡ Some held
+    → map slot_block (promoted (same_key key) slots) ≡ blocks_with (slot_block (key, held)) (map slot_block slots)
+map-promoted key slots held d h = rw (found key slots held d h).entry (ap (λ l. slot_block (key, held) ∷ l) (removed key slots d))
 
 length-removed : (key : Key) (slots : Slots) (e : Key × DigestedBlock) → lookup_entry (same_key key) slots ≡ Some e → length (remove_entry (same_key key) slots) < length slots
 length-removed key [] e h = absurd cc
@@ -82,10 +82,10 @@ length-removed key (s ∷ ss) e h = (elim (same_key key s.0) as (λ y. same_key 
   | false ↦ λ t. let rest : lookup_entry (same_key key) ss ≡ Some e = rw t at h in rw t (omega (arith, length-removed key ss e rest))
 ]) refl
 
-pub map-take : (n : ℕ) (slots : Slots) → map block_of (take n slots) ≡ take n (map block_of slots)
+pub map-take : (n : ℕ) (slots : Slots) → map slot_block (take n slots) ≡ take n (map slot_block slots)
 map-take zero ss = refl
 map-take (suc n) [] = refl
-map-take (suc n) (s ∷ ss) = ap (λ l. block_of s ∷ l) (map-take n ss)
+map-take (suc n) (s ∷ ss) = ap (λ l. slot_block s ∷ l) (map-take n ss)
 
 -- the new cache and the answer are those of a find
 pub record IsFind (key : Key) (digest : List ℕ) (old new : CacheRecord) (answer : Option (List ℕ)) : Type 0 where
@@ -110,28 +110,28 @@ not_false false h = absurd cc
 -- a find where the key finds nothing, another digest, or the block
 module _ (key : Key) (digest : List ℕ) (capacity : ℕ) (slots : Slots) where
   abbrev cache : CacheRecord
-  cache = record { capacity = capacity; blocks = map block_of slots }
+  cache = record { capacity = capacity; blocks = map slot_block slots }
 
   pub find-missed : (old : CacheRecord) → cache ≡ old → lookup (same_key key) slots ≡ None → IsFind key digest old cache None
   find-missed old is h = subst (λ o. IsFind key digest o cache None) is (answered key digest cache None ((missed key slots h).found (λ b. bytes_eq b.digest digest)))
 
-  pub find-other : (old : CacheRecord) → cache ≡ old → AreDistinct (map block_of slots) → (held : DigestedBlock) → lookup (same_key key) slots ≡ Some held → true ≡ not (bytes_eq held.digest digest)
+  pub find-other : (old : CacheRecord) → cache ≡ old → AreDistinct (map slot_block slots) → (held : DigestedBlock) → lookup (same_key key) slots ≡ Some held → true ≡ not (bytes_eq held.digest digest)
       → IsFind key digest old cache None
   find-other old is distinct held h other =
-      let none = (found key slots held distinct h).found (λ b. bytes_eq b.digest digest) ∙ ap (λ t. cond t (Some (block_of (key, held))) None) (not_true (bytes_eq held.digest digest) other) in
+      let none = (found key slots held distinct h).found (λ b. bytes_eq b.digest digest) ∙ ap (λ t. cond t (Some (slot_block (key, held))) None) (not_true (bytes_eq held.digest digest) other) in
       subst (λ o. IsFind key digest o cache None) is (answered key digest cache None none)
 
-  pub find-hit : (old : CacheRecord) → cache ≡ old → AreDistinct (map block_of slots) → (held : DigestedBlock) → lookup (same_key key) slots ≡ Some held → false ≡ not (bytes_eq held.digest digest)
-      → IsFind key digest old (record { capacity = capacity; blocks = map block_of (promoted (same_key key) slots) }) (Some held.bytes.items)
+  pub find-hit : (old : CacheRecord) → cache ≡ old → AreDistinct (map slot_block slots) → (held : DigestedBlock) → lookup (same_key key) slots ≡ Some held → false ≡ not (bytes_eq held.digest digest)
+      → IsFind key digest old (record { capacity = capacity; blocks = map slot_block (promoted (same_key key) slots) }) (Some held.bytes.items)
   find-hit old is distinct held h same =
-      let some = (found key slots held distinct h).found (λ b. bytes_eq b.digest digest) ∙ ap (λ t. cond t (Some (block_of (key, held))) None) (not_false (bytes_eq held.digest digest) same) in
+      let some = (found key slots held distinct h).found (λ b. bytes_eq b.digest digest) ∙ ap (λ t. cond t (Some (slot_block (key, held))) None) (not_false (bytes_eq held.digest digest) same) in
       let first = sym (map-promoted key slots held distinct h) in
       subst (λ bs. IsFind key digest old (record { capacity = capacity; blocks = bs }) (Some held.bytes.items)) first
-      (subst (λ o. IsFind key digest o (record { capacity = capacity; blocks = blocks_with (block_of (key, held)) (map block_of slots) }) (Some held.bytes.items)) is
-      (answered key digest cache (Some (block_of (key, held))) some))
+      (subst (λ o. IsFind key digest o (record { capacity = capacity; blocks = blocks_with (slot_block (key, held)) (map slot_block slots) }) (Some held.bytes.items)) is
+      (answered key digest cache (Some (slot_block (key, held))) some))
 
 -- a key that has a block has a slot
-pub lookup-block_at : (key : Key) (slots : Slots) → IsSome (find (λ b. same_key key b.key) (map block_of slots)) → IsSome (lookup (same_key key) slots)
+pub lookup-block_at : (key : Key) (slots : Slots) → IsSome (find (λ b. same_key key b.key) (map slot_block slots)) → IsSome (lookup (same_key key) slots)
 lookup-block_at key [] h = h
 lookup-block_at key (s ∷ ss) h = (elim (same_key key s.0) as (λ y. same_key key s.0 ≡ y → IsSome (lookup (same_key key) (s ∷ ss))) [
   | true ↦ λ e. rw e refl
@@ -139,39 +139,39 @@ lookup-block_at key (s ∷ ss) h = (elim (same_key key s.0) as (λ y. same_key k
 ]) refl
 
 -- what a put leaves
-module _ (key : Key) (held : DigestedBlock) (old : LruCache Key DigestedBlock) (distinct : AreDistinct (map block_of old.entries)) where
+module _ (key : Key) (held : DigestedBlock) (old : LruCache Key DigestedBlock) (distinct : AreDistinct (map slot_block old.entries)) where
   abbrev block : CachedBlock
-  block = block_of (key, held)
+  block = slot_block (key, held)
 
-  put_new : (n : ℕ) → old.cap - 1 ≡ n → lookup (same_key key) old.entries ≡ None → map block_of (put_entries same_key old key held) ≡ take (suc n) (blocks_with block (map block_of old.entries))
+  put_new : (n : ℕ) → old.cap - 1 ≡ n → lookup (same_key key) old.entries ≡ None → map slot_block (put_entries same_key old key held) ≡ take (suc n) (blocks_with block (map slot_block old.entries))
   put_new n less h =
       let none = missed key old.entries h in
-      rw (none.entry, less, filter-absent key (map block_of old.entries) none.absent) (ap (λ l. block ∷ l) (map-take n old.entries))
+      rw (none.entry, less, filter-absent key (map slot_block old.entries) none.absent) (ap (λ l. block ∷ l) (map-take n old.entries))
 
   put_again : (n : ℕ) → length old.entries ≤ n → (was : DigestedBlock) → lookup (same_key key) old.entries ≡ Some was
-      → map block_of (put_entries same_key old key held) ≡ take n (blocks_with block (map block_of old.entries))
+      → map slot_block (put_entries same_key old key held) ≡ take n (blocks_with block (map slot_block old.entries))
   put_again n within was h =
       let entry = (found key old.entries was distinct h).entry in
       let rest = removed key old.entries distinct in
       let fewer = length-removed key old.entries (key, was) entry in
-      let long : length (block ∷ map block_of (remove_entry (same_key key) old.entries)) ≤ n = omega (arith, length-map (remove_entry (same_key key) old.entries) block_of) in
-      rw (entry, ← rest, take_all n (block ∷ map block_of (remove_entry (same_key key) old.entries)) long)
+      let long : length (block ∷ map slot_block (remove_entry (same_key key) old.entries)) ≤ n = omega (arith, length-map (remove_entry (same_key key) old.entries) slot_block) in
+      rw (entry, ← rest, take_all n (block ∷ map slot_block (remove_entry (same_key key) old.entries)) long)
 
   put_either : (n : ℕ) → old.cap ≡ suc n → length old.entries ≤ suc n → (o : Option DigestedBlock) → lookup (same_key key) old.entries ≡ o
-      → map block_of (put_entries same_key old key held) ≡ take (suc n) (blocks_with block (map block_of old.entries))
+      → map slot_block (put_entries same_key old key held) ≡ take (suc n) (blocks_with block (map slot_block old.entries))
   put_either n room within None h = put_new n (omega arith) h
   put_either n room within (Some was) h = put_again (suc n) within was h
 
-  at_capacity : (n : ℕ) → n ≢ 0 → old.cap ≡ n → length old.entries ≤ n → map block_of (put_entries same_key old key held) ≡ take n (blocks_with block (map block_of old.entries))
+  at_capacity : (n : ℕ) → n ≢ 0 → old.cap ≡ n → length old.entries ≤ n → map slot_block (put_entries same_key old key held) ≡ take n (blocks_with block (map slot_block old.entries))
   at_capacity zero some room within = absurd (some refl)
   at_capacity (suc n) some room within = put_either n room within (lookup (same_key key) old.entries) refl
 
   -- it leaves what keeping the block leaves
-  pub map-put_entries : (capacity : ℕ) → IsCache (record { capacity = capacity; blocks = map block_of old.entries }) → capacity ≢ 0 → old.cap ≡ max 1 capacity
-      → (seen : CacheRecord) → record { capacity = capacity; blocks = map block_of old.entries } ≡ seen
-      → record { capacity = capacity; blocks = map block_of (put_entries same_key old key held) } ≡ cache_after_keep block seen
+  pub map-put_entries : (capacity : ℕ) → IsCache (record { capacity = capacity; blocks = map slot_block old.entries }) → capacity ≢ 0 → old.cap ≡ max 1 capacity
+      → (seen : CacheRecord) → record { capacity = capacity; blocks = map slot_block old.entries } ≡ seen
+      → record { capacity = capacity; blocks = map slot_block (put_entries same_key old key held) } ≡ cache_after_keep block seen
   map-put_entries capacity valid some room seen is =
-      let long = length-map old.entries block_of in
+      let long = length-map old.entries slot_block in
       let within = valid.within in
       let put = at_capacity capacity some (omega arith) (omega arith) in
       ap (λ bs. record { capacity = capacity; blocks = bs }) put ∙ ap (cache_after_keep block) is

@@ -26,8 +26,8 @@ pub record IsCache (cache : CacheRecord) : Type 0 where
   pub within : length cache.blocks ≤ cache.capacity
 
 -- the block under that key, whatever its digest
-abbrev pub block_at : Key → CacheRecord → Option CachedBlock
-block_at key cache = find (λ b. same_key key b.key) cache.blocks
+abbrev pub cached_at : Key → CacheRecord → Option CachedBlock
+cached_at key cache = find (λ b. same_key key b.key) cache.blocks
 
 -- the block under that key and that digest
 abbrev pub block_under : Key → List ℕ → CacheRecord → Option CachedBlock

@@ -1,7 +1,7 @@
 -- Laws of the cache.
 use Rattle.std.specs.Prelude.{◌≡◌, ◌≢◌, ◌<◌, ◌⊎◌, ℕ, List, length, Some, None, IsSome, if◌then◌else◌}
 use Rattle.verified_cache.specs.declared.key.Key.{Key}
-use Rattle.verified_cache.specs.Cache.{CachedBlock, CacheRecord, IsCache, block_at, block_under, cache_after_find, cache_after_keep, cache_without_line, is_of_line}
+use Rattle.verified_cache.specs.Cache.{CachedBlock, CacheRecord, IsCache, cached_at, block_under, cache_after_find, cache_after_keep, cache_without_line, is_of_line}
 
 -- a block that is kept is then found, where there may be any
 abbrev pub KeptBlocksAreFound : Type 0
@@ -16,7 +16,7 @@ FindsChangeNoAnswer = (cache : CacheRecord) → IsCache cache → (used : Key) (
 -- where there is room, or the key is there, keeping a block changes no answer under another key
 abbrev pub KeepsLeaveOtherKeys : Type 0
 KeepsLeaveOtherKeys = (cache : CacheRecord) (block : CachedBlock) → IsCache cache
-    → (length cache.blocks < cache.capacity) ⊎ IsSome (block_at block.key cache)
+    → (length cache.blocks < cache.capacity) ⊎ IsSome (cached_at block.key cache)
     → (key : Key) (expected : List ℕ) → key ≢ block.key
     → block_under key expected (cache_after_keep block cache) ≡ block_under key expected cache
 

@@ -6,9 +6,9 @@ use Rattle.verified_cache.specs.declared.cache.BlockCache.TheInside.{Inside}
 use Rattle.verified_cache.specs.Cache.{CachedBlock, CacheRecord}
 
 -- the block of a slot
-abbrev pub block_of : Key × DigestedBlock → CachedBlock
-block_of slot = record { key = slot.0; digest = slot.1.digest; bytes = slot.1.bytes.items }
+abbrev pub slot_block : Key × DigestedBlock → CachedBlock
+slot_block slot = record { key = slot.0; digest = slot.1.digest; bytes = slot.1.bytes.items }
 
 -- the cache, as its callers see it
 abbrev pub cache_of : Inside → CacheRecord
-cache_of c = record { capacity = c.capacity; blocks = map block_of c.slots.entries }
+cache_of c = record { capacity = c.capacity; blocks = map slot_block c.slots.entries }

@@ -2,7 +2,7 @@
 ghost use Rattle.std.specs.Prelude.{◌≡◌, ◌⊎◌, [], length, option_map, IfOk, OnOk, OnErr, IsOk, IsSome};
 ghost use Rattle.std.specs.Option.{option_copied};
 ghost use Rattle.std.specs.Borrow.{sem};
-ghost use Rattle.verified_cache.specs.Cache.{IsCache, block_at, block_under, cache_after_find, cache_after_keep, cache_without, cache_without_line, cache_after_moves};
+ghost use Rattle.verified_cache.specs.Cache.{IsCache, cached_at, block_under, cache_after_find, cache_after_keep, cache_without, cache_without_line, cache_after_moves};
 
 use crate::keys::KeysOfLine;
 use crate::{Key, Keys};
@@ -71,7 +71,7 @@ impl BlockCache {
     pub fn keep(&mut self, key: Key, digest: Digest, block: Vec<u8>) -> Result<(), AllocError>
         ensures ok { OnOk result (self.new ≡ cache_after_keep (record { key = key; digest = digest; bytes = block.items }) self.old) }
         ensures err { OnErr result (self.new ≡ self.old) }
-        ensures succeeds { (self.old.capacity ≡ 0) ⊎ IsSome (block_at key self.old) → IsOk result }
+        ensures succeeds { (self.old.capacity ≡ 0) ⊎ IsSome (cached_at key self.old) → IsOk result }
     {
         if self.capacity == 0 {
             return Ok(());

@@ -6,9 +6,9 @@ use Rattle.command_line.specs.declared.fault.WordsFault.TheVariants.{NoMemory, U
 use Rattle.image_commands.proofs.lemmas.EndingLemmas.{quiet as image-quiet}
 use Rattle.verity_commands.specs.declared.fault.VerityFault.{VerityFault}
 use Rattle.verity_commands.specs.declared.fault.VerityFault.TheVariants as verity
-use Rattle.verity_commands.specs.Endings.{IsQuiet, IsUnsaid, words_ending}
+use Rattle.verity_commands.specs.Endings.{IsVerityQuiet, IsUnsaid, words_ending}
 
-pub quiet : (fault : VerityFault) (bytes : Option (List ℕ)) → IsQuiet fault bytes bytes
+pub quiet : (fault : VerityFault) (bytes : Option (List ℕ)) → IsVerityQuiet fault bytes bytes
 quiet verity.Usage bytes = refl
 quiet (verity.Image fault) bytes = image-quiet fault bytes
 

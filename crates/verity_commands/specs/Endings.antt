@@ -25,9 +25,9 @@ IsImageEnd Ends (Image fault) = Ends fault
 IsImageEnd Ends Usage = ⊥
 
 -- nothing is written ahead of what ends a command, unless it is the writing that fails
-abbrev pub IsQuiet : VerityFault → Option (List ℕ) → Option (List ℕ) → Type 0
-IsQuiet Usage old new = new ≡ old
-IsQuiet (Image fault) old new = images.IsQuiet fault old new
+abbrev pub IsVerityQuiet : VerityFault → Option (List ℕ) → Option (List ℕ) → Type 0
+IsVerityQuiet Usage old new = new ≡ old
+IsVerityQuiet (Image fault) old new = images.IsQuiet fault old new
 
 -- 2 for words that are no command, 3 for images that differ, else 1
 abbrev pub verity_status : VerityFault → ℕ

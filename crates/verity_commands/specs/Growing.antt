@@ -7,8 +7,8 @@ use Rattle.image_files.specs.Opener.{Calls}
 use Rattle.verity_format.specs.declared.formatting.FormatFault.TheVariants.{HashTooSmall}
 
 -- the file under that path has at least so many sectors from then on
-abbrev pub Grows : {S D : Type 0} → Calls S D → List ℕ → ℕ → Type 0
-Grows w path sectors = w.relations.grows w.old path sectors (Ok tt) w.new
+abbrev pub GrowsFile : {S D : Type 0} → Calls S D → List ℕ → ℕ → Type 0
+GrowsFile w path sectors = w.relations.grows w.old path sectors (Ok tt) w.new
 
 -- or it couldn't be made so long
 abbrev pub IsUngrown : {S D : Type 0} → Calls S D → List ℕ → ℕ → ImageFault → Type 0
@@ -29,13 +29,13 @@ pub record HashStart : Type 0 where
 -- HASH was made where there was none, and had enough sectors
 pub record FormatsAtOnce {S D T G : Type 0} (w : Calls S D) (d : Drawing T G) (hash : HashStart) (Formats : Calls S D → Drawing T G → Type 0) : Type 0 where
   pub between : S
-  pub made : Grows (record w { new = between }) hash.path 0
+  pub made : GrowsFile (record w { new = between }) hash.path 0
   pub formats : Formats (record w { old = between }) d
 
 -- it was made so, and had too few
 pub record IsTriedInVain {S D T G : Type 0} (w : Calls S D) (d : Drawing T G) (hash : HashStart) (IsTooSmall : Calls S D → Drawing T G → ℕ → Type 0) (needed : ℕ) : Type 0 where
   pub between : S
-  pub made : Grows (record w { new = between }) hash.path 0
+  pub made : GrowsFile (record w { new = between }) hash.path 0
   pub too_small : IsTooSmall (record w { old = between }) d needed
 
 -- so it was given as many as are needed, and then formatted
@@ -45,7 +45,7 @@ pub record FormatsGrown {S D T G : Type 0} (w : Calls S D) (d : Drawing T G) (ha
   pub room : S
   pub needed : ℕ
   pub vain : IsTriedInVain (record w { new = tried }) (record d { new = drawn }) hash IsTooSmall needed
-  pub grown : Grows (record w { old = tried; new = room }) hash.path (hash.first + needed)
+  pub grown : GrowsFile (record w { old = tried; new = room }) hash.path (hash.first + needed)
   pub formats : Formats (record w { old = room }) (record d { old = drawn })
 
 abbrev pub FormatsGrowing : {S D T G : Type 0} → Calls S D → Drawing T G → HashStart → (Calls S D → Drawing T G → ℕ → Type 0) → (Calls S D → Drawing T G → Type 0) → Type 0

@@ -11,10 +11,10 @@ use Rattle.image_commands.specs.declared.fault.ImageFault.{ImageFault}
 use Rattle.image_commands.specs.Drawing.{Drawing}
 use Rattle.image_commands.specs.ImageCommands.{IsFormatFilesEnd, IsSuperblockEnd, IsVerifyFilesEnd, PrintsMade, PrintsMatches, PrintsSuperblock}
 use Rattle.image_commands.specs.Openings.{TwoPaths}
-use Rattle.image_commands.specs.SuperblockTexts.{line_text, superblock_text}
+use Rattle.image_commands.specs.SuperblockTexts.{table_line_text, superblock_text}
 use Rattle.image_files.specs.Opener.{Calls, Opener, calls}
 use Rattle.verity_commands.specs.declared.fault.VerityFault.{VerityFault}
-use Rattle.verity_commands.specs.Endings.{IsImageEnd, IsQuiet, IsUnsaid}
+use Rattle.verity_commands.specs.Endings.{IsImageEnd, IsVerityQuiet, IsUnsaid}
 
 abbrev pub paths : List ℕ → List ℕ → TwoPaths
 paths image hash = record { data_path = image; hash_path = hash }
@@ -34,7 +34,7 @@ abbrev pub ServesFiles : {S D T G : Type 0} → OptionTexts → ImageInvocation 
 ServesFiles texts (Format image hash) w drawing old new = FormatsFiles texts w drawing (paths image.now hash.now) old new
 ServesFiles texts (Verify image hash root) w drawing old new = PrintsMatches w (paths image.now hash.now) root old new
 ServesFiles texts (Dump hash) w drawing old new = PrintsSuperblock w hash.now superblock_text old new
-ServesFiles texts (Table hash root image_name hash_name) w drawing old new = PrintsSuperblock w hash.now (λ s. line_text s image_name.now hash_name.now root) old new
+ServesFiles texts (Table hash root image_name hash_name) w drawing old new = PrintsSuperblock w hash.now (λ s. table_line_text s image_name.now hash_name.now root) old new
 
 -- why each ends early; of a line that can't be written it says that the writer failed
 abbrev pub IsFilesCause : {S D T G : Type 0} → OptionTexts → ImageInvocation → Calls S D → Drawing T G → Bool → VerityFault → Type 0
@@ -45,7 +45,7 @@ IsFilesCause texts (Table hash root image_name hash_name) w drawing failed fault
 
 -- and nothing is printed before
 abbrev pub FailsFiles : {S D T G : Type 0} → OptionTexts → ImageInvocation → Calls S D → Drawing T G → Option (List ℕ) → Option (List ℕ) → Bool → VerityFault → Type 0
-FailsFiles texts invocation w drawing old new failed fault = IsFilesCause texts invocation w drawing failed fault × IsQuiet fault old new
+FailsFiles texts invocation w drawing old new failed fault = IsFilesCause texts invocation w drawing failed fault × IsVerityQuiet fault old new
 
 -- ---- as a call sees them, by the program's own words
 

@@ -27,9 +27,9 @@ use Rattle.image_commands.specs.SuperblockJson.{dump_text}
 use Rattle.image_files.specs.Opener.{Calls, Opener, calls}
 use Rattle.verity_commands.specs.declared.fault.VerityFault.{VerityFault}
 use Rattle.verity_commands.specs.declared.fault.VerityFault.TheVariants.{Usage}
-use Rattle.verity_commands.specs.Endings.{IsImageEnd, IsQuiet, IsUnsaid}
+use Rattle.verity_commands.specs.Endings.{IsImageEnd, IsVerityQuiet, IsUnsaid}
 use Rattle.verity_commands.specs.Growing.{FormatsGrowing, IsGrowingEnd}
-use Rattle.verity_commands.specs.Places.{IsRootEnd, TellsRoot, places_of, start_of}
+use Rattle.verity_commands.specs.Places.{IsRootEnd, TellsRoot, image_places, start_of}
 use Rattle.verity_format.specs.declared.formatting.FormatFault.TheVariants.{HashTooSmall}
 
 -- the words are none of the command's, and nothing is opened
@@ -41,13 +41,13 @@ pub record PrintsVerified {S D : Type 0} (w : Calls S D) (v : VerifyRecord) (old
   pub between : S
   pub found : List ℕ
   pub told : TellsRoot (record w { new = between }) v.root found
-  pub matches : PrintsPlacedMatches (record w { old = between }) (places_of v.data_path v.hash_path v.hash_offset) found old new
+  pub matches : PrintsPlacedMatches (record w { old = between }) (image_places v.data_path v.hash_path v.hash_offset) found old new
 
 pub record EndsVerified {S D : Type 0} (w : Calls S D) (v : VerifyRecord) (failed : Bool) (fault : ImageFault) : Type 0 where
   pub between : S
   pub found : List ℕ
   pub told : TellsRoot (record w { new = between }) v.root found
-  pub ends : IsPlacedMatchesEnd (record w { old = between }) (places_of v.data_path v.hash_path v.hash_offset) found failed fault
+  pub ends : IsPlacedMatchesEnd (record w { old = between }) (image_places v.data_path v.hash_path v.hash_offset) found failed fault
 
 abbrev pub IsVerifiedEnd : {S D : Type 0} → Calls S D → VerifyRecord → Bool → ImageFault → Type 0
 IsVerifiedEnd w v failed fault = IsRootEnd w v.root fault ⊎ EndsVerified w v failed fault
@@ -88,30 +88,30 @@ IsFormattingEnd false w drawing options places failed fault = IsFormatPlacedEnd 
 
 abbrev pub FormatsAt : {S D T G : Type 0} → OptionTexts → Calls S D → Drawing T G → FormatRecord → Option (List ℕ) → Option (List ℕ) → Type 0
 FormatsAt texts w drawing f old new =
-    (options : ImageOptions) × AreSaid texts options × FormatsPlaced f.grow w drawing options (places_of f.data_path f.hash_path f.hash_offset) old new
+    (options : ImageOptions) × AreSaid texts options × FormatsPlaced f.grow w drawing options (image_places f.data_path f.hash_path f.hash_offset) old new
 
 -- a word of `format`'s options says no value, or memory ran out while they were read, and nothing was opened; or it ended so
-abbrev pub IsFormatEnd : {S D T G : Type 0} → OptionTexts → Calls S D → Drawing T G → FormatRecord → Option (List ℕ) → Option (List ℕ) → Bool → VerityFault → Type 0
-IsFormatEnd texts w drawing f old new failed fault =
+abbrev pub IsSaidFormatEnd : {S D T G : Type 0} → OptionTexts → Calls S D → Drawing T G → FormatRecord → Option (List ℕ) → Option (List ℕ) → Bool → VerityFault → Type 0
+IsSaidFormatEnd texts w drawing f old new failed fault =
     ((IsUnsaid fault × (w.new ≡ w.old))
-    ⊎ ((options : ImageOptions) × AreSaid texts options × IsImageEnd (IsFormattingEnd f.grow w drawing options (places_of f.data_path f.hash_path f.hash_offset) failed) fault))
-    × IsQuiet fault old new
+    ⊎ ((options : ImageOptions) × AreSaid texts options × IsImageEnd (IsFormattingEnd f.grow w drawing options (image_places f.data_path f.hash_path f.hash_offset) failed) fault))
+    × IsVerityQuiet fault old new
 
 abbrev pub VerifiesAt : {S D : Type 0} → Calls S D → VerifyRecord → Option (List ℕ) → Option (List ℕ) → Type 0
 VerifiesAt w v old new = (v.all ≡ false) × PrintsVerified w v old new
 
-abbrev pub IsVerifyEnd : {S D : Type 0} → Calls S D → VerifyRecord → Option (List ℕ) → Option (List ℕ) → Bool → VerityFault → Type 0
-IsVerifyEnd w v old new failed fault =
-    ((v.all ≡ true) × IsRefusedUnread w fault × (new ≡ old)) ⊎ (IsImageEnd (IsVerifiedEnd w v failed) fault × IsQuiet fault old new)
+abbrev pub IsSaidVerifyEnd : {S D : Type 0} → Calls S D → VerifyRecord → Option (List ℕ) → Option (List ℕ) → Bool → VerityFault → Type 0
+IsSaidVerifyEnd w v old new failed fault =
+    ((v.all ≡ true) × IsRefusedUnread w fault × (new ≡ old)) ⊎ (IsImageEnd (IsVerifiedEnd w v failed) fault × IsVerityQuiet fault old new)
 
 abbrev pub DumpsAt : {S D : Type 0} → Calls S D → DumpRecord → Option (List ℕ) → Option (List ℕ) → Type 0
 DumpsAt w d old new = PrintsPlacedSuper w d.hash_path (d.hash_offset / 512) (λ s. true) (dump_text d.json) old new
 
 abbrev pub IsDumpEnd : {S D : Type 0} → Calls S D → DumpRecord → Option (List ℕ) → Option (List ℕ) → Bool → VerityFault → Type 0
-IsDumpEnd w d old new failed fault = IsImageEnd (IsPlacedImageEnd w d.hash_path (d.hash_offset / 512) failed) fault × IsQuiet fault old new
+IsDumpEnd w d old new failed fault = IsImageEnd (IsPlacedImageEnd w d.hash_path (d.hash_offset / 512) failed) fault × IsVerityQuiet fault old new
 
 abbrev pub IsTableEnd : {S D : Type 0} → Calls S D → TableRecord → Option (List ℕ) → Option (List ℕ) → Bool → VerityFault → Type 0
-IsTableEnd w t old new failed fault = IsImageEnd (IsEntryEnd w t failed) fault × IsQuiet fault old new
+IsTableEnd w t old new failed fault = IsImageEnd (IsEntryEnd w t failed) fault × IsVerityQuiet fault old new
 
 -- ---- as a call sees them
 
@@ -131,13 +131,13 @@ FormatsByWords relations state images images' d contents writer writer' options 
 
 abbrev pub FailsToFormat : {S D T G W : Type 0} → Opener S D → (D → Device) → S → S → Drawing T G → (W → Option (List ℕ)) → CountedRecord W → CountedRecord W → OptionWords → FormatWords → VerityFault → Type 0
 FailsToFormat relations state images images' d contents writer writer' options words =
-    IsFormatEnd (option_texts options) (calls relations state images images') d (format_record words) (contents writer.inner) (contents writer'.inner) writer'.failed
+    IsSaidFormatEnd (option_texts options) (calls relations state images images') d (format_record words) (contents writer.inner) (contents writer'.inner) writer'.failed
 
 abbrev pub VerifiesByWords : {S D W : Type 0} → Opener S D → (D → Device) → S → S → (W → Option (List ℕ)) → CountedRecord W → CountedRecord W → VerifyWords → Type 0
 VerifiesByWords relations state images images' contents writer writer' words = VerifiesAt (calls relations state images images') (verify_record words) (contents writer.inner) (contents writer'.inner)
 
-abbrev pub FailsToVerify : {S D W : Type 0} → Opener S D → (D → Device) → S → S → (W → Option (List ℕ)) → CountedRecord W → CountedRecord W → VerifyWords → VerityFault → Type 0
-FailsToVerify relations state images images' contents writer writer' words = IsVerifyEnd (calls relations state images images') (verify_record words) (contents writer.inner) (contents writer'.inner) writer'.failed
+abbrev pub FailsToVerifyByWords : {S D W : Type 0} → Opener S D → (D → Device) → S → S → (W → Option (List ℕ)) → CountedRecord W → CountedRecord W → VerifyWords → VerityFault → Type 0
+FailsToVerifyByWords relations state images images' contents writer writer' words = IsSaidVerifyEnd (calls relations state images images') (verify_record words) (contents writer.inner) (contents writer'.inner) writer'.failed
 
 abbrev pub DumpsByWords : {S D W : Type 0} → Opener S D → (D → Device) → S → S → (W → Option (List ℕ)) → CountedRecord W → CountedRecord W → DumpWords → Type 0
 DumpsByWords relations state images images' contents writer writer' words = DumpsAt (calls relations state images images') (dump_record words) (contents writer.inner) (contents writer'.inner)
@@ -148,5 +148,5 @@ FailsToDump relations state images images' contents writer writer' words = IsDum
 abbrev pub PrintsByWords : {S D W : Type 0} → Opener S D → (D → Device) → S → S → (W → Option (List ℕ)) → CountedRecord W → CountedRecord W → TableWords → Type 0
 PrintsByWords relations state images images' contents writer writer' words = PrintsEntry (calls relations state images images') (table_record words) (contents writer.inner) (contents writer'.inner)
 
-abbrev pub FailsToPrint : {S D W : Type 0} → Opener S D → (D → Device) → S → S → (W → Option (List ℕ)) → CountedRecord W → CountedRecord W → TableWords → VerityFault → Type 0
-FailsToPrint relations state images images' contents writer writer' words = IsTableEnd (calls relations state images images') (table_record words) (contents writer.inner) (contents writer'.inner) writer'.failed
+abbrev pub FailsToPrintTable : {S D W : Type 0} → Opener S D → (D → Device) → S → S → (W → Option (List ℕ)) → CountedRecord W → CountedRecord W → TableWords → VerityFault → Type 0
+FailsToPrintTable relations state images images' contents writer writer' words = IsTableEnd (calls relations state images images') (table_record words) (contents writer.inner) (contents writer'.inner) writer'.failed

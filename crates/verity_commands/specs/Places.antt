@@ -20,8 +20,8 @@ IsRootEnd w (digest root) fault = ⊥
 IsRootEnd w (root_file path) fault = IsRootFileEnd w path fault
 
 -- the paths of data and hash images, and the sector at which the hash image begins
-abbrev pub places_of : List ℕ → List ℕ → ℕ → TwoPlaces
-places_of image hash offset = record { paths = record { data_path = image; hash_path = hash }; first = offset / 512 }
+abbrev pub image_places : List ℕ → List ℕ → ℕ → TwoPlaces
+image_places image hash offset = record { paths = record { data_path = image; hash_path = hash }; first = offset / 512 }
 
 -- the hash image's path and first sector
 abbrev pub start_of : TwoPlaces → HashStart

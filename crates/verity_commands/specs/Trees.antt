@@ -24,9 +24,9 @@ use Rattle.image_commands.specs.TreePlaces.{given_options}
 use Rattle.image_files.specs.Opener.{Calls, Opener, calls}
 use Rattle.verity_format.specs.declared.formatting.FormatOptions.{FormatOptions}
 use Rattle.verity_commands.specs.declared.fault.VerityFault.{VerityFault}
-use Rattle.verity_commands.specs.Endings.{IsImageEnd, IsQuiet, IsUnsaid}
+use Rattle.verity_commands.specs.Endings.{IsImageEnd, IsVerityQuiet, IsUnsaid}
 use Rattle.verity_commands.specs.Growing.{FormatsGrowing, IsGrowingEnd}
-use Rattle.verity_commands.specs.Places.{IsRootEnd, TellsRoot, places_of, start_of}
+use Rattle.verity_commands.specs.Places.{IsRootEnd, TellsRoot, image_places, start_of}
 use Rattle.verity_format.specs.declared.formatting.FormatFault.TheVariants.{HashTooSmall}
 
 -- the values of the options, whose salt is given
@@ -48,24 +48,24 @@ abbrev pub IsMakingEnd : {S D T G : Type 0} → Bool → Calls S D → Drawing T
 IsMakingEnd true w drawing options places failed fault = IsGrowingEnd w drawing (start_of places) (IsTooSmallForTree options places) (λ w' d' f. IsTreeFormatEnd w' d' options places failed f) fault
 IsMakingEnd false w drawing options places failed fault = IsTreeFormatEnd w drawing options places failed fault
 
-abbrev pub FormatsTree : {S D T G : Type 0} → OptionTexts → Calls S D → Drawing T G → TreeFormatRecord → Option (List ℕ) → Option (List ℕ) → Type 0
-FormatsTree texts w drawing f old new =
-    (options : ImageOptions) × AreSaid texts options × MakesTreeAt f.grow w drawing options (places_of f.data_path f.hash_path f.hash_offset) old new
+abbrev pub FormatsSaidTree : {S D T G : Type 0} → OptionTexts → Calls S D → Drawing T G → TreeFormatRecord → Option (List ℕ) → Option (List ℕ) → Type 0
+FormatsSaidTree texts w drawing f old new =
+    (options : ImageOptions) × AreSaid texts options × MakesTreeAt f.grow w drawing options (image_places f.data_path f.hash_path f.hash_offset) old new
 
-abbrev pub IsFormatTreeEnd : {S D T G : Type 0} → OptionTexts → Calls S D → Drawing T G → TreeFormatRecord → Option (List ℕ) → Option (List ℕ) → Bool → VerityFault → Type 0
-IsFormatTreeEnd texts w drawing f old new failed fault =
+abbrev pub IsSaidFormatTreeEnd : {S D T G : Type 0} → OptionTexts → Calls S D → Drawing T G → TreeFormatRecord → Option (List ℕ) → Option (List ℕ) → Bool → VerityFault → Type 0
+IsSaidFormatTreeEnd texts w drawing f old new failed fault =
     ((IsUnsaid fault × (w.new ≡ w.old))
-    ⊎ ((options : ImageOptions) × AreSaid texts options × IsImageEnd (IsMakingEnd f.grow w drawing options (places_of f.data_path f.hash_path f.hash_offset) failed) fault))
-    × IsQuiet fault old new
+    ⊎ ((options : ImageOptions) × AreSaid texts options × IsImageEnd (IsMakingEnd f.grow w drawing options (image_places f.data_path f.hash_path f.hash_offset) failed) fault))
+    × IsVerityQuiet fault old new
 
 -- `verify`: the root was told, and then the images compared
-pub record VerifiesTree {S D : Type 0} (texts : OptionTexts) (w : Calls S D) (v : TreeVerifyRecord) (old new : Option (List ℕ)) : Type 0 where
+pub record VerifiesSaidTree {S D : Type 0} (texts : OptionTexts) (w : Calls S D) (v : TreeVerifyRecord) (old new : Option (List ℕ)) : Type 0 where
   pub given : FormatOptions
   pub between : S
   pub found : List ℕ
   pub said : SaysTree texts given
   pub told : TellsRoot (record w { new = between }) v.root found
-  pub matches : PrintsTreeMatches (record w { old = between }) (places_of v.data_path v.hash_path v.hash_offset) given found old new
+  pub matches : PrintsTreeMatches (record w { old = between }) (image_places v.data_path v.hash_path v.hash_offset) given found old new
 
 pub record EndsVerifiedTree {S D : Type 0} (texts : OptionTexts) (w : Calls S D) (v : TreeVerifyRecord) (failed : Bool) (fault : ImageFault) : Type 0 where
   pub given : FormatOptions
@@ -73,11 +73,11 @@ pub record EndsVerifiedTree {S D : Type 0} (texts : OptionTexts) (w : Calls S D)
   pub found : List ℕ
   pub said : SaysTree texts given
   pub told : TellsRoot (record w { new = between }) v.root found
-  pub ends : IsTreeMatchesEnd (record w { old = between }) (places_of v.data_path v.hash_path v.hash_offset) given found failed fault
+  pub ends : IsTreeMatchesEnd (record w { old = between }) (image_places v.data_path v.hash_path v.hash_offset) given found failed fault
 
 abbrev pub IsVerifyTreeEnd : {S D : Type 0} → OptionTexts → Calls S D → TreeVerifyRecord → Option (List ℕ) → Option (List ℕ) → Bool → VerityFault → Type 0
 IsVerifyTreeEnd texts w v old new failed fault =
-    ((IsUnsaid fault × (w.new ≡ w.old)) ⊎ IsImageEnd (λ f. IsRootEnd w v.root f ⊎ EndsVerifiedTree texts w v failed f) fault) × IsQuiet fault old new
+    ((IsUnsaid fault × (w.new ≡ w.old)) ⊎ IsImageEnd (λ f. IsRootEnd w v.root f ⊎ EndsVerifiedTree texts w v failed f) fault) × IsVerityQuiet fault old new
 
 -- `table`: the root was told, and then the line printed that the words give
 pub record PrintsTreeEntry {S D : Type 0} (texts : OptionTexts) (w : Calls S D) (t : TreeTableRecord) (old new : Option (List ℕ)) : Type 0 where
@@ -99,7 +99,7 @@ pub record EndsTreeEntry {S D : Type 0} (texts : OptionTexts) (w : Calls S D) (t
 
 abbrev pub IsTableTreeEnd : {S D : Type 0} → OptionTexts → Calls S D → TreeTableRecord → Option (List ℕ) → Option (List ℕ) → Bool → VerityFault → Type 0
 IsTableTreeEnd texts w t old new failed fault =
-    ((IsUnsaid fault × (w.new ≡ w.old)) ⊎ IsImageEnd (λ f. IsRootEnd w t.root f ⊎ EndsTreeEntry texts w t failed f) fault) × IsQuiet fault old new
+    ((IsUnsaid fault × (w.new ≡ w.old)) ⊎ IsImageEnd (λ f. IsRootEnd w t.root f ⊎ EndsTreeEntry texts w t failed f) fault) × IsVerityQuiet fault old new
 
 -- ---- as a call sees them, as in `Placed`
 
@@ -113,18 +113,18 @@ FailsGrownTree relations state images images' d writer' options watched =
 
 abbrev pub FormatsTreeByWords : {S D T G W : Type 0} → Opener S D → (D → Device) → S → S → Drawing T G → (W → Option (List ℕ)) → CountedRecord W → CountedRecord W → OptionWords → TreeFormatWords → Type 0
 FormatsTreeByWords relations state images images' d contents writer writer' options words =
-    FormatsTree (option_texts options) (calls relations state images images') d (tree_format_record words) (contents writer.inner) (contents writer'.inner)
+    FormatsSaidTree (option_texts options) (calls relations state images images') d (tree_format_record words) (contents writer.inner) (contents writer'.inner)
 
 abbrev pub FailsToFormatTree : {S D T G W : Type 0} → Opener S D → (D → Device) → S → S → Drawing T G → (W → Option (List ℕ)) → CountedRecord W → CountedRecord W → OptionWords → TreeFormatWords → VerityFault → Type 0
 FailsToFormatTree relations state images images' d contents writer writer' options words =
-    IsFormatTreeEnd (option_texts options) (calls relations state images images') d (tree_format_record words) (contents writer.inner) (contents writer'.inner) writer'.failed
+    IsSaidFormatTreeEnd (option_texts options) (calls relations state images images') d (tree_format_record words) (contents writer.inner) (contents writer'.inner) writer'.failed
 
 abbrev pub VerifiesTreeByWords : {S D W : Type 0} → Opener S D → (D → Device) → S → S → (W → Option (List ℕ)) → CountedRecord W → CountedRecord W → OptionWords → TreeVerifyWords → Type 0
 VerifiesTreeByWords relations state images images' contents writer writer' options words =
-    VerifiesTree (option_texts options) (calls relations state images images') (tree_verify_record words) (contents writer.inner) (contents writer'.inner)
+    VerifiesSaidTree (option_texts options) (calls relations state images images') (tree_verify_record words) (contents writer.inner) (contents writer'.inner)
 
-abbrev pub FailsToVerifyTree : {S D W : Type 0} → Opener S D → (D → Device) → S → S → (W → Option (List ℕ)) → CountedRecord W → CountedRecord W → OptionWords → TreeVerifyWords → VerityFault → Type 0
-FailsToVerifyTree relations state images images' contents writer writer' options words =
+abbrev pub FailsToVerifySaidTree : {S D W : Type 0} → Opener S D → (D → Device) → S → S → (W → Option (List ℕ)) → CountedRecord W → CountedRecord W → OptionWords → TreeVerifyWords → VerityFault → Type 0
+FailsToVerifySaidTree relations state images images' contents writer writer' options words =
     IsVerifyTreeEnd (option_texts options) (calls relations state images images') (tree_verify_record words) (contents writer.inner) (contents writer'.inner) writer'.failed
 
 abbrev pub PrintsTreeByWords : {S D W : Type 0} → Opener S D → (D → Device) → S → S → (W → Option (List ℕ)) → CountedRecord W → CountedRecord W → OptionWords → TreeTableWords → Type 0

@@ -4,10 +4,10 @@ ghost use Rattle.image_commands.specs.declared.fault.ImageFault.TheVariants as i
 ghost use Rattle.image_commands.specs.Drawing.{drawing};
 ghost use Rattle.image_commands.specs.Endings.{IsQuiet};
 ghost use Rattle.image_commands.specs.PlacedFormats.{FailsToFormatAt, FormatsImagesAt};
-ghost use Rattle.image_commands.specs.TreeFormats.{FailsToFormatTree, FormatsTree};
+ghost use Rattle.image_commands.specs.TreeFormats.{FailsToPlaceTree, FormatsTree};
 ghost use Rattle.image_files.specs.Opener.{calls};
 ghost use Rattle.verity_format.specs.declared.formatting.FormatFault.TheVariants as format_fault;
-ghost use Rattle.verity_commands.specs.Growing.{Grows, IsRoomFor, IsUngrown};
+ghost use Rattle.verity_commands.specs.Growing.{GrowsFile, IsRoomFor, IsUngrown};
 ghost use Rattle.verity_commands.specs.Placed.{FailsGrownImage, MakesGrownImage};
 ghost use Rattle.verity_commands.specs.Trees.{FailsGrownTree, MakesGrownTree};
 
@@ -29,7 +29,7 @@ fn make_room<'a, I: Images>(
     path: &'a str,
     sectors: u64,
 ) -> Result<(), ImageFault<'a>>
-    ensures ok { OnOk result (Grows (calls I.relations I.Dev.state images.old images.new) path.now sectors) }
+    ensures ok { OnOk result (GrowsFile (calls I.relations I.Dev.state images.old images.new) path.now sectors) }
     ensures err { IfErr result (IsUngrown (calls I.relations I.Dev.state images.old images.new) path.now sectors) }
 {
     match images.grow(path, sectors) {
@@ -108,7 +108,7 @@ fn try_tree<'a, I: Images, G: Generators + Watchers, W: Write>(
     writer: &mut Counted<W>,
 ) -> Result<(), ImageFault<'a>>
     ensures ok { OnOk result (FormatsTree I.relations I.Dev.state images.old images.new G.gives G.Generator.stream generators.old generators.new W.contents writer.old writer.new options.now watched.now) }
-    ensures err { IfErr result (FailsToFormatTree I.relations I.Dev.state images.old images.new G.gives G.Generator.stream generators.old generators.new writer.new options.now watched.now) }
+    ensures err { IfErr result (FailsToPlaceTree I.relations I.Dev.state images.old images.new G.gives G.Generator.stream generators.old generators.new writer.new options.now watched.now) }
     ensures quiet { IfErr result (λ fault. IsQuiet fault (W.contents writer.old.inner) (W.contents writer.new.inner)) }
 {
     format_tree(alloc, images, generators, *options, *watched, writer)

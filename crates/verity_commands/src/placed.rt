@@ -1,7 +1,7 @@
 //! The commands on verity images with a place for superblock and tree.
 ghost use Rattle.std.specs.Prelude.{OnOk, IfErr};
 ghost use Rattle.image_commands.specs.Drawing.{drawing};
-ghost use Rattle.verity_commands.specs.Placed.{DumpsByWords, FailsToDump, FailsToFormat, FailsToPrint, FailsToVerify, FormatsByWords, PrintsByWords, VerifiesByWords};
+ghost use Rattle.verity_commands.specs.Placed.{DumpsByWords, FailsToDump, FailsToFormat, FailsToPrintTable, FailsToVerifyByWords, FormatsByWords, PrintsByWords, VerifiesByWords};
 
 use crate::fault::VerityFault;
 use crate::growing::format_growing;
@@ -53,7 +53,7 @@ pub fn invoke_verify<'a, I: Images, S: Watchers, W: Write>(
     writer: &mut Counted<W>,
 ) -> Result<(), VerityFault<'a>>
     ensures ok { OnOk result (VerifiesByWords I.relations I.Dev.state images.old images.new W.contents writer.old writer.new words.now) }
-    ensures err { IfErr result (FailsToVerify I.relations I.Dev.state images.old images.new W.contents writer.old writer.new words.now) }
+    ensures err { IfErr result (FailsToVerifyByWords I.relations I.Dev.state images.old images.new W.contents writer.old writer.new words.now) }
 {
     if words.all {
         return Err(VerityFault::Usage);
@@ -94,7 +94,7 @@ pub fn invoke_table<'a, I: Images, W: Write>(
     writer: &mut Counted<W>,
 ) -> Result<(), VerityFault<'a>>
     ensures ok { OnOk result (PrintsByWords I.relations I.Dev.state images.old images.new W.contents writer.old writer.new words.now) }
-    ensures err { IfErr result (FailsToPrint I.relations I.Dev.state images.old images.new W.contents writer.old writer.new words.now) }
+    ensures err { IfErr result (FailsToPrintTable I.relations I.Dev.state images.old images.new W.contents writer.old writer.new words.now) }
 {
     let root = root_in(images, &words.root)?;
     let place = HashPlace {

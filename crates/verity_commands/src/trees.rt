@@ -3,7 +3,7 @@ ghost use Rattle.std.specs.Prelude.{OnOk, IfErr, IfOk};
 ghost use Rattle.command_line.specs.FormatOptions.{option_texts};
 ghost use Rattle.image_commands.specs.Drawing.{drawing};
 ghost use Rattle.verity_commands.specs.Endings.{IsUnsaid};
-ghost use Rattle.verity_commands.specs.Trees.{FailsToFormatTree, FailsToPrintTree, FailsToVerifyTree, FormatsTreeByWords, PrintsTreeByWords, SaysTree, VerifiesTreeByWords};
+ghost use Rattle.verity_commands.specs.Trees.{FailsToFormatTree, FailsToPrintTree, FailsToVerifySaidTree, FormatsTreeByWords, PrintsTreeByWords, SaysTree, VerifiesTreeByWords};
 
 use crate::fault::VerityFault;
 use crate::growing::format_tree_growing;
@@ -57,7 +57,7 @@ pub fn invoke_verify_tree<'a, I: Images, S: Watchers, W: Write>(
     writer: &mut Counted<W>,
 ) -> Result<(), VerityFault<'a>>
     ensures ok { OnOk result (VerifiesTreeByWords I.relations I.Dev.state images.old images.new W.contents writer.old writer.new options.now words.now) }
-    ensures err { IfErr result (FailsToVerifyTree I.relations I.Dev.state images.old images.new W.contents writer.old writer.new options.now words.now) }
+    ensures err { IfErr result (FailsToVerifySaidTree I.relations I.Dev.state images.old images.new W.contents writer.old writer.new options.now words.now) }
 {
     let options = tree_options(alloc, options)?;
     let root = root_in(images, &words.root)?;

@@ -9,10 +9,10 @@ use Rattle.std.proofs.lemmas.List.{take_all, length-take-le, length-drop}
 use borrow.Author.Tests.{eqb-true}
 use Rattle.tree_shape.specs.declared.shape.ShapeFault.{ShapeFault}
 use Rattle.tree_shape.specs.declared.shape.ShapeFault.TheVariants.{BlockSize, NoBlocks, TooLarge}
-use Rattle.tree_shape.specs.Shape.{ShapeRecord, IsShape, first_fault, is_block_size, is_too_large, sectors_of, area_end}
+use Rattle.tree_shape.specs.Shape.{ShapeRecord, IsShape, first_fault, is_block_size, is_too_large, blocks_sectors, area_end}
 use Rattle.tree_shape.proofs.lemmas.ShapeFaultLemmas.{IsShape-from_no_fault}
 use Rattle.verity_format.specs.declared.decoding.SuperFault.TheVariants.{Signature, Version, HashType, Algorithm, DataBlockSize, HashBlockSize, DataBlocks, SaltSize}
-use Rattle.verity_format.specs.Superblock.{SuperRecord, shape_of, shape_after, Carries, number16, number32, number64, signature, algorithm_of, super_fault, read_of}
+use Rattle.verity_format.specs.Superblock.{SuperRecord, shape_of, shape_after, Carries, field_number16, field_number32, field_number64, signature, algorithm_of, super_fault, read_of}
 
 -- a list up to the first place that passes, found or not
 pub take-position : (p : ℕ → Bool) (xs : List ℕ) → take (unwrap_or (position p xs) (length xs)) xs ≡ before_first p xs
@@ -47,10 +47,10 @@ at_most n h = grind (arith, nat_tests)
 pub carried-read : (bytes : List ℕ) → length bytes ≡ 512 → super_fault bytes ≡ None → Carries (read_of bytes) bytes
 unfolding super_fault read_of
 carried-read bytes size h =
-    let parts = passed (bytes_eq (slice_range bytes 0 8) signature) (number32 bytes 8 == 1) (number32 bytes 12 == 1) (bytes_eq (algorithm_of bytes) (codes "sha256"))
-    (is_block_size (number32 bytes 64)) (is_block_size (number32 bytes 68)) (is_some (first_fault (shape_after (number32 bytes 64) (number32 bytes 68) (number64 bytes 72)))) (nat_lt 256 (number16 bytes 80)) h in
-    let few : number16 bytes 80 ≤ 256 = at_most (number16 bytes 80) parts.7 in
-    let long : length (slice_range bytes 88 (88 + number16 bytes 80)) ≡ number16 bytes 80 = ranged bytes 88 (number16 bytes 80) (omega (arith, few, size)) in
+    let parts = passed (bytes_eq (slice_range bytes 0 8) signature) (field_number32 bytes 8 == 1) (field_number32 bytes 12 == 1) (bytes_eq (algorithm_of bytes) (codes "sha256"))
+    (is_block_size (field_number32 bytes 64)) (is_block_size (field_number32 bytes 68)) (is_some (first_fault (shape_after (field_number32 bytes 64) (field_number32 bytes 68) (field_number64 bytes 72)))) (nat_lt 256 (field_number16 bytes 80)) h in
+    let few : field_number16 bytes 80 ≤ 256 = at_most (field_number16 bytes 80) parts.7 in
+    let long : length (slice_range bytes 88 (88 + field_number16 bytes 80)) ≡ field_number16 bytes 80 = ranged bytes 88 (field_number16 bytes 80) (omega (arith, few, size)) in
     record {
       valid = record {
         uuid = ranged bytes 16 16 (omega (arith, size));
@@ -77,7 +77,7 @@ carried-read bytes size h =
 pub same-read : (s : SuperRecord) (bytes : List ℕ) → Carries s bytes → read_of bytes ≡ s
 unfolding read_of
 same-read s bytes h =
-    let salt : slice_range bytes 88 (88 + number16 bytes 80) ≡ s.salt = ap (λ n. slice_range bytes 88 (88 + n)) h.salt_size ∙ h.salt in
+    let salt : slice_range bytes 88 (88 + field_number16 bytes 80) ≡ s.salt = ap (λ n. slice_range bytes 88 (88 + n)) h.salt_size ∙ h.salt in
     rw (h.uuid, h.data_block, h.hash_block, h.blocks, salt) refl
 
 is_true : (b : Bool) → IsTrue b → b ≡ true
@@ -96,7 +96,7 @@ nonzero n h = grind (arith, nat_tests)
 -- a shape has no fault
 pub no_fault-from_IsShape : (s : ShapeRecord) → IsShape s → first_fault s ≡ None
 unfolding first_fault
-no_fault-from_IsShape s h = shape_chain (is_block_size s.data_block) (is_block_size s.hash_block) (s.blocks == 0) (is_too_large (sectors_of s.blocks s.data_block)) (is_too_large (sectors_of (area_end s) s.hash_block))
+no_fault-from_IsShape s h = shape_chain (is_block_size s.data_block) (is_block_size s.hash_block) (s.blocks == 0) (is_too_large (blocks_sectors s.blocks s.data_block)) (is_too_large (blocks_sectors (area_end s) s.hash_block))
     (is_true _ h.data_size) (is_true _ h.hash_size) (nonzero s.blocks h.some) (fitting _ h.data_fits) (fitting _ h.tree_fits)
 
 chain : (a b c d e f g h : Bool) → a ≡ true → b ≡ true → c ≡ true → d ≡ true → e ≡ true → f ≡ true → g ≡ false → h ≡ false
@@ -113,10 +113,10 @@ one n h = rw h refl
 pub no_fault-from_Carries : (s : SuperRecord) (bytes : List ℕ) → Carries s bytes → super_fault bytes ≡ None
 unfolding super_fault
 no_fault-from_Carries s bytes h =
-    let shape : first_fault (shape_after (number32 bytes 64) (number32 bytes 68) (number64 bytes 72)) ≡ None =
+    let shape : first_fault (shape_after (field_number32 bytes 64) (field_number32 bytes 68) (field_number64 bytes 72)) ≡ None =
     rw (h.data_block, h.hash_block, h.blocks) (no_fault-from_IsShape (shape_of s) h.valid.shape) in
-    chain (bytes_eq (slice_range bytes 0 8) signature) (number32 bytes 8 == 1) (number32 bytes 12 == 1) (bytes_eq (algorithm_of bytes) (codes "sha256"))
-    (is_block_size (number32 bytes 64)) (is_block_size (number32 bytes 68)) (is_some (first_fault (shape_after (number32 bytes 64) (number32 bytes 68) (number64 bytes 72)))) (nat_lt 256 (number16 bytes 80))
+    chain (bytes_eq (slice_range bytes 0 8) signature) (field_number32 bytes 8 == 1) (field_number32 bytes 12 == 1) (bytes_eq (algorithm_of bytes) (codes "sha256"))
+    (is_block_size (field_number32 bytes 64)) (is_block_size (field_number32 bytes 68)) (is_some (first_fault (shape_after (field_number32 bytes 64) (field_number32 bytes 68) (field_number64 bytes 72)))) (nat_lt 256 (field_number16 bytes 80))
     ((bytes_eq-Decides _ _).1 h.signature) (one _ h.version) (one _ h.hash_type) ((bytes_eq-Decides _ _).1 h.algorithm)
     (rw h.data_block (is_true _ h.valid.shape.data_size)) (rw h.hash_block (is_true _ h.valid.shape.hash_size))
     (ap is_some shape) (few _ (omega (arith, h.salt_size, h.valid.salt)))

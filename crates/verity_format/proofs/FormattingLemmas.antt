@@ -7,7 +7,7 @@ use Rattle.std.proofs.lemmas.List.Elements.{All-take, All-drop}
 use Rattle.block_device.specs.Device.{Device, IsSector, HasFailed, IsWritten, capped, run_of, spliced, sectors_of as cut_into}
 use Rattle.block_device.specs.Whole.{length-sectors_of}
 use Rattle.block_device.proofs.lemmas.SectorLemmas.{sectors_of-append, sectors_of-concat, drop-spliced}
-use Rattle.tree_shape.specs.Shape.{ShapeRecord, IsShape, sectors_of, area_blocks}
+use Rattle.tree_shape.specs.Shape.{ShapeRecord, IsShape, blocks_sectors, area_blocks}
 use Rattle.verity_format.specs.declared.access.TreeFault.{TreeFault}
 use Rattle.verity_format.specs.declared.access.TreeFault.TheVariants as tree
 use Rattle.verity_format.specs.Superblock.{SuperRecord, shape_of}
@@ -30,7 +30,7 @@ first-within s k count =
     omega (arith, split, count)
 
 -- hash block 0 after the tree, whether that write failed or not
-pub first-then : (s : ShapeRecord) (a b c : Device) (k : ℕ) (ok : Bool) → k ≡ s.hash_block / 512 → IsPartOfTree s a b → capped b.writes ≡ capped (a.writes + sectors_of (area_blocks s) s.hash_block)
+pub first-then : (s : ShapeRecord) (a b c : Device) (k : ℕ) (ok : Bool) → k ≡ s.hash_block / 512 → IsPartOfTree s a b → capped b.writes ≡ capped (a.writes + blocks_sectors (area_blocks s) s.hash_block)
     → b.failures ≡ a.failures → IsWritten b 0 k ok c → IsWritten a 0 (image_sectors s) ok c
 first-then s a b c k ok count part writes failures w =
     let n = image_sectors s in
@@ -82,7 +82,7 @@ formatted-is s data_image image0 image1 first valid sectors fits is long tree re
 
 -- the write of hash block 0 failed behind the whole tree
 pub fails-at_first : (s : SuperRecord) (data_dev a b c : Device) (first : List ℕ) → HasFailed b c → b.failures ≡ a.failures → HasFailed a c → length first ≡ s.hash_block
-    → IsPartOfTree (shape_of s) a b → capped b.writes ≡ capped (a.writes + sectors_of (area_blocks (shape_of s)) s.hash_block) → IsWritten b 0 (length first / 512) false c
+    → IsPartOfTree (shape_of s) a b → capped b.writes ≡ capped (a.writes + blocks_sectors (area_blocks (shape_of s)) s.hash_block) → IsWritten b 0 (length first / 512) false c
     → (IsTrue data_dev.steady → IsTrue a.steady → spliced b.image 0 (cut_into (length first / 512) first) ≡ formatted s data_dev.image a.image)
     → FailsAtFirstBlock s data_dev a c
 fails-at_first s data_dev a b c first failed failures failed_all long part writes w image =

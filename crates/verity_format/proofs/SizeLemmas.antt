@@ -1,7 +1,7 @@
 -- Block sizes, and how many sectors blocks take.
 use Rattle.std.proofs.Common.{◌≡◌, ◌≤◌, ◌<◌, ◌+◌, ◌*◌, ◌/◌, ◌%◌, ℕ, suc, IsTrue, refl, ap, ◌∙◌, arith, inl, inr}
 use Rattle.std.proofs.Math.Nat.{mul-le-mul_right}
-use Rattle.tree_shape.specs.Shape.{ShapeRecord, IsShape, is_block_size, sectors_of, area_blocks, area_end}
+use Rattle.tree_shape.specs.Shape.{ShapeRecord, IsShape, is_block_size, blocks_sectors, area_blocks, area_end}
 use Rattle.tree_shape.proofs.lemmas.ShapeFaultLemmas.{is_block_size-cases}
 use Rattle.tree_shape.proofs.lemmas.ShapeFactLemmas.{area_end-is}
 use Rattle.std.proofs.Math.Numerals.{one-add}
@@ -33,7 +33,7 @@ block-inside i n k below =
     omega (arith, most, next)
 
 -- where a tree behind hash block 0 has a block, hash block 0 and the tree fit below its end
-pub tree-room : (s : ShapeRecord) → IsShape s → s.start ≡ 1 → (size : ℕ) → sectors_of (area_end s) s.hash_block ≤ size → 0 < area_blocks s
+pub tree-room : (s : ShapeRecord) → IsShape s → s.start ≡ 1 → (size : ℕ) → blocks_sectors (area_end s) s.hash_block ≤ size → 0 < area_blocks s
     → area_blocks s * (s.hash_block / 512) + s.hash_block / 512 ≤ size
 tree-room s valid start size fits some =
     let k = s.hash_block / 512 in

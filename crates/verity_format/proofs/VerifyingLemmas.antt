@@ -1,7 +1,7 @@
 -- What was read of the devices that are compared, and the verdict.
 use Rattle.std.proofs.Common.{◌≡◌, ◌∙◌, ℕ, List, Option, Some, None, IsTrue, refl, subst, inl, inr}
 use Rattle.block_device.specs.Device.{Device}
-use Rattle.tree_shape.specs.Shape.{ShapeRecord, IsShape, sectors_of, area_blocks}
+use Rattle.tree_shape.specs.Shape.{ShapeRecord, IsShape, blocks_sectors, area_blocks}
 use Rattle.hash_tree.specs.Building.{numbered}
 use Rattle.hash_tree.specs.Placing.{IsLeastDiffering}
 use Rattle.verity_format.specs.declared.access.TreeFault.{TreeFault}
@@ -20,8 +20,8 @@ use Rattle.verity_format.proofs.ComparingLemmas.{stands-none, differs-least}
 use Rattle.verity_format.proofs.DeviceLemmas.{full_read-then, failed-then}
 
 -- the superblock's sector, and then the hash blocks
-pub full_read-compared : (s : SuperRecord) (a b c : Device) → IsFullRead a 1 b → IsFullRead b (sectors_of (area_blocks (shape_of s)) s.hash_block) c → IsFullRead a (hash_sectors_read s) c
-full_read-compared s a b c one rest = full_read-then 1 (sectors_of (area_blocks (shape_of s)) s.hash_block) _ one rest refl
+pub full_read-compared : (s : SuperRecord) (a b c : Device) → IsFullRead a 1 b → IsFullRead b (blocks_sectors (area_blocks (shape_of s)) s.hash_block) c → IsFullRead a (hash_sectors_read s) c
+full_read-compared s a b c one rest = full_read-then 1 (blocks_sectors (area_blocks (shape_of s)) s.hash_block) _ one rest refl
 
 -- what was compared, told of an equal shape
 pub compared-shape : (s t : ShapeRecord) (salt salt' : List ℕ) (a b a' b' : Device) (least : Option ℕ) (digest : List ℕ) → s ≡ t → salt ≡ salt'

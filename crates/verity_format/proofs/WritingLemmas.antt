@@ -20,7 +20,7 @@ use Rattle.hash_tree.proofs.lemmas.LawLemmas.{stands-in_shape}
 use Rattle.verity_format.specs.Blocks.{block_at, blocks_at}
 use Rattle.verity_format.specs.Image.{image_sectors}
 use Rattle.verity_format.specs.Growth.{IsRunTaken}
-use Rattle.verity_format.specs.Writing.{MayStand, StandsWithin, IsPartWritten, AreWritten, IsPartOfTree, IsWriting, IsTreeWritten}
+use Rattle.verity_format.specs.Writing.{MayStand, StandsWithin, IsPartWritten, AreBlocksWritten, IsPartOfTree, IsWriting, IsTreeWritten}
 use Rattle.verity_format.proofs.DeviceLemmas.{same-none, same-then, drop-same, steady-then}
 use Rattle.verity_format.proofs.GrowthLemmas.{taken-none, taken-then, out-then, digests-all, read-all, over-all, length-all}
 use Rattle.verity_format.proofs.SizeLemmas.{block-size, tree-room}
@@ -119,7 +119,7 @@ part-one size last n p a b ok stands count w =
       after = λ h. drop-same (p.block * k + n) last b.image a.image (omega (arith, stands.1, count)) (w.after h);
     }
 
-pub written-none : (size : ℕ) (d : Device) → AreWritten size d [] d
+pub written-none : (size : ℕ) (d : Device) → AreBlocksWritten size d [] d
 unfolding written
 written-none size d = record {
   writes = let none : 0 * (size / 512) ≡ 0 = zero-mul (size / 512) in omega (arith, none);
@@ -129,7 +129,7 @@ written-none size d = record {
 
 -- one block
 pub written-one : (size n : ℕ) (p : PlacedRecord) (a b : Device) → IsTrue (is_block_size size) → length p.bytes ≡ size → n ≡ length p.bytes / 512 → p.block * (size / 512) ≤ length a.image
-    → IsWritten a (p.block * (size / 512)) n true b → (IsTrue a.steady → b.image ≡ spliced a.image (p.block * (size / 512)) (cut_into n p.bytes)) → AreWritten size a (p ∷ []) b
+    → IsWritten a (p.block * (size / 512)) n true b → (IsTrue a.steady → b.image ≡ spliced a.image (p.block * (size / 512)) (cut_into n p.bytes)) → AreBlocksWritten size a (p ∷ []) b
 unfolding written
 written-one size n p a b valid sized count inside w image = record {
   writes = let one : 1 * (size / 512) ≡ n = omega (arith, count, ap (λ m. m / 512) sized) in omega (arith, w.writes, one);
@@ -138,7 +138,7 @@ written-one size n p a b valid sized count inside w image = record {
 }
 
 -- blocks after blocks
-pub written-then : (size : ℕ) (ps qs : List PlacedRecord) (a b c : Device) → IsSameDevice a b → AreWritten size a ps b → AreWritten size b qs c → AreWritten size a (ps ++ qs) c
+pub written-then : (size : ℕ) (ps qs : List PlacedRecord) (a b c : Device) → IsSameDevice a b → AreBlocksWritten size a ps b → AreBlocksWritten size b qs c → AreBlocksWritten size a (ps ++ qs) c
 written-then size ps qs a b c same p q =
     let sum : length (ps ++ qs) * (size / 512) ≡ length ps * (size / 512) + length qs * (size / 512) =
     ap (λ n. n * (size / 512)) (length-append ps qs) ∙ (let e : (length ps + length qs) * (size / 512) ≡ length ps * (size / 512) + length qs * (size / 512) = grind arith in e) in
@@ -174,7 +174,7 @@ module _ (s : ShapeRecord) (salt : List ℕ) where
       record {
         taken = taken-none s salt data_dev;
         part = subst (λ ps. IsPartWritten s.hash_block (image_sectors s) (length ps) hash_dev hash_dev) none (part-none s.hash_block (image_sectors s) hash_dev);
-        done = subst (λ ps. AreWritten s.hash_block hash_dev ps hash_dev) none (written-none s.hash_block hash_dev);
+        done = subst (λ ps. AreBlocksWritten s.hash_block hash_dev ps hash_dev) none (written-none s.hash_block hash_dev);
       }
 
   module _ (data_dev hash_dev data' hash' : Device) (x : BuilderRecord) (here : IsWriting s salt data_dev hash_dev data' hash' x) where
@@ -197,8 +197,8 @@ module _ (s : ShapeRecord) (salt : List ℕ) where
       part-last valid none is =
           part-then s.hash_block (image_sectors s) _ _ (area_blocks s) hash_dev hash' hash'' (omega (arith, ap length is, length-all s salt data_dev data' x here.taken valid none)) here.part part
 
-      module _ (done : AreWritten s.hash_block hash' out hash'') where
-        done-then : AreWritten s.hash_block hash_dev (completed (begun_builder s salt) here.taken.digests ++ out) hash''
+      module _ (done : AreBlocksWritten s.hash_block hash' out hash'') where
+        done-then : AreBlocksWritten s.hash_block hash_dev (completed (begun_builder s salt) here.taken.digests ++ out) hash''
         done-then = written-then s.hash_block (completed (begun_builder s salt) here.taken.digests) out hash_dev hash' hash'' here.part.same here.done done
 
         pub writing-then : (data'' : Device) (y : BuilderRecord) → IsRunTaken s salt data' data'' x y out → IsWriting s salt data_dev hash_dev data'' hash'' y
@@ -209,7 +209,7 @@ module _ (s : ShapeRecord) (salt : List ℕ) where
             record {
               taken = taken-then s salt data_dev data' x t data'' y out run;
               part = part-then s.hash_block (image_sectors s) _ _ _ hash_dev hash' hash'' (omega (arith, ap length more, length-append (completed (begun_builder s salt) t.digests) out)) here.part part;
-              done = subst (λ ps. AreWritten s.hash_block hash_dev ps hash'') (sym more) done-then;
+              done = subst (λ ps. AreBlocksWritten s.hash_block hash_dev ps hash'') (sym more) done-then;
             }
 
         pub written-all : IsShape s → s.start ≡ 1 → x.left ≡ 0 → out ≡ last_completed x → (digest : List ℕ) → digest ≡ built_root x → IsTreeWritten s salt data_dev hash_dev data' hash'' digest

@@ -17,6 +17,6 @@ pub record AreDigestsOf (device : Device) (salt : List ℕ) (size first : ℕ) (
   pub over : IsTrue device.steady → digests ≡ map (digest salt) (blocks_at device.image size first (length digests))
 
 -- blocks of that size were read once, from block first on, and these are their digests
-pub record IsRunRead (old : Device) (salt : List ℕ) (size first : ℕ) (taken : List (List ℕ)) (new : Device) : Type 0 where
+pub record IsDigestRun (old : Device) (salt : List ℕ) (size first : ℕ) (taken : List (List ℕ)) (new : Device) : Type 0 where
   pub digests : AreDigestsOf old salt size first taken
   pub full : IsFullRead old (length taken * (size / 512)) new

@@ -48,8 +48,8 @@ abbrev pub ReadsChain : {D H : Type 0} → (D → Device) → (H → Device) →
 ReadsChain data_state hash_state shape d h d' h' = IsChainRead shape (data_state d) (hash_state h) (data_state d') (hash_state h')
 
 -- why it wasn't read
-abbrev pub FailsToRead : {D H : Type 0} → (D → Device) → (H → Device) → D → H → D → H → ChainFault → Type 0
-FailsToRead data_state hash_state d h d' h' fault = IsChainCause (data_state d) (hash_state h) (data_state d') (hash_state h') fault
+abbrev pub FailsToReadChain : {D H : Type 0} → (D → Device) → (H → Device) → D → H → D → H → ChainFault → Type 0
+FailsToReadChain data_state hash_state d h d' h' fault = IsChainCause (data_state d) (hash_state h) (data_state d') (hash_state h') fault
 
 -- the hash blocks above a data block were read into these vectors
 abbrev pub ReadsPath : {H : Type 0} → (H → Device) → ShapeRecord → ℕ → H → H → List (Vec ℕ Global) → Type 0

@@ -1,7 +1,7 @@
 -- Hash blocks compared with those that stand on a device.
 use Rattle.std.specs.Prelude.{◌≡◌, ℕ, ◌+◌, ◌*◌, ◌/◌, ◌^◌, ◌≤◌, min, IsTrue, Option, List, ◌++◌, length}
 use Rattle.block_device.specs.Device.{Device}
-use Rattle.tree_shape.specs.Shape.{ShapeRecord, sectors_of, area_blocks}
+use Rattle.tree_shape.specs.Shape.{ShapeRecord, blocks_sectors, area_blocks}
 use Rattle.hash_tree.specs.Building.{BuilderRecord, PlacedRecord, begun_builder, completed, numbered}
 use Rattle.hash_tree.specs.Placing.{IsLeastDiffering}
 use Rattle.verity_format.specs.Blocks.{IsFullRead, block_at}
@@ -32,15 +32,15 @@ pub record IsComparing (shape : ShapeRecord) (salt : List ℕ) (data_dev hash_de
 -- is the least hash block that differs from the tree over the data, and its root.
 pub record IsTreeCompared (shape : ShapeRecord) (salt : List ℕ) (data_dev hash_dev data_dev' hash_dev' : Device) (least : Option ℕ) (digest : List ℕ) : Type 0 where
   pub data_read : IsFullRead data_dev (data_sectors shape) data_dev'
-  pub hash_read : IsFullRead hash_dev (sectors_of (area_blocks shape) shape.hash_block) hash_dev'
+  pub hash_read : IsFullRead hash_dev (blocks_sectors (area_blocks shape) shape.hash_block) hash_dev'
   pub root : IsTrue data_dev.steady → digest ≡ root_over shape salt data_dev.image
   pub found : IsTrue data_dev.steady → IsTrue hash_dev.steady → IsLeastDiffering (block_at hash_dev.image shape.hash_block) (numbered 1 (area_over shape salt data_dev.image)) least
 
 -- ---- calls, by what a proof sees of the devices: as they were before, and then after
 
 -- these blocks were read, each once, and that is the least that differs
-abbrev pub Compares : {H : Type 0} → (H → Device) → H → H → ℕ → List PlacedRecord → Option ℕ → Option ℕ → Type 0
-Compares state h h' size blocks before after = AreCompared (state h) size blocks before after (state h')
+abbrev pub ComparesPlaced : {H : Type 0} → (H → Device) → H → H → ℕ → List PlacedRecord → Option ℕ → Option ℕ → Type 0
+ComparesPlaced state h h' size blocks before after = AreCompared (state h) size blocks before after (state h')
 
 -- so were all blocks of the tree
 abbrev pub ComparesTree : {D H : Type 0} → (D → Device) → (H → Device) → ShapeRecord → List ℕ → D → H → D → H → Option ℕ → List ℕ → Type 0

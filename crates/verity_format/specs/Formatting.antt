@@ -41,7 +41,7 @@ pub record FailsAtData (s : SuperRecord) (data_dev hash data_dev' hash' : Device
   pub part : IsPartOfTree (shape_of s) hash hash'
 
 -- a write of the tree failed: hash block 0 is as it was
-pub record FailsAtTree (s : SuperRecord) (hash hash' : Device) : Type 0 where
+pub record FailsAtTreeWrite (s : SuperRecord) (hash hash' : Device) : Type 0 where
   pub failed : HasFailed hash hash'
   pub part : IsPartOfTree (shape_of s) hash hash'
 
@@ -59,7 +59,7 @@ pub record LacksMemory (s : SuperRecord) (data_dev hash data_dev' hash' : Device
 
 -- A fault's cause, and what it leaves: no superblock is written before the whole tree stands.
 abbrev pub IsFormatCause : SuperRecord → Device → Device → Device → Device → FormatFault → Type 0
-IsFormatCause s data_dev hash data_dev' hash' DeviceFailed = FailsAtData s data_dev hash data_dev' hash' ⊎ (FailsAtTree s hash hash' ⊎ FailsAtFirstBlock s data_dev hash hash')
+IsFormatCause s data_dev hash data_dev' hash' DeviceFailed = FailsAtData s data_dev hash data_dev' hash' ⊎ (FailsAtTreeWrite s hash hash' ⊎ FailsAtFirstBlock s data_dev hash hash')
 IsFormatCause s data_dev hash data_dev' hash' NoMemory = LacksMemory s data_dev hash data_dev' hash'
 IsFormatCause s data_dev hash data_dev' hash' Shape = format_refusal s data_dev hash ≡ Some Shape
 IsFormatCause s data_dev hash data_dev' hash' DataTooSmall = format_refusal s data_dev hash ≡ Some DataTooSmall
@@ -93,10 +93,10 @@ abbrev pub Formats : {D H : Type 0} → (D → Device) → (H → Device) → Su
 Formats data_state hash_state s d h d' h' root = IsFormatted s (data_state d) (hash_state h) (data_state d') (hash_state h') root
 
 -- why it wasn't, and what is left of it
-abbrev pub EndsEarly : {D H : Type 0} → (D → Device) → (H → Device) → SuperRecord → D → H → D → H → FormatFault → Type 0
-EndsEarly data_state hash_state s d h d' h' fault = IsFormatCause s (data_state d) (hash_state h) (data_state d') (hash_state h') fault
+abbrev pub FormatEnds : {D H : Type 0} → (D → Device) → (H → Device) → SuperRecord → D → H → D → H → FormatFault → Type 0
+FormatEnds data_state hash_state s d h d' h' fault = IsFormatCause s (data_state d) (hash_state h) (data_state d') (hash_state h') fault
 
 -- where a refusal applies it is answered, and neither device was asked
-abbrev pub Refuses : {D H : Type 0} → (D → Device) → (H → Device) → SuperRecord → D → H → D → H → Result (List ℕ) FormatFault → Type 0
-Refuses data_state hash_state s d h d' h' result =
+abbrev pub RefusesFormat : {D H : Type 0} → (D → Device) → (H → Device) → SuperRecord → D → H → D → H → Result (List ℕ) FormatFault → Type 0
+RefusesFormat data_state hash_state s d h d' h' result =
     (f : FormatFault) → format_refusal s (data_state d) (hash_state h) ≡ Some f → (result ≡ Err f) × (data_state d' ≡ data_state d) × (hash_state h' ≡ hash_state h)

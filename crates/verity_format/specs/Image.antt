@@ -3,7 +3,7 @@ use Rattle.std.specs.Prelude.{ℕ, ◌+◌, ◌-◌, ◌/◌, List, ◌++◌, ma
 use Rattle.std.specs.List.{concat}
 use Rattle.block_device.specs.Device.{spliced, sectors_of as cut_into}
 use Rattle.tree_shape.specs.Digests.{digest}
-use Rattle.tree_shape.specs.Shape.{ShapeRecord, sectors_of, area_blocks, area_end}
+use Rattle.tree_shape.specs.Shape.{ShapeRecord, blocks_sectors, area_blocks, area_end}
 use Rattle.hash_tree.specs.Tree.{area, root}
 use Rattle.verity_format.specs.Superblock.{SuperRecord, shape_of, spelling}
 use Rattle.verity_format.specs.Blocks.{blocks_at}
@@ -21,11 +21,11 @@ root_over shape salt image = root shape.hash_block salt (digests_of shape salt i
 
 -- how many sectors the data blocks take
 abbrev pub data_sectors : ShapeRecord → ℕ
-data_sectors shape = sectors_of shape.blocks shape.data_block
+data_sectors shape = blocks_sectors shape.blocks shape.data_block
 
 -- how many sectors there are up to the tree's end, or 0 where the tree has no block
 abbrev pub tree_sectors : ShapeRecord → ℕ
-tree_sectors shape = sectors_of (area_end shape) shape.hash_block
+tree_sectors shape = blocks_sectors (area_end shape) shape.hash_block
 
 -- how many sectors hash block 0 takes
 abbrev pub first_sectors : SuperRecord → ℕ
@@ -33,7 +33,7 @@ first_sectors s = s.hash_block / 512
 
 -- how many sectors formatting writes: hash block 0 and the tree's
 abbrev pub image_sectors : ShapeRecord → ℕ
-image_sectors shape = sectors_of (1 + area_blocks shape) shape.hash_block
+image_sectors shape = blocks_sectors (1 + area_blocks shape) shape.hash_block
 
 -- what hash block 0 holds: the superblock, and zeros
 abbrev pub first_block : SuperRecord → List ℕ

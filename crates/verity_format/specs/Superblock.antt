@@ -36,14 +36,14 @@ pub record IsSuperblock (s : SuperRecord) : Type 0 where
   pub salt : length s.salt ≤ 256
 
 -- the number in 2, 4 or 8 bytes from a place on
-abbrev pub number16 : List ℕ → ℕ → ℕ
-number16 bytes at = from_le_bytes w16 (slice_range bytes at (at + 2))
+abbrev pub field_number16 : List ℕ → ℕ → ℕ
+field_number16 bytes at = from_le_bytes w16 (slice_range bytes at (at + 2))
 
-abbrev pub number32 : List ℕ → ℕ → ℕ
-number32 bytes at = from_le_bytes w32 (slice_range bytes at (at + 4))
+abbrev pub field_number32 : List ℕ → ℕ → ℕ
+field_number32 bytes at = from_le_bytes w32 (slice_range bytes at (at + 4))
 
-abbrev pub number64 : List ℕ → ℕ → ℕ
-number64 bytes at = from_le_bytes w64 (slice_range bytes at (at + 8))
+abbrev pub field_number64 : List ℕ → ℕ → ℕ
+field_number64 bytes at = from_le_bytes w64 (slice_range bytes at (at + 8))
 
 -- "verity" and two zero bytes
 abbrev pub signature : List ℕ
@@ -58,14 +58,14 @@ pub record Carries (s : SuperRecord) (bytes : List ℕ) : Type 0 where
   pub valid : IsSuperblock s
   pub size : length bytes ≡ 512
   pub signature : slice_range bytes 0 8 ≡ signature
-  pub version : number32 bytes 8 ≡ 1
-  pub hash_type : number32 bytes 12 ≡ 1
+  pub version : field_number32 bytes 8 ≡ 1
+  pub hash_type : field_number32 bytes 12 ≡ 1
   pub uuid : slice_range bytes 16 32 ≡ s.uuid
   pub algorithm : algorithm_of bytes ≡ algorithm_name Sha256
-  pub data_block : number32 bytes 64 ≡ s.data_block
-  pub hash_block : number32 bytes 68 ≡ s.hash_block
-  pub blocks : number64 bytes 72 ≡ s.blocks
-  pub salt_size : number16 bytes 80 ≡ length s.salt
+  pub data_block : field_number32 bytes 64 ≡ s.data_block
+  pub hash_block : field_number32 bytes 68 ≡ s.hash_block
+  pub blocks : field_number64 bytes 72 ≡ s.blocks
+  pub salt_size : field_number16 bytes 80 ≡ length s.salt
   pub salt : slice_range bytes 88 (88 + length s.salt) ≡ s.salt
 
 -- the spelling in which every free byte is zero
@@ -79,21 +79,21 @@ spelling s = signature ++ to_le_bytes w32 1 ++ to_le_bytes w32 1 ++ s.uuid ++ al
 unfoldable pub super_fault : List ℕ → Option SuperFault
 super_fault bytes =
     if not (bytes_eq (slice_range bytes 0 8) signature) then Some Signature
-    else if not (number32 bytes 8 == 1) then Some Version
-    else if not (number32 bytes 12 == 1) then Some HashType
+    else if not (field_number32 bytes 8 == 1) then Some Version
+    else if not (field_number32 bytes 12 == 1) then Some HashType
     else if not (bytes_eq (algorithm_of bytes) (algorithm_name Sha256)) then Some Algorithm
-    else if not (is_block_size (number32 bytes 64)) then Some DataBlockSize
-    else if not (is_block_size (number32 bytes 68)) then Some HashBlockSize
-    else if is_some (first_fault (shape_after (number32 bytes 64) (number32 bytes 68) (number64 bytes 72))) then Some DataBlocks
-    else if nat_lt 256 (number16 bytes 80) then Some SaltSize
+    else if not (is_block_size (field_number32 bytes 64)) then Some DataBlockSize
+    else if not (is_block_size (field_number32 bytes 68)) then Some HashBlockSize
+    else if is_some (first_fault (shape_after (field_number32 bytes 64) (field_number32 bytes 68) (field_number64 bytes 72))) then Some DataBlocks
+    else if nat_lt 256 (field_number16 bytes 80) then Some SaltSize
     else None
 
 -- the record in the fields, each as it is read
 unfoldable pub read_of : List ℕ → SuperRecord
 read_of bytes = record {
   uuid = slice_range bytes 16 32;
-  data_block = number32 bytes 64;
-  hash_block = number32 bytes 68;
-  blocks = number64 bytes 72;
-  salt = slice_range bytes 88 (88 + number16 bytes 80);
+  data_block = field_number32 bytes 64;
+  hash_block = field_number32 bytes 68;
+  blocks = field_number64 bytes 72;
+  salt = slice_range bytes 88 (88 + field_number16 bytes 80);
 }

@@ -1,7 +1,7 @@
 -- What is found on a data device and a hash device, and when they cannot be compared.
 use Rattle.std.specs.Prelude.{◌≡◌, ◌≢◌, ◌⊎◌, ℕ, ◌+◌, ◌<◌, ◌≤◌, ◌==◌, ◌||◌, nat_lt, Bool, Option, Some, None, if◌then◌else◌, IsTrue, List}
 use Rattle.block_device.specs.Device.{Device, HasFailed}
-use Rattle.tree_shape.specs.Shape.{sectors_of, area_blocks}
+use Rattle.tree_shape.specs.Shape.{blocks_sectors, area_blocks}
 use Rattle.hash_tree.specs.Difference.{FirstDiffer}
 use Rattle.verity_format.specs.declared.access.TreeFault.{TreeFault}
 use Rattle.verity_format.specs.declared.access.TreeFault.TheVariants as tree
@@ -62,19 +62,19 @@ IsReadCause hash_dev hash_dev' TooSmall = hash_dev.size ≡ 0
 IsReadCause hash_dev hash_dev' (Super f) = (0 < hash_dev.size) × ((sector : List ℕ) × (IsFirstSector hash_dev sector × (super_fault sector ≡ Some f)))
 
 -- the refusal that applies to the sector that was read
-abbrev pub IsRefused : Device → Device → VerifyFault → Type 0
-IsRefused data_dev hash_dev fault = (sector : List ℕ) × (IsFirstSector hash_dev sector × (verify_refusal data_dev hash_dev sector ≡ Some fault))
+abbrev pub IsRefusedSuper : Device → Device → VerifyFault → Type 0
+IsRefusedSuper data_dev hash_dev fault = (sector : List ℕ) × (IsFirstSector hash_dev sector × (verify_refusal data_dev hash_dev sector ≡ Some fault))
 
 -- a fault's cause: one of the two devices failed in the call, or a refusal that applies; where memory ran out neither failed
 abbrev pub IsVerifyCause : Device → Device → Device → Device → VerifyFault → Type 0
 IsVerifyCause data_dev hash_dev data_dev' hash_dev' DeviceFailed = HasFailed data_dev data_dev' ⊎ HasFailed hash_dev hash_dev'
 IsVerifyCause data_dev hash_dev data_dev' hash_dev' NoMemory = (data_dev'.failures ≡ data_dev.failures) × (hash_dev'.failures ≡ hash_dev.failures)
-IsVerifyCause data_dev hash_dev data_dev' hash_dev' (Super f) = IsRefused data_dev hash_dev (Super f)
-IsVerifyCause data_dev hash_dev data_dev' hash_dev' TooSmall = IsRefused data_dev hash_dev TooSmall
+IsVerifyCause data_dev hash_dev data_dev' hash_dev' (Super f) = IsRefusedSuper data_dev hash_dev (Super f)
+IsVerifyCause data_dev hash_dev data_dev' hash_dev' TooSmall = IsRefusedSuper data_dev hash_dev TooSmall
 
 -- how many sectors of the hash device were read: the superblock's and those of the tree's hash blocks
 abbrev pub hash_sectors_read : SuperRecord → ℕ
-hash_sectors_read s = 1 + sectors_of (area_blocks (shape_of s)) s.hash_block
+hash_sectors_read s = 1 + blocks_sectors (area_blocks (shape_of s)) s.hash_block
 
 -- No refusal applies to the sector that was read as the first. No call failed, each sector of the data blocks was read
 -- once, and so was each of the superblock and the hash blocks. Over steady devices the verdict is what stands there.
@@ -101,8 +101,8 @@ IsFoundSuper data_dev hash_dev s = (sector : List ℕ) × IsFoundIn data_dev has
 abbrev pub IsSuperCause : Device → Device → Device → VerifyFault → Type 0
 IsSuperCause data_dev hash_dev hash_dev' DeviceFailed = HasFailed hash_dev hash_dev'
 IsSuperCause data_dev hash_dev hash_dev' NoMemory = ⊥
-IsSuperCause data_dev hash_dev hash_dev' (Super f) = IsRefused data_dev hash_dev (Super f)
-IsSuperCause data_dev hash_dev hash_dev' TooSmall = IsRefused data_dev hash_dev TooSmall
+IsSuperCause data_dev hash_dev hash_dev' (Super f) = IsRefusedSuper data_dev hash_dev (Super f)
+IsSuperCause data_dev hash_dev hash_dev' TooSmall = IsRefusedSuper data_dev hash_dev TooSmall
 
 -- what stands for the fault of a tree
 abbrev pub verify_fault_of : TreeFault → VerifyFault
@@ -112,8 +112,8 @@ verify_fault_of tree.NoMemory = NoMemory
 -- ---- calls, by what a proof sees of the devices: as they were before, and then after
 
 -- both were compared, and that was found
-abbrev pub Finds : {D H : Type 0} → (D → Device) → (H → Device) → D → H → D → H → List ℕ → Verdict → Type 0
-Finds data_state hash_state d h d' h' root verdict = IsFound (data_state d) (hash_state h) (data_state d') (hash_state h') root verdict
+abbrev pub FindsBoth : {D H : Type 0} → (D → Device) → (H → Device) → D → H → D → H → List ℕ → Verdict → Type 0
+FindsBoth data_state hash_state d h d' h' root verdict = IsFound (data_state d) (hash_state h) (data_state d') (hash_state h') root verdict
 
 -- why they weren't
 abbrev pub FailsToVerify : {D H : Type 0} → (D → Device) → (H → Device) → D → H → D → H → VerifyFault → Type 0

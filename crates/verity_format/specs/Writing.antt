@@ -1,7 +1,7 @@
 -- Hash blocks written to a device.
 use Rattle.std.specs.Prelude.{◌≡◌, ◌⊎◌, ℕ, ◌+◌, ◌*◌, ◌/◌, ◌≤◌, IsTrue, All, List, length, take, drop}
 use Rattle.block_device.specs.Device.{Device, IsSameDevice, HasFailed, capped}
-use Rattle.tree_shape.specs.Shape.{ShapeRecord, sectors_of, area_blocks}
+use Rattle.tree_shape.specs.Shape.{ShapeRecord, blocks_sectors, area_blocks}
 use Rattle.hash_tree.specs.Building.{BuilderRecord, PlacedRecord, begun_builder, completed}
 use Rattle.hash_tree.specs.Placing.{written}
 use Rattle.verity_format.specs.declared.access.TreeFault.{TreeFault}
@@ -28,7 +28,7 @@ pub record IsPartWritten (size last n : ℕ) (old new : Device) : Type 0 where
   pub after : IsTrue old.steady → drop last new.image ≡ drop last old.image
 
 -- these blocks were written, each once, and no call failed
-pub record AreWritten (size : ℕ) (old : Device) (ps : List PlacedRecord) (new : Device) : Type 0 where
+pub record AreBlocksWritten (size : ℕ) (old : Device) (ps : List PlacedRecord) (new : Device) : Type 0 where
   pub writes : capped new.writes ≡ capped (old.writes + length ps * (size / 512))
   pub failures : new.failures ≡ old.failures
   pub blocks : IsTrue old.steady → (i : ℕ) → block_at new.image size i ≡ written (block_at old.image size) ps i
@@ -46,13 +46,13 @@ pub record IsTreeMoved (shape : ShapeRecord) (data_dev hash_dev data_dev' hash_d
 pub record IsWriting (shape : ShapeRecord) (salt : List ℕ) (data_dev hash_dev data_dev' hash_dev' : Device) (b : BuilderRecord) : Type 0 where
   pub taken : IsTaken shape salt data_dev data_dev' b
   pub part : IsPartWritten shape.hash_block (image_sectors shape) (length (completed (begun_builder shape salt) taken.digests)) hash_dev hash_dev'
-  pub done : AreWritten shape.hash_block hash_dev (completed (begun_builder shape salt) taken.digests) hash_dev'
+  pub done : AreBlocksWritten shape.hash_block hash_dev (completed (begun_builder shape salt) taken.digests) hash_dev'
 
 -- All data blocks were read and all blocks of the tree written, each once, and no call failed. Over steady devices
 -- the tree over the data stands there, and that is its root.
 pub record IsTreeWritten (shape : ShapeRecord) (salt : List ℕ) (data_dev hash_dev data_dev' hash_dev' : Device) (digest : List ℕ) : Type 0 where
   pub read : IsFullRead data_dev (data_sectors shape) data_dev'
-  pub writes : capped hash_dev'.writes ≡ capped (hash_dev.writes + sectors_of (area_blocks shape) shape.hash_block)
+  pub writes : capped hash_dev'.writes ≡ capped (hash_dev.writes + blocks_sectors (area_blocks shape) shape.hash_block)
   pub failures : hash_dev'.failures ≡ hash_dev.failures
   pub root : IsTrue data_dev.steady → digest ≡ root_over shape salt data_dev.image
   pub tree : IsTrue data_dev.steady → IsTrue hash_dev.steady → blocks_at hash_dev'.image shape.hash_block 1 (area_blocks shape) ≡ area_over shape salt data_dev.image

@@ -3,7 +3,7 @@ ghost use Rattle.std.specs.Prelude.{◌≡◌, ◌^◌, ◌≤◌, OnOk, OnErr, 
 ghost use Rattle.block_device.specs.Device.{HasFailed};
 ghost use Rattle.verity_format.specs.Blocks.{IsOnlyRead, ReadsBlock};
 ghost use Rattle.verity_format.specs.Image.{data_sectors, tree_sectors, image_sectors};
-ghost use Rattle.verity_format.specs.Access.{IsRunRead};
+ghost use Rattle.verity_format.specs.Access.{IsDigestRun};
 ghost use Rattle.verity_format.specs.Premises.{IsBlockOn, IsRunOn};
 
 use block_device::{BlockDev, DeviceFault};
@@ -99,7 +99,7 @@ pub(crate) fn read_run<D: BlockDev>(
 ) -> Result<(), DeviceFault>
     requires { IsRunOn (D.state device.old) size index (length digests.old) (length run.old) }
     ensures read { IsOnlyRead (D.state device.old) (D.state device.new) }
-    ensures ok { OnOk result (IsRunRead (D.state device.old) salt.now size index digests.new (D.state device.new)) }
+    ensures ok { OnOk result (IsDigestRun (D.state device.old) salt.now size index digests.new (D.state device.new)) }
     ensures fault { OnErr result (HasFailed (D.state device.old) (D.state device.new)) }
 {
     device.read(index * (size / 512) as u64, run)?;

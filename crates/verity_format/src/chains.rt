@@ -3,7 +3,7 @@ ghost use Rattle.std.specs.Prelude.{◌≡◌, ◌<◌, ◌≤◌, OnOk, OnErr, 
 ghost use Rattle.block_device.specs.Device.{HasFailed};
 ghost use Rattle.verity_format.specs.Blocks.{BothOnlyRead, IsOnlyRead};
 ghost use Rattle.verity_format.specs.Image.{data_sectors, tree_sectors};
-ghost use Rattle.verity_format.specs.Chain.{FailsToRead, IsStoredChain, ReadsChain, ReadsPath};
+ghost use Rattle.verity_format.specs.Chain.{FailsToReadChain, IsStoredChain, ReadsChain, ReadsPath};
 ghost use Rattle.verity_format.specs.Premises.{IsPathOn};
 
 use crate::access::{read_block, zeros};
@@ -60,7 +60,7 @@ pub fn read_chain<D: BlockDev, H: BlockDev>(
     ensures devices { BothOnlyRead D.state H.state data_dev.old hash_dev.old data_dev.new hash_dev.new }
     ensures ok { IfOk result (IsStoredChain D.state H.state shape.now data_dev.old hash_dev.old index) }
     ensures full { OnOk result (ReadsChain D.state H.state shape.now data_dev.old hash_dev.old data_dev.new hash_dev.new) }
-    ensures err { IfErr result (FailsToRead D.state H.state data_dev.old hash_dev.old data_dev.new hash_dev.new) }
+    ensures err { IfErr result (FailsToReadChain D.state H.state data_dev.old hash_dev.old data_dev.new hash_dev.new) }
 {
     let mut content = zeros(alloc, shape.data_block() as usize)?;
     let mut path = zero_blocks(alloc, shape.levels(), shape.hash_block() as usize)?;

@@ -3,7 +3,7 @@ ghost use Rattle.std.specs.Prelude.{◌≡◌, OnErr, IfOk, IfErr, length};
 ghost use Rattle.block_device.specs.Device.{HasFailed};
 ghost use Rattle.hash_tree.specs.Placing.{lesser};
 ghost use Rattle.verity_format.specs.Blocks.{IsOnlyRead, OnlyReads};
-ghost use Rattle.verity_format.specs.Comparing.{Compares, ComparesTree};
+ghost use Rattle.verity_format.specs.Comparing.{ComparesPlaced, ComparesTree};
 ghost use Rattle.verity_format.specs.Growth.{FailsOnEither};
 ghost use Rattle.verity_format.specs.Premises.{AreBlocksOn, HaveTree};
 
@@ -33,7 +33,7 @@ fn compare_blocks<H: BlockDev>(
 ) -> Result<Option<u64>, DeviceFault>
     requires { AreBlocksOn (H.state hash_dev.old) (length block.old) blocks.now }
     ensures read { IsOnlyRead (H.state hash_dev.old) (H.state hash_dev.new) }
-    ensures ok { IfOk result (Compares H.state hash_dev.old hash_dev.new (length block.old) blocks.now least) }
+    ensures ok { IfOk result (ComparesPlaced H.state hash_dev.old hash_dev.new (length block.old) blocks.now least) }
     ensures fault { OnErr result (HasFailed (H.state hash_dev.old) (H.state hash_dev.new)) }
 {
     let mut least = least;

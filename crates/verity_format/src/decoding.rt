@@ -6,7 +6,7 @@ ghost use Rattle.std.specs.List.{before_first};
 ghost use Rattle.tree_shape.specs.declared.algorithm.Algorithm.TheVariants.{Sha256};
 ghost use Rattle.tree_shape.specs.Algorithms.{algorithm_name};
 ghost use Rattle.verity_format.specs.FaultNames.{super_number, super_name};
-ghost use Rattle.verity_format.specs.Superblock.{SuperRecord, IsSuperblock, Carries, number16, number32, number64, spelling, super_fault, read_of};
+ghost use Rattle.verity_format.specs.Superblock.{SuperRecord, IsSuperblock, Carries, field_number16, field_number32, field_number64, spelling, super_fault, read_of};
 
 use crate::Superblock;
 use thiserror::Error;
@@ -107,8 +107,8 @@ fn fields(bytes: &[u8; 512]) -> Result<Superblock, SuperFault>
 
 // The salt, unless it is too long.
 fn salt_of(algorithm: Algorithm, bytes: &[u8; 512]) -> Option<Salt>
-    ensures found { IsSome result ↔ (number16 bytes.now 80 ≤ 256) }
-    ensures value { IfSome result (λ s. s ≡ slice_range bytes.now 88 (88 + number16 bytes.now 80)) }
+    ensures found { IsSome result ↔ (field_number16 bytes.now 80 ≤ 256) }
+    ensures value { IfSome result (λ s. s ≡ slice_range bytes.now 88 (88 + field_number16 bytes.now 80)) }
 {
     let size = number16(bytes, 80) as usize;
     if size > 256 {
@@ -127,7 +127,7 @@ fn uuid_of(bytes: &[u8; 512]) -> [u8; 16]
 
 fn number16(bytes: &[u8], at: usize) -> u16
     requires { at + 2 ≤ length bytes.now }
-    ensures { result ≡ number16 bytes.now at }
+    ensures { result ≡ field_number16 bytes.now at }
 {
     let mut number = [0; 2];
     number.copy_from_slice(&bytes[at..at + 2]);
@@ -136,7 +136,7 @@ fn number16(bytes: &[u8], at: usize) -> u16
 
 fn number32(bytes: &[u8], at: usize) -> u32
     requires { at + 4 ≤ length bytes.now }
-    ensures { result ≡ number32 bytes.now at }
+    ensures { result ≡ field_number32 bytes.now at }
 {
     let mut number = [0; 4];
     number.copy_from_slice(&bytes[at..at + 4]);
@@ -145,7 +145,7 @@ fn number32(bytes: &[u8], at: usize) -> u32
 
 fn number64(bytes: &[u8], at: usize) -> u64
     requires { at + 8 ≤ length bytes.now }
-    ensures { result ≡ number64 bytes.now at }
+    ensures { result ≡ field_number64 bytes.now at }
 {
     let mut number = [0; 8];
     number.copy_from_slice(&bytes[at..at + 8]);

@@ -4,7 +4,7 @@ ghost use Rattle.std.specs.Result.{result_err};
 ghost use Rattle.verity_format.specs.Image.{first_block};
 ghost use Rattle.verity_format.specs.FaultNames.{format_number, format_name};
 ghost use Rattle.verity_format.specs.Options.{FormatsWith};
-ghost use Rattle.verity_format.specs.Formatting.{EndsEarly, Formats, OnlyImageIsWritten, Refuses, format_refusal, given_blocks, whole_blocks};
+ghost use Rattle.verity_format.specs.Formatting.{FormatEnds, Formats, OnlyImageIsWritten, RefusesFormat, format_refusal, given_blocks, whole_blocks};
 
 use crate::Superblock;
 use crate::access::{TreeFault, data_sectors, image_sectors, zeros};
@@ -117,9 +117,9 @@ pub fn format<D: BlockDev, H: BlockDev>(
 ) -> Result<Digest, FormatFault>
     ensures devices { OnlyImageIsWritten D.state H.state params data_dev.old hash_dev.old data_dev.new hash_dev.new }
     ensures ok { IfOk result (Formats D.state H.state params data_dev.old hash_dev.old data_dev.new hash_dev.new) }
-    ensures err { IfErr result (EndsEarly D.state H.state params data_dev.old hash_dev.old data_dev.new hash_dev.new) }
+    ensures err { IfErr result (FormatEnds D.state H.state params data_dev.old hash_dev.old data_dev.new hash_dev.new) }
     // where a refusal applies it is answered, and neither device was asked
-    ensures refused { Refuses D.state H.state params data_dev.old hash_dev.old data_dev.new hash_dev.new result }
+    ensures refused { RefusesFormat D.state H.state params data_dev.old hash_dev.old data_dev.new hash_dev.new result }
 {
     check_devices(data_dev, hash_dev, &params)?;
     let shape = params.shape();

@@ -21,13 +21,13 @@ impl Model for Superblock {
 
     ghost Value = { SuperRecord };
 
-    ghost use Rattle.verity_format.specs.Inside.{seen, IsInside, inside_of, inside_of-seen};
+    ghost use Rattle.verity_format.specs.Inside.{seen_super, IsValidInside, superblock_inside, inside_of-seen};
 
-    ghost view = { seen };
+    ghost view = { seen_super };
 
-    ghost invariant = { IsInside };
+    ghost invariant = { IsValidInside };
 
-    ghost inverse = { inside_of };
+    ghost inverse = { superblock_inside };
 
     ghost inverse_ok = { inside_of-seen };
 }

@@ -3,7 +3,7 @@ ghost use Rattle.std.specs.Prelude.{◌≡◌, List, ℕ, OnOk, IfOk, IfErr};
 ghost use Rattle.std.specs.Str.{bytes_eq};
 ghost use Rattle.verity_format.specs.Blocks.{IsOnlyRead, IsFullRead};
 ghost use Rattle.verity_format.specs.FaultNames.{verify_number, verify_name};
-ghost use Rattle.verity_format.specs.Verifying.{FailsToVerify, Finds, IsReadFrom, IsReadCause, IsFoundSuper, IsSuperCause};
+ghost use Rattle.verity_format.specs.Verifying.{FailsToVerify, FindsBoth, IsReadFrom, IsReadCause, IsFoundSuper, IsSuperCause};
 
 use crate::access::{TreeFault, data_sectors, read_block, tree_sectors};
 use crate::comparing::compare_tree;
@@ -122,7 +122,7 @@ pub fn verify<D: BlockDev, H: BlockDev>(
 ) -> Result<Verdict, VerifyFault>
     ensures data { IsOnlyRead (D.state data_dev.old) (D.state data_dev.new) }
     ensures hash { IsOnlyRead (H.state hash_dev.old) (H.state hash_dev.new) }
-    ensures ok { IfOk result (Finds D.state H.state data_dev.old hash_dev.old data_dev.new hash_dev.new root.now) }
+    ensures ok { IfOk result (FindsBoth D.state H.state data_dev.old hash_dev.old data_dev.new hash_dev.new root.now) }
     ensures err { IfErr result (FailsToVerify D.state H.state data_dev.old hash_dev.old data_dev.new hash_dev.new) }
 {
     let superblock = fitting_superblock(data_dev, hash_dev)?;

@@ -2,7 +2,7 @@
 ghost use Rattle.std.specs.Prelude.{OnOk, OnErr, IfOk, IfErr};
 ghost use Rattle.block_device.specs.Device.{HasFailed};
 ghost use Rattle.verity_format.specs.Premises.{CanPutBlocks, CanWriteTree};
-ghost use Rattle.verity_format.specs.Writing.{AreWritten, FailsToWrite, MovesTree, WritesTree, WritesWithin};
+ghost use Rattle.verity_format.specs.Writing.{AreBlocksWritten, FailsToWrite, MovesTree, WritesTree, WritesWithin};
 
 use crate::access::{TreeFault, zeros};
 use crate::growth::{RUN, take_run};
@@ -19,7 +19,7 @@ fn write_blocks<H: BlockDev>(
 ) -> Result<(), DeviceFault>
     requires { CanPutBlocks (H.state hash_dev.old) size blocks.now }
     ensures part { WritesWithin H.state size blocks.now hash_dev.old hash_dev.new }
-    ensures ok { OnOk result (AreWritten size (H.state hash_dev.old) blocks.now (H.state hash_dev.new)) }
+    ensures ok { OnOk result (AreBlocksWritten size (H.state hash_dev.old) blocks.now (H.state hash_dev.new)) }
     ensures fault { OnErr result (HasFailed (H.state hash_dev.old) (H.state hash_dev.new)) }
 {
     let sectors = (size / 512) as u64;

@@ -1,8 +1,7 @@
 //! A device of which it is told how much was read.
-ghost use Rattle.std.specs.Prelude.{◌≡◌, ◌*◌, ◌/◌, length, min, is_ok, IsOk, IsTrue, OnErr, OnOk};
-ghost use Rattle.std.specs.List.{concat};
-ghost use Rattle.block_device.specs.Device.{HasFailed, IsInside, IsRead, run_of};
-ghost use Rattle.block_device.specs.Failing.{IsInnerRead};
+ghost use Rattle.std.specs.Prelude.{◌≡◌, ◌*◌, length, min, is_ok, IsOk, IsTrue, OnErr, OnOk};
+ghost use Rattle.block_device.specs.Calls.{DeviceFails, DeviceGives, DeviceReads, ReadsInner};
+ghost use Rattle.block_device.specs.Device.{IsInside};
 ghost use Rattle.watched_device.specs.Watching.{done_after};
 
 use block_device::{BlockDev, DeviceFault};
@@ -62,14 +61,14 @@ impl<D: BlockDev, P: Progress> BlockDev for Watched<D, P> {
 
     fn read(&mut self, first: u64, out: &mut [u8]) -> Result<(), DeviceFault>
         requires { IsInside (⟦<Watched<D, P> as BlockDev>⟧.state self.old) first (length out.old) }
-        ensures moved { IsRead (⟦<Watched<D, P> as BlockDev>⟧.state self.old) (length out.old / 512) (is_ok result) (⟦<Watched<D, P> as BlockDev>⟧.state self.new) }
-        ensures bytes { OnOk result (IsTrue (⟦<Watched<D, P> as BlockDev>⟧.state self.old).steady → out.new ≡ concat (run_of (⟦<Watched<D, P> as BlockDev>⟧.state self.old).image first (length out.old / 512))) }
+        ensures moved { DeviceReads ⟦<Watched<D, P> as BlockDev>⟧.state self.old self.new out.old (is_ok result) }
+        ensures bytes { OnOk result (DeviceGives ⟦<Watched<D, P> as BlockDev>⟧.state self.old first out.old out.new) }
         ensures given { OnOk result (⟦<Watched<D, P> as BlockDev>⟧.gives self.old first out.new) }
         ensures sure { IsTrue (⟦<Watched<D, P> as BlockDev>⟧.state self.old).never_fails → IsOk result }
-        ensures fault { OnErr result (HasFailed (⟦<Watched<D, P> as BlockDev>⟧.state self.old) (⟦<Watched<D, P> as BlockDev>⟧.state self.new)) }
+        ensures fault { OnErr result (DeviceFails ⟦<Watched<D, P> as BlockDev>⟧.state self.old self.new) }
 
         // It is one of the device within, whose bytes are counted where it went well.
-        ensures inner { IsInnerRead (D.state self.old.inner) first (length out.old / 512) (is_ok result) (D.state self.new.inner) out.new }
+        ensures inner { ReadsInner D.state self.old.inner self.new.inner first out.old out.new (is_ok result) }
         ensures done { self.new.done ≡ done_after self.old.done (length out.old) (is_ok result) }
     {
         self.inner.read(first, out)?;

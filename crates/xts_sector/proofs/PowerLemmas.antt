@@ -3,7 +3,7 @@ use Rattle.std.proofs.Common.{◌≡◌, ℕ, zero, suc, ◌+◌, ◌-◌, ◌*�
 use Rattle.std.specs.Int.Bits.{xor_assoc, xor_zero_r}
 use Rattle.std.proofs.lemmas.Nat.{shl-shr, shr-shr, field_of, mul-mod_first, xor_lt, xor_comm, xor_shr, xor_mod, xor_block, shr_below, pow_below}
 use Rattle.std.proofs.Math.Nat.{mul_assoc, pow-suc}
-use Rattle.xts_sector.specs.Tweak.{block_of, times_alpha, times_alpha_power}
+use Rattle.xts_sector.specs.Tweak.{number_block, times_alpha, times_alpha_power}
 use Rattle.xts_sector.proofs.TweakLemmas.{xor_even, times_alpha_is}
 
 -- the product by x^7 + x^2 + x + 1 of the bits that leave at the top
@@ -128,9 +128,9 @@ power-none a h =
     rw (low, none) (xor_zero_r a)
 
 -- the bytes of the product are those of the number's product
-pub times_alpha_power_is : (k a : ℕ) → k ≤ 120 → a < 2 ^ 128 → times_alpha_power k (block_of a) ≡ block_of (power k a)
-times_alpha_power_is zero a low h = ap block_of (sym (power-none a h))
+pub times_alpha_power_is : (k a : ℕ) → k ≤ 120 → a < 2 ^ 128 → times_alpha_power k (number_block a) ≡ number_block (power k a)
+times_alpha_power_is zero a low h = ap number_block (sym (power-none a h))
 times_alpha_power_is (suc k) a low h =
     ap times_alpha (times_alpha_power_is k a (omega arith) h)
     ∙ sym (times_alpha_is (power k a) (power_lt k a (omega arith) h))
-    ∙ ap block_of (power-more k a (omega arith) h)
+    ∙ ap number_block (power-more k a (omega arith) h)

@@ -5,7 +5,7 @@ use Rattle.std.specs.Int.Bits.{xor_zero_l, xor_zero_r}
 use Rattle.std.specs.Simd.Lanes.{digits_l}
 use Rattle.std.proofs.lemmas.Nat.{shr-shr, xor_shr, xor_mod, xor_block}
 use Rattle.std.proofs.lemmas.List.FromFn.{length-map-range_with_len, fill_by_all}
-use Rattle.xts_sector.specs.Tweak.{unit_number, block_of, product_byte, times_alpha, times_alpha_power}
+use Rattle.xts_sector.specs.Tweak.{unit_number, number_block, product_byte, times_alpha, times_alpha_power}
 
 pub times_alpha_power_more : (j : ℕ) (a : List ℕ) → times_alpha_power (j + 1) a ≡ times_alpha (times_alpha_power j a)
 times_alpha_power_more j a =
@@ -136,8 +136,8 @@ byte_15 a h =
     ap (λ x. x % 256) (high_part (a * 2 ^ 1 % 2 ^ 128) (a / 2 ^ 127 * 135) 120 (omega arith)) ∙ sum ∙ sym (xor_even (a / 256 ^ 15 % 256 % 128) (a / 256 ^ 14 % 256 / 128) (omega arith))
 
 -- the bytes of the product are those of the number's product
-pub times_alpha_is : (a : ℕ) → a < 2 ^ 128 → block_of (bit_xor (a * 2 ^ 1 % 2 ^ 128) (a / 2 ^ 127 * 135)) ≡ times_alpha (block_of a)
-unfolding block_of times_alpha
+pub times_alpha_is : (a : ℕ) → a < 2 ^ 128 → number_block (bit_xor (a * 2 ^ 1 % 2 ^ 128) (a / 2 ^ 127 * 135)) ≡ times_alpha (number_block a)
+unfolding number_block times_alpha
 times_alpha_is a h = cc (byte_0 a h, byte_1 a h, byte_2 a h, byte_3 a h, byte_4 a h, byte_5 a h, byte_6 a h, byte_7 a h, byte_8 a h, byte_9 a h, byte_10 a h, byte_11 a h, byte_12 a h, byte_13 a h, byte_14 a h, byte_15 a h)
 
 -- ---- a block as a number
@@ -161,8 +161,8 @@ byte-horner b small (suc n) k (suc i) h =
     ∙ byte-horner b small n (k + 1) i (omega arith) ∙ ap b (omega arith)
 
 -- the bytes of the number of 16 bytes
-pub block_of-from_le_bytes : (bytes : List ℕ) → length bytes ≡ 16 → ((i : ℕ) → get_or bytes i 0 < 256) → block_of (from_le_bytes w128 bytes) ≡ bytes
-unfolding horner block_of
+pub block_of-from_le_bytes : (bytes : List ℕ) → length bytes ≡ 16 → ((i : ℕ) → get_or bytes i 0 < 256) → number_block (from_le_bytes w128 bytes) ≡ bytes
+unfolding horner number_block
 block_of-from_le_bytes bytes len small =
     let b = λ (i : ℕ). get_or bytes i 0 in
     let n = horner b 0 16 in
@@ -171,13 +171,13 @@ block_of-from_le_bytes bytes len small =
     let all = fill_by_all (λ i. n / 2 ^ (8 * i) % 256) bytes 16 0 len (λ i h. sym (byte-horner b small 16 0 i h ∙ ap b (omega arith))) in
     ap (to_le_bytes w128) is ∙ sym (all ∙ rw first refl)
 
-pub length-block_of : (n : ℕ) → length (block_of n) ≡ 16
-unfolding block_of
+pub length-block_of : (n : ℕ) → length (number_block n) ≡ 16
+unfolding number_block
 length-block_of n = refl
 
 -- the bytes of a number, by divisions one after the other
-pub digits_l-block_of : (n : ℕ) → digits_l 256 16 n ≡ block_of n
-unfolding block_of
+pub digits_l-block_of : (n : ℕ) → digits_l 256 16 n ≡ number_block n
+unfolding number_block
 digits_l-block_of n =
     let d2 : n / 256 / 256 ≡ n / 256 ^ 2 = omega arith in
     let d3 : n / 256 ^ 2 / 256 ≡ n / 256 ^ 3 = omega arith in

@@ -10,7 +10,7 @@ use Rattle.std.proofs.lemmas.Bool.{cases_lt}
 use Rattle.std.proofs.Math.Nat.{mul_assoc, pow-succ'}
 use Rattle.std.proofs.Math.Seq.{take-add}
 use Rattle.aes_block.specs.Blocks.{block, joined}
-use Rattle.xts_sector.specs.Tweak.{block_of, times_alpha_power}
+use Rattle.xts_sector.specs.Tweak.{number_block, times_alpha_power}
 use Rattle.xts_sector.proofs.TweakLemmas.{digits_l-block_of}
 use Rattle.xts_sector.proofs.PowerLemmas.{reduced, power, power_lt, times_alpha_power_is}
 
@@ -56,8 +56,8 @@ digits_l-add (suc m) n x y h =
     let high : (x + 256 * (256 ^ m * y)) / 256 ≡ x / 256 + 256 ^ m * y = omega arith in
     rw (e, shape, low, high) (ap (λ ys. x % 256 ∷ ys) (digits_l-add m n (x / 256) y (omega (arith, below))))
 
-pub bytes_of_two : (a b : ℕ) → a < 2 ^ 128 → digits_l 256 32 (a + 2 ^ 128 * b) ≡ block_of a ++ block_of b
-bytes_of_two a b h = digits_l-add 16 16 a b h ∙ ap (λ xs. xs ++ digits_l 256 16 b) (digits_l-block_of a) ∙ ap (λ xs. block_of a ++ xs) (digits_l-block_of b)
+pub bytes_of_two : (a b : ℕ) → a < 2 ^ 128 → digits_l 256 32 (a + 2 ^ 128 * b) ≡ number_block a ++ number_block b
+bytes_of_two a b h = digits_l-add 16 16 a b h ∙ ap (λ xs. xs ++ digits_l 256 16 b) (digits_l-block_of a) ∙ ap (λ xs. number_block a ++ xs) (digits_l-block_of b)
 
 -- ---- the halves of one mask
 
@@ -115,7 +115,7 @@ abbrev pub stepped : ℕ → List ℕ
 stepped n = digits_l 256 32 (number_l (2 ^ 64) (half (n % 2 ^ 64) (2 ^ 8 - 1) ∷ half (n / 2 ^ 64 % 2 ^ 64) 0 ∷ half (n / 2 ^ 64 / 2 ^ 64 % 2 ^ 64) (2 ^ 8 - 1) ∷ half (n / 2 ^ 64 / 2 ^ 64 / 2 ^ 64 % 2 ^ 64) 0 ∷ []))
 
 stepped_is : (a b c d : ℕ) → a < 2 ^ 8 → b < 2 ^ 120 → c < 2 ^ 8 → d < 2 ^ 120
-    → stepped (a + 2 ^ 8 * (b + 2 ^ 120 * (c + 2 ^ 8 * d))) ≡ block_of (power 8 (b + 2 ^ 120 * a)) ++ block_of (power 8 (d + 2 ^ 120 * c))
+    → stepped (a + 2 ^ 8 * (b + 2 ^ 120 * (c + 2 ^ 8 * d))) ≡ number_block (power 8 (b + 2 ^ 120 * a)) ++ number_block (power 8 (d + 2 ^ 120 * c))
 stepped_is a b c d ha hb hc hd =
     let n : ℕ = a + 2 ^ 8 * (b + 2 ^ 120 * (c + 2 ^ 8 * d)) in
     let l0 : n % 2 ^ 64 ≡ (a + 2 ^ 8 * b) % 2 ^ 64 = omega (arith, ha, hb, hc, hd) in
@@ -143,15 +143,15 @@ small_append (x ∷ xs) ys hx hy (suc i) = small_append xs ys (λ k. hx (suc k))
 
 -- the product of the mask of these low and high bytes
 mask_is : (low high : List ℕ) → ((i : ℕ) → get_or low i 0 < 256) → ((i : ℕ) → get_or high i 0 < 256) → length low ≡ 15 → length high ≡ 1
-    → block_of (power 8 (number_l 256 low + 2 ^ 120 * number_l 256 high)) ≡ times_alpha_power 8 (low ++ high)
+    → number_block (power 8 (number_l 256 low + 2 ^ 120 * number_l 256 high)) ≡ times_alpha_power 8 (low ++ high)
 mask_is low high small_low small_high long_low long_high =
     let t = number_l 256 (low ++ high) in
     let small = small_append low high small_low small_high in
     let long : length (low ++ high) ≡ 16 = length-append low high ∙ omega (arith, long_low, long_high) in
     let is = number_l-joined 15 low high long_low in
     let t_lt : t < 2 ^ 128 = rw long at (number_l-lt (low ++ high) small) in
-    let bytes : block_of t ≡ low ++ high = sym (digits_l-block_of t) ∙ ap (λ n. digits_l 256 n t) (sym long) ∙ digits_l-number_l (low ++ high) small in
-    ap (λ n. block_of (power 8 n)) (sym is) ∙ sym (times_alpha_power_is 8 t (omega arith) t_lt) ∙ ap (times_alpha_power 8) bytes
+    let bytes : number_block t ≡ low ++ high = sym (digits_l-block_of t) ∙ ap (λ n. digits_l 256 n t) (sym long) ∙ digits_l-number_l (low ++ high) small in
+    ap (λ n. number_block (power 8 n)) (sym is) ∙ sym (times_alpha_power_is 8 t (omega arith) t_lt) ∙ ap (times_alpha_power 8) bytes
 
 module _ (xs : List ℕ) (long : length xs ≡ 32) (small : (i : ℕ) → get_or xs i 0 < 256) where
   length-part : (a n : ℕ) → a + n ≤ 32 → length (chunk a n xs) ≡ n
@@ -198,4 +198,4 @@ module _ (xs : List ℕ) (long : length xs ≡ 32) (small : (i : ℕ) → get_or
       let bytes1 : low1 ++ high1 ≡ block xs 1 = ap (λ ys. low1 ++ take 1 ys) (sym (drop-drop 15 16 xs)) ∙ sym (take-add 15 1 (drop 16 xs)) in
       let one = first ∙ ap (times_alpha_power 8) bytes0 in
       let two = second ∙ ap (times_alpha_power 8) bytes1 in
-      ap stepped number ∙ both ∙ ap (λ ys. ys ++ block_of (power 8 (number_l 256 low1 + 2 ^ 120 * number_l 256 high1))) one ∙ ap (λ ys. times_alpha_power 8 (block xs 0) ++ ys) two
+      ap stepped number ∙ both ∙ ap (λ ys. ys ++ number_block (power 8 (number_l 256 low1 + 2 ^ 120 * number_l 256 high1))) one ∙ ap (λ ys. times_alpha_power 8 (block xs 0) ++ ys) two

@@ -8,8 +8,8 @@ unfoldable pub unit_number : ℕ → List ℕ
 unit_number n = map (λ k. n / 256 ^ k % 256) (range_with_len 0 16)
 
 -- a number as a block, in little-endian order
-unfoldable pub block_of : ℕ → List ℕ
-block_of n = to_le_bytes w128 n
+unfoldable pub number_block : ℕ → List ℕ
+number_block n = to_le_bytes w128 n
 
 -- 5.2: byte k of the product of a block by α
 abbrev pub product_byte : List ℕ → ℕ → ℕ

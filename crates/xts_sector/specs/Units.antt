@@ -8,9 +8,9 @@ abbrev pub unit : ℕ → List ℕ → ℕ → List ℕ
 unit size bytes i = take size (drop (size * i) bytes)
 
 -- units of `size` bytes with these numbers, enciphered
-unfoldable pub encrypted_units : List ℕ → List ℕ → ℕ → List ℕ → List ℕ
-encrypted_units key numbers size bytes = joined (λ i. encrypted key (slice_index numbers i) (unit size bytes i)) (length numbers)
+unfoldable pub encrypted_numbered : List ℕ → List ℕ → ℕ → List ℕ → List ℕ
+encrypted_numbered key numbers size bytes = joined (λ i. encrypted key (slice_index numbers i) (unit size bytes i)) (length numbers)
 
 -- units of `size` bytes with these numbers, deciphered
-unfoldable pub decrypted_units : List ℕ → List ℕ → ℕ → List ℕ → List ℕ
-decrypted_units key numbers size bytes = joined (λ i. decrypted key (slice_index numbers i) (unit size bytes i)) (length numbers)
+unfoldable pub decrypted_numbered : List ℕ → List ℕ → ℕ → List ℕ → List ℕ
+decrypted_numbered key numbers size bytes = joined (λ i. decrypted key (slice_index numbers i) (unit size bytes i)) (length numbers)

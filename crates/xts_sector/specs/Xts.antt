@@ -6,8 +6,8 @@ use Rattle.xts_sector.specs.Blocks.{add_blocks}
 use Rattle.xts_sector.specs.Tweak.{unit_number, times_alpha_power}
 
 -- a key's length in bytes: that of two AES keys
-abbrev pub IsKeyLength : ℕ → Type 0
-IsKeyLength n = (n ≡ 32) ⊎ (n ≡ 64)
+abbrev pub IsXtsKeyLength : ℕ → Type 0
+IsXtsKeyLength n = (n ≡ 32) ⊎ (n ≡ 64)
 
 -- Key1, for the data
 abbrev pub data_key : List ℕ → List ℕ

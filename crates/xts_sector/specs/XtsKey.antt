@@ -3,8 +3,8 @@ use Rattle.std.specs.Prelude.{◌≡◌, ℕ, List, ◌++◌, length}
 use Rattle.xts_sector.specs.declared.xts_key.XtsKey.TheInside.{Inside}
 
 -- the key: that for the data, and then that for the tweak
-abbrev pub key_of : Inside → List ℕ
-key_of k = k.data_key ++ k.tweak_key
+abbrev pub two_keys : Inside → List ℕ
+two_keys k = k.data_key ++ k.tweak_key
 
 -- two keys of one length
 abbrev pub HoldsKeys : Inside → Type 0

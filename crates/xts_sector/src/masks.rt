@@ -4,7 +4,7 @@ ghost use Rattle.std.specs.Prelude.{◌≡◌, ◌≢◌, ℕ, ◌+◌, ◌-◌,
 ghost use Rattle.aes_block.specs.Blocks.{block, joined};
 ghost use Rattle.xts_sector.specs.Blocks.{add_blocks};
 ghost use Rattle.xts_sector.specs.Masks.{HoldMasks};
-ghost use Rattle.xts_sector.specs.Tweak.{block_of, times_alpha_power};
+ghost use Rattle.xts_sector.specs.Tweak.{number_block, times_alpha_power};
 
 use crate::tweak::{Block, times_alpha};
 use std::simd::prelude::*;
@@ -28,7 +28,7 @@ fn write_two_masks(two: u8x32, masks: &mut [u8])
 #[inline(always)]
 fn write_two_tweaks(first: u128, second: u128, masks: &mut [u8])
     requires { length masks.old ≡ 32 }
-    ensures { masks.new ≡ block_of first ++ block_of second }
+    ensures { masks.new ≡ number_block first ++ number_block second }
 {
     let low = (first % 0x1_0000_0000_0000_0000) as u64;
     let high = (first >> 64) as u64;
@@ -40,7 +40,7 @@ fn write_two_tweaks(first: u128, second: u128, masks: &mut [u8])
 
 /// Writes the masks of the first eight blocks, from `first` on.
 fn write_first_masks(first: u128, masks: &mut Masks)
-    ensures { (j : ℕ) → j < 8 → block masks.new j ≡ times_alpha_power j (block_of first) }
+    ensures { (j : ℕ) → j < 8 → block masks.new j ≡ times_alpha_power j (number_block first) }
 {
     let mut tweak = first;
     for i in 0..4_usize {

@@ -1,7 +1,7 @@
 //! The tweaks of a data unit (IEEE 1619-2007, 5.1 and 5.2).
 
 ghost use Rattle.std.specs.Prelude.{◌≡◌};
-ghost use Rattle.xts_sector.specs.Tweak.{unit_number, block_of, times_alpha};
+ghost use Rattle.xts_sector.specs.Tweak.{unit_number, number_block, times_alpha};
 
 /// A block of the cipher.
 pub type Block = [u8; 16];
@@ -18,7 +18,7 @@ pub fn unit_number(unit: u64) -> Block
 /// The product of a block by α, the polynomial x (5.2). A block is read as a number in little-endian order.
 #[inline(always)]
 pub fn times_alpha(a: u128) -> u128
-    ensures { block_of result ≡ times_alpha (block_of a) }
+    ensures { number_block result ≡ times_alpha (number_block a) }
 {
     (a << 1) ^ (a >> 127) * 0x87
 }

@@ -2,8 +2,8 @@
 
 ghost use Rattle.std.specs.Prelude.{◌≡◌, ◌≢◌, ◌↔◌, ℕ, ◌-◌, ◌*◌, ◌%◌, ◌<◌, length, IsSome, IfSome};
 ghost use Rattle.xts_sector.specs.FirstTweaks.{HoldTweaks};
-ghost use Rattle.xts_sector.specs.Xts.{IsKeyLength, tweak, encrypted, decrypted};
-ghost use Rattle.xts_sector.specs.Units.{encrypted_units, decrypted_units};
+ghost use Rattle.xts_sector.specs.Xts.{IsXtsKeyLength, tweak, encrypted, decrypted};
+ghost use Rattle.xts_sector.specs.Units.{encrypted_numbered, decrypted_numbered};
 
 use crate::decryption::decrypt_blocks;
 use crate::encryption::encrypt_blocks;
@@ -24,9 +24,9 @@ impl Model for XtsKey {
 
     ghost Value = { List ℕ };
 
-    ghost use Rattle.xts_sector.specs.XtsKey.{key_of, HoldsKeys};
+    ghost use Rattle.xts_sector.specs.XtsKey.{two_keys, HoldsKeys};
 
-    ghost view = { key_of };
+    ghost view = { two_keys };
 
     ghost invariant = { HoldsKeys };
 }
@@ -34,7 +34,7 @@ impl Model for XtsKey {
 impl XtsKey {
     /// The key of these bytes; None unless they are 32 or 64.
     pub fn new(key: &[u8]) -> Option<XtsKey>
-        ensures found { IsSome result ↔ IsKeyLength (length key.now) }
+        ensures found { IsSome result ↔ IsXtsKeyLength (length key.now) }
         ensures value { IfSome result (λ k. k ≡ key.now) }
     {
         let (data_key, tweak_key) = key.split_at(key.len() / 2);
@@ -68,8 +68,8 @@ impl XtsKey {
     pub fn encrypt_units(&self, numbers: &[u64], size: usize, units: &mut [u8])
         requires size { size % 16 ≡ 0 }
         requires whole { length units.old ≡ size * length numbers.now }
-        ensures value { units.new ≡ encrypted_units self.now numbers.now size units.old }
-        ensures inverse { decrypted_units self.now numbers.now size units.new ≡ units.old }
+        ensures value { units.new ≡ encrypted_numbered self.now numbers.now size units.old }
+        ensures inverse { decrypted_numbered self.now numbers.now size units.new ≡ units.old }
     {
         let mut tweaks = [0; 256];
         for i in 0..numbers.len() {
@@ -83,8 +83,8 @@ impl XtsKey {
     pub fn decrypt_units(&self, numbers: &[u64], size: usize, units: &mut [u8])
         requires size { size % 16 ≡ 0 }
         requires whole { length units.old ≡ size * length numbers.now }
-        ensures value { units.new ≡ decrypted_units self.now numbers.now size units.old }
-        ensures inverse { encrypted_units self.now numbers.now size units.new ≡ units.old }
+        ensures value { units.new ≡ decrypted_numbered self.now numbers.now size units.old }
+        ensures inverse { encrypted_numbered self.now numbers.now size units.new ≡ units.old }
     {
         let mut tweaks = [0; 256];
         for i in 0..numbers.len() {

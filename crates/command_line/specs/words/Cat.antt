@@ -3,7 +3,7 @@ use Rattle.std.specs.Prelude.{Bool, List, None, Option, Some, map, ℕ, ◌∷�
 use Rattle.command_line.specs.Bindings.{BindingRecord, binding_record}
 use Rattle.command_line.specs.BindingWords.{bindings_of}
 use Rattle.command_line.specs.FormatOptions.{OptionTexts}
-use Rattle.command_line.specs.Values.{cache_of, count_of, first_of, when}
+use Rattle.command_line.specs.Values.{cache_said, count_said, first_said, when}
 use Rattle.command_line.specs.declared.words.cat.CatWords.{CatWords}
 
 pub record CatRecord : Type 0 where
@@ -17,9 +17,9 @@ pub record CatRecord : Type 0 where
 
 unfoldable pub cat_said : OptionTexts → List (List ℕ) → Option CatRecord
 cat_said texts (stack ∷ name ∷ words) =
-    when (cache_of texts.cache) (λ cache.
-    when (first_of texts.first) (λ first.
-    when (count_of texts.count) (λ count.
+    when (cache_said texts.cache) (λ cache.
+    when (first_said texts.first) (λ first.
+    when (count_said texts.count) (λ count.
     when (bindings_of words) (λ bindings. Some (record {
       cache = cache;
       first = first;

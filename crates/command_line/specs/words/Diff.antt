@@ -2,7 +2,7 @@
 use Rattle.std.specs.Prelude.{Bool, List, None, Option, Some, [], ℕ, ◌∷◌}
 use Rattle.std.specs.Borrow.{Bor}
 use Rattle.command_line.specs.FormatOptions.{OptionTexts}
-use Rattle.command_line.specs.Values.{runs_of, two_roots, when}
+use Rattle.command_line.specs.Values.{runs_said, two_roots, when}
 use Rattle.command_line.specs.declared.words.diff.DiffWords.{DiffWords}
 
 pub record DiffRecord : Type 0 where
@@ -22,7 +22,7 @@ two_trees words = None
 unfoldable pub diff_said : OptionTexts → List (List ℕ) → Option DiffRecord
 diff_said texts words =
     when (two_trees words) (λ trees.
-    when (runs_of texts.blocks) (λ blocks.
+    when (runs_said texts.blocks) (λ blocks.
     Some (record {
       old_path = trees.0;
       old_root = trees.1;

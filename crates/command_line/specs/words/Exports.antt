@@ -4,7 +4,7 @@ use Rattle.std.specs.Str.{bytes_eq}
 use Rattle.command_line.specs.Bindings.{BindingRecord, binding_record}
 use Rattle.command_line.specs.BindingWords.{bindings_of}
 use Rattle.command_line.specs.FormatOptions.{OptionTexts}
-use Rattle.command_line.specs.Values.{cache_of, when}
+use Rattle.command_line.specs.Values.{cache_said, when}
 use Rattle.command_line.specs.declared.words.exports.ExportsWords.{ExportsWords}
 
 pub record ExportsRecord : Type 0 where
@@ -16,7 +16,7 @@ pub record ExportsRecord : Type 0 where
 unfoldable pub exports_said : OptionTexts → List (List ℕ) → Option ExportsRecord
 exports_said texts (stack ∷ words) =
     if bytes_eq stack (codes "-") then None
-    else when (cache_of texts.cache) (λ cache.
+    else when (cache_said texts.cache) (λ cache.
     when (bindings_of words) (λ bindings. Some (record {
       cache = cache;
       stack = stack;

@@ -3,7 +3,7 @@ use Rattle.std.specs.Prelude.{Bool, List, None, Option, Some, map, ℕ, ◌∷�
 use Rattle.command_line.specs.Bindings.{BindingRecord, binding_record}
 use Rattle.command_line.specs.BindingWords.{bindings_of}
 use Rattle.command_line.specs.FormatOptions.{OptionTexts, text_of}
-use Rattle.command_line.specs.Values.{cache_of, map_of, when}
+use Rattle.command_line.specs.Values.{cache_said, map_said, when}
 use Rattle.command_line.specs.declared.words.scan.ScanWords.{ScanWords}
 
 pub record ScanRecord : Type 0 where
@@ -17,8 +17,8 @@ pub record ScanRecord : Type 0 where
 
 unfoldable pub scan_said : OptionTexts → List (List ℕ) → Option ScanRecord
 scan_said texts (stack ∷ name ∷ words) =
-    when (cache_of texts.cache) (λ cache.
-    when (map_of texts.map) (λ path.
+    when (cache_said texts.cache) (λ cache.
+    when (map_said texts.map) (λ path.
     when (bindings_of words) (λ bindings. Some (record {
       cache = cache;
       stack = stack;

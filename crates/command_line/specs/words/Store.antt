@@ -4,7 +4,7 @@ use Rattle.std.specs.Str.{bytes_eq}
 use Rattle.command_line.specs.Bindings.{BindingRecord, binding_record}
 use Rattle.command_line.specs.BindingWords.{bindings_of}
 use Rattle.command_line.specs.FormatOptions.{OptionTexts}
-use Rattle.command_line.specs.Values.{cache_of, first_of, when}
+use Rattle.command_line.specs.Values.{cache_said, first_said, when}
 use Rattle.command_line.specs.declared.words.store.StoreWords.{StoreWords}
 
 pub record StoreRecord : Type 0 where
@@ -19,8 +19,8 @@ pub record StoreRecord : Type 0 where
 unfoldable pub store_said : OptionTexts → List (List ℕ) → Option StoreRecord
 store_said texts (stack ∷ name ∷ source ∷ words) =
     if bytes_eq stack (codes "-") && bytes_eq source (codes "-") then None else
-    when (cache_of texts.cache) (λ cache.
-    when (first_of texts.first) (λ first.
+    when (cache_said texts.cache) (λ cache.
+    when (first_said texts.first) (λ first.
     when (bindings_of words) (λ bindings. Some (record {
       cache = cache;
       first = first;

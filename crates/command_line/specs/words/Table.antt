@@ -2,7 +2,7 @@
 use Rattle.std.specs.Prelude.{List, None, Option, Some, ℕ, ◌∷◌, if◌then◌else◌}
 use Rattle.command_line.specs.FormatOptions.{OptionTexts, text_of}
 use Rattle.command_line.specs.FurtherWords.{has_tree_value}
-use Rattle.command_line.specs.Values.{RootRecord, device_names, name_of, offset_of, root_first, root_record, when}
+use Rattle.command_line.specs.Values.{RootRecord, device_names, name_said, offset_of, root_first, root_record, when}
 use Rattle.command_line.specs.declared.words.table.TableWords.{TableWords}
 
 pub record TableRecord : Type 0 where
@@ -17,7 +17,7 @@ unfoldable pub table_said : OptionTexts → List (List ℕ) → Option TableReco
 table_said texts (hash_path ∷ words) =
     if has_tree_value texts then None else
     when (offset_of texts.hash_offset) (λ hash_offset.
-    when (name_of texts.name) (λ name.
+    when (name_said texts.name) (λ name.
     when (root_first texts.root_hash_file words) (λ found.
     when (device_names found.1) (λ names.
     Some (record {

@@ -1,7 +1,7 @@
 -- What `table --no-superblock --blocks N --salt HEX [OPTIONS] HASH [ROOT] DATANAME HASHNAME` says.
 use Rattle.std.specs.Prelude.{List, None, Option, Some, ℕ, ◌∷◌, ◌||◌, not, is_some, if◌then◌else◌}
 use Rattle.command_line.specs.FormatOptions.{OptionTexts, text_of}
-use Rattle.command_line.specs.Values.{RootRecord, device_names, name_of, offset_of, root_first, root_record, when}
+use Rattle.command_line.specs.Values.{RootRecord, device_names, name_said, offset_of, root_first, root_record, when}
 use Rattle.command_line.specs.declared.words.tree_table.TreeTableWords.{TreeTableWords}
 
 pub record TreeTableRecord : Type 0 where
@@ -17,7 +17,7 @@ unfoldable pub tree_table_said : OptionTexts → List (List ℕ) → Option Tree
 tree_table_said texts (hash_path ∷ words) =
     if not (is_some texts.blocks) || not (is_some texts.salt) then None else
     when (offset_of texts.hash_offset) (λ hash_offset.
-    when (name_of texts.name) (λ name.
+    when (name_said texts.name) (λ name.
     when (root_first texts.root_hash_file words) (λ found.
     when (device_names found.1) (λ names.
     Some (record {

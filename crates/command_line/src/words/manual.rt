@@ -1,6 +1,6 @@
 //! `manual [COMMAND]` and `version`
 ghost use Rattle.command_line.specs.FurtherRecords.{manual, version_said};
-ghost use Rattle.command_line.specs.Reading.{Reads, ReadsAs};
+ghost use Rattle.command_line.specs.Reading.{ReadsCommand, ReadsAs};
 ghost use Rattle.command_line.specs.FormatOptions.{texts_of};
 ghost use Rattle.command_line.specs.words.Manual.{manual_said};
 
@@ -24,7 +24,7 @@ pub fn manual_of<'a>(words: &[&'a str]) -> Result<Further<'a>, WordsFault>
 
 /// No word stands behind `version`.
 pub fn version_of<'a>(words: &[&'a str]) -> Result<Further<'a>, WordsFault>
-    ensures { Reads (version_said (texts_of words.now)) result }
+    ensures { ReadsCommand (version_said (texts_of words.now)) result }
 {
     if words.is_empty() {
         Ok(Further::Version)

@@ -7,7 +7,7 @@ use Rattle.std.proofs.lemmas.Bool.{cond-false, lt-ltb, cond-true, and_from, eq-e
 use Rattle.dm_table.specs.Numbers.{number}
 use Rattle.std.specs.Str.{bytes_eq}
 use Rattle.dm_table.specs.declared.fault.TextKind.TheVariants as kinds
-use Rattle.dm_table.specs.Words.{Word, is_text, words, lines_of}
+use Rattle.dm_table.specs.Words.{Word, is_text, words, text_lines}
 use Rattle.dm_table.specs.Reading.{◌>>=◌, at_place}
 use Rattle.dm_table.specs.Arguments.{number_at, bytes_at}
 use Rattle.dm_table.specs.Options.{are_options, known_at, counted_at, options_at}
@@ -69,7 +69,7 @@ pub target-named : (type : TargetType) (arguments : List Word) → target_at (ty
 unfolding target_at
 target-named type arguments = ap (λ named. ok_or named kinds.Target >>= (λ type. arguments_at type arguments)) (type_named-word type)
 
-pub table-lines : (text : List ℕ) → is_text text ≡ true → table_of text ≡ (table_lines 1 (lines_of text) >>= some_lines)
+pub table-lines : (text : List ℕ) → is_text text ≡ true → table_of text ≡ (table_lines 1 (text_lines text) >>= some_lines)
 unfolding table_of
 table-lines text good = cond-false (not (is_text text)) _ _ (ap not good)
 

@@ -3,7 +3,7 @@ use Rattle.std.proofs.Common.{List, ℕ, Bool, Option, refl}
 use Rattle.verity_format.specs.declared.verifying.VerifyFault.{VerifyFault}
 use Rattle.image_commands.specs.declared.fault.ImageFault.{ImageFault}
 use Rattle.image_commands.specs.declared.fault.ImageFault.TheVariants.{NoMemory, Open, Format, Verify, Differs, RootText, Unaligned, Random, Write}
-use Rattle.image_commands.specs.Endings.{IsQuiet, IsVerifyEnd, MayEnd}
+use Rattle.image_commands.specs.Endings.{IsQuiet, IsVerifyEnd, IsCommonEnd}
 
 pub quiet : (fault : ImageFault) (bytes : Option (List ℕ)) → IsQuiet fault bytes bytes
 quiet NoMemory bytes = refl
@@ -17,7 +17,7 @@ quiet Random bytes = refl
 quiet Write bytes = tt
 
 -- want of memory and a line that can't be written end a command whatever else may
-pub may_end : (Cause : VerifyFault → Type 0) (failed : Bool) (fault : ImageFault) → MayEnd failed fault → IsVerifyEnd Cause failed fault
+pub may_end : (Cause : VerifyFault → Type 0) (failed : Bool) (fault : ImageFault) → IsCommonEnd failed fault → IsVerifyEnd Cause failed fault
 may_end Cause failed NoMemory h = h
 may_end Cause failed (Open file) h = h
 may_end Cause failed (Format fault) h = h

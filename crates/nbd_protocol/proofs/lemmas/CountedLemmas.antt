@@ -3,7 +3,7 @@ use Rattle.std.proofs.Common.{◌≡◌, ◌≢◌, ◌≤◌, ℕ, ◌+◌, ◌
 use Rattle.counted_io.specs.Counted.{CountedRecord}
 use Rattle.nbd_protocol.specs.declared.fault.ServiceFault.{ServiceFault}
 use Rattle.nbd_protocol.specs.declared.fault.ServiceFault.TheVariants as fault
-use Rattle.nbd_protocol.specs.Streaming.{HasRead, HasWritten, Stops, fault_of}
+use Rattle.nbd_protocol.specs.Streaming.{HasRead, HasWritten, Stops, result_fault}
 
 no-fault : (x : ServiceFault) → None ≢ Some x
 no-fault x is = cc
@@ -66,6 +66,6 @@ stops-reading input fault.NoSuchExport stops is = cc
 stops-reading input fault.ReadFault stops is = cc
 stops-reading input fault.WriteFault stops is = stops
 
-pub of-fault : {T : Type 0} (result : Result T ServiceFault) (x : ServiceFault) → fault_of result ≡ Some x → result ≡ Err x
+pub of-fault : {T : Type 0} (result : Result T ServiceFault) (x : ServiceFault) → result_fault result ≡ Some x → result ≡ Err x
 of-fault (Ok value) x is = cc
 of-fault (Err y) x is = cc

@@ -8,8 +8,8 @@ use Rattle.std.proofs.lemmas.List.{get_or-map, length-map, map-append}
 use Rattle.std.proofs.lemmas.List.Quantifiers.{position-Some}
 use Rattle.std.proofs.lemmas.List.Elements.{All-append, All-get_or, All-map}
 use Rattle.stack_rules.specs.Records.{Configuration}
-use Rattle.nbd_protocol.specs.Exports.{AreExports, HaveShortNames, ExportRecord, IsExport, asked, export_at, export_record, export_records, no_export, place_of}
-use Rattle.nbd_protocol.specs.Offers.{Adds, Offers, offers_more, offers_none}
+use Rattle.nbd_protocol.specs.Exports.{AreExports, HaveShortNames, ExportRecord, IsExport, asked, export_at, export_record, export_records, no_export, export_place}
+use Rattle.nbd_protocol.specs.Offers.{AddsExport, Offers, offers_more, offers_none}
 use Rattle.nbd_protocol.specs.declared.export.Export.{Export}
 
 module _ {X Y : Type 0} (f : X → Y) where
@@ -28,7 +28,7 @@ pub asked-inside : (es : List ExportRecord) (name : List ℕ) (place : ℕ) → 
 unfolding asked
 asked-inside es name place is = go ((length name == 0) && (length es == 1)) refl is
   where
-    go : (only : Bool) → ((length name == 0) && (length es == 1)) ≡ only → (if only then Some 0 else place_of es name) ≡ Some place → place < length es
+    go : (only : Bool) → ((length name == 0) && (length es == 1)) ≡ only → (if only then Some 0 else export_place es name) ≡ Some place → place < length es
     go true only is = grind (arith)
     go false only is = (position-Some (λ e. bytes_eq e.name name) es place no_export is).0
 
@@ -52,10 +52,10 @@ placed-inside exports place inside = omega (arith, inside, length-map exports ex
 
 -- the next name
 pub offers-next : (c : Configuration) (names names' : List (Vec ℕ Global)) (n : Vec ℕ Global) (name : List ℕ) (es es' : List ExportRecord) → names' ≡ names ++ n ∷ [] → name ≡ n.items
-    → Offers c (map (λ v. v.items) names) es → Adds c name es es' → Offers c (map (λ v. v.items) names') es'
+    → Offers c (map (λ v. v.items) names) es → AddsExport c name es es' → Offers c (map (λ v. v.items) names') es'
 offers-next c names names' n name es es' more is o a =
     let listed = ap (map (λ (v : Vec ℕ Global). v.items)) more ∙ map-append (λ (v : Vec ℕ Global). v.items) names (n ∷ []) in
-    subst (λ l. Offers c l es') (sym listed) (offers_more n.items o (subst (λ (l : List ℕ). Adds c l es es') is a))
+    subst (λ l. Offers c l es') (sym listed) (offers_more n.items o (subst (λ (l : List ℕ). AddsExport c l es es') is a))
 
 -- those of some names
 offers-each : (c : Configuration) {names : List (List ℕ)} {es : List ExportRecord} → Offers c names es → All (IsExport c) es

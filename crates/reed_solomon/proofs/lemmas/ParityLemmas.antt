@@ -6,7 +6,7 @@ use Rattle.std.proofs.lemmas.Bool.Decides.{eqb_tells}
 use Rattle.std.proofs.lemmas.List.{get_or-take, get_or_past, get_or_append_left, length-take-le, ext_get_or}
 use Rattle.std.proofs.lemmas.List.FromFn.{get_or-range_with_len, length-range_with_len}
 use Rattle.std.specs.Int.Bits.{xor_zero_r}
-use Rattle.reed_solomon.specs.Field.{product, total}
+use Rattle.reed_solomon.specs.Field.{field_product, total}
 use Rattle.reed_solomon.specs.Code.{IsCodeword}
 use Rattle.reed_solomon.specs.Restoring.{AgreesOutside}
 use Rattle.reed_solomon.specs.Factors.{AreFactors, AreProducts, parity_places}
@@ -27,7 +27,7 @@ pub factors-of : (lost products : List ℕ) (n k : ℕ) → length lost ≡ n �
 factors-of lost products n k size known h = rw (sym size) (known.each k (omega (arith, h, size)))
 
 pub parity-codeword : (parity : ℕ) (products word : List ℕ) → 0 < parity → parity ≤ 24 → length word ≡ 255 → ((i : ℕ) → slice_index word i < 256) → AreProducts (parity_places parity) products
-    → ((k : ℕ) → k < parity → slice_index word (255 - parity + k) ≡ total (λ i. product (slice_index products (i * parity + k)) (slice_index word i)) (255 - parity))
+    → ((k : ℕ) → k < parity → slice_index word (255 - parity + k) ≡ total (λ i. field_product (slice_index products (i * parity + k)) (slice_index word i)) (255 - parity))
     → IsCodeword parity word
 parity-codeword parity products word some few len bytes known sums =
     let n = 255 - parity in
@@ -50,15 +50,15 @@ parity-codeword parity products word some few len bytes known sums =
     let f = λ (i : ℕ). slice_index products (i * parity + k) in
     let factors = factors-of lost products parity k size known h in
     let place : slice_index lost k ≡ n + k = get_or-range_with_len n parity k 0 h in
-    let skip : (i : ℕ) → n ≤ i → i < n + parity → product (f i) (slice_index w i) ≡ 0
+    let skip : (i : ℕ) → n ≤ i → i < n + parity → field_product (f i) (slice_index w i) ≡ 0
     = λ i low high.
     let at : slice_index lost (i - n) ≡ i = get_or-range_with_len n parity (i - n) 0 (omega (arith, low, high)) ∙ omega (arith, low) in
     let none : f i ≡ 0 = ap f (sym at) ∙ factors.skip (i - n) (omega (arith, low, high, size)) in
-    ap (λ x. product x (slice_index w i)) none ∙ product_zero_l (slice_index w i) in
+    ap (λ x. field_product x (slice_index w i)) none ∙ product_zero_l (slice_index w i) in
     sums k h
-    ∙ total-same (λ i. product (f i) (slice_index word i)) (λ i. product (f i) (slice_index w i)) n (λ i lt. ap (λ x. product (f i) x) (front i lt))
-    ∙ sym (total-front (λ i. product (f i) (slice_index w i)) n parity skip)
-    ∙ ap (λ j. total (λ i. product (f i) (slice_index w i)) j) whole
+    ∙ total-same (λ i. field_product (f i) (slice_index word i)) (λ i. field_product (f i) (slice_index w i)) n (λ i lt. ap (λ x. field_product (f i) x) (front i lt))
+    ∙ sym (total-front (λ i. field_product (f i) (slice_index w i)) n parity skip)
+    ∙ ap (λ j. total (λ i. field_product (f i) (slice_index w i)) j) whole
     ∙ factors.restore parity w (omega (arith, size)) code
     ∙ ap (λ j. slice_index w j) place in
     let same : (i : ℕ) → i < length word → slice_index word i ≡ slice_index w i
@@ -73,15 +73,15 @@ parity-codeword parity products word some few len bytes known sums =
 -- the k-th lost byte of a codeword, summed up of a word that agrees with it elsewhere
 pub restored-byte : (parity : ℕ) (lost products word whole : List ℕ) (k : ℕ) → k < length lost → length lost ≤ parity → AreProducts lost products
     → IsCodeword parity whole → AgreesOutside lost word whole
-    → total (λ i. product (slice_index products (i * length lost + k)) (slice_index word i)) 255 ≡ slice_index whole (slice_index lost k)
+    → total (λ i. field_product (slice_index products (i * length lost + k)) (slice_index word i)) 255 ≡ slice_index whole (slice_index lost k)
 restored-byte parity lost products word whole k h enough known code agree =
     let f = λ (i : ℕ). slice_index products (i * length lost + k) in
     let factors = known.each k h in
-    let same : (i : ℕ) → i < 255 → product (f i) (slice_index word i) ≡ product (f i) (slice_index whole i)
+    let same : (i : ℕ) → i < 255 → field_product (f i) (slice_index word i) ≡ field_product (f i) (slice_index whole i)
     = λ i lt. elim (eqb_tells (f i) 0) [
-      | inl e ↦ ap (λ x. product x (slice_index word i)) e.1 ∙ product_zero_l (slice_index word i) ∙ sym (ap (λ x. product x (slice_index whole i)) e.1 ∙ product_zero_l (slice_index whole i))
+      | inl e ↦ ap (λ x. field_product x (slice_index word i)) e.1 ∙ product_zero_l (slice_index word i) ∙ sym (ap (λ x. field_product x (slice_index whole i)) e.1 ∙ product_zero_l (slice_index whole i))
       | inr e ↦
           let outside : (j : ℕ) → j < length lost → slice_index lost j ≢ i = λ j less at. e.1 (ap f (sym at) ∙ factors.skip j less) in
-          ap (λ x. product (f i) x) (agree i outside)
+          ap (λ x. field_product (f i) x) (agree i outside)
     ] in
-    total-same (λ i. product (f i) (slice_index word i)) (λ i. product (f i) (slice_index whole i)) 255 same ∙ factors.restore parity whole enough code
+    total-same (λ i. field_product (f i) (slice_index word i)) (λ i. field_product (f i) (slice_index whole i)) 255 same ∙ factors.restore parity whole enough code

@@ -6,7 +6,7 @@ use Rattle.stack_rules.specs.Names.{mapped, may_write, size, device_named}
 use Rattle.request_queue.specs.declared.fault.SubmitFault.{SubmitFault}
 use Rattle.request_queue.specs.declared.fault.SubmitFault.TheVariants.{NoSuchDevice, OutOfRange, Length, ReadOnly, Full}
 use Rattle.request_queue.specs.declared.range.SectorRange.{SectorRange}
-use Rattle.request_queue.specs.Ranges.{IsInside, range_at, range_in, range_of}
+use Rattle.request_queue.specs.Ranges.{IsRangeInside, range_at, range_in, range_of}
 use Rattle.request_queue.specs.Flights.{IsAdmissible}
 use Rattle.request_queue.specs.Requests.{a_write, sector_count, writable_sectors, sectors_for}
 use Rattle.request_queue.specs.World.{World, admission, unless_full, is_full}
@@ -70,7 +70,7 @@ admission-whole w name first bytes range h =
 
 -- a write that the checks pass on may be begun
 pub admissible-write : (c : Configuration) (name : List ℕ) (first : ℕ) (bytes : List ℕ) (range : SectorRange) (r : Result SectorRange SubmitFault) → r ≡ writable_sectors c bytes (Ok range)
-    → Ok range ≡ range_of c name first (sector_count bytes) → IsInside c range → IfOk r (λ x. IsAdmissible c (a_write name first bytes) x)
+    → Ok range ≡ range_of c name first (sector_count bytes) → IsRangeInside c range → IfOk r (λ x. IsAdmissible c (a_write name first bytes) x)
 admissible-write c name first bytes range (Err fault) e found inside = tt
 admissible-write c name first bytes range (Ok x) e found inside =
     let ok = writable-ok c bytes (Ok range) x (sym e) in
@@ -78,4 +78,4 @@ admissible-write c name first bytes range (Ok x) e found inside =
     let same : range ≡ x = cc in
     let count : range.count ≡ length bytes / 512 + min 1 (length bytes % 512) = range_of-count c name first (sector_count bytes) range (sym found) in
     let len : length bytes ≡ 512 * x.count = omega (arith, count, ok.1.whole, ap (λ (y : SectorRange). y.count) same) in
-    record { inside = subst (IsInside c) same inside; work = (len, ok.1.may) }
+    record { inside = subst (IsRangeInside c) same inside; work = (len, ok.1.may) }

@@ -6,8 +6,8 @@ use Rattle.request_queue.specs.declared.reply.Reply.{Reply}
 use Rattle.request_queue.specs.AsSteps.{AreAsSteps, none, as_it_was, in_steps, is_run, turn}
 use Rattle.request_queue.specs.Parts.{EachPart}
 use Rattle.request_queue.specs.Requests.{RequestRecord}
-use Rattle.request_queue.specs.Runs.{Turn, Run, last, is_step}
-use Rattle.request_queue.specs.World.{World, Event, submit, step, read_bytes, write_piece, load, remove_device, run, sync, Step, RunsOut}
+use Rattle.request_queue.specs.Runs.{Turn, AreTurns, last, is_step}
+use Rattle.request_queue.specs.World.{World, Event, submit, step, read_bytes, write_piece, load, remove_device, run, sync, Step, RunsToEnd}
 use Rattle.request_queue.proofs.lemmas.LedLemmas.{run-append, last-append}
 use Rattle.request_queue.proofs.lemmas.ServedLemmas.{steps-alone}
 
@@ -18,7 +18,7 @@ IsNoRun x = is_run x.event ≡ false
 pub record Unrolled (w : World) (turns : List Turn) : Type 0 where
   pub steps : List Turn
   pub same : AreAsSteps w turns steps
-  pub run : Run EachPart w steps
+  pub run : AreTurns EachPart w steps
   pub ends : last w steps ≡ last w turns
   pub none_runs : All (λ (x : Turn). is_run x.event ≡ false) steps
 
@@ -42,7 +42,7 @@ kept w x more unrun s rest = record {
   none_runs = All-cons IsNoRun x rest.steps unrun rest.none_runs;
 }
 
-ran : (w : World) (r : RequestRecord) (answer : Result Reply IoFault) (w' : World) (more : List Turn) → RunsOut EachPart w r answer w' → Unrolled w' more → Unrolled w (turn (run r (Ok answer)) w' ∷ more)
+ran : (w : World) (r : RequestRecord) (answer : Result Reply IoFault) (w' : World) (more : List Turn) → RunsToEnd EachPart w r answer w' → Unrolled w' more → Unrolled w (turn (run r (Ok answer)) w' ∷ more)
 ran w r answer w' more s rest =
     let t = w.given + 1 in
     let alone = steps-alone t answer s.begun w' s.ends in
@@ -50,7 +50,7 @@ ran w r answer w' more s rest =
     record {
       steps = first ∷ (alone.turns ++ rest.steps);
       same = in_steps {begun = s.begun} {own = alone.turns} {steps = rest.steps} r answer (record { each = alone.own; answered = alone.answered; ends = alone.ends }) rest.same;
-      run = (s.begins, run-append EachPart s.begun alone.turns rest.steps alone.run (subst (λ (x : World). Run EachPart x rest.steps) (sym alone.ends) rest.run));
+      run = (s.begins, run-append EachPart s.begun alone.turns rest.steps alone.run (subst (λ (x : World). AreTurns EachPart x rest.steps) (sym alone.ends) rest.run));
       ends = last-append s.begun alone.turns rest.steps ∙ ap (λ (x : World). last x rest.steps) alone.ends ∙ rest.ends;
       none_runs = All-cons IsNoRun first (alone.turns ++ rest.steps) refl
           (All-append IsNoRun alone.turns rest.steps (All-weaker (λ (x : Turn). is_step t x.event ≡ true) IsNoRun (λ x is. step-no-run t x.event is) alone.turns alone.own) rest.none_runs);
@@ -67,6 +67,6 @@ unroll-turn w (run r (Ok answer)) w' more s rest = ran w r answer w' more s rest
 unroll-turn w (run r (Err fault)) w' more s rest = kept w (turn (run r (Err fault)) w') more refl s rest
 unroll-turn w (sync reply) w' more s rest = kept w (turn (sync reply) w') more refl s rest
 
-pub unrolled : (w : World) (turns : List Turn) → Run EachPart w turns → Unrolled w turns
+pub unrolled : (w : World) (turns : List Turn) → AreTurns EachPart w turns → Unrolled w turns
 unrolled w [] r = record { steps = []; same = none; run = tt; ends = refl; none_runs = All-nil _ }
 unrolled w (x ∷ more) r = unroll-turn w x.event x.after more r.0 (unrolled x.after more r.1)

@@ -19,9 +19,9 @@ use Rattle.request_queue.specs.declared.reply.Reply.{Reply}
 use Rattle.request_queue.specs.Ranges.{piece_len}
 use Rattle.request_queue.specs.Requests.{RequestRecord}
 use Rattle.request_queue.specs.Flights.{FlightRecord, WorkRecord, reads, writes, first_flight, next_flight, next_work, first_work, work_cost, has_ticket}
-use Rattle.request_queue.specs.Parts.{PartRelation, AnyPart, Asks, bytes_part, write_part, part_of_work, done_of, without_bytes, without_chains}
-use Rattle.request_queue.specs.World.{World, world, Event, submit, step, read_bytes, write_piece, load, remove_device, run, sync, Step, IsAt, Rise, Begins, IsRefused, Serves, ReadsBytes, PieceWritten, Loads, Removes, Syncs, Ends, at_once, later, Runs, next_count}
-use Rattle.request_queue.specs.Runs.{Turn, Run, last, total, is_step, flight_of, moved_of, moved_for, served_for, rest_of, due_of, due, rest}
+use Rattle.request_queue.specs.Parts.{PartRelation, AnyPart, AsksPiece, bytes_part, write_part, part_of_work, done_of, without_bytes, without_chains}
+use Rattle.request_queue.specs.World.{World, world, Event, submit, step, read_bytes, write_piece, load, remove_device, run, sync, Step, IsAt, Rise, Begins, IsRequestRefused, Serves, ReadsBytes, PieceWritten, LoadsText, Removes, Syncs, EndsRequest, at_once, later, Runs, next_count}
+use Rattle.request_queue.specs.Runs.{Turn, AreTurns, last, turns_total, is_step, flight_of, moved_of, moved_for, served_for, rest_of, due_of, rest_due, rest}
 use Rattle.request_queue.proofs.lemmas.PartLemmas.{any-keeps, part_cost-work}
 use Rattle.request_queue.proofs.lemmas.TicketLemmas.{test-same, test-other, at-ticket, find-at, find-removed, find-changed, others-set, others-remove, others-push, found-pushed, rise-push, rise-set, rise-remove}
 
@@ -71,17 +71,17 @@ module _ (w : World) (t i : ℕ) (f : FlightRecord) (at : IsAt w.in_flight t i f
   within : next_count w f ≤ f.rest.count
   within = piece_len-within w.stack.config f.rest
 
-  moved-part : (stack : StackRecord) (answer : Result AnswerRecord IoFault) → Asks AnyPart w.stack f answer stack → moved_of stack ≤ moved_of w.stack + next_count w f * work_cost w.stack.config f.rest.device.0 f.work
+  moved-part : (stack : StackRecord) (answer : Result AnswerRecord IoFault) → AsksPiece AnyPart w.stack f answer stack → moved_of stack ≤ moved_of w.stack + next_count w f * work_cost w.stack.config f.rest.device.0 f.work
   moved-part stack answer p =
       let kept = any-keeps w.stack f.rest.device.0 f.rest.first (part_of_work f.work (done_of f) (next_count w f)) answer stack p in
       let most = part_cost-work w.stack.config f.rest.device.0 f.work (done_of f) (next_count w f) in
       omega (arith, kept.moved, most)
 
-  same-config : (stack : StackRecord) (answer : Result AnswerRecord IoFault) → Asks AnyPart w.stack f answer stack → stack.config ≡ w.stack.config
+  same-config : (stack : StackRecord) (answer : Result AnswerRecord IoFault) → AsksPiece AnyPart w.stack f answer stack → stack.config ≡ w.stack.config
   same-config stack answer p = (any-keeps w.stack f.rest.device.0 f.rest.first (part_of_work f.work (done_of f) (next_count w f)) answer stack p).config
 
   -- it is over
-  served-out : (stack : StackRecord) (answer : Result AnswerRecord IoFault) → Asks AnyPart w.stack f answer stack → HasServed w t (world stack w.given (remove w.in_flight i))
+  served-out : (stack : StackRecord) (answer : Result AnswerRecord IoFault) → AsksPiece AnyPart w.stack f answer stack → HasServed w t (world stack w.given (remove w.in_flight i))
   served-out stack answer p = record {
     f = f;
     is = (find-at 0 w.given t i w.in_flight f order at.is own).1;
@@ -97,7 +97,7 @@ module _ (w : World) (t i : ℕ) (f : FlightRecord) (at : IsAt w.in_flight t i f
   }
 
   -- it goes on
-  served-on : (stack : StackRecord) (got : AnswerRecord) → next_count w f < f.rest.count → Asks AnyPart w.stack f (Ok got) stack
+  served-on : (stack : StackRecord) (got : AnswerRecord) → next_count w f < f.rest.count → AsksPiece AnyPart w.stack f (Ok got) stack
       → HasServed w t (world stack w.given (set w.in_flight i (next_flight f (next_count w f) got)))
   served-on stack got more p = record {
     f = f;
@@ -165,7 +165,7 @@ kept-begins w w' r ticket t order old b =
       order = rise-push 0 w.given w.in_flight f (omega arith) order;
     })
 
-kept-refused : (w w' : World) (r : RequestRecord) (fault : SubmitFault) (t : ℕ) → InOrder w → IsRefused w r fault w' → Kept w t w'
+kept-refused : (w w' : World) (r : RequestRecord) (fault : SubmitFault) (t : ℕ) → InOrder w → IsRequestRefused w r fault w' → Kept w t w'
 kept-refused w w' r fault t order s = kept-same w w' t order s.same
 
 kept-bytes : (w w' : World) (d first bytes : ℕ) (reply : Result (Result (List ℕ) IoFault) SubmitFault) (t : ℕ) → InOrder w → ReadsBytes AnyPart w d first bytes reply w' → Kept w t w'
@@ -179,7 +179,7 @@ kept-written w w' d first bytes result t order s =
     let kept = any-keeps w.stack d first (write_part bytes) (without_bytes result) s.stack s.asks in
     subst (Kept w t) (sym s.leaves) (record { same = refl; config = inr kept.config; given = omega arith; order = order })
 
-kept-load : (w w' : World) (text : List Entry) (reply : Result Unit (Held LoadFault)) (t : ℕ) → InOrder w → Loads w text reply w' → Kept w t w'
+kept-load : (w w' : World) (text : List Entry) (reply : Result Unit (Held LoadFault)) (t : ℕ) → InOrder w → LoadsText w text reply w' → Kept w t w'
 kept-load w w' text (Ok done) t order s =
     subst (Kept w t) (sym s.leaves) (record { same = refl; config = inl (ap (λ fs. find (has_ticket t) fs) s.idle); given = omega arith; order = order })
 kept-load w w' text (Err Busy) t order s = kept-same w w' t order s.1
@@ -195,7 +195,7 @@ kept-sync : (w w' : World) (reply : Result Unit IoFault) (t : ℕ) → InOrder w
 kept-sync w w' (Ok done) t order s = subst (Kept w t) (sym s) (record { same = refl; config = inr refl; given = omega arith; order = order })
 kept-sync w w' (Err fault) t order s = subst (Kept w t) (sym s.leaves) (record { same = refl; config = inr refl; given = omega arith; order = order })
 
-kept-ends : (t u : ℕ) (answer : Result Reply IoFault) (w w' : World) → u ≢ t → InOrder w → Ends AnyPart u answer w w' → Kept w t w'
+kept-ends : (t u : ℕ) (answer : Result Reply IoFault) (w w' : World) → u ≢ t → InOrder w → EndsRequest AnyPart u answer w w' → Kept w t w'
 kept-ends t u answer w w' other order (at_once s) = kept-served w w' t u other (has-served w u (Done answer) w' order s)
 kept-ends t u answer w w' other order (later {v = v} s more) =
     let first = kept-served w v t u other (has-served w u More v order s) in
@@ -255,7 +255,7 @@ begun-there w r ticket w' order b = some-not-none (first_flight ticket b.range r
 -- what is counted at each turn, and what is left at the end, are no more than what was left at the start
 pub within-run : (part : PartRelation) (count : World → Turn → ℕ) (left : World → ℕ) (Keeps : World → Type 0)
     → ((w : World) (x : Turn) → Keeps w → Step part w x.event x.after → (count w x + left x.after ≤ left w) × Keeps x.after)
-    → (w : World) (turns : List Turn) → Keeps w → Run part w turns → total count w turns + left (last w turns) ≤ left w
+    → (w : World) (turns : List Turn) → Keeps w → AreTurns part w turns → turns_total count w turns + left (last w turns) ≤ left w
 within-run piece count left Keeps each w [] keeps r = omega arith
 within-run piece count left Keeps each w (x ∷ more) keeps r =
     let here = each w x keeps r.0 in
@@ -288,13 +288,13 @@ pub rest-became : (f : FlightRecord) (n : ℕ) (o : Option FlightRecord) → 1 �
 rest-became f n o some most is_over = omega (arith, some, most)
 rest-became f n o some most (goes_on f' k) = omega (arith, some, k.left)
 
-due-turn : (t : ℕ) (w : World) (x : Turn) → Turned w t x.event x.after → moved_for t w x + due t x.after ≤ due t w
+due-turn : (t : ℕ) (w : World) (x : Turn) → Turned w t x.event x.after → moved_for t w x + rest_due t x.after ≤ rest_due t w
 due-turn t w x (own_turn is s) =
     let moved : moved_of x.after.stack - moved_of w.stack ≤ s.n * work_cost w.stack.config s.f.rest.device.0 s.f.work = omega (arith, s.moved) in
-    rw is (subst (λ o. moved_of x.after.stack - moved_of w.stack + due t x.after ≤ due_of w.stack.config o) (sym s.is)
+    rw is (subst (λ o. moved_of x.after.stack - moved_of w.stack + rest_due t x.after ≤ due_of w.stack.config o) (sym s.is)
     (due-became w.stack.config x.after.stack.config s.f s.n (moved_of x.after.stack - moved_of w.stack) (flight_of x.after t) s.most moved s.config s.became))
 due-turn t w x (other_turn is k) =
-    let same : due t x.after ≡ due t w = due-same w.stack.config x.after.stack.config (flight_of w t) (flight_of x.after t) k.same k.config in
+    let same : rest_due t x.after ≡ rest_due t w = due-same w.stack.config x.after.stack.config (flight_of w t) (flight_of x.after t) k.same k.config in
     rw is (omega (arith, same))
 
 rest-turn : (t : ℕ) (w : World) (x : Turn) → Turned w t x.event x.after → served_for t w x + rest t x.after ≤ rest t w
@@ -307,32 +307,32 @@ knows-turn t w e w' old (own_turn is s) = (s.order, omega (arith, old, s.given))
 knows-turn t w e w' old (other_turn is k) = (k.order, omega (arith, old, k.given))
 
 -- What the steps of a request move in a run is at most what is left of it times its read cost.
-pub budget : (t : ℕ) (w : World) (turns : List Turn) → InOrder w → t ≤ w.given → Run AnyPart w turns → total (moved_for t) w turns + due t (last w turns) ≤ due t w
+pub budget : (t : ℕ) (w : World) (turns : List Turn) → InOrder w → t ≤ w.given → AreTurns AnyPart w turns → turns_total (moved_for t) w turns + rest_due t (last w turns) ≤ rest_due t w
 budget t w turns order old r =
-    within-run AnyPart (moved_for t) (due t) (Knows t)
+    within-run AnyPart (moved_for t) (rest_due t) (Knows t)
     (λ v x k s. let turn = turned v x.after t x.event k.0 k.1 s in (due-turn t v x turn, knows-turn t v x.event x.after k.1 turn))
     w turns (order, old) r
 
 -- It is served at most as often as it has sectors left.
-pub few-steps : (t : ℕ) (w : World) (turns : List Turn) → InOrder w → t ≤ w.given → Run AnyPart w turns → total (served_for t) w turns + rest t (last w turns) ≤ rest t w
+pub few-steps : (t : ℕ) (w : World) (turns : List Turn) → InOrder w → t ≤ w.given → AreTurns AnyPart w turns → turns_total (served_for t) w turns + rest t (last w turns) ≤ rest t w
 few-steps t w turns order old r =
     within-run AnyPart (served_for t) (rest t) (Knows t)
     (λ v x k s. let turn = turned v x.after t x.event k.0 k.1 s in (rest-turn t v x turn, knows-turn t v x.event x.after k.1 turn))
     w turns (order, old) r
 
 -- The budget of a request from its submission on: its count times its cost.
-pub whole-budget : (w : World) (r : RequestRecord) (t : ℕ) (v : World) (turns : List Turn) → InOrder w → (b : Begins w r t v) → Run AnyPart v turns
-    → total (moved_for t) v turns ≤ b.range.count * work_cost w.stack.config b.range.device.0 (first_work r)
+pub whole-budget : (w : World) (r : RequestRecord) (t : ℕ) (v : World) (turns : List Turn) → InOrder w → (b : Begins w r t v) → AreTurns AnyPart v turns
+    → turns_total (moved_for t) v turns ≤ b.range.count * work_cost w.stack.config b.range.device.0 (first_work r)
 whole-budget w r t v turns order b r_run =
     let new = newly w r t v order b in
-    let most : due t v ≡ b.range.count * work_cost w.stack.config b.range.device.0 (first_work r) =
+    let most : rest_due t v ≡ b.range.count * work_cost w.stack.config b.range.device.0 (first_work r) =
     ap (due_of v.stack.config) new.flight ∙ ap (λ (x : StackRecord). b.range.count * work_cost x.config b.range.device.0 (first_work r)) new.stack in
     let all = budget t v turns new.order new.old r_run in
     omega (arith, most, all)
 
 -- It is served at most as often as it has sectors.
-pub whole-steps : (w : World) (r : RequestRecord) (t : ℕ) (v : World) (turns : List Turn) → InOrder w → (b : Begins w r t v) → Run AnyPart v turns
-    → total (served_for t) v turns + rest t (last v turns) ≤ b.range.count
+pub whole-steps : (w : World) (r : RequestRecord) (t : ℕ) (v : World) (turns : List Turn) → InOrder w → (b : Begins w r t v) → AreTurns AnyPart v turns
+    → turns_total (served_for t) v turns + rest t (last v turns) ≤ b.range.count
 whole-steps w r t v turns order b r_run =
     let new = newly w r t v order b in
     let most : rest t v ≡ b.range.count = ap rest_of new.flight in

@@ -20,10 +20,10 @@ use Rattle.request_queue.specs.declared.reply.Progress.TheVariants.{More, Done}
 use Rattle.request_queue.specs.declared.reply.Reply.{Reply}
 use Rattle.request_queue.specs.Chains.{reply_chains, answer_chains, progress_chains, chains_of, IsVerified}
 use Rattle.request_queue.specs.Flights.{FlightRecord, WorkRecord, reads, writes, first_work, next_work, next_flight, first_flight, reply_to}
-use Rattle.request_queue.specs.Parts.{AnyPart, Asks, bytes_part, write_part, part_of_work, done_of, without_bytes, without_chains}
+use Rattle.request_queue.specs.Parts.{AnyPart, AsksPiece, bytes_part, write_part, part_of_work, done_of, without_bytes, without_chains}
 use Rattle.request_queue.specs.Requests.{RequestRecord, a_read, a_write}
-use Rattle.request_queue.specs.World.{World, world, Event, submit, step, read_bytes, write_piece, load, remove_device, run, sync, Step, IsAt, Begins, Serves, Answers, Ends, at_once, later, next_count}
-use Rattle.request_queue.specs.Runs.{Turn, Run, last}
+use Rattle.request_queue.specs.World.{World, world, Event, submit, step, read_bytes, write_piece, load, remove_device, run, sync, Step, IsAt, Begins, Serves, AnswersStep, EndsRequest, at_once, later, next_count}
+use Rattle.request_queue.specs.Runs.{Turn, AreTurns, last}
 use Rattle.request_queue.proofs.lemmas.PartLemmas.{any-keeps}
 
 -- the chains that a request has got so far
@@ -120,13 +120,13 @@ module _ (good : AnsweredChainsAreGood) (forged : ForgedAnswersCollide) where
   work-verified v d first done n (writes bytes) got v' loaded p all = all
 
   module _ (w : World) (honest : IsHonest w) (i : ℕ) (f : FlightRecord) (own : HasVerified w.stack.config f) where
-    same-config : (stack : StackRecord) (answer : Result AnswerRecord IoFault) → Asks AnyPart w.stack f answer stack → stack.config ≡ w.stack.config
+    same-config : (stack : StackRecord) (answer : Result AnswerRecord IoFault) → AsksPiece AnyPart w.stack f answer stack → stack.config ≡ w.stack.config
     same-config stack answer p = (any-keeps w.stack f.rest.device.0 f.rest.first (part_of_work f.work (done_of f) (next_count w f)) answer stack p).config
 
-    with-piece : (stack : StackRecord) (got : AnswerRecord) → Asks AnyPart w.stack f (Ok got) stack → HasVerified w.stack.config (next_flight f (next_count w f) got)
+    with-piece : (stack : StackRecord) (got : AnswerRecord) → AsksPiece AnyPart w.stack f (Ok got) stack → HasVerified w.stack.config (next_flight f (next_count w f) got)
     with-piece stack got p = work-verified w.stack f.rest.device.0 f.rest.first (done_of f) (next_count w f) f.work got stack honest.loaded p own
 
-    answered : (progress : Progress) (w' : World) → Answers AnyPart w i f progress w' → HandsOut w (progress_chains progress) w'
+    answered : (progress : Progress) (w' : World) → AnswersStep AnyPart w i f progress w' → HandsOut w (progress_chains progress) w'
     answered More w' s =
         let next = next_flight f (next_count w f) s.got in
         hands-out w [] s.stack (set w.in_flight i next) w' s.leaves (same-config s.stack (Ok s.got) s.asks) honest.loaded
@@ -145,7 +145,7 @@ module _ (good : AnsweredChainsAreGood) (forged : ForgedAnswersCollide) where
   after-another : (w v w' : World) (chains : List FoundRecord) → v.stack.config ≡ w.stack.config → HandsOut v chains w' → HandsOut w chains w'
   after-another w v w' chains same out = record { honest = out.honest; verified = subst (λ (c : Configuration). AllVerified c chains) same out.verified; config = out.config ∙ same }
 
-  ended : (t : ℕ) (answer : Result Reply IoFault) (w w' : World) → IsHonest w → Ends AnyPart t answer w w' → HandsOut w (answer_chains answer) w'
+  ended : (t : ℕ) (answer : Result Reply IoFault) (w w' : World) → IsHonest w → EndsRequest AnyPart t answer w w' → HandsOut w (answer_chains answer) w'
   ended t answer w w' honest (at_once s) = served w t (Done answer) w' honest s
   ended t answer w w' honest (later {v = v} s more) =
       let first = served w t More v honest s in
@@ -185,6 +185,6 @@ module _ (good : AnsweredChainsAreGood) (forged : ForgedAnswersCollide) where
       let stack : StackRecord = record w.stack { leaves = s.after } in
       turn-of w (sync (Err fault)) w' (hands-out w [] stack w.in_flight w' s.leaves refl honest.loaded honest.flights (All-nil _))
 
-  pub honest-run : (w : World) (turns : List Turn) → IsHonest w → Run AnyPart w turns → IsHonest (last w turns)
+  pub honest-run : (w : World) (turns : List Turn) → IsHonest w → AreTurns AnyPart w turns → IsHonest (last w turns)
   honest-run w [] honest r = honest
   honest-run w (x ∷ more) honest r = honest-run x.after more (honest-turn w x.event x.after honest r.0).honest r.1

@@ -32,10 +32,10 @@ use Rattle.request_queue.specs.Changes.{StaysBut, part_changes, piece_changes, r
 use Rattle.request_queue.specs.Flights.{FlightRecord}
 use Rattle.request_queue.specs.Parts.{Part, read_part, bytes_part, write_part, AnyPart, EachPart, part_of_work, done_of, without_bytes}
 use Rattle.request_queue.specs.Requests.{RequestRecord, a_read, a_write}
-use Rattle.request_queue.specs.Runs.{Turn, Run, last, flight_of}
-use Rattle.request_queue.specs.Touching.{Leaves, leaves_beneath, part_touches, piece_touches, run_touches, touches_of, touches}
+use Rattle.request_queue.specs.Runs.{Turn, AreTurns, last, flight_of}
+use Rattle.request_queue.specs.Touching.{Leaves, leaves_under, part_touches, piece_touches, run_touches, touches_of, touches}
 use Rattle.request_queue.specs.WholeRuns.{Whole}
-use Rattle.request_queue.specs.World.{World, world, Event, submit, step, read_bytes, write_piece, load, remove_device, run, sync, Step, Serves, Answers, ReadsBytes, PieceWritten, Loads, Removes, Syncs, Runs, admission, next_count}
+use Rattle.request_queue.specs.World.{World, world, Event, submit, step, read_bytes, write_piece, load, remove_device, run, sync, Step, Serves, AnswersStep, ReadsBytes, PieceWritten, LoadsText, Removes, Syncs, Runs, admission, next_count}
 use Rattle.request_queue.proofs.lemmas.BudgetLemmas.{InOrder, turned, knows-turn}
 use Rattle.request_queue.proofs.lemmas.BytesLemmas.{bytes_range-ok}
 use Rattle.request_queue.proofs.lemmas.ChainLemmas.{IsHonest, honest-turn}
@@ -74,7 +74,7 @@ unnamed false out = refl
 
 -- the leaves beneath a device that is read
 untouched-beneath : {A : Type 0} (c : Configuration) (d : ℕ) {old new : List Device} {result : Result A IoFault} → TouchesOnly (leaves_of c (mapped d)) old new result
-    → (i : ℕ) (x : Device) → (leaves_beneath c d i → ⊥) → get_or new i x ≡ get_or old i x
+    → (i : ℕ) (x : Device) → (leaves_under c d i → ⊥) → get_or new i x ≡ get_or old i x
 untouched-beneath c d t i x out = t.leaf i x (unnamed (leaves_of c (mapped d) i) out)
 
 stays-others : {these : LeafSectors} {old new : List Device} → map fixed_part new ≡ map fixed_part old → KeepsOthers these old new → Stays these (λ i. (t : ℕ) × these (i, t)) old new
@@ -134,7 +134,7 @@ world-stays these those w w' e = stays-same these those w.stack.leaves w'.stack.
 abbrev PieceStays : World → Option FlightRecord → World → Type 0
 PieceStays w o w' = Stays (piece_changes w o) (piece_touches w o) w.stack.leaves w'.stack.leaves
 
-answers-stay : (w : World) (i : ℕ) (f : FlightRecord) (progress : Progress) (w' : World) → Answers EachPart w i f progress w' → PieceStays w (Some f) w'
+answers-stay : (w : World) (i : ℕ) (f : FlightRecord) (progress : Progress) (w' : World) → AnswersStep EachPart w i f progress w' → PieceStays w (Some f) w'
 answers-stay w i f More w' s =
     subst (λ (x : World). PieceStays w (Some f) x) (sym s.leaves)
     (part-stays w.stack f.rest.device.0 f.rest.first (part_of_work f.work (done_of f) (next_count w f)) (Ok s.got) s.stack (each-any w.stack f.rest.device.0 f.rest.first (part_of_work f.work (done_of f) (next_count w f)) (Ok s.got) s.stack s.asks))
@@ -168,7 +168,7 @@ run-stays w r (Ok answer) w' honest order s =
     let p = whole-answers w r (w.given + 1) answer s.begun w' honest.loaded order s.begins s.ends in
     subst (λ (x : Result SectorRange SubmitFault). Stays (run_changes w r x) (run_touches w r x) w.stack.leaves w'.stack.leaves) (sym p.1) (whole-stays w r p.0 answer w'.stack p.2)
 
-loads-stay : (these : LeafSectors) (those : Leaves) (w : World) (text : List Entry) (reply : Result Unit (Held LoadFault)) (w' : World) → Loads w text reply w' → Stays these those w.stack.leaves w'.stack.leaves
+loads-stay : (these : LeafSectors) (those : Leaves) (w : World) (text : List Entry) (reply : Result Unit (Held LoadFault)) (w' : World) → LoadsText w text reply w' → Stays these those w.stack.leaves w'.stack.leaves
 loads-stay these those w text (Ok done) w' s = stays-same these those w.stack.leaves w'.stack.leaves (ap (λ (x : World). x.stack.leaves) s.leaves)
 loads-stay these those w text (Err Busy) w' s = world-stays these those w w' s.1
 loads-stay these those w text (Err (Fault fault)) w' s = world-stays these those w w' s.2
@@ -183,11 +183,11 @@ syncs-stay these w (Ok done) w' s = subst (λ (x : World). Stays these (λ i. Un
 syncs-stay these w (Err fault) w' s = subst (λ (x : World). Stays these (λ i. Unit {0}) w.stack.leaves x.stack.leaves) (sym s.leaves) (stays-read these (λ i d out. absurd (out tt)) (unsynced-read w.stack.leaves s.after fault s.fails))
 
 bytes-stay : (these : LeafSectors) (w : World) (d first size : ℕ) (reply : Result (Result (List ℕ) IoFault) SubmitFault) (w' : World) → ReadsBytes EachPart w d first size reply w'
-    → Stays these (leaves_beneath w.stack.config d) w.stack.leaves w'.stack.leaves
+    → Stays these (leaves_under w.stack.config d) w.stack.leaves w'.stack.leaves
 bytes-stay these w d first size (Err fault) w' s = world-stays these _ w w' s.1
 bytes-stay these w d first size (Ok answer) w' s =
-    leaves-to these (leaves_beneath w.stack.config d) w.stack.leaves s.stack w.given w.in_flight w' s.leaves
-    (subst (λ k. Stays these (leaves_beneath w.stack.config k) w.stack.leaves s.stack.leaves) (ap (λ (x : SectorRange). x.device.0) (sym (bytes_range-ok w.stack.config d first size s.range s.admits)))
+    leaves-to these (leaves_under w.stack.config d) w.stack.leaves s.stack w.given w.in_flight w' s.leaves
+    (subst (λ k. Stays these (leaves_under w.stack.config k) w.stack.leaves s.stack.leaves) (ap (λ (x : SectorRange). x.device.0) (sym (bytes_range-ok w.stack.config d first size s.range s.admits)))
     (stays-read these (untouched-beneath w.stack.config s.range.device.0 s.asks.answered.any.touches) s.asks.answered.any.moved))
 
 written-stays : (w : World) (d first : ℕ) (bytes : List ℕ) (result : Result Unit IoFault) (w' : World) → PieceWritten EachPart w d first bytes result w'
@@ -220,12 +220,12 @@ next-honest good forged w x honest order s =
     let any = step-any w x.event x.after s in
     ((honest-turn good forged w x.event x.after honest any).honest, (knows-turn 0 w x.event x.after (omega arith) (turned w x.after 0 x.event order (omega arith) any)).0)
 
-pub all-stay : AnsweredChainsAreGood → ForgedAnswersCollide → (w : World) (turns : List Turn) → IsHonest w → InOrder w → Run EachPart w turns → Stays (changes w turns) (touches w turns) w.stack.leaves (last w turns).stack.leaves
+pub all-stay : AnsweredChainsAreGood → ForgedAnswersCollide → (w : World) (turns : List Turn) → IsHonest w → InOrder w → AreTurns EachPart w turns → Stays (changes w turns) (touches w turns) w.stack.leaves (last w turns).stack.leaves
 all-stay good forged w [] honest order r = stays-none _ _ w.stack.leaves
 all-stay good forged w (x ∷ more) honest order r =
     let known = next-honest good forged w x honest order r.0 in
     let next = all-stay good forged x.after more known.0 known.1 r.1 in
     stays-then (stays-more (λ p h. inl h) (λ i h. inl h) (event-stays w x.event x.after honest order r.0)) (stays-more (λ p h. inr h) (λ i h. inr h) next)
 
-pub images-stay : AnsweredChainsAreGood → ForgedAnswersCollide → (w : World) (turns : List Turn) → IsHonest w → InOrder w → Run EachPart w turns → StaysBut (changes w turns) w.stack.leaves (last w turns).stack.leaves
+pub images-stay : AnsweredChainsAreGood → ForgedAnswersCollide → (w : World) (turns : List Turn) → IsHonest w → InOrder w → AreTurns EachPart w turns → StaysBut (changes w turns) w.stack.leaves (last w turns).stack.leaves
 images-stay good forged w turns honest order r = (all-stay good forged w turns honest order r).but

@@ -31,8 +31,8 @@ use Rattle.request_queue.specs.Flights.{FlightRecord}
 use Rattle.request_queue.specs.Laws.{KeepsChecked}
 use Rattle.request_queue.specs.Parts.{Part, EachPart, bytes_part, write_part, part_of_work, done_of, without_bytes, without_chains}
 use Rattle.request_queue.specs.Requests.{RequestRecord}
-use Rattle.request_queue.specs.Runs.{Turn, Run, last}
-use Rattle.request_queue.specs.World.{World, Event, submit, step, read_bytes, write_piece, load, remove_device, run, sync, Step, Answers, BytesRead, ReadsBytes, Loads, Removes, Syncs, Serves, Ends, at_once, later, Runs, next_count}
+use Rattle.request_queue.specs.Runs.{Turn, AreTurns, last}
+use Rattle.request_queue.specs.World.{World, Event, submit, step, read_bytes, write_piece, load, remove_device, run, sync, Step, AnswersStep, BytesRead, ReadsBytes, LoadsText, Removes, Syncs, Serves, EndsRequest, at_once, later, Runs, next_count}
 use Rattle.request_queue.proofs.lemmas.BytesLemmas.{bytes_range-ok, meets-later}
 use Rattle.request_queue.proofs.lemmas.PartLemmas.{any-keeps, each-any, part-checked}
 
@@ -103,7 +103,7 @@ part-keeps v d first part answer v' p = record {
   checked = part-checked v d first part answer v' p;
 }
 
-answers-keep : (w : World) (i : ℕ) (f : FlightRecord) (progress : Progress) (w' : World) → Answers EachPart w i f progress w' → KeepsChecked w.stack w'.stack
+answers-keep : (w : World) (i : ℕ) (f : FlightRecord) (progress : Progress) (w' : World) → AnswersStep EachPart w i f progress w' → KeepsChecked w.stack w'.stack
 answers-keep w i f More w' s =
     subst (λ (x : World). KeepsChecked w.stack x.stack) (sym s.leaves) (part-keeps w.stack f.rest.device.0 f.rest.first (part_of_work f.work (done_of f) (next_count w f)) (Ok s.got) s.stack s.asks)
 answers-keep w i f (Done (Ok reply)) w' s =
@@ -114,7 +114,7 @@ answers-keep w i f (Done (Err fault)) w' s =
 serves-keep : (w : World) (t : ℕ) (progress : Progress) (w' : World) → Serves EachPart w t progress w' → KeepsChecked w.stack w'.stack
 serves-keep w t progress w' s = answers-keep w s.i s.f progress w' s.answers
 
-ends-keep : (t : ℕ) (answer : Result Reply IoFault) (w w' : World) → Ends EachPart t answer w w' → KeepsChecked w.stack w'.stack
+ends-keep : (t : ℕ) (answer : Result Reply IoFault) (w w' : World) → EndsRequest EachPart t answer w w' → KeepsChecked w.stack w'.stack
 ends-keep t answer w w' (at_once s) = serves-keep w t (Done answer) w' s
 ends-keep t answer w w' (later {v = v} s more) = checked-then (serves-keep w t More v s) (ends-keep t answer v w' more)
 
@@ -123,7 +123,7 @@ bytes-keep w d first size (Err fault) w' checked s = same-world w w' s.1 checked
 bytes-keep w d first size (Ok answer) w' checked s =
     subst (λ (x : World). KeepsChecked w.stack x.stack) (sym s.leaves) (part-keeps w.stack s.range.device.0 s.range.first (bytes_part s.range.count) (without_chains answer) s.stack s.asks)
 
-loads-keep : (w : World) (text : List Entry) (reply : Result Unit (Held LoadFault)) (w' : World) → AreChecked w.stack → Loads w text reply w' → KeepsChecked w.stack w'.stack
+loads-keep : (w : World) (text : List Entry) (reply : Result Unit (Held LoadFault)) (w' : World) → AreChecked w.stack → LoadsText w text reply w' → KeepsChecked w.stack w'.stack
 loads-keep w text (Ok done) w' checked s = subst (λ (x : World). KeepsChecked w.stack x.stack) (sym s.leaves) (record { capacity = refl; checked = none-checked _ w.stack.leaves w.stack.capacity })
 loads-keep w text (Err Busy) w' checked s = same-world w w' s.1 checked
 loads-keep w text (Err (Fault fault)) w' checked s = same-world w w' s.2 checked
@@ -158,6 +158,6 @@ event-keeps w (run r reply) w' checked s = runs-keep w r reply w' checked s
 event-keeps w (sync reply) w' checked s = syncs-keep w reply w' checked s
 
 -- behind any list of calls the kept blocks are checked
-pub run-keeps : (w : World) (turns : List Turn) → AreChecked w.stack → Run EachPart w turns → KeepsChecked w.stack (last w turns).stack
+pub run-keeps : (w : World) (turns : List Turn) → AreChecked w.stack → AreTurns EachPart w turns → KeepsChecked w.stack (last w turns).stack
 run-keeps w [] checked r = record { capacity = refl; checked = checked }
 run-keeps w (x ∷ more) checked r = let one = event-keeps w x.event x.after checked r.0 in checked-then one (run-keeps x.after more one.checked r.1)

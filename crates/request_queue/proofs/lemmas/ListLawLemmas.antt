@@ -5,8 +5,8 @@ use Rattle.stack_engine.specs.Laws.{AnsweredChainsAreGood, ForgedAnswersCollide}
 use Rattle.request_queue.specs.ListLaws.{ListLaw, ListsLaw}
 use Rattle.request_queue.specs.Parts.{EachPart}
 use Rattle.request_queue.specs.Puts.{ArePutOn, pieces_written}
-use Rattle.request_queue.specs.Runs.{Turn, Run, last, total}
-use Rattle.request_queue.specs.Waiting.{asked, served, waiting}
+use Rattle.request_queue.specs.Runs.{Turn, AreTurns, last, turns_total}
+use Rattle.request_queue.specs.Waiting.{asked_in_turn, served, waiting}
 use Rattle.request_queue.specs.World.{World}
 use Rattle.request_queue.proofs.lemmas.AsStepsLemmas.{unrolled}
 use Rattle.request_queue.proofs.lemmas.BudgetLemmas.{InOrder}
@@ -17,7 +17,7 @@ use Rattle.request_queue.proofs.lemmas.PutLemmas.{steps-put}
 use Rattle.request_queue.proofs.lemmas.ServedLemmas.{order-kept}
 use Rattle.request_queue.proofs.lemmas.WaitingLemmas.{few-pieces-served}
 
-list-law : AnsweredChainsAreGood → ForgedAnswersCollide → (w : World) (turns : List Turn) → IsHonest w → InOrder w → Run EachPart w turns → ListLaw w turns
+list-law : AnsweredChainsAreGood → ForgedAnswersCollide → (w : World) (turns : List Turn) → IsHonest w → InOrder w → AreTurns EachPart w turns → ListLaw w turns
 list-law good forged w turns honest order each =
     let u = unrolled w turns each in
     record {
@@ -25,7 +25,7 @@ list-law good forged w turns honest order each =
       same = u.same;
       run = u.run;
       ends = u.ends;
-      few = subst (λ (x : World). total served w u.steps + waiting x ≤ waiting w + total asked w u.steps) u.ends (few-pieces-served w u.steps (run-any w u.steps u.run));
+      few = subst (λ (x : World). turns_total served w u.steps + waiting x ≤ waiting w + turns_total asked_in_turn w u.steps) u.ends (few-pieces-served w u.steps (run-any w u.steps u.run));
       puts = subst (λ (x : World). ArePutOn w.stack.leaves (pieces_written w u.steps) (steady_images w.stack.leaves) (steady_images x.stack.leaves)) u.ends
           (steps-put good forged w u.steps honest order u.none_runs u.run);
       leaf = (all-stay good forged w turns honest order each).leaf;

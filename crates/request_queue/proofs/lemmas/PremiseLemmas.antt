@@ -21,8 +21,8 @@ use Rattle.request_queue.specs.declared.reply.Reply.{Reply}
 use Rattle.request_queue.specs.Requests.{RequestRecord}
 use Rattle.request_queue.specs.Flights.{FlightRecord}
 use Rattle.request_queue.specs.Parts.{Part, PartRelation, AnyPart, SteadyPart, EachPart, bytes_part, write_part, part_of_work, without_bytes, without_chains}
-use Rattle.request_queue.specs.World.{World, Event, submit, step, read_bytes, write_piece, load, remove_device, run, sync, Step, Begins, Answers, Serves, ReadsBytes, PieceWritten, Loads, Removes, Syncs, Ends, at_once, later, Runs}
-use Rattle.request_queue.specs.Runs.{Turn, Run, last}
+use Rattle.request_queue.specs.World.{World, Event, submit, step, read_bytes, write_piece, load, remove_device, run, sync, Step, Begins, AnswersStep, Serves, ReadsBytes, PieceWritten, LoadsText, Removes, Syncs, EndsRequest, at_once, later, Runs}
+use Rattle.request_queue.specs.Runs.{Turn, AreTurns, last}
 use Rattle.request_queue.proofs.lemmas.PartLemmas.{any-keeps, each-any, each-steady, steady-any-part}
 
 -- parts of one kind are of the other, where a fact about the leaves goes on
@@ -35,7 +35,7 @@ pub record OutlivesSyncs (F : List Device → Type 0) : Type 0 where
   pub unsynced : (old new : List Device) (fault : IoFault) → FailsToSync old new fault → F old → F new
 
 module _ (P Q : PartRelation) (F : List Device → Type 0) (pass : Passes P Q F) (outlives : OutlivesSyncs F) where
-  answers-as : (w : World) (i : ℕ) (f : FlightRecord) (progress : Progress) (w' : World) → F w.stack.leaves → Answers P w i f progress w' → Answers Q w i f progress w' × F w'.stack.leaves
+  answers-as : (w : World) (i : ℕ) (f : FlightRecord) (progress : Progress) (w' : World) → F w.stack.leaves → AnswersStep P w i f progress w' → AnswersStep Q w i f progress w' × F w'.stack.leaves
   answers-as w i f More w' h s =
       let p = pass w.stack f.rest.device.0 f.rest.first (part_of_work f.work _ _) (Ok s.got) s.stack h s.asks in
       (record { got = s.got; stack = s.stack; asks = p.0; rest = s.rest; leaves = s.leaves }, subst (λ (x : World). F x.stack.leaves) (sym s.leaves) p.1)
@@ -51,7 +51,7 @@ module _ (P Q : PartRelation) (F : List Device → Type 0) (pass : Passes P Q F)
       let p = answers-as w s.i s.f progress w' h s.answers in
       (record { i = s.i; f = s.f; at = s.at; some = s.some; answers = p.0 }, p.1)
 
-  ends-as : (t : ℕ) (answer : Result Reply IoFault) (w w' : World) → F w.stack.leaves → Ends P t answer w w' → Ends Q t answer w w' × F w'.stack.leaves
+  ends-as : (t : ℕ) (answer : Result Reply IoFault) (w w' : World) → F w.stack.leaves → EndsRequest P t answer w w' → EndsRequest Q t answer w w' × F w'.stack.leaves
   ends-as t answer w w' h (at_once s) = let p = serves-as w t (Done answer) w' h s in (at_once p.0, p.1)
   ends-as t answer w w' h (later {v = v} s more) =
       let p = serves-as w t More v h s in
@@ -64,7 +64,7 @@ module _ (P Q : PartRelation) (F : List Device → Type 0) (pass : Passes P Q F)
   begins-leaves : (w : World) (r : RequestRecord) (t : ℕ) (w' : World) → Begins w r t w' → F w.stack.leaves → F w'.stack.leaves
   begins-leaves w r t w' b h = subst (λ (x : World). F x.stack.leaves) (sym b.leaves) h
 
-  loads-leaves : (w : World) (text : List Entry) (reply : Result Unit (Held LoadFault)) (w' : World) → Loads w text reply w' → F w.stack.leaves → F w'.stack.leaves
+  loads-leaves : (w : World) (text : List Entry) (reply : Result Unit (Held LoadFault)) (w' : World) → LoadsText w text reply w' → F w.stack.leaves → F w'.stack.leaves
   loads-leaves w text (Ok done) w' s h = subst (λ (x : World). F x.stack.leaves) (sym s.leaves) h
   loads-leaves w text (Err Busy) w' s h = same-leaves w w' s.1 h
   loads-leaves w text (Err (Fault fault)) w' s h = same-leaves w w' s.2 h
@@ -108,7 +108,7 @@ module _ (P Q : PartRelation) (F : List Device → Type 0) (pass : Passes P Q F)
   step-as w (run r reply) w' h s = runs-as w r reply w' h s
   step-as w (sync reply) w' h s = (s, syncs-leaves w reply w' s h)
 
-  pub run-as : (w : World) (turns : List Turn) → F w.stack.leaves → Run P w turns → Run Q w turns × F (last w turns).stack.leaves
+  pub run-as : (w : World) (turns : List Turn) → F w.stack.leaves → AreTurns P w turns → AreTurns Q w turns × F (last w turns).stack.leaves
   run-as w [] h r = (tt, h)
   run-as w (x ∷ more) h r =
       let p = step-as w x.event x.after h r.0 in
@@ -149,11 +149,11 @@ pub step-on : (these : ℕ → Bool) (w : World) (e : Event) (w' : World) → St
 step-on these w e w' s h = (step-as EachPart EachPart (AreSteady these) (pass-on these) (outlives-on these) w e w' h s).1
 
 -- a run whatever the leaves answer
-pub run-any : (w : World) (turns : List Turn) → Run EachPart w turns → Run AnyPart w turns
+pub run-any : (w : World) (turns : List Turn) → AreTurns EachPart w turns → AreTurns AnyPart w turns
 run-any w turns r = (run-as EachPart AnyPart Anything pass-any outlives-any w turns tt r).0
 
 -- a run over steady leaves
-pub run-steady : (w : World) (turns : List Turn) → AllSteady w.stack.leaves → Run EachPart w turns → Run SteadyPart w turns × AllSteady (last w turns).stack.leaves
+pub run-steady : (w : World) (turns : List Turn) → AllSteady w.stack.leaves → AreTurns EachPart w turns → AreTurns SteadyPart w turns × AllSteady (last w turns).stack.leaves
 run-steady w turns h r = run-as EachPart SteadyPart AllSteady pass-steady outlives-steady w turns h r
 
 pass-steady-any : Passes SteadyPart AnyPart Anything

@@ -28,8 +28,8 @@ use Rattle.request_queue.specs.AsSteps.{is_run}
 use Rattle.request_queue.specs.Flights.{FlightRecord}
 use Rattle.request_queue.specs.Parts.{Part, read_part, bytes_part, write_part, EachPart, ending, part_of_work, done_of, without_bytes}
 use Rattle.request_queue.specs.Puts.{WrittenPiece, part_pieces, next_pieces, piece_ending, pieces_in, pieces_written, IsOverSteady, ArePutOn, all_put, then_put}
-use Rattle.request_queue.specs.Runs.{Turn, Run, last, flight_of}
-use Rattle.request_queue.specs.World.{World, Event, submit, step, read_bytes, write_piece, load, remove_device, run, sync, Step, Answers, Serves, ReadsBytes, PieceWritten, Loads, Removes, Syncs, next_count}
+use Rattle.request_queue.specs.Runs.{Turn, AreTurns, last, flight_of}
+use Rattle.request_queue.specs.World.{World, Event, submit, step, read_bytes, write_piece, load, remove_device, run, sync, Step, AnswersStep, Serves, ReadsBytes, PieceWritten, LoadsText, Removes, Syncs, next_count}
 use Rattle.request_queue.proofs.lemmas.BudgetLemmas.{InOrder}
 use Rattle.request_queue.proofs.lemmas.ChainLemmas.{IsHonest}
 use Rattle.request_queue.proofs.lemmas.ChangesLemmas.{event-stays, next-honest}
@@ -83,7 +83,7 @@ part-puts v d first (write_part bytes) answer v' p = write-puts v d first bytes 
 abbrev LeaveOf : World → Event → World → Type 0
 LeaveOf w e w' = Leave (pieces_in w e) w.stack w'.stack
 
-answers-put : (w : World) (i : ℕ) (f : FlightRecord) (progress : Progress) (w' : World) → Answers EachPart w i f progress w' → Leave (next_pieces w (Some f) (piece_ending progress)) w.stack w'.stack
+answers-put : (w : World) (i : ℕ) (f : FlightRecord) (progress : Progress) (w' : World) → AnswersStep EachPart w i f progress w' → Leave (next_pieces w (Some f) (piece_ending progress)) w.stack w'.stack
 answers-put w i f More w' s =
     subst (λ (x : World). Leave (next_pieces w (Some f) (Ok tt)) w.stack x.stack) (sym s.leaves)
     (part-puts w.stack f.rest.device.0 f.rest.first (part_of_work f.work (done_of f) (next_count w f)) (Ok s.got) s.stack s.asks)
@@ -115,7 +115,7 @@ written-put w d first bytes result w' s =
     subst (λ (x : World). Leave (part_pieces w.stack.config d first (write_part bytes) result) w.stack x.stack) (sym s.leaves)
     (write-puts w.stack d first bytes result s.stack (subst (λ x. EachWrite w.stack d first bytes x s.stack) (ending-same result) s.asks.answered))
 
-loads-put : (w : World) (text : List Entry) (reply : Result Unit (Held LoadFault)) (w' : World) → Loads w text reply w' → Leave [] w.stack w'.stack
+loads-put : (w : World) (text : List Entry) (reply : Result Unit (Held LoadFault)) (w' : World) → LoadsText w text reply w' → Leave [] w.stack w'.stack
 loads-put w text (Ok done) w' s = same-leaves w.stack w'.stack (ap (λ (x : World). x.stack.leaves) s.leaves)
 loads-put w text (Err Busy) w' s = same-world w w' s.1
 loads-put w text (Err (Fault fault)) w' s = same-world w w' s.2
@@ -144,7 +144,7 @@ event-puts w (sync reply) w' unrun order s = syncs-put w reply w' s
 
 -- ---- one event after another
 
-pub steps-put : AnsweredChainsAreGood → ForgedAnswersCollide → (w : World) (turns : List Turn) → IsHonest w → InOrder w → All (λ (x : Turn). is_run x.event ≡ false) turns → Run EachPart w turns
+pub steps-put : AnsweredChainsAreGood → ForgedAnswersCollide → (w : World) (turns : List Turn) → IsHonest w → InOrder w → All (λ (x : Turn). is_run x.event ≡ false) turns → AreTurns EachPart w turns
     → ArePutOn w.stack.leaves (pieces_written w turns) (steady_images w.stack.leaves) (steady_images (last w turns).stack.leaves)
 steps-put good forged w [] honest order unrun r = all_put
 steps-put good forged w (x ∷ more) honest order unrun r =

@@ -16,22 +16,22 @@ use Rattle.request_queue.specs.declared.reply.Reply.{Reply}
 use Rattle.request_queue.specs.Ranges.{IsCut, last_piece, next_piece, piece_len, range_after}
 use Rattle.request_queue.specs.Requests.{RequestRecord}
 use Rattle.request_queue.specs.Flights.{FlightRecord, first_flight, next_flight}
-use Rattle.request_queue.specs.Parts.{PartRelation, AnyPart, SteadyPart, EachPart, Asks, part_of_work, done_of}
-use Rattle.request_queue.specs.World.{World, world, Event, submit, step, read_bytes, write_piece, load, remove_device, run, sync, Step, Serves, Begins, Ends, at_once, later, next_count}
-use Rattle.request_queue.specs.Runs.{Turn, Run, last, total, is_step, flight_of, served_for}
-use Rattle.request_queue.specs.Laws.{Passage, passage, passages, end_of, answer_to, IsServed, waits, goes_on, finishes, fails, IsOver, RequestLaw, RunLaw, is_refusal, TurnLaw}
+use Rattle.request_queue.specs.Parts.{PartRelation, AnyPart, SteadyPart, EachPart, AsksPiece, part_of_work, done_of}
+use Rattle.request_queue.specs.World.{World, world, Event, submit, step, read_bytes, write_piece, load, remove_device, run, sync, Step, Serves, Begins, EndsRequest, at_once, later, next_count}
+use Rattle.request_queue.specs.Runs.{Turn, AreTurns, last, turns_total, is_step, flight_of, served_for}
+use Rattle.request_queue.specs.Laws.{Passage, passage, passages, ending_answer, answer_at_last, IsFlightServed, waits, goes_on, finishes, fails, IsPassageOver, RequestLaw, RunLaw, is_refusal, TurnLaw}
 use Rattle.request_queue.proofs.lemmas.TicketLemmas.{test-same, at-ticket, find-at, find-changed, find-removed}
 use Rattle.request_queue.proofs.lemmas.PremiseLemmas.{step-any, step-on, run-any}
 use Rattle.request_queue.proofs.lemmas.PartLemmas.{each-steady}
 use Rattle.request_queue.proofs.lemmas.BudgetLemmas.{InOrder, Knows, Turned, own_turn, other_turn, turned, knows-turn, newly, whole-budget, whole-steps, untouched}
 
 -- a request that is over has no steps more
-pub no-steps : (t : ℕ) (v : World) (turns : List Turn) → Knows t v → flight_of v t ≡ None → Run AnyPart v turns → (passages t v turns ≡ []) × (answer_to t turns ≡ None)
+pub no-steps : (t : ℕ) (v : World) (turns : List Turn) → Knows t v → flight_of v t ≡ None → AreTurns AnyPart v turns → (passages t v turns ≡ []) × (answer_at_last t turns ≡ None)
 no-steps t v [] knows none r = (refl, refl)
 no-steps t v (x ∷ more) knows none r = by (turned v x.after t x.event knows.0 knows.1 r.0) (λ later still. no-steps t x.after more later still r.1)
   where
-    by : Turned v t x.event x.after → (Knows t x.after → flight_of x.after t ≡ None → (passages t x.after more ≡ []) × (answer_to t more ≡ None))
-        → (passages t v (x ∷ more) ≡ []) × (answer_to t (x ∷ more) ≡ None)
+    by : Turned v t x.event x.after → (Knows t x.after → flight_of x.after t ≡ None → (passages t x.after more ≡ []) × (answer_at_last t more ≡ None))
+        → (passages t v (x ∷ more) ≡ []) × (answer_at_last t (x ∷ more) ≡ None)
     by (own_turn is s) next = let clash : None ≡ Some s.f = sym none ∙ s.is in cc
     by (other_turn is k) next = rw is (next (k.order, omega (arith, knows.1, k.given)) (k.same ∙ none))
 
@@ -75,42 +75,42 @@ module _ (part : PartRelation) (t : ℕ) (v : World) (v' : World) (f : FlightRec
 -- one step of a request in front of those that follow
 module _ (part : PartRelation) (t : ℕ) (v : World) (x : Turn) (more : List Turn) (f : FlightRecord) (order : InOrder v) (there : flight_of v t ≡ Some f) (is : is_step t x.event ≡ true) where
   step-in-front : (progress : Progress) → x.event ≡ step t (Ok progress) → Serves part v t progress x.after
-      → ((g : FlightRecord) → flight_of x.after t ≡ Some g → IsServed part g (passages t x.after more) (answer_to t more))
-      → (flight_of x.after t ≡ None → (passages t x.after more ≡ []) × (answer_to t more ≡ None))
-      → IsServed part f (passages t v (x ∷ more)) (answer_to t (x ∷ more))
+      → ((g : FlightRecord) → flight_of x.after t ≡ Some g → IsFlightServed part g (passages t x.after more) (answer_at_last t more))
+      → (flight_of x.after t ≡ None → (passages t x.after more ≡ []) × (answer_at_last t more ≡ None))
+      → IsFlightServed part f (passages t v (x ∷ more)) (answer_at_last t (x ∷ more))
   step-in-front More e s next gone =
       let now : x.after.stack ≡ s.answers.stack = ap (λ (y : World). y.stack) s.answers.leaves in
-      let ending : end_of x.event ≡ None = ap end_of e in
-      let asks : Asks part v.stack s.f (Ok s.answers.got) x.after.stack = subst (λ y. Asks part v.stack s.f (Ok s.answers.got) y) (sym now) s.answers.asks in
+      let ending : ending_answer x.event ≡ None = ap ending_answer e in
+      let asks : AsksPiece part v.stack s.f (Ok s.answers.got) x.after.stack = subst (λ y. AsksPiece part v.stack s.f (Ok s.answers.got) y) (sym now) s.answers.asks in
       let rest = next (next_flight s.f (next_count v s.f) s.answers.got) (after-more part t v x.after f order there s) in
-      let whole : IsServed part s.f (passage v x ∷ passages t x.after more) (answer_to t more) = goes_on s.answers.got asks s.answers.rest rest in
-      rw (is, ending) (subst (λ g. IsServed part g (passage v x ∷ passages t x.after more) (answer_to t more)) (same-flight part t v x.after f order there More s) whole)
+      let whole : IsFlightServed part s.f (passage v x ∷ passages t x.after more) (answer_at_last t more) = goes_on s.answers.got asks s.answers.rest rest in
+      rw (is, ending) (subst (λ g. IsFlightServed part g (passage v x ∷ passages t x.after more) (answer_at_last t more)) (same-flight part t v x.after f order there More s) whole)
   step-in-front (Done (Ok reply)) e s next gone =
       let now : x.after.stack ≡ s.answers.stack = ap (λ (y : World). y.stack) s.answers.leaves in
-      let ending : end_of x.event ≡ Some (Ok reply) = ap end_of e in
-      let asks : Asks part v.stack s.f (Ok s.answers.got) x.after.stack = subst (λ y. Asks part v.stack s.f (Ok s.answers.got) y) (sym now) s.answers.asks in
+      let ending : ending_answer x.event ≡ Some (Ok reply) = ap ending_answer e in
+      let asks : AsksPiece part v.stack s.f (Ok s.answers.got) x.after.stack = subst (λ y. AsksPiece part v.stack s.f (Ok s.answers.got) y) (sym now) s.answers.asks in
       let none = (gone (after-removal part t v x.after f order there s.answers.stack s.i s.f s.at s.answers.leaves)).0 in
-      let whole : IsServed part s.f (passage v x ∷ []) (Some (Ok reply)) = finishes s.answers.got asks s.answers.last s.answers.replies in
-      rw (is, ending, none) (subst (λ g. IsServed part g (passage v x ∷ []) (Some (Ok reply))) (same-flight part t v x.after f order there (Done (Ok reply)) s) whole)
+      let whole : IsFlightServed part s.f (passage v x ∷ []) (Some (Ok reply)) = finishes s.answers.got asks s.answers.last s.answers.replies in
+      rw (is, ending, none) (subst (λ g. IsFlightServed part g (passage v x ∷ []) (Some (Ok reply))) (same-flight part t v x.after f order there (Done (Ok reply)) s) whole)
   step-in-front (Done (Err fault)) e s next gone =
       let now : x.after.stack ≡ s.answers.stack = ap (λ (y : World). y.stack) s.answers.leaves in
-      let ending : end_of x.event ≡ Some (Err fault) = ap end_of e in
-      let asks : Asks part v.stack s.f (Err fault) x.after.stack = subst (λ y. Asks part v.stack s.f (Err fault) y) (sym now) s.answers.asks in
+      let ending : ending_answer x.event ≡ Some (Err fault) = ap ending_answer e in
+      let asks : AsksPiece part v.stack s.f (Err fault) x.after.stack = subst (λ y. AsksPiece part v.stack s.f (Err fault) y) (sym now) s.answers.asks in
       let none = (gone (after-removal part t v x.after f order there s.answers.stack s.i s.f s.at s.answers.leaves)).0 in
-      let whole : IsServed part s.f (passage v x ∷ []) (Some (Err fault)) = fails asks in
-      rw (is, ending, none) (subst (λ g. IsServed part g (passage v x ∷ []) (Some (Err fault))) (same-flight part t v x.after f order there (Done (Err fault)) s) whole)
+      let whole : IsFlightServed part s.f (passage v x ∷ []) (Some (Err fault)) = fails asks in
+      rw (is, ending, none) (subst (λ g. IsFlightServed part g (passage v x ∷ []) (Some (Err fault))) (same-flight part t v x.after f order there (Done (Err fault)) s) whole)
 
 -- parts of that kind, whatever the leaves answer
 abbrev pub Includes : PartRelation → Type 0
 Includes part = (w : World) (e : Event) (w' : World) → Step part w e w' → Step AnyPart w e w'
 
-run-down : (part : PartRelation) → Includes part → (w : World) (turns : List Turn) → Run part w turns → Run AnyPart w turns
+run-down : (part : PartRelation) → Includes part → (w : World) (turns : List Turn) → AreTurns part w turns → AreTurns AnyPart w turns
 run-down part down w [] r = tt
 run-down part down w (x ∷ more) r = (down w x.event x.after r.0, run-down part down x.after more r.1)
 
 -- Whatever is served in between, a request is served by its own steps.
-pub is-served : (part : PartRelation) → Includes part → (t : ℕ) (v : World) (turns : List Turn) (f : FlightRecord) → Knows t v → flight_of v t ≡ Some f → Run part v turns
-    → IsServed part f (passages t v turns) (answer_to t turns)
+pub is-served : (part : PartRelation) → Includes part → (t : ℕ) (v : World) (turns : List Turn) (f : FlightRecord) → Knows t v → flight_of v t ≡ Some f → AreTurns part v turns
+    → IsFlightServed part f (passages t v turns) (answer_at_last t turns)
 is-served part down t v [] f knows there r = waits
 is-served part down t v (x ∷ more) f knows there r = by turn (λ g at. is-served part down t x.after more g later at r.1)
   where
@@ -120,20 +120,20 @@ is-served part down t v (x ∷ more) f knows there r = by turn (λ g at. is-serv
     later : Knows t x.after
     later = knows-turn t v x.event x.after knows.1 turn
 
-    mine : is_step t x.event ≡ true → Own part t v x.event x.after → ((g : FlightRecord) → flight_of x.after t ≡ Some g → IsServed part g (passages t x.after more) (answer_to t more))
-        → IsServed part f (passages t v (x ∷ more)) (answer_to t (x ∷ more))
+    mine : is_step t x.event ≡ true → Own part t v x.event x.after → ((g : FlightRecord) → flight_of x.after t ≡ Some g → IsFlightServed part g (passages t x.after more) (answer_at_last t more))
+        → IsFlightServed part f (passages t v (x ∷ more)) (answer_at_last t (x ∷ more))
     mine is (own_step progress e s) next =
         step-in-front part t v x more f knows.0 there is progress e s next (λ none. no-steps t x.after more later none (run-down part down x.after more r.1))
 
-    by : Turned v t x.event x.after → ((g : FlightRecord) → flight_of x.after t ≡ Some g → IsServed part g (passages t x.after more) (answer_to t more))
-        → IsServed part f (passages t v (x ∷ more)) (answer_to t (x ∷ more))
+    by : Turned v t x.event x.after → ((g : FlightRecord) → flight_of x.after t ≡ Some g → IsFlightServed part g (passages t x.after more) (answer_at_last t more))
+        → IsFlightServed part f (passages t v (x ∷ more)) (answer_at_last t (x ∷ more))
     by (own_turn is s) next = mine is (own-step part t v x.event x.after is r.0) next
     by (other_turn is k) next = rw is (next f (k.same ∙ there))
 
 -- ---- the laws
 
 -- While a request is in flight, the configuration stays.
-one-configuration : (t : ℕ) (v : World) (turns : List Turn) → Knows t v → Run AnyPart v turns → All (IsOver v.stack.config) (passages t v turns)
+one-configuration : (t : ℕ) (v : World) (turns : List Turn) → Knows t v → AreTurns AnyPart v turns → All (IsPassageOver v.stack.config) (passages t v turns)
 one-configuration t v [] knows r = All-nil _
 one-configuration t v (x ∷ more) knows r = by turn (one-configuration t x.after more later r.1)
   where
@@ -143,23 +143,23 @@ one-configuration t v (x ∷ more) knows r = by turn (one-configuration t x.afte
     later : Knows t x.after
     later = knows-turn t v x.event x.after knows.1 turn
 
-    as-before : x.after.stack.config ≡ v.stack.config → All (IsOver x.after.stack.config) (passages t x.after more) → All (IsOver v.stack.config) (passages t x.after more)
-    as-before same all = subst (λ (c : Configuration). All (IsOver c) (passages t x.after more)) same all
+    as-before : x.after.stack.config ≡ v.stack.config → All (IsPassageOver x.after.stack.config) (passages t x.after more) → All (IsPassageOver v.stack.config) (passages t x.after more)
+    as-before same all = subst (λ (c : Configuration). All (IsPassageOver c) (passages t x.after more)) same all
 
-    kept : (flight_of v t ≡ None) ⊎ (x.after.stack.config ≡ v.stack.config) → flight_of x.after t ≡ flight_of v t → All (IsOver x.after.stack.config) (passages t x.after more) → All (IsOver v.stack.config) (passages t x.after more)
-    kept (inl none) still all = subst (All (IsOver v.stack.config)) (sym (no-steps t x.after more later (still ∙ none) r.1).0) (All-nil _)
+    kept : (flight_of v t ≡ None) ⊎ (x.after.stack.config ≡ v.stack.config) → flight_of x.after t ≡ flight_of v t → All (IsPassageOver x.after.stack.config) (passages t x.after more) → All (IsPassageOver v.stack.config) (passages t x.after more)
+    kept (inl none) still all = subst (All (IsPassageOver v.stack.config)) (sym (no-steps t x.after more later (still ∙ none) r.1).0) (All-nil _)
     kept (inr same) still all = as-before same all
 
-    by : Turned v t x.event x.after → All (IsOver x.after.stack.config) (passages t x.after more) → All (IsOver v.stack.config) (passages t v (x ∷ more))
-    by (own_turn is s) all = rw is (All-cons (IsOver v.stack.config) (passage v x) (passages t x.after more) refl (as-before s.config all))
+    by : Turned v t x.event x.after → All (IsPassageOver x.after.stack.config) (passages t x.after more) → All (IsPassageOver v.stack.config) (passages t v (x ∷ more))
+    by (own_turn is s) all = rw is (All-cons (IsPassageOver v.stack.config) (passage v x) (passages t x.after more) refl (as-before s.config all))
     by (other_turn is k) all = rw is (kept k.config k.same all)
 
 -- its steps, counted
-passages-count : (t : ℕ) (v : World) (turns : List Turn) → length (passages t v turns) ≡ total (served_for t) v turns
+passages-count : (t : ℕ) (v : World) (turns : List Turn) → length (passages t v turns) ≡ turns_total (served_for t) v turns
 passages-count t v [] = refl
 passages-count t v (x ∷ more) = by (is_step t x.event) refl (passages-count t x.after more)
   where
-    by : (b : Bool) → is_step t x.event ≡ b → length (passages t x.after more) ≡ total (served_for t) x.after more → length (passages t v (x ∷ more)) ≡ total (served_for t) v (x ∷ more)
+    by : (b : Bool) → is_step t x.event ≡ b → length (passages t x.after more) ≡ turns_total (served_for t) x.after more → length (passages t v (x ∷ more)) ≡ turns_total (served_for t) v (x ∷ more)
     by true is same = rw is (omega (arith, same))
     by false is same = rw is (omega (arith, same))
 
@@ -170,10 +170,10 @@ some-pieces c range (suc n) (next_piece less rest) = omega arith
 
 -- a request is served in at most as many steps as its range has pieces
 few-pieces : (part : PartRelation) (c : Configuration) (f : FlightRecord) (ps : List Passage) (answer : Option (Result Reply IoFault)) (n : ℕ)
-    → IsServed part f ps answer → All (IsOver c) ps → IsCut c f.rest n → length ps ≤ n
+    → IsFlightServed part f ps answer → All (IsPassageOver c) ps → IsCut c f.rest n → length ps ≤ n
 few-pieces part c f [] answer n waits over cut = omega arith
 few-pieces part c f (p ∷ more) answer n (goes_on got asks less rest) over cut =
-    by n (All-head (IsOver c) p more over) cut (λ m after. few-pieces part c (next_flight f (piece_len p.before.config f.rest) got) more answer m rest (All-tail (IsOver c) p more over) after)
+    by n (All-head (IsPassageOver c) p more over) cut (λ m after. few-pieces part c (next_flight f (piece_len p.before.config f.rest) got) more answer m rest (All-tail (IsPassageOver c) p more over) after)
   where
     by : (k : ℕ) → p.before.config ≡ c → IsCut c f.rest k → ((m : ℕ) → IsCut c (next_flight f (piece_len p.before.config f.rest) got).rest m → length more ≤ m) → length (p ∷ more) ≤ k
     by zero same cut next = elim cut [ ]
@@ -187,7 +187,7 @@ abbrev IsOn : (ℕ → Bool) → Passage → Type 0
 IsOn these p = AreSteady these p.before.leaves
 
 -- while turns go by, leaves that are steady stay so
-passages-on : (these : ℕ → Bool) (t : ℕ) (v : World) (turns : List Turn) → AreSteady these v.stack.leaves → Run EachPart v turns → All (IsOn these) (passages t v turns)
+passages-on : (these : ℕ → Bool) (t : ℕ) (v : World) (turns : List Turn) → AreSteady these v.stack.leaves → AreTurns EachPart v turns → All (IsOn these) (passages t v turns)
 passages-on these t v [] steady r = All-nil _
 passages-on these t v (x ∷ more) steady r = by (is_step t x.event) refl (passages-on these t x.after more (step-on these v x.event x.after r.0 steady) r.1)
   where
@@ -197,51 +197,51 @@ passages-on these t v (x ∷ more) steady r = by (is_step t x.event) refl (passa
 
 -- what holds of each step holds of it over steady leaves
 asks-steady : (c : Configuration) (f : FlightRecord) (p : Passage) (answer : Result AnswerRecord IoFault) → p.before.config ≡ c → AreSteady (leaves_of c (mapped f.rest.device.0)) p.before.leaves
-    → Asks EachPart p.before f answer p.after → Asks SteadyPart p.before f answer p.after
+    → AsksPiece EachPart p.before f answer p.after → AsksPiece SteadyPart p.before f answer p.after
 asks-steady c f p answer same steady asks =
     each-steady p.before f.rest.device.0 f.rest.first (part_of_work f.work (done_of f) (piece_len p.before.config f.rest)) answer p.after
     (subst (λ (x : Configuration). AreSteady (leaves_of x (mapped f.rest.device.0)) p.before.leaves) (sym same) steady) asks
 
-steady-served : (c : Configuration) (f : FlightRecord) (ps : List Passage) (answer : Option (Result Reply IoFault)) → IsServed EachPart f ps answer → All (IsOver c) ps → All (IsOn (leaves_of c (mapped f.rest.device.0))) ps
-    → IsServed SteadyPart f ps answer
+steady-served : (c : Configuration) (f : FlightRecord) (ps : List Passage) (answer : Option (Result Reply IoFault)) → IsFlightServed EachPart f ps answer → All (IsPassageOver c) ps → All (IsOn (leaves_of c (mapped f.rest.device.0))) ps
+    → IsFlightServed SteadyPart f ps answer
 steady-served c f [] answer waits over on = waits
 steady-served c f (p ∷ more) answer (goes_on got asks less rest) over on =
-    goes_on got (asks-steady c f p (Ok got) (All-head (IsOver c) p more over) (All-head (IsOn (leaves_of c (mapped f.rest.device.0))) p more on) asks) less
-    (steady-served c (next_flight f (piece_len p.before.config f.rest) got) more answer rest (All-tail (IsOver c) p more over) (All-tail (IsOn (leaves_of c (mapped f.rest.device.0))) p more on))
+    goes_on got (asks-steady c f p (Ok got) (All-head (IsPassageOver c) p more over) (All-head (IsOn (leaves_of c (mapped f.rest.device.0))) p more on) asks) less
+    (steady-served c (next_flight f (piece_len p.before.config f.rest) got) more answer rest (All-tail (IsPassageOver c) p more over) (All-tail (IsOn (leaves_of c (mapped f.rest.device.0))) p more on))
 steady-served c f (p ∷ []) answer (finishes got asks end replies) over on =
-    finishes got (asks-steady c f p (Ok got) (All-head (IsOver c) p [] over) (All-head (IsOn (leaves_of c (mapped f.rest.device.0))) p [] on) asks) end replies
-steady-served c f (p ∷ []) answer (fails {fault = fault} asks) over on = fails (asks-steady c f p (Err fault) (All-head (IsOver c) p [] over) (All-head (IsOn (leaves_of c (mapped f.rest.device.0))) p [] on) asks)
+    finishes got (asks-steady c f p (Ok got) (All-head (IsPassageOver c) p [] over) (All-head (IsOn (leaves_of c (mapped f.rest.device.0))) p [] on) asks) end replies
+steady-served c f (p ∷ []) answer (fails {fault = fault} asks) over on = fails (asks-steady c f p (Err fault) (All-head (IsPassageOver c) p [] over) (All-head (IsOn (leaves_of c (mapped f.rest.device.0))) p [] on) asks)
 
 -- what a request gets that was begun
-pub request-law : (w : World) (r : RequestRecord) (t : ℕ) (v : World) (turns : List Turn) → InOrder w → (b : Begins w r t v) → Run EachPart v turns → RequestLaw w r t b.range v turns
+pub request-law : (w : World) (r : RequestRecord) (t : ℕ) (v : World) (turns : List Turn) → InOrder w → (b : Begins w r t v) → AreTurns EachPart v turns → RequestLaw w r t b.range v turns
 request-law w r t v turns order b each =
     let new = newly w r t v order b in
     let knows : Knows t v = (new.order, new.old) in
     let low = run-any v turns each in
     let few = whole-steps w r t v turns order b low in
     let any = is-served AnyPart (λ w' e v' s. s) t v turns (first_flight t b.range r) knows new.flight low in
-    let over : All (IsOver w.stack.config) (passages t v turns) = subst (λ (s : StackRecord). All (IsOver s.config) (passages t v turns)) new.stack (one-configuration t v turns knows low) in
+    let over : All (IsPassageOver w.stack.config) (passages t v turns) = subst (λ (s : StackRecord). All (IsPassageOver s.config) (passages t v turns)) new.stack (one-configuration t v turns knows low) in
     record {
       any = any;
       steady = λ steady.
           let these = leaves_of w.stack.config (mapped b.range.device.0) in
-          steady-served w.stack.config (first_flight t b.range r) (passages t v turns) (answer_to t turns) (is-served EachPart step-any t v turns (first_flight t b.range r) knows new.flight each)
+          steady-served w.stack.config (first_flight t b.range r) (passages t v turns) (answer_at_last t turns) (is-served EachPart step-any t v turns (first_flight t b.range r) knows new.flight each)
           over (passages-on these t v turns (subst (λ (s : StackRecord). AreSteady these s.leaves) (sym new.stack) steady) each);
       config = over;
       steps = omega (arith, few, passages-count t v turns);
-      pieces = λ n cut. few-pieces AnyPart w.stack.config (first_flight t b.range r) (passages t v turns) (answer_to t turns) n any over cut;
+      pieces = λ n cut. few-pieces AnyPart w.stack.config (first_flight t b.range r) (passages t v turns) (answer_at_last t turns) n any over cut;
       moved = whole-budget w r t v turns order b low;
     }
 
 -- the steps of a run, one turn after another
 pub record StepsAlone (t : ℕ) (answer : Result Reply IoFault) (v w' : World) : Type 0 where
   pub turns : List Turn
-  pub run : Run EachPart v turns
+  pub run : AreTurns EachPart v turns
   pub own : All (λ (x : Turn). is_step t x.event ≡ true) turns
-  pub answered : answer_to t turns ≡ Some answer
+  pub answered : answer_at_last t turns ≡ Some answer
   pub ends : last v turns ≡ w'
 
-pub steps-alone : (t : ℕ) (answer : Result Reply IoFault) (v w' : World) → Ends EachPart t answer v w' → StepsAlone t answer v w'
+pub steps-alone : (t : ℕ) (answer : Result Reply IoFault) (v w' : World) → EndsRequest EachPart t answer v w' → StepsAlone t answer v w'
 steps-alone t answer v w' (at_once s) =
     let own : (t == t) ≡ true = grind arith in
     let last_step : Turn = record { event = step t (Ok (Done answer)); after = w' } in
@@ -286,7 +286,7 @@ refusal-same part w (run r (Ok answer)) w' is s = let clash : false ≡ true = i
 refusal-same part w (run r (Err fault)) w' is s = s.same
 refusal-same part w (sync reply) w' is s = let clash : false ≡ true = is in cc
 
-pub order-kept : (w : World) (turns : List Turn) → InOrder w → Run EachPart w turns → InOrder (last w turns)
+pub order-kept : (w : World) (turns : List Turn) → InOrder w → AreTurns EachPart w turns → InOrder (last w turns)
 order-kept w [] order r = order
 order-kept w (x ∷ more) order r =
     let turn = turned w x.after 0 x.event order (omega arith) (step-any w x.event x.after r.0) in

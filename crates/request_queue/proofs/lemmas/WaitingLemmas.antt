@@ -18,12 +18,12 @@ use Rattle.request_queue.specs.declared.reply.Progress.{Progress}
 use Rattle.request_queue.specs.declared.reply.Progress.TheVariants.{More, Done}
 use Rattle.request_queue.specs.declared.reply.Reply.{Reply}
 use Rattle.request_queue.specs.Flights.{FlightRecord, first_flight, next_flight}
-use Rattle.request_queue.specs.Parts.{AnyPart, Asks, bytes_part, write_part, part_of_work, done_of, without_bytes, without_chains}
+use Rattle.request_queue.specs.Parts.{AnyPart, AsksPiece, bytes_part, write_part, part_of_work, done_of, without_bytes, without_chains}
 use Rattle.request_queue.specs.Ranges.{IsCut, last_piece, next_piece, piece_len, range_after}
 use Rattle.request_queue.specs.Requests.{RequestRecord}
-use Rattle.request_queue.specs.Runs.{Turn, Run, last, total}
-use Rattle.request_queue.specs.Waiting.{pieces_within, pieces_of, waiting, pieces_asked, asked_by, asked, served_by, served}
-use Rattle.request_queue.specs.World.{World, world, Event, submit, step, read_bytes, write_piece, load, remove_device, run, sync, Step, IsAt, Begins, Serves, ReadsBytes, PieceWritten, Loads, Removes, Syncs, Ends, at_once, later, Runs, admission, next_count}
+use Rattle.request_queue.specs.Runs.{Turn, AreTurns, last, turns_total}
+use Rattle.request_queue.specs.Waiting.{pieces_within, pieces_of, waiting, pieces_asked, asked_by, asked_in_turn, served_by, served}
+use Rattle.request_queue.specs.World.{World, world, Event, submit, step, read_bytes, write_piece, load, remove_device, run, sync, Step, IsAt, Begins, Serves, ReadsBytes, PieceWritten, LoadsText, Removes, Syncs, EndsRequest, at_once, later, Runs, admission, next_count}
 use Rattle.request_queue.proofs.lemmas.BudgetLemmas.{piece_len-within}
 use Rattle.request_queue.proofs.lemmas.PartLemmas.{any-keeps}
 
@@ -103,11 +103,11 @@ left-changed c fs i f f' at =
 -- ---- one step
 
 module _ (w : World) (t i : ℕ) (f : FlightRecord) (at : IsAt w.in_flight t i f) (some : 1 ≤ next_count w f) where
-  same-config : (stack : StackRecord) (answer : Result AnswerRecord IoFault) → Asks AnyPart w.stack f answer stack → stack.config ≡ w.stack.config
+  same-config : (stack : StackRecord) (answer : Result AnswerRecord IoFault) → AsksPiece AnyPart w.stack f answer stack → stack.config ≡ w.stack.config
   same-config stack answer p = (any-keeps w.stack f.rest.device.0 f.rest.first (part_of_work f.work (done_of f) (next_count w f)) answer stack p).config
 
   -- it is over
-  one-over : (stack : StackRecord) (answer : Result AnswerRecord IoFault) → Asks AnyPart w.stack f answer stack → suc (waiting_of stack.config (remove w.in_flight i)) ≤ waiting w
+  one-over : (stack : StackRecord) (answer : Result AnswerRecord IoFault) → AsksPiece AnyPart w.stack f answer stack → suc (waiting_of stack.config (remove w.in_flight i)) ≤ waiting w
   one-over stack answer p =
       let c = w.stack.config in
       let any : 1 ≤ left_of c f = within-some f.rest.count c f.rest (omega (arith, some, piece_len-within c f.rest)) in
@@ -115,7 +115,7 @@ module _ (w : World) (t i : ℕ) (f : FlightRecord) (at : IsAt w.in_flight t i f
       subst (λ (x : Configuration). suc (waiting_of x (remove w.in_flight i)) ≤ waiting w) (sym (same-config stack answer p)) (omega (arith, any, all))
 
   -- it goes on
-  one-on : (stack : StackRecord) (got : AnswerRecord) → next_count w f < f.rest.count → Asks AnyPart w.stack f (Ok got) stack → suc (waiting_of stack.config (set w.in_flight i (next_flight f (next_count w f) got))) ≤ waiting w
+  one-on : (stack : StackRecord) (got : AnswerRecord) → next_count w f < f.rest.count → AsksPiece AnyPart w.stack f (Ok got) stack → suc (waiting_of stack.config (set w.in_flight i (next_flight f (next_count w f) got))) ≤ waiting w
   one-on stack got more p =
       let c = w.stack.config in
       let f' = next_flight f (next_count w f) got in
@@ -147,7 +147,7 @@ waits-begun w r t w' b =
     let is : pieces_asked c (admission w r) ≡ pieces_of c b.range = ap (pieces_asked c) b.admits in
     subst (λ (x : World). waiting x ≤ waiting w + pieces_asked c (admission w r)) (sym b.leaves) (omega (arith, pushed, is))
 
-waits-ends : (t : ℕ) (answer : Result Reply IoFault) (w w' : World) → Ends AnyPart t answer w w' → waiting w' ≤ waiting w
+waits-ends : (t : ℕ) (answer : Result Reply IoFault) (w w' : World) → EndsRequest AnyPart t answer w w' → waiting w' ≤ waiting w
 waits-ends t answer w w' (at_once s) = omega (arith, serves-one w t (Done answer) w' s)
 waits-ends t answer w w' (later {v = v} s more) = omega (arith, serves-one w t More v s, waits-ends t answer v w' more)
 
@@ -166,7 +166,7 @@ waits-written w d first bytes result w' s =
     let kept = any-keeps w.stack d first (write_part bytes) (without_bytes result) s.stack s.asks in
     subst (λ (x : World). waiting x ≤ waiting w) (sym s.leaves) (subst (λ (c : Configuration). waiting_of c w.in_flight ≤ waiting w) (sym kept.config) (omega arith))
 
-waits-load : (w : World) (text : List Entry) (reply : Result Unit (Held LoadFault)) (w' : World) → Loads w text reply w' → waiting w' ≤ waiting w
+waits-load : (w : World) (text : List Entry) (reply : Result Unit (Held LoadFault)) (w' : World) → LoadsText w text reply w' → waiting w' ≤ waiting w
 waits-load w text (Ok done) w' s = omega (arith, waits-idle w _ w' s.idle s.leaves)
 waits-load w text (Err Busy) w' s = waits-same w w' s.1
 waits-load w text (Err (Fault fault)) w' s = waits-same w w' s.2
@@ -195,6 +195,6 @@ waits-event w (sync reply) w' s = omega (arith, waits-sync w reply w' s)
 
 -- ---- a list of them
 
-pub few-pieces-served : (w : World) (turns : List Turn) → Run AnyPart w turns → total served w turns + waiting (last w turns) ≤ waiting w + total asked w turns
+pub few-pieces-served : (w : World) (turns : List Turn) → AreTurns AnyPart w turns → turns_total served w turns + waiting (last w turns) ≤ waiting w + turns_total asked_in_turn w turns
 few-pieces-served w [] r = omega arith
 few-pieces-served w (x ∷ more) r = omega (arith, waits-event w x.event x.after r.0, few-pieces-served x.after more r.1)

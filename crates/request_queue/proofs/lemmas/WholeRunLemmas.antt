@@ -23,8 +23,8 @@ use Rattle.request_queue.specs.declared.reply.Reply.{Reply}
 use Rattle.request_queue.specs.declared.reply.Reply.TheVariants.{Sectors, Written}
 use Rattle.request_queue.specs.Requests.{RequestRecord, a_read, a_write}
 use Rattle.request_queue.specs.Flights.{FlightRecord, reads, writes, first_flight, next_flight, next_work, joint_answer, nothing, reply_to}
-use Rattle.request_queue.specs.Parts.{EachPart, Asks, ending, read_part, part_of_work, done_of}
-use Rattle.request_queue.specs.World.{World, Serves, Begins, Ends, at_once, later, next_count}
+use Rattle.request_queue.specs.Parts.{EachPart, AsksPiece, ending, read_part, part_of_work, done_of}
+use Rattle.request_queue.specs.World.{World, Serves, Begins, EndsRequest, at_once, later, next_count}
 use Rattle.request_queue.specs.Runs.{flight_of}
 use Rattle.request_queue.specs.WholeRuns.{ReadsWhole, WritesWhole, Whole, RunAnswers}
 use Rattle.request_queue.proofs.lemmas.AdmissionLemmas.{admission-whole}
@@ -57,7 +57,7 @@ IsPiece c d first n old new answer = Gets (piece_expected c (mapped d) first n) 
 
 -- the piece that a step of it reads, behind the sectors that are read
 read-part : (base : StackRecord) (range : SectorRange) (t : ℕ) (w w' : World) (u : ReadSoFar base range t w) (f : FlightRecord) (answer : Result AnswerRecord IoFault) (stack : StackRecord) → f ≡ u.f → stack ≡ w'.stack
-    → Asks EachPart w.stack f answer stack → EachPart w.stack range.device.0 (range.first + u.done) (read_part (next_count w f)) answer w'.stack
+    → AsksPiece EachPart w.stack f answer stack → EachPart w.stack range.device.0 (range.first + u.done) (read_part (next_count w f)) answer w'.stack
 read-part base range t w w' u f answer stack same now p =
     let n = next_count w f in
     let work : f.work ≡ reads u.got = ap (λ (x : FlightRecord). x.work) same ∙ u.work in
@@ -139,7 +139,7 @@ read-over base range t name first count (Err fault) w w' u s =
     (touches-then u.touches piece.1) (part.answered.any.fails ∙ ap (failures_by fault) u.fails)
     (keeps-then base w.stack w'.stack range.device.0 range.first u.done n range.count u.config inside u.keeps part.kept)
 
-read-ends : (base : StackRecord) (range : SectorRange) (t : ℕ) (name : List ℕ) (first count : ℕ) (answer : Result Reply IoFault) (w w' : World) → ReadSoFar base range t w → Ends EachPart t answer w w'
+read-ends : (base : StackRecord) (range : SectorRange) (t : ℕ) (name : List ℕ) (first count : ℕ) (answer : Result Reply IoFault) (w w' : World) → ReadSoFar base range t w → EndsRequest EachPart t answer w w'
     → Whole (a_read name first count) base range answer w'.stack
 read-ends base range t name first count answer w w' u (at_once s) = read-over base range t name first count answer w w' u s
 read-ends base range t name first count answer w w' u (later {v = v} s more) = read-ends base range t name first count answer v w' (further base range t w v u s) more
@@ -190,7 +190,7 @@ next_bytes bytes done n = take (512 * n) (drop (512 * done) bytes)
 
 -- the part that a step of it writes
 written-part : (base : StackRecord) (range : SectorRange) (bytes : List ℕ) (t : ℕ) (w w' : World) (u : WriteSoFar base range bytes t w) (f : FlightRecord) (answer : Result AnswerRecord IoFault) (stack : StackRecord)
-    → f ≡ u.f → stack ≡ w'.stack → Asks EachPart w.stack f answer stack → EachWrite w.stack range.device.0 (range.first + u.done) (next_bytes bytes u.done (next_count w f)) (ending answer) w'.stack
+    → f ≡ u.f → stack ≡ w'.stack → AsksPiece EachPart w.stack f answer stack → EachWrite w.stack range.device.0 (range.first + u.done) (next_bytes bytes u.done (next_count w f)) (ending answer) w'.stack
 written-part base range bytes t w w' u f answer stack same now p =
     let n = next_count w f in
     let work : f.work ≡ writes bytes = ap (λ (x : FlightRecord). x.work) same ∙ u.work in
@@ -292,7 +292,7 @@ module _ (base : StackRecord) (loaded : IsLoaded base.config) (range : SectorRan
       put-fails w w' u n (omega (arith, most, count, u.left)) fault (omega (arith, most, count, u.left, s.some))
       (written-part base range bytes t w w' u s.f (Err fault) s.answers.stack same (sym (ap (λ (y : World). y.stack) s.answers.leaves)) s.answers.asks)
 
-  write-finishes : (name : List ℕ) (first : ℕ) (answer : Result Reply IoFault) (w w' : World) → WriteSoFar base range bytes t w → Ends EachPart t answer w w' → Whole (a_write name first bytes) base range answer w'.stack
+  write-finishes : (name : List ℕ) (first : ℕ) (answer : Result Reply IoFault) (w w' : World) → WriteSoFar base range bytes t w → EndsRequest EachPart t answer w w' → Whole (a_write name first bytes) base range answer w'.stack
   write-finishes name first answer w w' u (at_once s) = write-over name first answer w w' u s
   write-finishes name first answer w w' u (later {v = v} s more) = write-finishes name first answer v w' (write-further w v u s) more
 
@@ -317,7 +317,7 @@ write-begun w name first bytes t v order b =
 -- ---- both
 
 -- what is answered to a request that is served to its end at once
-pub whole-answers : (w : World) (r : RequestRecord) (t : ℕ) (answer : Result Reply IoFault) (v w' : World) → IsLoaded w.stack.config → InOrder w → Begins w r t v → Ends EachPart t answer v w' → RunAnswers w r (Ok answer) w'
+pub whole-answers : (w : World) (r : RequestRecord) (t : ℕ) (answer : Result Reply IoFault) (v w' : World) → IsLoaded w.stack.config → InOrder w → Begins w r t v → EndsRequest EachPart t answer v w' → RunAnswers w r (Ok answer) w'
 whole-answers w (a_read name first count) t answer v w' loaded order b e =
     (b.range, b.admits, read-ends w.stack b.range t name first count answer v w' (read-begun w name first count t v order b) e)
 whole-answers w (a_write name first bytes) t answer v w' loaded order b e = (

@@ -9,7 +9,7 @@ use Rattle.stack_rules.specs.declared.lower.Lower.{Lower}
 use Rattle.stack_rules.specs.Records.{Configuration}
 use Rattle.stack_rules.specs.Names.{mapped, named, size, may_write}
 use Rattle.stack_rules.specs.Descend.{depth, read_cost, write_cost}
-use Rattle.stack_rules.specs.Lines.{IsLine, key_of, key_at}
+use Rattle.stack_rules.specs.Lines.{IsLine, key_of, key_of_line}
 use Rattle.stack_rules.specs.Rules.{IsLoaded, cuts_unit, is_beyond, is_off_unit, most_sectors}
 use Rattle.stack_rules.specs.Units.{unit_sectors, unit_write_cost}
 use Rattle.stack_rules.proofs.lemmas.UnitLemmas.{times-some, unit_sectors-some, unit_write-some}
@@ -75,5 +75,5 @@ crypt-line c d l line crypt loaded is has =
     )
 
 -- the key that is kept for it is its own
-pub crypt-key : (c : Configuration) (d l : ℕ) (line : Line) (crypt : CryptRecord) → IsLine c d l line → line.target ≡ Crypt crypt → key_at c d l ≡ Some crypt.key
+pub crypt-key : (c : Configuration) (d l : ℕ) (line : Line) (crypt : CryptRecord) → IsLine c d l line → line.target ≡ Crypt crypt → key_of_line c d l ≡ Some crypt.key
 crypt-key c d l line crypt is has = ap (option_and_then (λ (line : Line). key_of line.target)) is ∙ ap key_of has

@@ -13,7 +13,7 @@ use Rattle.stack_rules.specs.declared.lower.Lower.{Lower}
 use Rattle.stack_rules.specs.declared.lower.Lower.TheVariants.{Leaf as leaf, Device as device}
 use Rattle.stack_rules.specs.declared.refusal.LoadKind.TheVariants.{NoSuchDevice}
 use Rattle.stack_rules.specs.Records.{Configuration, DeviceRecord, LeafRecord}
-use Rattle.stack_rules.specs.Names.{mapped, named, names, lines_of, sectors_of, size, may_write}
+use Rattle.stack_rules.specs.Names.{mapped, named, names, lines_of, table_sectors, size, may_write}
 use Rattle.stack_rules.specs.Descend.{descend, depth, greatest, known, by_name, cost_rule, line_read_cost, line_write_cost, read_cost, write_cost}
 use Rattle.stack_rules.specs.Lines.{IsLine}
 use Rattle.stack_rules.specs.Rules.{IsLoaded, IsValid, refuse, unknown_in, ends_past, names_read_only, most_sectors}
@@ -42,7 +42,7 @@ pub sound-line : (c : Configuration) (d l : ℕ) (line : Line) → IsValid c →
 sound-line c d l line valid is =
     let x = device_of c d l line is in
     let writes : x.0.writable ≡ may_write c (mapped d) = sym (ap (λ (o : Option DeviceRecord). option_map_or (λ x. x.writable) o false) x.1) in
-    (sectors_of (take l x.0.table), subst (λ b. IsSound c b (sectors_of (take l x.0.table)) line) writes (sound c valid d x.0 x.1 l line x.2))
+    (table_sectors (take l x.0.table), subst (λ b. IsSound c b (table_sectors (take l x.0.table)) line) writes (sound c valid d x.0 x.1 l line x.2))
 
 -- a line is as one that is read
 pub line-grammar : (c : Configuration) (d l : ℕ) (line : Line) → IsLoaded c → IsLine c d l line → IsLineOfGrammar line
@@ -63,7 +63,7 @@ pub size-most : (c : Configuration) → IsLoaded c → (x : Lower) → size c x 
 size-most c loaded (leaf i) = leaf-most c.leaves i (recursion_from_All (λ (l : LeafRecord). l.sectors ≤ most_sectors) c.leaves loaded.leaves.sizes)
 size-most c loaded (device d) = go (slice_get c.devices d.0) refl
   where
-    go : (o : Option DeviceRecord) → slice_get c.devices d.0 ≡ o → sectors_of (option_map_or (λ x. x.table) o []) ≤ most_sectors
+    go : (o : Option DeviceRecord) → slice_get c.devices d.0 ≡ o → table_sectors (option_map_or (λ x. x.table) o []) ≤ most_sectors
     go None e = omega arith
     go (Some x) e = size-low c loaded.valid d.0 x e
 

@@ -2,7 +2,7 @@
 use Rattle.std.proofs.Common.{subst, ◌≡◌, ◌+◌, ◌*◌, ◌/◌, ◌≤◌, ◌<◌, ℕ, zero, suc, refl, sym, ap, ◌∙◌, Bool, true, false, ◌&&◌, Some, None, arith}
 use Rattle.std.proofs.Math.Nat.{mul-le-mul_right}
 use Rattle.std.proofs.lemmas.Bool.{ltb-false}
-use Rattle.tree_shape.specs.Shape.{IsShape, first_fault, area_end, sectors_of}
+use Rattle.tree_shape.specs.Shape.{IsShape, first_fault, area_end, blocks_sectors}
 use Rattle.tree_shape.proofs.lemmas.ShapeFaultLemmas.{first_fault-none}
 use Rattle.dm_table.specs.Grammar.{IsTargetOfGrammar, IsVerityOfGrammar}
 use Rattle.dm_table.specs.declared.table.Line.{Line}
@@ -11,7 +11,7 @@ use Rattle.dm_table.specs.declared.verity.Verity.{Verity as VerityRecord}
 use Rattle.stack_rules.specs.declared.lower.Lower.{Lower}
 use Rattle.stack_rules.specs.Records.{Configuration}
 use Rattle.stack_rules.specs.Names.{mapped, named, size, may_write}
-use Rattle.stack_rules.specs.Trees.{tree_of, data_sectors, tree_sectors, block_sectors, path_sectors}
+use Rattle.stack_rules.specs.Trees.{tree_of, line_data_sectors, line_tree_sectors, block_sectors, path_sectors}
 use Rattle.stack_rules.specs.Descend.{depth, read_cost}
 use Rattle.stack_rules.specs.Lines.{IsLine}
 use Rattle.stack_rules.specs.Rules.{IsLoaded, is_beyond, is_uncovered, is_tree_beyond, needs_read_only}
@@ -24,15 +24,15 @@ pub record IsVerityLine (c : Configuration) (d : ℕ) (line : Line) (verity : Ve
   pub hash_named : named c verity.hash ≡ Some hash
   pub grammar : IsVerityOfGrammar verity
   pub shape : IsShape (tree_of verity)
-  pub covers : line.length ≤ data_sectors verity
-  pub below_inside : data_sectors verity ≤ size c below
-  pub hash_inside : tree_sectors verity ≤ size c hash
+  pub covers : line.length ≤ line_data_sectors verity
+  pub below_inside : line_data_sectors verity ≤ size c below
+  pub hash_inside : line_tree_sectors verity ≤ size c hash
   pub read_only : may_write c (mapped d) ≡ false
   pub below_shallower : depth c below < depth c (mapped d)
   pub hash_shallower : depth c hash < depth c (mapped d)
   pub cost : block_sectors verity * read_cost c below + path_sectors verity * read_cost c hash ≤ read_cost c (mapped d)
 
-some-blocks : (n size len : ℕ) → 0 < len → len ≤ sectors_of n size → 1 ≤ n
+some-blocks : (n size len : ℕ) → 0 < len → len ≤ blocks_sectors n size → 1 ≤ n
 some-blocks zero size len some low = let no : ⊥ = omega (arith, some, low) in absurd no
 some-blocks (suc n) size len some low = omega arith
 
@@ -49,9 +49,9 @@ verity-line c d l line verity loaded is has =
     let hash-means : named c verity.hash ≡ Some hash = names.1.0.1 in
     let s = (sound-line c d l line loaded.valid is).1 in
     let grammar : IsVerityOfGrammar verity = subst IsTargetOfGrammar has (line-grammar c d l line loaded is).target in
-    let covers : line.length ≤ data_sectors verity = ltb-false (data_sectors verity) line.length (sym (ap (is_uncovered line.length) has) ∙ s.covered) in
-    let room = range-inside c verity.data below (data_sectors verity) below-means (sym (is_beyond-verity c line.length verity) ∙ sym (ap (is_beyond c line.length) has) ∙ s.inside) in
-    let hash-room = range-inside c verity.hash hash (tree_sectors verity) hash-means (sym (ap (is_tree_beyond c) has) ∙ s.tree) in
+    let covers : line.length ≤ line_data_sectors verity = ltb-false (line_data_sectors verity) line.length (sym (ap (is_uncovered line.length) has) ∙ s.covered) in
+    let room = range-inside c verity.data below (line_data_sectors verity) below-means (sym (is_beyond-verity c line.length verity) ∙ sym (ap (is_beyond c line.length) has) ∙ s.inside) in
+    let hash-room = range-inside c verity.hash hash (line_tree_sectors verity) hash-means (sym (ap (is_tree_beyond c) has) ∙ s.tree) in
     let shallower = rw has at (names-shallower c d l line loaded.valid is) in
     let read = rw has at (line-read-cost c d l line loaded.valid is) in
     let below-cost = name-cost c (read_cost c) verity.data below below-means in
@@ -84,7 +84,7 @@ pub verity-shape : (c : Configuration) (d : ℕ) (line : Line) (verity : VerityR
 verity-shape c d line verity below hash v = first_fault-none (tree_of verity) v.shape
 
 -- block k of n blocks of that size that lie in some room
-block-inside : (n k size room : ℕ) → k < n → sectors_of n size ≤ room → sectors_of k size + size / 512 ≤ room
+block-inside : (n k size room : ℕ) → k < n → blocks_sectors n size ≤ room → blocks_sectors k size + size / 512 ≤ room
 block-inside n k size room low fits =
     let more : (k + 1) * (size / 512) ≤ n * (size / 512) = mul-le-mul_right (size / 512) (omega (arith, low)) in
     let split : (k + 1) * (size / 512) ≡ k * (size / 512) + size / 512 = grind arith in
@@ -92,9 +92,9 @@ block-inside n k size room low fits =
 
 -- each data block lies inside the data device, and each hash block of the tree inside the hash device
 pub data_block-inside : (c : Configuration) (d : ℕ) (line : Line) (verity : VerityRecord) (below hash : Lower) → IsVerityLine c d line verity below hash
-    → (k : ℕ) → k < verity.blocks → sectors_of k verity.data_block + block_sectors verity ≤ size c below
+    → (k : ℕ) → k < verity.blocks → blocks_sectors k verity.data_block + block_sectors verity ≤ size c below
 data_block-inside c d line verity below hash v k low = block-inside verity.blocks k verity.data_block (size c below) low v.below_inside
 
 pub hash_block-inside : (c : Configuration) (d : ℕ) (line : Line) (verity : VerityRecord) (below hash : Lower) → IsVerityLine c d line verity below hash
-    → (k : ℕ) → k < area_end (tree_of verity) → sectors_of k verity.hash_block + verity.hash_block / 512 ≤ size c hash
+    → (k : ℕ) → k < area_end (tree_of verity) → blocks_sectors k verity.hash_block + verity.hash_block / 512 ≤ size c hash
 hash_block-inside c d line verity below hash v k low = block-inside (area_end (tree_of verity)) k verity.hash_block (size c hash) low v.hash_inside

@@ -25,7 +25,7 @@ use Rattle.stack_rules.specs.Units.{crypt_of, unit_write_cost}
 use Rattle.stack_rules.specs.Descend.{greatest, known, by_name, depth, descend, cost_rule, line_read_cost, line_write_cost, read_cost, write_cost}
 use Rattle.stack_rules.specs.Kept.{each_mapped, meanings}
 use Rattle.stack_rules.specs.Passing.{Mean, RowsMean}
-use Rattle.stack_costs.specs.Costs.{line_cost, cost, cost_in, dearest, AreRows, AreMeasured, AreCosts, capped}
+use Rattle.stack_costs.specs.Costs.{line_cost, cost, cost_in, dearest, AreLineRows, AreMeasured, AreCosts, capped_cost}
 use Rattle.stack_rules.specs.Rules.{most_depth}
 use Rattle.stack_rules.proofs.lemmas.LastCaseLemmas.{reads-dearest, writes-dearest}
 use Rattle.stack_rules.proofs.lemmas.UnrollLemmas.{turn, falls-at}
@@ -108,23 +108,23 @@ cost-leaf : (c : Configuration) (direction : Direction) (i : ℕ) → cost c dir
 unfolding descend
 cost-leaf c direction i = refl
 
-one-capped : (direction : Direction) → 1 ≡ capped direction 1
+one-capped : (direction : Direction) → 1 ≡ capped_cost direction 1
 one-capped Read = refl
 one-capped (Write reads) = refl
 
 -- the dearest line, where the devices of less depth have their costs
 dearest-cost : (c : Configuration) (direction : Direction) (costs : List ℕ) (d : ℕ) → ((x : Lower) → depth c x ≤ most_depth) → length costs ≡ length c.devices
-    → AreCosts c direction (depth c (mapped d)) costs → capped direction (dearest c direction (cost_in costs) (lines_of c d)) ≡ capped direction (cost c direction (mapped d))
+    → AreCosts c direction (depth c (mapped d)) costs → capped_cost direction (dearest c direction (cost_in costs) (lines_of c d)) ≡ capped_cost direction (cost c direction (mapped d))
 dearest-cost c direction costs d low count are =
-    ap (capped direction) (cost_rule-local c (line_cost c direction) (line_cost-local c direction) (cost_in costs) (λ y. capped direction (cost c direction y)) (mapped d)
+    ap (capped_cost direction) (cost_rule-local c (line_cost c direction) (line_cost-local c direction) (cost_in costs) (λ y. capped_cost direction (cost c direction y)) (mapped d)
     (turn (λ y both. at y both.0 both.1) (lowers_of c (mapped d))
     (both (λ y. depth c y < depth c (mapped d)) (IsInside c) (λ y. (depth c y < depth c (mapped d)) × IsInside c y) (λ y p q. (p, q)) (lowers_of c (mapped d))
     (falls-at c (λ x. let shallow = low x in omega (arith, shallow)) (mapped d)) (lowers-inside c d))))
     ∙ rule-capped c direction (cost c direction) (mapped d)
-    ∙ ap (capped direction) (sym (cost-rule c (line_cost c direction) (line_cost-local c direction) low (mapped d)))
+    ∙ ap (capped_cost direction) (sym (cost-rule c (line_cost c direction) (line_cost-local c direction) low (mapped d)))
   where
-    at : (y : Lower) → depth c y < depth c (mapped d) → IsInside c y → cost_in costs y ≡ capped direction (cost c direction y)
-    at (leaf i) less inside = one-capped direction ∙ ap (capped direction) (sym (cost-leaf c direction i))
+    at : (y : Lower) → depth c y < depth c (mapped d) → IsInside c y → cost_in costs y ≡ capped_cost direction (cost c direction y)
+    at (leaf i) less inside = one-capped direction ∙ ap (capped_cost direction) (sym (cost-leaf c direction i))
     at (device e) less inside = are.each e.0 (omega (arith, inside, count)) less
 
 -- ---- the devices of one depth
@@ -132,7 +132,7 @@ dearest-cost c direction costs d low count are =
 -- the costs of less depth than k, and of depth k those of the first i devices
 pub record SettlesSoFar (c : Configuration) (direction : Direction) (k i : ℕ) (costs : List ℕ) : Type 0 where
   pub below : AreCosts c direction k costs
-  pub done : (d : ℕ) → d < i → depth c (mapped d) ≡ k → slice_index costs d ≡ capped direction (cost c direction (mapped d))
+  pub done : (d : ℕ) → d < i → depth c (mapped d) ≡ k → slice_index costs d ≡ capped_cost direction (cost c direction (mapped d))
 
 pub settles_none : (c : Configuration) (direction : Direction) (k : ℕ) (costs : List ℕ) → AreCosts c direction k costs → SettlesSoFar c direction k 0 costs
 settles_none c direction k costs are = record { below = are; done = λ d low. absurd (omega (arith, low)) }
@@ -140,7 +140,7 @@ settles_none c direction k costs are = record { below = are; done = λ d low. ab
 pub settles_all : (c : Configuration) (direction : Direction) (k i : ℕ) (costs : List ℕ) → length costs ≤ i → SettlesSoFar c direction k i costs → AreCosts c direction (k + 1) costs
 settles_all c direction k i costs past so-far = record { each = λ d low less. go d low less (dec_le k (depth c (mapped d))) }
   where
-    go : (d : ℕ) → d < length costs → depth c (mapped d) < k + 1 → Dec (k ≤ depth c (mapped d)) → slice_index costs d ≡ capped direction (cost c direction (mapped d))
+    go : (d : ℕ) → d < length costs → depth c (mapped d) < k + 1 → Dec (k ≤ depth c (mapped d)) → slice_index costs d ≡ capped_cost direction (cost c direction (mapped d))
     go d low less (yes deep) = so-far.done d (omega (arith, low, past)) (omega (arith, less, deep))
     go d low less (no shallow) = so-far.below.each d low (grind (arith, shallow))
 
@@ -148,35 +148,35 @@ settles_all c direction k i costs past so-far = record { each = λ d low less. g
 pub settles_skipped : (c : Configuration) (direction : Direction) (k i : ℕ) (costs : List ℕ) → (depth c (mapped i) ≡ k → ⊥) → SettlesSoFar c direction k i costs → SettlesSoFar c direction k (i + 1) costs
 settles_skipped c direction k i costs other so-far = record { below = so-far.below; done = λ d low same. go d low same (dec_le i d) }
   where
-    go : (d : ℕ) → d < i + 1 → depth c (mapped d) ≡ k → Dec (i ≤ d) → slice_index costs d ≡ capped direction (cost c direction (mapped d))
+    go : (d : ℕ) → d < i + 1 → depth c (mapped d) ≡ k → Dec (i ≤ d) → slice_index costs d ≡ capped_cost direction (cost c direction (mapped d))
     go d low same (yes past) = let here : d ≡ i = omega (arith, low, past) in absurd (other (ap (λ d. depth c (mapped d)) (sym here) ∙ same))
     go d low same (no before) = so-far.done d (grind (arith, before)) same
 
 -- a device of depth k, whose cost is written
 pub settles_written : (c : Configuration) (direction : Direction) (k i value : ℕ) (costs : List ℕ) → ((x : Lower) → depth c x ≤ most_depth) → length costs ≡ length c.devices → i < length costs
-    → depth c (mapped i) ≡ k → value ≡ capped direction (dearest c direction (cost_in costs) (lines_of c i)) → SettlesSoFar c direction k i costs → SettlesSoFar c direction k (i + 1) (slice_set costs i value)
+    → depth c (mapped i) ≡ k → value ≡ capped_cost direction (dearest c direction (cost_in costs) (lines_of c i)) → SettlesSoFar c direction k i costs → SettlesSoFar c direction k (i + 1) (slice_set costs i value)
 settles_written c direction k i value costs low count inside deep is so-far = record {
   below = record { each = λ d within less. get_or-set_other costs i d value 0 (λ here. apart d less here) ∙ so-far.below.each d (omega (arith, within, length-set {A = ℕ} costs i value)) less };
   done = λ d lower same. go d lower same (dec_le i d);
 }
   where
-    here-is : value ≡ capped direction (cost c direction (mapped i))
+    here-is : value ≡ capped_cost direction (cost c direction (mapped i))
     here-is = is ∙ dearest-cost c direction costs i low count (let P : ℕ → Type 0 = λ k. AreCosts c direction k costs in subst P (sym deep) so-far.below)
 
     apart : (d : ℕ) → depth c (mapped d) < k → d ≡ i → ⊥
     apart d less here = let same : depth c (mapped d) ≡ depth c (mapped i) = ap (λ d. depth c (mapped d)) here in omega (arith, less, same, deep)
 
-    go : (d : ℕ) → d < i + 1 → depth c (mapped d) ≡ k → Dec (i ≤ d) → slice_index (slice_set costs i value) d ≡ capped direction (cost c direction (mapped d))
+    go : (d : ℕ) → d < i + 1 → depth c (mapped d) ≡ k → Dec (i ≤ d) → slice_index (slice_set costs i value) d ≡ capped_cost direction (cost c direction (mapped d))
     go d lower same (yes past) =
         let here : i ≡ d = omega (arith, lower, past) in
-        ap (λ d. slice_index (slice_set costs i value) d) (sym here) ∙ get_or-set_same costs i value 0 inside ∙ here-is ∙ ap (λ d. capped direction (cost c direction (mapped d))) here
+        ap (λ d. slice_index (slice_set costs i value) d) (sym here) ∙ get_or-set_same costs i value 0 inside ∙ here-is ∙ ap (λ d. capped_cost direction (cost c direction (mapped d))) here
     go d lower same (no before) =
         let less : d < i = grind (arith, before) in
         get_or-set_other costs i d value 0 (λ here. omega (arith, here, less)) ∙ so-far.done d less same
 
 -- ---- rows by place
 
-pub rows-table : (rows : List (List (List Lower))) (devices : List DeviceRecord) (d : ℕ) (row : List (List Lower)) (x : DeviceRecord) → AreRows rows devices → d < length devices
+pub rows-table : (rows : List (List (List Lower))) (devices : List DeviceRecord) (d : ℕ) (row : List (List Lower)) (x : DeviceRecord) → AreLineRows rows devices → d < length devices
     → row ≡ get_or rows d row → x ≡ get_or devices d x → length row ≡ length x.table
 rows-table rows [] d row x are low read is = let no : ⊥ = omega (arith, low) in absurd no
 rows-table [] (y ∷ ys) d row x are low read is = let clash : [] ≡ map (λ (d : DeviceRecord). length d.table) (y ∷ ys) = are in cc
@@ -185,7 +185,7 @@ rows-table (r ∷ rs) (y ∷ ys) zero row x are low read is =
 rows-table (r ∷ rs) (y ∷ ys) (suc d) row x are low read is =
     let more : map length rs ≡ map (λ (d : DeviceRecord). length d.table) ys = cc in rows-table rs ys d row x more (omega (arith, low)) read is
 
-pub lowers-rows : (c : Configuration) (rows : List (List (List Lower))) (devices : List DeviceRecord) → map (map (map (λ (lower : Lower). Some lower))) rows ≡ map (meanings c) devices → AreRows rows devices
+pub lowers-rows : (c : Configuration) (rows : List (List (List Lower))) (devices : List DeviceRecord) → map (map (map (λ (lower : Lower). Some lower))) rows ≡ map (meanings c) devices → AreLineRows rows devices
 lowers-rows c [] [] are = refl
 lowers-rows c [] (y ∷ ys) are = let clash : [] ≡ map (meanings c) (y ∷ ys) = are in cc
 lowers-rows c (r ∷ rs) [] are = let clash : map (map (map (λ (lower : Lower). Some lower))) (r ∷ rs) ≡ [] = are in cc
@@ -203,9 +203,9 @@ unfolding descend
 costs_none c direction costs = record { each = λ d low less. absurd (omega (arith, less)) }
 
 pub costs_all : (c : Configuration) (direction : Direction) (k : ℕ) (costs : List ℕ) → ((x : Lower) → depth c x ≤ most_depth) → length costs ≡ length c.devices → most_depth < k → AreCosts c direction k costs
-    → costs ≡ each_mapped (λ x. capped direction (cost c direction x)) (length c.devices)
+    → costs ≡ each_mapped (λ x. capped_cost direction (cost c direction x)) (length c.devices)
 costs_all c direction k costs low count deep are =
-    fill_by_all (λ d. capped direction (cost c direction (mapped d))) costs (length c.devices) 0 count
+    fill_by_all (λ d. capped_cost direction (cost c direction (mapped d))) costs (length c.devices) 0 count
     (λ d inside. are.each d (omega (arith, inside, count)) (let shallow = low (mapped d) in omega (arith, shallow, deep)))
 
 -- ---- reads that are given

@@ -13,7 +13,7 @@ use Rattle.stack_rules.specs.Names.{mapped, lowers}
 use Rattle.stack_rules.specs.Cycles.{is_mapped, names_device}
 use Rattle.stack_rules.specs.Descend.{greatest, after_steps, descend, most_devices, depth, depth_rule}
 use Rattle.stack_costs.specs.DeviceSet.{contains, set_at, AreLowerSets}
-use Rattle.stack_costs.specs.Depths.{value_in, greatest_in, round, rounds}
+use Rattle.stack_costs.specs.Depths.{value_in, greatest_in, depth_round, depth_rounds}
 use Rattle.stack_rules.specs.Kept.{each_mapped}
 use Rattle.stack_rules.proofs.lemmas.LowerLemmas.{IsInside, lowers-inside}
 use Rattle.stack_costs.proofs.GreatestLemmas.{greatest-zero, map-low}
@@ -108,9 +108,9 @@ greatest_in-lowers set values f ys same is none inside =
 -- ---- rounds
 
 round-mapped : (c : Configuration) (sets : List DeviceSet) → AreLowerSets c sets → (f F : Lower → ℕ) → ((i : ℕ) → f (leaf i) ≡ 0) → ((d : ℕ) → F (mapped d) ≡ 1 + greatest (map f (lowers c d)))
-    → round sets (each_mapped f (length c.devices)) ≡ each_mapped F (length c.devices)
+    → depth_round sets (each_mapped f (length c.devices)) ≡ each_mapped F (length c.devices)
 round-mapped c sets are f F none is =
-    fill_by_all (λ d. F (mapped d)) (round sets (each_mapped f (length c.devices))) (length c.devices) 0
+    fill_by_all (λ d. F (mapped d)) (depth_round sets (each_mapped f (length c.devices))) (length c.devices) 0
     (length-map sets (λ set. 1 + greatest_in set (each_mapped f (length c.devices))) ∙ are.count)
     (λ d low.
     get_or-map (λ set. 1 + greatest_in set (each_mapped f (length c.devices))) sets d (record { bits = 0 }) 0 (omega (arith, low, are.count))
@@ -124,43 +124,43 @@ round-mapped c sets are f F none is =
     count : length (each_mapped f (length c.devices)) ≡ length c.devices
     count = length-map-range_with_len (λ d. f (mapped d)) 0 (length c.devices)
 
-rounds-mapped : (c : Configuration) (sets : List DeviceSet) → AreLowerSets c sets → (n : ℕ) → rounds sets n ≡ each_mapped (after_steps 0 (depth_rule c) (suc n)) (length c.devices)
-unfolding rounds
+rounds-mapped : (c : Configuration) (sets : List DeviceSet) → AreLowerSets c sets → (n : ℕ) → depth_rounds sets n ≡ each_mapped (after_steps 0 (depth_rule c) (suc n)) (length c.devices)
+unfolding depth_rounds
 rounds-mapped c sets are zero =
     fill_by_all (λ d. after_steps 0 (depth_rule c) 1 (mapped d)) (map (λ set. 1) sets) (length c.devices) 0 (length-map sets (λ set. 1) ∙ are.count)
     (λ d low. get_or-map (λ (set : DeviceSet). 1) sets d (record { bits = 0 }) 0 (omega (arith, low, are.count)) ∙ (let none = greatest-zero (lowers c d) in omega (arith, none)))
 rounds-mapped c sets are (suc n) =
-    ap (round sets) (rounds-mapped c sets are n)
+    ap (depth_round sets) (rounds-mapped c sets are n)
     ∙ round-mapped c sets are (after_steps 0 (depth_rule c) (suc n)) (after_steps 0 (depth_rule c) (suc (suc n))) (λ i. refl) (λ d. refl)
 
-pub rounds-depths : (c : Configuration) (sets : List DeviceSet) → AreLowerSets c sets → rounds sets most_devices ≡ each_mapped (depth c) (length c.devices)
+pub rounds-depths : (c : Configuration) (sets : List DeviceSet) → AreLowerSets c sets → depth_rounds sets most_devices ≡ each_mapped (depth c) (length c.devices)
 unfolding descend
 rounds-depths c sets are = rounds-mapped c sets are most_devices
 
 -- ---- round by round
 
-pub rounds-zero : (sets : List DeviceSet) → rounds sets 0 ≡ map (λ set. 1) sets
-unfolding rounds
+pub rounds-zero : (sets : List DeviceSet) → depth_rounds sets 0 ≡ map (λ set. 1) sets
+unfolding depth_rounds
 rounds-zero sets = refl
 
-pub rounds-suc : (sets : List DeviceSet) (n : ℕ) → rounds sets (n + 1) ≡ round sets (rounds sets n)
-unfolding rounds
+pub rounds-suc : (sets : List DeviceSet) (n : ℕ) → depth_rounds sets (n + 1) ≡ depth_round sets (depth_rounds sets n)
+unfolding depth_rounds
 rounds-suc sets n = let same : n + 1 ≡ suc n = omega arith in rw same refl
 
-pub length-rounds : (sets : List DeviceSet) (n : ℕ) → length (rounds sets n) ≡ length sets
-unfolding rounds
+pub length-rounds : (sets : List DeviceSet) (n : ℕ) → length (depth_rounds sets n) ≡ length sets
+unfolding depth_rounds
 length-rounds sets zero = length-map sets (λ set. 1)
-length-rounds sets (suc n) = length-map sets (λ set. 1 + greatest_in set (rounds sets n))
+length-rounds sets (suc n) = length-map sets (λ set. 1 + greatest_in set (depth_rounds sets n))
 
 -- a round that changes nothing is the last that does
-pub rounds-stay : (sets : List DeviceSet) (k : ℕ) → rounds sets (k + 1) ≡ rounds sets k → (m : ℕ) → k ≤ m → rounds sets m ≡ rounds sets k
-unfolding rounds
-rounds-stay sets k same zero low = let none : 0 ≡ k = omega (arith, low) in ap (rounds sets) none
+pub rounds-stay : (sets : List DeviceSet) (k : ℕ) → depth_rounds sets (k + 1) ≡ depth_rounds sets k → (m : ℕ) → k ≤ m → depth_rounds sets m ≡ depth_rounds sets k
+unfolding depth_rounds
+rounds-stay sets k same zero low = let none : 0 ≡ k = omega (arith, low) in ap (depth_rounds sets) none
 rounds-stay sets k same (suc m) low = go (dec_le k m) (rounds-stay sets k same m)
   where
-    go : Dec (k ≤ m) → (k ≤ m → rounds sets m ≡ rounds sets k) → rounds sets (suc m) ≡ rounds sets k
-    go (yes below) more = ap (round sets) (more below) ∙ sym (rounds-suc sets k) ∙ same
-    go (no above) more = let here : suc m ≡ k = grind (arith, low, above) in ap (rounds sets) here
+    go : Dec (k ≤ m) → (k ≤ m → depth_rounds sets m ≡ depth_rounds sets k) → depth_rounds sets (suc m) ≡ depth_rounds sets k
+    go (yes below) more = ap (depth_round sets) (more below) ∙ sym (rounds-suc sets k) ∙ same
+    go (no above) more = let here : suc m ≡ k = grind (arith, low, above) in ap (depth_rounds sets) here
 
 -- no value is above the number of rounds
 value_in-low : (set : DeviceSet) (b k : ℕ) (values : List ℕ) → ((k : ℕ) → slice_index values k ≤ b) → greatest (map (value_in set) (enumerate_from k values)) ≤ b
@@ -173,18 +173,18 @@ value_in-low set b k values low = values-below set b k values (λ e p place insi
 pub greatest_in-low : (set : DeviceSet) (b : ℕ) (values : List ℕ) → ((k : ℕ) → slice_index values k ≤ b) → greatest_in set values ≤ b
 greatest_in-low set b values low = value_in-low set b 0 values low
 
-pub rounds-low : (sets : List DeviceSet) (n k : ℕ) → slice_index (rounds sets n) k ≤ n + 1
-unfolding rounds
+pub rounds-low : (sets : List DeviceSet) (n k : ℕ) → slice_index (depth_rounds sets n) k ≤ n + 1
+unfolding depth_rounds
 rounds-low sets zero k = map-low (λ set. 1) (0 + 1) sets (λ set. omega arith) k
 rounds-low sets (suc n) k =
-    map-low (λ set. 1 + greatest_in set (rounds sets n)) (suc n + 1) sets
-    (λ set. let low = greatest_in-low set (n + 1) (rounds sets n) (rounds-low sets n) in omega (arith, low)) k
+    map-low (λ set. 1 + greatest_in set (depth_rounds sets n)) (suc n + 1) sets
+    (λ set. let low = greatest_in-low set (n + 1) (depth_rounds sets n) (rounds-low sets n) in omega (arith, low)) k
 
 pub round_more : (sets : List DeviceSet) (i value : ℕ) (values done : List ℕ) → i < length sets → value ≡ 1 + greatest_in (set_at sets i) values
-    → done ≡ round (take i sets) values → done ++ value ∷ [] ≡ round (take (i + 1) sets) values
+    → done ≡ depth_round (take i sets) values → done ++ value ∷ [] ≡ depth_round (take (i + 1) sets) values
 round_more sets i value values done low same before =
     ap (λ xs. xs ++ value ∷ []) before
-    ∙ ap (λ v. round (take i sets) values ++ v ∷ []) same
+    ∙ ap (λ v. depth_round (take i sets) values ++ v ∷ []) same
     ∙ sym (map_more (λ set. 1 + greatest_in set values) sets i (record { bits = 0 }) low)
 
 -- ---- the greatest of a set, value by value

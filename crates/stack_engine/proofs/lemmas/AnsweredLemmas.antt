@@ -4,7 +4,7 @@ use Rattle.std.proofs.lemmas.List.{append_cancel_left, get_or_default}
 use Rattle.std.proofs.lemmas.Bool.{cases_lt}
 use Rattle.hash_tree.specs.declared.difference.Place.{Place}
 use Rattle.hash_tree.specs.Chain.{ChainRecord, IsGood, formed}
-use Rattle.hash_tree.specs.Difference.{IsTopmostDifference, IsCollision, block_at as chain_block}
+use Rattle.hash_tree.specs.Difference.{IsTopmostDifference, IsCollision, chain_at as chain_block}
 use Rattle.tree_shape.specs.Digests.{digest}
 use Rattle.hash_tree.specs.Laws.{AreBlocks, ForgedBlocksCollide}
 use Rattle.hash_tree.specs.Tree.{root}
@@ -22,9 +22,9 @@ use Rattle.stack_meaning.specs.Beneath.{beneath, below, said_or}
 use Rattle.stack_meaning.specs.TargetMeaning.{Meant, handed, own, said_as}
 use Rattle.stack_meaning.specs.MeaningOf.{meaning_of}
 use Rattle.stack_meaning.specs.Blocks.{is_ignored}
-use Rattle.stack_meaning.specs.Found.{FoundRecord, Entry, entry_of, AreDistinct}
+use Rattle.stack_meaning.specs.Found.{FoundRecord, Entry, found_entry, AreDistinct}
 use Rattle.stack_engine.specs.Bytes.{IsGoodChain}
-use Rattle.stack_engine.specs.Laws.{digests_of, IsSha256Collision, LiesInVerity, ForgedAnswersCollide, ForgedBytesCollide, ForgedSectorsCollide}
+use Rattle.stack_engine.specs.Laws.{verity_digests, IsSha256Collision, LiesInVerity, ForgedAnswersCollide, ForgedBytesCollide, ForgedSectorsCollide}
 use Rattle.stack_meaning.specs.May.{MayBe}
 use Rattle.stack_meaning.specs.Meaning.{Said, none_said, said_at, said_by_name, line_said, content_part, IsShown}
 use Rattle.stack_meaning.specs.Outcomes.{part}
@@ -66,16 +66,16 @@ at-shows c lower s = said_at-each_in c (ShowsEntries c) (λ chains bytes e may t
 -- ---- chains of an answer
 
 -- no two chains have one entry
-same-chain : (chains : List FoundRecord) (x y : FoundRecord) → AreDistinct chains → Contains chains x → Contains chains y → entry_of x ≡ entry_of y → x ≡ y
+same-chain : (chains : List FoundRecord) (x y : FoundRecord) → AreDistinct chains → Contains chains x → Contains chains y → found_entry x ≡ found_entry y → x ≡ y
 same-chain chains x y distinct a b e = elim (cases_lt a.0 b.0) [
   | inl low ↦
       let left : get_or chains a.0 x ≡ x = a.2 in
       let right : get_or chains b.0 x ≡ y = get_or_default chains b.0 x y b.1 ∙ b.2 in
-      absurd (distinct a.0 b.0 x low b.1 (ap entry_of left ∙ e ∙ ap entry_of (sym right)))
+      absurd (distinct a.0 b.0 x low b.1 (ap found_entry left ∙ e ∙ ap found_entry (sym right)))
   | inr high ↦ elim (cases_lt b.0 a.0) [
     | inl low ↦
         let left : get_or chains b.0 x ≡ y = get_or_default chains b.0 x y b.1 ∙ b.2 in
-        absurd (distinct b.0 a.0 x low a.1 (ap entry_of left ∙ sym e ∙ ap entry_of (sym a.2)))
+        absurd (distinct b.0 a.0 x low a.1 (ap found_entry left ∙ sym e ∙ ap found_entry (sym a.2)))
     | inr other ↦
         let same : a.0 ≡ b.0 = omega (arith, high, other) in
         sym a.2 ∙ ap (λ (k : ℕ). get_or chains k x) same ∙ get_or_default chains b.0 x y b.1 ∙ b.2
@@ -87,8 +87,8 @@ pub answered-good : (c : Configuration) (lower : Lower) (first n : ℕ) (bytes :
     → (x : FoundRecord) → Contains chains x → (v : Verity) × HasVerity c x.device x.line v × IsGood (tree_of v) v.salt v.root x.chain
 answered-good c lower first n bytes chains may x there =
     let some = may.read.used there.0 x there.1 in
-    let on_way : Contains (said_at c lower (first + some.0)).entries (entry_of x) = subst (λ (y : FoundRecord). Contains (said_at c lower (first + some.0)).entries (entry_of y)) there.2 some.2 in
-    let shown = at-shows c lower (first + some.0) chains (part bytes some.0) (entry_of x) (may.read.run.sectors some.0 some.1) on_way in
+    let on_way : Contains (said_at c lower (first + some.0)).entries (found_entry x) = subst (λ (y : FoundRecord). Contains (said_at c lower (first + some.0)).entries (found_entry y)) there.2 some.2 in
+    let shown = at-shows c lower (first + some.0) chains (part bytes some.0) (found_entry x) (may.read.run.sectors some.0 some.1) on_way in
     let same : shown.0 ≡ x = same-chain chains shown.0 x may.distinct shown.3.given there shown.3.at in
     (shown.1, shown.2, subst (λ (y : FoundRecord). IsGood (tree_of shown.1) shown.1.salt shown.1.root y.chain) same shown.3.good)
 
@@ -111,7 +111,7 @@ Collides v blocks chain = (place : Place) × (IsTopmostDifference (formed (tree_
     × IsSha256Collision (v.salt ++ chain_block (formed (tree_of v) v.salt blocks chain.index) place) (v.salt ++ chain_block chain place))
 
 good-collides : ForgedBlocksCollide → (c : Configuration) → IsLoaded c → (d l : ℕ) (chain : ChainRecord) (u : Verity) → HasVerity c d l u → IsGood (tree_of u) u.salt u.root chain → (v : Verity) → HasVerity c d l v
-    → (blocks : List (List ℕ)) → AreBlocks v.blocks v.data_block blocks → v.root ≡ root v.hash_block v.salt (digests_of v blocks) → chain.content ≢ get_or blocks chain.index [] → Collides v blocks chain
+    → (blocks : List (List ℕ)) → AreBlocks v.blocks v.data_block blocks → v.root ≡ root v.hash_block v.salt (verity_digests v blocks) → chain.content ≢ get_or blocks chain.index [] → Collides v blocks chain
 good-collides law c loaded d l chain u of whole v has blocks even is differs =
     let good : IsGood (tree_of v) v.salt v.root chain = subst (λ (w : Verity). IsGood (tree_of w) w.salt w.root chain) (one-line c d l u v of has) whole in
     let shape = (line-facts c d l v loaded has).2.shape in

@@ -14,8 +14,8 @@ use Rattle.stack_rules.specs.Trees.{tree_of, block_sectors}
 use Rattle.stack_meaning.specs.declared.fault.IoFault.{IoFault}
 use Rattle.stack_meaning.specs.Sectors.{SomeOf}
 use Rattle.stack_meaning.specs.Outcomes.{Outcome, Images, then_outcome, part}
-use Rattle.stack_meaning.specs.Found.{FoundRecord, Entry, entry_of, Grown}
-use Rattle.stack_meaning.specs.Blocks.{block_at, BlockMeets}
+use Rattle.stack_meaning.specs.Found.{FoundRecord, Entry, found_entry, HasGrown}
+use Rattle.stack_meaning.specs.Blocks.{verified_block, BlockMeets}
 use Rattle.stack_meaning.specs.Meaning.{content_part, verity_said}
 use Rattle.stack_meaning.specs.Kept.{IsKept, AllKept}
 use Rattle.stack_meaning.specs.Leaves.{steady_images, AreSteady, AreRead}
@@ -63,25 +63,25 @@ length-content v chain good = hangs-content (tree_of v) v.salt chain.index chain
 pub AllKept-push : (c : Configuration) (leaves : List Device) (found : List FoundRecord) (x : FoundRecord) → AllKept c leaves found → IsKept c leaves x → AllKept c leaves (found ++ (x ∷ []))
 AllKept-push c leaves found x kept one = All-append (IsKept c leaves) found (x ∷ []) kept (All-cons (IsKept c leaves) x [] one (All-nil (IsKept c leaves)))
 
-pub Grown-push : (entries : ℕ → List Entry) (first n : ℕ) (found : List FoundRecord) (x : FoundRecord) → 0 < n → Contains (entries first) (entry_of x)
-    → ((k : ℕ) → k < length found → (y : FoundRecord) → entry_of (get_or found k y) ≡ entry_of x → ⊥) → Grown entries first n found (found ++ (x ∷ []))
+pub Grown-push : (entries : ℕ → List Entry) (first n : ℕ) (found : List FoundRecord) (x : FoundRecord) → 0 < n → Contains (entries first) (found_entry x)
+    → ((k : ℕ) → k < length found → (y : FoundRecord) → found_entry (get_or found k y) ≡ found_entry x → ⊥) → HasGrown entries first n found (found ++ (x ∷ []))
 Grown-push entries first n found x some is none = record {
   added = x ∷ [];
   is = refl;
   used =
       let at : first + 0 ≡ first = omega arith in
-      let Used : FoundRecord → Type 0 = λ y. SomeOf (λ s. Contains (entries s) (entry_of y)) first n in
-      All-cons Used x [] (0, some, subst (λ (s : ℕ). Contains (entries s) (entry_of x)) (sym at) is) (All-nil Used);
+      let Used : FoundRecord → Type 0 = λ y. SomeOf (λ s. Contains (entries s) (found_entry y)) first n in
+      All-cons Used x [] (0, some, subst (λ (s : ℕ). Contains (entries s) (found_entry x)) (sym at) is) (All-nil Used);
   distinct = λ distinct a b y lower below same.
       let len : length (found ++ (x ∷ [])) ≡ length found + 1 = length-append found (x ∷ []) in
       let low : a < length found = omega (arith, len, lower, below) in
       let left : get_or (found ++ (x ∷ [])) a y ≡ get_or found a y = get_or_append_left found (x ∷ []) y a low in
       elim (cases_lt b (length found)) [
-        | inl within ↦ distinct a b y lower within (ap entry_of (sym left) ∙ same ∙ ap entry_of (get_or_append_left found (x ∷ []) y b within))
+        | inl within ↦ distinct a b y lower within (ap found_entry (sym left) ∙ same ∙ ap found_entry (get_or_append_left found (x ∷ []) y b within))
         | inr past ↦
             let last : b - length found ≡ 0 = omega (arith, len, below, past) in
             let right : get_or (found ++ (x ∷ [])) b y ≡ x = get_or-append_right found (x ∷ []) (length found) b y refl past ∙ ap (λ (k : ℕ). get_or (x ∷ []) k y) last in
-            none a low y (ap entry_of (sym left) ∙ same ∙ ap entry_of right)
+            none a low y (ap found_entry (sym left) ∙ same ∙ ap found_entry right)
       ];
 }
 
@@ -104,13 +104,13 @@ module _ (b : DataBlock) (at : ℕ × ℕ) (w n cost : ℕ) (index : b.index ≡
   means_is : (images : Images) (j : ℕ) → j < n
       → ((block_place b at w cost).said j).means images ≡ then_outcome ((chain_expected b).means images) (λ block. Ok (content_part b.verity (w + j) block))
   means_is images j h =
-      ap (λ (k : ℕ). then_outcome (block_at b.verity (λ s. (b.on_data.said s).means images) (λ s. (b.on_hash.said s).means images) k) (λ block. Ok (content_part b.verity (w + j) block)))
+      ap (λ (k : ℕ). then_outcome (verified_block b.verity (λ s. (b.on_data.said s).means images) (λ s. (b.on_hash.said s).means images) k) (λ block. Ok (content_part b.verity (w + j) block)))
       (index_is j h)
 
   -- the sectors of a good chain that is there
   pub chain_fills : {old new : List Device} (chains : List FoundRecord) (x : FoundRecord) {bytes : List ℕ} → AreRead old (n * cost) new
       → (AreSteady (chain_expected b).leaves old → (chain_expected b).means (steady_images old) ≡ Ok x.chain.content)
-      → IsGood (tree_of b.verity) b.verity.salt b.verity.root x.chain → entry_of x ≡ entry_in b at → Contains chains x
+      → IsGood (tree_of b.verity) b.verity.salt b.verity.root x.chain → found_entry x ≡ entry_in b at → Contains chains x
       → bytes ≡ take (512 * n) (drop (512 * (w % block_sectors b.verity)) x.chain.content)
       → Gets (run_expected (block_place b at w cost) chains 0 n) old new (Ok bytes)
   chain_fills {old = old} chains x {bytes = bytes} moved exact good here given is =

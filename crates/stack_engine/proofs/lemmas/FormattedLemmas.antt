@@ -22,7 +22,7 @@ use Rattle.dm_table.specs.declared.table.Target.{Target}
 use Rattle.dm_table.specs.declared.table.Target.TheVariants.{Verity as verity_target}
 use Rattle.stack_rules.specs.Names.{mapped}
 use Rattle.stack_rules.specs.Lines.{IsLine}
-use Rattle.stack_rules.specs.Trees.{tree_of, data_sectors, block_sectors, zero_block}
+use Rattle.stack_rules.specs.Trees.{tree_of, line_data_sectors, block_sectors, zero_block}
 use Rattle.stack_config.proofs.lemmas.VerityLineLemmas.{verity-line}
 use Rattle.stack_engine.specs.Laws.{named_sector, formatted_sector, FormattedDataIsRead}
 use Rattle.stack_meaning.specs.Meaning.{Said, line_said, said_by_name, sector}
@@ -30,7 +30,7 @@ use Rattle.stack_meaning.proofs.lemmas.BlockSizeLemmas.{whole-sectors}
 use Rattle.stack_meaning.proofs.lemmas.EachLineLemmas.{line_at-is, line_at-end}
 use Rattle.stack_meaning.proofs.lemmas.LineLemmas.{line-start}
 use Rattle.stack_meaning.proofs.lemmas.SectorLemmas.{said_at-line}
-use Rattle.stack_meaning.specs.Blocks.{hash_sectors, hash_start, next_digest, checked, is_ignored, data_block_at, block_below, block_at}
+use Rattle.stack_meaning.specs.Blocks.{hash_sectors, hash_start, next_digest, checked, is_ignored, data_block_at, block_below, verified_block}
 use Rattle.stack_meaning.specs.Outcomes.{Outcome, span, then_outcome, part, zero_sector}
 use Rattle.stack_lines.proofs.lemmas.SizeLemmas.{named-size}
 use Rattle.stack_meaning.proofs.lemmas.SizedLemmas.{AreSized, span-part}
@@ -138,7 +138,7 @@ same-element xs ys i j low same = sym (get_or_from_slice_get ys j (get_or xs i [
 module _ (v : Verity) (on_data on_hash : ℕ → Outcome) (data_sized : AreSized on_data) (hash_sized : AreSized on_hash) (blocks : List (List ℕ))
     (shape : IsShape (tree_of v)) (data_whole : 512 * block_sectors v ≡ v.data_block) (hash_whole : 512 * hash_sectors v ≡ v.hash_block)
     (even : AreBlocks v.blocks v.data_block blocks)
-    (data_read : span on_data 0 (data_sectors v) ≡ Ok (concat blocks))
+    (data_read : span on_data 0 (line_data_sectors v) ≡ Ok (concat blocks))
     (hash_read : span on_hash (hash_sectors v * v.start) (hash_sectors v * area_blocks (tree_of v)) ≡ Ok (concat (area v.hash_block v.salt (map (digest v.salt) blocks)))) where
   stands : StandsInShape (tree_of v) v.salt (map (digest v.salt) blocks)
   stands = stands-in_shape (tree_of v) shape v.salt (map (digest v.salt) blocks) (record {
@@ -150,7 +150,7 @@ module _ (v : Verity) (on_data on_hash : ℕ → Outcome) (data_sized : AreSized
   reads-data : (i : ℕ) → i < v.blocks → span on_data (block_sectors v * i) (block_sectors v) ≡ Ok (get_or blocks i [])
   reads-data i low =
       let none : block_sectors v * 0 ≡ 0 = omega arith in
-      let all : block_sectors v * v.blocks ≡ data_sectors v = mul_comm (block_sectors v) v.blocks in
+      let all : block_sectors v * v.blocks ≡ line_data_sectors v = mul_comm (block_sectors v) v.blocks in
       let at : 0 + i ≡ i = omega arith in
       ap (λ (k : ℕ). span on_data (block_sectors v * k) (block_sectors v)) (sym at)
       ∙ span-block on_data data_sized (block_sectors v) v.data_block 0 v.blocks blocks data_whole even.sized even.count
@@ -188,7 +188,7 @@ module _ (v : Verity) (on_data on_hash : ℕ → Outcome) (data_sized : AreSized
       (subst (λ (e : List ℕ). HangsFrom (tree_of v) v.salt i e (path_to (tree_of v) v.salt ds l i) (get_or blocks i [])) at hangs.2)
 
   -- each data block is the data's, or zeros
-  pub block-formatted : FormedChainsAreGood → v.root ≡ root v.hash_block v.salt (map (digest v.salt) blocks) → (i : ℕ) → i < v.blocks → block_at v on_data on_hash i ≡ Ok (shown_block v (get_or blocks i []))
+  pub block-formatted : FormedChainsAreGood → v.root ≡ root v.hash_block v.salt (map (digest v.salt) blocks) → (i : ℕ) → i < v.blocks → verified_block v on_data on_hash i ≡ Ok (shown_block v (get_or blocks i []))
   unfolding formed
   block-formatted law is i inside =
       let good = law (tree_of v) shape v.salt blocks even i inside in

@@ -12,7 +12,7 @@ use Rattle.stack_meaning.specs.May.{MayFault}
 use Rattle.stack_meaning.specs.Changes.{reached, AreWritten, NoneRead, AllWhole}
 use Rattle.stack_lines.specs.Forgetting.{Forgets}
 use Rattle.stack_lines.specs.Touches.{failures_behind, leaves_of}
-use Rattle.stack_lines.specs.Writing.{sectors_in, SomeEncrypt, MayEnd, destination_of, StopsAt, StopsAtFault, StopsBehindPut, with_some, Writes}
+use Rattle.stack_lines.specs.Writing.{sectors_in, SomeEncrypt, MayEnd, destination_of, StopsAt, StopsAtFault, StopsBehindPut, with_some, WritesSectors}
 use Rattle.stack_engine.specs.Stacks.{StackRecord, IsSound}
 use Rattle.stack_meaning.specs.declared.fault.Fault.{Fault}
 use Rattle.stack_meaning.specs.Outcomes.{error_target, LeafSector}
@@ -28,7 +28,7 @@ use Rattle.stack_lines.proofs.lemmas.WriteRunLemmas.{length-sectors_in}
 
 -- a write of bytes to a mapped device
 abbrev pub WritesTo : Configuration → ℕ → ℕ → List ℕ → StackRecord → StackRecord → Result Unit IoFault → Type 0
-WritesTo c d first bytes w w' result = Writes (destination_of c (mapped d)) first (sectors_in bytes) w.leaves w'.leaves result
+WritesTo c d first bytes w w' result = WritesSectors (destination_of c (mapped d)) first (sectors_in bytes) w.leaves w'.leaves result
 
 -- as the stack's own record
 pub each-write : {w w' : StackRecord} (d first : ℕ) (bytes : List ℕ) (result : Result Unit IoFault) → ArePiece bytes → w'.config ≡ w.config → w'.capacity ≡ w.capacity → (AllWhole w.leaves → AllWhole w'.leaves)

@@ -14,7 +14,7 @@ use Rattle.dm_table.specs.declared.table.Target.{Target}
 use Rattle.dm_table.specs.declared.crypt.Crypt.{Crypt}
 use Rattle.dm_table.specs.declared.table.Target.TheVariants.{Crypt as crypt_target, Verity as verity_target}
 use Rattle.stack_meaning.specs.Meaning.{Said, line_said, said_at, said_by_name}
-use Rattle.stack_lines.specs.Sources.{HasTarget, AreUnits, AreBlocks, LieInUnit, LieInBlock, IsServed, said_of_line, part_said, source_said}
+use Rattle.stack_lines.specs.Sources.{HasTarget, AreUnits, AreWholeBlocks, LieInUnit, LieInBlock, IsServed, said_of_line, part_said, source_said}
 use Rattle.stack_meaning.specs.Sectors.{SomeOf}
 use Rattle.stack_lines.specs.Writing.{SomeEncrypt}
 use Rattle.stack_meaning.proofs.lemmas.SectorLemmas.{said_at-leaf}
@@ -32,7 +32,7 @@ block-encrypts c b n lies some =
     ∙ ap (λ (t : Target). line_said (said_by_name c) b.device.0 b.line t (b.first + (0 + some.0))) line.has in
     subst (λ (x : Said). x.encrypts) same some.2
 
-pub blocks-encrypt : (c : Configuration) (b : BlockPart) (n : ℕ) → AreBlocks c b.device.0 b.line b.first n → SomeEncrypt (source_said c (Blocks b)) 0 n → ⊥
+pub blocks-encrypt : (c : Configuration) (b : BlockPart) (n : ℕ) → AreWholeBlocks c b.device.0 b.line b.first n → SomeEncrypt (source_said c (Blocks b)) 0 n → ⊥
 blocks-encrypt c b n blocks some =
     let line = blocks.has in
     let same : part_said c b (0 + some.0) ≡ line_said (said_by_name c) b.device.0 b.line (verity_target blocks.verity) (b.first + (0 + some.0)) =

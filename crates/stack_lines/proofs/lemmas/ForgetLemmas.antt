@@ -23,7 +23,7 @@ use Rattle.stack_meaning.specs.LeavesBeneath.{leaves_beneath}
 use Rattle.stack_meaning.specs.Leaves.{steady_image, steady_images, AreSteady, fixed_part}
 use Rattle.stack_meaning.specs.Meaning.{Said, none_said, said_at}
 use Rattle.stack_meaning.specs.Outcomes.{Images, LeafSector, span}
-use Rattle.stack_lines.specs.Standing.{contains, name_stands_on, stands_on, key_stands_on, cache_without_leaf, CoversBlocks}
+use Rattle.stack_lines.specs.Standing.{has_leaf, name_stands_on, stands_on, key_stands_on, cache_without_leaf, CoversBlocks}
 use Rattle.stack_lines.proofs.lemmas.StandingLemmas.{and-true, verity-stands}
 use Rattle.stack_meaning.proofs.lemmas.LeafListLemmas.{AreSteady-kept}
 use Rattle.stack_meaning.proofs.lemmas.LeavesBeneathLemmas.{spans-alike}
@@ -61,22 +61,22 @@ module _ (c : Configuration) (i : ℕ) where
   clash false h e = absurd cc
 
   -- no block needs the leaf any more
-  pub covers-without : (set less : LeafSet) (cache : CacheRecord) → ((k : ℕ) → k < most_leaves → contains less k ≡ (contains set k && not (k == i))) → CoversBlocks c set cache.blocks
+  pub covers-without : (set less : LeafSet) (cache : CacheRecord) → ((k : ℕ) → k < most_leaves → has_leaf less k ≡ (has_leaf set k && not (k == i))) → CoversBlocks c set cache.blocks
       → CoversBlocks c less (cache_without_leaf c i cache).blocks
   covers-without set less cache is all =
-      filter-both (λ b. not (key_stands_on c i b.key)) (λ b. (k : ℕ) → k < most_leaves → key_stands_on c k b.key ≡ true → contains set k ≡ true) (λ b. (k : ℕ) → k < most_leaves → key_stands_on c k b.key ≡ true → contains less k ≡ true)
+      filter-both (λ b. not (key_stands_on c i b.key)) (λ b. (k : ℕ) → k < most_leaves → key_stands_on c k b.key ≡ true → has_leaf set k ≡ true) (λ b. (k : ℕ) → k < most_leaves → key_stands_on c k b.key ≡ true → has_leaf less k ≡ true)
       (λ b covers off k small stands. is k small ∙ kept b off k (covers k small stands) stands (k == i) refl) cache.blocks all
     where
-      kept : (b : CachedBlock) → not (key_stands_on c i b.key) ≡ true → (k : ℕ) → contains set k ≡ true → key_stands_on c k b.key ≡ true → (e : Bool) → (k == i) ≡ e → (contains set k && not e) ≡ true
+      kept : (b : CachedBlock) → not (key_stands_on c i b.key) ≡ true → (k : ℕ) → has_leaf set k ≡ true → key_stands_on c k b.key ≡ true → (e : Bool) → (k == i) ≡ e → (has_leaf set k && not e) ≡ true
       kept b off k has stands true e = clash (key_stands_on c k b.key) stands (ap (λ (x : ℕ). key_stands_on c x b.key) (same-of k i e) ∙ not-true (key_stands_on c i b.key) off)
-      kept b off k has stands false e = and-true (contains set k) ∙ has
+      kept b off k has stands false e = and-true (has_leaf set k) ∙ has
 
   -- where the leaf isn't noted, no block is under such a key
-  pub covers-none : (set : LeafSet) (cache : CacheRecord) → i < most_leaves → contains set i ≡ false → CoversBlocks c set cache.blocks → cache_without_leaf c i cache ≡ cache
+  pub covers-none : (set : LeafSet) (cache : CacheRecord) → i < most_leaves → has_leaf set i ≡ false → CoversBlocks c set cache.blocks → cache_without_leaf c i cache ≡ cache
   covers-none set cache small off all = without-none (key_stands_on c i) cache (λ k d h. go (key_stands_on c i (get_or cache.blocks k d).key) refl (all k d h i small))
     where
-      go : (b : Bool) {s : Bool} → s ≡ b → (s ≡ true → contains set i ≡ true) → s ≡ false
-      go true e covers = clash (contains set i) (covers e) off
+      go : (b : Bool) {s : Bool} → s ≡ b → (s ≡ true → has_leaf set i ≡ true) → s ≡ false
+      go true e covers = clash (has_leaf set i) (covers e) off
       go false e covers = e
 
 -- ---- writes to a leaf

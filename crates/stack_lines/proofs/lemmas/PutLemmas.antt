@@ -20,7 +20,7 @@ use Rattle.stack_meaning.specs.Outcomes.{Images}
 use Rattle.stack_meaning.specs.Beneath.{beneath, below, said_or, HandsOn}
 use Rattle.stack_meaning.specs.TargetMeaning.{Meant, handed, own, put_as, IsHanded}
 use Rattle.stack_meaning.specs.MeaningOf.{meaning_of}
-use Rattle.stack_meaning.specs.Puts.{Put, done, stopped, then_put, Putting, none_put, Run, run_before, runs_from, put_runs, together, in_one_run, leaf_put, line_put, put_rule, put_on}
+use Rattle.stack_meaning.specs.Puts.{Put, done, stopped, then_put, Putting, none_put, Run, sector_before, runs_from, put_runs, together, in_one_run, leaf_put, line_put, put_rule, put_on}
 use Rattle.stack_lines.specs.Writing.{put_by_name}
 use Rattle.stack_meaning.specs.Meaning.{none_said, said_by_name}
 use Rattle.stack_meaning.proofs.lemmas.LineLemmas.{found-more}
@@ -78,16 +78,16 @@ put_each-append at s (x ∷ xs) ys images =
 abbrev pub Apart : (ℕ → Bool) → ℕ → List (List ℕ) → List (List ℕ) → Type 0
 Apart tog s xs ys = (xs ≡ []) ⊎ ((ys ≡ []) ⊎ (tog (s + length xs - 1) ≡ false))
 
-one_run : (s : ℕ) (bytes : List ℕ) (b : Bool) → run_before s bytes b [] ≡ (s, bytes ∷ []) ∷ []
+one_run : (s : ℕ) (bytes : List ℕ) (b : Bool) → sector_before s bytes b [] ≡ (s, bytes ∷ []) ∷ []
 one_run s bytes true = refl
 one_run s bytes false = refl
 
 -- a sector before some runs, and others behind these
-before-append : (s : ℕ) (bytes : List ℕ) (b : Bool) (run : Run) (runs more : List Run) → run_before s bytes b (run ∷ (runs ++ more)) ≡ run_before s bytes b (run ∷ runs) ++ more
+before-append : (s : ℕ) (bytes : List ℕ) (b : Bool) (run : Run) (runs more : List Run) → sector_before s bytes b (run ∷ (runs ++ more)) ≡ sector_before s bytes b (run ∷ runs) ++ more
 before-append s bytes true run runs more = refl
 before-append s bytes false run runs more = refl
 
-before-some : (s : ℕ) (bytes : List ℕ) (b : Bool) (runs : List Run) → (run : Run) × (rest : List Run) × (run_before s bytes b runs ≡ run ∷ rest)
+before-some : (s : ℕ) (bytes : List ℕ) (b : Bool) (runs : List Run) → (run : Run) × (rest : List Run) × (sector_before s bytes b runs ≡ run ∷ rest)
 before-some s bytes true [] = ((s, bytes ∷ []), [], refl)
 before-some s bytes true (run ∷ more) = ((s, bytes ∷ run.1), more, refl)
 before-some s bytes false runs = ((s, bytes ∷ []), runs, refl)
@@ -98,7 +98,7 @@ runs-cut tog s x [] ys cut =
     let at : s + 0 ≡ s = omega arith in
     let next : suc s ≡ suc s + 0 = omega arith in
     let here : tog s ≡ false = ap tog (sym at) ∙ cut in
-    ap (λ (b : Bool). run_before s x b (runs_from tog (suc s) ys)) here
+    ap (λ (b : Bool). sector_before s x b (runs_from tog (suc s) ys)) here
     ∙ ap (λ (k : ℕ). (s, x ∷ []) ∷ runs_from tog k ys) next
     ∙ ap (λ (runs : List Run). runs ++ runs_from tog (suc s + 0) ys) (sym (one_run s x (tog s)))
 runs-cut tog s x (y ∷ xs) ys cut =
@@ -106,10 +106,10 @@ runs-cut tog s x (y ∷ xs) ys cut =
     let next : suc (suc s) + length xs ≡ suc s + suc (length xs) = omega arith in
     let rest = runs-cut tog (suc s) y xs ys (ap tog (sym at) ∙ cut) in
     let some = before-some (suc s) y (tog (suc s)) (runs_from tog (suc (suc s)) xs) in
-    ap (run_before s x (tog s)) rest
-    ∙ ap (λ (runs : List Run). run_before s x (tog s) (runs ++ runs_from tog (suc (suc s) + length xs) ys)) some.2
+    ap (sector_before s x (tog s)) rest
+    ∙ ap (λ (runs : List Run). sector_before s x (tog s) (runs ++ runs_from tog (suc (suc s) + length xs) ys)) some.2
     ∙ before-append s x (tog s) some.0 some.1 (runs_from tog (suc (suc s) + length xs) ys)
-    ∙ ap (λ (runs : List Run). run_before s x (tog s) runs ++ runs_from tog (suc (suc s) + length xs) ys) (sym some.2)
+    ∙ ap (λ (runs : List Run). sector_before s x (tog s) runs ++ runs_from tog (suc (suc s) + length xs) ys) (sym some.2)
     ∙ ap (λ (k : ℕ). runs_from tog s (x ∷ y ∷ xs) ++ runs_from tog k ys) next
 
 put_runs-append : (at : ℕ → Putting) (xs ys : List Run) (images : Images) → put_runs at (xs ++ ys) images ≡ then_put (put_runs at xs images) (put_runs at ys)
@@ -144,7 +144,7 @@ runs-one tog s x [] all = one_run s x (tog s)
 runs-one tog s x (y ∷ xs) all =
     let at : s + 0 ≡ s = omega arith in
     let rest = runs-one tog (suc s) y xs (λ j h. let e : suc s + j ≡ s + suc j = omega arith in ap tog e ∙ all (suc j) (omega (arith, h))) in
-    ap (run_before s x (tog s)) rest ∙ ap (λ (b : Bool). run_before s x b ((suc s, y ∷ xs) ∷ [])) (ap tog (sym at) ∙ all 0 (omega arith))
+    ap (sector_before s x (tog s)) rest ∙ ap (λ (b : Bool). sector_before s x b ((suc s, y ∷ xs) ∷ [])) (ap tog (sym at) ∙ all 0 (omega arith))
 
 pub put-together : (at : ℕ → Putting) (tog : ℕ → Bool) (s : ℕ) (sectors : List (List ℕ)) (images : Images) → 0 < length sectors → ((j : ℕ) → suc j < length sectors → tog (s + j) ≡ true)
     → put_runs at (runs_from tog s sectors) images ≡ at s sectors images
@@ -159,7 +159,7 @@ AreShifted s t n (r ∷ more) [] = ⊥
 AreShifted s t n (x ∷ xs) (y ∷ ys) = ((j : ℕ) × (j < n) × (x ≡ (s + j, y.1)) × (y.0 ≡ t + j)) × AreShifted s t n xs ys
 
 before-shifted : (s t n k : ℕ) (x : List ℕ) (b b' : Bool) (xs ys : List Run) → k < n → ((r : Run) (rest : List Run) → xs ≡ r ∷ rest → b ≡ b') → AreShifted s t n xs ys
-    → AreShifted s t n (run_before (s + k) x b xs) (run_before (t + k) x b' ys)
+    → AreShifted s t n (sector_before (s + k) x b xs) (sector_before (t + k) x b' ys)
 before-shifted s t n k x true true [] [] low same all = ((k, low, refl, refl), tt)
 before-shifted s t n k x true false [] [] low same all = ((k, low, refl, refl), tt)
 before-shifted s t n k x false true [] [] low same all = ((k, low, refl, refl), tt)

@@ -11,14 +11,14 @@ use Rattle.stack_rules.specs.declared.lower.Lower.{Lower}
 use Rattle.stack_rules.specs.Records.{Configuration}
 use Rattle.stack_rules.specs.Names.{named, lines_of, size}
 use Rattle.stack_rules.specs.Rules.{IsLoaded}
-use Rattle.stack_rules.specs.Trees.{data_sectors, block_sectors}
+use Rattle.stack_rules.specs.Trees.{line_data_sectors, block_sectors}
 use Rattle.stack_meaning.specs.Meaning.{said_at, said_by_name}
 use Rattle.stack_lines.specs.declared.source.BlockPart.{BlockPart}
 use Rattle.stack_lines.specs.declared.source.Source.TheVariants.{Block, Blocks}
 use Rattle.stack_lines.specs.AtOnce.{MeetNone}
 use Rattle.stack_meaning.specs.Puts.{together, in_one_run}
 use Rattle.stack_meaning.proofs.lemmas.LineLemmas.{found-more}
-use Rattle.stack_lines.specs.Sources.{AreBlocks, EndsRun, IsServed}
+use Rattle.stack_lines.specs.Sources.{AreWholeBlocks, EndsRun, IsServed}
 use Rattle.stack_lines.specs.Walks.{HasVerity}
 use Rattle.stack_meaning.specs.Places.{Place}
 use Rattle.stack_lines.proofs.lemmas.PriceLemmas.{within-step}
@@ -34,7 +34,7 @@ whole-some u n whole some = go (n / u) refl
     go (suc q) e = let more : n / u * u ≡ suc q * u = ap (λ (k : ℕ). k * u) e in omega (arith, div-add-mod' n u, whole, more)
 
 -- where their line is known
-module _ (c : Configuration) (d l w n : ℕ) (v : Verity) (loaded : IsLoaded c) (has : HasVerity c d l v) (blocks : AreBlocks c d l w n) where
+module _ (c : Configuration) (d l w n : ℕ) (v : Verity) (loaded : IsLoaded c) (has : HasVerity c d l v) (blocks : AreWholeBlocks c d l w n) where
   same : blocks.verity ≡ v
   same = same-verity c d l (w + n) 0 blocks.verity v blocks.has has
 
@@ -44,12 +44,12 @@ module _ (c : Configuration) (d l w n : ℕ) (v : Verity) (loaded : IsLoaded c) 
   pub blocks-whole : n % block_sectors v ≡ 0
   blocks-whole = subst (λ (u : Verity). n % block_sectors u ≡ 0) same blocks.whole
 
-  pub blocks-inside : w + n ≤ data_sectors v
+  pub blocks-inside : w + n ≤ line_data_sectors v
   blocks-inside =
       let both : Some blocks.has.line ≡ Some has.line = sym blocks.has.is ∙ has.is in
       let lines : blocks.has.line ≡ has.line = cc in
       let long : blocks.has.line.length ≡ has.line.length = ap (λ (x : Line). x.length) lines in
-      let covers : has.line.length ≤ data_sectors v = (line-facts c d l v loaded has).2.covers in
+      let covers : has.line.length ≤ line_data_sectors v = (line-facts c d l v loaded has).2.covers in
       omega (arith, blocks.has.fits, long, covers)
 
   pub blocks-below : (lower : Lower) → named c v.data ≡ Some lower → w + n ≤ size c lower
@@ -57,7 +57,7 @@ module _ (c : Configuration) (d l w n : ℕ) (v : Verity) (loaded : IsLoaded c) 
       let all = line-facts c d l v loaded has in
       let both : Some all.0 ≡ Some lower = sym all.2.below_named ∙ is in
       let lowers : all.0 ≡ lower = cc in
-      let fits : data_sectors v ≤ size c lower = subst (λ (x : Lower). data_sectors v ≤ size c x) lowers all.2.below_inside in
+      let fits : line_data_sectors v ≤ size c lower = subst (λ (x : Lower). line_data_sectors v ≤ size c x) lowers all.2.below_inside in
       omega (arith, blocks-inside, fits)
 
 -- the sectors of the name are clear where those of its device are

@@ -27,8 +27,8 @@ use Rattle.stack_meaning.specs.Found.{FoundRecord}
 use Rattle.stack_meaning.specs.Kept.{AllKept}
 use Rattle.stack_meaning.specs.Meaning.{Said, none_said, line_said, said_at, said_by_name}
 use Rattle.stack_meaning.specs.Leaves.{steady_images}
-use Rattle.stack_meaning.specs.Places.{place_of, run_expected, Read}
-use Rattle.stack_lines.specs.Sources.{LieInBlock, AreBlocks, AreUnits, LieInUnit, BeginsAt, ComeFrom, IsServed, said_of_line, part_said, source_said, source_cost, source_place, source_depth, SourceHolds, ReadsSource}
+use Rattle.stack_meaning.specs.Places.{place_of, run_expected, LeafRead}
+use Rattle.stack_lines.specs.Sources.{LieInBlock, AreWholeBlocks, AreUnits, LieInUnit, BeginsAt, ComeFrom, IsServed, said_of_line, part_said, source_said, source_cost, source_place, source_depth, SourceHolds, ReadsSource}
 use Rattle.stack_meaning.specs.Reading.{Gets, Reads, IsPlain}
 use Rattle.stack_meaning.proofs.lemmas.SectorLemmas.{said_at-line, line_said-beneath}
 use Rattle.stack_meaning.proofs.lemmas.CostLemmas.{cost-falls}
@@ -76,11 +76,11 @@ units-at c d l w n b begins units =
     (subst (λ (k : ℕ). AreUnits c d l k n) (sym begins.2) units))
 
 -- the data blocks of a part that begins at a sector
-blocks-at : (c : Configuration) (d l w n : ℕ) (b : BlockPart) → BeginsAt d l w b → AreBlocks c d l w n → AreBlocks c b.device.0 b.line b.first n
+blocks-at : (c : Configuration) (d l w n : ℕ) (b : BlockPart) → BeginsAt d l w b → AreWholeBlocks c d l w n → AreWholeBlocks c b.device.0 b.line b.first n
 blocks-at c d l w n b begins blocks =
-    subst (λ (k : ℕ). AreBlocks c k b.line b.first n) (sym begins.0)
-    (subst (λ (k : ℕ). AreBlocks c d k b.first n) (sym begins.1)
-    (subst (λ (k : ℕ). AreBlocks c d l k n) (sym begins.2) blocks))
+    subst (λ (k : ℕ). AreWholeBlocks c k b.line b.first n) (sym begins.0)
+    (subst (λ (k : ℕ). AreWholeBlocks c d k b.first n) (sym begins.1)
+    (subst (λ (k : ℕ). AreWholeBlocks c d l k n) (sym begins.2) blocks))
 
 pub unit-at : (c : Configuration) (d l w n : ℕ) (b : BlockPart) → BeginsAt d l w b → LieInUnit c d l w n → LieInUnit c b.device.0 b.line b.first n
 unit-at c d l w n b begins unit =
@@ -142,7 +142,7 @@ served-passes c d s n source loaded some r = record {
 below-passes : (c : Configuration) (lower : Lower) (first n : ℕ) → Passes (place_of c lower) (source_place c (Below lower first)) first 0 n
 below-passes c lower first n = record { said = λ j h. let e : j ≡ 0 + j = omega arith in ap (λ (k : ℕ). said_at c lower (first + k)) e; cost = omega arith; leaves = λ i is. is }
 
-pub below_of : (c : Configuration) (lower : Lower) (first n : ℕ) (did : Read) (answer : Result (List ℕ) IoFault) → Reads c lower first n did answer → ReadsSource c (Below lower first) n did answer
+pub below_of : (c : Configuration) (lower : Lower) (first n : ℕ) (did : LeafRead) (answer : Result (List ℕ) IoFault) → Reads c lower first n did answer → ReadsSource c (Below lower first) n did answer
 below_of c lower first n did answer p = pass (below-passes c lower first n) did answer p
 
 part-zeros : (n j : ℕ) → j < n → part (replicate (512 * n) 0) j ≡ zero_sector
@@ -150,7 +150,7 @@ unfolding zero_sector
 part-zeros n j h = ap (take 512) (drop-replicate (512 * j) (512 * n) 0) ∙ take-replicate 512 (512 * n - 512 * j) 0 (omega arith)
 
 -- where nothing is read, leaves and chains stay
-abbrev pub empty_read : List Device → List FoundRecord → Read
+abbrev pub empty_read : List Device → List FoundRecord → LeafRead
 empty_read leaves found = record { old = leaves; new = leaves; before = found; after = found }
 
 pub zeros_of : (c : Configuration) (n : ℕ) (leaves : List Device) (found : List FoundRecord) (bytes : List ℕ) → AllKept c leaves found → bytes ≡ replicate (512 * n) 0
@@ -221,6 +221,6 @@ leaf_of c i first n found kept p = record {
 }
 
 -- the same read by equal numbers and bytes
-pub same_reads : (c : Configuration) (lower : Lower) (first : ℕ) {n m : ℕ} (did : Read) {x y : List ℕ} → n ≡ m → x ≡ y → Reads c lower first n did (Ok x) → Reads c lower first m did (Ok y)
+pub same_reads : (c : Configuration) (lower : Lower) (first : ℕ) {n m : ℕ} (did : LeafRead) {x y : List ℕ} → n ≡ m → x ≡ y → Reads c lower first n did (Ok x) → Reads c lower first m did (Ok y)
 same_reads c lower first {n = n} {m = m} did {x = x} e f p =
     subst (λ (b : List ℕ). Reads c lower first m did (Ok b)) f (subst (λ (j : ℕ). Reads c lower first j did (Ok x)) e p)

@@ -31,7 +31,7 @@ use Rattle.stack_rules.proofs.lemmas.ValidLemmas.{depth-low}
 use Rattle.stack_rules.proofs.lemmas.ValidLineLemmas.{few, few_lines}
 use Rattle.stack_lines.specs.declared.leaf_set.LeafSet.{LeafSet}
 use Rattle.stack_meaning.specs.LeavesBeneath.{leaves_rule, leaves_beneath}
-use Rattle.stack_lines.specs.Standing.{contains, is_verity, set_at, stands_on, name_stands_on, hashes_stand_on, line_stands_on, HasLeaves, IsInside, KnowsLeaves, AreSetsBelow, AreLeafSets}
+use Rattle.stack_lines.specs.Standing.{has_leaf, is_verity, leaf_set_at, stands_on, name_stands_on, hashes_stand_on, line_stands_on, HasLeaves, IsPossibleLower, KnowsLeaves, AreSetsBelow, AreLeafSets}
 use Rattle.stack_meaning.proofs.lemmas.LoadedLemmas.{at_place}
 
 -- ---- bits
@@ -160,11 +160,11 @@ module _ (c : Configuration) (loaded : IsLoaded c) where
       go None ea (Some d) eb h = subst IsThere (same_Some (mapped d) y h) (position-Some (λ d. bytes_eq (path_of d.name) name) c.devices d any_device eb).0
       go None ea None eb h = absurd cc
 
-  there-inside : (y : Lower) → IsThere y → IsInside y
+  there-inside : (y : Lower) → IsThere y → IsPossibleLower y
   there-inside (leaf i) h = let most = loaded.leaves.count in omega (arith, h, most)
   there-inside (device d) h = let most = few c loaded.valid in omega (arith, h, most)
 
-  pub named-inside : (name : List ℕ) (y : Lower) → named c name ≡ Some y → IsInside y
+  pub named-inside : (name : List ℕ) (y : Lower) → named c name ≡ Some y → IsPossibleLower y
   named-inside name y is = there-inside y (named-there name y is)
 
   -- the k-th name of a line, and what it means
@@ -175,12 +175,12 @@ module _ (c : Configuration) (loaded : IsLoaded c) where
       go None e h = absurd cc
       go (Some name) e h = (name, e, h)
 
-  pub lower-inside : (d l k : ℕ) (y : Lower) → lower_at c d l k ≡ Some y → IsInside y
+  pub lower-inside : (d l k : ℕ) (y : Lower) → lower_at c d l k ≡ Some y → IsPossibleLower y
   lower-inside d l k y is = let at = name-at d l k y is in named-inside at.0 y at.2
 
   -- ---- by the sets
 
-  knows : (sets : List LeafSet) (y : Lower) → IsThere y → ((e : ℕ) → y ≡ mapped e → e < length c.devices → HasLeaves c (mapped e) (set_at sets e)) → KnowsLeaves c sets y
+  knows : (sets : List LeafSet) (y : Lower) → IsThere y → ((e : ℕ) → y ≡ mapped e → e < length c.devices → HasLeaves c (mapped e) (leaf_set_at sets e)) → KnowsLeaves c sets y
   knows sets (leaf i) h all = tt
   knows sets (device d) h all = all d.0 refl h
 
@@ -218,7 +218,7 @@ hash-stands c i d l line v y loaded at is second =
 
 -- the sets of less deep devices, and of the first n of those of that depth
 abbrev pub AreSettled : Configuration → ℕ → ℕ → List LeafSet → Type 0
-AreSettled c deep n sets = (d : ℕ) → d < length c.devices → (depth c (mapped d) < deep) ⊎ ((depth c (mapped d) ≡ deep) × (d < n)) → HasLeaves c (mapped d) (set_at sets d)
+AreSettled c deep n sets = (d : ℕ) → d < length c.devices → (depth c (mapped d) < deep) ⊎ ((depth c (mapped d) ≡ deep) × (d < n)) → HasLeaves c (mapped d) (leaf_set_at sets d)
 
 pub settled-none : (c : Configuration) (deep : ℕ) (sets : List LeafSet) → AreSetsBelow c deep sets → AreSettled c deep 0 sets
 settled-none c deep sets below d low which = elim which [
@@ -245,8 +245,8 @@ less_of d n h other = elim (cases_lt d n) [ inl below ↦ below | inr above ↦ 
 -- one of that depth
 pub settled-more : (c : Configuration) (deep n : ℕ) (sets : List LeafSet) (one : LeafSet) → n < length sets → depth c (mapped n) ≡ deep → HasLeaves c (mapped n) one → AreSettled c deep n sets → AreSettled c deep (n + 1) (set sets n one)
 settled-more c deep n sets one inside is has all d low which = elim (cases_eq d n) [
-  | inl same ↦ λ i. ap (λ (s : LeafSet). contains s i) (ap (set_at (set sets n one)) same ∙ get_or-set_same sets n one (record { bits = 0 }) inside) ∙ has i ∙ ap (λ (k : ℕ). stands_on c i (mapped k)) (sym same)
-  | inr other ↦ λ i. ap (λ (s : LeafSet). contains s i) (get_or-set_other sets n d one (record { bits = 0 }) other)
+  | inl same ↦ λ i. ap (λ (s : LeafSet). has_leaf s i) (ap (leaf_set_at (set sets n one)) same ∙ get_or-set_same sets n one (record { bits = 0 }) inside) ∙ has i ∙ ap (λ (k : ℕ). stands_on c i (mapped k)) (sym same)
+  | inr other ↦ λ i. ap (λ (s : LeafSet). has_leaf s i) (get_or-set_other sets n d one (record { bits = 0 }) other)
       ∙ all d low (elim which [ inl less ↦ inl less | inr here ↦ inr (here.0, less_of d n here.1 other) ]) i
 ]
 

@@ -12,7 +12,7 @@ use Rattle.stack_rules.specs.declared.lower.Lower.{Lower}
 use Rattle.stack_rules.specs.Records.{Configuration}
 use Rattle.stack_rules.specs.Names.{mapped, named, lines_of}
 use Rattle.stack_rules.specs.Descend.{by_name, known, read_cost, write_cost}
-use Rattle.stack_rules.specs.Lines.{lower_at, key_at}
+use Rattle.stack_rules.specs.Lines.{lower_at, key_of_line}
 use Rattle.stack_rules.specs.Rules.{IsLoaded}
 use Rattle.stack_config.proofs.lemmas.CryptLineLemmas.{IsCryptLine, crypt-line, crypt-key}
 use Rattle.stack_rules.specs.Units.{unit_sectors, unit_write_cost, crypt_of}
@@ -68,7 +68,7 @@ module _ (c : Configuration) (d l n : ℕ) (crypt : Crypt) (loaded : IsLoaded c)
   pub unit-lower : (lower : Lower) → lower_at c d l 0 ≡ Some lower → named c crypt.base.device ≡ Some lower
   unit-lower lower at = named-by c d l 0 (crypt_target crypt) crypt.base.device lower (target-names c d l n (crypt_target crypt) has) refl at
 
-  pub unit-key : key_at c d l ≡ Some crypt.key
+  pub unit-key : key_of_line c d l ≡ Some crypt.key
   unit-key = crypt-key c d l has.line crypt has.is has.has
 
   -- what the device beneath costs

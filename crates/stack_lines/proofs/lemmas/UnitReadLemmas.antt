@@ -17,13 +17,13 @@ use Rattle.stack_meaning.specs.declared.fault.Fault.{Fault}
 use Rattle.stack_meaning.specs.Outcomes.{Outcome, Images, joint_outcome, changed_outcome, span, part, AreWhole}
 use Rattle.dm_table.specs.Crypt.{sector_size}
 use Rattle.stack_rules.specs.Units.{unit_sectors}
-use Rattle.stack_meaning.specs.Units.{decrypted_unit, decrypted_units, unit_number, unit_part, unit_first}
-use Rattle.stack_meaning.specs.Found.{entry_of, Grown}
+use Rattle.stack_meaning.specs.Units.{decrypted_unit, decrypted_units, crypt_unit_number, unit_part, unit_first}
+use Rattle.stack_meaning.specs.Found.{found_entry, HasGrown}
 use Rattle.stack_meaning.specs.Meaning.{Said, crypt_said, said_at}
 use Rattle.stack_meaning.specs.Leaves.{steady_image, steady_images}
 use Rattle.stack_meaning.specs.LeavesBeneath.{stands_on}
 use Rattle.stack_meaning.specs.Changes.{AllWhole}
-use Rattle.stack_meaning.specs.Places.{Place, place_of, run_expected, Read}
+use Rattle.stack_meaning.specs.Places.{Place, place_of, run_expected, LeafRead}
 use Rattle.stack_meaning.specs.Reading.{Reads, Finds}
 use Rattle.stack_rules.proofs.lemmas.UnitLemmas.{unit_sectors-some}
 use Rattle.stack_meaning.proofs.lemmas.LeafListLemmas.{AreRead-none, AreRead-more, AreSteady-within}
@@ -101,7 +101,7 @@ module _ (images : Images) (lower : ℕ → Said) (sized : AreSized (λ t. (lowe
   whole-unit k bytes is =
       let u : ℕ = unit_sectors crypt in
       let len : length bytes ≡ 512 * u = span-length (λ t. (lower t).means images) sized (crypt.base.offset + k * u) u bytes is in
-      let long : length (decrypted_unit crypt k bytes) ≡ 512 * u = xts.length-decrypted crypt.key (unit_number crypt k) bytes (omega (arith, len)) ∙ len in
+      let long : length (decrypted_unit crypt k bytes) ≡ 512 * u = xts.length-decrypted crypt.key (crypt_unit_number crypt k) bytes (omega (arith, len)) ∙ len in
       span-parts (λ s. (crypt_said lower crypt s).means images) (k * u) u (decrypted_unit crypt k bytes) long (λ j h. unit-means k j (Ok bytes) is h)
 
   -- the fault of a whole unit stands beneath
@@ -179,14 +179,14 @@ module _ (images : Images) (lower : ℕ → Said) (sized : AreSized (λ t. (lowe
 
 -- ---- whole units
 
-module _ (c : Configuration) (lower : Lower) (crypt : Crypt) (w n cost : ℕ) (these : ℕ → Bool) (within : (i : ℕ) → IsTrue (stands_on c i lower) → IsTrue (these i)) (did : Read) (aligned : w % unit_sectors crypt ≡ 0) (whole : n % unit_sectors crypt ≡ 0) (dear : cost ≡ (place_of c lower).cost) where
-  units-grown : Grown (λ s. (said_at c lower s).entries) (unit_first crypt w) n did.before did.after → Grown (λ j. (units_said c lower crypt w j).entries) 0 n did.before did.after
+module _ (c : Configuration) (lower : Lower) (crypt : Crypt) (w n cost : ℕ) (these : ℕ → Bool) (within : (i : ℕ) → IsTrue (stands_on c i lower) → IsTrue (these i)) (did : LeafRead) (aligned : w % unit_sectors crypt ≡ 0) (whole : n % unit_sectors crypt ≡ 0) (dear : cost ≡ (place_of c lower).cost) where
+  units-grown : HasGrown (λ s. (said_at c lower s).entries) (unit_first crypt w) n did.before did.after → HasGrown (λ j. (units_said c lower crypt w j).entries) 0 n did.before did.after
   units-grown p = record {
     added = p.added;
     is = p.is;
     used = λ k x below.
-        units-some (said_at c lower) crypt w aligned (λ y. Contains y.entries (entry_of (get_or p.added k x))) (λ y. Contains y.entries (entry_of (get_or p.added k x)))
-        (λ s some. in-gathered (λ t. (said_at c lower t).entries) (unit_first crypt s) (unit_sectors crypt) some.0 (entry_of (get_or p.added k x)) some.1 some.2) n (p.used k x below);
+        units-some (said_at c lower) crypt w aligned (λ y. Contains y.entries (found_entry (get_or p.added k x))) (λ y. Contains y.entries (found_entry (get_or p.added k x)))
+        (λ s some. in-gathered (λ t. (said_at c lower t).entries) (unit_first crypt s) (unit_sectors crypt) some.0 (found_entry (get_or p.added k x)) some.1 some.2) n (p.used k x below);
     distinct = p.distinct;
   }
 
@@ -267,7 +267,7 @@ module _ (c : Configuration) (lower : Lower) (crypt : Crypt) (w n cost : ℕ) (t
 
 -- ---- sectors of one unit
 
-module _ (c : Configuration) (lower : Lower) (crypt : Crypt) (w0 r n cost dear : ℕ) (these : ℕ → Bool) (did : Read) (aligned : w0 % unit_sectors crypt ≡ 0) (some : 0 < n) (fits : r + n ≤ unit_sectors crypt)
+module _ (c : Configuration) (lower : Lower) (crypt : Crypt) (w0 r n cost dear : ℕ) (these : ℕ → Bool) (did : LeafRead) (aligned : w0 % unit_sectors crypt ≡ 0) (some : 0 < n) (fits : r + n ≤ unit_sectors crypt)
     (paid : unit_sectors crypt * cost ≤ n * dear) where
   -- all sectors of a unit have one unit beneath
   pub same-first : (j : ℕ) → j < unit_sectors crypt → unit_first crypt (w0 + j) ≡ unit_first crypt w0
@@ -283,11 +283,11 @@ module _ (c : Configuration) (lower : Lower) (crypt : Crypt) (w0 r n cost dear :
       let to : w0 + r ≡ w0 + r + (0 + 0) = omega arith in
       (0, some, subst P (ap (λ (s : ℕ). unit_first crypt s) at ∙ same-first x.0 x.1 ∙ sym (same-first r (omega (arith, fits, some))) ∙ ap (λ (s : ℕ). unit_first crypt s) to) x.2)
 
-  part-grown : Grown (λ j. (units_said c lower crypt w0 j).entries) 0 (unit_sectors crypt) did.before did.after → Grown (λ j. (units_said c lower crypt (w0 + r) j).entries) 0 n did.before did.after
+  part-grown : HasGrown (λ j. (units_said c lower crypt w0 j).entries) 0 (unit_sectors crypt) did.before did.after → HasGrown (λ j. (units_said c lower crypt (w0 + r) j).entries) 0 n did.before did.after
   part-grown p = record {
     added = p.added;
     is = p.is;
-    used = λ k x below. unit-some (λ first. Contains (gathered (λ t. (said_at c lower t).entries) first (unit_sectors crypt)) (entry_of (get_or p.added k x))) (p.used k x below);
+    used = λ k x below. unit-some (λ first. Contains (gathered (λ t. (said_at c lower t).entries) first (unit_sectors crypt)) (found_entry (get_or p.added k x))) (p.used k x below);
     distinct = p.distinct;
   }
 

@@ -20,7 +20,7 @@ use Rattle.stack_rules.specs.Units.{unit_sectors}
 use Rattle.stack_meaning.specs.Units.{decrypted_units, unit_first}
 use Rattle.stack_meaning.specs.Meaning.{Said, crypt_said, said_at}
 use Rattle.stack_meaning.specs.Changes.{AllWhole}
-use Rattle.stack_meaning.specs.Places.{Read}
+use Rattle.stack_meaning.specs.Places.{LeafRead}
 use Rattle.stack_meaning.specs.Reading.{Reads, Finds, IsPlain}
 use Rattle.stack_lines.specs.AtOnce.{MeetNone}
 use Rattle.stack_lines.specs.Sources.{HasCrypt, AreUnits, LieInUnit, IsWholeOf, source_said, source_place, ReadsSource}
@@ -100,12 +100,12 @@ module _ (c : Configuration) (b : BlockPart) (n : ℕ) (crypt : Crypt) (loaded :
   within : (i : ℕ) → IsTrue (leaves_of c lower i) → IsTrue (leaves_of c (mapped b.device.0) i)
   within = one-within (leaves_of c lower) (leaves_of c (mapped b.device.0)) (crypt-within c b.device.0 b.line 0 crypt lower loaded has is)
 
-  pub units-read : (did : Read) → AllWhole did.old → (bytes : List ℕ) → Reads c lower (unit_first crypt b.first) n did (Ok bytes)
+  pub units-read : (did : LeafRead) → AllWhole did.old → (bytes : List ℕ) → Reads c lower (unit_first crypt b.first) n did (Ok bytes)
       → ReadsSource c (Units b) n did (Ok (decrypted_units crypt (b.first / unit_sectors crypt) bytes))
   unfolding cost
   units-read did all bytes p = pass passes did (Ok _) (units_ok c lower crypt b.first n (source_place c (Units b)).cost (leaves_of c (mapped b.device.0)) within did aligned whole paid bytes loaded all p)
 
-  pub units-failed : (did : Read) → AllWhole did.old → (fault : IoFault) → Reads c lower (unit_first crypt b.first) n did (Err fault) → ReadsSource c (Units b) n did (Err fault)
+  pub units-failed : (did : LeafRead) → AllWhole did.old → (fault : IoFault) → Reads c lower (unit_first crypt b.first) n did (Err fault) → ReadsSource c (Units b) n did (Err fault)
   unfolding cost
   units-failed did all fault p = pass passes did (Err fault) (units_err c lower crypt b.first n (source_place c (Units b)).cost (leaves_of c (mapped b.device.0)) within did aligned whole paid fault loaded all p)
 
@@ -204,7 +204,7 @@ module _ (c : Configuration) (b : BlockPart) (whole : WholeUnit) (n : ℕ) (load
         let once : 1 * read_cost c (mapped b.device.0) ≤ n * read_cost c (mapped b.device.0) = mul-le-mul_right (read_cost c (mapped b.device.0)) some in
         omega (arith, once, line-facts)
 
-    read-as : (did : Read) (answer : Result (List ℕ) IoFault) → ReadsSource c (Units whole.from) whole.sectors did answer
+    read-as : (did : LeafRead) (answer : Result (List ℕ) IoFault) → ReadsSource c (Units whole.from) whole.sectors did answer
         → Finds (units_place c lower of.crypt (b.first - b.first % unit_sectors of.crypt) (read_cost c lower) (leaves_of c (mapped b.device.0))) c 0 (unit_sectors of.crypt) did answer
     read-as did answer p =
         pass from-units did answer
@@ -214,7 +214,7 @@ module _ (c : Configuration) (b : BlockPart) (whole : WholeUnit) (n : ℕ) (load
   beneath-of : (lower : Lower) × (named c of.crypt.base.device ≡ Some lower)
   beneath-of = let line = unit-line c b.device.0 b.line 0 of.crypt loaded of.has in (line.0, line.1.crypt_line.named)
 
-  pub part-read : (did : Read) → AllWhole did.old → (bytes : List ℕ) → ReadsSource c (Units whole.from) whole.sectors did (Ok bytes)
+  pub part-read : (did : LeafRead) → AllWhole did.old → (bytes : List ℕ) → ReadsSource c (Units whole.from) whole.sectors did (Ok bytes)
       → ReadsSource c (UnitPart b) n did (Ok (take (512 * n) (drop (512 * (b.first % unit_sectors of.crypt)) bytes)))
   part-read did all bytes p =
       let u : ℕ = unit_sectors of.crypt in
@@ -222,7 +222,7 @@ module _ (c : Configuration) (b : BlockPart) (whole : WholeUnit) (n : ℕ) (load
       pass (to-part on.0 on.1) did (Ok _)
       (part_ok c on.0 of.crypt (b.first - b.first % u) (b.first % u) n (read_cost c on.0) (read_cost c (mapped b.device.0)) (leaves_of c (mapped b.device.0)) did begin-whole some lies_in.0 (paid-part on.0 on.1) bytes loaded all (read-as on.0 on.1 did (Ok bytes) p))
 
-  pub part-failed : (did : Read) → AllWhole did.old → (fault : IoFault) → ReadsSource c (Units whole.from) whole.sectors did (Err fault) → ReadsSource c (UnitPart b) n did (Err fault)
+  pub part-failed : (did : LeafRead) → AllWhole did.old → (fault : IoFault) → ReadsSource c (Units whole.from) whole.sectors did (Err fault) → ReadsSource c (UnitPart b) n did (Err fault)
   part-failed did all fault p =
       let u : ℕ = unit_sectors of.crypt in
       let on = beneath-of in

@@ -12,7 +12,7 @@ use Rattle.stack_rules.specs.Records.{Configuration}
 use Rattle.stack_rules.specs.Names.{mapped, named, size, may_write}
 use Rattle.stack_rules.specs.Descend.{depth, known, read_cost}
 use Rattle.stack_rules.specs.Rules.{IsLoaded}
-use Rattle.stack_rules.specs.Trees.{tree_of, data_sectors, block_sectors}
+use Rattle.stack_rules.specs.Trees.{tree_of, line_data_sectors, block_sectors}
 use Rattle.stack_config.proofs.lemmas.VerityLineLemmas.{IsVerityLine, verity-line, data_block-inside, hash_block-inside}
 use Rattle.stack_lines.specs.declared.tree.Tree.{Tree}
 use Rattle.stack_meaning.specs.Blocks.{hash_sectors}
@@ -90,5 +90,5 @@ module _ (c : Configuration) (d l w n : ℕ) (v : Verity) (loaded : IsLoaded c) 
         let both : Some lies.has.line ≡ Some has.line = sym lies.has.is ∙ has.is in
         let lines : lies.has.line ≡ has.line = cc in
         let long : lies.has.line.length ≡ has.line.length = ap (λ (x : Line). x.length) lines in
-        let covers : has.line.length ≤ data_sectors v = (line-facts c d l v loaded has).2.covers in
+        let covers : has.line.length ≤ line_data_sectors v = (line-facts c d l v loaded has).2.covers in
         div_below w (block_sectors v) v.blocks data-whole.some (omega (arith, some, lies.has.fits, long, covers))

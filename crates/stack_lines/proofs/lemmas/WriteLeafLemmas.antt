@@ -17,7 +17,7 @@ use Rattle.stack_meaning.specs.Leaves.{steady_image, steady_images, fixed_part, 
 use Rattle.stack_meaning.proofs.lemmas.LeafListLemmas.{known-image}
 use Rattle.stack_lines.proofs.lemmas.StandingLemmas.{leaf-stands}
 use Rattle.stack_meaning.specs.Changes.{LeafSectors, reached, KeepsOthers, AreWritten, NoneRead}
-use Rattle.stack_lines.specs.Writing.{AreOneCall, StopsAt, destination_of, Writes}
+use Rattle.stack_lines.specs.Writing.{AreOneCall, StopsAt, destination_of, WritesSectors}
 use Rattle.stack_meaning.proofs.lemmas.CostLemmas.{write_cost-leaf}
 use Rattle.stack_meaning.proofs.lemmas.LeafLemmas.{same_map, each_leaf, counts_one, image_at, steady_at, LeafFailed-device}
 use Rattle.stack_meaning.proofs.lemmas.SectorLemmas.{said_at-leaf}
@@ -161,7 +161,7 @@ module _ {X : Type 0} (state : X → Device) (whole : (y : X) → IsWhole (state
 
   pub leaf-written : (state (get_or devices i x)).failures ≤ (state new).failures → IsWritten (state (get_or devices i x)) first (length sectors) true (state new)
       → (IsTrue (state (get_or devices i x)).steady → (state new).image ≡ spliced (state (get_or devices i x)).image first sectors)
-      → Writes (destination_of c (Leaf i)) first sectors (map state devices) (map state (set devices i new)) (Ok tt)
+      → WritesSectors (destination_of c (Leaf i)) first sectors (map state devices) (map state (set devices i new)) (Ok tt)
   leaf-written grows r image = record {
     moved = leaf-moved true grows r;
     ends = tt;
@@ -196,7 +196,7 @@ module _ {X : Type 0} (state : X → Device) (whole : (y : X) → IsWhole (state
 
   pub leaf-failed : (state (get_or devices i x)).failures ≤ (state new).failures → IsWritten (state (get_or devices i x)) first (length sectors) false (state new)
       → HasFailed (state (get_or devices i x)) (state new) → (IsTrue (state (get_or devices i x)).never_fails → ⊥)
-      → Writes (destination_of c (Leaf i)) first sectors (map state devices) (map state (set devices i new)) (Err (io.Device (i + 1)))
+      → WritesSectors (destination_of c (Leaf i)) first sectors (map state devices) (map state (set devices i new)) (Err (io.Device (i + 1)))
   leaf-failed grows r failed unsure =
       let number : i ≡ i + 1 - 1 = omega arith in
       record {

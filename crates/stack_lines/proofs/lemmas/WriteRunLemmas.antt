@@ -16,7 +16,7 @@ use Rattle.stack_meaning.specs.Meaning.{Said}
 use Rattle.stack_meaning.specs.Puts.{Put, done, then_put}
 use Rattle.stack_meaning.specs.Changes.{reached, AreWritten, NoneRead}
 use Rattle.stack_lines.specs.Touches.{failures_by}
-use Rattle.stack_lines.specs.Writing.{sectors_in, SomeEncrypt, MayEnd, IsPut, Destination, StopsAtFault, StopsBehindPut, put_some, with_some, Writes}
+use Rattle.stack_lines.specs.Writing.{sectors_in, SomeEncrypt, MayEnd, IsPut, Destination, StopsAtFault, StopsBehindPut, put_some, with_some, WritesSectors}
 use Rattle.stack_meaning.proofs.lemmas.LeafListLemmas.{AreSteady-kept, AreSteady-within, failed_later}
 use Rattle.stack_meaning.proofs.lemmas.FoundLemmas.{SomeOf-more}
 use Rattle.stack_lines.proofs.lemmas.StopLemmas.{IsUp, up-same, stop-up, stop-later, PutsNothing, behind-later, behind-as}
@@ -68,7 +68,7 @@ abbrev pub PutsInParts : Destination → ℕ → List (List ℕ) → List (List 
 PutsInParts to s xs ys = (images : Images) → to.puts s (xs ++ ys) images ≡ then_put (to.puts s xs images) (to.puts (s + length xs) ys)
 
 -- nothing was written yet
-pub write_none : (to : Destination) (first : ℕ) (leaves : List Device) → ((images : Images) → to.puts first [] images ≡ done images) → Writes to first [] leaves leaves (Ok tt)
+pub write_none : (to : Destination) (first : ℕ) (leaves : List Device) → ((images : Images) → to.puts first [] images ≡ done images) → WritesSectors to first [] leaves leaves (Ok tt)
 write_none to first leaves empty = record {
   moved = AreWritten-none _ _ leaves;
   ends = tt;
@@ -80,9 +80,9 @@ write_none to first leaves empty = record {
   fails = refl;
 }
 
-module _ (to : Destination) (first : ℕ) (xs ys : List (List ℕ)) {old mid new : List Device} (p : Writes to first xs old mid (Ok tt)) where
+module _ (to : Destination) (first : ℕ) (xs ys : List (List ℕ)) {old mid new : List Device} (p : WritesSectors to first xs old mid (Ok tt)) where
   -- both parts of some sectors were written
-  both-written : (n : ℕ) {result : Result Unit IoFault} → length xs + length ys ≤ n → Writes to (first + length xs) ys mid new result → AreWritten (reached (λ s. (to.said s).reaches) first n) old (n * to.cost) new
+  both-written : (n : ℕ) {result : Result Unit IoFault} → length xs + length ys ≤ n → WritesSectors to (first + length xs) ys mid new result → AreWritten (reached (λ s. (to.said s).reaches) first n) old (n * to.cost) new
   both-written n h q =
       let reaches : ℕ → List LeafSector = λ s. (to.said s).reaches in
       let front : AreWritten (reached reaches first n) old (length xs * to.cost) mid = AreWritten-more (reached-first reaches first (length xs) n (omega (arith, h))) (omega arith) p.moved in
@@ -90,13 +90,13 @@ module _ (to : Destination) (first : ℕ) (xs ys : List (List ℕ)) {old mid new
       AreWritten-more (λ x all. all) (omega (arith, mul-le-mul_right to.cost h)) (AreWritten-then front back)
 
   -- nor were leaves read, where none is encrypted
-  both-unread : (n : ℕ) {result : Result Unit IoFault} → length xs + length ys ≤ n → Writes to (first + length xs) ys mid new result → (SomeEncrypt to.said first n → ⊥) → NoneRead old new
+  both-unread : (n : ℕ) {result : Result Unit IoFault} → length xs + length ys ≤ n → WritesSectors to (first + length xs) ys mid new result → (SomeEncrypt to.said first n → ⊥) → NoneRead old new
   both-unread n h q none =
       q.unread (λ some. none (SomeOf-more (λ s. (to.said s).encrypts) first (length xs) (length ys) n h some))
       ∙ p.unread (λ some. none (some.0, omega (arith, some.1, h), some.2))
 
   -- the next ones
-  pub write_ok : PutsInParts to first xs ys → Writes to (first + length xs) ys mid new (Ok tt) → Writes to first (xs ++ ys) old new (Ok tt)
+  pub write_ok : PutsInParts to first xs ys → WritesSectors to (first + length xs) ys mid new (Ok tt) → WritesSectors to first (xs ++ ys) old new (Ok tt)
   write_ok parts q = record {
     moved = both-written (length (xs ++ ys)) (omega (arith, length-append xs ys)) q;
     ends = tt;
@@ -112,7 +112,7 @@ module _ (to : Destination) (first : ℕ) (xs ys : List (List ℕ)) {old mid new
   }
 
   -- the next ones, which a fault ends before the last ones
-  pub write_err : (zs : List (List ℕ)) (fault : IoFault) → PutsNothing to.puts → ((l : List (List ℕ)) → PutsInParts to first xs l) → PutsInParts to (first + length xs) ys zs → Writes to (first + length xs) ys mid new (Err fault) → Writes to first (xs ++ (ys ++ zs)) old new (Err fault)
+  pub write_err : (zs : List (List ℕ)) (fault : IoFault) → PutsNothing to.puts → ((l : List (List ℕ)) → PutsInParts to first xs l) → PutsInParts to (first + length xs) ys zs → WritesSectors to (first + length xs) ys mid new (Err fault) → WritesSectors to first (xs ++ (ys ++ zs)) old new (Err fault)
   write_err zs fault none parts more q =
       let fits : length xs + length ys ≤ length (xs ++ (ys ++ zs)) = omega (arith, length-append xs (ys ++ zs), length-append ys zs) in
       record {
@@ -145,7 +145,7 @@ pub record PutsAlike (to to' : Destination) (first first' : ℕ) (sectors : List
   pub leaves : (i : ℕ) → IsTrue (to.leaves i) → IsTrue (to'.leaves i)
 
 pub write_as : {to to' : Destination} {first first' : ℕ} {sectors : List (List ℕ)} {old new : List Device} {result : Result Unit IoFault} → PutsAlike to to' first first' sectors
-    → Writes to first sectors old new result → Writes to' first' sectors old new result
+    → WritesSectors to first sectors old new result → WritesSectors to' first' sectors old new result
 write_as {to = to} {to' = to'} {first = first} {first' = first'} {sectors = sectors} {old = old} {new = new} {result = result} alike p = record {
   moved = AreWritten-more (λ x some. (some.0, some.1, subst (λ (s : Said). Contains s.reaches x) (alike.said some.0 some.1) some.2)) (mul-le-mul_left (length sectors) alike.cost) p.moved;
   ends = MayEnd-as (λ x. SomeOf (λ s. (to.said s).meets x) first (length sectors)) (λ x. SomeOf (λ s. (to'.said s).meets x) first' (length sectors)) old new result (λ x some. (some.0, some.1, subst (λ (s : Said). s.meets x) (alike.said some.0 some.1) some.2)) p.ends;

@@ -28,7 +28,7 @@ use Rattle.stack_meaning.specs.Outcomes.{Images}
 use Rattle.stack_meaning.specs.Meaning.{said_at}
 use Rattle.stack_meaning.specs.Puts.{Putting, none_put, runs_from, put_runs, together, in_one_run, line_put, put_on}
 use Rattle.stack_lines.specs.Sources.{source_said, BeginsAt, ComeFrom, IsServed}
-use Rattle.stack_lines.specs.Writing.{sectors_in, destination_of, StopsAt, put_some, Writes, put_by_name, put_on_line, part_put, source_put, source_write_cost, SourceMayWrite, source_destination}
+use Rattle.stack_lines.specs.Writing.{sectors_in, destination_of, StopsAt, put_some, WritesSectors, put_by_name, put_on_line, part_put, source_put, source_write_cost, SourceMayWrite, source_destination}
 use Rattle.stack_meaning.proofs.lemmas.CostLemmas.{write_cost-falls}
 use Rattle.stack_lines.proofs.lemmas.SourceLemmas.{units-at, served-said}
 use Rattle.stack_lines.proofs.lemmas.VerityLineLemmas.{line-read_only}
@@ -149,7 +149,7 @@ below-alike c lower first sectors = record {
     front images (x ∷ xs) = let e : first ≡ first + 0 = omega arith in ap (λ (k : ℕ). put_on c lower k (x ∷ xs) images) e
 
 -- sectors of a `zero` line
-pub zeros-written : (c : Configuration) (sectors : List (List ℕ)) (leaves : List Device) → Writes (source_destination c Zeros) 0 sectors leaves leaves (Ok tt)
+pub zeros-written : (c : Configuration) (sectors : List (List ℕ)) (leaves : List Device) → WritesSectors (source_destination c Zeros) 0 sectors leaves leaves (Ok tt)
 zeros-written c sectors leaves = record {
   moved = AreWritten-none _ _ leaves;
   ends = tt;
@@ -165,7 +165,7 @@ zeros-written c sectors leaves = record {
 abbrev fails-stop : (c : Configuration) (n : ℕ) (leaves : List Device) → 0 < n → StopsAt (source_said c Fails) 0 n (io.Stack why.ErrorTarget) leaves leaves
 fails-stop c n leaves some = record { before = 0; failed = n; some = some; inside = omega arith; by = λ j h. refl; others = KeepsOthers-none _ leaves }
 
-pub fails-written : (c : Configuration) (sectors : List (List ℕ)) (leaves : List Device) → 0 < length sectors → Writes (source_destination c Fails) 0 sectors leaves leaves (Err (io.Stack why.ErrorTarget))
+pub fails-written : (c : Configuration) (sectors : List (List ℕ)) (leaves : List Device) → 0 < length sectors → WritesSectors (source_destination c Fails) 0 sectors leaves leaves (Err (io.Stack why.ErrorTarget))
 fails-written c sectors leaves some = record {
   moved = AreWritten-none _ _ leaves;
   ends = (0, some, refl);
@@ -197,27 +197,27 @@ parts-before c d first x loaded ends ys images = device-apart c loaded.valid d f
 
 module _ (c : Configuration) (d first : ℕ) (x y : List ℕ) (source : Source) {old mid new : List Device} (loaded : IsLoaded c) (whole_x : length x % 512 ≡ 0) (whole_y : length y % 512 ≡ 0) (some : 0 < length y / 512)
     (may : SourceMayWrite c source) (ends : EndsBefore c d (first + length x / 512) x)
-    (r : IsServed c d (first + length x / 512) (length y / 512) source) (p : Writes (destination_of c (mapped d)) first (sectors_in x) old mid (Ok tt)) where
-  next-run : (result : Result Unit IoFault) → Writes (source_destination c source) 0 (sectors_in y) mid new result → Writes (destination_of c (mapped d)) (first + length (sectors_in x)) (sectors_in y) mid new result
+    (r : IsServed c d (first + length x / 512) (length y / 512) source) (p : WritesSectors (destination_of c (mapped d)) first (sectors_in x) old mid (Ok tt)) where
+  next-run : (result : Result Unit IoFault) → WritesSectors (source_destination c source) 0 (sectors_in y) mid new result → WritesSectors (destination_of c (mapped d)) (first + length (sectors_in x)) (sectors_in y) mid new result
   next-run result q =
       let count : length y / 512 ≡ length (sectors_in y) = sym (length-sectors_in y) in
       let at : first + length x / 512 ≡ first + length (sectors_in x) = ap (λ (k : ℕ). first + k) (sym (length-sectors_in x)) in
       write_as (served-alike c d (first + length (sectors_in x)) source (sectors_in y) loaded (subst (λ (k : ℕ). 0 < k) count some) may
       (subst (λ (k : ℕ). IsServed c d k (length (sectors_in y)) source) at (subst (λ (k : ℕ). IsServed c d (first + length x / 512) k source) count r))) q
 
-  pub device-written : Writes (source_destination c source) 0 (sectors_in y) mid new (Ok tt) → Writes (destination_of c (mapped d)) first (sectors_in (x ++ y)) old new (Ok tt)
+  pub device-written : WritesSectors (source_destination c source) 0 (sectors_in y) mid new (Ok tt) → WritesSectors (destination_of c (mapped d)) first (sectors_in (x ++ y)) old new (Ok tt)
   device-written q =
-      subst (λ (l : List (List ℕ)). Writes (destination_of c (mapped d)) first l old new (Ok tt)) (sym (sectors_in-append x y whole_x))
+      subst (λ (l : List (List ℕ)). WritesSectors (destination_of c (mapped d)) first l old new (Ok tt)) (sym (sectors_in-append x y whole_x))
       (write_ok (destination_of c (mapped d)) first (sectors_in x) (sectors_in y) p (parts-before c d first x loaded ends (sectors_in y)) (next-run (Ok tt) q))
 
-  pub device-ended : (z : List ℕ) (fault : IoFault) → (z ≡ []) ⊎ (in_one_run c d (first + length x / 512 + length y / 512 - 1) ≡ false) → Writes (source_destination c source) 0 (sectors_in y) mid new (Err fault)
-      → Writes (destination_of c (mapped d)) first (sectors_in (x ++ (y ++ z))) old new (Err fault)
+  pub device-ended : (z : List ℕ) (fault : IoFault) → (z ≡ []) ⊎ (in_one_run c d (first + length x / 512 + length y / 512 - 1) ≡ false) → WritesSectors (source_destination c source) 0 (sectors_in y) mid new (Err fault)
+      → WritesSectors (destination_of c (mapped d)) first (sectors_in (x ++ (y ++ z))) old new (Err fault)
   device-ended z fault after q =
       let at : first + length (sectors_in x) + length (sectors_in y) - 1 ≡ first + length x / 512 + length y / 512 - 1 = omega (arith, length-sectors_in x, length-sectors_in y) in
       let apart : Apart (in_one_run c d) (first + length (sectors_in x)) (sectors_in y) (sectors_in z) = elim after [
         | inl none ↦ inr (inl (ap sectors_in none ∙ sectors_in-none))
         | inr cut ↦ inr (inr (ap (in_one_run c d) at ∙ cut))
       ] in
-      subst (λ (l : List (List ℕ)). Writes (destination_of c (mapped d)) first l old new (Err fault)) (sym (sectors_in-append x (y ++ z) whole_x ∙ ap (λ (l : List (List ℕ)). sectors_in x ++ l) (sectors_in-append y z whole_y)))
+      subst (λ (l : List (List ℕ)). WritesSectors (destination_of c (mapped d)) first l old new (Err fault)) (sym (sectors_in-append x (y ++ z) whole_x ∙ ap (λ (l : List (List ℕ)). sectors_in x ++ l) (sectors_in-append y z whole_y)))
       (write_err (destination_of c (mapped d)) first (sectors_in x) (sectors_in y) p (sectors_in z) fault (put-none c (mapped d)) (parts-before c d first x loaded ends)
       (λ images. device-apart c loaded.valid d (first + length (sectors_in x)) (sectors_in y) (sectors_in z) images apart) (next-run (Err fault) q))

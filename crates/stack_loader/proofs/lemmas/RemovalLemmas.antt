@@ -11,7 +11,7 @@ use Rattle.dm_table.specs.declared.table.Target.{Target}
 use Rattle.stack_rules.specs.declared.lower.Lower.{Lower}
 use Rattle.stack_rules.specs.declared.lower.Lower.TheVariants.{Leaf as leaf, Device as device}
 use Rattle.stack_rules.specs.Records.{Configuration, DeviceRecord}
-use Rattle.stack_rules.specs.Names.{mapped, named, names, path_of, lowers, lowers_of, lines_of, sectors_of, size, may_write}
+use Rattle.stack_rules.specs.Names.{mapped, named, names, path_of, lowers, lowers_of, lines_of, table_sectors, size, may_write}
 use Rattle.stack_rules.specs.Descend.{greatest, known, by_name, depth, depth_rule, descend, cost_rule, line_read_cost, line_write_cost, read_cost, write_cost}
 use Rattle.stack_rules.specs.RulesOf.{rules_of}
 use Rattle.stack_rules.specs.Cycles.{is_mapped, names_device}
@@ -88,7 +88,7 @@ lines-after c d unused e other = ap (λ o. option_map_or (λ (x : DeviceRecord).
 
 pub size-after : (c : Configuration) (d : ℕ) → IsUnused c d → (x : Lower) → IsOther d x → size (without c d) (lower_after d x) ≡ size c x
 size-after c d unused (leaf i) other = refl
-size-after c d unused (device e) other = ap sectors_of (lines-after c d unused e.0 other)
+size-after c d unused (device e) other = ap table_sectors (lines-after c d unused e.0 other)
 
 pub may_write-after : (c : Configuration) (d : ℕ) → IsUnused c d → (x : Lower) → IsOther d x → may_write (without c d) (lower_after d x) ≡ may_write c x
 may_write-after c d unused (leaf i) other = refl

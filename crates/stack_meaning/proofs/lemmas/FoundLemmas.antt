@@ -16,15 +16,15 @@ pub use Rattle.stack_meaning.proofs.lemmas.MeaningLaws.{HasMore, IsMono}
 use Rattle.stack_meaning.proofs.lemmas.MeaningLaws.{MeantLaws}
 use Rattle.stack_meaning.proofs.lemmas.MeaningLawsOf.{meaning-laws}
 use Rattle.stack_meaning.proofs.lemmas.SectorLemmas.{IsHandedUp, said_at-each}
-use Rattle.stack_meaning.specs.Found.{FoundRecord, Entry, entry_of, AreUsed, Grown}
+use Rattle.stack_meaning.specs.Found.{FoundRecord, Entry, found_entry, AreUsed, HasGrown}
 use Rattle.stack_meaning.specs.Kept.{LineKeeps, AllKept, target_leaves}
 
-pub Grown-none : (entries : ℕ → List Entry) (first n : ℕ) (found : List FoundRecord) → Grown entries first n found found
+pub Grown-none : (entries : ℕ → List Entry) (first n : ℕ) (found : List FoundRecord) → HasGrown entries first n found found
 Grown-none entries first n found = record { added = []; is = sym (append-nil found); used = All-nil _; distinct = λ h. h }
 
 -- on the way of some of more sectors
 used-more : (entries : ℕ → List Entry) (first a m n : ℕ) (found : List FoundRecord) → a + m ≤ n → AreUsed entries (first + a) m found → AreUsed entries first n found
-used-more entries first a m n found h all = λ k d below. SomeOf-more (λ s. Contains (entries s) (entry_of (get_or found k d))) first a m n h (all k d below)
+used-more entries first a m n found h all = λ k d below. SomeOf-more (λ s. Contains (entries s) (found_entry (get_or found k d))) first a m n h (all k d below)
 
 used-less : (entries : ℕ → List Entry) (first m n : ℕ) (found : List FoundRecord) → m ≤ n → AreUsed entries first m found → AreUsed entries first n found
 used-less entries first m n found h all = λ k d below. let some = all k d below in (some.0, omega (arith, h, some.1), some.2)
@@ -32,9 +32,9 @@ used-less entries first m n found h all = λ k d below. let some = all k d below
 -- chains of some sectors, and of the next ones
 pub used-append : (entries : ℕ → List Entry) (first a m : ℕ) (xs ys : List FoundRecord) → AreUsed entries first a xs → AreUsed entries (first + a) m ys → AreUsed entries first (a + m) (xs ++ ys)
 used-append entries first a m xs ys p q =
-    All-append (λ x. SomeOf (λ s. Contains (entries s) (entry_of x)) first (a + m)) xs ys (used-less entries first a (a + m) xs (omega arith) p) (used-more entries first a m (a + m) ys (omega arith) q)
+    All-append (λ x. SomeOf (λ s. Contains (entries s) (found_entry x)) first (a + m)) xs ys (used-less entries first a (a + m) xs (omega arith) p) (used-more entries first a m (a + m) ys (omega arith) q)
 
-pub Grown-then : {entries : ℕ → List Entry} {first a m n : ℕ} {u v w : List FoundRecord} → a + m ≤ n → Grown entries first a u v → Grown entries (first + a) m v w → Grown entries first n u w
+pub Grown-then : {entries : ℕ → List Entry} {first a m n : ℕ} {u v w : List FoundRecord} → a + m ≤ n → HasGrown entries first a u v → HasGrown entries (first + a) m v w → HasGrown entries first n u w
 Grown-then {entries = entries} {first = first} {a = a} {m = m} {n = n} {u = u} h p q = record {
   added = p.added ++ q.added;
   is = q.is ∙ ap (λ (x : List FoundRecord). x ++ q.added) p.is ∙ append_assoc u p.added q.added;
@@ -42,7 +42,7 @@ Grown-then {entries = entries} {first = first} {a = a} {m = m} {n = n} {u = u} h
   distinct = λ d. q.distinct (p.distinct d);
 }
 
-pub grown-keeps : {entries : ℕ → List Entry} {first n : ℕ} {u v : List FoundRecord} → Grown entries first n u v → (x : FoundRecord) → Contains u x → Contains v x
+pub grown-keeps : {entries : ℕ → List Entry} {first n : ℕ} {u v : List FoundRecord} → HasGrown entries first n u v → (x : FoundRecord) → Contains u x → Contains v x
 grown-keeps {u = u} p x h = subst (λ (l : List FoundRecord). Contains l x) (sym p.is) (Contains-append_left u p.added x h)
 
 -- ---- what a line gave stands while the leaves are read

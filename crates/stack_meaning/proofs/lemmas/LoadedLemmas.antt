@@ -11,7 +11,7 @@ use Rattle.dm_table.specs.declared.table.Target.{Target}
 use Rattle.stack_rules.specs.declared.lower.Lower.{Lower}
 use Rattle.stack_rules.specs.declared.lower.Lower.TheVariants.{Leaf as leaf, Device as device}
 use Rattle.stack_rules.specs.Records.{Configuration, DeviceRecord, LeafRecord}
-use Rattle.stack_rules.specs.Names.{mapped, named, names, lines_of, sectors_of, size}
+use Rattle.stack_rules.specs.Names.{mapped, named, names, lines_of, table_sectors, size}
 use Rattle.stack_rules.specs.Descend.{depth}
 use Rattle.stack_rules.specs.Lines.{IsLine}
 use Rattle.stack_rules.proofs.lemmas.UnrollLemmas.{falls-at}
@@ -48,10 +48,10 @@ line-inside c d l line valid at = let x = device-of c d l line at in (sound c va
 
 -- ---- sizes
 
-device-small : (c : Configuration) (d : ℕ) → IsValid c → sectors_of (lines_of c d) ≤ most_sectors
+device-small : (c : Configuration) (d : ℕ) → IsValid c → table_sectors (lines_of c d) ≤ most_sectors
 device-small c d valid = go (slice_get c.devices d) refl
   where
-    go : (o : Option DeviceRecord) → slice_get c.devices d ≡ o → sectors_of (option_map_or (λ x. x.table) o []) ≤ most_sectors
+    go : (o : Option DeviceRecord) → slice_get c.devices d ≡ o → table_sectors (option_map_or (λ x. x.table) o []) ≤ most_sectors
     go None e = omega arith
     go (Some x) e = size-low c valid d x e
 

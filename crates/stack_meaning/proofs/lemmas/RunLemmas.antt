@@ -12,9 +12,9 @@ use Rattle.stack_meaning.specs.declared.fault.Fault.{Fault}
 use Rattle.stack_meaning.specs.Outcomes.{Outcome, Images, joint_outcome, span, part}
 use Rattle.stack_meaning.specs.Sectors.{IsRun}
 use Rattle.stack_meaning.specs.Leaves.{steady_images, AreSteady, AreRead}
-use Rattle.stack_meaning.specs.Found.{FoundRecord, entry_of}
+use Rattle.stack_meaning.specs.Found.{FoundRecord, found_entry}
 use Rattle.stack_meaning.specs.Meaning.{Said}
-use Rattle.stack_meaning.specs.Places.{Place, Expected, run_expected, Read}
+use Rattle.stack_meaning.specs.Places.{Place, Expected, run_expected, LeafRead}
 use Rattle.stack_meaning.specs.Reading.{Ends, Answers, Gets, Finds}
 use Rattle.stack_meaning.proofs.lemmas.LeafListLemmas.{AreRead-then, AreRead-more, AreSteady-kept, AreSteady-within, images-kept, failed_later}
 use Rattle.stack_meaning.proofs.lemmas.FoundLemmas.{HasMore, IsMono, SomeOf-more, Grown-then, grown-keeps}
@@ -176,7 +176,7 @@ module _ {place place' : Place} {first first' n : ℕ} (passes : Passes place pl
         (span_same (means place.said) (means place'.said) first first' n (λ j h. ap (λ (x : Said). x.means (steady_images old)) (passes.said j h))) (p.exact (AreSteady-within old passes.leaves steady));
   }
 
-  pub pass : {c : Configuration} (did : Read) (answer : Result (List ℕ) IoFault) → Finds place c first n did answer → Finds place' c first' n did answer
+  pub pass : {c : Configuration} (did : LeafRead) (answer : Result (List ℕ) IoFault) → Finds place c first n did answer → Finds place' c first' n did answer
   pass did answer p = record {
     got = fill_as did.after answer p.got;
     grown = record {
@@ -184,7 +184,7 @@ module _ {place place' : Place} {first first' n : ℕ} (passes : Passes place pl
       is = p.grown.is;
       used = λ k d below.
           let some = p.grown.used k d below in
-          (some.0, some.1, subst (λ (x : Said). Contains x.entries (entry_of (get_or p.grown.added k d))) (passes.said some.0 some.1) some.2);
+          (some.0, some.1, subst (λ (x : Said). Contains x.entries (found_entry (get_or p.grown.added k d))) (passes.said some.0 some.1) some.2);
       distinct = p.grown.distinct;
     };
     kept = p.kept;

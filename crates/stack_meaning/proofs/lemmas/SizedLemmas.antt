@@ -12,7 +12,7 @@ use Rattle.stack_rules.specs.Trees.{block_sectors, zero_block}
 use Rattle.xts_sector.proofs.lemmas.UnitLemmas as units
 use Rattle.stack_rules.specs.Units.{unit_sectors}
 use Rattle.stack_rules.proofs.lemmas.UnitLemmas.{unit_sectors-some}
-use Rattle.stack_meaning.specs.Units.{unit_number, decrypted_unit, unit_part, unit_first}
+use Rattle.stack_meaning.specs.Units.{crypt_unit_number, decrypted_unit, unit_part, unit_first}
 use Rattle.stack_meaning.specs.Beneath.{said_or}
 use Rattle.stack_meaning.specs.Blocks.{hash_sectors, hash_start, next_digest, checked, checked_span, is_ignored, data_block_at, block_below}
 use Rattle.stack_meaning.specs.Said.{Said, none_said, leaf_said}
@@ -121,7 +121,7 @@ pub unit_part-size : (crypt : Crypt) (s : ℕ) (bytes : List ℕ) → length byt
 unit_part-size crypt s bytes len =
     let u : ℕ = unit_sectors crypt in
     let out = decrypted_unit crypt (s / u) bytes in
-    let long : length out ≡ 512 * u = units.length-decrypted crypt.key (unit_number crypt (s / u)) bytes (omega (arith, len)) ∙ len in
+    let long : length out ≡ 512 * u = units.length-decrypted crypt.key (crypt_unit_number crypt (s / u)) bytes (omega (arith, len)) ∙ len in
     let low : s % u < u = mod_below s u (omega (arith, unit_sectors-some crypt)) in
     length-take-le 512 (drop (512 * (s % u)) out) (omega (arith, long, low, length-drop (512 * (s % u)) out))
 

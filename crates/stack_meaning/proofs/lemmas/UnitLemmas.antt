@@ -10,7 +10,7 @@ use Rattle.xts_sector.proofs.lemmas.UnitLemmas as xts
 use Rattle.stack_meaning.specs.Outcomes.{Outcome, joint_outcome, span, part}
 use Rattle.dm_table.specs.Crypt.{sector_size}
 use Rattle.stack_rules.specs.Units.{unit_sectors}
-use Rattle.stack_meaning.specs.Units.{unit_number, encrypted_unit, decrypted_unit, encrypted_units, decrypted_units, unit_part}
+use Rattle.stack_meaning.specs.Units.{crypt_unit_number, encrypted_unit, decrypted_unit, encrypted_units, decrypted_units, unit_part}
 use Rattle.stack_rules.proofs.lemmas.UnitLemmas.{unit_sectors-some, unit-bytes}
 use Rattle.stack_meaning.proofs.lemmas.RunLemmas.{part_left}
 
@@ -102,12 +102,12 @@ module _ (crypt : Crypt) where
       decrypted-length : (k i : ℕ) → i < length bytes / sector_size crypt → length (decrypted_unit crypt (k + i) (unit (sector_size crypt) bytes i)) ≡ sector_size crypt
       decrypted-length k i h =
           let long = unit-length i (unit-low i h) in
-          xts.length-decrypted crypt.key (unit_number crypt (k + i)) (unit (sector_size crypt) bytes i) (omega (arith, long)) ∙ long ∙ (omega (arith, unit-bytes crypt))
+          xts.length-decrypted crypt.key (crypt_unit_number crypt (k + i)) (unit (sector_size crypt) bytes i) (omega (arith, long)) ∙ long ∙ (omega (arith, unit-bytes crypt))
 
       encrypted-length : (k i : ℕ) → i < length bytes / sector_size crypt → length (encrypted_unit crypt (k + i) (unit (sector_size crypt) bytes i)) ≡ sector_size crypt
       encrypted-length k i h =
           let long = unit-length i (unit-low i h) in
-          xts.length-encrypted crypt.key (unit_number crypt (k + i)) (unit (sector_size crypt) bytes i) (omega (arith, long)) ∙ long ∙ (omega (arith, unit-bytes crypt))
+          xts.length-encrypted crypt.key (crypt_unit_number crypt (k + i)) (unit (sector_size crypt) bytes i) (omega (arith, long)) ∙ long ∙ (omega (arith, unit-bytes crypt))
 
       all-bytes : sector_size crypt * (length bytes / sector_size crypt) ≡ 512 * n
       all-bytes =

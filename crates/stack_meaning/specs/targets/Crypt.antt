@@ -43,8 +43,8 @@ unit_put reads puts crypt s sectors images =
     else read_put (span (reads images) (unit_first crypt s) (unit_sectors crypt))
     (λ bytes. puts (unit_first crypt s) (encrypted_sectors crypt s (changed_unit crypt s sectors bytes))) images
 
-abbrev pub crypt : Crypt → TargetMeaning
-crypt line = record {
+abbrev pub crypt_meaning : Crypt → TargetMeaning
+crypt_meaning line = record {
   meant = own (record {
     said = λ below d l. crypt_said (below 0) line;
     put = λ reads puts. unit_put (λ images t. (reads 0 t).means images) (puts 0) line;

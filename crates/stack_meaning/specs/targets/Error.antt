@@ -9,8 +9,8 @@ use Rattle.stack_meaning.specs.TargetMeaning.{TargetMeaning, own}
 abbrev pub error_said : Said
 error_said = record { means = λ images. Err error_target; may = λ chains bytes. ⊥; meets = λ fault. fault ≡ error_target; entries = []; reaches = []; encrypts = ⊥ }
 
-abbrev pub error : TargetMeaning
-error = record {
+abbrev pub error_meaning : TargetMeaning
+error_meaning = record {
   meant = own (record { said = λ below d l s. error_said; put = λ reads puts s sectors images. stopped error_target images; keeps = λ below these leaves chain. ⊥ });
   together = λ s. true;
 }

@@ -2,8 +2,8 @@
 use Rattle.std.specs.Prelude.{ℕ, ◌+◌, ◌%◌, Bool, true, nat_lt}
 use Rattle.stack_meaning.specs.TargetMeaning.{TargetMeaning, handed}
 
-abbrev pub mapped : (ℕ → Bool) → TargetMeaning
-mapped together = record { meant = handed; together = together }
+abbrev pub mapped_meaning : (ℕ → Bool) → TargetMeaning
+mapped_meaning together = record { meant = handed; together = together }
 
 -- all sectors lie side by side
 abbrev pub whole : ℕ → Bool

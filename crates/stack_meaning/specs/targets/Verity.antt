@@ -5,8 +5,8 @@ use Rattle.block_device.specs.Device.{Device}
 use Rattle.dm_table.specs.declared.verity.Verity.{Verity}
 use Rattle.stack_rules.specs.Trees.{tree_of, block_sectors}
 use Rattle.stack_meaning.specs.Outcomes.{then_outcome, part}
-use Rattle.stack_meaning.specs.Found.{FoundRecord, Entry, entry_of}
-use Rattle.stack_meaning.specs.Blocks.{block_at, BlockMeets}
+use Rattle.stack_meaning.specs.Found.{FoundRecord, Entry, found_entry}
+use Rattle.stack_meaning.specs.Blocks.{verified_block, BlockMeets}
 use Rattle.stack_meaning.specs.Leaves.{steady_images, AreSteady}
 use Rattle.stack_meaning.specs.Said.{Said}
 use Rattle.stack_meaning.specs.Putting.{done}
@@ -15,7 +15,7 @@ use Rattle.stack_meaning.specs.TargetMeaning.{TargetMeaning, own}
 -- a chain that was found at that entry, and is good for that verity line
 pub record IsShown (chains : List FoundRecord) (entry : Entry) (v : Verity) (x : FoundRecord) : Type 0 where
   pub given : Contains chains x
-  pub at : entry_of x ≡ entry
+  pub at : found_entry x ≡ entry
   pub good : IsGood (tree_of v) v.salt v.root x.chain
 
 -- the sector of a chain's content at which sector s of its line stands
@@ -28,7 +28,7 @@ abbrev pub verity_said : (ℕ → Said) → (ℕ → Said) → ℕ → ℕ → V
 verity_said on_data on_hash d l v s =
     let i = s / block_sectors v in
     record {
-      means = λ images. then_outcome (block_at v (λ t. (on_data t).means images) (λ t. (on_hash t).means images) i) (λ block. Ok (content_part v s block));
+      means = λ images. then_outcome (verified_block v (λ t. (on_data t).means images) (λ t. (on_hash t).means images) i) (λ block. Ok (content_part v s block));
       may = λ chains bytes. (x : FoundRecord) × IsShown chains (d, l, i) v x × (bytes ≡ content_part v s x.chain.content);
       meets = BlockMeets v (λ t. (on_data t).meets) (λ t. (on_hash t).meets) i;
       entries = (d, l, i) ∷ [];
@@ -39,10 +39,10 @@ verity_said on_data on_hash d l v s =
 -- a chain of a verity line on these leaves: it is good, and where they are steady its content is the data block
 pub record IsOfVerity (on_data on_hash : ℕ → Said) (these : ℕ → Bool) (leaves : List Device) (v : Verity) (chain : ChainRecord) : Type 0 where
   pub good : IsGood (tree_of v) v.salt v.root chain
-  pub exact : AreSteady these leaves → block_at v (λ t. (on_data t).means (steady_images leaves)) (λ t. (on_hash t).means (steady_images leaves)) chain.index ≡ Ok chain.content
+  pub exact : AreSteady these leaves → verified_block v (λ t. (on_data t).means (steady_images leaves)) (λ t. (on_hash t).means (steady_images leaves)) chain.index ≡ Ok chain.content
 
-abbrev pub verity : Verity → TargetMeaning
-verity line = record {
+abbrev pub verity_meaning : Verity → TargetMeaning
+verity_meaning line = record {
   meant = own (record {
     said = λ below d l. verity_said (below 0) (below 1) d l line;
     put = λ reads puts s sectors images. done images;

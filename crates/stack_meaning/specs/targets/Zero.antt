@@ -9,8 +9,8 @@ use Rattle.stack_meaning.specs.TargetMeaning.{TargetMeaning, own}
 abbrev pub zero_said : Said
 zero_said = record { means = λ images. Ok zero_sector; may = λ chains bytes. bytes ≡ zero_sector; meets = λ fault. ⊥; entries = []; reaches = []; encrypts = ⊥ }
 
-abbrev pub zero : TargetMeaning
-zero = record {
+abbrev pub zero_meaning : TargetMeaning
+zero_meaning = record {
   meant = own (record { said = λ below d l s. zero_said; put = λ reads puts s sectors images. done images; keeps = λ below these leaves chain. ⊥ });
   together = λ s. true;
 }

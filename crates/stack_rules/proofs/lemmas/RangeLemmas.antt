@@ -7,7 +7,7 @@ use Rattle.dm_table.specs.declared.table.Target.TheVariants.{Linear, Striped, Cr
 use Rattle.dm_table.specs.declared.crypt.Crypt.{Crypt as CryptRecord}
 use Rattle.dm_table.specs.declared.verity.Verity.{Verity as VerityRecord}
 use Rattle.stack_rules.specs.Records.{Configuration}
-use Rattle.stack_rules.specs.Trees.{data_sectors}
+use Rattle.stack_rules.specs.Trees.{line_data_sectors}
 use Rattle.stack_rules.specs.Names.{names}
 use Rattle.stack_rules.proofs.lemmas.RulesLawsOf.{rules-laws}
 use Rattle.stack_rules.specs.Rules.{ends_past, is_beyond, range_from, ranges}
@@ -33,5 +33,5 @@ is_beyond-striped c len chunk bases = list_any-map (λ (range : List ℕ × ℕ)
 pub is_beyond-crypt : (c : Configuration) (len : ℕ) (crypt : CryptRecord) → is_beyond c len (Crypt crypt) ≡ ends_past c crypt.base.device (crypt.base.offset + len)
 is_beyond-crypt c len crypt = or-false (ends_past c crypt.base.device (crypt.base.offset + len))
 
-pub is_beyond-verity : (c : Configuration) (len : ℕ) (verity : VerityRecord) → is_beyond c len (Verity verity) ≡ ends_past c verity.data (data_sectors verity)
-is_beyond-verity c len verity = or-false (ends_past c verity.data (data_sectors verity))
+pub is_beyond-verity : (c : Configuration) (len : ℕ) (verity : VerityRecord) → is_beyond c len (Verity verity) ≡ ends_past c verity.data (line_data_sectors verity)
+is_beyond-verity c len verity = or-false (ends_past c verity.data (line_data_sectors verity))

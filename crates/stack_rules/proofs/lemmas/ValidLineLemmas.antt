@@ -9,7 +9,7 @@ use Rattle.stack_rules.specs.Records.{Configuration, DeviceRecord}
 use Rattle.stack_rules.specs.declared.refusal.LoadKind.{LoadKind}
 use Rattle.stack_rules.specs.declared.refusal.LoadKind.TheVariants.{TooMany}
 use Rattle.stack_rules.specs.declared.refusal.Refusal.{Refusal}
-use Rattle.stack_rules.specs.Names.{sectors_of}
+use Rattle.stack_rules.specs.Names.{table_sectors}
 use Rattle.stack_rules.specs.Lines.{Follow}
 use Rattle.stack_rules.specs.Descend.{most_devices}
 use Rattle.stack_rules.specs.Rules.{IsValid, first, each_device, device_rules, depth_rules, cost_rules, unknown_names, cycles, table_rules, line_faults, line_rules, refusals_at, refuse, is_too_many, most_lines, most_sectors, is_undivided, cuts_unit, is_off_unit, is_beyond, is_uncovered, is_tree_beyond, needs_read_only, names_read_only}
@@ -93,12 +93,12 @@ pub record IsSound (c : Configuration) (writable : Bool) (before : ℕ) (line : 
   pub lowers : (writable && names_read_only c line.target) ≡ false
 
 pub sound : (c : Configuration) → IsValid c → (d : ℕ) (x : DeviceRecord) → slice_get c.devices d ≡ Some x
-    → (l : ℕ) (line : Line) → slice_get x.table l ≡ Some line → IsSound c x.writable (sectors_of (take l x.table)) line
+    → (l : ℕ) (line : Line) → slice_get x.table l ≡ Some line → IsSound c x.writable (table_sectors (take l x.table)) line
 sound c valid d x device l line there =
-    let all : first (line_rules c x.writable (d + 1) (l + 1) (sectors_of (take ((l + 1) - 1) x.table)) line) ≡ None =
-    line_at_place c (λ d x l line. line_rules c x.writable d l (sectors_of (take (l - 1) x.table)) line) (rules-of c valid).lines d x device l line there in
+    let all : first (line_rules c x.writable (d + 1) (l + 1) (table_sectors (take ((l + 1) - 1) x.table)) line) ≡ None =
+    line_at_place c (λ d x l line. line_rules c x.writable d l (table_sectors (take (l - 1) x.table)) line) (rules-of c valid).lines d x device l line there in
     let here : (l + 1) - 1 ≡ l = omega arith in
-    from (sectors_of (take l x.table)) (rw here at all)
+    from (table_sectors (take l x.table)) (rw here at all)
   where
     from : (before : ℕ) → first (line_rules c x.writable (d + 1) (l + 1) before line) ≡ None → IsSound c x.writable before line
     from before h =
@@ -109,7 +109,7 @@ sound c valid d x device l line there =
 
 -- the facts of each line of a list, where the lines before it have some sectors
 AllFollow : ℕ → List Line → Type 0
-AllFollow n lines = (l : ℕ) (line : Line) → slice_get lines l ≡ Some line → (line.start ≡ n + sectors_of (take l lines)) × (0 < line.length)
+AllFollow n lines = (l : ℕ) (line : Line) → slice_get lines l ≡ Some line → (line.start ≡ n + table_sectors (take l lines)) × (0 < line.length)
 
 follow-all : (n : ℕ) (lines : List Line) → AllFollow n lines → Follow n lines
 unfolding AllFollow
@@ -145,15 +145,15 @@ few_lines c valid d x device =
     go (y ∷ ys) (suc d) h there = go ys d (or-false (nat_lt most_lines (length y.table)) (list_any (λ d. nat_lt most_lines (length d.table)) ys) h).1 there
 
 -- lines that follow each other from n on end where their lengths add up to
-follow-sum : (n most : ℕ) (lines : List Line) → n ≤ most → ((l : ℕ) (line : Line) → slice_get lines l ≡ Some line → line.start + line.length ≤ most) → Follow n lines → n + sectors_of lines ≤ most
+follow-sum : (n most : ℕ) (lines : List Line) → n ≤ most → ((l : ℕ) (line : Line) → slice_get lines l ≡ Some line → line.start + line.length ≤ most) → Follow n lines → n + table_sectors lines ≤ most
 follow-sum n most [] low all f = omega arith
 follow-sum n most (line ∷ more) low all f =
     let here : line.start + line.length ≤ most = all 0 line refl in
-    let later : n + line.length + sectors_of more ≤ most = follow-sum (n + line.length) most more (omega (arith, here, f.0)) (λ l next there. all (suc l) next there) f.2 in
+    let later : n + line.length + table_sectors more ≤ most = follow-sum (n + line.length) most more (omega (arith, here, f.0)) (λ l next there. all (suc l) next there) f.2 in
     omega (arith, later, sum_by-cons (λ (line : Line). line.length) line more)
 
 -- no device has more than 2^54 sectors
-pub size-low : (c : Configuration) → IsValid c → (d : ℕ) (x : DeviceRecord) → slice_get c.devices d ≡ Some x → sectors_of x.table ≤ most_sectors
+pub size-low : (c : Configuration) → IsValid c → (d : ℕ) (x : DeviceRecord) → slice_get c.devices d ≡ Some x → table_sectors x.table ≤ most_sectors
 size-low c valid d x device =
     let all = follow-sum 0 most_sectors x.table (omega arith) (λ l line there. (sound c valid d x device l line there).low) (follow c valid d x device) in
     omega (arith, all)

@@ -9,7 +9,7 @@ use Rattle.request_queue.specs.World.{World, Step}
 use Rattle.request_queue.specs.World as event
 use Rattle.request_queue.proofs.lemmas.LedLemmas.{led-none, led-one, led-then}
 use Rattle.stack_session.specs.Session.{ServesLines}
-use Rattle.stack_session.specs.Commands.{CommandRecord, nothing, load, run, submit, step, remove, cost, table, moved, usage, command_of}
+use Rattle.stack_session.specs.Commands.{CommandRecord, nothing, load, run, submit, step, remove, cost, table, moved, usage, line_command}
 use Rattle.stack_session.specs.Replies.{RepliesToText, RepliesTo, Replies}
 
 module _ (part : PartRelation) where
@@ -42,4 +42,4 @@ module _ (part : PartRelation) where
   lines-led w [] (reply ∷ more) w' r = absurd r
   lines-led w (line ∷ lines) [] w' r = absurd r
   lines-led w (line ∷ lines) (reply ∷ more) w' r =
-      led-then part w r.0 w' (command-led w (command_of line) reply r.0 r.1.to) (lines-led r.0 lines more w' r.2)
+      led-then part w r.0 w' (command-led w (line_command line) reply r.0 r.1.to) (lines-led r.0 lines more w' r.2)

@@ -9,7 +9,7 @@ use Rattle.tree_shape.specs.Digests.{digest, digest_in}
 use Rattle.tree_shape.specs.Shape.{ShapeRecord, levels, slot, ancestor, position}
 use Rattle.verity_format.specs.Blocks.{IsFullRead, block_at}
 use Rattle.tree_path.specs.Path.{PathRecord, IsPathOf, LeadsTo, AreStored, block_of, digest_on, stored_block, stored_digest}
-use Rattle.tree_path.specs.Steps.{Steps, steps, IsDown, IsLoaded}
+use Rattle.tree_path.specs.Steps.{Steps, steps, IsDown, IsStepLoaded}
 use Rattle.tree_path.proofs.lemmas.DeviceLemmas.{full_read-none, full_read-then, steady-then}
 
 module _ (p : PathRecord) (i m : ℕ) where
@@ -63,7 +63,7 @@ down-none p d index from = record {
 }
 
 -- one level more
-module _ (old mid new : PathRecord) (d dm d' : Device) (index from l : ℕ) (low : l < from) (down : IsDown (steps old mid d dm index from) (suc l) (suc l)) (good : Bool) (loaded : IsLoaded (steps mid new dm d' index l) good) where
+module _ (old mid new : PathRecord) (d dm d' : Device) (index from l : ℕ) (low : l < from) (down : IsDown (steps old mid d dm index from) (suc l) (suc l)) (good : Bool) (loaded : IsStepLoaded (steps mid new dm d' index l) good) where
   new-shape : new.shape ≡ mid.shape
   new-shape = ap (λ (p : PathRecord). p.shape) loaded.is
 

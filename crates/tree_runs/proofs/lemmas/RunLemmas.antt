@@ -5,7 +5,7 @@ use Rattle.std.proofs.lemmas.List.{append-nil, append_assoc, length-append, leng
 use Rattle.tree_runs.specs.declared.run.Kind.{Kind}
 use Rattle.tree_runs.specs.declared.run.Kind.TheVariants.{Changed, Unknown, Removed, Added}
 use Rattle.tree_runs.specs.declared.run.Run.{Run}
-use Rattle.tree_runs.specs.Runs.{State, kind_number, is_same, is_state, weight, run, follows, run_before, runs_of, count_of}
+use Rattle.tree_runs.specs.Runs.{State, kind_number, is_same, is_state, one_if, run, follows, run_before, runs_of, count_of}
 use Rattle.tree_runs.specs.Tallies.{EndsAt, listed, closed_from, opened_from, closed_by, opened_by}
 
 -- ---- kinds
@@ -217,8 +217,8 @@ count_of-had kind (suc n) = omega (arith, count_of-had kind n)
 
 pub count_of-some : (n : ℕ) (kind : Kind) → count_of kind (replicate n (Some kind)) ≡ n
 count_of-some zero kind = refl
-count_of-some (suc n) kind = let one : weight (is_same kind kind) ≡ 1 = ap weight (is_same-refl kind) in omega (arith, one, count_of-some n kind)
+count_of-some (suc n) kind = let one : one_if (is_same kind kind) ≡ 1 = ap one_if (is_same-refl kind) in omega (arith, one, count_of-some n kind)
 
 pub count_of-others : (n : ℕ) (kind other : Kind) → is_same kind other ≡ false → count_of kind (replicate n (Some other)) ≡ 0
 count_of-others zero kind other differ = refl
-count_of-others (suc n) kind other differ = let none : weight (is_same kind other) ≡ 0 = ap weight differ in omega (arith, none, count_of-others n kind other differ)
+count_of-others (suc n) kind other differ = let none : one_if (is_same kind other) ≡ 0 = ap one_if differ in omega (arith, none, count_of-others n kind other differ)

@@ -3,7 +3,7 @@ use Rattle.std.proofs.Common.{◌≡◌, ◌≤◌, ◌*◌, ◌/◌, ◌^◌, �
 use Rattle.std.proofs.lemmas.Bool.Decides.{nat_tests}
 use borrow.Author.Tests.{eqb-true}
 use Rattle.tree_shape.specs.declared.shape.ShapeFault.TheVariants.{BlockSize, NoBlocks, TooLarge}
-use Rattle.tree_shape.specs.Shape.{ShapeRecord, IsShape, first_fault, is_block_size, is_too_large, sectors_of, area_end, per_block}
+use Rattle.tree_shape.specs.Shape.{ShapeRecord, IsShape, first_fault, is_block_size, is_too_large, blocks_sectors, area_end, per_block}
 
 passed : (a b z d e : Bool)
     → cond (not (a && b)) (Some BlockSize) (cond z (Some NoBlocks) (cond (d || e) (Some TooLarge) None)) ≡ None
@@ -28,7 +28,7 @@ true-IsTrue b h = search rules
 pub IsShape-from_no_fault : (s : ShapeRecord) → first_fault s ≡ None → IsShape s
 unfolding first_fault
 IsShape-from_no_fault s h =
-    let parts = passed (is_block_size s.data_block) (is_block_size s.hash_block) (s.blocks == 0) (is_too_large (sectors_of s.blocks s.data_block)) (is_too_large (sectors_of (area_end s) s.hash_block)) h in
+    let parts = passed (is_block_size s.data_block) (is_block_size s.hash_block) (s.blocks == 0) (is_too_large (blocks_sectors s.blocks s.data_block)) (is_too_large (blocks_sectors (area_end s) s.hash_block)) h in
     record {
       data_size = true-IsTrue _ parts.0;
       hash_size = true-IsTrue _ parts.1;
@@ -51,7 +51,7 @@ not_zero n h = grind (arith, nat_tests)
 pub first_fault-none : (s : ShapeRecord) → IsShape s → first_fault s ≡ None
 unfolding first_fault
 first_fault-none s valid =
-    none_passed (is_block_size s.data_block) (is_block_size s.hash_block) (s.blocks == 0) (is_too_large (sectors_of s.blocks s.data_block)) (is_too_large (sectors_of (area_end s) s.hash_block))
+    none_passed (is_block_size s.data_block) (is_block_size s.hash_block) (s.blocks == 0) (is_too_large (blocks_sectors s.blocks s.data_block)) (is_too_large (blocks_sectors (area_end s) s.hash_block))
     valid.data_size valid.hash_size (not_zero s.blocks valid.some) (not_large _ valid.data_fits) (not_large _ valid.tree_fits)
 
 four : (a b c d : Bool) → IsTrue (a || b || c || d) → ((a ≡ true) ⊎ (b ≡ true)) ⊎ ((c ≡ true) ⊎ (d ≡ true))
@@ -85,13 +85,13 @@ pub per_block-wide : (s : ShapeRecord) → IsShape s → (16 ≤ per_block s) ×
 per_block-wide s valid = block_size-wide s.hash_block valid.hash_size
 
 -- that many blocks of one of the four sizes that take at most 2^54 sectors
-sized : (n size : ℕ) → IsTrue (is_block_size size) → sectors_of n size ≤ 2 ^ 54 → (n ≤ 2 ^ 54) × (n * size ≤ 2 ^ 63)
+sized : (n size : ℕ) → IsTrue (is_block_size size) → blocks_sectors n size ≤ 2 ^ 54 → (n ≤ 2 ^ 54) × (n * size ≤ 2 ^ 63)
 sized n size one fits =
     elim (is_block_size-cases size one) [
-      | inl (inl e) ↦ let small : sectors_of n 512 ≤ 2 ^ 54 = rw e at fits in rw e (omega (arith, small), omega (arith, small))
-      | inl (inr e) ↦ let small : sectors_of n 1024 ≤ 2 ^ 54 = rw e at fits in rw e (omega (arith, small), omega (arith, small))
-      | inr (inl e) ↦ let small : sectors_of n 2048 ≤ 2 ^ 54 = rw e at fits in rw e (omega (arith, small), omega (arith, small))
-      | inr (inr e) ↦ let small : sectors_of n 4096 ≤ 2 ^ 54 = rw e at fits in rw e (omega (arith, small), omega (arith, small))
+      | inl (inl e) ↦ let small : blocks_sectors n 512 ≤ 2 ^ 54 = rw e at fits in rw e (omega (arith, small), omega (arith, small))
+      | inl (inr e) ↦ let small : blocks_sectors n 1024 ≤ 2 ^ 54 = rw e at fits in rw e (omega (arith, small), omega (arith, small))
+      | inr (inl e) ↦ let small : blocks_sectors n 2048 ≤ 2 ^ 54 = rw e at fits in rw e (omega (arith, small), omega (arith, small))
+      | inr (inr e) ↦ let small : blocks_sectors n 4096 ≤ 2 ^ 54 = rw e at fits in rw e (omega (arith, small), omega (arith, small))
     ]
 
 -- there are at most 2^54 data blocks, of at most 2^63 bytes

@@ -7,7 +7,7 @@ use Rattle.aes_block.specs.Blocks.{block, joined}
 use Rattle.aes_block.proofs.lemmas.BlockLemmas.{length-joined}
 use Rattle.aes_block.proofs.lemmas.PartLemmas.{length-joined_parts, part-joined, IsWrittenTo, IsWrittenTo-more, parts_undone}
 use Rattle.xts_sector.specs.Xts.{data_key, tweak, encrypted_block, decrypted_block, encrypted_blocks, decrypted_blocks, encrypted, decrypted}
-use Rattle.xts_sector.specs.Units.{unit, encrypted_units, decrypted_units}
+use Rattle.xts_sector.specs.Units.{unit, encrypted_numbered, decrypted_numbered}
 use Rattle.xts_sector.proofs.XtsLemmas.{length-encrypted_block, length-decrypted_block}
 
 -- whole units are as many bytes as their number times their size
@@ -41,30 +41,30 @@ module _ (key numbers : List ℕ) (size : ℕ) (bytes : List ℕ) (blocks : size
       length-decrypted key (get_or numbers i 0) (unit size bytes i) (rw long blocks) ∙ long
 
   -- a unit of enciphered units is the unit enciphered
-  pub unit-encrypted_units : (i : ℕ) → i < length numbers → unit size (encrypted_units key numbers size bytes) i ≡ encrypted key (get_or numbers i 0) (unit size bytes i)
-  unfolding encrypted_units
+  pub unit-encrypted_units : (i : ℕ) → i < length numbers → unit size (encrypted_numbered key numbers size bytes) i ≡ encrypted key (get_or numbers i 0) (unit size bytes i)
+  unfolding encrypted_numbered
   unit-encrypted_units i h = part-joined size (λ i. encrypted key (get_or numbers i 0) (unit size bytes i)) (length numbers) i length-encrypted_unit h
 
-  pub unit-decrypted_units : (i : ℕ) → i < length numbers → unit size (decrypted_units key numbers size bytes) i ≡ decrypted key (get_or numbers i 0) (unit size bytes i)
-  unfolding decrypted_units
+  pub unit-decrypted_units : (i : ℕ) → i < length numbers → unit size (decrypted_numbered key numbers size bytes) i ≡ decrypted key (get_or numbers i 0) (unit size bytes i)
+  unfolding decrypted_numbered
   unit-decrypted_units i h = part-joined size (λ i. decrypted key (get_or numbers i 0) (unit size bytes i)) (length numbers) i length-decrypted_unit h
 
-  pub length-encrypted_units : length (encrypted_units key numbers size bytes) ≡ length bytes
-  unfolding encrypted_units
+  pub length-encrypted_units : length (encrypted_numbered key numbers size bytes) ≡ length bytes
+  unfolding encrypted_numbered
   length-encrypted_units = length-joined_parts size (λ i. encrypted key (get_or numbers i 0) (unit size bytes i)) (length numbers) length-encrypted_unit ∙ sym whole
 
-  pub length-decrypted_units : length (decrypted_units key numbers size bytes) ≡ length bytes
-  unfolding decrypted_units
+  pub length-decrypted_units : length (decrypted_numbered key numbers size bytes) ≡ length bytes
+  unfolding decrypted_numbered
   length-decrypted_units = length-joined_parts size (λ i. decrypted key (get_or numbers i 0) (unit size bytes i)) (length numbers) length-decrypted_unit ∙ sym whole
 
   -- deciphering undoes enciphering where it does so on each unit
-  pub encrypted_units_undone : ((i : ℕ) → i < length numbers → decrypted key (get_or numbers i 0) (encrypted key (get_or numbers i 0) (unit size bytes i)) ≡ unit size bytes i) → decrypted_units key numbers size (encrypted_units key numbers size bytes) ≡ bytes
-  unfolding encrypted_units decrypted_units
+  pub encrypted_units_undone : ((i : ℕ) → i < length numbers → decrypted key (get_or numbers i 0) (encrypted key (get_or numbers i 0) (unit size bytes i)) ≡ unit size bytes i) → decrypted_numbered key numbers size (encrypted_numbered key numbers size bytes) ≡ bytes
+  unfolding encrypted_numbered decrypted_numbered
   encrypted_units_undone undone =
       parts_undone size (λ i x. encrypted key (get_or numbers i 0) x) (λ i x. decrypted key (get_or numbers i 0) x) bytes (length numbers) whole length-encrypted_unit undone
 
-  pub decrypted_units_undone : ((i : ℕ) → i < length numbers → encrypted key (get_or numbers i 0) (decrypted key (get_or numbers i 0) (unit size bytes i)) ≡ unit size bytes i) → encrypted_units key numbers size (decrypted_units key numbers size bytes) ≡ bytes
-  unfolding encrypted_units decrypted_units
+  pub decrypted_units_undone : ((i : ℕ) → i < length numbers → encrypted key (get_or numbers i 0) (decrypted key (get_or numbers i 0) (unit size bytes i)) ≡ unit size bytes i) → encrypted_numbered key numbers size (decrypted_numbered key numbers size bytes) ≡ bytes
+  unfolding encrypted_numbered decrypted_numbered
   decrypted_units_undone undone =
       parts_undone size (λ i x. decrypted key (get_or numbers i 0) x) (λ i x. encrypted key (get_or numbers i 0) x) bytes (length numbers) whole length-decrypted_unit undone
 

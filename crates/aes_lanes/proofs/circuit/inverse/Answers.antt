@@ -1,9 +1,9 @@
-use Rattle.aes_lanes.specs.Circuit.{CarryEach, inverse}
+use Rattle.aes_lanes.specs.Circuit.{CarryEach, inverse_bits}
 use Rattle.aes_lanes.proofs.GateLemmas.{Carries-xor, Carries-and, Carries-or}
 use Rattle.aes_lanes.proofs.circuit.inverse.Goals as goal
 
 pub returns : goal.returns
-unfolding inverse CarryEach
+unfolding inverse_bits CarryEach
 returns c p b v combined_bits lane low byte given_combined =
     let t21 = given_combined.0.0.0.1 in
     let t22 = given_combined.0.0.1 in

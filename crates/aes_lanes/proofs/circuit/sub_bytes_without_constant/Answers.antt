@@ -1,6 +1,6 @@
 use Rattle.std.proofs.Common.{ℕ, ◌<◌, arith}
 use Rattle.aes_lanes.specs.Planes.{byte_of}
-use Rattle.aes_lanes.specs.Circuit.{sums, combined, inverse, products}
+use Rattle.aes_lanes.specs.Circuit.{sums, combined, inverse_bits, products}
 use Rattle.aes_lanes.proofs.PlaneLemmas.{byte_of_lt}
 use Rattle.aes_lanes.proofs.CircuitLemmas.{inputs, outputs, inputs_carried, byte_of-outputs, ArePlanes-carried, block_of-sub_bytes}
 use Rattle.aes_lanes.proofs.circuit.sub_bytes_without_constant.Goals as goal
@@ -17,8 +17,8 @@ returns-clause-planes c =
     let y = c.sums-sums.ensures p b v inputs hp hb byte (inputs_carried q c.requires p b) in
     let t = c.combined-combined.ensures p b v (sums inputs) hp hb byte y in
     let i = c.inverse-inverse.ensures p b v (combined (sums inputs)) hp hb byte t in
-    let z = c.products-products.ensures p b v (sums inputs) (inverse (combined (sums inputs))) hp hb byte y i in
-    let all = c.substituted.ensures p b v (products (sums inputs) (inverse (combined (sums inputs)))) hp hb byte z in
+    let z = c.products-products.ensures p b v (sums inputs) (inverse_bits (combined (sums inputs))) hp hb byte y i in
+    let all = c.substituted.ensures p b v (products (sums inputs) (inverse_bits (combined (sums inputs)))) hp hb byte z in
     ArePlanes-carried p b v _ _ all
 
 pub returns-clause-blocks : goal.returns-clause-blocks
@@ -31,6 +31,6 @@ returns-clause-blocks c =
     let y = c.sums-sums.ensures p b v inputs hp hb byte (inputs_carried q c.requires p b) in
     let t = c.combined-combined.ensures p b v (sums inputs) hp hb byte y in
     let i = c.inverse-inverse.ensures p b v (combined (sums inputs)) hp hb byte t in
-    let z = c.products-products.ensures p b v (sums inputs) (inverse (combined (sums inputs))) hp hb byte y i in
-    let all = c.substituted.ensures p b v (products (sums inputs) (inverse (combined (sums inputs)))) hp hb byte z in
+    let z = c.products-products.ensures p b v (sums inputs) (inverse_bits (combined (sums inputs))) hp hb byte y i in
+    let all = c.substituted.ensures p b v (products (sums inputs) (inverse_bits (combined (sums inputs)))) hp hb byte z in
     byte_of-outputs p b v _ byte all)

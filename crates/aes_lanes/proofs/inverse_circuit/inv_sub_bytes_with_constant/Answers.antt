@@ -1,6 +1,6 @@
 use Rattle.std.proofs.Common.{ℕ, ◌<◌, arith}
 use Rattle.aes_lanes.specs.Planes.{byte_of}
-use Rattle.aes_lanes.specs.Circuit.{combined, inverse, products}
+use Rattle.aes_lanes.specs.Circuit.{combined, inverse_bits, products}
 use Rattle.aes_lanes.specs.InverseCircuit.{inverse_sums}
 use Rattle.aes_lanes.proofs.PlaneLemmas.{byte_of_lt}
 use Rattle.aes_lanes.proofs.CircuitLemmas.{inputs, inverse_outputs, inputs_carried, byte_of-inverse_outputs, ArePlanes-carried, block_of-inv_sub_bytes}
@@ -18,8 +18,8 @@ returns-clause-planes c =
     let y = c.inverse_sums-sums.ensures p b v inputs hp hb byte (inputs_carried q c.requires p b) in
     let t = c.combined-combined.ensures p b v (inverse_sums inputs) hp hb byte y in
     let i = c.inverse-inverse.ensures p b v (combined (inverse_sums inputs)) hp hb byte t in
-    let z = c.products-products.ensures p b v (inverse_sums inputs) (inverse (combined (inverse_sums inputs))) hp hb byte y i in
-    let all = c.inverse_substituted.ensures p b v (products (inverse_sums inputs) (inverse (combined (inverse_sums inputs)))) hp hb byte z in
+    let z = c.products-products.ensures p b v (inverse_sums inputs) (inverse_bits (combined (inverse_sums inputs))) hp hb byte y i in
+    let all = c.inverse_substituted.ensures p b v (products (inverse_sums inputs) (inverse_bits (combined (inverse_sums inputs)))) hp hb byte z in
     ArePlanes-carried p b v _ _ all
 
 pub returns-clause-blocks : goal.returns-clause-blocks
@@ -32,6 +32,6 @@ returns-clause-blocks c =
     let y = c.inverse_sums-sums.ensures p b v inputs hp hb byte (inputs_carried q c.requires p b) in
     let t = c.combined-combined.ensures p b v (inverse_sums inputs) hp hb byte y in
     let i = c.inverse-inverse.ensures p b v (combined (inverse_sums inputs)) hp hb byte t in
-    let z = c.products-products.ensures p b v (inverse_sums inputs) (inverse (combined (inverse_sums inputs))) hp hb byte y i in
-    let all = c.inverse_substituted.ensures p b v (products (inverse_sums inputs) (inverse (combined (inverse_sums inputs)))) hp hb byte z in
+    let z = c.products-products.ensures p b v (inverse_sums inputs) (inverse_bits (combined (inverse_sums inputs))) hp hb byte y i in
+    let all = c.inverse_substituted.ensures p b v (products (inverse_sums inputs) (inverse_bits (combined (inverse_sums inputs)))) hp hb byte z in
     byte_of-inverse_outputs p b v _ byte all)

@@ -1,7 +1,7 @@
 use Rattle.std.proofs.Common.{◌≡◌, ◌+◌, ◌*◌, ◌/◌, ◌%◌, ◌<◌, ◌≤◌, ℕ, length, subst, ap, ◌∙◌, arith, bit_xor}
 use Rattle.std.specs.Prelude.{slice_index}
-use Rattle.reed_solomon.specs.Field.{product}
-use Rattle.fec_area.specs.Layouts.{covered, covered_blocks, rounds}
+use Rattle.reed_solomon.specs.Field.{field_product}
+use Rattle.fec_area.specs.Layouts.{covered, covered_blocks, code_rounds}
 use Rattle.fec_area.proofs.AskingLemmas.{asked-at, past-asked}
 use Rattle.fec_area.proofs.PlaceLemmas.{place-fits, place-past, products-added}
 use Rattle.fec_area.proofs.round.add_place.Goals as goal
@@ -11,15 +11,15 @@ returns-then-index-covered_blocks-clause-added g c one other =
     let l = c.args.code.now.layout.now in
     let a = g.D.BlockDev.state c.args.data_dev.now in
     let b = g.H.BlockDev.state c.args.hash_dev.now in
-    let index : c.args.place * c.rounds.result ≡ c.args.place * rounds l = ap (λ n. c.args.place * n) c.rounds.ensures.value in
-    let past : covered_blocks l ≤ c.args.place * rounds l + c.args.round = omega (arith, c.if-index-covered_blocks.true, c.covered_blocks.ensures.value, index) in
+    let index : c.args.place * c.rounds.result ≡ c.args.place * code_rounds l = ap (λ n. c.args.place * n) c.rounds.ensures.value in
+    let past : covered_blocks l ≤ c.args.place * code_rounds l + c.args.round = omega (arith, c.if-index-covered_blocks.true, c.covered_blocks.ensures.value, index) in
     place-past l a.image b.image c.args.code.now.count c.args.code.now.products.now c.args.round c.args.place c.args.sums.now past
 
 pub returns-then-index-covered_blocks-clause-asks : goal.returns-then-index-covered_blocks-clause-asks
 returns-then-index-covered_blocks-clause-asks g c =
     let l = c.args.code.now.layout.now in
-    let index : c.args.place * c.rounds.result ≡ c.args.place * rounds l = ap (λ n. c.args.place * n) c.rounds.ensures.value in
-    past-asked l (c.args.place * rounds l + c.args.round) (g.D.BlockDev.state c.args.data_dev.now) (g.H.BlockDev.state c.args.hash_dev.now)
+    let index : c.args.place * c.rounds.result ≡ c.args.place * code_rounds l = ap (λ n. c.args.place * n) c.rounds.ensures.value in
+    past-asked l (c.args.place * code_rounds l + c.args.round) (g.D.BlockDev.state c.args.data_dev.now) (g.H.BlockDev.state c.args.hash_dev.now)
     (omega (arith, c.if-index-covered_blocks.true, c.covered_blocks.ensures.value, index))
 
 pub returns-in_err-read_covered-clause-asks : goal.returns-in_err-read_covered-clause-asks
@@ -47,10 +47,10 @@ returns-clause-added g c one other =
     let last : first + count ≤ 255 * count = place-fits place count (omega (arith, c.requires.place)) in
     let fits : first + count ≤ length products = omega (arith, last, c.requires.can.products_are) in
     let all : length new ≡ l.block * count = c.add_products.auto.sums ∙ c.requires.can.sums_are in
-    let at : place * c.rounds.result + c.args.round ≡ place * rounds l + c.args.round = ap (λ n. place * n + c.args.round) c.rounds.ensures.value in
-    let is : block ≡ covered l a.image b.image (place * rounds l + c.args.round) = c.in_ok-read_covered.ensures.bytes one other ∙ ap (λ j. covered l a.image b.image j) at in
+    let at : place * c.rounds.result + c.args.round ≡ place * code_rounds l + c.args.round = ap (λ n. place * n + c.args.round) c.rounds.ensures.value in
+    let is : block ≡ covered l a.image b.image (place * code_rounds l + c.args.round) = c.in_ok-read_covered.ensures.bytes one other ∙ ap (λ j. covered l a.image b.image j) at in
     let added = products-added products block old new count first l.block fits all c.add_products.ensures in
     record {
-      sums = λ m lt. added m lt ∙ ap (λ bytes. bit_xor (slice_index old m) (product (slice_index products (first + m % count)) (slice_index bytes (m / count)))) is;
+      sums = λ m lt. added m lt ∙ ap (λ bytes. bit_xor (slice_index old m) (field_product (slice_index products (first + m % count)) (slice_index bytes (m / count)))) is;
       bytes = λ k. subst (λ bytes. slice_index bytes k < 256) is (c.read_covered.ensures.fits k);
     }

@@ -3,7 +3,7 @@ use Rattle.std.specs.Prelude.{slice_index}
 use Rattle.std.proofs.lemmas.List.{get_or-replicate}
 use Rattle.std.proofs.lemmas.List.FromFn.{length-range_with_len}
 use Rattle.std.proofs.lemmas.Result.{err_from_is_err_and}
-use Rattle.fec_area.specs.Layouts.{message}
+use Rattle.fec_area.specs.Layouts.{message_byte}
 use Rattle.fec_area.specs.Rounds.{IsPlaceAdded}
 use Rattle.fec_area.proofs.CallLemmas.{read-none, read-then, unfailed-none, unfailed-then, one_failed-then, laid-then, image-then}
 use Rattle.fec_area.proofs.RoundLemmas.{summed-none, summed-more, summed-parity, bytes-more, round-swap}
@@ -16,7 +16,7 @@ loop-place-init g c =
     record {
       read = read-none (g.D.BlockDev.state c.args.data_dev.now) (g.H.BlockDev.state c.args.hash_dev.now);
       unfailed = unfailed-none (g.D.BlockDev.state c.args.data_dev.now) (g.H.BlockDev.state c.args.hash_dev.now);
-      sums = λ one other. summed-none (message c.args.code.now.layout.now (g.D.BlockDev.state c.args.data_dev.now).image (g.H.BlockDev.state c.args.hash_dev.now).image c.args.round) c.args.code.now.layout.now.roots c.args.code.now.products.now sums (λ m lt. ap (λ xs. slice_index xs m) zeros ∙ get_or-replicate {A = ℕ} (length c.args.parity.now) m 0 0 (omega (arith, lt, c.fill.ensures.len)));
+      sums = λ one other. summed-none (message_byte c.args.code.now.layout.now (g.D.BlockDev.state c.args.data_dev.now).image (g.H.BlockDev.state c.args.hash_dev.now).image c.args.round) c.args.code.now.layout.now.roots c.args.code.now.products.now sums (λ m lt. ap (λ xs. slice_index xs m) zeros ∙ get_or-replicate {A = ℕ} (length c.args.parity.now) m 0 0 (omega (arith, lt, c.fill.ensures.len)));
       bytes = λ one other i k lt. absurd (omega (arith, lt));
     }
 
@@ -49,7 +49,7 @@ loop-place-preserved g c =
     record {
       read = read-then here.read c.add_place.ensures.read;
       unfailed = unfailed-then here.unfailed c.in_ok-add_place.ensures.ok;
-      sums = λ one other. summed-more (message l a.image b.image c.args.round) l.roots products old new place c.add_place.auto.sums (added one other).sums (here.sums one other);
+      sums = λ one other. summed-more (message_byte l a.image b.image c.args.round) l.roots products old new place c.add_place.auto.sums (added one other).sums (here.sums one other);
       bytes = λ one other. bytes-more l a.image b.image c.args.round place (added one other).bytes (here.bytes one other);
     }
 

@@ -1,6 +1,6 @@
 use Rattle.std.proofs.Common.{IsTrue}
 use Rattle.verity_format.specs.Blocks.{AreOnlyRead}
-use Rattle.fec_area.specs.Layouts.{message}
+use Rattle.fec_area.specs.Layouts.{message_byte}
 use Rattle.fec_area.specs.Rounds.{AreUnfailed}
 use Rattle.fec_area.proofs.RoundLemmas.{AreBytes, AreSummed}
 use Rattle.fec_area.proofs.round.sum_parity.Given as goal
@@ -10,6 +10,6 @@ abbrev pub invariant-loop-place : goal.invariant-loop-place
 invariant-loop-place g l = record {
   read : AreOnlyRead (g.D.BlockDev.state l.fn.data_dev) (g.H.BlockDev.state l.fn.hash_dev) (g.D.BlockDev.state l.data_dev) (g.H.BlockDev.state l.hash_dev);
   unfailed : AreUnfailed (g.D.BlockDev.state l.fn.data_dev) (g.H.BlockDev.state l.fn.hash_dev) (g.D.BlockDev.state l.data_dev) (g.H.BlockDev.state l.hash_dev);
-  sums : IsTrue (g.D.BlockDev.state l.fn.data_dev).steady → IsTrue (g.H.BlockDev.state l.fn.hash_dev).steady → AreSummed (message l.code.layout.now (g.D.BlockDev.state l.fn.data_dev).image (g.H.BlockDev.state l.fn.hash_dev).image l.round) l.code.layout.now.roots l.code.products.now l.parity l.place;
+  sums : IsTrue (g.D.BlockDev.state l.fn.data_dev).steady → IsTrue (g.H.BlockDev.state l.fn.hash_dev).steady → AreSummed (message_byte l.code.layout.now (g.D.BlockDev.state l.fn.data_dev).image (g.H.BlockDev.state l.fn.hash_dev).image l.round) l.code.layout.now.roots l.code.products.now l.parity l.place;
   bytes : IsTrue (g.D.BlockDev.state l.fn.data_dev).steady → IsTrue (g.H.BlockDev.state l.fn.hash_dev).steady → AreBytes l.code.layout.now (g.D.BlockDev.state l.fn.data_dev).image (g.H.BlockDev.state l.fn.hash_dev).image l.round l.place;
 }

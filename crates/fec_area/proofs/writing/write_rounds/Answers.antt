@@ -1,6 +1,6 @@
 use Rattle.std.proofs.Common.{◌+◌, ◌*◌, ◌/◌, ◌<◌, ◌≤◌, ℕ, List, IsTrue, length, sym, ap, ◌∙◌, arith, subst, refl, inl, inr}
 use Rattle.std.proofs.lemmas.Result.{err_from_is_err_and}
-use Rattle.fec_area.specs.Layouts.{IsParityOf, parity_sectors, rounds}
+use Rattle.fec_area.specs.Layouts.{IsParityOf, parity_sectors, code_rounds}
 use Rattle.verity_format.proofs.DeviceLemmas.{only_written-none, only_written-write, only_written-then, steady-then, failed-then}
 use Rattle.fec_area.proofs.CallLemmas.{read-none, read-then, unfailed-none, unfailed-then, one_failed-then, laid-then, image-then}
 use Rattle.fec_area.proofs.LayoutLemmas.{round-quotient}
@@ -61,7 +61,7 @@ loop-round-preserved g c =
     let new = g.P.BlockDev.state c.write.new.self in
     let a = g.D.BlockDev.state c.args.data_dev.now in
     let b = g.H.BlockDev.state c.args.hash_dev.now in
-    let lt : round < rounds l = omega (arith, c.loop-round-test.true, c.rounds-round-end.ensures.value) in
+    let lt : round < code_rounds l = omega (arith, c.loop-round-test.true, c.rounds-round-end.ensures.value) in
     let size = c.sum_parity.auto.parity ∙ c.loop-round.auto.parity ∙ c.requires.sums.parity_is in
     let first = round-quotient l (length c.args.parity.now) valid c.requires.sums.parity_is in
     let count = round-quotient l (length parity) valid size in
@@ -89,7 +89,7 @@ returns-in_err-write-clause-written g c =
     let l = c.args.code.now.layout.now in
     let valid = c.requires.sums.laid.layout in
     let round = c.loop-round.round in
-    let lt : round < rounds l = omega (arith, c.loop-round-test.true, c.rounds-round-end.ensures.value) in
+    let lt : round < code_rounds l = omega (arith, c.loop-round-test.true, c.rounds-round-end.ensures.value) in
     let size = c.sum_parity.auto.parity ∙ c.loop-round.auto.parity ∙ c.requires.sums.parity_is in
     let first = round-quotient l (length c.args.parity.now) valid c.requires.sums.parity_is in
     let count = round-quotient l (length c.sum_parity.new.parity) valid size in

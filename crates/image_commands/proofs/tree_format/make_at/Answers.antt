@@ -6,7 +6,7 @@ use Rattle.device_window.specs.Windows.{windowed}
 use Rattle.verity_format.specs.Options.{superblock_with}
 use Rattle.verity_format.specs.Superblock.{SuperRecord}
 use Rattle.image_commands.specs.Places.{before}
-use Rattle.image_commands.specs.TreeFormats.{IsTreeCause, IsTreeKept, IsTreeMade, tree_with}
+use Rattle.image_commands.specs.TreeFormats.{IsPlacedTreeCause, IsTreeKept, IsTreeMade, tree_with}
 use Rattle.image_commands.specs.TreePlaces.{HasNoShape}
 use Rattle.image_commands.proofs.PlacedLemmas.{windowed-same}
 use Rattle.image_commands.proofs.tree_format.make_at.Goals as goal
@@ -34,8 +34,8 @@ returns-in-Ok-clause-err g c =
     let same : part_dev ≡ data_dev = windowed-same _ whole _ (part_before whole c.args.bounds.end) (ap g.D.BlockDev.state c.before-before.ensures.inner) c.before-before.ensures.part in
     let params : c.in-Ok.params ≡ tree_with c.args.options data_dev = c.in-Ok.ensures.ok.0 ∙ ap (superblock_with c.args.options) (c.sectors.ensures.size ∙ ap (λ (d : Device). d.size) same) in
     IfErr-weaker c.make_behind.result.1 _ _
-    (λ fault ends. inr (subst (λ (s : SuperRecord). IsTreeCause s data_dev hash_dev c.args.bounds.first hash_dev' fault × IsTreeKept s hash_dev c.args.bounds.first hash_dev') params
-    (subst (λ (d : Device). IsTreeCause c.in-Ok.params d hash_dev c.args.bounds.first hash_dev' fault × IsTreeKept c.in-Ok.params hash_dev c.args.bounds.first hash_dev') same ends)))
+    (λ fault ends. inr (subst (λ (s : SuperRecord). IsPlacedTreeCause s data_dev hash_dev c.args.bounds.first hash_dev' fault × IsTreeKept s hash_dev c.args.bounds.first hash_dev') params
+    (subst (λ (d : Device). IsPlacedTreeCause c.in-Ok.params d hash_dev c.args.bounds.first hash_dev' fault × IsTreeKept c.in-Ok.params hash_dev c.args.bounds.first hash_dev') same ends)))
     c.make_behind.ensures.err
 
 pub returns-clause-err : goal.returns-clause-err

@@ -1,6 +1,6 @@
 use Rattle.std.proofs.Common.{ap}
 use Rattle.memory_images.specs.Files.{file_under}
-use Rattle.memory_images.specs.Parts.{grown, with_part}
+use Rattle.memory_images.specs.Parts.{grown_image, with_part}
 use Rattle.block_device.specs.Memory.{memory_bytes}
 use Rattle.memory_images.proofs.FileLemmas.{copy-opened, image-taken, others-kept, others-unchanged, others-unreplaced, part-measured, text-replaced, text-told}
 use Rattle.memory_images.proofs.PartLemmas.{image-grown, part-opened, part-taken}
@@ -21,7 +21,7 @@ returns c = record {
   taken_part = part-taken;
   kept_taking_part = λ old new path other part device file another is. others-unchanged old new path other (λ image. with_part image part (memory_bytes device)) file another is;
   grown = image-grown;
-  kept_growing = λ old new path other sectors file another is. others-unchanged old new path other (λ image. grown image sectors) file another is;
+  kept_growing = λ old new path other sectors file another is. others-unchanged old new path other (λ image. grown_image image sectors) file another is;
   kept_measuring = λ old new path outcome is. ap file_under is.0;
   measured = λ old new path part is. part-measured old path part is.1;
   replaced = text-replaced;

@@ -1,7 +1,7 @@
 use Rattle.std.proofs.Common.{ℕ, List, arith, sym, subst}
 use Rattle.std.proofs.lemmas.Result.{err_from_is_err_and}
 use Rattle.nbd_protocol.specs.Exports.{export_record}
-use Rattle.nbd_server.specs.Transmission.{ReadsEnds, data_of}
+use Rattle.nbd_server.specs.Transmission.{ReadsEnds, reply_data}
 use Rattle.nbd_server.proofs.ByteLemmas.{zeros-unread, zeros-written}
 use Rattle.nbd_server.proofs.byte_range.write_zeros.Goals as goal
 
@@ -19,6 +19,6 @@ returns g c =
     let mid = c.read_ends.new.queue in
     let front = c.part.result.now in
     let back = c.part-2.result.now in
-    let some : ReadsEnds e first offset len front (data_of c.in_ok-ends.ends.behind) mid = subst (λ (l : List ℕ). ReadsEnds e first offset len l (data_of c.in_ok-ends.ends.behind) mid) (sym c.part.ensures) c.in_ok-ends.ensures.ok in
+    let some : ReadsEnds e first offset len front (reply_data c.in_ok-ends.ends.behind) mid = subst (λ (l : List ℕ). ReadsEnds e first offset len l (reply_data c.in_ok-ends.ends.behind) mid) (sym c.part.ensures) c.in_ok-ends.ensures.ok in
     let ends : ReadsEnds e first offset len front back mid = subst (λ (l : List ℕ). ReadsEnds e first offset len front l mid) (sym c.part-2.ensures) some in
     zeros-written e first mid c.store_zeros.new.queue offset len (omega arith) front back c.store_zeros.result ends c.store_zeros.ensures.ok c.store_zeros.ensures.err

@@ -1,12 +1,12 @@
 use Rattle.std.proofs.Common.{◌+◌, ◌-◌, arith, drop, length, subst, take}
-use Rattle.nbd_server.specs.Content.{Tells, TellsData}
+use Rattle.nbd_server.specs.Content.{TellsContent, TellsData}
 use Rattle.nbd_server.proofs.ContentLemmas.{rest-is, told-behind, told-zeros, writes-data, writes-one, writes-some}
 use Rattle.nbd_server.proofs.content.say_content.Goals as goal
 
 pub returns-then-front-bytes : goal.returns-then-front-bytes
 returns-then-front-bytes g c =
     let front = c.zeros_before-front in
-    writes-one g.W.Write.contents (Tells c.args.cookie c.args.last c.args.at c.args.bytes.now) c.args.writer.now c.say_hole.new.writer _ c.say_hole.result
+    writes-one g.W.Write.contents (TellsContent c.args.cookie c.args.last c.args.at c.args.bytes.now) c.args.writer.now c.say_hole.new.writer _ c.say_hole.result
     (told-zeros c.args.cookie c.args.last c.args.at front.result c.args.bytes.now c.requires.some front.ensures.zeros c.if-front-bytes.true) c.say_hole.ensures
 
 pub returns-then-front-eq0 : goal.returns-then-front-eq0
@@ -17,6 +17,6 @@ pub returns : goal.returns
 returns g c =
     let front = c.zeros_before-front in
     let bytes = c.args.bytes.now in
-    writes-some g.W.Write.contents (Tells c.args.cookie c.args.last c.args.at bytes) c.args.writer.now c.say_hole-2.new.writer c.say_from_data-2.new.writer _ c.in_ok-say_hole.ensures.ok c.in_ok-say_hole.ensures.kept
+    writes-some g.W.Write.contents (TellsContent c.args.cookie c.args.last c.args.at bytes) c.args.writer.now c.say_hole-2.new.writer c.say_from_data-2.new.writer _ c.in_ok-say_hole.ensures.ok c.in_ok-say_hole.ensures.kept
     (TellsData c.args.cookie c.args.last (c.args.at + front.result) (take (length bytes - front.result) (drop front.result bytes))) c.say_from_data-2.result
     (λ more holds. told-behind c.args.cookie c.args.last c.args.at front.result bytes front.ensures.inside more (omega (arith, c.if-front-eq0.false)) front.ensures.zeros (subst (λ l. TellsData c.args.cookie c.args.last (c.args.at + front.result) l more) (rest-is bytes front.result) holds)) c.say_from_data-2.ensures

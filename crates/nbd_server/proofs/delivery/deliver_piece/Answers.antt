@@ -2,9 +2,9 @@ use Rattle.std.proofs.Common.{◌≡◌, ◌<◌, ◌≤◌, ◌%◌, ◌∙◌,
 use Rattle.std.proofs.lemmas.Result.{err_from_is_err_and}
 use Rattle.nbd_protocol.specs.Exports.{export_record}
 use Rattle.nbd_chunks.specs.Chunks.{error_at_chunk}
-use Rattle.nbd_server.specs.Delivery.{IsPiece}
+use Rattle.nbd_server.specs.Delivery.{IsDeliveryPiece}
 use Rattle.nbd_server.specs.Status.{touched}
-use Rattle.nbd_server.specs.Transmission.{ReadsBytes}
+use Rattle.nbd_server.specs.Transmission.{ReadsExport}
 use Rattle.nbd_server.proofs.DeliveryLemmas.{lost-stuck, part-size, piece-bytes, piece-lost, piece-put_off, piece-sent, rest-left, sent-stuck}
 use Rattle.nbd_server.proofs.delivery.deliver_piece.Goals as goal
 
@@ -28,7 +28,7 @@ pub say_piece-requires-clause-piece : goal.say_piece-requires-clause-piece
 say_piece-requires-clause-piece g c =
     let size = part-size c.read_piece.new.room.bytes.items (c.at-at.result % 512) c.piece_len-size.result c.in-Ok.ensures.inside in
     let held : length c.part-content.result.now ≡ c.piece_len-size.result = ap (λ (l : List ℕ). length l) c.part-content.ensures ∙ size in
-    subst (λ (n : ℕ). IsPiece c.args.delivery c.args.progress n) (sym held) c.piece_len-size.ensures
+    subst (λ (n : ℕ). IsDeliveryPiece c.args.delivery c.args.progress n) (sym held) c.piece_len-size.ensures
 
 pub returns-in_err-say_piece-in-Ok-clause-err : goal.returns-in_err-say_piece-in-Ok-clause-err
 returns-in_err-say_piece-in-Ok-clause-err g c =
@@ -56,7 +56,7 @@ returns-in_ok-say_piece-in-Ok-clause-ok g c =
     let new = g.W.Write.contents c.say_piece.new.writer.inner in
     let content = c.part-content.result.now in
     let held : length content ≡ size = ap (λ (l : List ℕ). length l) c.part-content.ensures ∙ part-size c.read_piece.new.room.bytes.items (at % 512) size c.in-Ok.ensures.inside in
-    let reads : ReadsBytes e w at size (Ok content) w' = subst (λ (l : List ℕ). ReadsBytes e w at size (Ok l) w') (sym c.part-content.ensures) c.in-Ok.ensures.ok in
+    let reads : ReadsExport e w at size (Ok content) w' = subst (λ (l : List ℕ). ReadsExport e w at size (Ok l) w') (sym c.part-content.ensures) c.in-Ok.ensures.ok in
     piece-sent e c.args.delivery c.args.progress w w' size at c.at-at.ensures c.piece_len-size.ensures old new (length content) held content reads c.in_ok-say_piece-in-Ok.ensures.ok
 
 pub returns-in_ok-say_piece-in-Ok-clause-kept : goal.returns-in_ok-say_piece-in-Ok-clause-kept

@@ -4,7 +4,7 @@ use Rattle.std.proofs.lemmas.Result.{err_from_is_err_and}
 use Rattle.std.specs.Prelude.{OnOk}
 use Rattle.nbd_protocol.specs.Exports.{export_record}
 use Rattle.nbd_server.specs.Status.{touched}
-use Rattle.nbd_server.specs.Transmission.{ReadsBytes}
+use Rattle.nbd_server.specs.Transmission.{ReadsExport}
 use Rattle.nbd_server.proofs.DeliveryLemmas.{then-inside}
 use Rattle.nbd_server.proofs.FetchLemmas.{no-buffer}
 use Rattle.nbd_server.proofs.delivery.read_piece.Goals as goal
@@ -24,7 +24,7 @@ returns-clause-ok g c =
     let size = c.args.size in
     let bytes = c.grow.new.self.bytes in
     let held : length c.read_to.new.out ≡ bytes.len = c.read_to.auto.out ∙ ap (λ (l : List ℕ). length l) c.as_mut_slice.ensures.value ∙ sym bytes.ok.0 in
-    subst (λ (b : List ℕ). OnOk c.read_to.result (ReadsBytes e c.args.queue.now at size (Ok (take size (drop (at % 512) b))) c.read_to.new.queue)) (sym (with_items_is bytes c.read_to.new.out held)) c.read_to.ensures.ok
+    subst (λ (b : List ℕ). OnOk c.read_to.result (ReadsExport e c.args.queue.now at size (Ok (take size (drop (at % 512) b))) c.read_to.new.queue)) (sym (with_items_is bytes c.read_to.new.out held)) c.read_to.ensures.ok
 
 pub returns-clause-inside : goal.returns-clause-inside
 returns-clause-inside g c =

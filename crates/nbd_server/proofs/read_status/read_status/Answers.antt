@@ -2,7 +2,7 @@ use Rattle.std.proofs.Common.{◌≡◌, ◌<◌, ℕ, List, arith, length, Ok, 
 use Rattle.std.specs.Prelude.{IfOk, false}
 use Rattle.nbd_protocol.specs.Exports.{export_record}
 use Rattle.nbd_server.specs.Status.{AreReadAsZeros, HasStatus, descriptor}
-use Rattle.nbd_server.specs.Transmission.{ReadsStatus, StaysOrReads, data_of}
+use Rattle.nbd_server.specs.Transmission.{ReadsStatus, StaysOrReads, reply_data}
 use Rattle.nbd_server.proofs.DeliveryLemmas.{part-size}
 use Rattle.nbd_server.proofs.ReadStatusLemmas.{ok-as, on_err, part-ignores, unread-status}
 use Rattle.nbd_server.proofs.read_status.read_status.Goals as goal
@@ -32,7 +32,7 @@ returns-in-Ok-clause-ok g c =
     let w' = c.read_bytes.new.queue in
     let at = c.args.offset in
     let one = c.args.one in
-    let content = data_of c.in-Ok.content in
+    let content = reply_data c.in-Ok.content in
     let size : length content ≡ c.min-room.result = omega (arith, part-size c.in-Ok.content.bytes.items c.in-Ok.content.start c.in-Ok.content.length c.in-Ok.ensures.inside, c.in-Ok.ensures.size) in
     let reads = part-ignores e w at c.args.count c.min-room.result (Ok content) w' (omega (arith, c.min-room.ensures, c.from.ensures)) (omega (arith, c.min-room.ensures, c.room_at.ensures.few)) c.requires.ignoring c.in-Ok.ensures.value in
     ok-as c.tell_runs.result (λ told. HasStatus (AreReadAsZeros at (Ok content)) at (length content) one told.items) (λ told. ReadsStatus e w at c.args.count one told.items w')
@@ -42,7 +42,7 @@ returns-in-Ok-clause-ok g c =
 pub returns-in-Ok-clause-err : goal.returns-in-Ok-clause-err
 returns-in-Ok-clause-err g c =
     let e = export_record c.args.export.now in
-    let content = data_of c.in-Ok.content in
+    let content = reply_data c.in-Ok.content in
     let reads = part-ignores e c.args.queue.now c.args.offset c.args.count c.min-room.result (Ok content) c.read_bytes.new.queue (omega (arith, c.min-room.ensures, c.from.ensures)) (omega (arith, c.min-room.ensures, c.from.ensures, c.room_at.ensures.few)) c.requires.ignoring c.in-Ok.ensures.value in
     on_err c.tell_runs.result (StaysOrReads e c.args.queue.now c.args.offset c.args.count c.read_bytes.new.queue) (inr (c.min-room.result, Ok content, reads))
 

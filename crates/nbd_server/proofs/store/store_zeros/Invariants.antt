@@ -1,6 +1,6 @@
 use Rattle.std.proofs.Common.{◌<◌}
 use Rattle.nbd_protocol.specs.Exports.{IsExport, export_record}
-use Rattle.nbd_server.specs.Premises.{AreSectors, HaveEnds}
+use Rattle.nbd_server.specs.Premises.{AreExportSectors, HaveEnds}
 use Rattle.nbd_server.specs.Zeros.{zeros_of}
 use Rattle.nbd_server.proofs.StoreLemmas.{IsPut}
 use Rattle.nbd_server.proofs.store.store_zeros.Given as goal
@@ -12,7 +12,7 @@ invariant-runs g l = record {
   export : IsExport l.queue.stack.config (export_record l.export);
   ends : HaveEnds l.rest;
   some : 0 < l.rest.count;
-  sectors : AreSectors (export_record l.export) l.at (zeros_of l.rest);
+  sectors : AreExportSectors (export_record l.export) l.at (zeros_of l.rest);
 }
 
 abbrev pub decreases-runs : goal.decreases-runs

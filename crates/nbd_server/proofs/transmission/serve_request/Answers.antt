@@ -6,7 +6,7 @@ use Rattle.nbd_protocol.specs.declared.request_error.RequestError.{RequestError}
 use Rattle.nbd_protocol.specs.Exports.{export_record}
 use Rattle.nbd_protocol.specs.Headers.{command_of}
 use Rattle.nbd_protocol.specs.Streaming.{IsShort}
-use Rattle.nbd_server.specs.Transmission.{ServesCommand, WritesGiven, outcome_of, written}
+use Rattle.nbd_server.specs.Transmission.{ServesCommand, WritesGiven, data_outcome, no_bytes}
 use Rattle.nbd_server.proofs.ByteLemmas.{bare-other, served-bare, served-write, settled, unsettled, write-payload}
 use Rattle.nbd_server.proofs.transmission.serve_request.Goals as goal
 
@@ -23,7 +23,7 @@ returns-in_ok-skip-in_default-clause-ok g c =
     let e = export_record c.args.export.now in
     let w = c.args.queue.now in
     let w' = c.serve_bare.new.queue in
-    let outcome = outcome_of c.serve_bare.result in
+    let outcome = data_outcome c.serve_bare.result in
     let p = c.in_ok-skip-in_default.ensures.ok in
     let command : command_of e c.args.agreed c.args.header ≡ Ok c.in-Ok.command = sym c.command.ensures.value ∙ c.in-Ok.is in
     let bare = bare-other c.in-Ok.command c.in_default.not-Write in
@@ -60,13 +60,13 @@ returns-in-Ok-2-clause-ok g c =
     let p = c.in_ok-take_write-in-Write.ensures.ok in
     let command : command_of e a h ≡ Ok (Write w.offset w.length w.fua) = sym c.command.ensures.value ∙ c.in-Ok.is ∙ ap Ok w.is in
     let does = WritesGiven e c.args.queue.now w.offset p.0 in
-    let given : does (Ok []) c.take_write.new.queue = subst (λ (r : Result Unit RequestError). does (written r) c.take_write.new.queue) c.in-Ok-2.is p.3 in
+    let given : does (Ok []) c.take_write.new.queue = subst (λ (r : Result Unit RequestError). does (no_bytes r) c.take_write.new.queue) c.in-Ok-2.is p.3 in
     record {
       payload = p.0;
       size = p.1 ∙ sym (write-payload w.offset w.length w.fua e a h command);
       consumed = p.2;
-      serves = served-write e a c.args.queue.now c.settle.new.queue h w.offset w.length w.fua p.0 (outcome_of c.settle.result) command
-          (settled w.fua does c.take_write.new.queue c.settle.new.queue (outcome_of c.settle.result) given c.settle.ensures.value);
+      serves = served-write e a c.args.queue.now c.settle.new.queue h w.offset w.length w.fua p.0 (data_outcome c.settle.result) command
+          (settled w.fua does c.take_write.new.queue c.settle.new.queue (data_outcome c.settle.result) given c.settle.ensures.value);
       inside = c.settle.ensures.inside;
     }
 
@@ -80,7 +80,7 @@ returns-in-Err-2-clause-ok g c =
     let error = c.in-Err-2.error in
     let command : command_of e a h ≡ Ok (Write w.offset w.length w.fua) = sym c.command.ensures.value ∙ c.in-Ok.is ∙ ap Ok w.is in
     let does = WritesGiven e c.args.queue.now w.offset p.0 in
-    let given : does (Err error) c.take_write.new.queue = subst (λ (r : Result Unit RequestError). does (written r) c.take_write.new.queue) c.in-Err-2.is p.3 in
+    let given : does (Err error) c.take_write.new.queue = subst (λ (r : Result Unit RequestError). does (no_bytes r) c.take_write.new.queue) c.in-Err-2.is p.3 in
     record {
       payload = p.0;
       size = p.1 ∙ sym (write-payload w.offset w.length w.fua e a h command);

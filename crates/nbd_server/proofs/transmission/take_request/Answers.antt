@@ -5,9 +5,9 @@ use Rattle.nbd_protocol.specs.declared.header.Header.{Header}
 use Rattle.nbd_protocol.specs.declared.phase.Phase.TheVariants.{Serving}
 use Rattle.nbd_protocol.specs.Exports.{export_record}
 use Rattle.nbd_protocol.specs.Headers.{header_of, request_magic}
-use Rattle.nbd_protocol.specs.Numbers.{number32}
+use Rattle.nbd_protocol.specs.Numbers.{big_endian32}
 use Rattle.nbd_protocol.specs.Streaming.{Fills}
-use Rattle.nbd_server.specs.Transmission.{outcome_of}
+use Rattle.nbd_server.specs.Transmission.{data_outcome}
 use Rattle.nbd_protocol.proofs.lemmas.CountedLemmas.{read-then, read-other, written-same, written-ok, written-failed, stops-reading}
 use Rattle.nbd_server.proofs.MessageLemmas.{header-cut, request-delivered, request-last, request-lost, request-served, request-stuck, request-unanswered, request-unlike}
 use Rattle.nbd_server.proofs.transmission.take_request.Goals as goal
@@ -40,7 +40,7 @@ returns-then-number32-ne-MAGIC-clause-turn g c = λ es at.
     let bytes = c.fill.new.buffer in
     let first = subst (λ b. Fills input mid bytes (Ok b)) c.if-not-branch.false c.in_ok-fill.ensures.filled in
     let size : length bytes ≡ 28 = omega (arith, c.fill.auto.buffer) in
-    let other : number32 bytes 0 ≢ request_magic = λ is. c.if-number32-ne-MAGIC.true (c.number32.ensures ∙ is) in
+    let other : big_endian32 bytes 0 ≢ request_magic = λ is. c.if-number32-ne-MAGIC.true (c.number32.ensures ∙ is) in
     request-unlike es c.args.agreed c.args.queue.now input mid (g.W.Write.contents c.args.writer.now.inner) bytes first size other
 
 pub returns-then-number32-ne-MAGIC-clause-reader : goal.returns-then-number32-ne-MAGIC-clause-reader
@@ -58,7 +58,7 @@ returns-then-header-eq-DISCONNECT-clause-turn g c = λ es at.
     let bytes = c.fill.new.buffer in
     let first = subst (λ b. Fills input mid bytes (Ok b)) c.if-not-branch.false c.in_ok-fill.ensures.filled in
     let size : length bytes ≡ 28 = omega (arith, c.fill.auto.buffer) in
-    let magic : number32 bytes 0 ≡ request_magic = omega (arith, c.number32.ensures, c.if-number32-ne-MAGIC.false) in
+    let magic : big_endian32 bytes 0 ≡ request_magic = omega (arith, c.number32.ensures, c.if-number32-ne-MAGIC.false) in
     let kind : (header_of bytes).kind ≡ 2 = sym (ap (λ (h : Header). h.kind) c.of-header.ensures) ∙ c.if-header-eq-DISCONNECT.true in
     request-last es c.args.agreed c.args.queue.now input mid (g.W.Write.contents c.args.writer.now.inner) bytes first size magic kind
 
@@ -70,7 +70,7 @@ returns-in_err-outcome-clause-turn g c = λ es at.
     let bytes = c.fill.new.buffer in
     let first = subst (λ b. Fills input mid bytes (Ok b)) c.if-not-branch.false c.in_ok-fill.ensures.filled in
     let size : length bytes ≡ 28 = omega (arith, c.fill.auto.buffer) in
-    let magic : number32 bytes 0 ≡ request_magic = omega (arith, c.number32.ensures, c.if-number32-ne-MAGIC.false) in
+    let magic : big_endian32 bytes 0 ≡ request_magic = omega (arith, c.number32.ensures, c.if-number32-ne-MAGIC.false) in
     let p = err_from_is_err_and c.from_residual-in_err-outcome.result c.from_residual-in_err-outcome.ensures.1 in
     rw (p.1, p.2) (request-lost es c.args.agreed (export_record c.args.export.now) at c.args.queue.now c.serve_request.new.queue input mid input' bytes first size magic (g.W.Write.contents c.args.writer.now.inner) c.in_err-outcome.field-0.0 (rw c.of-header.ensures at c.in_err-outcome.ensures.err))
 
@@ -97,7 +97,7 @@ returns-in_err-deliver-in-Some-clause-turn g c = λ es at.
     let bytes = c.fill.new.buffer in
     let first = subst (λ b. Fills input mid bytes (Ok b)) c.if-not-branch.false c.in_ok-fill.ensures.filled in
     let size : length bytes ≡ 28 = omega (arith, c.fill.auto.buffer) in
-    let magic : number32 bytes 0 ≡ request_magic = omega (arith, c.number32.ensures, c.if-number32-ne-MAGIC.false) in
+    let magic : big_endian32 bytes 0 ≡ request_magic = omega (arith, c.number32.ensures, c.if-number32-ne-MAGIC.false) in
     let other : (header_of bytes).kind ≢ 2 = λ is. c.if-header-eq-DISCONNECT.false (ap (λ (h : Header). h.kind) c.of-header.ensures ∙ is) in
     let found = rw c.of-header.ensures at (sym c.of.ensures.value ∙ c.in-Some.is) in
     let p = err_from_is_err_and c.from_residual-in_err-deliver-in-Some.result c.from_residual-in_err-deliver-in-Some.ensures.1 in
@@ -121,7 +121,7 @@ returns-in-Some-clause-turn g c = λ es at.
     let bytes = c.fill.new.buffer in
     let first = subst (λ b. Fills input mid bytes (Ok b)) c.if-not-branch.false c.in_ok-fill.ensures.filled in
     let size : length bytes ≡ 28 = omega (arith, c.fill.auto.buffer) in
-    let magic : number32 bytes 0 ≡ request_magic = omega (arith, c.number32.ensures, c.if-number32-ne-MAGIC.false) in
+    let magic : big_endian32 bytes 0 ≡ request_magic = omega (arith, c.number32.ensures, c.if-number32-ne-MAGIC.false) in
     let other : (header_of bytes).kind ≢ 2 = λ is. c.if-header-eq-DISCONNECT.false (ap (λ (h : Header). h.kind) c.of-header.ensures ∙ is) in
     let found = rw c.of-header.ensures at (sym c.of.ensures.value ∙ c.in-Some.is) in
     request-delivered es c.args.agreed (export_record c.args.export.now) at c.args.queue.now c.deliver.new.queue input mid mid bytes first size magic other
@@ -143,12 +143,12 @@ returns-in_err-say_reply-clause-turn g c = λ es at.
     let bytes = c.fill.new.buffer in
     let first = subst (λ b. Fills input mid bytes (Ok b)) c.if-not-branch.false c.in_ok-fill.ensures.filled in
     let size : length bytes ≡ 28 = omega (arith, c.fill.auto.buffer) in
-    let magic : number32 bytes 0 ≡ request_magic = omega (arith, c.number32.ensures, c.if-number32-ne-MAGIC.false) in
+    let magic : big_endian32 bytes 0 ≡ request_magic = omega (arith, c.number32.ensures, c.if-number32-ne-MAGIC.false) in
     let other : (header_of bytes).kind ≢ 2 = λ is. c.if-header-eq-DISCONNECT.false (ap (λ (h : Header). h.kind) c.of-header.ensures ∙ is) in
     let none = rw c.of-header.ensures at (sym c.of.ensures.value ∙ c.in-None.is) in
     let p = err_from_is_err_and c.from_residual-in_err-say_reply.result c.from_residual-in_err-say_reply.ensures.1 in
     rw (p.1, p.2) (request-unanswered es c.args.agreed (export_record c.args.export.now) at c.args.queue.now c.serve_request.new.queue input mid input' bytes first size magic
-    other (g.W.Write.contents c.args.writer.now.inner) (g.W.Write.contents c.say_reply.new.writer.inner) (outcome_of c.in_ok-outcome.outcome) none
+    other (g.W.Write.contents c.args.writer.now.inner) (g.W.Write.contents c.say_reply.new.writer.inner) (data_outcome c.in_ok-outcome.outcome) none
     (let p = rw c.of-header.ensures at c.in_ok-outcome.ensures.ok in (p.payload, p.size, p.consumed, p.serves)))
 
 pub returns-in_err-say_reply-clause-reader : goal.returns-in_err-say_reply-clause-reader
@@ -169,11 +169,11 @@ returns-clause-turn g c = λ es at.
     let bytes = c.fill.new.buffer in
     let first = subst (λ b. Fills input mid bytes (Ok b)) c.if-not-branch.false c.in_ok-fill.ensures.filled in
     let size : length bytes ≡ 28 = omega (arith, c.fill.auto.buffer) in
-    let magic : number32 bytes 0 ≡ request_magic = omega (arith, c.number32.ensures, c.if-number32-ne-MAGIC.false) in
+    let magic : big_endian32 bytes 0 ≡ request_magic = omega (arith, c.number32.ensures, c.if-number32-ne-MAGIC.false) in
     let other : (header_of bytes).kind ≢ 2 = λ is. c.if-header-eq-DISCONNECT.false (ap (λ (h : Header). h.kind) c.of-header.ensures ∙ is) in
     let none = rw c.of-header.ensures at (sym c.of.ensures.value ∙ c.in-None.is) in
     request-served es c.args.agreed (export_record c.args.export.now) at c.args.queue.now c.serve_request.new.queue input mid input' bytes first size magic
-    other (g.W.Write.contents c.args.writer.now.inner) (g.W.Write.contents c.say_reply.new.writer.inner) (outcome_of c.in_ok-outcome.outcome) none
+    other (g.W.Write.contents c.args.writer.now.inner) (g.W.Write.contents c.say_reply.new.writer.inner) (data_outcome c.in_ok-outcome.outcome) none
     (let p = rw c.of-header.ensures at c.in_ok-outcome.ensures.ok in (p.payload, p.size, p.consumed, p.serves)) (rw c.of-header.ensures at c.in_ok-say_reply.ensures.ok)
 
 pub returns-clause-reader : goal.returns-clause-reader

@@ -1,6 +1,6 @@
 use Rattle.std.proofs.Common.{inl, inr, refl}
 use Rattle.std.proofs.lemmas.Result.{IfErr-weaker, on_ok_weaker}
-use Rattle.stack_making.specs.NamedDevices.{place_of}
+use Rattle.stack_making.specs.NamedDevices.{device_place}
 use Rattle.recovery_commands.proofs.OpeningLemmas.{err-from}
 use Rattle.recovery_commands.proofs.copy.copy_device.Goals as goal
 
@@ -10,7 +10,7 @@ returns-in_err-stack-clause-err g c =
 
 pub returns-clause-err : goal.returns-clause-err
 returns-clause-err g c = inr (inl (record {
-  at = place_of c.in_ok-stack.stack c.in_ok-stack.device.0;
+  at = device_place c.in_ok-stack.stack c.in_ok-stack.device.0;
   image = c.in_ok-stack.image;
   image' = c.copy_to-image.result.0;
   left = c.copy_to-image.new.stack;
@@ -25,7 +25,7 @@ returns-in-Ok-clause-ok g c = on_ok_weaker c.tell_counts.result (λ told. record
   counts = c.in-Ok.counts;
   printed = _;
   copied = record {
-    at = place_of c.in_ok-stack.stack c.in_ok-stack.device.0;
+    at = device_place c.in_ok-stack.stack c.in_ok-stack.device.0;
     image = c.in_ok-stack.image;
     image' = c.copy_to-image.result.0;
     left = _;
@@ -42,7 +42,7 @@ returns-in-Ok-clause-err g c = IfErr-weaker c.tell_counts.result _ _ (λ fault e
   counts = c.in-Ok.counts;
   printed = _;
   copied = record {
-    at = place_of c.in_ok-stack.stack c.in_ok-stack.device.0;
+    at = device_place c.in_ok-stack.stack c.in_ok-stack.device.0;
     image = c.in_ok-stack.image;
     image' = c.copy_to-image.result.0;
     left = _;

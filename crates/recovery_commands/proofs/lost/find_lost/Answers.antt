@@ -2,7 +2,7 @@ use Rattle.std.proofs.Common.{inl, inr, refl, ap, ◌∙◌, arith}
 use Rattle.stack_rules.specs.Names.{mapped, size}
 use Rattle.stack_rules.specs.Records.{Configuration}
 use Rattle.stack_config.proofs.lemmas.LoadedLineLemmas.{size-most}
-use Rattle.stack_making.specs.NamedDevices.{place_of}
+use Rattle.stack_making.specs.NamedDevices.{device_place}
 use Rattle.recovery_commands.specs.declared.fault.RecoveringFault.TheVariants.{Stack}
 use Rattle.recovery_commands.proofs.KeptLemmas.{ends-none, recovers-none}
 use Rattle.recovery_commands.proofs.OpeningLemmas.{err-from}
@@ -26,7 +26,7 @@ returns-in_err-counts-clause-err g c =
       failed = _;
       cause = c.in_err-counts.ensures.err.0;
       cuts = record {
-        at = place_of c.in_ok-stack.stack c.in_ok-stack.device.0;
+        at = device_place c.in_ok-stack.stack c.in_ok-stack.device.0;
         out = _;
         left = _;
         found = c.in_ok-stack.ensures.ok;
@@ -39,7 +39,7 @@ returns-in_err-counts-clause-err g c =
 
 pub returns-clause-ok : goal.returns-clause-ok
 returns-clause-ok g c = record {
-  at = place_of c.in_ok-stack.stack c.in_ok-stack.device.0;
+  at = device_place c.in_ok-stack.stack c.in_ok-stack.device.0;
   out = _;
   left = _;
   found = c.in_ok-stack.ensures.ok;

@@ -1,7 +1,7 @@
 use Rattle.std.proofs.Common.{inl, inr, ap, ◌∙◌, arith}
 use Rattle.stack_rules.specs.Names.{mapped, size}
 use Rattle.stack_rules.specs.Records.{Configuration}
-use Rattle.stack_making.specs.NamedDevices.{place_of}
+use Rattle.stack_making.specs.NamedDevices.{device_place}
 use Rattle.recovery_commands.specs.declared.fault.RecoveringFault.TheVariants.{Stack}
 use Rattle.recovery_commands.proofs.OpeningLemmas.{err-from}
 use Rattle.recovery_commands.proofs.output.open_with_room.Goals as goal
@@ -14,7 +14,7 @@ pub returns-then-sectors-needed-clause-err : goal.returns-then-sectors-needed-cl
 returns-then-sectors-needed-clause-err g c =
     let needed = c.sectors-needed.ensures ∙ ap (λ (x : Configuration). size x (mapped c.in_ok-stack.device.0)) c.config.ensures.value in
     inr (record {
-      at = place_of c.in_ok-stack.stack c.in_ok-stack.device.0;
+      at = device_place c.in_ok-stack.stack c.in_ok-stack.device.0;
       image = c.in_ok-stack.image;
       found = c.in_ok-stack.ensures.ok;
       small = (needed, omega (arith, needed, c.sectors.ensures, c.if-sectors-needed.true));

@@ -3,7 +3,7 @@ use Rattle.std.proofs.lemmas.Result.{IfErr-weaker, on_ok_weaker}
 use Rattle.stack_rules.specs.Names.{mapped, size}
 use Rattle.stack_rules.specs.Records.{Configuration}
 use Rattle.stack_config.proofs.lemmas.LoadedLineLemmas.{size-most}
-use Rattle.stack_making.specs.NamedDevices.{place_of}
+use Rattle.stack_making.specs.NamedDevices.{device_place}
 use Rattle.recovery_commands.specs.declared.fault.RecoveringFault.TheVariants.{Stack}
 use Rattle.recovery_commands.proofs.OpeningLemmas.{err-from}
 use Rattle.recovery_commands.proofs.scan.scan_device.Goals as goal
@@ -22,7 +22,7 @@ pub returns-in_err-counts-clause-err : goal.returns-in_err-counts-clause-err
 returns-in_err-counts-clause-err g c =
     err-from c.from_residual-in_err-counts.result _ c.in_err-counts.field-0.0 c.from_residual-in_err-counts.ensures.1
     (inr (inl (record {
-      at = place_of c.in_ok-stack.stack c.in_ok-stack.device.0;
+      at = device_place c.in_ok-stack.stack c.in_ok-stack.device.0;
       out = _;
       left = _;
       found = c.in_ok-stack.ensures.ok;
@@ -36,7 +36,7 @@ returns-clause-ok g c = on_ok_weaker c.tell_counts.result (λ told. record {
   counts = c.in_ok-counts.counts;
   printed = _;
   scanned = record {
-    at = place_of c.in_ok-stack.stack c.in_ok-stack.device.0;
+    at = device_place c.in_ok-stack.stack c.in_ok-stack.device.0;
     out = _;
     left = _;
     found = c.in_ok-stack.ensures.ok;
@@ -51,7 +51,7 @@ returns-clause-err g c = IfErr-weaker c.tell_counts.result _ _ (λ fault ends. i
   counts = c.in_ok-counts.counts;
   printed = _;
   scanned = record {
-    at = place_of c.in_ok-stack.stack c.in_ok-stack.device.0;
+    at = device_place c.in_ok-stack.stack c.in_ok-stack.device.0;
     out = _;
     left = _;
     found = c.in_ok-stack.ensures.ok;

@@ -1,7 +1,7 @@
 use Rattle.std.proofs.Common.{refl, inl, inr, map, true, subst, sym}
 use Rattle.tree_repair.specs.declared.fault.RepairFault.TheVariants.{Image}
 use Rattle.tree_repair.specs.Repairs.{Repairs}
-use Rattle.tree_repair.specs.Worlds.{World, world}
+use Rattle.tree_repair.specs.Worlds.{RepairWorld, repair_world}
 use Rattle.verity_format.specs.declared.verifying.VerifyFault.TheVariants.{Device as DeviceFailed}
 use Rattle.repair_commands.proofs.EndingLemmas.{err-from}
 use Rattle.repair_commands.proofs.by_parity.mend_with_parity.Goals as goal
@@ -14,11 +14,11 @@ returns-in_err-repair_with_parity-clause-err g c =
 pub returns-in_err-sync_both-clause-err : goal.returns-in_err-sync_both-clause-err
 returns-in_err-sync_both-clause-err g c =
     let i = c.image.inside in
-    let a = world (g.D.BlockDev.state i.data) (g.H.BlockDev.state i.hash) (map g.C.BlockDev.state i.data_copies.items) (map g.C.BlockDev.state i.hash_copies.items) in
+    let a = repair_world (g.D.BlockDev.state i.data) (g.H.BlockDev.state i.hash) (map g.C.BlockDev.state i.data_copies.items) (map g.C.BlockDev.state i.hash_copies.items) in
     err-from c.from_residual-in_err-sync_both.result _ (Image DeviceFailed) c.from_residual-in_err-sync_both.ensures.1
     (record {
       mid = a;
-      run = inr (subst (λ (w : World). Repairs c.args.plan true c.args.image.now w (g.W.Write.contents c.args.writer.now.inner) (g.W.Write.contents c.repair_with_parity.new.writer.inner) true) (sym c.image.view_is) c.in_ok-repair_with_parity.ensures.ok);
+      run = inr (subst (λ (w : RepairWorld). Repairs c.args.plan true c.args.image.now w (g.W.Write.contents c.args.writer.now.inner) (g.W.Write.contents c.repair_with_parity.new.writer.inner) true) (sym c.image.view_is) c.in_ok-repair_with_parity.ensures.ok);
       kept = c.sync_both.ensures.kept;
       data_copies_are = refl;
       hash_copies_are = refl;
@@ -27,10 +27,10 @@ returns-in_err-sync_both-clause-err g c =
 pub returns-clause-ok : goal.returns-clause-ok
 returns-clause-ok g c =
     let i = c.image.inside in
-    let a = world (g.D.BlockDev.state i.data) (g.H.BlockDev.state i.hash) (map g.C.BlockDev.state i.data_copies.items) (map g.C.BlockDev.state i.hash_copies.items) in
+    let a = repair_world (g.D.BlockDev.state i.data) (g.H.BlockDev.state i.hash) (map g.C.BlockDev.state i.data_copies.items) (map g.C.BlockDev.state i.hash_copies.items) in
     record {
       mid = a;
-      repair = subst (λ (w : World). Repairs c.args.plan true c.args.image.now w (g.W.Write.contents c.args.writer.now.inner) (g.W.Write.contents c.repair_with_parity.new.writer.inner) true) (sym c.image.view_is) c.in_ok-repair_with_parity.ensures.ok;
+      repair = subst (λ (w : RepairWorld). Repairs c.args.plan true c.args.image.now w (g.W.Write.contents c.args.writer.now.inner) (g.W.Write.contents c.repair_with_parity.new.writer.inner) true) (sym c.image.view_is) c.in_ok-repair_with_parity.ensures.ok;
       kept = c.sync_both.ensures.kept;
       data_copies_are = refl;
       hash_copies_are = refl;

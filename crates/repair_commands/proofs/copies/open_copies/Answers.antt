@@ -1,7 +1,7 @@
 use Rattle.std.proofs.Common.{map, subst}
 use Rattle.std.proofs.lemmas.List.{take_all}
 use Rattle.image_files.specs.Opener.{calls}
-use Rattle.repair_commands.specs.Copies.{OpensEach, path_in}
+use Rattle.repair_commands.specs.Copies.{OpensEachCopy, path_in}
 use Rattle.repair_commands.proofs.CopyLemmas.{opens-next, refuses-at}
 use Rattle.repair_commands.proofs.EndingLemmas.{err-from}
 use Rattle.repair_commands.proofs.copies.open_copies.Goals as goal
@@ -13,7 +13,7 @@ copies-preserved g c =
 
 pub returns-clause-ok : goal.returns-clause-ok
 returns-clause-ok g c =
-    subst (λ xs. OpensEach (calls g.I.Images.relations g.I.Dev.BlockDev.state c.args.images.now c.copies.images) c.args.files.now (map (path_in c.args.hashes) xs) c.copies.devices.items)
+    subst (λ xs. OpensEachCopy (calls g.I.Images.relations g.I.Dev.BlockDev.state c.args.images.now c.copies.images) c.args.files.now (map (path_in c.args.hashes) xs) c.copies.devices.items)
     (take_all c.copies.copy-index c.args.copies.now c.copies-test.false) c.copies.invariant
 
 pub returns-in_err-open_copy-clause-err : goal.returns-in_err-open_copy-clause-err

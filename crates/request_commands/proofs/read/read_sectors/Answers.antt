@@ -2,7 +2,7 @@ use Rattle.std.proofs.Common.{inl, inr, subst}
 use Rattle.std.proofs.lemmas.Result.{IfErr-weaker, IfOk-weaker}
 use Rattle.request_queue.specs.World.{World}
 use Rattle.request_commands.specs.declared.fault.RequestFault.TheVariants.{Stack}
-use Rattle.request_commands.specs.Requests.{FailsToServe, IsServed, read_request}
+use Rattle.request_commands.specs.Requests.{FailsToServe, HasReply, read_request}
 use Rattle.request_commands.proofs.OpeningLemmas.{err-from}
 use Rattle.request_commands.proofs.read.read_sectors.Goals as goal
 
@@ -17,7 +17,7 @@ returns-clause-ok g c =
       stack = c.in_ok-stack.stack;
       after = c.fetch.new.queue;
       loaded = c.in_ok-stack.ensures.ok;
-      served = subst (λ (q : World). IsServed q (read_request c.args.sectors) reply c.fetch.new.queue) c.new-queue.ensures.value served;
+      served = subst (λ (q : World). HasReply q (read_request c.args.sectors) reply c.fetch.new.queue) c.new-queue.ensures.value served;
     }) c.fetch.ensures.ok
 
 pub returns-clause-err : goal.returns-clause-err

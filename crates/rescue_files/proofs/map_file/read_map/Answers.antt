@@ -5,7 +5,7 @@ use Rattle.block_device.specs.declared.open_fault.OpenFault.{OpenFault}
 use Rattle.image_files.specs.Opener.{calls}
 use Rattle.rescue_map.specs.MapText.{IsMapAnswer, map_of}
 use Rattle.rescue_files.specs.declared.fault.RescueFault.{RescueFault}
-use Rattle.rescue_files.specs.MapFiles.{IsUnread, most_map}
+use Rattle.rescue_files.specs.MapFiles.{IsMapUnread, most_map}
 use Rattle.rescue_files.proofs.MapFileLemmas.{missing-is, told-fault}
 use Rattle.rescue_files.proofs.map_file.read_map.Goals as goal
 
@@ -40,7 +40,7 @@ pub returns-then-is_missing-clause-err : goal.returns-then-is_missing-clause-err
 returns-then-is_missing-clause-err g c =
     let missing = missing-is c.in-Err.fault (sym c.is_missing.ensures ∙ c.if-is_missing.true) in
     let told = subst (λ (f : OpenFault). g.I.Images.relations.tells c.args.images.now c.args.path.now most_map (Err f) c.read_text.new.self) missing c.in-Err.ensures.told in
-    IfErr-weaker c.new_map.result _ _ (λ fault is. subst (λ (f : RescueFault). IsUnread (calls g.I.Images.relations g.I.Dev.BlockDev.state c.args.images.now c.read_text.new.self) c.args.path.now c.args.sectors f) (sym is) told) c.new_map.ensures.err
+    IfErr-weaker c.new_map.result _ _ (λ fault is. subst (λ (f : RescueFault). IsMapUnread (calls g.I.Images.relations g.I.Dev.BlockDev.state c.args.images.now c.read_text.new.self) c.args.path.now c.args.sectors f) (sym is) told) c.new_map.ensures.err
 
 pub returns : goal.returns
 returns g c = record { ok = tt; sectors = tt; err = (sym c.is_missing.ensures ∙ c.if-is_missing.false, c.in-Err.ensures.told) }

@@ -2,7 +2,7 @@ use Rattle.std.proofs.Common.{◌+◌, ◌++◌, ◌≤◌, ◌^◌, ℕ, false,
 use Rattle.std.proofs.lemmas.List.{take_more}
 use Rattle.rescue_map.specs.declared.map.Run.{Run}
 use Rattle.rescue_map.specs.Maps.{marks}
-use Rattle.rescue_map.specs.MapText.{map_of, map_text, run_text, status_text}
+use Rattle.rescue_map.specs.MapText.{map_of, map_text, map_run_text, status_text}
 use Rattle.rescue_map.proofs.PrintedLemmas.{map-read, map_text-push}
 use Rattle.rescue_map.proofs.RunLemmas.{length-take, length-within}
 use Rattle.rescue_map.proofs.print.print_map.Goals as goal
@@ -32,8 +32,8 @@ loop-run-preserved c =
     let run : Run = get_or runs i (record { count = 0; had = false }) in
     let front : List Run = take i runs in (
       c.in_ok-print_run.ensures
-          ∙ ap (λ (t : List ℕ). t ++ run_text c.args.tried c.loop-run.at run) c.loop-run.invariant.0
-          ∙ ap (λ (n : ℕ). map_text c.args.tried front ++ run_text c.args.tried n run) c.loop-run.invariant.1
+          ∙ ap (λ (t : List ℕ). t ++ map_run_text c.args.tried c.loop-run.at run) c.loop-run.invariant.0
+          ∙ ap (λ (n : ℕ). map_text c.args.tried front ++ map_run_text c.args.tried n run) c.loop-run.invariant.1
           ∙ map_text-push c.args.tried front run
           ∙ ap (map_text c.args.tried) (sym (take_more runs i (record { count = 0; had = false }) c.loop-run-test.true)),
       ap (λ (n : ℕ). n + run.count) c.loop-run.invariant.1 ∙ sym (length-take runs i (record { count = 0; had = false }) c.loop-run-test.true),

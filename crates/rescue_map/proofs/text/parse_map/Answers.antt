@@ -1,6 +1,6 @@
 use Rattle.std.proofs.Common.{length, sym, ap, ◌∙◌, arith}
 use Rattle.rescue_map.specs.Maps.{marks}
-use Rattle.rescue_map.specs.MapText.{map_of, runs_behind, runs_from, said}
+use Rattle.rescue_map.specs.MapText.{map_of, runs_behind, map_runs_from, said}
 use Rattle.rescue_map.proofs.ReadLemmas.{after, after-nil, exit_fault}
 use Rattle.rescue_map.proofs.text.parse_map.Goals as goal
 
@@ -15,7 +15,7 @@ unfolding map_of
 lines-init c =
     let n = c.args.sectors in
     record {
-      whole = ap (λ l. runs_behind n (said l)) (sym c.new-lines.ensures) ∙ c.in_ok-take_status.ensures n ∙ after-nil _ ∙ ap (λ m. after m (runs_from n 0 (said c.take_status.new.lines))) (sym c.new-map.ensures);
+      whole = ap (λ l. runs_behind n (said l)) (sym c.new-lines.ensures) ∙ c.in_ok-take_status.ensures n ∙ after-nil _ ∙ ap (λ m. after m (map_runs_from n 0 (said c.take_status.new.lines))) (sym c.new-map.ensures);
       here = ap (λ m. length (marks m)) c.new-map.ensures;
       inside = omega arith;
     }

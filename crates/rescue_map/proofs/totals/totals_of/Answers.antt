@@ -2,7 +2,7 @@ use Rattle.std.proofs.Common.{◌≡◌, ◌+◌, ◌≤◌, ◌^◌, ℕ, false
 use Rattle.std.proofs.lemmas.List.{at_drop_all, at_drop_more}
 use Rattle.rescue_map.specs.declared.map.Run.{Run}
 use Rattle.rescue_map.specs.declared.totals.Totals.{Totals}
-use Rattle.rescue_map.specs.Maps.{marks, totals_from, totals_of}
+use Rattle.rescue_map.specs.Maps.{marks, totals_from, map_totals}
 use Rattle.rescue_map.proofs.RunLemmas.{length-take, length-within}
 use Rattle.rescue_map.proofs.SpliceLemmas.{sum-more}
 use Rattle.rescue_map.proofs.totals.totals_of.Goals as goal
@@ -30,4 +30,4 @@ loop-run-preserved c =
 
 pub returns : goal.returns
 returns c =
-    sym (at_drop_all (totals_from c.loop-run.totals) c.runs-run-items.result.now c.loop-run.run-index c.loop-run-test.false) ∙ c.loop-run.invariant.rest ∙ ap totals_of c.runs-run-items.ensures.value
+    sym (at_drop_all (totals_from c.loop-run.totals) c.runs-run-items.result.now c.loop-run.run-index c.loop-run-test.false) ∙ c.loop-run.invariant.rest ∙ ap map_totals c.runs-run-items.ensures.value

@@ -3,7 +3,7 @@ use Rattle.std.proofs.lemmas.List.Sums.{sum_by_more}
 use Rattle.dm_table.specs.declared.table.Line.{Line}
 use Rattle.dm_table.specs.Grammar.{IsLineOfGrammar}
 use Rattle.stack_rules.specs.Records.{Configuration, configuration}
-use Rattle.stack_rules.specs.Names.{sectors_of}
+use Rattle.stack_rules.specs.Names.{table_sectors}
 use Rattle.stack_rules.specs.Rules.{first, line_rules}
 use Rattle.stack_rules.proofs.lemmas.NameMeaningLemmas.{row-at, length-rows}
 use Rattle.stack_rules.proofs.lemmas.FirstRefusalLemmas.{scan, scan_found, scan_more, scan_end}
@@ -26,10 +26,10 @@ bounds-rows-i c =
     omega (arith, c.loop-i-test.true, length-rows (configuration c.args.leaves.now c.args.devices.now) c.args.rows.now c.lines-lines.result.now (rw (← c.table.ensures, ← c.lines-lines.ensures.value) at c.requires.rows))
 
 -- the rules at the sectors of the lines before
-rules-here : (c : Configuration) (writable : Rattle.std.proofs.Common.Bool) (lines : Rattle.std.proofs.Common.List Line) (d i before : ℕ) (line : Line) → before ≡ sectors_of (take i lines)
+rules-here : (c : Configuration) (writable : Rattle.std.proofs.Common.Bool) (lines : Rattle.std.proofs.Common.List Line) (d i before : ℕ) (line : Line) → before ≡ table_sectors (take i lines)
     → first (line_of_table c writable lines d (i + 1) line) ≡ first (line_rules c writable d (i + 1) before line)
 rules-here c writable lines d i before line is =
-    let here : (i + 1) - 1 ≡ i = omega arith in ap (λ k. first (line_rules c writable d (i + 1) (sectors_of (take k lines)) line)) here ∙ ap (λ n. first (line_rules c writable d (i + 1) n line)) (sym is)
+    let here : (i + 1) - 1 ≡ i = omega arith in ap (λ k. first (line_rules c writable d (i + 1) (table_sectors (take k lines)) line)) here ∙ ap (λ n. first (line_rules c writable d (i + 1) n line)) (sym is)
 
 pub returns-in-Some : goal.returns-in-Some
 returns-in-Some c =

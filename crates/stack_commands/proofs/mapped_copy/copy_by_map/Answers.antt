@@ -1,5 +1,5 @@
 use Rattle.std.proofs.Common.{inl, inr, refl}
-use Rattle.stack_making.specs.NamedDevices.{place_of}
+use Rattle.stack_making.specs.NamedDevices.{device_place}
 use Rattle.stack_commands.specs.declared.fault.CommandFault.TheVariants.{Recovering}
 use Rattle.stack_commands.proofs.OpeningLemmas.{err-from}
 use Rattle.stack_commands.proofs.mapped_copy.copy_by_map.Goals as goal
@@ -10,7 +10,7 @@ returns-in_err-stack-clause-err g c =
 
 pub returns-clause-err : goal.returns-clause-err
 returns-clause-err g c = inr (inl (record {
-  at = place_of c.in_ok-stack.stack c.in_ok-stack.device.0;
+  at = device_place c.in_ok-stack.stack c.in_ok-stack.device.0;
   image = c.in_ok-stack.image;
   image' = c.copy_in_turns-image.result.0;
   left = c.copy_in_turns-image.new.stack;
@@ -26,7 +26,7 @@ returns-in-Ok-clause-ok g c = record {
   counts = c.in-Ok.counts;
   printed = _;
   copied = record {
-    at = place_of c.in_ok-stack.stack c.in_ok-stack.device.0;
+    at = device_place c.in_ok-stack.stack c.in_ok-stack.device.0;
     image = c.in_ok-stack.image;
     image' = c.copy_in_turns-image.result.0;
     left = _;
@@ -46,7 +46,7 @@ returns-in_err-tell_counts-in-Ok-clause-err g c =
       counts = c.in-Ok.counts;
       printed = _;
       copied = record {
-        at = place_of c.in_ok-stack.stack c.in_ok-stack.device.0;
+        at = device_place c.in_ok-stack.stack c.in_ok-stack.device.0;
         image = c.in_ok-stack.image;
         image' = c.copy_in_turns-image.result.0;
         left = _;

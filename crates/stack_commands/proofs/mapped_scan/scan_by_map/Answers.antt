@@ -2,7 +2,7 @@ use Rattle.std.proofs.Common.{inl, inr, refl, ap, ◌∙◌, arith}
 use Rattle.stack_rules.specs.Names.{mapped, size}
 use Rattle.stack_rules.specs.Records.{Configuration}
 use Rattle.stack_config.proofs.lemmas.LoadedLineLemmas.{size-most}
-use Rattle.stack_making.specs.NamedDevices.{place_of}
+use Rattle.stack_making.specs.NamedDevices.{device_place}
 use Rattle.stack_commands.specs.declared.fault.CommandFault.TheVariants.{Map, Recovering, Stack}
 use Rattle.stack_commands.proofs.OpeningLemmas.{err-from}
 use Rattle.stack_commands.proofs.mapped_scan.scan_by_map.Goals as goal
@@ -21,7 +21,7 @@ pub returns-in_err-counts-clause-err : goal.returns-in_err-counts-clause-err
 returns-in_err-counts-clause-err g c =
     err-from c.from_residual-in_err-counts.result _ (Map c.in_err-counts.field-0.0) c.from_residual-in_err-counts.ensures.1
     (inr (inl (record {
-      at = place_of c.in_ok-stack.stack c.in_ok-stack.device.0;
+      at = device_place c.in_ok-stack.stack c.in_ok-stack.device.0;
       out = _;
       left = _;
       between = c.open_device.new.images;
@@ -35,7 +35,7 @@ returns-clause-ok g c = record {
   counts = c.in_ok-counts.counts;
   printed = _;
   scanned = record {
-    at = place_of c.in_ok-stack.stack c.in_ok-stack.device.0;
+    at = device_place c.in_ok-stack.stack c.in_ok-stack.device.0;
     out = _;
     left = _;
     between = c.open_device.new.images;
@@ -53,7 +53,7 @@ returns-in_err-tell_counts-clause-err g c =
       counts = c.in_ok-counts.counts;
       printed = _;
       scanned = record {
-        at = place_of c.in_ok-stack.stack c.in_ok-stack.device.0;
+        at = device_place c.in_ok-stack.stack c.in_ok-stack.device.0;
         out = _;
         left = _;
         between = c.open_device.new.images;

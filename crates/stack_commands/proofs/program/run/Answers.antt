@@ -4,14 +4,14 @@ use Rattle.std.proofs.lemmas.Result.{IfErr-weaker, on_ok_weaker}
 use Rattle.command_parser.specs.CommandLines.{IsNoCommand}
 use Rattle.command_line.specs.CommandWords.{invocation_record}
 use Rattle.command_line.specs.FormatOptions.{option_texts}
-use Rattle.stack_commands.specs.Endings.{words_ending}
+use Rattle.stack_commands.specs.Endings.{command_words_ending}
 use Rattle.stack_commands.proofs.OpeningLemmas.{err-from}
 use Rattle.stack_commands.proofs.UsageLemmas.{IsUsageEnd-words}
 use Rattle.stack_commands.proofs.program.run.Goals as goal
 
 pub returns-in_err-line-clause-err : goal.returns-in_err-line-clause-err
 returns-in_err-line-clause-err g c =
-    err-from c.from_residual.result _ (words_ending c.in_err-line.field-0.0) c.from_residual.ensures.1
+    err-from c.from_residual.result _ (command_words_ending c.in_err-line.field-0.0) c.from_residual.ensures.1
     (inl (IsUsageEnd-words (IsNoCommand (map string_bytes c.args.words.now)) c.in_err-line.field-0.0 c.in_err-line.ensures.err, refl, refl))
 
 pub returns-clause-ok : goal.returns-clause-ok

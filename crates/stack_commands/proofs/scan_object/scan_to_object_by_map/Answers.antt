@@ -4,7 +4,7 @@ use Rattle.image_files.specs.Opener.{calls}
 use Rattle.stack_rules.specs.Names.{mapped, size}
 use Rattle.stack_rules.specs.Records.{Configuration}
 use Rattle.stack_config.proofs.lemmas.LoadedLineLemmas.{size-most}
-use Rattle.stack_making.specs.NamedDevices.{place_of}
+use Rattle.stack_making.specs.NamedDevices.{device_place}
 use Rattle.stack_commands.specs.declared.fault.CommandFault.TheVariants.{Map, Stack}
 use Rattle.stack_commands.proofs.KeptLemmas.{rescued-none, unrescued-none}
 use Rattle.stack_commands.proofs.OpeningLemmas.{err-from}
@@ -30,7 +30,7 @@ returns-in_err-counts-clause-err g c =
         failed = c.keep_runs_by_map.new.kept.refused;
         cause = c.in_err-counts.ensures.err.0;
         cuts = record {
-          at = place_of c.in_ok-stack.stack c.in_ok-stack.device.0;
+          at = device_place c.in_ok-stack.stack c.in_ok-stack.device.0;
           out = _;
           left = _;
           between = c.open_device.new.images;
@@ -48,7 +48,7 @@ returns-clause-ok g c = on_ok_weaker c.say_lost.result (λ said. record {
   counts = c.in_ok-counts.counts;
   runs = c.keep_runs_by_map.new.kept.runs.items;
   gone = record {
-    at = place_of c.in_ok-stack.stack c.in_ok-stack.device.0;
+    at = device_place c.in_ok-stack.stack c.in_ok-stack.device.0;
     out = _;
     left = _;
     between = c.open_device.new.images;
@@ -65,7 +65,7 @@ returns-clause-err g c = IfErr-weaker c.say_lost.result _ _ (λ fault ends. inr 
   counts = c.in_ok-counts.counts;
   runs = c.keep_runs_by_map.new.kept.runs.items;
   gone = record {
-    at = place_of c.in_ok-stack.stack c.in_ok-stack.device.0;
+    at = device_place c.in_ok-stack.stack c.in_ok-stack.device.0;
     out = _;
     left = _;
     between = c.open_device.new.images;

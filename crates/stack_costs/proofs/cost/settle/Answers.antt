@@ -2,7 +2,7 @@ use Rattle.std.proofs.Common.{sym, ap, ◌∙◌, Some, length, map, arith}
 use Rattle.dm_table.specs.declared.table.Line.{Line}
 use Rattle.stack_rules.specs.declared.lower.Lower.{Lower}
 use Rattle.stack_rules.specs.Names.{named, names}
-use Rattle.stack_costs.specs.Costs.{cost_in, capped, dearest}
+use Rattle.stack_costs.specs.Costs.{cost_in, capped_cost, dearest}
 use Rattle.stack_rules.specs.Records.{Configuration, configuration}
 use Rattle.stack_costs.proofs.lemmas.CostLemmas.{settles_none, settles_all, settles_written, settles_skipped, rows-table, depth-kept, cost-written}
 use Rattle.stack_rules.proofs.lemmas.ValidLemmas.{depths-low}
@@ -29,7 +29,7 @@ loop-d-preserved c = λ leaves measured are.
           rw w.costs-is
           (settles_written c' c.args.direction c.args.depth c.loop-d.d w.capped.result c.loop-d.costs (depths-low c' measured.low) (omega (arith, c.loop-d.auto.costs, c.requires.costs)) (omega (arith, c.loop-d.auto.costs, c.requires.costs, c.loop-d-test.true))
           (sym kept ∙ w.if-here-depth.true)
-          (w.capped.ensures ∙ ap (capped c.args.direction) (cost-written c' c.args.direction c.loop-d.costs c.args.lowers.now c.args.depths.now measured c.loop-d.d w.dearest-cost.result c.index-devices-d.result w.index-lowers-d.result c.loop-d-test.true c.index-devices-d.is w.index-lowers-d.is
+          (w.capped.ensures ∙ ap (capped_cost c.args.direction) (cost-written c' c.args.direction c.loop-d.costs c.args.lowers.now c.args.depths.now measured c.loop-d.d w.dearest-cost.result c.index-devices-d.result w.index-lowers-d.result c.loop-d-test.true c.index-devices-d.is w.index-lowers-d.is
           (λ c0 means.
           let table = w.lines.ensures.value ∙ w.table.ensures in
           w.dearest-cost.ensures c0 (ap (map (map (λ (lower : Lower). Some lower))) w.lines-then-here-depth.ensures ∙ means ∙ ap (map (λ (line : Line). map (named c0) (names line.target))) (sym table))

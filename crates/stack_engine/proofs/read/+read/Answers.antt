@@ -22,13 +22,13 @@ use Rattle.stack_meaning.specs.declared.fault.Fault.TheVariants.{ErrorTarget, Mi
 use Rattle.stack_meaning.specs.declared.fault.IoFault.TheVariants.{Stack, NoMemory}
 use Rattle.stack_lines.specs.declared.source.Source.{Source}
 use Rattle.stack_lines.specs.declared.source.Source.TheVariants.{Units, UnitPart, Block}
-use Rattle.stack_meaning.specs.Found.{FoundRecord, entry_of}
+use Rattle.stack_meaning.specs.Found.{FoundRecord, found_entry}
 use Rattle.stack_lines.specs.declared.tree.Extent.{Extent}
 use Rattle.stack_lines.specs.Caches.{IsCacheOf, KeepsCache}
 use Rattle.stack_meaning.specs.Blocks.{hash_sectors, hash_start, next_digest}
 use Rattle.stack_lines.specs.Walks.{block_in, checked_expected, GetsChain, IsWalked}
 use Rattle.stack_meaning.specs.declared.fault.IoFault.{IoFault}
-use Rattle.stack_meaning.specs.Places.{place_of, run_expected, Read}
+use Rattle.stack_meaning.specs.Places.{place_of, run_expected, LeafRead}
 use Rattle.stack_meaning.specs.Reading.{Gets, Reads, IsPlain, MeetVerity, buffer_answer}
 use Rattle.stack_lines.specs.Sources.{SourceHolds, ReadsSource, source_said}
 use Rattle.stack_engine.proofs.RunBytesLemmas.{room_sectors, run_length}
@@ -117,7 +117,7 @@ read_device-loop-at-preserved g t c =
     let len = run_length out at count fits in
     let number : length (take (at + count * 512 - at) (drop at out)) / 512 ≡ count = omega (arith, len) in
     let front : take end (put_mid at (end - at) out c.read_run.new.out) ≡ take at out ++ c.read_run.new.out = take-put_mid at (end - at) out c.read_run.new.out end (omega (arith, c.read_run.auto.out, len)) c.loop-at.invariant.within in
-    let did : Read = record { old = map state c.loop-at.backing.devices.items; new = map state c.read_run.new.backing.devices.items; before = c.loop-at.found.items; after = c.read_run.new.found.items } in
+    let did : LeafRead = record { old = map state c.loop-at.backing.devices.items; new = map state c.read_run.new.backing.devices.items; before = c.loop-at.found.items; after = c.read_run.new.found.items } in
     let more = subst (λ (n : ℕ). ReadsSource config source n did (Ok c.read_run.new.out)) number c.in-Ok.ensures.reads in
     let ends_at : at / 512 + count ≡ end / 512 = omega (arith, c.loop-at.invariant.whole) in
     let all : ℕ = length c.args.out.now / 512 in
@@ -153,7 +153,7 @@ read_device-returns-in-Err-clause-reads g t c =
     let fits : at + count * 512 ≤ length c.loop-at.out = omega (arith, c.run_to_read-run.ensures.most, c.loop-at-test.true) in
     let len = run_length c.loop-at.out at count fits in
     let number : length (take (at + count * 512 - at) (drop at c.loop-at.out)) / 512 ≡ count = omega (arith, len) in
-    let did : Read = record { old = map state c.loop-at.backing.devices.items; new = map state c.read_run.new.backing.devices.items; before = c.loop-at.found.items; after = c.read_run.new.found.items } in
+    let did : LeafRead = record { old = map state c.loop-at.backing.devices.items; new = map state c.read_run.new.backing.devices.items; before = c.loop-at.found.items; after = c.read_run.new.found.items } in
     let more = subst (λ (n : ℕ). ReadsSource config source n did (Err c.in-Err.fault)) number c.in-Err.ensures.reads in
     device_err config c.args.d.0 c.args.first (at / 512) count source c.requires.stack.sound.loaded c.run_to_read-run.ensures.some c.run_to_read-run.ensures.served c.loop-at.invariant.so_far _ c.in-Err.fault (omega (arith, fits, c.loop-at.auto.out)) more
 
@@ -198,7 +198,7 @@ read_lower-returns-in-Device-clause-reads g t c = rw c.in-Device.is c.read_devic
 pub read_run-returns-in-Below-clause-reads : goal.read_run-returns-in-Below-clause-reads
 read_run-returns-in-Below-clause-reads g t c =
     let state = g.D.BlockDev.state in
-    let did : Read = record { old = map state c.args.backing.now.devices.items; new = map state c.read_lower.new.backing.devices.items; before = c.args.found.now.items; after = c.read_lower.new.found.items } in
+    let did : LeafRead = record { old = map state c.args.backing.now.devices.items; new = map state c.read_lower.new.backing.devices.items; before = c.args.found.now.items; after = c.read_lower.new.found.items } in
     rw c.in-Below.is (below_of c.args.config.now c.in-Below.lower c.in-Below.first (length c.args.out.now / 512) did (buffer_answer c.read_lower.result c.read_lower.new.out) c.read_lower.ensures.reads)
 
 pub read_run-returns-in-Fails-clause-reads : goal.read_run-returns-in-Fails-clause-reads
@@ -311,7 +311,7 @@ read_units-returns-in-Ok-clause-reads g t c =
     let n : ℕ = length c.args.out.now / 512 in
     let crypt = c.crypt_at-crypt.result.now in
     let unit = c.unit_at-unit in
-    let did : Read = record { old = map state c.args.backing.now.devices.items; new = map state c.read_lower.new.backing.devices.items; before = c.args.found.now.items; after = c.read_lower.new.found.items } in
+    let did : LeafRead = record { old = map state c.args.backing.now.devices.items; new = map state c.read_lower.new.backing.devices.items; before = c.args.found.now.items; after = c.read_lower.new.found.items } in
     subst (λ (b : List ℕ). ReadsSource config (Units p) n did (Ok b)) (sym (c.decrypt.ensures ∙ ap (λ (k : ℕ). decrypted_units crypt k c.read_lower.new.out) unit.ensures.index))
     (units-read config p n crypt c.requires.stack.sound.loaded c.crypt_at-crypt.ensures c.requires.fits.holds unit.result.lower unit.ensures.lower did (all-whole state g.met.D.BlockDev.whole c.args.backing.now.devices.items) c.read_lower.new.out
     (subst (λ (k : ℕ). Reads config unit.result.lower k n did (Ok c.read_lower.new.out)) unit.ensures.first c.in-Ok.ensures.reads))
@@ -324,7 +324,7 @@ read_units-returns-in-Err-clause-reads g t c =
     let n : ℕ = length c.args.out.now / 512 in
     let crypt = c.crypt_at-crypt.result.now in
     let unit = c.unit_at-unit in
-    let did : Read = record { old = map state c.args.backing.now.devices.items; new = map state c.read_lower.new.backing.devices.items; before = c.args.found.now.items; after = c.read_lower.new.found.items } in
+    let did : LeafRead = record { old = map state c.args.backing.now.devices.items; new = map state c.read_lower.new.backing.devices.items; before = c.args.found.now.items; after = c.read_lower.new.found.items } in
     units-failed config p n crypt c.requires.stack.sound.loaded c.crypt_at-crypt.ensures c.requires.fits.holds unit.result.lower unit.ensures.lower did (all-whole state g.met.D.BlockDev.whole c.args.backing.now.devices.items) c.in-Err.fault
     (subst (λ (k : ℕ). Reads config unit.result.lower k n did (Err c.in-Err.fault)) unit.ensures.first c.in-Err.ensures.reads)
 
@@ -393,7 +393,7 @@ read_unit_part-returns-in-Ok-clause-reads g t c =
     let whole = c.whole_unit-whole in
     let of = whole.ensures.whole in
     let count = room_sectors c.as_mut_slice-all.result.now whole.result.sectors (ap (λ (l : List ℕ). length l) c.as_mut_slice-all.ensures.value) whole.ensures.few in
-    let did : Read = record { old = map state c.args.backing.now.devices.items; new = map state c.read_units.new.backing.devices.items; before = c.args.found.now.items; after = c.read_units.new.found.items } in
+    let did : LeafRead = record { old = map state c.args.backing.now.devices.items; new = map state c.read_units.new.backing.devices.items; before = c.args.found.now.items; after = c.read_units.new.found.items } in
     let one = subst (λ (k : ℕ). ReadsSource config (Units whole.result.from) k did (Ok c.read_units.new.out)) count c.in-Ok.ensures.reads in
     let len : length c.args.out.now ≡ 512 * n = omega (arith, c.requires.fits.sectors.whole) in
     let is : c.take_sectors.new.out ≡ take (512 * n) (drop (512 * (p.first % unit_sectors of.crypt)) c.read_units.new.out) =
@@ -410,7 +410,7 @@ read_unit_part-returns-in-Err-clause-reads g t c =
     let some : 0 < n = omega (arith, c.requires.fits.sectors.some, c.requires.fits.sectors.whole) in
     let whole = c.whole_unit-whole in
     let count = room_sectors c.as_mut_slice-all.result.now whole.result.sectors (ap (λ (l : List ℕ). length l) c.as_mut_slice-all.ensures.value) whole.ensures.few in
-    let did : Read = record { old = map state c.args.backing.now.devices.items; new = map state c.read_units.new.backing.devices.items; before = c.args.found.now.items; after = c.read_units.new.found.items } in
+    let did : LeafRead = record { old = map state c.args.backing.now.devices.items; new = map state c.read_units.new.backing.devices.items; before = c.args.found.now.items; after = c.read_units.new.found.items } in
     part-failed config p whole.result n c.requires.stack.sound.loaded whole.ensures.whole c.requires.fits.holds some did (all-whole state g.met.D.BlockDev.whole c.args.backing.now.devices.items) c.in-Err.fault
     (subst (λ (k : ℕ). ReadsSource config (Units whole.result.from) k did (Err c.in-Err.fault)) count c.in-Err.ensures.reads)
 
@@ -452,8 +452,8 @@ read_block-copy_part-requires-clause-inside g t c =
     let whole = data-whole c.args.config.now p.device.0 p.line p.first (length c.args.out.now / 512) v c.requires.stack.sound.loaded c.verity_at-verity.ensures in
     let within = part-within c.args.config.now p.device.0 p.line p.first (length c.args.out.now / 512) v c.requires.stack.sound.loaded c.verity_at-verity.ensures c.requires.fits.holds in
     let there : c.in-Some.at < length found = omega (arith, c.in-Some.ensures.some.0, ap (λ (l : List FoundRecord). length l) c.as_slice.ensures.value) in
-    let at : entry_of (get_or found c.in-Some.at x) ≡ (p.device.0, p.line, p.first / block_sectors v) =
-    ap (λ (l : List FoundRecord). entry_of (get_or l c.in-Some.at x)) (sym c.as_slice.ensures.value) ∙ c.in-Some.ensures.some.1 x ∙ ap (λ (k : ℕ). (p.device.0, p.line, p.first / k)) sectors in
+    let at : found_entry (get_or found c.in-Some.at x) ≡ (p.device.0, p.line, p.first / block_sectors v) =
+    ap (λ (l : List FoundRecord). found_entry (get_or l c.in-Some.at x)) (sym c.as_slice.ensures.value) ∙ c.in-Some.ensures.some.1 x ∙ ap (λ (k : ℕ). (p.device.0, p.line, p.first / k)) sectors in
     let len = kept_length c.args.config.now (map g.D.BlockDev.state c.args.backing.now.devices.items) p.device.0 p.line (p.first / block_sectors v) v found c.in-Some.at x c.verity_at-verity.ensures c.requires.kept there at in
     let same : length ((get_or c.as_slice-in-Some.result.now c.in-Some.at x).chain.content) ≡ v.data_block = ap (λ (l : List FoundRecord). length ((get_or l c.in-Some.at x).chain.content)) c.as_slice-in-Some.ensures.value ∙ len in
     let room = part-room v p.first c.from-sectors.result (length c.args.out.now) sectors whole.whole within c.requires.fits.sectors.whole in
@@ -499,8 +499,8 @@ read_block-returns-in-Some-clause-reads g t c =
     let within = part-within c.args.config.now p.device.0 p.line p.first n v c.requires.stack.sound.loaded c.verity_at-verity.ensures c.requires.fits.holds in
     let x = get_or found c.in-Some.at any_found in
     let there : c.in-Some.at < length found = omega (arith, c.in-Some.ensures.some.0, ap (λ (l : List FoundRecord). length l) c.as_slice.ensures.value) in
-    let at : entry_of x ≡ (p.device.0, p.line, p.first / block_sectors v) =
-    ap (λ (l : List FoundRecord). entry_of (get_or l c.in-Some.at any_found)) (sym c.as_slice.ensures.value) ∙ c.in-Some.ensures.some.1 any_found ∙ ap (λ (k : ℕ). (p.device.0, p.line, p.first / k)) sectors in
+    let at : found_entry x ≡ (p.device.0, p.line, p.first / block_sectors v) =
+    ap (λ (l : List FoundRecord). found_entry (get_or l c.in-Some.at any_found)) (sym c.as_slice.ensures.value) ∙ c.in-Some.ensures.some.1 any_found ∙ ap (λ (k : ℕ). (p.device.0, p.line, p.first / k)) sectors in
     let len : length c.args.out.now ≡ 512 * n = omega (arith, c.requires.fits.sectors.whole) in
     let is : c.copy_part.new.out ≡ take (512 * n) (drop (512 * (p.first % block_sectors v)) x.chain.content) =
     c.copy_part.ensures any_found
@@ -557,7 +557,7 @@ read_block-returns-after-push-clause-reads g t c =
           (subst (λ (r : Result Unit IoFault). Does (found ++ (one ∷ [])) (buffer_answer r c.match-push.out)) (sym w.result-is)
           (part_walked config v p n c.requires.stack.sound.loaded c.verity_at-verity.ensures some within whole.whole found c.in-Ok.chain c.requires.kept
           (λ k h y same. c.in-None.ensures.none k (omega (arith, h, ap (λ (l : List FoundRecord). length l) c.as_slice.ensures.value)) y
-          (ap (λ (l : List FoundRecord). entry_of (get_or l k y)) c.as_slice.ensures.value ∙ same ∙ ap (λ (k : ℕ). (p.device.0, p.line, p.first / k)) (sym sectors)))
+          (ap (λ (l : List FoundRecord). found_entry (get_or l k y)) c.as_slice.ensures.value ∙ same ∙ ap (λ (k : ℕ). (p.device.0, p.line, p.first / k)) (sym sectors)))
           q is))
     ]
 
@@ -949,7 +949,7 @@ read_blocks-walk_path-requires g t c κs within =
     let read : r ≤ n / block_sectors v = omega (arith, inv.most, many_are) in
     let index : p.first / c.from.result + j ≡ p.first / block_sectors v + j = ap (λ (k : ℕ). p.first / k + j) sectors in
     let there : p.first / c.from.result + j < v.blocks = omega (arith, index, at.there j inside) in
-    let did : Read = record { old = old; new = map state c.checks.backing.devices.items; before = found; after = inv.after } in
+    let did : LeafRead = record { old = old; new = map state c.checks.backing.devices.items; before = found; after = inv.after } in
     let end_j = blocks-end config v p n tree.data found loaded line is at c.checks.out (j + 1) len (omega (arith, inside)) in
     let size = block-size config v p n tree.data found loaded line is at in
     let depths : depth config (mapped tree.device.0) ≡ depth config (mapped p.device.0) = ap (λ (x : DevId). depth config (mapped x.0)) c.tree_at-tree.ensures.at in
@@ -982,7 +982,7 @@ read_blocks-returns-in-Err-clause-reads g t c =
     let read : r ≤ n / block_sectors v = omega (arith, inv.most, many_are) in
     let index : p.first / c.from.result + j ≡ p.first / block_sectors v + j = ap (λ (k : ℕ). p.first / k + j) sectors in
     let there : p.first / c.from.result + j < v.blocks = omega (arith, index, at.there j inside) in
-    let did : Read = record { old = old; new = map state c.checks.backing.devices.items; before = found; after = inv.after } in
+    let did : LeafRead = record { old = old; new = map state c.checks.backing.devices.items; before = found; after = inv.after } in
     let end_j = blocks-end config v p n tree.data found loaded line is at c.checks.out (j + 1) len (omega (arith, inside)) in
     let size = block-size config v p n tree.data found loaded line is at in
     let got = subst (λ (k : ℕ). GetsChain (block_in config v k) did.new (map state c.walk_path.new.backing.devices.items) (Err c.in-Err.first)) index c.in-Err.ensures.err in
@@ -1014,7 +1014,7 @@ read_blocks-overflow_add-index g t c =
     let read : r ≤ n / block_sectors v = omega (arith, inv.most, many_are) in
     let index : p.first / c.from.result + j ≡ p.first / block_sectors v + j = ap (λ (k : ℕ). p.first / k + j) sectors in
     let there : p.first / c.from.result + j < v.blocks = omega (arith, index, at.there j inside) in
-    let did : Read = record { old = old; new = map state c.checks.backing.devices.items; before = found; after = inv.after } in
+    let did : LeafRead = record { old = old; new = map state c.checks.backing.devices.items; before = found; after = inv.after } in
     let end_j = blocks-end config v p n tree.data found loaded line is at c.checks.out (j + 1) len (omega (arith, inside)) in
     let size = block-size config v p n tree.data found loaded line is at in
     let small = size-small config tree.data loaded in
@@ -1047,7 +1047,7 @@ read_blocks-overflow_mul-from g t c =
     let read : r ≤ n / block_sectors v = omega (arith, inv.most, many_are) in
     let index : p.first / c.from.result + j ≡ p.first / block_sectors v + j = ap (λ (k : ℕ). p.first / k + j) sectors in
     let there : p.first / c.from.result + j < v.blocks = omega (arith, index, at.there j inside) in
-    let did : Read = record { old = old; new = map state c.checks.backing.devices.items; before = found; after = inv.after } in
+    let did : LeafRead = record { old = old; new = map state c.checks.backing.devices.items; before = found; after = inv.after } in
     let end_j = blocks-end config v p n tree.data found loaded line is at c.checks.out (j + 1) len (omega (arith, inside)) in
     let size = block-size config v p n tree.data found loaded line is at in
     omega (arith, end_j, add-mul j 1 v.data_block)
@@ -1078,7 +1078,7 @@ read_blocks-read_beneath-requires g t c κs within =
     let read : r ≤ n / block_sectors v = omega (arith, inv.most, many_are) in
     let index : p.first / c.from.result + j ≡ p.first / block_sectors v + j = ap (λ (k : ℕ). p.first / k + j) sectors in
     let there : p.first / c.from.result + j < v.blocks = omega (arith, index, at.there j inside) in
-    let did : Read = record { old = old; new = map state c.checks.backing.devices.items; before = found; after = inv.after } in
+    let did : LeafRead = record { old = old; new = map state c.checks.backing.devices.items; before = found; after = inv.after } in
     let end_j = blocks-end config v p n tree.data found loaded line is at c.checks.out (j + 1) len (omega (arith, inside)) in
     let size = block-size config v p n tree.data found loaded line is at in
     let walk = map state c.walk_path.new.backing.devices.items in
@@ -1126,7 +1126,7 @@ read_blocks-returns-in-Err-read_beneath-clause-reads g t c =
     let read : r ≤ n / block_sectors v = omega (arith, inv.most, many_are) in
     let index : p.first / c.from.result + j ≡ p.first / block_sectors v + j = ap (λ (k : ℕ). p.first / k + j) sectors in
     let there : p.first / c.from.result + j < v.blocks = omega (arith, index, at.there j inside) in
-    let did : Read = record { old = old; new = map state c.checks.backing.devices.items; before = found; after = inv.after } in
+    let did : LeafRead = record { old = old; new = map state c.checks.backing.devices.items; before = found; after = inv.after } in
     let end_j = blocks-end config v p n tree.data found loaded line is at c.checks.out (j + 1) len (omega (arith, inside)) in
     let size = block-size config v p n tree.data found loaded line is at in
     let walk = map state c.walk_path.new.backing.devices.items in
@@ -1182,7 +1182,7 @@ read_blocks-slice_bounds-way-end g t c =
     let read : r ≤ n / block_sectors v = omega (arith, inv.most, many_are) in
     let index : p.first / c.from.result + j ≡ p.first / block_sectors v + j = ap (λ (k : ℕ). p.first / k + j) sectors in
     let there : p.first / c.from.result + j < v.blocks = omega (arith, index, at.there j inside) in
-    let did : Read = record { old = old; new = map state c.checks.backing.devices.items; before = found; after = inv.after } in
+    let did : LeafRead = record { old = old; new = map state c.checks.backing.devices.items; before = found; after = inv.after } in
     let end_j = blocks-end config v p n tree.data found loaded line is at c.checks.out (j + 1) len (omega (arith, inside)) in
     let size = block-size config v p n tree.data found loaded line is at in
     let levels_are : c.levels-levels.result ≡ levels (tree_of v) = c.levels-levels.ensures.value ∙ ap levels c.tree_at-tree.ensures.tree.shape_is in
@@ -1232,7 +1232,7 @@ read_blocks-data_extent-extent-requires-clause-block g t c =
     let read : r ≤ n / block_sectors v = omega (arith, inv.most, many_are) in
     let index : p.first / c.from.result + j ≡ p.first / block_sectors v + j = ap (λ (k : ℕ). p.first / k + j) sectors in
     let there : p.first / c.from.result + j < v.blocks = omega (arith, index, at.there j inside) in
-    let did : Read = record { old = old; new = map state c.checks.backing.devices.items; before = found; after = inv.after } in
+    let did : LeafRead = record { old = old; new = map state c.checks.backing.devices.items; before = found; after = inv.after } in
     let end_j = blocks-end config v p n tree.data found loaded line is at c.checks.out (j + 1) len (omega (arith, inside)) in
     let size = block-size config v p n tree.data found loaded line is at in
     record { lies = c.tree_at-tree.ensures.tree; there = there }
@@ -1263,7 +1263,7 @@ read_blocks-slice_bounds-row-end g t c =
     let read : r ≤ n / block_sectors v = omega (arith, inv.most, many_are) in
     let index : p.first / c.from.result + j ≡ p.first / block_sectors v + j = ap (λ (k : ℕ). p.first / k + j) sectors in
     let there : p.first / c.from.result + j < v.blocks = omega (arith, index, at.there j inside) in
-    let did : Read = record { old = old; new = map state c.checks.backing.devices.items; before = found; after = inv.after } in
+    let did : LeafRead = record { old = old; new = map state c.checks.backing.devices.items; before = found; after = inv.after } in
     let end_j = blocks-end config v p n tree.data found loaded line is at c.checks.out (j + 1) len (omega (arith, inside)) in
     let size = block-size config v p n tree.data found loaded line is at in
     let walk = map state c.walk_path.new.backing.devices.items in
@@ -1306,7 +1306,7 @@ read_blocks-overflow_add-row-in-checks g t c =
     let read : r ≤ n / block_sectors v = omega (arith, inv.most, many_are) in
     let index : p.first / c.from.result + j ≡ p.first / block_sectors v + j = ap (λ (k : ℕ). p.first / k + j) sectors in
     let there : p.first / c.from.result + j < v.blocks = omega (arith, index, at.there j inside) in
-    let did : Read = record { old = old; new = map state c.checks.backing.devices.items; before = found; after = inv.after } in
+    let did : LeafRead = record { old = old; new = map state c.checks.backing.devices.items; before = found; after = inv.after } in
     let end_j = blocks-end config v p n tree.data found loaded line is at c.checks.out (j + 1) len (omega (arith, inside)) in
     let size = block-size config v p n tree.data found loaded line is at in
     let walk = map state c.walk_path.new.backing.devices.items in
@@ -1349,7 +1349,7 @@ read_blocks-slice_bounds-digest_blocks-end g t c =
     let read : r ≤ n / block_sectors v = omega (arith, inv.most, many_are) in
     let index : p.first / c.from.result + j ≡ p.first / block_sectors v + j = ap (λ (k : ℕ). p.first / k + j) sectors in
     let there : p.first / c.from.result + j < v.blocks = omega (arith, index, at.there j inside) in
-    let did : Read = record { old = old; new = map state c.checks.backing.devices.items; before = found; after = inv.after } in
+    let did : LeafRead = record { old = old; new = map state c.checks.backing.devices.items; before = found; after = inv.after } in
     let end_j = blocks-end config v p n tree.data found loaded line is at c.checks.out (j + 1) len (omega (arith, inside)) in
     let size = block-size config v p n tree.data found loaded line is at in
     let walk = map state c.walk_path.new.backing.devices.items in
@@ -1392,7 +1392,7 @@ read_blocks-digest_blocks-requires-clause-whole g t c =
     let read : r ≤ n / block_sectors v = omega (arith, inv.most, many_are) in
     let index : p.first / c.from.result + j ≡ p.first / block_sectors v + j = ap (λ (k : ℕ). p.first / k + j) sectors in
     let there : p.first / c.from.result + j < v.blocks = omega (arith, index, at.there j inside) in
-    let did : Read = record { old = old; new = map state c.checks.backing.devices.items; before = found; after = inv.after } in
+    let did : LeafRead = record { old = old; new = map state c.checks.backing.devices.items; before = found; after = inv.after } in
     let end_j = blocks-end config v p n tree.data found loaded line is at c.checks.out (j + 1) len (omega (arith, inside)) in
     let size = block-size config v p n tree.data found loaded line is at in
     let walk = map state c.walk_path.new.backing.devices.items in
@@ -1447,7 +1447,7 @@ read_blocks-digest_blocks-requires-clause-count g t c =
     let read : r ≤ n / block_sectors v = omega (arith, inv.most, many_are) in
     let index : p.first / c.from.result + j ≡ p.first / block_sectors v + j = ap (λ (k : ℕ). p.first / k + j) sectors in
     let there : p.first / c.from.result + j < v.blocks = omega (arith, index, at.there j inside) in
-    let did : Read = record { old = old; new = map state c.checks.backing.devices.items; before = found; after = inv.after } in
+    let did : LeafRead = record { old = old; new = map state c.checks.backing.devices.items; before = found; after = inv.after } in
     let end_j = blocks-end config v p n tree.data found loaded line is at c.checks.out (j + 1) len (omega (arith, inside)) in
     let size = block-size config v p n tree.data found loaded line is at in
     let walk = map state c.walk_path.new.backing.devices.items in
@@ -1503,7 +1503,7 @@ read_blocks-bounds-made-at g t c =
     let read : r ≤ n / block_sectors v = omega (arith, inv.most, many_are) in
     let index : p.first / c.from.result + j ≡ p.first / block_sectors v + j = ap (λ (k : ℕ). p.first / k + j) sectors in
     let there : p.first / c.from.result + j < v.blocks = omega (arith, index, at.there j inside) in
-    let did : Read = record { old = old; new = map state c.checks.backing.devices.items; before = found; after = inv.after } in
+    let did : LeafRead = record { old = old; new = map state c.checks.backing.devices.items; before = found; after = inv.after } in
     let end_j = blocks-end config v p n tree.data found loaded line is at c.checks.out (j + 1) len (omega (arith, inside)) in
     let size = block-size config v p n tree.data found loaded line is at in
     omega (arith, same_len_mid j (j + c.row_len-many.result - j) c.checks.made c.digest_blocks.new.out c.digest_blocks.auto.out, inv.room, inside, blocks_few, at.few)
@@ -1534,7 +1534,7 @@ read_blocks-slice_bounds-settle-end g t c =
     let read : r ≤ n / block_sectors v = omega (arith, inv.most, many_are) in
     let index : p.first / c.from.result + j ≡ p.first / block_sectors v + j = ap (λ (k : ℕ). p.first / k + j) sectors in
     let there : p.first / c.from.result + j < v.blocks = omega (arith, index, at.there j inside) in
-    let did : Read = record { old = old; new = map state c.checks.backing.devices.items; before = found; after = inv.after } in
+    let did : LeafRead = record { old = old; new = map state c.checks.backing.devices.items; before = found; after = inv.after } in
     let end_j = blocks-end config v p n tree.data found loaded line is at c.checks.out (j + 1) len (omega (arith, inside)) in
     let size = block-size config v p n tree.data found loaded line is at in
     let walk = map state c.walk_path.new.backing.devices.items in
@@ -1589,7 +1589,7 @@ read_blocks-returns-then-not-settle-clause-reads g t c =
     let read : r ≤ n / block_sectors v = omega (arith, inv.most, many_are) in
     let index : p.first / c.from.result + j ≡ p.first / block_sectors v + j = ap (λ (k : ℕ). p.first / k + j) sectors in
     let there : p.first / c.from.result + j < v.blocks = omega (arith, index, at.there j inside) in
-    let did : Read = record { old = old; new = map state c.checks.backing.devices.items; before = found; after = inv.after } in
+    let did : LeafRead = record { old = old; new = map state c.checks.backing.devices.items; before = found; after = inv.after } in
     let end_j = blocks-end config v p n tree.data found loaded line is at c.checks.out (j + 1) len (omega (arith, inside)) in
     let size = block-size config v p n tree.data found loaded line is at in
     let walk = map state c.walk_path.new.backing.devices.items in
@@ -1632,7 +1632,7 @@ read_blocks-returns-then-not-settle-clause-reads g t c =
     (all-whole state g.met.D.BlockDev.whole c.walk_path.new.backing.devices.items) len inv.room made_few inv.ahead got made1_is in
     let ahead1 : AreReadAhead config v p tree.data j to out1 made1 old = subst (λ (k : ℕ). AreReadAhead config v p tree.data j to (put_mid a k c.checks.out row) made1 old) (sym w_is) ahead in
     let far_to = far config v p n tree.data found loaded line is at r j many c.checks.out expected way did walk inside read most c.row_len-many.ensures.fresh inv.had c.in-Ok.ensures.moved to c.read_as_far-read.ensures walked in
-    let did1 : Read = record { old = old; new = new; before = found; after = inv.after } in
+    let did1 : LeafRead = record { old = old; new = new; before = found; after = inv.after } in
     let ws : ℕ = a + v.data_block - a in
     let ws_is : ws ≡ 512 * block_sectors v = omega (arith, size) in
     let stood : List ℕ = take ws (drop a out1) in
@@ -1685,7 +1685,7 @@ read_blocks-returns-in-Err-keep-clause-reads g t c =
     let read : r ≤ n / block_sectors v = omega (arith, inv.most, many_are) in
     let index : p.first / c.from.result + j ≡ p.first / block_sectors v + j = ap (λ (k : ℕ). p.first / k + j) sectors in
     let there : p.first / c.from.result + j < v.blocks = omega (arith, index, at.there j inside) in
-    let did : Read = record { old = old; new = map state c.checks.backing.devices.items; before = found; after = inv.after } in
+    let did : LeafRead = record { old = old; new = map state c.checks.backing.devices.items; before = found; after = inv.after } in
     let end_j = blocks-end config v p n tree.data found loaded line is at c.checks.out (j + 1) len (omega (arith, inside)) in
     let size = block-size config v p n tree.data found loaded line is at in
     let walk = map state c.walk_path.new.backing.devices.items in
@@ -1728,7 +1728,7 @@ read_blocks-returns-in-Err-keep-clause-reads g t c =
     (all-whole state g.met.D.BlockDev.whole c.walk_path.new.backing.devices.items) len inv.room made_few inv.ahead got made1_is in
     let ahead1 : AreReadAhead config v p tree.data j to out1 made1 old = subst (λ (k : ℕ). AreReadAhead config v p tree.data j to (put_mid a k c.checks.out row) made1 old) (sym w_is) ahead in
     let far_to = far config v p n tree.data found loaded line is at r j many c.checks.out expected way did walk inside read most c.row_len-many.ensures.fresh inv.had c.in-Ok.ensures.moved to c.read_as_far-read.ensures walked in
-    let did1 : Read = record { old = old; new = new; before = found; after = inv.after } in
+    let did1 : LeafRead = record { old = old; new = new; before = found; after = inv.after } in
     let ws : ℕ = a + v.data_block - a in
     let ws_is : ws ≡ 512 * block_sectors v = omega (arith, size) in
     let stood : List ℕ = take ws (drop a out1) in
@@ -1774,7 +1774,7 @@ read_blocks-checks-preserved g t c =
     let inside : j < n / block_sectors v = omega (arith, c.checks-test.true, many_are) in
     let read : r ≤ n / block_sectors v = omega (arith, inv.most, many_are) in
     let index : p.first / c.from.result + j ≡ p.first / block_sectors v + j = ap (λ (k : ℕ). p.first / k + j) sectors in
-    let did : Read = record { old = old; new = map state c.checks.backing.devices.items; before = found; after = inv.after } in
+    let did : LeafRead = record { old = old; new = map state c.checks.backing.devices.items; before = found; after = inv.after } in
     let end_j = blocks-end config v p n tree.data found loaded line is at c.checks.out (j + 1) len (omega (arith, inside)) in
     let size = block-size config v p n tree.data found loaded line is at in
     let walk = map state c.walk_path.new.backing.devices.items in
@@ -1816,7 +1816,7 @@ read_blocks-checks-preserved g t c =
     (all-whole state g.met.D.BlockDev.whole c.walk_path.new.backing.devices.items) len inv.room made_few inv.ahead got made1_is in
     let ahead1 : AreReadAhead config v p tree.data j to out1 made1 old = subst (λ (k : ℕ). AreReadAhead config v p tree.data j to (put_mid a k c.checks.out row) made1 old) (sym w_is) ahead in
     let far_to = far config v p n tree.data found loaded line is at r j many c.checks.out expected way did walk inside read most c.row_len-many.ensures.fresh inv.had c.in-Ok.ensures.moved to c.read_as_far-read.ensures walked in
-    let did1 : Read = record { old = old; new = new; before = found; after = inv.after } in
+    let did1 : LeafRead = record { old = old; new = new; before = found; after = inv.after } in
     let ws : ℕ = a + v.data_block - a in
     let ws_is : ws ≡ 512 * block_sectors v = sub-same a v.data_block ∙ sym size ∙ mul_comm (block_sectors v) 512 in
     let stood : List ℕ = take ws (drop a out1) in
@@ -1884,7 +1884,7 @@ read_blocks-returns-clause-reads g t c =
     let blocks_few = few-blocks config v p n tree.data found loaded line is at in
     let inv = c.checks.invariant in
     let len : length c.checks.out ≡ 512 * n = omega (arith, inv.size, whole_out) in
-    let did : Read = record { old = old; new = map state c.checks.backing.devices.items; before = found; after = inv.after } in
+    let did : LeafRead = record { old = old; new = map state c.checks.backing.devices.items; before = found; after = inv.after } in
     record { after = inv.after; out = inv.out; reads = had-all config v p n tree.data found loaded line is at c.checks.read c.checks.at c.checks.out did (omega (arith, inv.most, many_are)) (omega (arith, inv.within, c.checks-test.false, many_are)) len inv.had }
 
 pub read_beneath-returns-then-is_empty-clause-reads : goal.read_beneath-returns-then-is_empty-clause-reads

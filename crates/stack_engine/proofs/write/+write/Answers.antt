@@ -9,7 +9,7 @@ use Rattle.stack_lines.specs.Cuts.{PutsInSteps}
 use Rattle.stack_meaning.specs.Puts.{put_on}
 use Rattle.stack_lines.specs.Sources.{SourceHolds, AreUnits, source_said, source_depth}
 use Rattle.stack_meaning.specs.Meaning.{said_at}
-use Rattle.stack_lines.specs.Writing.{AreHeld, sectors_in, destination_of, Writes, source_destination}
+use Rattle.stack_lines.specs.Writing.{AreHeld, sectors_in, destination_of, WritesSectors, source_destination}
 use Rattle.stack_engine.specs.Premises.{FitsIn, CanWrite}
 use Rattle.stack_engine.proofs.SpentLemmas.{IsCutBehind, cut-behind}
 use Rattle.stack_engine.proofs.UncutLemmas.{device-uncut, leaf-plain, units-plain-below, unread-then}
@@ -43,7 +43,7 @@ use Rattle.stack_lines.proofs.lemmas.UnitSourceLemmas.{units-inside, units-whole
 use Rattle.std.proofs.Common.{IsTrue}
 use Rattle.stack_rules.specs.Names.{may_write}
 use Rattle.stack_lines.specs.declared.source.BlockPart.{BlockPart}
-use Rattle.stack_meaning.specs.Places.{Read}
+use Rattle.stack_meaning.specs.Places.{LeafRead}
 use Rattle.stack_meaning.specs.Reading.{IsPlain}
 use Rattle.stack_lines.specs.Sources.{ReadsSource}
 use Rattle.stack_meaning.proofs.lemmas.LeafLemmas.{all-whole}
@@ -64,7 +64,7 @@ write_device-loop-at-init g t c =
       whole = refl;
       within = omega arith;
       rest = refl;
-      so_far = subst (λ (l : List (List ℕ)). Writes to c.args.first l leaves leaves (Ok tt)) (sym sectors_in-none) (write_none to c.args.first leaves (put-none c.args.config.now (mapped c.args.d.0) c.args.first));
+      so_far = subst (λ (l : List (List ℕ)). WritesSectors to c.args.first l leaves leaves (Ok tt)) (sym sectors_in-none) (write_none to c.args.first leaves (put-none c.args.config.now (mapped c.args.d.0) c.args.first));
       ends = inl (inl refl);
       uncut = λ cuts. refl;
       paid = λ k. omega arith;
@@ -134,7 +134,7 @@ write_device-loop-at-preserved g t c =
     (front_whole bytes at count fits c.loop-at.invariant.whole) (omega (arith, len)) (omega (arith, len, c.run_at-run.ensures.some)) may
     (ends_before bytes at count fits config c.args.d.0 c.args.first c.run_at-run.ensures.some c.loop-at.invariant.ends)
     (run_served bytes at count fits config c.args.d.0 c.args.first source c.run_at-run.ensures.served) c.loop-at.invariant.so_far
-    (subst (λ (b : List ℕ). Writes (source_destination config source) 0 (sectors_in b) (map state c.loop-at.backing.devices.items) (map state c.write_run.new.backing.devices.items) (Ok tt)) same c.in-Ok.ensures.writes) in
+    (subst (λ (b : List ℕ). WritesSectors (source_destination config source) 0 (sectors_in b) (map state c.loop-at.backing.devices.items) (map state c.write_run.new.backing.devices.items) (Ok tt)) same c.in-Ok.ensures.writes) in
     let ends_at : at / 512 + count ≡ (at + count * 512) / 512 = omega (arith, c.loop-at.invariant.whole) in
     let number : count ≡ length (part ++ room) / 512 = omega (arith, len, ap (λ (l : List ℕ). length l) same) in
     record {
@@ -149,7 +149,7 @@ write_device-loop-at-preserved g t c =
           (cut-behind config c.args.d.0 c.args.first (at / 512) count ((length c.held-len.result.now - at) / 512) (length bytes / 512) (omega (arith, c.loop-at.invariant.whole, fits, ap (λ (l : List ℕ). length l) c.held-len.ensures)) c.run_at-run.ensures.some c.run_at-run.ensures.longest);
       within = fits;
       rest = cut-rest cut c.write_run.new.buffer c.write_run.auto.buffer;
-      so_far = subst (λ (b : List ℕ). Writes (destination_of config (mapped c.args.d.0)) c.args.first (sectors_in b) (map state c.args.backing.now.devices.items) (map state c.write_run.new.backing.devices.items) (Ok tt)) (with_run bytes at count fits) all;
+      so_far = subst (λ (b : List ℕ). WritesSectors (destination_of config (mapped c.args.d.0)) c.args.first (sectors_in b) (map state c.args.backing.now.devices.items) (map state c.write_run.new.backing.devices.items) (Ok tt)) (with_run bytes at count fits) all;
       ends = ends_after bytes at count fits config c.args.d.0 c.args.first ((length c.held-len.result.now - at) / 512) c.loop-at.invariant.whole c.run_at-run.ensures.some (omega (arith, c.requires.can.fits.sectors.whole, ap (λ (l : List ℕ). length l) c.held-len.ensures)) c.run_at-run.ensures.longest;
       cached = record { capacity = c.in-Ok.ensures.cached.capacity ∙ c.loop-at.invariant.cached.capacity; sound = c.in-Ok.ensures.cached.sound };
     }
@@ -177,8 +177,8 @@ write_device-returns-in-Err-clause-writes g t c =
     (ends_before bytes at count fits config c.args.d.0 c.args.first c.run_at-run.ensures.some c.loop-at.invariant.ends)
     (run_served bytes at count fits config c.args.d.0 c.args.first source c.run_at-run.ensures.served) c.loop-at.invariant.so_far (drop (at + count * 512 - at) (drop at bytes)) c.in-Err.fault
     (ends_behind bytes at count fits config c.args.d.0 c.args.first ((length c.held-len.result.now - at) / 512) c.loop-at.invariant.whole (omega (arith, c.requires.can.fits.sectors.whole, ap (λ (l : List ℕ). length l) c.held-len.ensures)) c.run_at-run.ensures.longest)
-    (subst (λ (b : List ℕ). Writes (source_destination config source) 0 (sectors_in b) (map state c.loop-at.backing.devices.items) (map state c.write_run.new.backing.devices.items) (Err c.in-Err.fault)) same c.in-Err.ensures.writes) in
-    subst (λ (b : List ℕ). Writes (destination_of config (mapped c.args.d.0)) c.args.first (sectors_in b) (map state c.args.backing.now.devices.items) (map state c.write_run.new.backing.devices.items) (Err c.in-Err.fault)) (with_rest bytes at count fits) all
+    (subst (λ (b : List ℕ). WritesSectors (source_destination config source) 0 (sectors_in b) (map state c.loop-at.backing.devices.items) (map state c.write_run.new.backing.devices.items) (Err c.in-Err.fault)) same c.in-Err.ensures.writes) in
+    subst (λ (b : List ℕ). WritesSectors (destination_of config (mapped c.args.d.0)) c.args.first (sectors_in b) (map state c.args.backing.now.devices.items) (map state c.write_run.new.backing.devices.items) (Err c.in-Err.fault)) (with_rest bytes at count fits) all
 
 pub write_device-returns-clause-writes : goal.write_device-returns-clause-writes
 write_device-returns-clause-writes g t c =
@@ -186,7 +186,7 @@ write_device-returns-clause-writes g t c =
     let state = g.D.BlockDev.state in
     let bytes = c.args.plain.now ++ c.args.buffer.now in
     let whole : take c.loop-at.at bytes ≡ bytes = take_all c.loop-at.at bytes (omega (arith, c.loop-at-test.false, ap (λ (l : List ℕ). length l) c.held-len.ensures)) in
-    subst (λ (b : List ℕ). Writes (destination_of config (mapped c.args.d.0)) c.args.first (sectors_in b) (map state c.args.backing.now.devices.items) (map state c.loop-at.backing.devices.items) (Ok tt)) whole c.loop-at.invariant.so_far
+    subst (λ (b : List ℕ). WritesSectors (destination_of config (mapped c.args.d.0)) c.args.first (sectors_in b) (map state c.args.backing.now.devices.items) (map state c.loop-at.backing.devices.items) (Ok tt)) whole c.loop-at.invariant.so_far
 
 -- ---- lower devices and runs
 
@@ -212,8 +212,8 @@ write_lower-returns-in-Leaf-clause-writes g t c =
     let config = c.args.config.now in
     let old = map g.D.BlockDev.state c.args.backing.now.devices.items in
     let new = map g.D.BlockDev.state c.write_leaf.new.backing.devices.items in
-    subst (λ (x : Lower). Writes (destination_of config x) c.args.first (sectors_in (c.args.plain.now ++ c.args.buffer.now)) old new c.write_leaf.result) (sym c.in-Leaf.is)
-    (subst (λ (b : List ℕ). Writes (destination_of config (Leaf c.in-Leaf.leaf)) c.args.first (sectors_in b) old new c.write_leaf.result) c.held.ensures c.write_leaf.ensures.writes)
+    subst (λ (x : Lower). WritesSectors (destination_of config x) c.args.first (sectors_in (c.args.plain.now ++ c.args.buffer.now)) old new c.write_leaf.result) (sym c.in-Leaf.is)
+    (subst (λ (b : List ℕ). WritesSectors (destination_of config (Leaf c.in-Leaf.leaf)) c.args.first (sectors_in b) old new c.write_leaf.result) c.held.ensures c.write_leaf.ensures.writes)
 
 pub write_lower-returns-in-Device-clause-writes : goal.write_lower-returns-in-Device-clause-writes
 write_lower-returns-in-Device-clause-writes g t c = rw c.in-Device.is c.write_device.ensures.writes
@@ -351,8 +351,8 @@ write_units-returns-then-lower_cuts-clause-writes g t c =
     (subst (λ (k : ℕ). PutsInSteps (put_on config lower) (unit_first crypt p.first) k (record { size = c.from.result; skip = 0 })) count
     (subst (λ (k : ℕ). PutsInSteps (put_on config lower) k (length c.encrypt.new.units / 512) (record { size = c.from.result; skip = 0 })) unit.ensures.first (c.lower_cuts.ensures c.if-lower_cuts.true))) in
     lower-written config p bytes n crypt c.requires.stack.sound.loaded c.crypt_at-crypt.ensures c.requires.fits.holds lower unit.ensures.lower (omega (arith, c.requires.fits.sectors.whole)) cut
-    (subst (λ (k : ℕ). Writes (destination_of config lower) k (sectors_in (encrypted_units crypt (p.first / unit_sectors crypt) bytes)) old new c.write_lower.result) unit.ensures.first
-    (subst (λ (b : List ℕ). Writes (destination_of config lower) unit.result.first (sectors_in b) old new c.write_lower.result) enc c.write_lower.ensures.writes))
+    (subst (λ (k : ℕ). WritesSectors (destination_of config lower) k (sectors_in (encrypted_units crypt (p.first / unit_sectors crypt) bytes)) old new c.write_lower.result) unit.ensures.first
+    (subst (λ (b : List ℕ). WritesSectors (destination_of config lower) unit.result.first (sectors_in b) old new c.write_lower.result) enc c.write_lower.ensures.writes))
 
 pub write_units-write_lower-requires-in-loop-at : goal.write_units-write_lower-requires-in-loop-at
 write_units-write_lower-requires-in-loop-at g t c κs within =
@@ -399,7 +399,7 @@ write_units-loop-at-init g t c =
       forgets = forgets-none c.args.backing.now.cache.blocks.blocks (AreRead-none 0 leaves);
       within = omega arith;
       rest = refl;
-      so_far = subst (λ (l : List (List ℕ)). Writes to 0 l leaves leaves (Ok tt)) (sym sectors_in-none) (write_none to 0 leaves (λ images. units-none c.args.config.now c.args.part images));
+      so_far = subst (λ (l : List (List ℕ)). WritesSectors to 0 l leaves leaves (Ok tt)) (sym sectors_in-none) (write_none to 0 leaves (λ images. units-none c.args.config.now c.args.part images));
       cached = record { capacity = refl; sound = c.requires.stack.cached };
     }
 
@@ -423,7 +423,7 @@ write_units-loop-at-preserved g t c =
     let enc = encrypted-is crypt unit.result.index (p.first / unit_sectors crypt) bytes c.encrypt.new.units c.encrypt.ensures unit.ensures.index in
     let old = map state c.args.backing.now.devices.items in
     let wrote = step-written step config lower unit.result.first (unit_first crypt p.first) now c.encrypt.new.units (encrypted_units crypt (p.first / unit_sectors crypt) bytes) unit.ensures.first c.loop-at.invariant.rest enc c.in-Ok.ensures.writes in
-    let so_far = subst (λ (k : ℕ). Writes (source_destination config (Units p)) 0 (sectors_in (take k bytes)) old (map state c.loop-at.backing.devices.items) (Ok tt)) step.place c.loop-at.invariant.so_far in
+    let so_far = subst (λ (k : ℕ). WritesSectors (source_destination config (Units p)) 0 (sectors_in (take k bytes)) old (map state c.loop-at.backing.devices.items) (Ok tt)) step.place c.loop-at.invariant.so_far in
     let all = units-more config p bytes n crypt c.requires.stack.sound.loaded has c.requires.fits.holds lower unit.ensures.lower long (at / size) step.fits so_far wrote in
     record {
       even = ap (λ (k : ℕ). k % size) step.end_is ∙ step.even;
@@ -437,7 +437,7 @@ write_units-loop-at-preserved g t c =
       rest = drop-put_mid at (c.min-end.result - at) now c.write_lower-in-loop-at.new.buffer c.min-end.result (omega (arith, step.end_is)) (omega (arith, c.loop-at-test.true, c.loop-at.auto.units))
           (c.write_lower-in-loop-at.auto.buffer ∙ step-width step now (omega (arith, long, c.loop-at.auto.units, c.encrypt.auto.units)) ∙ (omega (arith, step.end_is)))
           ∙ ap (λ (k : ℕ). drop k now) step.end_is ∙ rest-later now c.encrypt.new.units at size c.loop-at.invariant.rest ∙ ap (λ (k : ℕ). drop k c.encrypt.new.units) (sym step.end_is);
-      so_far = subst (λ (k : ℕ). Writes (source_destination config (Units p)) 0 (sectors_in (take k bytes)) old (map state c.write_lower-in-loop-at.new.backing.devices.items) (Ok tt)) (sym (step.end_is ∙ step.next)) all;
+      so_far = subst (λ (k : ℕ). WritesSectors (source_destination config (Units p)) 0 (sectors_in (take k bytes)) old (map state c.write_lower-in-loop-at.new.backing.devices.items) (Ok tt)) (sym (step.end_is ∙ step.next)) all;
       cached = record { capacity = c.in-Ok.ensures.cached.capacity ∙ c.loop-at.invariant.cached.capacity; sound = c.in-Ok.ensures.cached.sound };
     }
 
@@ -461,7 +461,7 @@ write_units-returns-in-Err-clause-writes g t c =
     let enc = encrypted-is crypt unit.result.index (p.first / unit_sectors crypt) bytes c.encrypt.new.units c.encrypt.ensures unit.ensures.index in
     let old = map state c.args.backing.now.devices.items in
     let wrote = step-written step config lower unit.result.first (unit_first crypt p.first) now c.encrypt.new.units (encrypted_units crypt (p.first / unit_sectors crypt) bytes) unit.ensures.first c.loop-at.invariant.rest enc c.in-Err.ensures.writes in
-    let so_far = subst (λ (k : ℕ). Writes (source_destination config (Units p)) 0 (sectors_in (take k bytes)) old (map state c.loop-at.backing.devices.items) (Ok tt)) step.place c.loop-at.invariant.so_far in
+    let so_far = subst (λ (k : ℕ). WritesSectors (source_destination config (Units p)) 0 (sectors_in (take k bytes)) old (map state c.loop-at.backing.devices.items) (Ok tt)) step.place c.loop-at.invariant.so_far in
     units-ended config p bytes n crypt c.requires.stack.sound.loaded has c.requires.fits.holds lower unit.ensures.lower long (at / size) step.fits so_far c.in-Err.fault wrote
 
 pub write_units-overflow_add-first : goal.write_units-overflow_add-first
@@ -480,7 +480,7 @@ write_units-returns-clause-writes g t c =
     let state = g.D.BlockDev.state in
     let bytes = c.args.units.now in
     let whole : take c.loop-at.at bytes ≡ bytes = take_all c.loop-at.at bytes (omega (arith, c.loop-at-test.false, c.encrypt.auto.units)) in
-    subst (λ (b : List ℕ). Writes (source_destination config (Units c.args.part)) 0 (sectors_in b) (map state c.args.backing.now.devices.items) (map state c.loop-at.backing.devices.items) (Ok tt)) whole c.loop-at.invariant.so_far
+    subst (λ (b : List ℕ). WritesSectors (source_destination config (Units c.args.part)) 0 (sectors_in b) (map state c.args.backing.now.devices.items) (map state c.loop-at.backing.devices.items) (Ok tt)) whole c.loop-at.invariant.so_far
 
 -- ---- part of a unit
 
@@ -514,7 +514,7 @@ write_unit_part-returns-in-Err-clause-writes g t c =
     let count = room_sectors c.as_mut_slice-all.result.now whole.result.sectors (ap (λ (l : List ℕ). length l) c.as_mut_slice-all.ensures.value) whole.ensures.few in
     let old = map state c.args.backing.now.devices.items in
     let new = map state c.read_units.new.backing.devices.items in
-    let did : Read = record { old = old; new = new; before = c.new-found.result.items; after = c.read_units.new.found.items } in
+    let did : LeafRead = record { old = old; new = new; before = c.new-found.result.items; after = c.read_units.new.found.items } in
     part-ended config p whole.result bytes n c.requires.stack.sound.loaded whole.ensures.whole c.requires.fits.holds (omega (arith, c.requires.fits.sectors.some, c.requires.fits.sectors.whole)) (omega (arith, c.requires.fits.sectors.whole)) c.requires.allowed c.in-Err.fault
     (all-whole state g.met.D.BlockDev.whole c.args.backing.now.devices.items)
     (subst (λ (k : ℕ). ReadsSource config (Units whole.result.from) k did (Err c.in-Err.fault)) count c.in-Err.ensures.reads)
@@ -569,7 +569,7 @@ write_unit_part-returns-clause-writes g t c =
     let count = room_sectors c.as_mut_slice-all.result.now whole.result.sectors (ap (λ (l : List ℕ). length l) c.as_mut_slice-all.ensures.value) whole.ensures.few in
     let old = map state c.args.backing.now.devices.items in
     let mid = map state c.read_units.new.backing.devices.items in
-    let did : Read = record { old = old; new = mid; before = c.new-found.result.items; after = c.read_units.new.found.items } in
+    let did : LeafRead = record { old = old; new = mid; before = c.new-found.result.items; after = c.read_units.new.found.items } in
     let plain = c.read_units.new.out in
     part-written config p whole.result bytes n c.requires.stack.sound.loaded of c.requires.fits.holds (omega (arith, c.requires.fits.sectors.some, c.requires.fits.sectors.whole)) (omega (arith, c.requires.fits.sectors.whole)) c.requires.allowed
     (all-whole state g.met.D.BlockDev.whole c.args.backing.now.devices.items)

@@ -1,7 +1,7 @@
 use Rattle.std.proofs.Common.{◌⊎◌, ◌/◌, length, take, drop, map, ◌-◌, ◌≡◌, ◌≤◌, ◌+◌, ◌++◌, ◌*◌, ◌%◌, Ok}
 use Rattle.stack_rules.specs.Names.{mapped}
 use Rattle.stack_rules.specs.Descend.{depth}
-use Rattle.stack_lines.specs.Writing.{sectors_in, destination_of, source_destination, Writes}
+use Rattle.stack_lines.specs.Writing.{sectors_in, destination_of, source_destination, WritesSectors}
 use Rattle.stack_lines.specs.declared.source.Source.TheVariants.{Units}
 use Rattle.stack_lines.proofs.lemmas.WriteSourceLemmas.{EndsBefore}
 use Rattle.stack_lines.specs.Sources.{source_depth}
@@ -31,7 +31,7 @@ invariant-write_device-loop-at g l = record {
   whole : l.at % 512 ≡ 0;
   within : l.at ≤ length (l.plain ++ l.fn.buffer);
   rest : drop l.at l.buffer ≡ drop l.at l.fn.buffer;
-  so_far : Writes (destination_of l.config (mapped l.d.0)) l.first (sectors_in (take l.at (l.plain ++ l.fn.buffer))) (map g.D.BlockDev.state l.fn.backing.devices.items) (map g.D.BlockDev.state l.backing.devices.items) (Ok tt);
+  so_far : WritesSectors (destination_of l.config (mapped l.d.0)) l.first (sectors_in (take l.at (l.plain ++ l.fn.buffer))) (map g.D.BlockDev.state l.fn.backing.devices.items) (map g.D.BlockDev.state l.backing.devices.items) (Ok tt);
   uncut : CutsNone l.config (mapped l.d.0) l.first (length (l.plain ++ l.fn.buffer) / 512) → NoneRead (map g.D.BlockDev.state l.fn.backing.devices.items) (map g.D.BlockDev.state l.backing.devices.items);
   paid : (k : Counter) → CountsAtMost k (write_budget l.config k (mapped l.d.0) l.first (l.at / 512)) (map g.D.BlockDev.state l.fn.backing.devices.items) (map g.D.BlockDev.state l.backing.devices.items);
   cut : IsCutBehind l.config l.d.0 l.first (l.at / 512) (length (l.plain ++ l.fn.buffer) / 512);
@@ -58,7 +58,7 @@ invariant-write_units-loop-at g l = record {
   uncut : SourceCutsNone l.config (Units l.fn.part) (length l.fn.units / 512) → NoneRead (map g.D.BlockDev.state l.fn.backing.devices.items) (map g.D.BlockDev.state l.backing.devices.items);
   paid : (k : Counter) → CountsAtMost k (part_write_budget l.config k l.fn.part (l.at / 512)) (map g.D.BlockDev.state l.fn.backing.devices.items) (map g.D.BlockDev.state l.backing.devices.items);
   forgets : Forgets l.config (leaves_of l.config (mapped l.fn.part.device.0)) (map g.D.BlockDev.state l.fn.backing.devices.items) (map g.D.BlockDev.state l.backing.devices.items) l.fn.backing.cache.blocks.blocks l.backing.cache.blocks.blocks;
-  so_far : Writes (source_destination l.config (Units l.fn.part)) 0 (sectors_in (take l.at l.fn.units)) (map g.D.BlockDev.state l.fn.backing.devices.items) (map g.D.BlockDev.state l.backing.devices.items) (Ok tt);
+  so_far : WritesSectors (source_destination l.config (Units l.fn.part)) 0 (sectors_in (take l.at l.fn.units)) (map g.D.BlockDev.state l.fn.backing.devices.items) (map g.D.BlockDev.state l.backing.devices.items) (Ok tt);
   cached : KeepsCache l.config (map g.D.BlockDev.state l.backing.devices.items) l.fn.backing.cache l.backing.cache;
 }
 

@@ -7,7 +7,7 @@ use Rattle.stack_lines.specs.Caches.{KeepsCache}
 use Rattle.stack_lines.specs.Forgetting.{Forgets}
 use Rattle.stack_lines.specs.Touches.{leaves_of}
 use Rattle.stack_lines.proofs.lemmas.KeptLemmas.{forgets-leaf}
-use Rattle.stack_lines.specs.Writing.{sectors_in, destination_of, Writes}
+use Rattle.stack_lines.specs.Writing.{sectors_in, destination_of, WritesSectors}
 use Rattle.stack_lines.specs.WriteBudgets.{CountsAtMost, write_budget}
 use Rattle.stack_lines.proofs.lemmas.WriteRunLemmas.{length-sectors_in}
 use Rattle.stack_engine.proofs.CachedLemmas.{keeps-written}
@@ -22,7 +22,7 @@ returns-clause-cached g c =
     let new = c.write_sectors.new.devices in
     let cache = c.args.backing.now.cache in
     let stands : (with_items devices new).items ≡ new = with_items_is devices new (c.write_sectors.auto.devices ∙ ap (λ l. length l) c.as_mut_slice.ensures.value ∙ sym devices.ok.0) in
-    let wrote = subst (λ ds. Writes (destination_of config (Leaf c.args.leaf)) c.args.first (sectors_in c.args.bytes.now) (map state ds) (map state new) c.write_sectors.result) c.as_mut_slice.ensures.value c.write_sectors.ensures in
+    let wrote = subst (λ ds. WritesSectors (destination_of config (Leaf c.args.leaf)) c.args.first (sectors_in c.args.bytes.now) (map state ds) (map state new) c.write_sectors.result) c.as_mut_slice.ensures.value c.write_sectors.ensures in
     subst (λ ds. KeepsCache config (map state ds) cache c.forget_leaf.new.self) (sym stands)
     (keeps-written config c.args.leaf c.args.first _ _ (map state devices.items) (map state new) cache c.forget_leaf.new.self wrote.moved c.requires.stack.cached c.forget_leaf.ensures.blocks c.forget_leaf.ensures.sets c.forget_leaf.ensures.covers)
 
@@ -34,7 +34,7 @@ returns-clause-paid g c =
     let devices = c.args.backing.now.devices in
     let new = c.write_sectors.new.devices in
     let stands : (with_items devices new).items ≡ new = with_items_is devices new (c.write_sectors.auto.devices ∙ ap (λ l. length l) c.as_mut_slice.ensures.value ∙ sym devices.ok.0) in
-    let wrote = subst (λ ds. Writes (destination_of config (Leaf c.args.leaf)) c.args.first (sectors_in bytes) (map state ds) (map state new) c.write_sectors.result) c.as_mut_slice.ensures.value c.write_sectors.ensures in
+    let wrote = subst (λ ds. WritesSectors (destination_of config (Leaf c.args.leaf)) c.args.first (sectors_in bytes) (map state ds) (map state new) c.write_sectors.result) c.as_mut_slice.ensures.value c.write_sectors.ensures in
     λ k. subst (λ ds. CountsAtMost k (write_budget config k (Leaf c.args.leaf) c.args.first (length bytes / 512)) (map state devices.items) (map state ds)) (sym stands)
     (leaf-paid config k c.args.leaf c.args.first (length bytes / 512) (sectors_in bytes) (map state devices.items) (map state new) c.write_sectors.result (length-sectors_in bytes) wrote)
 
@@ -47,6 +47,6 @@ returns-clause-forgets g c =
     let before = c.args.backing.now.cache.blocks.blocks in
     let after = c.forget_leaf.new.self.blocks.blocks in
     let stands : (with_items devices new).items ≡ new = with_items_is devices new (c.write_sectors.auto.devices ∙ ap (λ l. length l) c.as_mut_slice.ensures.value ∙ sym devices.ok.0) in
-    let wrote = subst (λ ds. Writes (destination_of config (Leaf c.args.leaf)) c.args.first (sectors_in c.args.bytes.now) (map state ds) (map state new) c.write_sectors.result) c.as_mut_slice.ensures.value c.write_sectors.ensures in
+    let wrote = subst (λ ds. WritesSectors (destination_of config (Leaf c.args.leaf)) c.args.first (sectors_in c.args.bytes.now) (map state ds) (map state new) c.write_sectors.result) c.as_mut_slice.ensures.value c.write_sectors.ensures in
     subst (λ ds. Forgets config (leaves_of config (Leaf c.args.leaf)) (map state devices.items) (map state ds) before after) (sym stands)
     (forgets-leaf config c.args.leaf c.args.first _ (map state devices.items) (map state new) before after wrote.moved.others (ap (λ (k : CacheRecord). k.blocks) c.forget_leaf.ensures.blocks))

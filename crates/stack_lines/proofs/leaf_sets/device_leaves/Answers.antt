@@ -5,7 +5,7 @@ use Rattle.std.proofs.lemmas.Option.{slice_get_read}
 use Rattle.dm_table.specs.declared.table.Line.{Line}
 use Rattle.stack_rules.specs.Lines.{IsLine, names_at}
 use Rattle.stack_rules.specs.Names.{names, lines_of}
-use Rattle.stack_lines.specs.Standing.{contains, name_stands_on}
+use Rattle.stack_lines.specs.Standing.{has_leaf, name_stands_on}
 use Rattle.stack_lines.proofs.lemmas.StandingLemmas.{lines-more, lines-few, stands-device}
 use Rattle.stack_lines.proofs.leaf_sets.device_leaves.Goals as goal
 
@@ -21,7 +21,7 @@ loop-line-preserved c =
     record {
       number = ap (λ (k : ℕ). k + 1) c.loop-line.invariant.number;
       so_far = λ k.
-          lines-more config d n x k (contains c.loop-line.leaves k) (contains c.line_leaves.result k) (contains c.union-leaves.result k) at (c.loop-line.invariant.so_far k)
+          lines-more config d n x k (has_leaf c.loop-line.leaves k) (has_leaf c.line_leaves.result k) (has_leaf c.union-leaves.result k) at (c.loop-line.invariant.so_far k)
           (c.line_leaves.ensures k ∙ ap (λ (j : ℕ). list_any (name_stands_on config k) (names_at config d j)) c.loop-line.invariant.number) (c.union-leaves.ensures k);
     }
 

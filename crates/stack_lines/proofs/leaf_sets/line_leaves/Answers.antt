@@ -2,7 +2,7 @@ use Rattle.std.proofs.Common.{◌≤◌, length, ap, ◌∙◌, arith}
 use Rattle.std.specs.List.{list_any}
 use Rattle.std.proofs.lemmas.List.{take_all}
 use Rattle.stack_rules.specs.Lines.{names_at}
-use Rattle.stack_lines.specs.Standing.{contains, name_stands_on}
+use Rattle.stack_lines.specs.Standing.{has_leaf, name_stands_on}
 use Rattle.stack_lines.proofs.lemmas.StandingLemmas.{knows-lower, names-more, lower-inside}
 use Rattle.stack_lines.proofs.leaf_sets.line_leaves.Goals as goal
 
@@ -10,7 +10,7 @@ pub loop-i-preserved : goal.loop-i-preserved
 loop-i-preserved c = λ k.
     let config = c.args.config.now in
     let known = knows-lower config c.requires.loaded c.args.sets.now c.args.d.0 c.args.line c.loop-i.i c.lower-lower.result c.requires.below c.lower-lower.ensures in
-    names-more config c.requires.loaded c.args.d.0 c.args.line c.loop-i.i c.lower-lower.result k (contains c.loop-i.leaves k) (contains c.lower_leaves.result k) (contains c.union-leaves.result k)
+    names-more config c.requires.loaded c.args.d.0 c.args.line c.loop-i.i c.lower-lower.result k (has_leaf c.loop-i.leaves k) (has_leaf c.lower_leaves.result k) (has_leaf c.union-leaves.result k)
     c.lower-lower.ensures (c.loop-i.invariant k) (c.lower_leaves.ensures config c.requires.loaded known k) (c.union-leaves.ensures k)
 
 pub lower_leaves-requires : goal.lower_leaves-requires

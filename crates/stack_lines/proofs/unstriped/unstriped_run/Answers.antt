@@ -6,13 +6,13 @@ use Rattle.dm_table.specs.Grammar.{IsUnstripedOfGrammar}
 use Rattle.stack_rules.specs.Records.{Configuration}
 use Rattle.stack_rules.specs.Rules.{IsLoaded}
 use Rattle.stack_lines.specs.Sources.{LieOn}
-use Rattle.stack_lines.specs.Runs.{HasSectors}
+use Rattle.stack_lines.specs.Runs.{HasLineSectors}
 use Rattle.stack_lines.proofs.StripeLemmas.{part-more, part-longest}
 use Rattle.stack_lines.proofs.UnstripedLemmas.{unstriped-small, unstriped-lies, chunk-low}
 use Rattle.stack_lines.proofs.unstriped.unstriped_run.Goals as goal
 
 -- the number of the chunk, and its first sector on the striped device, are numbers that fit
-small : (c : Configuration) (d l : ℕ) (line : Unstriped) (w n chunk stripes stripe : ℕ) → IsLoaded c → IsUnstripedOfGrammar line → HasSectors c d l (unstriped_target line) w n
+small : (c : Configuration) (d l : ℕ) (line : Unstriped) (w n chunk stripes stripe : ℕ) → IsLoaded c → IsUnstripedOfGrammar line → HasLineSectors c d l (unstriped_target line) w n
     → chunk ≡ line.chunk → stripes ≡ line.stripes → stripe ≡ line.stripe
     → (line.base.offset + (w / chunk * stripes + stripe) * chunk + chunk ≤ 2 ^ 54) × (w / chunk * stripes + stripe ≤ (w / chunk * stripes + stripe) * chunk)
 small c d l line w n chunk stripes stripe loaded g t e f h =

@@ -7,13 +7,13 @@ use Rattle.stack_rules.specs.declared.refusal.LoadKind.TheVariants.{TooDeep, Cos
 use Rattle.stack_rules.specs.Records.{Configuration, configuration}
 use Rattle.stack_rules.specs.Descend.{most_devices, depth, read_cost, write_cost}
 use Rattle.stack_config.specs.Facts.{AreFacts}
-use Rattle.stack_costs.specs.Depths.{rounds}
+use Rattle.stack_costs.specs.Depths.{depth_rounds}
 use Rattle.stack_rules.specs.Kept.{AreLowers}
 use Rattle.stack_rules.specs.Passing.{above}
 use Rattle.stack_rules.specs.Rules.{IsValid, first, rules, unknown_names, most_depth, most_cost}
 use Rattle.stack_rules.proofs.lemmas.ValidLemmas.{costs-low}
 use Rattle.stack_rules.proofs.lemmas.ValidLineLemmas.{or-false}
-use Rattle.stack_costs.specs.Costs.{AreMeasured, capped, cost}
+use Rattle.stack_costs.specs.Costs.{AreMeasured, capped_cost, cost}
 use Rattle.stack_costs.proofs.lemmas.DepthLemmas.{rounds-depths}
 use Rattle.stack_costs.proofs.lemmas.CappedLemmas.{each-exact}
 use Rattle.stack_config.proofs.lemmas.WriteCostLemmas.{write_cost-low}
@@ -65,7 +65,7 @@ first_above-requires c =
     let few = sym c.is_too_many.ensures ∙ c.if-is_too_many.false in
     let known : Known c' = record { few = few; known = c.in_ok-lowers.ensures.0 } in
     let are = c.in_ok-lowers.ensures.1 in
-    let depths = c.in_ok-depths.ensures ∙ ap (λ t. rounds t most_devices) c.as_slice-sets.ensures.value ∙ rounds-depths c' c.in_ok-named.named.items (c.in_ok-named.ensures c' (rw c.as_slice-rows.ensures.value are)) in
+    let depths = c.in_ok-depths.ensures ∙ ap (λ t. depth_rounds t most_devices) c.as_slice-sets.ensures.value ∙ rounds-depths c' c.in_ok-named.named.items (c.in_ok-named.ensures c' (rw c.as_slice-rows.ensures.value are)) in
     let low = ltb-false most_devices (length c.args.devices.now) (or-false _ _ few).0 in
     rw c.as_slice-levels.ensures.value (omega (arith, low, length-values (depth c') (length c.args.devices.now) c.in_ok-depths.depths.items depths))
 
@@ -75,7 +75,7 @@ returns-in-Some-first_above c =
     let few = sym c.is_too_many.ensures ∙ c.if-is_too_many.false in
     let known : Known c' = record { few = few; known = c.in_ok-lowers.ensures.0 } in
     let are = c.in_ok-lowers.ensures.1 in
-    let depths = c.in_ok-depths.ensures ∙ ap (λ t. rounds t most_devices) c.as_slice-sets.ensures.value ∙ rounds-depths c' c.in_ok-named.named.items (c.in_ok-named.ensures c' (rw c.as_slice-rows.ensures.value are)) in
+    let depths = c.in_ok-depths.ensures ∙ ap (λ t. depth_rounds t most_devices) c.as_slice-sets.ensures.value ∙ rounds-depths c' c.in_ok-named.named.items (c.in_ok-named.ensures c' (rw c.as_slice-rows.ensures.value are)) in
     let sets = rw (← c.as_slice-sets.ensures.value) at (c.in_ok-named.ensures c' (rw c.as_slice-rows.ensures.value are)) in
     let found = c.in_ok-cycle.ensures c' sets in
     let no_cycle = sym found ∙ c.in-None.is in
@@ -89,7 +89,7 @@ first_above-requires-2 c =
     let few = sym c.is_too_many.ensures ∙ c.if-is_too_many.false in
     let known : Known c' = record { few = few; known = c.in_ok-lowers.ensures.0 } in
     let are = c.in_ok-lowers.ensures.1 in
-    let depths = c.in_ok-depths.ensures ∙ ap (λ t. rounds t most_devices) c.as_slice-sets.ensures.value ∙ rounds-depths c' c.in_ok-named.named.items (c.in_ok-named.ensures c' (rw c.as_slice-rows.ensures.value are)) in
+    let depths = c.in_ok-depths.ensures ∙ ap (λ t. depth_rounds t most_devices) c.as_slice-sets.ensures.value ∙ rounds-depths c' c.in_ok-named.named.items (c.in_ok-named.ensures c' (rw c.as_slice-rows.ensures.value are)) in
     let sets = rw (← c.as_slice-sets.ensures.value) at (c.in_ok-named.ensures c' (rw c.as_slice-rows.ensures.value are)) in
     let found = c.in_ok-cycle.ensures c' sets in
     let no_cycle = sym found ∙ c.in-None.is in
@@ -99,7 +99,7 @@ first_above-requires-2 c =
     let measured : AreMeasured c' c.in_ok-lowers.lowers.items c.in_ok-depths.depths.items = record { lowers = are; depths = depths; low = no_deep } in
     let reads = c.in_ok-read_costs.ensures c'.leaves (rw (c.as_slice-rows.ensures.value, c.as_slice-levels.ensures.value) measured) in
     let low = ltb-false most_devices (length c.args.devices.now) (or-false _ _ few).0 in
-    rw c.as_slice.ensures.value (omega (arith, low, length-values (λ x. capped Read (read_cost c' x)) (length c.args.devices.now) c.in_ok-read_costs.read_costs.items reads))
+    rw c.as_slice.ensures.value (omega (arith, low, length-values (λ x. capped_cost Read (read_cost c' x)) (length c.args.devices.now) c.in_ok-read_costs.read_costs.items reads))
 
 pub costs-requires-clause-rows : goal.costs-requires-clause-rows
 costs-requires-clause-rows c =
@@ -110,7 +110,7 @@ pub costs-requires-clause-depths : goal.costs-requires-clause-depths
 costs-requires-clause-depths c =
     let c' : Configuration = configuration c.args.leaves.now c.args.devices.now in
     let are = c.in_ok-lowers.ensures.1 in
-    let depths = c.in_ok-depths.ensures ∙ ap (λ t. rounds t most_devices) c.as_slice-sets.ensures.value ∙ rounds-depths c' c.in_ok-named.named.items (c.in_ok-named.ensures c' (rw c.as_slice-rows.ensures.value are)) in
+    let depths = c.in_ok-depths.ensures ∙ ap (λ t. depth_rounds t most_devices) c.as_slice-sets.ensures.value ∙ rounds-depths c' c.in_ok-named.named.items (c.in_ok-named.ensures c' (rw c.as_slice-rows.ensures.value are)) in
     rw c.as_slice-levels.ensures.value (length-values (depth c') (length c.args.devices.now) c.in_ok-depths.depths.items depths)
 
 pub costs-requires-2-clause-rows : goal.costs-requires-2-clause-rows
@@ -122,7 +122,7 @@ pub costs-requires-2-clause-depths : goal.costs-requires-2-clause-depths
 costs-requires-2-clause-depths c =
     let c' : Configuration = configuration c.args.leaves.now c.args.devices.now in
     let are = c.in_ok-lowers.ensures.1 in
-    let depths = c.in_ok-depths.ensures ∙ ap (λ t. rounds t most_devices) c.as_slice-sets.ensures.value ∙ rounds-depths c' c.in_ok-named.named.items (c.in_ok-named.ensures c' (rw c.as_slice-rows.ensures.value are)) in
+    let depths = c.in_ok-depths.ensures ∙ ap (λ t. depth_rounds t most_devices) c.as_slice-sets.ensures.value ∙ rounds-depths c' c.in_ok-named.named.items (c.in_ok-named.ensures c' (rw c.as_slice-rows.ensures.value are)) in
     rw c.as_slice-levels.ensures.value (length-values (depth c') (length c.args.devices.now) c.in_ok-depths.depths.items depths)
 
 pub depths-requires : goal.depths-requires
@@ -139,7 +139,7 @@ returns-in-Some-first_above-2 c =
     let few = sym c.is_too_many.ensures ∙ c.if-is_too_many.false in
     let known : Known c' = record { few = few; known = c.in_ok-lowers.ensures.0 } in
     let are = c.in_ok-lowers.ensures.1 in
-    let depths = c.in_ok-depths.ensures ∙ ap (λ t. rounds t most_devices) c.as_slice-sets.ensures.value ∙ rounds-depths c' c.in_ok-named.named.items (c.in_ok-named.ensures c' (rw c.as_slice-rows.ensures.value are)) in
+    let depths = c.in_ok-depths.ensures ∙ ap (λ t. depth_rounds t most_devices) c.as_slice-sets.ensures.value ∙ rounds-depths c' c.in_ok-named.named.items (c.in_ok-named.ensures c' (rw c.as_slice-rows.ensures.value are)) in
     let sets = rw (← c.as_slice-sets.ensures.value) at (c.in_ok-named.ensures c' (rw c.as_slice-rows.ensures.value are)) in
     let found = c.in_ok-cycle.ensures c' sets in
     let no_cycle = sym found ∙ c.in-None.is in
@@ -158,7 +158,7 @@ returns c =
     let few = sym c.is_too_many.ensures ∙ c.if-is_too_many.false in
     let known : Known c' = record { few = few; known = c.in_ok-lowers.ensures.0 } in
     let are = c.in_ok-lowers.ensures.1 in
-    let depths = c.in_ok-depths.ensures ∙ ap (λ t. rounds t most_devices) c.as_slice-sets.ensures.value ∙ rounds-depths c' c.in_ok-named.named.items (c.in_ok-named.ensures c' (rw c.as_slice-rows.ensures.value are)) in
+    let depths = c.in_ok-depths.ensures ∙ ap (λ t. depth_rounds t most_devices) c.as_slice-sets.ensures.value ∙ rounds-depths c' c.in_ok-named.named.items (c.in_ok-named.ensures c' (rw c.as_slice-rows.ensures.value are)) in
     let sets = rw (← c.as_slice-sets.ensures.value) at (c.in_ok-named.ensures c' (rw c.as_slice-rows.ensures.value are)) in
     let found = c.in_ok-cycle.ensures c' sets in
     let no_cycle = sym found ∙ c.in-None.is in

@@ -5,13 +5,13 @@ use Rattle.dm_table.specs.declared.table.Target.TheVariants.{Crypt as crypt_targ
 use Rattle.stack_rules.specs.Units.{unit_sectors}
 use Rattle.stack_meaning.specs.Units.{unit_part, unit_first}
 use Rattle.stack_meaning.specs.Outcomes.{Images, Outcome, changed_outcome, part}
-use Rattle.stack_meaning.specs.targets.Crypt.{crypt}
+use Rattle.stack_meaning.specs.targets.Crypt.{crypt_meaning}
 use Rattle.stack_meaning.proofs.lemmas.GatheredLemmas.{of-gathered}
 use Rattle.stack_meaning.proofs.lemmas.MeaningLaws.{MeantLaws}
 use Rattle.stack_meaning.proofs.lemmas.SizedLemmas.{crypt-size}
 use Rattle.stack_meaning.proofs.lemmas.SpanLemmas.{span_same}
 
-pub crypt-laws : (line : Crypt) → MeantLaws (crypt_target line) (crypt line).meant
+pub crypt-laws : (line : Crypt) → MeantLaws (crypt_target line) (crypt_meaning line).meant
 crypt-laws line = record {
   mono = λ below all d l s u v more b h. (h.0, record { len = h.1.len; sectors = λ j low. all 0 _ u v more (part h.0 j) (h.1.sectors j low) }, h.2);
   alike = λ images other below all d l s.

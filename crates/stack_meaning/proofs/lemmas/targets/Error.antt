@@ -2,13 +2,13 @@
 use Rattle.std.proofs.Common.{◌≡◌, refl}
 use Rattle.dm_table.specs.declared.table.Target.TheVariants.{Error}
 use Rattle.stack_meaning.specs.Outcomes.{error_target, mismatch}
-use Rattle.stack_meaning.specs.targets.Error.{error}
+use Rattle.stack_meaning.specs.targets.Error.{error_meaning}
 use Rattle.stack_meaning.proofs.lemmas.MeaningLaws.{MeantLaws}
 
 other-fault : mismatch ≡ error_target → ⊥
 other-fault e = cc
 
-pub error-laws : MeantLaws Error error.meant
+pub error-laws : MeantLaws Error error_meaning.meant
 error-laws = record {
   mono = λ below all d l s u v more b h. h;
   alike = λ images other below all d l s. refl;

@@ -12,10 +12,10 @@ use Rattle.stack_recovery.specs.declared.fault.RecoveryFault.TheVariants.{Output
 use Rattle.stack_recovery.specs.declared.lost_run.LostRun.{LostRun}
 use Rattle.stack_recovery.specs.declared.tally.Tally.{Tally}
 use Rattle.stack_recovery.specs.Alike.{AreAlike}
-use Rattle.stack_recovery.specs.LostRuns.{is_same, run}
+use Rattle.stack_recovery.specs.LostRuns.{is_same_fault, run_lost}
 use Rattle.stack_recovery.specs.Recoveries.{EndsEarly, FindsNoMemory, Sides, sides}
 use Rattle.stack_recovery.specs.Surveys.{AreMarked}
-use Rattle.stack_recovery.specs.Tallies.{EndsAt, opened_by}
+use Rattle.stack_recovery.specs.Tallies.{EndsAtSector, opened_lost}
 use Rattle.stack_recovery.proofs.AheadLemmas.{ahead-inside, ahead-next, first-run, marked-next, notes-some}
 use Rattle.stack_recovery.proofs.LostRunLemmas.{is_same-true}
 use Rattle.stack_recovery.proofs.UnderwayLemmas.{IsUnderway, begun, few, note-room, runs-short, underway-again, underway-all, underway-had, underway-kept, underway-lost, underway-none}
@@ -224,7 +224,7 @@ lose-requires g c =
     let first = first-run c.pieces.ahead c.next_run-run.new.self c.next_run-run.result c.next_run-run.ensures.same c.next_run-run.ensures.first in
     let inside = ahead-inside (marks_ahead c.args.ahead) c.pieces.at c.sectors-sectors.result c.next_run-run.result.count c.next_run-run.result.had _ _ (c.requires.fits ∙ sym u.all) u.ahead first u.within in
     record {
-      ends = subst (EndsAt c.pieces.tally.last) (sym u.so_far.here) u.so_far.tallied.ends;
+      ends = subst (EndsAtSector c.pieces.tally.last) (sym u.so_far.here) u.so_far.tallied.ends;
       lost = few _ _ _ _ _ _ _ u.so_far;
       room = omega (arith, inside, u.few, c.from-count.ensures, c.piece_at-piece.ensures.inside);
     }
@@ -242,12 +242,12 @@ pieces-preserved-then-piece g c =
     let number : length (take (n * 512) c.pieces.room) / 512 ≡ n = omega (arith, wide) in
     let piece = subst (λ (m : ℕ). EachBytes c.pieces.stack c.args.d.0 c.pieces.at m (Err c.in-Err.fault) c.read_bytes.new.self) number (record { any = c.in-Err.ensures.any; steady = c.in-Err.ensures.steady }) in
     let alike : AreAlike c.pieces.stack.config c.args.d.0 c.pieces.at n = subst (λ (x : Configuration). AreAlike x c.args.d.0 c.pieces.at n) c.config-else-run.ensures.value (c.piece_at-piece.ensures.alike c.if-piece.true) in
-    let none : c.in-Err.fault ≡ NoMemory → ⊥ = λ e. false≢true (sym c.if-is_same.false ∙ c.is_same.ensures ∙ ap (λ (f : IoFault). is_same f NoMemory) e) in
+    let none : c.in-Err.fault ≡ NoMemory → ⊥ = λ e. false≢true (sym c.if-is_same.false ∙ c.is_same.ensures ∙ ap (λ (f : IoFault). is_same_fault f NoMemory) e) in
     let old : Sides = sides c.args.stack.now (g.O.BlockDev.state c.args.out.now) (g.L.Listing.told c.args.listing.now) in
     let new : Sides = sides c.read_bytes.new.self (g.O.BlockDev.state c.pieces.out) (g.L.Listing.told c.lose.new.listing) in
     let same : c.from-count.result ≡ n = c.from-count.ensures in
-    let grown : LostRun = run c.pieces.at c.from-count.result c.in-Err.fault in
-    let tally : c.lose.new.self ≡ record { last = Some (opened_by c.pieces.tally.last grown); lost = c.pieces.tally.lost + c.from-count.result } =
+    let grown : LostRun = run_lost c.pieces.at c.from-count.result c.in-Err.fault in
+    let tally : c.lose.new.self ≡ record { last = Some (opened_lost c.pieces.tally.last grown); lost = c.pieces.tally.lost + c.from-count.result } =
     ap₂ {C = Tally} (λ (l : Option LostRun) (m : ℕ). record { last = l; lost = m }) c.in_ok-lose-in-Err.ensures.last c.in_ok-lose-in-Err.ensures.lost in
     record {
       so_far = subst (λ (m : ℕ). IsUnderway before c.args.d.0 old new (c.pieces.at + m) c.lose.new.self c.note-then-piece.new.noted) (sym same)

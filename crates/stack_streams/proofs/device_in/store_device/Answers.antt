@@ -1,6 +1,6 @@
 use Rattle.std.proofs.Common.{inl, inr, refl}
 use Rattle.stack_streams.specs.declared.fault.StreamFault.TheVariants.{Stack, Write}
-use Rattle.stack_making.specs.NamedDevices.{place_of}
+use Rattle.stack_making.specs.NamedDevices.{device_place}
 use Rattle.stack_streams.specs.Streaming.{place_from}
 use Rattle.stack_streams.proofs.OpeningLemmas.{err-from}
 use Rattle.stack_streams.proofs.StreamingLemmas.{end-told}
@@ -16,7 +16,7 @@ returns-in_err-say_stored-in-Ok-clause-err g c =
     (inr (inr (
       c.in-Ok.written,
       record {
-        at = place_of c.in_ok-stack.stack c.in_ok-stack.device.0;
+        at = device_place c.in_ok-stack.stack c.in_ok-stack.device.0;
         left = c.store-outcome.new.stack;
         between = c.open_device.new.images;
         found = c.in_ok-stack.ensures.ok;
@@ -30,7 +30,7 @@ pub returns-in_ok-say_stored-in-Ok-clause-ok : goal.returns-in_ok-say_stored-in-
 returns-in_ok-say_stored-in-Ok-clause-ok g c = record {
   n = c.in-Ok.written;
   stored = record {
-    at = place_of c.in_ok-stack.stack c.in_ok-stack.device.0;
+    at = device_place c.in_ok-stack.stack c.in_ok-stack.device.0;
     left = c.store-outcome.new.stack;
     between = c.open_device.new.images;
     found = c.in_ok-stack.ensures.ok;
@@ -42,7 +42,7 @@ returns-in_ok-say_stored-in-Ok-clause-ok g c = record {
 
 pub returns-in-Err-clause-err : goal.returns-in-Err-clause-err
 returns-in-Err-clause-err g c = inr (inl (record {
-  at = place_of c.in_ok-stack.stack c.in_ok-stack.device.0;
+  at = device_place c.in_ok-stack.stack c.in_ok-stack.device.0;
   left = c.store-outcome.new.stack;
   between = c.open_device.new.images;
   found = c.in_ok-stack.ensures.ok;

@@ -1,7 +1,7 @@
 use Rattle.std.proofs.Common.{inl, inr, refl, ap, ◌∙◌}
 use Rattle.stack_rules.specs.Names.{mapped, size}
 use Rattle.stack_rules.specs.Records.{Configuration}
-use Rattle.stack_making.specs.NamedDevices.{place_of}
+use Rattle.stack_making.specs.NamedDevices.{device_place}
 use Rattle.stack_streams.specs.declared.fault.StreamFault.TheVariants.{Stack}
 use Rattle.stack_streams.specs.Streaming.{count_from}
 use Rattle.stack_streams.proofs.OpeningLemmas.{err-from}
@@ -14,10 +14,10 @@ returns-in_err-stack-clause-err g c =
 
 pub returns-in-Ok-clause-ok : goal.returns-in-Ok-clause-ok
 returns-in-Ok-clause-ok g c =
-    bytes-printed _ _ (place_of c.in_ok-stack.stack c.in_ok-stack.device.0) c.in_ok-stack.ensures.ok _ c.count_from-count.result _
+    bytes-printed _ _ (device_place c.in_ok-stack.stack c.in_ok-stack.device.0) c.in_ok-stack.ensures.ok _ c.count_from-count.result _
     (c.count_from-count.ensures ∙ ap (count_from c.args.wanted.count c.args.wanted.first) (c.sectors.ensures ∙ ap (λ (x : Configuration). size x (mapped c.in_ok-stack.device.0)) c.config.ensures.value)) _ _ _ c.in-Ok.ensures.ok
 
 pub returns-clause-err : goal.returns-clause-err
 returns-clause-err g c =
-    inr (cat-ends _ _ (place_of c.in_ok-stack.stack c.in_ok-stack.device.0) c.in_ok-stack.ensures.ok _ c.count_from-count.result _
+    inr (cat-ends _ _ (device_place c.in_ok-stack.stack c.in_ok-stack.device.0) c.in_ok-stack.ensures.ok _ c.count_from-count.result _
     (c.count_from-count.ensures ∙ ap (count_from c.args.wanted.count c.args.wanted.first) (c.sectors.ensures ∙ ap (λ (x : Configuration). size x (mapped c.in_ok-stack.device.0)) c.config.ensures.value)) _ _ _ _ _ c.in-Err.ensures.err)

@@ -1,6 +1,6 @@
 use Rattle.std.proofs.Common.{Bool, Ok, inl, inr, refl, subst}
 use Rattle.stack_making.specs.Endings.{opening_ending}
-use Rattle.stack_making.specs.NamedDevices.{place_of}
+use Rattle.stack_making.specs.NamedDevices.{device_place}
 use Rattle.stack_streams.specs.declared.fault.StreamFault.TheVariants.{Stack, Write}
 use Rattle.stack_streams.proofs.OpeningLemmas.{err-from}
 use Rattle.stack_streams.proofs.file_in.store_file.Goals as goal
@@ -42,7 +42,7 @@ returns-in_err-say_stored-in-Ok-outcome-clause-err g c =
     (inr (inr (
       c.in-Ok-outcome.written,
       record {
-        at = place_of c.in_ok-stack.stack c.in_ok-stack.device.0;
+        at = device_place c.in_ok-stack.stack c.in_ok-stack.device.0;
         image = c.in_ok-over.image;
         left = c.store_whole-outcome.new.stack;
         between = c.has_part_sector.new.self;
@@ -65,7 +65,7 @@ pub returns-in-Ok-outcome-clause-ok : goal.returns-in-Ok-outcome-clause-ok
 returns-in-Ok-outcome-clause-ok g c = record {
   n = c.in-Ok-outcome.written;
   stored = record {
-    at = place_of c.in_ok-stack.stack c.in_ok-stack.device.0;
+    at = device_place c.in_ok-stack.stack c.in_ok-stack.device.0;
     image = c.in_ok-over.image;
     left = c.store_whole-outcome.new.stack;
     between = c.has_part_sector.new.self;
@@ -86,7 +86,7 @@ returns-in-Ok-outcome-clause-ok g c = record {
 
 pub returns-clause-err : goal.returns-clause-err
 returns-clause-err g c = inr (inl (record {
-  at = place_of c.in_ok-stack.stack c.in_ok-stack.device.0;
+  at = device_place c.in_ok-stack.stack c.in_ok-stack.device.0;
   image = c.in_ok-over.image;
   part = c.in-Ok.part;
   left = c.store_whole-outcome.new.stack;

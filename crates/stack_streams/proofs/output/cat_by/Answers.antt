@@ -11,7 +11,7 @@ use Rattle.stack_meaning.specs.Meaning.{said_at}
 use Rattle.stack_meaning.specs.Reading.{MeetVerity}
 use Rattle.stack_engine.specs.Bytes.{EachBytes}
 use Rattle.stack_recovery.specs.Alike.{AreAlike}
-use Rattle.stack_recovery.specs.LostRuns.{is_same}
+use Rattle.stack_recovery.specs.LostRuns.{is_same_fault}
 use Rattle.stack_streams.specs.Cats.{CatSide, IsCat, cat_side}
 use Rattle.stack_streams.proofs.CatLemmas.{cat-again, cat-had, cat-none, cat-stop}
 use Rattle.stack_streams.proofs.output.cat_by.Goals as goal
@@ -19,7 +19,7 @@ use Rattle.stack_streams.proofs.output.cat_by.Goals as goal
 abbrev ended : IoFault → Result Unit IoFault
 ended fault = Err fault
 
-only-memory : (fault : IoFault) → is_same fault NoMemory ≡ true → fault ≡ NoMemory
+only-memory : (fault : IoFault) → is_same_fault fault NoMemory ≡ true → fault ≡ NoMemory
 only-memory NoMemory is = refl
 only-memory (Stack ErrorTarget) is = absurd (false≢true is)
 only-memory (Stack Mismatch) is = absurd (false≢true is)
@@ -76,7 +76,7 @@ returns-then-piece-clause-err g c =
     let piece = subst (λ (s : ℕ). EachBytes c.pieces.stack c.args.d.0 s n (Err c.in-Err.fault) c.read_bytes.new.self) here counted in
     let alike : AreAlike c.pieces.stack.config c.args.d.0 c.pieces.at n = subst (λ (x : Configuration). AreAlike x c.args.d.0 c.pieces.at n) c.config-in-pieces.ensures.value (c.piece_at-piece.ensures.alike c.if-piece.true) in
     let same : AreAlike c.pieces.stack.config c.args.d.0 (first + k) n = subst (λ (s : ℕ). AreAlike c.pieces.stack.config c.args.d.0 s n) here alike in
-    let other : c.in-Err.fault ≡ NoMemory → ⊥ = λ e. false≢true (sym c.if-is_same.false ∙ c.is_same.ensures ∙ ap (λ (f : IoFault). is_same f NoMemory) e) in
+    let other : c.in-Err.fault ≡ NoMemory → ⊥ = λ e. false≢true (sym c.if-is_same.false ∙ c.is_same.ensures ∙ ap (λ (f : IoFault). is_same_fault f NoMemory) e) in
     cat-stop c.args.d.0 first k old now before.so_far n c.read_bytes.new.self c.args.range.count c.in-Err.fault
     (omega (arith, here, c.piece_at-piece.ensures.inside)) c.piece_at-piece.ensures.some piece (λ is. absurd (other is)) (λ kind. same)
 

@@ -1,5 +1,5 @@
 use Rattle.std.proofs.Common.{ap, ◌∙◌, take_all}
-use Rattle.table_printer.specs.Print.{table_text}
+use Rattle.table_printer.specs.Print.{printed_table}
 use Rattle.dm_table.specs.TableText.{table_of}
 use Rattle.table_printer.proofs.HiddenKeyLemmas.{table-printed}
 use Rattle.table_printer.proofs.print.print_table.Goals as goal
@@ -8,4 +8,4 @@ pub returns-clause-reads_back : goal.returns-clause-reads_back
 returns-clause-reads_back c =
     let lines = c.lines-line-items.ensures in
     let show = c.args.show_keys in
-    ap table_of (c.loop-line.invariant ∙ ap (table_text show) (take_all _ _ c.loop-line-test.false ∙ lines.value)) ∙ table-printed show c.args.table.now lines.grammar
+    ap table_of (c.loop-line.invariant ∙ ap (printed_table show) (take_all _ _ c.loop-line-test.false ∙ lines.value)) ∙ table-printed show c.args.table.now lines.grammar

@@ -1,6 +1,6 @@
 use Rattle.std.proofs.Common.{◌+◌, ◌∷◌, ◌==◌, length, Ok, ap, sym, ◌∙◌, eqb-true, arith}
 use Rattle.std.proofs.lemmas.Bool.{eqb-false}
-use Rattle.dm_table.specs.Words.{lines_of}
+use Rattle.dm_table.specs.Words.{text_lines}
 use Rattle.dm_table.specs.Reading.{◌>>=◌, at_place}
 use Rattle.dm_table.specs.Lines.{line_of}
 use Rattle.dm_table.specs.TableText.{table_lines, some_lines}
@@ -15,7 +15,7 @@ returns-then-not-is_text c =
     rw c.fault.ensures (table-not_text c.args.text.now (sym c.is_text.ensures ∙ c.if-not-is_text.true))
 
 pub lines-init : goal.lines-init
-unfolding lines_of
+unfolding text_lines
 lines-init c =
     let texts = c.new-texts.ensures in
     let pieces = length-pieces (λ b. b == 10) c.args.text.now in

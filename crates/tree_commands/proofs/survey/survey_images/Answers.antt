@@ -2,7 +2,7 @@ use Rattle.std.proofs.Common.{ℕ, ap, inr}
 use Rattle.std.proofs.Math.Path.{subst₃}
 use Rattle.std.proofs.lemmas.Result.{IfErr-weaker, on_ok_weaker}
 use Rattle.block_device.specs.Device.{Device}
-use Rattle.tree_commands.specs.Surveys.{IsPlacedEnd, SurveysPlaced}
+use Rattle.tree_commands.specs.Surveys.{IsPlacedSurveyEnd, SurveysPlaced}
 use Rattle.tree_commands.proofs.survey.survey_images.Goals as goal
 
 pub returns-clause-ok : goal.returns-clause-ok
@@ -29,6 +29,6 @@ returns-clause-err g c =
     (λ fault ends. inr (record {
       two = c.in_ok-two.two;
       opened = c.in_ok-two.ensures.ok;
-      ends = subst₃ (λ (d h : Device) (end : ℕ). IsPlacedEnd c.args.order.json d h end c.args.order.hash_first c.args.root.now old new c.survey_behind.new.writer.failed fault) (ap state watched.ensures.data) (ap state watched.ensures.hash) c.data_end-end.ensures ends;
+      ends = subst₃ (λ (d h : Device) (end : ℕ). IsPlacedSurveyEnd c.args.order.json d h end c.args.order.hash_first c.args.root.now old new c.survey_behind.new.writer.failed fault) (ap state watched.ensures.data) (ap state watched.ensures.hash) c.data_end-end.ensures ends;
     }))
     c.survey_behind.ensures.err

@@ -13,7 +13,7 @@ use Rattle.tree_runs.specs.Tallies.{EndsAt}
 use Rattle.tree_runs.proofs.lemmas.ListingLemmas.{listed-ends, listed-had, listed-none, listed-run}
 use Rattle.tree_runs.proofs.lemmas.RunLemmas.{count_of-append, count_of-had, count_of-some}
 use Rattle.tree_difference.specs.declared.walk.Walk.{Walk}
-use Rattle.tree_difference.specs.Comparisons.{World, world}
+use Rattle.tree_difference.specs.Comparisons.{DifferenceWorld, difference_world}
 use Rattle.tree_difference.specs.Differences.{trees_in}
 use Rattle.tree_difference.proofs.EndLemmas.{span-some, blocks-few, changed-few, reads-all, top-is, underway-all, walk-comparison}
 use Rattle.tree_difference.proofs.ErrLemmas.{err-from}
@@ -114,11 +114,11 @@ spans-preserved g c =
     let have = c.requires.have in
     let h = c.in_ok-stop.ensures.ok in
     let span : count ≡ min (width w0 ^ level) (w0.blocks - at) = c.span-count.ensures ∙ ap (λ (s : ShapeRecord). min (per_block s ^ level) (w0.blocks - at)) have.of.shape in
-    let i : World = world d0 e0 d e old now in
+    let i : DifferenceWorld = difference_world d0 e0 d e old now in
     elim c.if-stop.branch [
       | then-stop+in_ok-close v ↦
           let new : Option (List ℕ) = g.L.Listing.told v.close.new.listing in
-          let i' : World = world d0 e0 d' e' old new in
+          let i' : DifferenceWorld = difference_world d0 e0 d' e' old new in
           let n : IsNext w0 w w' i i' at top level count = next-of w0 w w' d0 e0 d e d' e' old now new at top level count c.in_ok-stop.stop.same u.trees c.spans-test.true is u.first_read.read u.second_read.read h span in
           let same : digest_on w'.first at level ≡ digest_on w'.second at level = (bytes_eq-Decides _ _).0 (sym h.test ∙ v.if-stop.true) in
           let counted : c.spans.changed ≡ count_of Changed (u.compared ++ replicate count None) = omega (arith, u.counted, count_of-append Changed u.compared (replicate count None), count_of-had Changed count) in
@@ -131,7 +131,7 @@ spans-preserved g c =
           })
       | else-stop+in_ok-add v ↦
           let new : Option (List ℕ) = g.L.Listing.told v.add.new.listing in
-          let i' : World = world d0 e0 d' e' old new in
+          let i' : DifferenceWorld = difference_world d0 e0 d' e' old new in
           let n : IsNext w0 w w' i i' at top level count = next-of w0 w w' d0 e0 d e d' e' old now new at top level count c.in_ok-stop.stop.same u.trees c.spans-test.true is u.first_read.read u.second_read.read h span in
           let low : level ≡ 0 = h.last v.if-stop.false in
           let differ : digest_on w'.first at level ≢ digest_on w'.second at level = λ same. false≢true (sym v.if-stop.false ∙ h.test ∙ (bytes_eq-Decides _ _).1 same) in
@@ -170,5 +170,5 @@ returns-clause-ok g c =
     let e : Device = g.E.BlockDev.state c.spans.second in
     let u = c.spans.invariant.so_far in
     let at : ℕ = c.spans.at in
-    underway-all w0 w d0 e0 c.requires.have (world d0 e0 d e old (g.L.Listing.told c.spans.listing)) c.args.most (progress c.spans.tally c.spans.changed at) u (omega (arith, u.within, c.spans-test.false)) c.totals_after.result c.totals_after.ensures
+    underway-all w0 w d0 e0 c.requires.have (difference_world d0 e0 d e old (g.L.Listing.told c.spans.listing)) c.args.most (progress c.spans.tally c.spans.changed at) u (omega (arith, u.within, c.spans-test.false)) c.totals_after.result c.totals_after.ensures
     (g.L.Listing.told c.finish.new.listing) c.in_ok-finish.ensures.ok

@@ -6,7 +6,7 @@ use Rattle.verity_format.specs.Blocks.{IsFullRead, IsOnlyRead}
 use Rattle.verity_format.specs.Superblock.{SuperRecord, shape_of}
 use Rattle.tree_path.proofs.lemmas.DeviceLemmas.{only_read-then}
 use Rattle.tree_difference.specs.declared.walk.Walk.{Walk}
-use Rattle.tree_difference.specs.Comparisons.{Compares, Reads, world}
+use Rattle.tree_difference.specs.Comparisons.{Compares, ReadsDiffering, difference_world}
 use Rattle.tree_difference.specs.Differences.{HaveTrees, IsWalkOf, trees_in, trees_of}
 use Rattle.tree_difference.specs.Superblocks.{unlike}
 use Rattle.tree_difference.specs.Trees.{Trees}
@@ -17,7 +17,7 @@ use Rattle.tree_difference.proofs.difference.compare_trees.Goals as goal
 pub returns-in_err-two-clause-err : goal.returns-in_err-two-clause-err
 returns-in_err-two-clause-err g c =
     err-from c.from_residual-in_err-two.result _ c.in_err-two.field-0.0 c.from_residual-in_err-two.ensures.1
-    (image-second (world (g.D.BlockDev.state c.args.first.now) (g.E.BlockDev.state c.args.second.now) (g.D.BlockDev.state c.superblock_of.new.device) (g.E.BlockDev.state c.superblock_of-2.new.device) (g.L.Listing.told c.args.listing.now) (g.L.Listing.told c.args.listing.now))
+    (image-second (difference_world (g.D.BlockDev.state c.args.first.now) (g.E.BlockDev.state c.args.second.now) (g.D.BlockDev.state c.superblock_of.new.device) (g.E.BlockDev.state c.superblock_of-2.new.device) (g.L.Listing.told c.args.listing.now) (g.L.Listing.told c.args.listing.now))
     c.args.roots (g.L.Listing.failed c.args.listing.now) c.in_err-two.field-0.0 c.in_err-two.ensures.err)
 
 pub align-requires : goal.align-requires
@@ -70,11 +70,11 @@ returns-clause-ok g c =
       second_image = c.in_ok-two.ensures.found;
       alike = sym c.in-None.ensures;
       compares = compares-was t d0 e0 d2 e2 d3 e3 old new c.args.most totals (only_read-then c.superblock_of.ensures.read aligned.first.full.read) (only_read-then c.superblock_of-2.ensures.read aligned.second.full.read)
-          (subst (λ (x : Trees). Compares x (world d2 e2 d3 e3 old new) c.args.most totals) is found);
+          (subst (λ (x : Trees). Compares x (difference_world d2 e2 d3 e3 old new) c.args.most totals) is found);
       reads = reads-was t d0 e0 d2 e2 d3 e3 old new _ _
           (aligned-read w w' d0 d1 d2 e1 e2 (shape_of a) t c.in_ok-one.ensures.full (ap (λ (x : Trees). x.first) c.in_ok-walk.ensures.trees) c.in_ok-walk.ensures.levels aligned)
           (aligned-read-second w w' e0 d1 d2 e1 e2 (shape_of b) t c.in_ok-two.ensures.full (ap (λ (x : Trees). x.second) c.in_ok-walk.ensures.trees) c.in_ok-walk.ensures.levels aligned)
-          (subst (λ (x : Trees). Reads x (world d2 e2 d3 e3 old new) 0 0) is reads);
+          (subst (λ (x : Trees). ReadsDiffering x (difference_world d2 e2 d3 e3 old new) 0 0) is reads);
     })
 
 pub returns-clause-err : goal.returns-clause-err

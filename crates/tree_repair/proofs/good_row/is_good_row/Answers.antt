@@ -1,10 +1,10 @@
 use Rattle.std.proofs.Common.{◌≡◌, ◌≤◌, ◌-◌, ◌*◌, ◌/◌, ℕ, arith, map, refl, subst, sym}
 use Rattle.verity_format.specs.Image.{data_sectors}
 use Rattle.tree_path.proofs.lemmas.DeviceLemmas.{only_read-none}
-use Rattle.tree_repair.specs.Bills.{Leaves, data_over, nothing_due, reading}
+use Rattle.tree_repair.specs.Bills.{LeavesWorld, data_over, nothing_due, reading}
 use Rattle.tree_repair.specs.Coverage.{AreGoodFrom}
 use Rattle.tree_repair.specs.Jobs.{job}
-use Rattle.tree_repair.specs.Worlds.{IsWorldRead, World, world}
+use Rattle.tree_repair.specs.Worlds.{IsWorldRead, RepairWorld, repair_world}
 use Rattle.tree_repair.proofs.BillLemmas.{leaves-end, leaves-none, leaves-read}
 use Rattle.tree_repair.proofs.OverLemmas.{data-all}
 use Rattle.tree_repair.proofs.RunLemmas.{data-read, world-none}
@@ -14,19 +14,19 @@ pub returns-then-row-gt0-clause-read : goal.returns-then-row-gt0-clause-read
 returns-then-row-gt0-clause-read g c = world-none c.args.image.now
 
 pub are_good-requires-clause-fits : goal.are_good-requires-clause-fits
-are_good-requires-clause-fits g c = subst (λ (w : World). data_sectors c.args.repair.now.shape ≤ w.data_dev.size) (sym c.image.view_is) c.requires.fits
+are_good-requires-clause-fits g c = subst (λ (w : RepairWorld). data_sectors c.args.repair.now.shape ≤ w.data_dev.size) (sym c.image.view_is) c.requires.fits
 
 pub returns-clause-read : goal.returns-clause-read
 returns-clause-read g c =
     let i = c.image.inside in
-    let a = world (g.D.BlockDev.state i.data) (g.H.BlockDev.state i.hash) (map g.C.BlockDev.state i.data_copies.items) (map g.C.BlockDev.state i.hash_copies.items) in
+    let a = repair_world (g.D.BlockDev.state i.data) (g.H.BlockDev.state i.hash) (map g.C.BlockDev.state i.data_copies.items) (map g.C.BlockDev.state i.hash_copies.items) in
     let d' = g.D.BlockDev.state c.are_good.new.data_dev in
-    subst (λ (w : World). IsWorldRead w (world d' a.hash_dev a.data_copies a.hash_copies)) c.image.view_is (data-read a d' c.are_good.ensures.read)
+    subst (λ (w : RepairWorld). IsWorldRead w (repair_world d' a.hash_dev a.data_copies a.hash_copies)) c.image.view_is (data-read a d' c.are_good.ensures.read)
 
 pub returns-clause-good : goal.returns-clause-good
 returns-clause-good g c = λ ok. record {
   height_is = omega (arith, c.if-row-gt0.false);
-  good = subst (λ (w : World). AreGoodFrom (job c.args.repair.now) c.args.path.now w.data_dev c.args.row.first (c.args.row.end - c.args.row.first)) c.image.view_is (c.are_good.ensures.good ok);
+  good = subst (λ (w : RepairWorld). AreGoodFrom (job c.args.repair.now) c.args.path.now w.data_dev c.args.row.first (c.args.row.end - c.args.row.first)) c.image.view_is (c.are_good.ensures.good ok);
 }
 
 pub returns-then-row-gt0-clause-asked : goal.returns-then-row-gt0-clause-asked
@@ -38,11 +38,11 @@ returns-clause-asked g c =
     let s = c.args.repair.now.shape in
     let n = c.args.row.end - c.args.row.first in
     let i = c.image.inside in
-    let a = world (g.D.BlockDev.state i.data) (g.H.BlockDev.state i.hash) (map g.C.BlockDev.state i.data_copies.items) (map g.C.BlockDev.state i.hash_copies.items) in
-    let b = world (g.D.BlockDev.state c.are_good.new.data_dev) a.hash_dev a.data_copies a.hash_copies in
+    let a = repair_world (g.D.BlockDev.state i.data) (g.H.BlockDev.state i.hash) (map g.C.BlockDev.state i.data_copies.items) (map g.C.BlockDev.state i.hash_copies.items) in
+    let b = repair_world (g.D.BlockDev.state c.are_good.new.data_dev) a.hash_dev a.data_copies a.hash_copies in
     let none : c.args.row.height ≡ 0 = omega (arith, c.if-row-gt0.false) in
-    subst (λ (w : World). Leaves (reading (data_over s c.args.row.height n) 0) nothing_due w b) c.image.view_is
-    (subst (λ (h : ℕ). Leaves (reading (data_over s h n) 0) nothing_due a b) (sym none)
-    (subst (λ (k : ℕ). Leaves (reading k 0) nothing_due a b) (sym (data-all s c.requires.valid n))
+    subst (λ (w : RepairWorld). LeavesWorld (reading (data_over s c.args.row.height n) 0) nothing_due w b) c.image.view_is
+    (subst (λ (h : ℕ). LeavesWorld (reading (data_over s h n) 0) nothing_due a b) (sym none)
+    (subst (λ (k : ℕ). LeavesWorld (reading k 0) nothing_due a b) (sym (data-all s c.requires.valid n))
     (leaves-read (n * (s.data_block / 512)) 0 a b
     (record { devices = record { data_read = c.are_good.ensures.read; hash_read = only_read-none a.hash_dev }; data_copies_are = refl; hash_copies_are = refl }) c.are_good.ensures.asked (omega arith))))

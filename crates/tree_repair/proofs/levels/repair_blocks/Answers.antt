@@ -3,7 +3,7 @@ use Rattle.std.proofs.lemmas.Bool.{cases_lt}
 use Rattle.tree_shape.specs.Shape.{ancestor, per_block}
 use Rattle.tree_repair.proofs.LookLemmas.{first-begins, next-begins, same-above}
 use Rattle.tree_shape.proofs.lemmas.ShapeFaultLemmas.{blocks-le}
-use Rattle.tree_repair.specs.Bills.{Leaves, visits_over}
+use Rattle.tree_repair.specs.Bills.{LeavesWorld, visits_over}
 use Rattle.tree_repair.proofs.BillLemmas.{leaves-none, leaves-then}
 use Rattle.tree_repair.proofs.HeightLemmas.{next-left, row-left, visit-at, visits-fewer}
 use Rattle.tree_repair.specs.Jobs.{job}
@@ -42,7 +42,7 @@ places-preserved g c =
     record {
       from = omega (arith, c.places.invariant.from);
       begins = λ less. next-begins (per_block s) row.height c.places.index row.step s.blocks row.end (c.places.invariant.begins c.places-test.true) c.requires.row.step_is c.requires.row.inside less;
-      asked = subst (λ (n : ℕ). Leaves (visits_over s row.height (s.blocks - row.first)) (visits_over s row.height n) c.args.image.now c.repair_block.new.image) (sym (next-left s c.requires.can.valid row c.requires.row c.places.index))
+      asked = subst (λ (n : ℕ). LeavesWorld (visits_over s row.height (s.blocks - row.first)) (visits_over s row.height n) c.args.image.now c.repair_block.new.image) (sym (next-left s c.requires.can.valid row c.requires.row c.places.index))
           (leaves-then c.places.invariant.asked (visit-at s c.requires.can.valid row.height c.places.index (c.places.invariant.begins c.places-test.true) c.places.image c.repair_block.new.image c.repair_block.ensures.asked));
       enough = omega (arith, next-left s c.requires.can.valid row c.requires.row c.places.index, row-left s c.requires.can.valid row c.requires.row c.places.index (c.places.invariant.begins c.places-test.true) c.places-test.true);
       run = noted-then c.places.invariant.run c.in_ok-repair_block.ensures.notes

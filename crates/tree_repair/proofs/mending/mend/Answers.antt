@@ -1,6 +1,6 @@
 use Rattle.std.proofs.Common.{◌≡◌, ◌/◌, ℕ, [], true, false, length, map, arith, ap, ◌∙◌, subst}
 use Rattle.tree_path.proofs.lemmas.DeviceLemmas.{only_read-none}
-use Rattle.tree_repair.specs.Mending.{IsPut}
+use Rattle.tree_repair.specs.Mending.{IsAllowedPut}
 use Rattle.tree_repair.specs.Sources.{AreIn, AreInNone, wanted}
 use Rattle.tree_repair.proofs.BillLemmas.{at_most-none, put-once}
 use Rattle.tree_repair.proofs.SourceLemmas.{each-none, on_err-from}
@@ -51,7 +51,7 @@ returns-in_ok-put-in-Some-clause-ok g c =
         copies_read = c.seek.ensures.read;
         copy = subst (λ (n : ℕ). AreIn cs s.copy_first (wanted c.args.salt.now s.digest n) c.in-Some.number bytes) long c.in-Some.ensures.found;
         good = (c.in-Some.ensures.found.there between).good;
-        put = subst (λ (n : ℕ). IsPut c.args.write between s.first n bytes true (g.B.BlockDev.state c.put.new.device)) same c.in_ok-put-in-Some.ensures;
+        put = subst (λ (n : ℕ). IsAllowedPut c.args.write between s.first n bytes true (g.B.BlockDev.state c.put.new.device)) same c.in_ok-put-in-Some.ensures;
       },
     )
 
@@ -74,7 +74,7 @@ returns-in_err-put-in-Some-clause-err g c =
           copies_read = c.seek.ensures.read;
           copy = subst (λ (n : ℕ). AreIn cs s.copy_first (wanted c.args.salt.now s.digest n) c.in-Some.number bytes) long c.in-Some.ensures.found;
           good = (c.in-Some.ensures.found.there between).good;
-          put = subst (λ (n : ℕ). IsPut c.args.write between s.first n bytes false (g.B.BlockDev.state c.put.new.device)) same c.in_err-put-in-Some.ensures;
+          put = subst (λ (n : ℕ). IsAllowedPut c.args.write between s.first n bytes false (g.B.BlockDev.state c.put.new.device)) same c.in_err-put-in-Some.ensures;
         },
       ),
     )

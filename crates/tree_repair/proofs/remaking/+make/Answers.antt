@@ -2,7 +2,7 @@ use Rattle.std.proofs.Common.{◌≡◌, ◌<◌, ◌+◌, ◌-◌, ◌*◌, ◌
 use Rattle.tree_shape.specs.Digests.{digest}
 use Rattle.tree_shape.proofs.lemmas.ShapeFactLemmas.{levels-few}
 use Rattle.hash_tree.specs.Tree.{filled}
-use Rattle.tree_repair.specs.Bills.{Leaves, LeavesBlock, left_of, made_over}
+use Rattle.tree_repair.specs.Bills.{LeavesWorld, LeavesBlock, left_of, made_over}
 use Rattle.tree_repair.proofs.AskedLemmas.{make-ends}
 use Rattle.tree_repair.proofs.BillLemmas.{leaves-none, leaves-then}
 use Rattle.tree_repair.specs.Remaking.{ground}
@@ -32,7 +32,7 @@ each-init g t c =
           let low : ℕ = c.args.making.from + (c.args.making.steps - 1) in
           let first : ℕ = c.children_of-beneath.result.first in
           let same : first ≡ first + 0 = omega arith in
-          subst (λ (n : ℕ). Leaves (made_over s c.args.making.from (left_of s low first)) (made_over s c.args.making.from (left_of s low n)) c.args.image.now c.args.image.now) same
+          subst (λ (n : ℕ). LeavesWorld (made_over s c.args.making.from (left_of s low first)) (made_over s c.args.making.from (left_of s low n)) c.args.image.now c.args.image.now) same
           (leaves-none (made_over s c.args.making.from (left_of s low first)) c.args.image.now);
       written = λ steady steadily. c.fill.ensures.after (λ y h. h) ∙ ap (λ (n : ℕ). replicate n 0) long ∙ sym (none-yet here (c.args.making.steps - 1) c.children_of-beneath.result.first s.hash_block);
     }
@@ -57,7 +57,7 @@ each-preserved g t c =
       asked =
           let low : ℕ = c.args.making.from + (c.args.making.steps - 1) in
           let same : first + slot + 1 ≡ first + (slot + 1) = omega arith in
-          subst (λ (n : ℕ). Leaves (made_over s c.args.making.from (left_of s low first)) (made_over s c.args.making.from (left_of s low n)) c.args.image.now c.make.new.image) same
+          subst (λ (n : ℕ). LeavesWorld (made_over s c.args.making.from (left_of s low first)) (made_over s c.args.making.from (left_of s low n)) c.args.image.now c.make.new.image) same
           (leaves-then c.each.invariant.asked c.make.ensures.asked);
       written = λ steady steadily.
           let child = over-before s salt d h d1 h1 c.each.invariant.read.devices c.args.making.from (c.args.making.steps - 1) (first + slot) c.make.new.block (c.make.ensures.made c.if-not-make.false) steady steadily in
@@ -95,7 +95,7 @@ returns-then-not-make-clause-asked g t c =
     let same : first + slot + 1 ≡ first + (slot + 1) = omega arith in
     make-ends s c.requires.have.valid m.from low (m.from + m.steps) m.number first (slot + 1) (above m.from m.steps (omega (arith, c.if-steps-eq0.false))) c.children_of-beneath.ensures.first
     (omega (arith, c.each-test.true, c.children_of-beneath.ensures.count)) c.args.image.now c.make.new.image
-    (subst (λ (n : ℕ). Leaves (made_over s m.from (left_of s low first)) (made_over s m.from (left_of s low n)) c.args.image.now c.make.new.image) same
+    (subst (λ (n : ℕ). LeavesWorld (made_over s m.from (left_of s low first)) (made_over s m.from (left_of s low n)) c.args.image.now c.make.new.image) same
     (leaves-then c.each.invariant.asked c.make.ensures.asked))
 
 pub returns-clause-asked : goal.returns-clause-asked

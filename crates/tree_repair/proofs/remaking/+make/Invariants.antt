@@ -1,6 +1,6 @@
 use Rattle.std.proofs.Common.{◌+◌, ◌-◌}
 use Rattle.hash_tree.specs.Tree.{filled}
-use Rattle.tree_repair.specs.Bills.{Leaves, left_of, made_over}
+use Rattle.tree_repair.specs.Bills.{LeavesWorld, left_of, made_over}
 use Rattle.tree_repair.specs.Remaking.{IsOver, ground}
 use Rattle.tree_repair.specs.Worlds.{AreBothRead}
 use Rattle.tree_repair.proofs.MakeLemmas.{digests}
@@ -13,7 +13,7 @@ decreases-make g l = l.making.steps
 abbrev pub invariant-each : goal.invariant-each
 invariant-each g l = record {
   read : AreBothRead l.fn.image l.image;
-  asked : Leaves (made_over l.fn.repair.shape l.fn.making.from (left_of l.fn.repair.shape (l.fn.making.from + (l.fn.making.steps - 1)) l.beneath.first))
+  asked : LeavesWorld (made_over l.fn.repair.shape l.fn.making.from (left_of l.fn.repair.shape (l.fn.making.from + (l.fn.making.steps - 1)) l.beneath.first))
       (made_over l.fn.repair.shape l.fn.making.from (left_of l.fn.repair.shape (l.fn.making.from + (l.fn.making.steps - 1)) (l.beneath.first + l.slot))) l.fn.image l.image;
   written : IsOver l.fn.image.data_dev l.fn.image.hash_dev
       (filled l.fn.repair.shape.hash_block

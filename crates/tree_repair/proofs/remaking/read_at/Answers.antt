@@ -4,27 +4,27 @@ use Rattle.tree_path.proofs.lemmas.DeviceLemmas.{only_read-none}
 use Rattle.tree_repair.specs.Bills.{LeavesBlock, made_over}
 use Rattle.tree_repair.proofs.AskedLemmas.{made-data, made-hash}
 use Rattle.tree_repair.specs.Grounds.{IsOverIn, stands_in}
-use Rattle.tree_repair.specs.Remaking.{IsSure, count_at}
+use Rattle.tree_repair.specs.Remaking.{IsSure, count_in}
 use Rattle.tree_repair.specs.Runs.{size_at}
-use Rattle.tree_repair.specs.Worlds.{AreBothRead, World, world}
+use Rattle.tree_repair.specs.Worlds.{AreBothRead, RepairWorld, repair_world}
 use Rattle.tree_repair.proofs.remaking.read_at.Goals as goal
 
 pub read_data-requires-clause-fits : goal.read_data-requires-clause-fits
-read_data-requires-clause-fits g c = subst (λ (w : World). data_sectors c.args.shape.now ≤ w.data_dev.size) (sym c.image.view_is) c.requires.have.data_fits
+read_data-requires-clause-fits g c = subst (λ (w : RepairWorld). data_sectors c.args.shape.now ≤ w.data_dev.size) (sym c.image.view_is) c.requires.have.data_fits
 
 pub read_data-requires-clause-inside : goal.read_data-requires-clause-inside
-read_data-requires-clause-inside g c = omega (arith, c.requires.inside, ap (count_at c.args.shape.now) c.if-height-eq0.true)
+read_data-requires-clause-inside g c = omega (arith, c.requires.inside, ap (count_in c.args.shape.now) c.if-height-eq0.true)
 
 pub read_data-requires-clause-size : goal.read_data-requires-clause-size
 read_data-requires-clause-size g c = c.requires.size ∙ ap (size_at c.args.shape.now) c.if-height-eq0.true
 
 pub read_hash-requires-clause-fits : goal.read_hash-requires-clause-fits
-read_hash-requires-clause-fits g c = subst (λ (w : World). tree_sectors c.args.shape.now ≤ w.hash_dev.size) (sym c.image.view_is) c.requires.have.tree_fits
+read_hash-requires-clause-fits g c = subst (λ (w : RepairWorld). tree_sectors c.args.shape.now ≤ w.hash_dev.size) (sym c.image.view_is) c.requires.have.tree_fits
 
 pub read_hash-requires-clause-inside : goal.read_hash-requires-clause-inside
 read_hash-requires-clause-inside g c =
     let some : c.args.height ≡ suc (c.args.height - 1) = omega (arith, c.if-height-eq0.false) in
-    omega (arith, c.requires.inside, ap (count_at c.args.shape.now) some)
+    omega (arith, c.requires.inside, ap (count_in c.args.shape.now) some)
 
 pub read_hash-requires-clause-size : goal.read_hash-requires-clause-size
 read_hash-requires-clause-size g c =
@@ -34,45 +34,45 @@ read_hash-requires-clause-size g c =
 pub returns-then-height-eq0-clause-read : goal.returns-then-height-eq0-clause-read
 returns-then-height-eq0-clause-read g c =
     let i = c.image.inside in
-    let a = world (g.D.BlockDev.state i.data) (g.H.BlockDev.state i.hash) (map g.C.BlockDev.state i.data_copies.items) (map g.C.BlockDev.state i.hash_copies.items) in
-    let b = world (g.D.BlockDev.state c.read_data.new.data_dev) a.hash_dev a.data_copies a.hash_copies in
-    subst (λ (w : World). AreBothRead w b) c.image.view_is
+    let a = repair_world (g.D.BlockDev.state i.data) (g.H.BlockDev.state i.hash) (map g.C.BlockDev.state i.data_copies.items) (map g.C.BlockDev.state i.hash_copies.items) in
+    let b = repair_world (g.D.BlockDev.state c.read_data.new.data_dev) a.hash_dev a.data_copies a.hash_copies in
+    subst (λ (w : RepairWorld). AreBothRead w b) c.image.view_is
     (record { devices = record { data_read = c.read_data.ensures.read; hash_read = only_read-none a.hash_dev }; data_copies_are = refl; hash_copies_are = refl })
 
 pub returns-then-height-eq0-clause-stands : goal.returns-then-height-eq0-clause-stands
 returns-then-height-eq0-clause-stands g c =
-    subst (λ (w : World). IsTrue c.read_data.result → IsOverIn w (stands_in c.args.shape.now w c.args.height c.args.number) c.read_data.new.block) c.image.view_is
+    subst (λ (w : RepairWorld). IsTrue c.read_data.result → IsOverIn w (stands_in c.args.shape.now w c.args.height c.args.number) c.read_data.new.block) c.image.view_is
     (rw c.if-height-eq0.true (λ ok steady steadily. c.read_data.ensures.stands ok steady))
 
 pub returns-then-height-eq0-clause-sure : goal.returns-then-height-eq0-clause-sure
 returns-then-height-eq0-clause-sure g c =
-    subst (λ (w : World). IsSure w.data_dev w.hash_dev c.read_data.result) c.image.view_is (λ never none. c.read_data.ensures.sure never)
+    subst (λ (w : RepairWorld). IsSure w.data_dev w.hash_dev c.read_data.result) c.image.view_is (λ never none. c.read_data.ensures.sure never)
 
 pub returns-clause-read : goal.returns-clause-read
 returns-clause-read g c =
     let i = c.image.inside in
-    let a = world (g.D.BlockDev.state i.data) (g.H.BlockDev.state i.hash) (map g.C.BlockDev.state i.data_copies.items) (map g.C.BlockDev.state i.hash_copies.items) in
-    let b = world a.data_dev (g.H.BlockDev.state c.read_hash.new.hash_dev) a.data_copies a.hash_copies in
-    subst (λ (w : World). AreBothRead w b) c.image.view_is
+    let a = repair_world (g.D.BlockDev.state i.data) (g.H.BlockDev.state i.hash) (map g.C.BlockDev.state i.data_copies.items) (map g.C.BlockDev.state i.hash_copies.items) in
+    let b = repair_world a.data_dev (g.H.BlockDev.state c.read_hash.new.hash_dev) a.data_copies a.hash_copies in
+    subst (λ (w : RepairWorld). AreBothRead w b) c.image.view_is
     (record { devices = record { data_read = only_read-none a.data_dev; hash_read = c.read_hash.ensures.read }; data_copies_are = refl; hash_copies_are = refl })
 
 pub returns-clause-stands : goal.returns-clause-stands
 returns-clause-stands g c =
     let some : c.args.height ≡ suc (c.args.height - 1) = omega (arith, c.if-height-eq0.false) in
-    subst (λ (w : World). IsTrue c.read_hash.result → IsOverIn w (stands_in c.args.shape.now w c.args.height c.args.number) c.read_hash.new.block) c.image.view_is
+    subst (λ (w : RepairWorld). IsTrue c.read_hash.result → IsOverIn w (stands_in c.args.shape.now w c.args.height c.args.number) c.read_hash.new.block) c.image.view_is
     (rw some (λ ok steady steadily. c.read_hash.ensures.stands ok steadily))
 
 pub returns-clause-sure : goal.returns-clause-sure
 returns-clause-sure g c =
-    subst (λ (w : World). IsSure w.data_dev w.hash_dev c.read_hash.result) c.image.view_is (λ never none. c.read_hash.ensures.sure none)
+    subst (λ (w : RepairWorld). IsSure w.data_dev w.hash_dev c.read_hash.result) c.image.view_is (λ never none. c.read_hash.ensures.sure none)
 
 pub returns-then-height-eq0-clause-asked : goal.returns-then-height-eq0-clause-asked
 returns-then-height-eq0-clause-asked g c =
     let s = c.args.shape.now in
     let i = c.image.inside in
-    let a = world (g.D.BlockDev.state i.data) (g.H.BlockDev.state i.hash) (map g.C.BlockDev.state i.data_copies.items) (map g.C.BlockDev.state i.hash_copies.items) in
+    let a = repair_world (g.D.BlockDev.state i.data) (g.H.BlockDev.state i.hash) (map g.C.BlockDev.state i.data_copies.items) (map g.C.BlockDev.state i.hash_copies.items) in
     let d' = g.D.BlockDev.state c.read_data.new.data_dev in
-    subst (λ (w : World). LeavesBlock (made_over s c.args.height) s c.args.height c.args.number w (world d' a.hash_dev a.data_copies a.hash_copies)) c.image.view_is
+    subst (λ (w : RepairWorld). LeavesBlock (made_over s c.args.height) s c.args.height c.args.number w (repair_world d' a.hash_dev a.data_copies a.hash_copies)) c.image.view_is
     (made-data s c.requires.have.valid c.args.height c.args.number c.if-height-eq0.true c.requires.inside a d' c.read_data.ensures.read c.read_data.ensures.asked)
 
 pub returns-clause-asked : goal.returns-clause-asked
@@ -80,7 +80,7 @@ returns-clause-asked g c =
     let s = c.args.shape.now in
     let some : c.args.height ≡ suc (c.args.height - 1) = omega (arith, c.if-height-eq0.false) in
     let i = c.image.inside in
-    let a = world (g.D.BlockDev.state i.data) (g.H.BlockDev.state i.hash) (map g.C.BlockDev.state i.data_copies.items) (map g.C.BlockDev.state i.hash_copies.items) in
+    let a = repair_world (g.D.BlockDev.state i.data) (g.H.BlockDev.state i.hash) (map g.C.BlockDev.state i.data_copies.items) (map g.C.BlockDev.state i.hash_copies.items) in
     let d' = g.H.BlockDev.state c.read_hash.new.hash_dev in
-    subst (λ (w : World). LeavesBlock (made_over s c.args.height) s c.args.height c.args.number w (world a.data_dev d' a.data_copies a.hash_copies)) c.image.view_is
+    subst (λ (w : RepairWorld). LeavesBlock (made_over s c.args.height) s c.args.height c.args.number w (repair_world a.data_dev d' a.data_copies a.hash_copies)) c.image.view_is
     (made-hash s c.requires.have.valid c.args.height (c.args.height - 1) c.args.number some c.requires.inside a d' c.read_hash.ensures.read c.read_hash.ensures.asked)

@@ -3,8 +3,8 @@ use Rattle.std.proofs.lemmas.Bool.{cases_lt}
 use Rattle.tree_shape.specs.Shape.{ancestor}
 use Rattle.tree_shape.proofs.lemmas.ShapeFactLemmas.{levels-few}
 use Rattle.tree_path.specs.Path.{digest_on}
-use Rattle.tree_repair.specs.Bills.{Leaves}
-use Rattle.tree_repair.specs.Remaking.{IsUnlike, count_at, ground, made_on}
+use Rattle.tree_repair.specs.Bills.{LeavesWorld}
+use Rattle.tree_repair.specs.Remaking.{IsUnlike, count_in, ground, made_on}
 use Rattle.tree_repair.specs.Runs.{size_at}
 use Rattle.tree_repair.proofs.AskedLemmas.{tried-all, tried-at, untried_of}
 use Rattle.tree_repair.proofs.BillLemmas.{leaves-none}
@@ -33,7 +33,7 @@ returns-clause-asked g c = tried-all c.args.repair.now.shape c.requires.have.val
 pub is_made-requires-clause-inside : goal.is_made-requires-clause-inside
 is_made-requires-clause-inside g c =
     let high : c.heights.from - 1 + (c.args.level + 1 - (c.heights.from - 1)) ≡ suc c.args.level = omega (arith, c.heights.invariant.high) in
-    omega (arith, c.block_on_path-number.ensures.inside, ap (count_at c.args.repair.now.shape) high)
+    omega (arith, c.block_on_path-number.ensures.inside, ap (count_in c.args.repair.now.shape) high)
 
 pub is_made-requires-clause-size : goal.is_made-requires-clause-size
 is_made-requires-clause-size g c =
@@ -51,7 +51,7 @@ heights-init g c =
     record {
       high = omega arith;
       read = both-none c.args.image.now;
-      asked = subst (λ (n : ℕ). Leaves (due (suc c.args.level)) (due n) c.args.image.now c.args.image.now) (sym (add-one c.args.level)) (leaves-none (due (suc c.args.level)) c.args.image.now);
+      asked = subst (λ (n : ℕ). LeavesWorld (due (suc c.args.level)) (due n) c.args.image.now c.args.image.now) (sym (add-one c.args.level)) (leaves-none (due (suc c.args.level)) c.args.image.now);
       none = λ k low high. absurd (omega (arith, low, high));
     }
 

@@ -1,7 +1,7 @@
 use Rattle.std.proofs.Common.{◌≤◌, ◌+◌, ℕ, suc}
 use Rattle.tree_shape.specs.Shape.{ancestor}
 use Rattle.tree_path.specs.Path.{digest_on}
-use Rattle.tree_repair.specs.Bills.{Leaves}
+use Rattle.tree_repair.specs.Bills.{LeavesWorld}
 use Rattle.tree_repair.proofs.AskedLemmas.{untried_of}
 use Rattle.tree_repair.specs.Remaking.{IsUnlike, ground, made_on}
 use Rattle.tree_repair.specs.Worlds.{AreBothRead}
@@ -12,7 +12,7 @@ abbrev pub invariant-heights : goal.invariant-heights
 invariant-heights g l = record {
   high : l.from ≤ l.fn.level + 1;
   read : AreBothRead l.fn.image l.image;
-  asked : Leaves (untried_of l.fn.repair.shape (suc l.fn.level) (ancestor l.fn.repair.shape (suc l.fn.level) l.fn.index) (suc l.fn.level))
+  asked : LeavesWorld (untried_of l.fn.repair.shape (suc l.fn.level) (ancestor l.fn.repair.shape (suc l.fn.level) l.fn.index) (suc l.fn.level))
       (untried_of l.fn.repair.shape (suc l.fn.level) (ancestor l.fn.repair.shape (suc l.fn.level) l.fn.index) l.from) l.fn.image l.image;
   none : (k : ℕ) → l.from ≤ k → k ≤ l.fn.level
       → IsUnlike l.fn.repair.salt l.fn.image.data_dev l.fn.image.hash_dev (digest_on l.fn.path l.fn.index (l.fn.level + 1))

@@ -3,7 +3,7 @@ use Rattle.std.proofs.lemmas.Bool.{cases_lt}
 use Rattle.std.proofs.lemmas.List.{length-replicate}
 use Rattle.tree_shape.proofs.lemmas.ShapeFactLemmas.{levels-few}
 use Rattle.tree_shape.specs.Shape.{levels}
-use Rattle.tree_repair.specs.Bills.{Leaves, pass_over}
+use Rattle.tree_repair.specs.Bills.{LeavesWorld, pass_over}
 use Rattle.tree_repair.proofs.BillLemmas.{leaves-end, leaves-none}
 use Rattle.tree_repair.proofs.HeightLemmas.{heights-next, heights-pass, heights_over}
 use Rattle.tree_repair.proofs.PassLemmas.{noted-ends, noted-fewer, noted-from, noted-none, noted-not, noted-then}
@@ -19,7 +19,7 @@ heights-init g c = record {
   asked =
       let s = c.args.repair.now.shape in
       let top : levels s + 1 ≡ c.levels-levels.result + 1 = ap (λ (n : ℕ). n + 1) (sym c.levels-levels.ensures.value) in
-      subst (λ (n : ℕ). Leaves (heights_over s (levels s + 1)) (heights_over s n) c.args.image.now c.args.image.now) top (leaves-none (heights_over s (levels s + 1)) c.args.image.now);
+      subst (λ (n : ℕ). LeavesWorld (heights_over s (levels s + 1)) (heights_over s n) c.args.image.now c.args.image.now) top (leaves-none (heights_over s (levels s + 1)) c.args.image.now);
   run = noted-none (λ h i due. omega (arith, due.0, due.1.0, c.levels-levels.ensures.value));
 }
 

@@ -1,6 +1,6 @@
 use Rattle.std.proofs.Common.{◌≤◌, ◌+◌, true}
 use Rattle.tree_shape.specs.Shape.{levels}
-use Rattle.tree_repair.specs.Bills.{Leaves}
+use Rattle.tree_repair.specs.Bills.{LeavesWorld}
 use Rattle.tree_repair.proofs.HeightLemmas.{heights_over}
 use Rattle.tree_repair.specs.Coverage.{IsFromUp}
 use Rattle.tree_repair.specs.Jobs.{job}
@@ -10,7 +10,7 @@ use Rattle.tree_repair.proofs.repair.repair_heights.Given as goal
 abbrev pub invariant-heights : goal.invariant-heights
 invariant-heights g l = record {
   low : l.height ≤ levels l.fn.repair.shape + 1;
-  asked : Leaves (heights_over l.fn.repair.shape (levels l.fn.repair.shape + 1)) (heights_over l.fn.repair.shape l.height) l.fn.image l.image;
+  asked : LeavesWorld (heights_over l.fn.repair.shape (levels l.fn.repair.shape + 1)) (heights_over l.fn.repair.shape l.height) l.fn.image l.image;
   run : HasNoted (job l.fn.repair) (IsFromUp l.fn.repair.shape l.height) l.fn.image l.image (g.W.Write.contents l.fn.writer.inner) (g.W.Write.contents l.writer.inner) l.fn.bad l.bad true;
 }
 

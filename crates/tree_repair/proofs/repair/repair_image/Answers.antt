@@ -2,7 +2,7 @@ use Rattle.std.proofs.Common.{ap, inl, inr, false, subst}
 use Rattle.std.specs.Prelude.{is_ok}
 use Rattle.tree_shape.specs.Shape.{ShapeRecord}
 use Rattle.verity_format.specs.Superblock.{shape_of}
-use Rattle.tree_repair.specs.Bills.{Leaves, nothing_due, pass_over}
+use Rattle.tree_repair.specs.Bills.{LeavesWorld, nothing_due, pass_over}
 use Rattle.tree_repair.specs.Runs.{Job}
 use Rattle.tree_repair.proofs.BillLemmas.{one-pass}
 use Rattle.tree_repair.specs.Jobs.{job}
@@ -40,5 +40,5 @@ returns-clause-within g c =
       repairs = repairs-of s c.args.plan false (job c.repair_of-repair.result) c.args.image.now c.superblock_of.new.image c.repair_of-repair.ensures.job c.superblock_of.ensures.read
           c.in_ok-superblock.ensures.ok c.repair_heights.new.image old new (is_ok c.repair_heights.result) c.repair_heights.ensures.notes.run;
       within = one-pass (shape_of s) c.args.image.now c.superblock_of.new.image c.repair_heights.new.image c.in_ok-superblock.ensures.asked
-          (subst (λ (x : ShapeRecord). Leaves (pass_over x) nothing_due c.superblock_of.new.image c.repair_heights.new.image) (ap (λ (j : Job). j.tree.shape) c.repair_of-repair.ensures.job) c.repair_heights.ensures.asked);
+          (subst (λ (x : ShapeRecord). LeavesWorld (pass_over x) nothing_due c.superblock_of.new.image c.repair_heights.new.image) (ap (λ (j : Job). j.tree.shape) c.repair_of-repair.ensures.job) c.repair_heights.ensures.asked);
     })

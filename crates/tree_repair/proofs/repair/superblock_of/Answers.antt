@@ -3,10 +3,10 @@ use Rattle.std.specs.Prelude.{IfErr, IfOk, OnOk}
 use Rattle.tree_survey.specs.Causes.{AreImages}
 use Rattle.tree_path.proofs.lemmas.DeviceLemmas.{only_read-none}
 use Rattle.tree_path.specs.Steps.{HasReadAtMost}
-use Rattle.tree_repair.specs.Bills.{Leaves, nothing_due, reading}
+use Rattle.tree_repair.specs.Bills.{LeavesWorld, nothing_due, reading}
 use Rattle.tree_repair.specs.Bounds.{IsHashReadAlone}
-use Rattle.tree_repair.specs.Repairs.{IsImageCause}
-use Rattle.tree_repair.specs.Worlds.{IsWorldRead, World, world}
+use Rattle.tree_repair.specs.Repairs.{IsNoImageCause}
+use Rattle.tree_repair.specs.Worlds.{IsWorldRead, RepairWorld, repair_world}
 use Rattle.tree_repair.proofs.BillLemmas.{leaves-read, on_ok-map}
 use Rattle.tree_repair.proofs.RunLemmas.{tree-read}
 use Rattle.tree_repair.proofs.repair.superblock_of.Goals as goal
@@ -14,30 +14,30 @@ use Rattle.tree_repair.proofs.repair.superblock_of.Goals as goal
 pub returns-clause-read : goal.returns-clause-read
 returns-clause-read g c =
     let i = c.image.inside in
-    let a = world (g.D.BlockDev.state i.data) (g.H.BlockDev.state i.hash) (map g.C.BlockDev.state i.data_copies.items) (map g.C.BlockDev.state i.hash_copies.items) in
+    let a = repair_world (g.D.BlockDev.state i.data) (g.H.BlockDev.state i.hash) (map g.C.BlockDev.state i.data_copies.items) (map g.C.BlockDev.state i.hash_copies.items) in
     let h' = g.H.BlockDev.state c.superblock_on.new.hash_dev in
-    subst (λ (w : World). IsWorldRead w (world a.data_dev h' a.data_copies a.hash_copies)) c.image.view_is (tree-read a h' c.superblock_on.ensures.read)
+    subst (λ (w : RepairWorld). IsWorldRead w (repair_world a.data_dev h' a.data_copies a.hash_copies)) c.image.view_is (tree-read a h' c.superblock_on.ensures.read)
 
 pub returns-clause-ok : goal.returns-clause-ok
-returns-clause-ok g c = subst (λ (w : World). IfOk c.superblock_on.result (AreImages w.data_dev w.hash_dev)) c.image.view_is c.superblock_on.ensures.ok
+returns-clause-ok g c = subst (λ (w : RepairWorld). IfOk c.superblock_on.result (AreImages w.data_dev w.hash_dev)) c.image.view_is c.superblock_on.ensures.ok
 
 pub returns-clause-err : goal.returns-clause-err
 returns-clause-err g c =
-    subst (λ (w : World). IfErr c.superblock_on.result (IsImageCause w.data_dev w.hash_dev (g.H.BlockDev.state c.superblock_on.new.hash_dev))) c.image.view_is c.superblock_on.ensures.err
+    subst (λ (w : RepairWorld). IfErr c.superblock_on.result (IsNoImageCause w.data_dev w.hash_dev (g.H.BlockDev.state c.superblock_on.new.hash_dev))) c.image.view_is c.superblock_on.ensures.err
 
 pub returns-clause-asked : goal.returns-clause-asked
 returns-clause-asked g c =
     let i = c.image.inside in
-    let a = world (g.D.BlockDev.state i.data) (g.H.BlockDev.state i.hash) (map g.C.BlockDev.state i.data_copies.items) (map g.C.BlockDev.state i.hash_copies.items) in
-    let b = world a.data_dev (g.H.BlockDev.state c.superblock_on.new.hash_dev) a.data_copies a.hash_copies in
-    subst (λ (w : World). OnOk c.superblock_on.result (Leaves (reading 0 1) nothing_due w b)) c.image.view_is
-    (on_ok-map c.superblock_on.result (HasReadAtMost a.hash_dev 1 b.hash_dev) (Leaves (reading 0 1) nothing_due a b)
+    let a = repair_world (g.D.BlockDev.state i.data) (g.H.BlockDev.state i.hash) (map g.C.BlockDev.state i.data_copies.items) (map g.C.BlockDev.state i.hash_copies.items) in
+    let b = repair_world a.data_dev (g.H.BlockDev.state c.superblock_on.new.hash_dev) a.data_copies a.hash_copies in
+    subst (λ (w : RepairWorld). OnOk c.superblock_on.result (LeavesWorld (reading 0 1) nothing_due w b)) c.image.view_is
+    (on_ok-map c.superblock_on.result (HasReadAtMost a.hash_dev 1 b.hash_dev) (LeavesWorld (reading 0 1) nothing_due a b)
     (leaves-read 0 1 a b (record { devices = record { data_read = only_read-none a.data_dev; hash_read = c.superblock_on.ensures.read }; data_copies_are = refl; hash_copies_are = refl }) (omega arith))
     c.superblock_on.ensures.asked)
 
 pub returns-clause-alone : goal.returns-clause-alone
 returns-clause-alone g c =
     let i = c.image.inside in
-    let a = world (g.D.BlockDev.state i.data) (g.H.BlockDev.state i.hash) (map g.C.BlockDev.state i.data_copies.items) (map g.C.BlockDev.state i.hash_copies.items) in
+    let a = repair_world (g.D.BlockDev.state i.data) (g.H.BlockDev.state i.hash) (map g.C.BlockDev.state i.data_copies.items) (map g.C.BlockDev.state i.hash_copies.items) in
     let h' = g.H.BlockDev.state c.superblock_on.new.hash_dev in
-    subst (λ (w : World). IsHashReadAlone w (world a.data_dev h' a.data_copies a.hash_copies)) c.image.view_is (record { data_is = refl; read = c.superblock_on.ensures.read; data_copies_are = refl; hash_copies_are = refl })
+    subst (λ (w : RepairWorld). IsHashReadAlone w (repair_world a.data_dev h' a.data_copies a.hash_copies)) c.image.view_is (record { data_is = refl; read = c.superblock_on.ensures.read; data_copies_are = refl; hash_copies_are = refl })

@@ -2,19 +2,19 @@ use Rattle.std.proofs.Common.{length, IsTrue, map, refl, subst, sym}
 use Rattle.std.specs.Prelude.{is_ok}
 use Rattle.block_device.specs.Device.{IsInside}
 use Rattle.tree_repair.specs.Visits.{IsTreePut}
-use Rattle.tree_repair.specs.Worlds.{World, world}
+use Rattle.tree_repair.specs.Worlds.{RepairWorld, repair_world}
 use Rattle.tree_repair.proofs.visiting.put_hash.Goals as goal
 
 pub put-requires-clause-inside : goal.put-requires-clause-inside
-put-requires-clause-inside g c = subst (λ (w : World). IsInside w.hash_dev c.args.first (length c.args.block.now)) (sym c.image.view_is) c.requires.inside
+put-requires-clause-inside g c = subst (λ (w : RepairWorld). IsInside w.hash_dev c.args.first (length c.args.block.now)) (sym c.image.view_is) c.requires.inside
 
 pub put-requires-clause-allowed : goal.put-requires-clause-allowed
-put-requires-clause-allowed g c = subst (λ (w : World). IsTrue c.args.repair.now.write → IsTrue w.hash_dev.may_write) (sym c.image.view_is) c.requires.allowed
+put-requires-clause-allowed g c = subst (λ (w : RepairWorld). IsTrue c.args.repair.now.write → IsTrue w.hash_dev.may_write) (sym c.image.view_is) c.requires.allowed
 
 pub returns : goal.returns
 returns g c =
     let i = c.image.inside in
-    let a = world (g.D.BlockDev.state i.data) (g.H.BlockDev.state i.hash) (map g.C.BlockDev.state i.data_copies.items) (map g.C.BlockDev.state i.hash_copies.items) in
-    let b = world a.data_dev (g.H.BlockDev.state c.put.new.device) a.data_copies a.hash_copies in
-    subst (λ (w : World). IsTreePut c.args.repair.now.write c.args.first c.args.block.now (is_ok c.put.result) w b) c.image.view_is
+    let a = repair_world (g.D.BlockDev.state i.data) (g.H.BlockDev.state i.hash) (map g.C.BlockDev.state i.data_copies.items) (map g.C.BlockDev.state i.hash_copies.items) in
+    let b = repair_world a.data_dev (g.H.BlockDev.state c.put.new.device) a.data_copies a.hash_copies in
+    subst (λ (w : RepairWorld). IsTreePut c.args.repair.now.write c.args.first c.args.block.now (is_ok c.put.result) w b) c.image.view_is
     (record { put = c.put.ensures; keeps = record { device_is = refl; copies_are = refl }; hash_copies_are = refl })

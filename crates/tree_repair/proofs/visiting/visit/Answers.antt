@@ -5,7 +5,7 @@ use Rattle.tree_survey.specs.Surveys.{IsWay}
 use Rattle.tree_repair.specs.Bills.{LeavesVisit}
 use Rattle.tree_repair.specs.Jobs.{job}
 use Rattle.tree_repair.specs.Runs.{size_at}
-use Rattle.tree_repair.specs.Visits.{FailsToMake, IsMade}
+use Rattle.tree_repair.specs.Visits.{FailsToStoreBlock, IsBlockMade}
 use Rattle.tree_repair.proofs.ParityLemmas.{size-block}
 use Rattle.tree_repair.proofs.VisitLemmas.{hash-fails, hash-made}
 use Rattle.tree_repair.proofs.visiting.visit.Goals as goal
@@ -39,11 +39,11 @@ visit_hash-requires-clause-room g c =
 
 pub returns-then-height-eq0-clause-ok : goal.returns-then-height-eq0-clause-ok
 returns-then-height-eq0-clause-ok g c =
-    subst (λ (n : ℕ). IfOk c.visit_data.result (IsMade (job c.args.repair.now) n c.args.place.index c.args.image.now c.visit_data.new.image)) (sym c.if-height-eq0.true) c.visit_data.ensures.ok
+    subst (λ (n : ℕ). IfOk c.visit_data.result (IsBlockMade (job c.args.repair.now) n c.args.place.index c.args.image.now c.visit_data.new.image)) (sym c.if-height-eq0.true) c.visit_data.ensures.ok
 
 pub returns-then-height-eq0-clause-err : goal.returns-then-height-eq0-clause-err
 returns-then-height-eq0-clause-err g c =
-    subst (λ (n : ℕ). OnErr c.visit_data.result (FailsToMake (job c.args.repair.now) n c.args.place.index c.args.image.now c.visit_data.new.image)) (sym c.if-height-eq0.true) c.visit_data.ensures.err
+    subst (λ (n : ℕ). OnErr c.visit_data.result (FailsToStoreBlock (job c.args.repair.now) n c.args.place.index c.args.image.now c.visit_data.new.image)) (sym c.if-height-eq0.true) c.visit_data.ensures.err
 
 pub returns-clause-ok : goal.returns-clause-ok
 returns-clause-ok g c =

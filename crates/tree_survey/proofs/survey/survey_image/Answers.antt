@@ -3,8 +3,8 @@ use Rattle.block_device.specs.Device.{Device}
 use Rattle.tree_shape.specs.Shape.{ShapeRecord}
 use Rattle.verity_format.specs.Superblock.{shape_of}
 use Rattle.tree_path.specs.Path.{IsPathOf}
-use Rattle.tree_survey.specs.Hashes.{tree_at}
-use Rattle.tree_survey.specs.Passes.{tree_in, tree_of}
+use Rattle.tree_survey.specs.Hashes.{tree_of_path}
+use Rattle.tree_survey.specs.Passes.{tree_in, super_tree}
 use Rattle.tree_survey.specs.Surveys.{Tree}
 use Rattle.tree_survey.proofs.SayingLemmas.{tree-same}
 use Rattle.tree_survey.specs.Failing.{IsReadOver}
@@ -22,12 +22,12 @@ returns-clause-ok g c =
     let h3 : Device = g.H.BlockDev.state c.say_hashes.new.device in
     let old : Option (List ℕ) = g.L.Listing.told c.args.listing.now in
     let between : Option (List ℕ) = g.L.Listing.told c.survey_data.new.listing in
-    let t : Tree = tree_of c.in_ok-superblock.superblock c.args.root.now in
+    let t : Tree = super_tree c.in_ok-superblock.superblock c.args.root.now in
     let path : IsPathOf (shape_of c.in_ok-superblock.superblock) c.in_ok-superblock.superblock.salt c.args.root.now c.in_ok-path.path =
     subst (λ (x : ShapeRecord). IsPathOf x c.in_ok-superblock.superblock.salt c.args.root.now c.in_ok-path.path) c.shape-shape.ensures.value
     (subst (λ (x : List ℕ). IsPathOf c.shape-shape.result x c.args.root.now c.in_ok-path.path) c.salt-salt.ensures c.in_ok-path.ensures) in
     let begun : tree_in c.new-sight.result ≡ t = ap tree_in c.new-sight.ensures ∙ tree-of c.in_ok-superblock.superblock c.args.root.now c.in_ok-path.path path in
-    let later : tree_at c.survey_data.new.sight.path ≡ t = tree-same c.new-sight.result.path c.survey_data.new.sight.path c.in_ok-totals.ensures.passed.same ∙ begun in
+    let later : tree_of_path c.survey_data.new.sight.path ≡ t = tree-same c.new-sight.result.path c.survey_data.new.sight.path c.in_ok-totals.ensures.passed.same ∙ begun in
     let found = c.in_ok-whole_tree.ensures.ok in
     let first : IsReadOver h0 h1 = over-same c.superblock_of.ensures.read c.in_ok-superblock.ensures.failures in
     record {
@@ -37,7 +37,7 @@ returns-clause-ok g c =
       surveys = surveys-were t (tree_in c.new-sight.result) d0 h0 h1 d1 h2 h3 begun first c.survey_data.ensures.hash c.say_hashes.ensures.over old between c.in_ok-totals.totals c.in_ok-totals.ensures.ok;
       hashes = record {
         bad = found.found.bad;
-        are = hashes-were t (tree_at c.survey_data.new.sight.path) h0 h2 h3 later (over-then first c.survey_data.ensures.hash) c.say_hashes.ensures.over found.found;
+        are = hashes-were t (tree_of_path c.survey_data.new.sight.path) h0 h2 h3 later (over-then first c.survey_data.ensures.hash) c.say_hashes.ensures.over found.found;
       };
       hash_read = over-then first (over-then c.survey_data.ensures.hash c.say_hashes.ensures.over);
       whole = found.whole_is;

@@ -3,7 +3,7 @@ use Rattle.std.proofs.lemmas.List.{take_more, take_all}
 use Rattle.std.proofs.lemmas.Result.{err_from_is_err_and}
 use Rattle.block_device.specs.Device.{IsWritten, spliced, sectors_of}
 use Rattle.hash_tree.specs.Building.{PlacedRecord}
-use Rattle.verity_format.specs.Writing.{MayStand, StandsWithin, AreWritten}
+use Rattle.verity_format.specs.Writing.{MayStand, StandsWithin, AreBlocksWritten}
 use Rattle.verity_format.proofs.DeviceLemmas.{same-none, same-then, failed-then}
 use Rattle.verity_format.proofs.SizeLemmas.{block-size}
 use Rattle.verity_format.proofs.WritingLemmas.{part-none, part-one, part-then, part-more, written-none, written-one, written-then}
@@ -69,7 +69,7 @@ loop-placed-preserved g c =
       part = λ last all.
           let stands : StandsWithin size last p = subst (λ (q : PlacedRecord). StandsWithin size last q) (sym c.placed-item.is) (all i p c.loop-placed-test.true) in
           part-then size last i 1 (i + 1) old now new (omega arith) (here.part last all) (part-one size last n p now new true stands sectors w);
-      done = subst (λ (ps : List PlacedRecord). AreWritten size old ps new) (sym more)
+      done = subst (λ (ps : List PlacedRecord). AreBlocksWritten size old ps new) (sym more)
           (written-then size (take i out) (p ∷ []) old now new here.same here.done (written-one size n p now new c.requires.size at.0 count inside w image));
     }
 
@@ -103,5 +103,5 @@ returns-clause-part g c = λ last all.
 
 pub returns-clause-ok : goal.returns-clause-ok
 returns-clause-ok g c =
-    subst (λ (ps : List PlacedRecord). AreWritten c.args.size (g.H.BlockDev.state c.args.hash_dev.now) ps (g.H.BlockDev.state c.loop-placed.hash_dev))
+    subst (λ (ps : List PlacedRecord). AreBlocksWritten c.args.size (g.H.BlockDev.state c.args.hash_dev.now) ps (g.H.BlockDev.state c.loop-placed.hash_dev))
     (take_all c.loop-placed.placed-index c.args.blocks.now c.loop-placed-test.false) c.loop-placed.invariant.done

@@ -1,6 +1,6 @@
 use Rattle.std.proofs.Common.{ℕ, All, take}
 use Rattle.block_device.specs.Device.{IsSameDevice}
-use Rattle.verity_format.specs.Writing.{StandsWithin, IsPartWritten, AreWritten}
+use Rattle.verity_format.specs.Writing.{StandsWithin, IsPartWritten, AreBlocksWritten}
 use Rattle.verity_format.proofs.writing.write_blocks.Given as goal
 
 -- the blocks written so far
@@ -8,5 +8,5 @@ abbrev pub invariant-loop-placed : goal.invariant-loop-placed
 invariant-loop-placed g l = record {
   same : IsSameDevice (g.H.BlockDev.state l.fn.hash_dev) (g.H.BlockDev.state l.hash_dev);
   part : (last : ℕ) → All (StandsWithin l.size last) l.blocks → IsPartWritten l.size last l.placed-index (g.H.BlockDev.state l.fn.hash_dev) (g.H.BlockDev.state l.hash_dev);
-  done : AreWritten l.size (g.H.BlockDev.state l.fn.hash_dev) (take l.placed-index l.blocks) (g.H.BlockDev.state l.hash_dev);
+  done : AreBlocksWritten l.size (g.H.BlockDev.state l.fn.hash_dev) (take l.placed-index l.blocks) (g.H.BlockDev.state l.hash_dev);
 }

@@ -3,7 +3,7 @@ use Rattle.hash_tree.specs.Building.{PlacedRecord, BuilderRecord, pushed, last_c
 use Rattle.hash_tree.proofs.lemmas.BuilderLemmas.{left-pushed}
 use Rattle.verity_format.specs.Growth.{IsRunTaken}
 use Rattle.verity_format.specs.Image.{image_sectors}
-use Rattle.verity_format.specs.Writing.{IsWriting, IsPartWritten, AreWritten}
+use Rattle.verity_format.specs.Writing.{IsWriting, IsPartWritten, AreBlocksWritten}
 use Rattle.verity_format.proofs.DeviceLemmas.{only_read-then}
 use Rattle.verity_format.proofs.GrowthLemmas.{left-taken, ready-taken, out-inside, last-all}
 use Rattle.verity_format.proofs.WritingLemmas.{may-stand, writing-none, part-taken, part-run, part-last, writing-then, written-all}
@@ -95,7 +95,7 @@ loop-run-preserved g c =
     subst (λ (n : ℕ). IsPartWritten n (image_sectors s) (length out) hash' hash'') size (c.write_blocks.ensures.part (image_sectors s) stand.1) in
     let run : IsRunTaken s c.args.salt.now (g.D.BlockDev.state c.loop-run.data_dev) data'' c.loop-run.builder c.take_run.new.builder out =
     subst (λ (ps : List PlacedRecord). IsRunTaken s c.args.salt.now (g.D.BlockDev.state c.loop-run.data_dev) data'' c.loop-run.builder c.take_run.new.builder ps) (sym c.deref.ensures.value) c.in_ok-out.ensures.taken in
-    let done : AreWritten s.hash_block hash' out hash'' = subst (λ (n : ℕ). AreWritten n hash' out hash'') size c.in_ok-write_blocks.ensures.ok in
+    let done : AreBlocksWritten s.hash_block hash' out hash'' = subst (λ (n : ℕ). AreBlocksWritten n hash' out hash'') size c.in_ok-write_blocks.ensures.ok in
     writing-then s c.args.salt.now (g.D.BlockDev.state c.args.data_dev.now) (g.H.BlockDev.state c.args.hash_dev.now) (g.D.BlockDev.state c.loop-run.data_dev) (g.H.BlockDev.state c.loop-run.hash_dev) c.loop-run.builder c.loop-run.invariant hash'' out part done data'' c.take_run.new.builder run
 
 pub returns-in_err-root-clause-devices : goal.returns-in_err-root-clause-devices
@@ -181,5 +181,5 @@ returns-clause-written g c =
     let hash'' = g.H.BlockDev.state c.write_blocks-2.new.hash_dev in
     let part : IsPartWritten s.hash_block (image_sectors s) (length out) hash' hash'' =
     subst (λ (n : ℕ). IsPartWritten n (image_sectors s) (length out) hash' hash'') size (c.write_blocks-2.ensures.part (image_sectors s) stand.1) in
-    let done : AreWritten s.hash_block hash' out hash'' = subst (λ (n : ℕ). AreWritten n hash' out hash'') size c.in_ok-write_blocks-2.ensures.ok in
+    let done : AreBlocksWritten s.hash_block hash' out hash'' = subst (λ (n : ℕ). AreBlocksWritten n hash' out hash'') size c.in_ok-write_blocks-2.ensures.ok in
     written-all s c.args.salt.now (g.D.BlockDev.state c.args.data_dev.now) (g.H.BlockDev.state c.args.hash_dev.now) (g.D.BlockDev.state c.loop-run.data_dev) (g.H.BlockDev.state c.loop-run.hash_dev) c.loop-run.builder c.loop-run.invariant hash'' out part done valid c.requires.start none last c.in_ok-root.root c.in_ok-root.ensures.root

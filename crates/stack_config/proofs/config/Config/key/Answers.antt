@@ -4,7 +4,7 @@ use Rattle.std.specs.Option.{option_map}
 use Rattle.std.proofs.lemmas.List.{get_or_read}
 use Rattle.stack_config.specs.declared.keys.LineKey.{LineKey}
 use Rattle.stack_rules.specs.Records.{Configuration}
-use Rattle.stack_rules.specs.Lines.{key_at}
+use Rattle.stack_rules.specs.Lines.{key_of_line}
 use Rattle.stack_config.proofs.KeyLemmas.{length-keys, key-kept}
 use Rattle.stack_config.proofs.config.Config.key.Goals as goal
 
@@ -22,10 +22,10 @@ pub at-requires : goal.at-requires
 at-requires c =
     let now : Configuration = record { leaves = c.self.inside.leaves.items; devices = c.self.inside.devices.items } in
     let inside = rw (← c.self.view_is) at c.requires.device in
-    let some : IsTrue (is_some (key_at now c.args.d.0 c.args.line)) = rw (← c.self.view_is) at c.requires.crypt in
+    let some : IsTrue (is_some (key_of_line now c.args.d.0 c.args.line)) = rw (← c.self.view_is) at c.requires.crypt in
     let within : c.args.d.0 < length c.self.inside.facts.keys.items = omega (arith, inside, length-keys now.devices c.self.inside.facts.keys.items c.self.invariant.facts.keys) in
     let is = get_or_read c.self.inside.facts.keys.items c.args.d.0 c.index.result.now within c.index.ensures [] in
-    rw is (some-kept (find (λ (k : LineKey). k.line == c.args.line) (get_or c.self.inside.facts.keys.items c.args.d.0 [])) (key_at now c.args.d.0 c.args.line)
+    rw is (some-kept (find (λ (k : LineKey). k.line == c.args.line) (get_or c.self.inside.facts.keys.items c.args.d.0 [])) (key_of_line now c.args.d.0 c.args.line)
     (key-kept now c.self.inside.facts.keys.items c.args.d.0 c.args.line c.self.invariant.facts.keys) some)
 
 pub returns : goal.returns

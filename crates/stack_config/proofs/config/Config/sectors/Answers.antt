@@ -1,7 +1,7 @@
 use Rattle.std.proofs.Common.{arith, sym, ◌∙◌, ap}
 use Rattle.stack_rules.specs.Records.{Configuration}
 use Rattle.stack_rules.proofs.lemmas.ValidLineLemmas.{size-low}
-use Rattle.stack_rules.specs.Names.{sectors_of}
+use Rattle.stack_rules.specs.Names.{table_sectors}
 use Rattle.stack_rules.proofs.lemmas.ListLemmas.{slice_get-read}
 use Rattle.stack_rules.proofs.lemmas.KeptLemmas.{lines_of-read}
 use Rattle.stack_config.proofs.config.Config.sectors.Goals as goal
@@ -18,4 +18,4 @@ returns c =
     let now : Configuration = record { leaves = c.self.inside.leaves.items; devices = c.self.inside.devices.items } in
     let inside = rw (← c.self.view_is) at c.requires in
     let same = lines_of-read now c.args.d.0 c.index.result.now (slice_get-read now.devices c.args.d.0 c.index.result.now inside c.index.ensures) in
-    rw (← c.self.view_is) (c.size.ensures ∙ ap sectors_of (sym same))
+    rw (← c.self.view_is) (c.size.ensures ∙ ap table_sectors (sym same))

@@ -7,7 +7,7 @@ use Rattle.stack_meaning.specs.Changes.{NoneRead}
 use Rattle.stack_engine.specs.Uncut.{CutsNone}
 use Rattle.stack_lines.specs.WriteBudgets.{Counter, of_reads, of_writes, CountsAtMost, write_budget}
 use Rattle.stack_engine.specs.WritePieces.{PaysPiece}
-use Rattle.stack_lines.specs.Writing.{sectors_in, destination_of, Writes}
+use Rattle.stack_lines.specs.Writing.{sectors_in, destination_of, WritesSectors}
 use Rattle.stack_engine.specs.WritePieces.{EachWrite}
 use Rattle.stack_engine.proofs.CachedLemmas.{cached-checked}
 use Rattle.stack_engine.specs.KeptBlocks.{AreChecked}
@@ -33,7 +33,7 @@ piece : (g : given.Over) (c : goal.After-drop-buffer g)
 piece g c =
     let state = g.D.BlockDev.state in
     let Is : List ℕ → Type 0 = λ b.
-    Writes (destination_of c.self.inside.config (mapped c.args.d.0)) c.args.first (sectors_in b) (map state c.self.inside.backing.devices.items) (map state c.write_device.new.backing.devices.items) c.write_device.result in
+    WritesSectors (destination_of c.self.inside.config (mapped c.args.d.0)) c.args.first (sectors_in b) (map state c.self.inside.backing.devices.items) (map state c.write_device.new.backing.devices.items) c.write_device.result in
     each-write c.args.d.0 c.args.first c.args.bytes.now c.write_device.result c.requires.piece refl c.write_device.ensures.cached.capacity (λ was. all-whole state g.met.D.BlockDev.whole c.write_device.new.backing.devices.items) c.write_device.ensures.forgets (subst Is (bytes_of g c) c.write_device.ensures.writes)
 
 -- of the stack as it was

@@ -3,14 +3,14 @@ use Rattle.std.proofs.lemmas.List.{length-map}
 use Rattle.tree_shape.specs.Digests.{digest_in}
 use Rattle.tree_shape.specs.Shape.{levels}
 use Rattle.tree_path.specs.Path.{digest_on}
-use Rattle.tree_path.specs.Seen.{seen}
+use Rattle.tree_path.specs.Seen.{seen_path}
 use Rattle.tree_path.proofs.MemoryLemmas.{read-is, read-sized}
 use Rattle.tree_path.proofs.lemmas.PathLemmas.{digest_on-below, digest_on-top}
 use Rattle.tree_path.proofs.path.TreePath.digest_at.Goals as goal
 
 pub returns-then-level-levels : goal.returns-then-level-levels
 returns-then-level-levels c =
-    rw (← c.self.view_is) (sym (digest_on-top (seen c.self.inside) c.args.index c.args.level (c.if-level-levels.true ∙ c.levels.ensures.value)))
+    rw (← c.self.view_is) (sym (digest_on-top (seen_path c.self.inside) c.args.index c.args.level (c.if-level-levels.true ∙ c.levels.ensures.value)))
 
 pub digest_in-requires : goal.digest_in-requires
 digest_in-requires c =
@@ -28,4 +28,4 @@ returns c =
     let inside : c.args.level < length blocks = omega (arith, low, c.self.invariant.count, length-map blocks (λ b. b.items)) in
     rw (← c.self.view_is)
     (c.digest_in.ensures ∙ ap (λ b. digest_in b c.slot_on_path-slot.result) (c.deref.ensures.value ∙ read-is blocks c.args.level c.index.result.now c.index.ensures inside)
-    ∙ ap (digest_in _) c.slot_on_path-slot.ensures.value ∙ sym (digest_on-below (seen c.self.inside) c.args.index c.args.level low))
+    ∙ ap (digest_in _) c.slot_on_path-slot.ensures.value ∙ sym (digest_on-below (seen_path c.self.inside) c.args.index c.args.level low))

@@ -9,8 +9,8 @@ use Rattle.tree_shape.specs.Shape.{levels, ancestor, position, area_end}
 use Rattle.tree_shape.proofs.lemmas.ShapeFactLemmas.{levels-few}
 use Rattle.verity_format.specs.Blocks.{IsBlockRead}
 use Rattle.tree_path.specs.Path.{IsPath, PathRecord, digest_on}
-use Rattle.tree_path.specs.Seen.{seen}
-use Rattle.tree_path.specs.Steps.{IsLoaded, steps}
+use Rattle.tree_path.specs.Seen.{seen_path}
+use Rattle.tree_path.specs.Steps.{IsStepLoaded, steps}
 use Rattle.tree_path.proofs.MemoryLemmas.{bytes_of, path-put, put-is, read-is, read-sized, with_block}
 use Rattle.tree_path.proofs.lemmas.DeviceLemmas.{block-size, block-inside}
 use Rattle.tree_path.proofs.lemmas.PathLemmas.{digest_on-same}
@@ -49,7 +49,7 @@ invariant_of-self g c =
     let long : length c.read_block.new.block ≡ length v.items = c.read_block.auto.block ∙ ap length c.deref_mut.ensures.value in
     subst (λ (bs : List (List ℕ)). IsPath (record { shape = s; salt = c.self.inside.salt; root = c.self.inside.root; blocks = bs }))
     (sym (put-is blocks c.args.level v c.read_block.new.block (long ∙ sym v.ok.0)))
-    (path-put (seen c.self.inside) c.args.level c.read_block.new.block c.self.invariant (long ∙ sized))
+    (path-put (seen_path c.self.inside) c.args.level c.read_block.new.block c.self.invariant (long ∙ sized))
 
 pub invariant_of-self-2 : goal.invariant_of-self-2
 invariant_of-self-2 g c =
@@ -62,7 +62,7 @@ invariant_of-self-2 g c =
     let long : length c.read_block.new.block ≡ length v.items = c.read_block.auto.block ∙ ap length c.deref_mut.ensures.value in
     subst (λ (bs : List (List ℕ)). IsPath (record { shape = s; salt = c.self.inside.salt; root = c.self.inside.root; blocks = bs }))
     (sym (put-is blocks c.args.level v c.read_block.new.block (long ∙ sym v.ok.0)))
-    (path-put (seen c.self.inside) c.args.level c.read_block.new.block c.self.invariant (long ∙ sized))
+    (path-put (seen_path c.self.inside) c.args.level c.read_block.new.block c.self.invariant (long ∙ sized))
 
 pub returns-clause-ok : goal.returns-clause-ok
 returns-clause-ok g c =
@@ -79,7 +79,7 @@ returns-clause-ok g c =
     let put : bytes_of (slice_set blocks l (with_items v b)) ≡ slice_set (bytes_of blocks) l b = put-is blocks l v b long in
     let found : c.deref.result.now ≡ b =
     c.deref.ensures.value ∙ ap (λ (x : Vec ℕ Global). x.items) (c.index.ensures ∙ get_or-set_same blocks l (with_items v b) c.index.result.now inside) ∙ with_items_is v b long in
-    let old : PathRecord = seen c.self.inside in
+    let old : PathRecord = seen_path c.self.inside in
     let new : PathRecord = record { shape = s; salt = c.self.inside.salt; root = c.self.inside.root; blocks = bytes_of (slice_set blocks l (with_items v b)) } in
     let next : l + 1 ≢ l = omega arith in
     let expected : digest_on new c.args.index (l + 1) ≡ digest_on old c.args.index (l + 1) =

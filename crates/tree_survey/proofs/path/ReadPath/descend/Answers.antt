@@ -1,7 +1,7 @@
 use Rattle.std.proofs.Common.{◌≡◌, ◌-◌, ◌+◌, ◌<◌, ℕ, suc, refl, sym, arith, subst, true, false, add-one, rules}
 use Rattle.block_device.specs.Device.{Device}
 use Rattle.tree_path.specs.Path.{PathRecord}
-use Rattle.tree_path.specs.Steps.{IsDown, IsLoaded, steps}
+use Rattle.tree_path.specs.Steps.{IsDown, IsStepLoaded, steps}
 use Rattle.tree_path.proofs.lemmas.PathLemmas.{down-bad, down-good, down-read}
 use Rattle.tree_survey.proofs.FailingLemmas.{over-full, over-then}
 use Rattle.tree_survey.proofs.ReachLemmas.{cut-off}
@@ -31,7 +31,7 @@ returns-in-Some-false-clause-ends g c =
     let down : IsDown (steps old mid d dm c.args.index c.args.from) (suc l) (suc l) = subst (λ (n : ℕ). IsDown (steps old mid d dm c.args.index c.args.from) n n) level c.levels.invariant.down in
     let good = c.in-Some-false.field-0 in
     let is : good ≡ false = search rules in
-    let loaded : IsLoaded (steps mid new dm d' c.args.index l) good = rw c.in-Some-false.is at c.load.ensures.ends in
+    let loaded : IsStepLoaded (steps mid new dm d' c.args.index l) good = rw c.in-Some-false.is at c.load.ensures.ends in
     record {
       between = (omega arith, low);
       down = subst (λ (n : ℕ). IsDown (steps old new d d' c.args.index c.args.from) n l) next (down-read old mid new d dm d' c.args.index c.args.from l low down good loaded);
@@ -66,7 +66,7 @@ levels-preserved g c =
     let down : IsDown (steps old mid d dm c.args.index c.args.from) (suc l) (suc l) = subst (λ (n : ℕ). IsDown (steps old mid d dm c.args.index c.args.from) n n) level c.levels.invariant.down in
     let good = c.in-Some-true.field-0 in
     let is : good ≡ true = search rules in
-    let loaded : IsLoaded (steps mid new dm d' c.args.index l) good = rw c.in-Some-true.is at c.load.ensures.ends in
+    let loaded : IsStepLoaded (steps mid new dm d' c.args.index l) good = rw c.in-Some-true.is at c.load.ensures.ends in
     record {
       down = down-good old mid new d dm d' c.args.index c.args.from l low down good loaded is;
       high = omega (arith, low);

@@ -10,7 +10,7 @@ use Rattle.tree_shape.proofs.lemmas.ShapeFactLemmas.{levels-few}
 use Rattle.verity_format.specs.Blocks.{IsBlockRead}
 use Rattle.tree_path.specs.Path.{IsPath, PathRecord, digest_on}
 use Rattle.tree_survey.specs.Seen.{seen}
-use Rattle.tree_path.specs.Steps.{IsLoaded, steps}
+use Rattle.tree_path.specs.Steps.{IsStepLoaded, steps}
 use Rattle.tree_path.proofs.MemoryLemmas.{bytes_of, path-put, put-is, read-is, read-sized, with_block}
 use Rattle.tree_path.proofs.lemmas.DeviceLemmas.{block-size, block-inside}
 use Rattle.tree_path.proofs.lemmas.PathLemmas.{digest_on-same}

@@ -4,7 +4,7 @@ use borrow.Author.Count.{below_more}
 use Rattle.aes_block.specs.Blocks.{joined}
 use Rattle.aes_block.proofs.lemmas.PartLemmas.{IsWrittenTo-none, IsWrittenTo-all}
 use Rattle.xts_sector.specs.Xts.{encrypted, decrypted}
-use Rattle.xts_sector.specs.Units.{unit, decrypted_units, encrypted_units}
+use Rattle.xts_sector.specs.Units.{unit, decrypted_numbered, encrypted_numbered}
 use Rattle.xts_sector.proofs.FirstTweakLemmas.{HoldTweaks-none, HoldTweaks-next}
 use Rattle.xts_sector.proofs.lemmas.UnitLemmas.{length-decrypted_unit, decrypted_units_undone, unit_written}
 use Rattle.xts_sector.proofs.xts_key.XtsKey.decrypt_units.Goals as goal
@@ -44,8 +44,8 @@ loop-i-preserved c =
     }
 
 -- the units that are left
-units_are : (c : After-loop-i) → c.loop-i.units ≡ decrypted_units c.args.self.now c.args.numbers.now c.args.size c.args.units.now
-unfolding decrypted_units
+units_are : (c : After-loop-i) → c.loop-i.units ≡ decrypted_numbered c.args.self.now c.args.numbers.now c.args.size c.args.units.now
+unfolding decrypted_numbered
 units_are c =
     let numbers = c.args.numbers.now in
     let old = c.args.units.now in
@@ -58,5 +58,5 @@ returns-clause-value c = units_are c
 
 pub returns-clause-inverse : goal.returns-clause-inverse
 returns-clause-inverse c =
-    ap (encrypted_units c.args.self.now c.args.numbers.now c.args.size) (units_are c)
+    ap (encrypted_numbered c.args.self.now c.args.numbers.now c.args.size) (units_are c)
     ∙ decrypted_units_undone c.args.self.now c.args.numbers.now c.args.size c.args.units.now c.requires.size c.requires.whole (λ k h. c.loop-i.invariant.undone k (omega arith))
