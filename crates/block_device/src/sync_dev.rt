@@ -2,7 +2,6 @@
 ghost use Rattle.std.specs.Prelude.{◌≡◌, IsOk, IsTrue, OnErr, OnOk};
 ghost use Rattle.block_device.specs.Calls.{DeviceFailsToSync, DeviceSyncs};
 
-
 use crate::{BlockDev, DeviceFault};
 
 /// A device whose writes can be put on its medium.

@@ -3,7 +3,6 @@ ghost use Rattle.std.specs.Prelude.{◌≡◌, ◌+◌, ◌^◌, ◌≤◌, leng
 ghost use Rattle.std.specs.Option.{ForSome};
 ghost use Rattle.block_device.specs.Calls.{DeviceFails, DeviceFailsToSync, DeviceGives, DevicePuts, DeviceReads, DeviceSyncs, DeviceWrites, ReadsInner, SyncsInner, WritesInner};
 ghost use Rattle.block_device.specs.Device.{IsInside};
-
 ghost use Rattle.device_window.specs.Parts.{LiesInside, StandOutside, part_before, part_behind};
 ghost use Rattle.device_window.specs.Windows.{windowed, windowed-whole};
 
