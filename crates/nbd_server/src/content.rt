@@ -8,13 +8,13 @@ use counted_io::{Counted, WriteFault};
 use nbd_chunks::{say_data, say_hole};
 use std::io::Write;
 
-// Zeros are looked for by blocks of so many bytes.
-const BLOCK: usize = 4096;
+/// Zeros are looked for by blocks of so many bytes.
+pub(crate) const BLOCK: usize = 4096;
 
 static ZEROS: [u8; 4096] = [0; 4096];
 
-// Whether the bytes of a block are zeros.
-fn are_zeros(block: &[u8]) -> bool
+/// Whether the bytes of a block are zeros.
+pub(crate) fn are_zeros(block: &[u8]) -> bool
     requires { length block.now ≤ 4096 }
     ensures { result ≡ bytes_eq block.now (replicate (length block.now) 0) }
 {

@@ -1,12 +1,12 @@
 //! The status of bytes that are read for it: those of `verity` lines that ignore blocks of zeros.
 ghost use Rattle.std.specs.Prelude.{◌≡◌, ◌<◌, ◌≤◌, ◌+◌, ◌^◌, length, replicate, take, Ok, IfOk, IsTrue, OnErr};
-ghost use Rattle.std.specs.Str.{bytes_eq};
 ghost use Rattle.nbd_protocol.specs.Exports.{export_record};
 ghost use Rattle.nbd_server.specs.Premises.{AreBytesOf};
 ghost use Rattle.nbd_server.specs.Status.{AreReadAsZeros, HasStatus, TouchIgnoring};
 ghost use Rattle.nbd_server.specs.Transmission.{ReadsStatus, StaysOrReads};
 
 use crate::byte_range::read_bytes;
+use crate::content::{BLOCK, are_zeros};
 use crate::status::{BlockStatus, MOST_EXTENTS, first_status, push_status};
 use block_device::BlockDev;
 use nbd_protocol::Export;
@@ -19,11 +19,6 @@ const LARGE: u64 = 262_144;
 
 const SMALL: u64 = 65_536;
 
-// Zeros are told by blocks, which end at multiples of so many bytes.
-const BLOCK: usize = 4096;
-
-static ZEROS: [u8; 4096] = [0; 4096];
-
 // How many bytes there are from a place on up to the end of what is read.
 fn room_at(at: u64, one: bool) -> u64
     ensures some { 0 < result }
@@ -35,15 +30,7 @@ fn room_at(at: u64, one: bool) -> u64
     LARGE - at % LARGE
 }
 
-// Whether the bytes of a block are zeros.
-fn are_zeros(block: &[u8]) -> bool
-    requires { length block.now ≤ 4096 }
-    ensures { result ≡ bytes_eq block.now (replicate (length block.now) 0) }
-{
-    block == &ZEROS[..block.len()]
-}
-
-// The first of these bytes, block by block, that are all zeros or have no block of zeros.
+// The first of these bytes that are all zeros or have no block of zeros, by blocks that end at multiples of their size.
 fn first_run(at: u64, bytes: &[u8]) -> BlockStatus
     requires some { 0 < length bytes.now }
     requires few { length bytes.now ≤ 262144 }
