@@ -5,6 +5,7 @@ use Rattle.block_device.specs.Device.{Device}
 use Rattle.verity_format.specs.Blocks.{IsFullRead}
 use Rattle.fec_area.specs.declared.code.Gap.{Gap}
 use Rattle.fec_area.specs.declared.layout.Layout.{Layout}
+use Rattle.fec_area.specs.declared.restoring.LostBlock.{LostBlock}
 use Rattle.fec_area.specs.Layouts.{covered_blocks, code_rounds}
 use Rattle.fec_area.specs.Restoring.{is_beside}
 
@@ -35,9 +36,13 @@ pub record AreAskedFor (n m k : ℕ) (ok : Bool) (data_dev hash_dev parity_dev d
 
 -- Of the image as many sectors are asked for as the blocks of the round have that aren't lost, and of the parity as many as the
 -- round's has, by what a proof sees of the three devices: as they were before the call, and then after it.
-abbrev pub AsksKept : {D H P : Type 0} → Layout → List ℕ → ℕ → Bool → (D → Device) → (H → Device) → (P → Device) → D → H → P → D → H → P → Type 0
-AsksKept l lost index ok data_state hash_state parity_state d h p d' h' p' =
-    AreAskedFor (kept_data l lost index * (l.block / 512)) (kept_hash l lost index * (l.block / 512)) (l.roots * (l.block / 512)) ok (data_state d) (hash_state h) (parity_state p) (data_state d') (hash_state h') (parity_state p')
+abbrev pub AsksKept : {D H P : Type 0} → LostBlock → Bool → (D → Device) → (H → Device) → (P → Device) → D → H → P → D → H → P → Type 0
+AsksKept sought ok data_state hash_state parity_state d h p d' h' p' =
+    let l = sought.layout.now in
+    let data_blocks = kept_data l sought.lost.now sought.index in
+    let hash_blocks = kept_hash l sought.lost.now sought.index in
+    AreAskedFor (data_blocks * (l.block / 512)) (hash_blocks * (l.block / 512)) (l.roots * (l.block / 512)) ok
+    (data_state d) (hash_state h) (parity_state p) (data_state d') (hash_state h') (parity_state p')
 
 -- ---- its parts
 
