@@ -3,6 +3,7 @@ use Rattle.std.specs.Prelude.{◌≡◌, ◌==◌, ◌&&◌, ℕ, zero, suc, ◌
 use Rattle.std.specs.List.{list_any, range_with_len}
 use Rattle.block_device.specs.Device.{Device}
 use Rattle.verity_format.specs.Blocks.{IsFullRead}
+use Rattle.fec_area.specs.declared.code.Code.{Code}
 use Rattle.fec_area.specs.declared.code.Gap.{Gap}
 use Rattle.fec_area.specs.declared.layout.Layout.{Layout}
 use Rattle.fec_area.specs.declared.restoring.LostBlock.{LostBlock}
@@ -66,7 +67,11 @@ pub record AreAsked (n m : ℕ) (data_dev hash_dev data_dev' hash_dev' : Device)
 abbrev pub AsksBlock : {D H : Type 0} → Layout → ℕ → (D → Device) → (H → Device) → D → H → D → H → Type 0
 AsksBlock l j data_state hash_state d h d' h' = AreAsked (sectors_on_data l j) (sectors_on_hash l j) (data_state d) (hash_state h) (data_state d') (hash_state h')
 
--- of the block at place i of a round, unless that place is lost
+-- of the block at place i of a round
+abbrev pub AsksAt : {D H : Type 0} → Code → ℕ → ℕ → (D → Device) → (H → Device) → D → H → D → H → Type 0
+AsksAt code round i = AsksBlock code.layout.now (i * code_rounds code.layout.now + round)
+
+-- the same, and none where that place is lost
 abbrev pub kept_at : (ℕ → ℕ) → Layout → ℕ → List ℕ → ℕ → ℕ
 kept_at sectors l round places i = if is_among places i then 0 else sectors (i * code_rounds l + round)
 

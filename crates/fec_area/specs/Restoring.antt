@@ -62,9 +62,9 @@ MakesAgain sought data_dev hash_dev parity_dev bytes =
     IsTrue data_dev.steady → IsTrue hash_dev.steady → IsTrue parity_dev.steady
     → IsMadeAgain sought.layout.now data_dev.image hash_dev.image parity_dev.image sought.lost.now sought.index bytes
 
--- where none of the three devices ever fails, none is blamed
-abbrev pub BlamesNoSureDevice : Device → Device → Device → RestoreFault → Type 0
-BlamesNoSureDevice data_dev hash_dev parity_dev fault = AllNeverFail data_dev hash_dev parity_dev → fault ≢ DeviceFailed
+-- where none of three devices ever fails, the cause is another one
+abbrev pub IsOtherCause : Device → Device → Device → RestoreFault → Type 0
+IsOtherCause data_dev hash_dev parity_dev fault = AllNeverFail data_dev hash_dev parity_dev → fault ≢ DeviceFailed
 
 -- why a block wasn't made again, by what a proof sees of the three devices: as they were before the call, and then after it
 abbrev pub FailsToRestore : {D H P : Type 0} → LostBlock → (D → Device) → (H → Device) → (P → Device) → D → H → P → D → H → P → RestoreFault → Type 0

@@ -3,7 +3,7 @@ ghost use Rattle.std.specs.Prelude.{◌≡◌, ◌<◌, ◌≤◌, ◌/◌, IfEr
 ghost use Rattle.verity_format.specs.Blocks.{IsOnlyRead};
 ghost use Rattle.fec_area.specs.Asking.{AsksForFirst, AsksKept};
 ghost use Rattle.fec_area.specs.Layouts.{IsLaidOn, IsLayout, covered_blocks, parity_sectors};
-ghost use Rattle.fec_area.specs.Restoring.{AreLostPlaces, BlamesNoSureDevice, FailsToRestore, MakesAgain, RestoresFirst, is_beside};
+ghost use Rattle.fec_area.specs.Restoring.{AreLostPlaces, FailsToRestore, IsOtherCause, MakesAgain, RestoresFirst, is_beside};
 ghost use Rattle.fec_area.specs.Rounds.{AllNeverFail, CanRestore, OnlyReadsCovered};
 ghost use Rattle.fec_area.specs.Writing.{AnyFails};
 
@@ -84,7 +84,7 @@ pub fn restore_block<D: BlockDev, H: BlockDev, P: BlockDev>(
     ensures parity { IsOnlyRead (P.state parity_dev.old) (P.state parity_dev.new) }
     ensures bytes { OnOk result (MakesAgain sought.now (D.state data_dev.old) (H.state hash_dev.old) (P.state parity_dev.old) block.new) }
     ensures err { IfErr result (FailsToRestore sought.now D.state H.state P.state data_dev.old hash_dev.old parity_dev.old data_dev.new hash_dev.new parity_dev.new) }
-    ensures sure { IfErr result (BlamesNoSureDevice (D.state data_dev.old) (H.state hash_dev.old) (P.state parity_dev.old)) }
+    ensures sure { IfErr result (IsOtherCause (D.state data_dev.old) (H.state hash_dev.old) (P.state parity_dev.old)) }
     ensures asks { AsksKept sought.now (is_ok result) D.state H.state P.state data_dev.old hash_dev.old parity_dev.old data_dev.new hash_dev.new parity_dev.new }
 {
     let layout = sought.layout;

@@ -1,6 +1,6 @@
 //! A round of codewords, summed up place by place: its parity, or its lost blocks.
 ghost use Rattle.std.specs.Prelude.{◌≡◌, ◌+◌, ◌*◌, ◌<◌, ◌-◌, IsOk, OnOk, OnErr, EachIndex, is_ok, length, slice_index};
-ghost use Rattle.fec_area.specs.Asking.{AsksBlock, AsksPlace, AsksRound, is_among};
+ghost use Rattle.fec_area.specs.Asking.{AsksAt, AsksPlace, AsksRound, is_among};
 ghost use Rattle.fec_area.specs.Layouts.{code_rounds};
 ghost use Rattle.fec_area.specs.Rounds.{Adds, AddsKept, BothNeverFail, CanAdd, CanAddKept, CanRestore, CanSum, NeitherFails, OneFails, OnlyReadsCovered, Restores, SumsUp};
 
@@ -113,7 +113,7 @@ fn add_place<D: BlockDev, H: BlockDev>(
     ensures added { OnOk result (Adds code.now D.state H.state data_dev.old hash_dev.old round place sums.old sums.new) }
     ensures err { OnErr result (OneFails D.state H.state data_dev.old hash_dev.old data_dev.new hash_dev.new) }
     ensures sure { BothNeverFail (D.state data_dev.old) (H.state hash_dev.old) → IsOk result }
-    ensures asks { AsksBlock code.now.layout.now (place * code_rounds code.now.layout.now + round) D.state H.state data_dev.old hash_dev.old data_dev.new hash_dev.new }
+    ensures asks { AsksAt code.now round place D.state H.state data_dev.old hash_dev.old data_dev.new hash_dev.new }
 {
     let layout = code.layout;
     let index = place as u64 * layout.rounds() + round;
