@@ -203,6 +203,11 @@ pub record HasRun (j : Job) (w w' : RepairWorld) (old new : Option (List ℕ)) (
 abbrev pub Ran : {W T : Type 0} → (W → Option (List ℕ)) → Job → RepairWorld → RepairWorld → CountedRecord W → CountedRecord W → Result T RepairFault → Type 0
 Ran contents j w w' old new result = HasRun j w w' (contents old.inner) (contents new.inner) (result_err result)
 
+-- a line can't be written only where the writer failed, which it remembers
+abbrev pub IsWriterCause : {W : Type 0} → CountedRecord W → RepairFault → Type 0
+IsWriterCause writer (Image fault) = Unit {0}
+IsWriterCause writer Write = writer.failed ≡ true
+
 -- data and tree lie on the devices, which may be written if anything may
 pub record CanRun (j : Job) (w : RepairWorld) : Type 0 where
   pub valid : IsShape j.tree.shape
