@@ -1,5 +1,5 @@
 -- What is said behind a reading of the hash device is said of it before.
-use Rattle.std.proofs.Common.{◌⊎◌, ◌≤◌, ◌<◌, ℕ, Bool, true, List, [], ◌∷◌, Option, refl, ap, ◌∙◌, subst, inl, inr}
+use Rattle.std.proofs.Common.{◌≡◌, ◌⊎◌, ◌≤◌, ◌<◌, ℕ, Bool, List, [], ◌∷◌, Option, None, refl, ap, ◌∙◌, subst, inl, inr}
 use Rattle.block_device.specs.Device.{Device}
 use Rattle.tree_path.proofs.lemmas.DeviceLemmas.{failed-then, only_read-none, only_read-then, steady-then}
 use Rattle.tree_repair.specs.declared.fault.RepairFault.{RepairFault}
@@ -53,9 +53,9 @@ runs-behind : (d h h' : Device) (cs es : List Device) (j : Job) (visits : List V
 runs-behind d h h' cs es j [] w' read runs = read-behind w' read runs
 runs-behind d h h' cs es j (v ∷ more) w' read (a, (b, (behind, rest))) = (a, (b, (read-behind a read behind, rest)))
 
-repairs-behind : {d h h' : Device} {cs es : List Device} (plan : Plan) (parity : Bool) (w' : RepairWorld) (old new : Option (List ℕ)) (ok : Bool) → IsOnlyRead h h'
-    → Repairs plan parity (repair_world d h' cs es) w' old new ok → Repairs plan parity (repair_world d h cs es) w' old new ok
-repairs-behind {d} {h} {h'} {cs} {es} plan parity w' old new ok read repairs = record {
+repairs-behind : {d h h' : Device} {cs es : List Device} (plan : Plan) (parity : Bool) (w' : RepairWorld) (old new : Option (List ℕ)) (fault : Option RepairFault) → IsOnlyRead h h'
+    → Repairs plan parity (repair_world d h' cs es) w' old new fault → Repairs plan parity (repair_world d h cs es) w' old new fault
+repairs-behind {d} {h} {h'} {cs} {es} plan parity w' old new fault read repairs = record {
   s = repairs.s;
   images = images-behind repairs.s read repairs.images;
   run = record {
@@ -63,6 +63,7 @@ repairs-behind {d} {h} {h'} {cs} {es} plan parity w' old new ok read repairs = r
     runs = runs-behind d h h' cs es (job_of repairs.s plan parity) repairs.run.visits w' read repairs.run.runs;
     done = repairs.run.done;
     printed = repairs.run.printed;
+    cause = repairs.run.cause;
   };
 }
 
@@ -70,7 +71,7 @@ pub mends-behind : {d h h' : Device} {cs es : List Device} (plan : Plan) (parity
     → MendsWhole plan parity (repair_world d h' cs es) w' old new → MendsWhole plan parity (repair_world d h cs es) w' old new
 mends-behind plan parity w' old new read mends = record {
   mid = mends.mid;
-  repair = repairs-behind plan parity mends.mid old new true read mends.repair;
+  repair = repairs-behind plan parity mends.mid old new None read mends.repair;
   kept = mends.kept;
   data_copies_are = mends.data_copies_are;
   hash_copies_are = mends.hash_copies_are;
@@ -92,10 +93,10 @@ unrepaired-behind plan parity d h h' cs es w' old new fault full (inl (behind, c
 unrepaired-behind plan parity d h h' cs es w' old new fault full (inr repairs) = inr (repairs-behind plan parity w' old new _ full.read repairs)
 
 half-run : (plan : Plan) (parity : Bool) (d h h' : Device) (cs es : List Device) (w' : RepairWorld) (old new : Option (List ℕ)) (fault : RepairFault) → IsFullRead h 1 h'
-    → (IsUnrepairedBy plan parity (repair_world d h' cs es) w' old new fault ⊎ Repairs plan parity (repair_world d h' cs es) w' old new true)
-    → (IsUnrepairedBy plan parity (repair_world d h cs es) w' old new fault ⊎ Repairs plan parity (repair_world d h cs es) w' old new true)
+    → (IsUnrepairedBy plan parity (repair_world d h' cs es) w' old new fault ⊎ (Repairs plan parity (repair_world d h' cs es) w' old new None × (fault ≡ Image DeviceFailed)))
+    → (IsUnrepairedBy plan parity (repair_world d h cs es) w' old new fault ⊎ (Repairs plan parity (repair_world d h cs es) w' old new None × (fault ≡ Image DeviceFailed)))
 half-run plan parity d h h' cs es w' old new fault full (inl ended) = inl (unrepaired-behind plan parity d h h' cs es w' old new fault full ended)
-half-run plan parity d h h' cs es w' old new fault full (inr repairs) = inr (repairs-behind plan parity w' old new _ full.read repairs)
+half-run plan parity d h h' cs es w' old new fault full (inr (repairs, failed)) = inr (repairs-behind plan parity w' old new _ full.read repairs, failed)
 
 pub half-behind : (plan : Plan) (parity : Bool) (d h h' : Device) (cs es : List Device) (w' : RepairWorld) (old new : Option (List ℕ)) (fault : RepairFault) → IsFullRead h 1 h'
     → HalfMends plan parity (repair_world d h' cs es) w' old new fault → HalfMends plan parity (repair_world d h cs es) w' old new fault

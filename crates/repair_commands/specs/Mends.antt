@@ -1,11 +1,13 @@
 -- What a repair of two devices did, up to their media.
-use Rattle.std.specs.Prelude.{◌≡◌, ◌⊎◌, ℕ, Bool, true, false, IsTrue, List, Option}
+use Rattle.std.specs.Prelude.{◌≡◌, ◌⊎◌, ℕ, Bool, false, IsTrue, List, Option, None}
 use Rattle.block_device.specs.Device.{Device}
 use Rattle.counted_io.specs.Counted.{CountedRecord}
 use Rattle.tree_repair.specs.declared.fault.RepairFault.{RepairFault}
+use Rattle.tree_repair.specs.declared.fault.RepairFault.TheVariants.{Image}
 use Rattle.tree_repair.specs.declared.repair.Plan.{Plan}
 use Rattle.tree_repair.specs.Repairs.{IsUnrepairedBy, Repairs}
 use Rattle.tree_repair.specs.Worlds.{RepairWorld}
+use Rattle.verity_format.specs.declared.verifying.VerifyFault.TheVariants.{Device as DeviceFailed}
 
 -- both hold what they held
 pub record KeepsBothImages (data_dev hash_dev data_dev' hash_dev' : Device) : Type 0 where
@@ -20,16 +22,16 @@ pub record IsOnMedium (write : Bool) (data_dev hash_dev : Device) : Type 0 where
 -- the image was gone over, with parity or without, and what was written is on the media
 pub record MendsWhole (plan : Plan) (parity : Bool) (w w' : RepairWorld) (old new : Option (List ℕ)) : Type 0 where
   pub mid : RepairWorld
-  pub repair : Repairs plan parity w mid old new true
+  pub repair : Repairs plan parity w mid old new None
   pub kept : KeepsBothImages mid.data_dev mid.hash_dev w'.data_dev w'.hash_dev
   pub data_copies_are : w'.data_copies ≡ mid.data_copies
   pub hash_copies_are : w'.hash_copies ≡ mid.hash_copies
   pub on_medium : IsOnMedium plan.write w'.data_dev w'.hash_dev
 
--- or it wasn't to the end, or not all is on the media: good blocks alone were written all the same
+-- Or it wasn't, up to that fault, or not all is on the media, since a device failed: good blocks alone were written all the same.
 pub record HalfMends (plan : Plan) (parity : Bool) (w w' : RepairWorld) (old new : Option (List ℕ)) (fault : RepairFault) : Type 0 where
   pub mid : RepairWorld
-  pub run : IsUnrepairedBy plan parity w mid old new fault ⊎ Repairs plan parity w mid old new true
+  pub run : IsUnrepairedBy plan parity w mid old new fault ⊎ (Repairs plan parity w mid old new None × (fault ≡ Image DeviceFailed))
   pub kept : KeepsBothImages mid.data_dev mid.hash_dev w'.data_dev w'.hash_dev
   pub data_copies_are : w'.data_copies ≡ mid.data_copies
   pub hash_copies_are : w'.hash_copies ≡ mid.hash_copies

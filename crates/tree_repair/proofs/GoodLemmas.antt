@@ -1,5 +1,5 @@
 -- Data blocks that were seen to be good, and their visits.
-use Rattle.std.proofs.Common.{◌≡◌, ◌≤◌, ◌<◌, ◌+◌, ℕ, suc, add-zero, IsTrue, true, List, [], ◌∷◌, ◌++◌, length, map, get_or, refl, sym, ap, ◌∙◌, subst, arith, inl, inr, Option}
+use Rattle.std.proofs.Common.{◌≡◌, ◌≤◌, ◌<◌, ◌+◌, ℕ, suc, add-zero, IsTrue, true, List, None, [], ◌∷◌, ◌++◌, length, map, get_or, refl, sym, ap, ◌∙◌, subst, arith, inl, inr, Option}
 use Rattle.std.specs.Prelude.{All}
 use Rattle.std.specs.List.{flat_map}
 use Rattle.std.specs.Io.KnownBytes.{Appends}
@@ -126,7 +126,7 @@ good-in s i (b ∷ more) k from below = elim (cases_eq k i) [
 
 -- so a row that was seen to be good is a run over its blocks
 pub noted-good : {j : Job} {w w' : RepairWorld} {old : Option (List ℕ)} {a : BadBlocks} (p : PathRecord) (row : Row) → IsWorldRead w w' → IsGoodRow j p row w.data_dev
-    → ((k : ℕ) → row.first ≤ k → k < row.end → (k < j.tree.shape.blocks) × IsWay j.tree k row.height p) → HasNoted j (IsOfRow row) w w' old old a a true
+    → ((k : ℕ) → row.first ≤ k → k < row.end → (k < j.tree.shape.blocks) × IsWay j.tree k row.height p) → HasNoted j (IsOfRow row) w w' old old a a None
 noted-good {j} {w} {w'} {old} {a} p row read good ways =
     let cs = good.good.contents in
     let vs = good_visits row.first cs in
@@ -141,6 +141,7 @@ noted-good {j} {w} {w'} {old} {a} p row read good ways =
             (here.0, subst (λ (h : ℕ). IsWay j.tree k h p) good.height_is here.1)) good.good.are) read);
         done = λ ok. good-done row.first cs;
         printed = λ ok. subst (Appends old old) (sym (good-told j row.first cs)) (Appends-nil old);
+        cause = tt;
       };
       asked = refl;
       noted = λ ok on. sym (append-nil a.blocks.items) ∙ ap (λ (l : List BadBlock). a.blocks.items ++ l) (sym (good-noted j row.first cs));

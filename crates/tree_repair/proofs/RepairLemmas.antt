@@ -1,6 +1,7 @@
 -- What a repair did, behind the superblock.
-use Rattle.std.proofs.Common.{◌≡◌, ◌≤◌, ◌^◌, ℕ, List, Option, Bool, true, false, IsTrue, Result, Ok, Err, sym, subst, arith, inr}
-use Rattle.std.specs.Prelude.{IfErr, IsErrAnd, OnOk, is_ok}
+use Rattle.std.proofs.Common.{◌≡◌, ◌≤◌, ◌^◌, ℕ, List, Option, None, Some, Bool, IsTrue, Result, Ok, Err, sym, subst, arith, inr}
+use Rattle.std.specs.Prelude.{IfErr, IsErrAnd, OnOk}
+use Rattle.std.specs.Result.{result_err}
 use Rattle.tree_shape.specs.Shape.{IsShape}
 use Rattle.verity_format.specs.Superblock.{SuperRecord, shape_of}
 use Rattle.tree_survey.specs.Causes.{AreImages}
@@ -25,16 +26,16 @@ module _ (s : SuperRecord) (plan : Plan) (parity : Bool) (j : Job) (w b : Repair
   pub can-begin : IsShape (shape_of s) → IsAllowed plan.write w.data_dev w.hash_dev → plan.copy_first ≤ 2 ^ 55 → CanRun j b
   can-begin valid allowed small = subst (λ (x : Job). CanRun x b) (sym same) (begin-of valid allowed small)
 
-  abbrev pub repairs-of : (w' : RepairWorld) (old new : Option (List ℕ)) (ok : Bool) → HasRun j b w' old new ok → Repairs plan parity w w' old new ok
-  repairs-of w' old new ok run = record { s = s; images = images; run = subst (λ (x : Job). HasRun x w w' old new ok) same (has-behind read run) }
+  abbrev pub repairs-of : (w' : RepairWorld) (old new : Option (List ℕ)) (fault : Option RepairFault) → HasRun j b w' old new fault → Repairs plan parity w w' old new fault
+  repairs-of w' old new fault run = record { s = s; images = images; run = subst (λ (x : Job). HasRun x w w' old new fault) same (has-behind read run) }
 
-  pub whole-ok : (w' : RepairWorld) (old new : Option (List ℕ)) (r : Result (Unit {0}) RepairFault) → HasRun j b w' old new (is_ok r) → OnOk r (Repairs plan parity w w' old new true)
-  whole-ok w' old new (Ok x) run = repairs-of w' old new true run
+  pub whole-ok : (w' : RepairWorld) (old new : Option (List ℕ)) (r : Result (Unit {0}) RepairFault) → HasRun j b w' old new (result_err r) → OnOk r (Repairs plan parity w w' old new None)
+  whole-ok w' old new (Ok x) run = repairs-of w' old new None run
   whole-ok w' old new (Err e) run = tt
 
-  pub whole-err : (w' : RepairWorld) (old new : Option (List ℕ)) (r : Result (Unit {0}) RepairFault) → HasRun j b w' old new (is_ok r) → IfErr r (IsUnrepairedBy plan parity w w' old new)
+  pub whole-err : (w' : RepairWorld) (old new : Option (List ℕ)) (r : Result (Unit {0}) RepairFault) → HasRun j b w' old new (result_err r) → IfErr r (IsUnrepairedBy plan parity w w' old new)
   whole-err w' old new (Ok x) run = tt
-  whole-err w' old new (Err e) run = inr (repairs-of w' old new false run)
+  whole-err w' old new (Err e) run = inr (repairs-of w' old new (Some e) run)
 
 -- what holds of a fault holds of the result that hands it on
 pub err-from : {T E : Type 0} (r : Result T E) (P : E → Type 0) (fault : E) → IsErrAnd r (λ e. e ≡ fault) → P fault → IfErr r P

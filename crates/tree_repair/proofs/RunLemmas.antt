@@ -1,22 +1,26 @@
 -- Runs over blocks, one behind the other.
-use Rattle.std.proofs.Common.{◌≡◌, ℕ, zero, suc, Bool, true, false, IsTrue, List, [], ◌∷◌, ◌++◌, Option, Result, Ok, Err, refl, sym, ap, subst, arith}
-use Rattle.std.specs.Prelude.{IsErrAnd, is_ok}
+use Rattle.std.proofs.Common.{◌≡◌, ℕ, zero, suc, Bool, true, false, IsTrue, List, [], ◌∷◌, ◌++◌, Option, None, Some, Result, Ok, Err, refl, sym, ap, ◌∙◌, subst, arith}
+use Rattle.std.specs.Prelude.{All, IfSome, IsErrAnd}
 use Rattle.std.specs.List.{flat_map}
 use Rattle.std.specs.Io.KnownBytes.{Appends}
+use Rattle.std.specs.Result.{result_err}
 use Rattle.std.proofs.KnownBytes.{Appends-nil, Appends-trans}
-use Rattle.std.proofs.lemmas.Bool.{false≢true}
+use Rattle.std.proofs.lemmas.Bool.{true≢false}
 use Rattle.std.proofs.lemmas.Grind.{flat_map-append}
-use Rattle.std.proofs.lemmas.List.{append-nil}
+use Rattle.std.proofs.lemmas.List.{append-nil, append_assoc}
 use Rattle.std.proofs.lemmas.List.Elements.{All-append, All-cons, All-nil}
 use Rattle.block_device.specs.Device.{Device, IsSameDevice}
 use Rattle.fec_area.specs.declared.layout.Layout.{Layout}
 use Rattle.fec_area.specs.Layouts.{IsLaidOn}
+use Rattle.verity_format.specs.declared.verifying.VerifyFault.TheVariants.{Super, TooSmall, Device as DeviceFailed, NoMemory}
 use Rattle.verity_format.specs.Blocks.{IsOnlyRead}
 use Rattle.tree_path.proofs.lemmas.DeviceLemmas.{only_read-none, only_read-then, same-none, same-then}
+use Rattle.tree_repair.specs.declared.fault.RepairFault.{RepairFault}
+use Rattle.tree_repair.specs.declared.fault.RepairFault.TheVariants.{Image, Write}
 use Rattle.tree_repair.specs.declared.mending.Mended.{Mended}
 use Rattle.tree_repair.specs.declared.mending.Mended.TheVariants as mended
-use Rattle.tree_repair.specs.Mending.{IsMended, IsAllowedPut, Look}
-use Rattle.tree_repair.specs.Runs.{CanRun, HasRun, IsDone, IsVisited, Job, OtherStays, VisitsAll, Visit, visit_line, look_at, other, own}
+use Rattle.tree_repair.specs.Mending.{IsBlockFound, IsMended, IsAllowedPut, Look}
+use Rattle.tree_repair.specs.Runs.{CanRun, HasRun, IsDone, IsEndCause, IsVisited, Job, OtherStays, VisitsAll, Visit, visit_line, look_at, other, own}
 use Rattle.tree_repair.specs.Worlds.{IsWorldRead, RepairWorld, repair_world}
 use Rattle.tree_repair.proofs.SourceLemmas.{each-none, each-then}
 
@@ -41,50 +45,80 @@ pub runs-then : (j : Job) (vs us : List Visit) (a b c : RepairWorld) → VisitsA
 runs-then j [] us a b c p q = runs-read j us a b c p q
 runs-then j (v ∷ more) us a b c (x, (y, (read, (here, rest)))) q = (x, (y, (read, (here, runs-then j more us y b c rest q))))
 
-abbrev pub has-none : {j : Job} {w : RepairWorld} {old : Option (List ℕ)} → HasRun j w w old old true
-has-none {j} {w} {old} = record { visits = []; runs = world-none w; done = λ ok. All-nil IsDone; printed = λ ok. Appends-nil old }
+abbrev pub has-none : {j : Job} {w : RepairWorld} {old : Option (List ℕ)} → HasRun j w w old old None
+has-none {j} {w} {old} = record { visits = []; runs = world-none w; done = λ end. All-nil IsDone; printed = λ end. Appends-nil old; cause = tt }
 
-abbrev pub has-read : {j : Job} {a b : RepairWorld} {old : Option (List ℕ)} → IsWorldRead a b → HasRun j a b old old true
-has-read {j} {a} {b} {old} read = record { visits = []; runs = read; done = λ ok. All-nil IsDone; printed = λ ok. Appends-nil old }
+abbrev pub has-read : {j : Job} {a b : RepairWorld} {old : Option (List ℕ)} → IsWorldRead a b → HasRun j a b old old None
+has-read {j} {a} {b} {old} read = record { visits = []; runs = read; done = λ end. All-nil IsDone; printed = λ end. Appends-nil old; cause = tt }
+
+-- a cause is one behind visits of which no write failed
+pub cause-then : (vs us : List Visit) (fault : Option RepairFault) → All IsDone vs → IfSome fault (IsEndCause us) → IfSome fault (IsEndCause (vs ++ us))
+cause-then vs us None before cause = tt
+cause-then vs us (Some (Image (Super f))) before cause = absurd cause
+cause-then vs us (Some (Image TooSmall)) before cause = absurd cause
+cause-then vs us (Some (Image DeviceFailed)) before cause = record {
+  earlier = vs ++ cause.earlier;
+  last = cause.last;
+  are = ap (λ (l : List Visit). vs ++ l) cause.are ∙ sym (append_assoc vs cause.earlier (cause.last ∷ []));
+  before = All-append IsDone vs cause.earlier before cause.before;
+  found = cause.found;
+  failed = cause.failed;
+}
+cause-then vs us (Some (Image NoMemory)) before cause = All-append IsDone vs us before cause
+cause-then vs us (Some Write) before cause = All-append IsDone vs us before cause
 
 -- a run that came to its end goes on
-abbrev pub has-then : {j : Job} {a b c : RepairWorld} {old now new : Option (List ℕ)} {ok : Bool} → HasRun j a b old now true → HasRun j b c now new ok → HasRun j a c old new ok
-has-then {j} {a} {b} {c} {old} {now} {new} {ok} p q = record {
+abbrev pub has-then : {j : Job} {a b c : RepairWorld} {old now new : Option (List ℕ)} {fault : Option RepairFault} → HasRun j a b old now None → HasRun j b c now new fault → HasRun j a c old new fault
+has-then {j} {a} {b} {c} {old} {now} {new} {fault} p q = record {
   visits = p.visits ++ q.visits;
   runs = runs-then j p.visits q.visits a b c p.runs q.runs;
   done = λ end. All-append IsDone p.visits q.visits (p.done refl) (q.done end);
   printed = λ end. subst (Appends old new) (sym (flat_map-append (visit_line j) p.visits q.visits))
       (Appends-trans old now new (flat_map (visit_line j) p.visits) (flat_map (visit_line j) q.visits) (p.printed refl) (q.printed end));
+  cause = cause-then p.visits q.visits fault (p.done refl) q.cause;
 }
 
 -- one behind a reading
-abbrev pub has-behind : {j : Job} {a b c : RepairWorld} {old new : Option (List ℕ)} {ok : Bool} → IsWorldRead a b → HasRun j b c old new ok → HasRun j a c old new ok
-has-behind {j} {a} {b} {c} read run = record { visits = run.visits; runs = runs-read j run.visits a b c read run.runs; done = run.done; printed = run.printed }
+abbrev pub has-behind : {j : Job} {a b c : RepairWorld} {old new : Option (List ℕ)} {fault : Option RepairFault} → IsWorldRead a b → HasRun j b c old new fault → HasRun j a c old new fault
+has-behind {j} {a} {b} {c} read run = record { visits = run.visits; runs = runs-read j run.visits a b c read run.runs; done = run.done; printed = run.printed; cause = run.cause }
 
--- what holds of a run that didn't come to its end holds of the result that hands its fault on
-pub ended-from : {T E : Type 0} {j : Job} {a b : RepairWorld} {old new : Option (List ℕ)} (r : Result T E) (P : E → Type 0) → IsErrAnd r P → HasRun j a b old new false → HasRun j a b old new (is_ok r)
-ended-from (Ok x) P is run = absurd is
-ended-from (Err e) P is run = run
+-- what holds of a run that a fault ended holds of the result that hands it on
+pub ended-from : {T : Type 0} {j : Job} {a b : RepairWorld} {old new : Option (List ℕ)} {fault : RepairFault} (r : Result T RepairFault) → IsErrAnd r (λ e. e ≡ fault) → HasRun j a b old new (Some fault) → HasRun j a b old new (result_err r)
+ended-from (Ok x) is run = absurd is
+ended-from {T} {j} {a} {b} {old} {new} (Err e) is run = subst (λ (f : RepairFault). HasRun j a b old new (Some f)) (sym is) run
 
--- a reading that didn't come to its end, of which no more is said
-pub ends-read : {j : Job} {a b : RepairWorld} {old new : Option (List ℕ)} → IsWorldRead a b → HasRun j a b old new false
-ends-read read = record { visits = []; runs = read; done = λ end. absurd (false≢true end); printed = λ end. absurd (false≢true end) }
+-- a reading behind which memory was refused
+pub ends-read : {j : Job} {a b : RepairWorld} {old new : Option (List ℕ)} → IsWorldRead a b → HasRun j a b old new (Some (Image NoMemory))
+ends-read read = record { visits = []; runs = read; done = λ end. absurd (true≢false end); printed = λ end. absurd (true≢false end); cause = All-nil IsDone }
 
 -- one block
 pub runs-one : (j : Job) (v : Visit) (a b : RepairWorld) → IsVisited j v a b → VisitsAll j (v ∷ []) a b
 runs-one j v a b here = (a, (b, (world-none a, (here, world-none b))))
 
-abbrev pub has-one : {j : Job} {v : Visit} {a b : RepairWorld} {old new : Option (List ℕ)} → IsVisited j v a b → v.done ≡ true → Appends old new (visit_line j v) → HasRun j a b old new true
+abbrev pub has-one : {j : Job} {v : Visit} {a b : RepairWorld} {old new : Option (List ℕ)} → IsVisited j v a b → v.done ≡ true → Appends old new (visit_line j v) → HasRun j a b old new None
 has-one {j} {v} {a} {b} {old} {new} here done told = record {
   visits = v ∷ [];
   runs = runs-one j v a b here;
-  done = λ ok. All-cons IsDone v [] done (All-nil IsDone);
-  printed = λ ok. subst (Appends old new) (sym (append-nil (visit_line j v))) told;
+  done = λ end. All-cons IsDone v [] done (All-nil IsDone);
+  printed = λ end. subst (Appends old new) (sym (append-nil (visit_line j v))) told;
+  cause = tt;
 }
 
--- and one behind which the run didn't come to its end
-pub ends-one : {j : Job} {v : Visit} {a b : RepairWorld} {old new : Option (List ℕ)} → IsVisited j v a b → HasRun j a b old new false
-ends-one {j} {v} {a} {b} here = record { visits = v ∷ []; runs = runs-one j v a b here; done = λ end. absurd (false≢true end); printed = λ end. absurd (false≢true end) }
+-- and one that ended the run
+ends-one : {j : Job} {v : Visit} {a b : RepairWorld} {old new : Option (List ℕ)} (fault : RepairFault) → IsVisited j v a b → IsEndCause (v ∷ []) fault → HasRun j a b old new (Some fault)
+ends-one {j} {v} {a} {b} fault here cause = record { visits = v ∷ []; runs = runs-one j v a b here; done = λ end. absurd (true≢false end); printed = λ end. absurd (true≢false end); cause = cause }
+
+-- its write failed
+pub ends-unwritten : {j : Job} {v : Visit} {a b : RepairWorld} {old new : Option (List ℕ)} → IsVisited j v a b → IsBlockFound v.mended → v.done ≡ false → HasRun j a b old new (Some (Image DeviceFailed))
+ends-unwritten {j} {v} here found failed = ends-one (Image DeviceFailed) here (record { earlier = []; last = v; are = refl; before = All-nil IsDone; found = found; failed = failed })
+
+-- none did, but its line can't be written
+pub ends-unsaid : {j : Job} {v : Visit} {a b : RepairWorld} {old new : Option (List ℕ)} → IsVisited j v a b → v.done ≡ true → HasRun j a b old new (Some Write)
+ends-unsaid {j} {v} here done = ends-one Write here (All-cons IsDone v [] done (All-nil IsDone))
+
+-- or there is no memory to note it
+pub ends-unnoted : {j : Job} {v : Visit} {a b : RepairWorld} {old new : Option (List ℕ)} → IsVisited j v a b → v.done ≡ true → HasRun j a b old new (Some (Image NoMemory))
+ends-unnoted {j} {v} here done = ends-one (Image NoMemory) here (All-cons IsDone v [] done (All-nil IsDone))
 
 -- ---- the devices stay the same ones
 
@@ -154,7 +188,7 @@ can-same j a b same can = record {
   copy_small = can.copy_small;
 }
 
-pub can-later : {j : Job} {a b : RepairWorld} {old new : Option (List ℕ)} {ok : Bool} → HasRun j a b old new ok → CanRun j a → CanRun j b
+pub can-later : {j : Job} {a b : RepairWorld} {old new : Option (List ℕ)} {fault : Option RepairFault} → HasRun j a b old new fault → CanRun j a → CanRun j b
 can-later {j} {a} {b} run can = can-same j a b (runs-same j run.visits a b run.runs) can
 
 pub can-read : {j : Job} {a b : RepairWorld} → IsWorldRead a b → CanRun j a → CanRun j b
@@ -172,7 +206,7 @@ data-read w d read = record { data_read = read; hash_read = only_read-none w.has
 laid-same : (l : Layout) (a b : RepairWorld) → AreSame a b → IsLaidOn l a.data_dev a.hash_dev → IsLaidOn l b.data_dev b.hash_dev
 laid-same l a b same laid = record { layout = laid.layout; data_room = omega (arith, laid.data_room, same.data_same.size); hash_room = omega (arith, laid.hash_room, same.hash_same.size) }
 
-pub laid-later : {l : Layout} {j : Job} {a b : RepairWorld} {old new : Option (List ℕ)} {ok : Bool} → HasRun j a b old new ok → IsLaidOn l a.data_dev a.hash_dev → IsLaidOn l b.data_dev b.hash_dev
+pub laid-later : {l : Layout} {j : Job} {a b : RepairWorld} {old new : Option (List ℕ)} {fault : Option RepairFault} → HasRun j a b old new fault → IsLaidOn l a.data_dev a.hash_dev → IsLaidOn l b.data_dev b.hash_dev
 laid-later {l} {j} {a} {b} run laid = laid-same l a b (runs-same j run.visits a b run.runs) laid
 
 pub laid-read : {l : Layout} {a b : RepairWorld} → IsWorldRead a b → IsLaidOn l a.data_dev a.hash_dev → IsLaidOn l b.data_dev b.hash_dev

@@ -1,6 +1,7 @@
 -- How often the devices of an image are asked at most, in failed calls too.
-use Rattle.std.specs.Prelude.{◌≡◌, ◌⊎◌, ℕ, ◌+◌, ◌*◌, ◌<◌, ◌≤◌, Bool, false, List, Option, Result, IsErrAnd, length, is_ok}
+use Rattle.std.specs.Prelude.{◌≡◌, ◌⊎◌, ℕ, ◌+◌, ◌*◌, ◌<◌, ◌≤◌, false, List, Option, Result, IsErrAnd, length}
 use Rattle.std.specs.List.{slice_index_or}
+use Rattle.std.specs.Result.{result_err}
 use Rattle.block_device.specs.Device.{Device}
 use Rattle.counted_io.specs.Counted.{CountedRecord}
 use Rattle.tree_shape.specs.Shape.{ShapeRecord, area_blocks, levels, blocks_sectors}
@@ -42,8 +43,8 @@ pub record IsOnePass (s : ShapeRecord) (w w' : RepairWorld) : Type 0 where
   pub hash_copies : AreReadAtMost w.hash_copies (area_block_sectors s) w'.hash_copies
 
 -- an image was repaired in one pass, by the shape that its superblock says
-pub record RepairsInOnePass (plan : Plan) (w w' : RepairWorld) (old new : Option (List ℕ)) (ok : Bool) : Type 0 where
-  pub repairs : Repairs plan false w w' old new ok
+pub record RepairsInOnePass (plan : Plan) (w w' : RepairWorld) (old new : Option (List ℕ)) (fault : Option RepairFault) : Type 0 where
+  pub repairs : Repairs plan false w w' old new fault
   pub within : IsOnePass (shape_of repairs.s) w w'
 
 -- the hash device alone was asked, and only read
@@ -56,4 +57,4 @@ pub record IsHashReadAlone (w w' : RepairWorld) : Type 0 where
 -- so, whether to the end or not; or there was nothing to be gone over
 abbrev pub IsRepairWithin : {W T : Type 0} → (W → Option (List ℕ)) → Plan → RepairWorld → RepairWorld → CountedRecord W → CountedRecord W → Result T RepairFault → Type 0
 IsRepairWithin contents plan w w' old new result =
-    (IsErrAnd result (IsNoImageCause w.data_dev w.hash_dev w'.hash_dev) × IsHashReadAlone w w') ⊎ RepairsInOnePass plan w w' (contents old.inner) (contents new.inner) (is_ok result)
+    (IsErrAnd result (IsNoImageCause w.data_dev w.hash_dev w'.hash_dev) × IsHashReadAlone w w') ⊎ RepairsInOnePass plan w w' (contents old.inner) (contents new.inner) (result_err result)

@@ -1,6 +1,7 @@
 -- A pass of a repair by parity: what is noted of its blocks, and that each that is lost is sought.
-use Rattle.std.specs.Prelude.{◌≡◌, ◌<◌, ◌≤◌, ℕ, Bool, IsTrue, List, ◌++◌, Option, Result, is_ok}
+use Rattle.std.specs.Prelude.{◌≡◌, ◌<◌, ◌≤◌, ℕ, IsTrue, List, ◌++◌, Option, Result, IsNone}
 use Rattle.std.specs.List.{flat_map}
+use Rattle.std.specs.Result.{result_err}
 use Rattle.block_device.specs.Device.{Device}
 use Rattle.counted_io.specs.Counted.{CountedRecord}
 use Rattle.tree_shape.specs.Shape.{levels}
@@ -8,6 +9,7 @@ use Rattle.fec_area.specs.declared.layout.Layout.{Layout}
 use Rattle.verity_format.specs.Blocks.{IsOnlyRead}
 use Rattle.tree_repair.specs.declared.bad.BadBlock.{BadBlock}
 use Rattle.tree_repair.specs.declared.bad.BadBlocks.{BadBlocks}
+use Rattle.tree_repair.specs.declared.fault.RepairFault.{RepairFault}
 use Rattle.tree_repair.specs.Coverage.{IsLookedAt}
 use Rattle.tree_repair.specs.Noting.{bad_blocks, found_of}
 use Rattle.tree_repair.specs.Runs.{HasRun, Job, VisitsAll, Visit}
@@ -19,15 +21,15 @@ abbrev pub bad_of : Job → Visit → List BadBlock
 bad_of j v = bad_blocks (record { height = v.height; index = v.index }) (found_of j.write v.mended)
 
 -- A run of which the blocks were noted that aren't good behind it, where that is asked. It looked at each block that was due.
-pub record HasNoted (j : Job) (Due : ℕ → ℕ → Type 0) (w w' : RepairWorld) (old new : Option (List ℕ)) (a b : BadBlocks) (ok : Bool) : Type 0 where
-  pub run : HasRun j w w' old new ok
+pub record HasNoted (j : Job) (Due : ℕ → ℕ → Type 0) (w w' : RepairWorld) (old new : Option (List ℕ)) (a b : BadBlocks) (fault : Option RepairFault) : Type 0 where
+  pub run : HasRun j w w' old new fault
   pub asked : b.asked ≡ a.asked
-  pub noted : IsTrue ok → IsTrue a.asked → b.blocks.items ≡ a.blocks.items ++ flat_map (bad_of j) run.visits
-  pub looked : IsTrue ok → (h i : ℕ) → Due h i → IsLookedAt j h i run.visits w w'
+  pub noted : IsNone fault → IsTrue a.asked → b.blocks.items ≡ a.blocks.items ++ flat_map (bad_of j) run.visits
+  pub looked : IsNone fault → (h i : ℕ) → Due h i → IsLookedAt j h i run.visits w w'
 
 -- the same by a writer before and behind, and by the result of the run
-abbrev pub Notes : {W T E : Type 0} → (W → Option (List ℕ)) → Job → (ℕ → ℕ → Type 0) → RepairWorld → RepairWorld → BadBlocks → BadBlocks → CountedRecord W → CountedRecord W → Result T E → Type 0
-Notes contents j Due w w' a b old new result = HasNoted j Due w w' (contents old.inner) (contents new.inner) a b (is_ok result)
+abbrev pub Notes : {W T : Type 0} → (W → Option (List ℕ)) → Job → (ℕ → ℕ → Type 0) → RepairWorld → RepairWorld → BadBlocks → BadBlocks → CountedRecord W → CountedRecord W → Result T RepairFault → Type 0
+Notes contents j Due w w' a b old new result = HasNoted j Due w w' (contents old.inner) (contents new.inner) a b (result_err result)
 
 -- All blocks were gone over, from the top down, and each that was lost was then sought by parity, where all that aren't good
 -- count as lost.

@@ -1,5 +1,5 @@
 -- What a repair of an image did.
-use Rattle.std.specs.Prelude.{◌⊎◌, ℕ, Bool, true, false, IsTrue, List, Option}
+use Rattle.std.specs.Prelude.{◌⊎◌, ℕ, Bool, true, false, IsTrue, List, Option, None, Some}
 use Rattle.block_device.specs.Device.{Device}
 use Rattle.counted_io.specs.Counted.{CountedRecord}
 use Rattle.verity_format.specs.Superblock.{SuperRecord, shape_of}
@@ -20,19 +20,19 @@ pub record IsAllowed (write : Bool) (data_dev hash_dev : Device) : Type 0 where
   pub data_writable : IsTrue write → IsTrue data_dev.may_write
   pub hash_writable : IsTrue write → IsTrue hash_dev.may_write
 
--- the superblock was read, and then the blocks of its tree were gone over
-pub record Repairs (plan : Plan) (parity : Bool) (w w' : RepairWorld) (old new : Option (List ℕ)) (ok : Bool) : Type 0 where
+-- the superblock was read, and then the blocks of its tree were gone over, to the end or up to a fault
+pub record Repairs (plan : Plan) (parity : Bool) (w w' : RepairWorld) (old new : Option (List ℕ)) (fault : Option RepairFault) : Type 0 where
   pub s : SuperRecord
   pub images : AreImages w.data_dev w.hash_dev s
-  pub run : HasRun (job_of s plan parity) w w' old new ok
+  pub run : HasRun (job_of s plan parity) w w' old new fault
 
 -- to the end, by a writer before and behind
 abbrev pub IsRepair : {W : Type 0} → (W → Option (List ℕ)) → Plan → RepairWorld → RepairWorld → CountedRecord W → CountedRecord W → Type 0
-IsRepair contents plan w w' old new = Repairs plan false w w' (contents old.inner) (contents new.inner) true
+IsRepair contents plan w w' old new = Repairs plan false w w' (contents old.inner) (contents new.inner) None
 
 -- the same with parity
 abbrev pub IsParityRepair : {W : Type 0} → (W → Option (List ℕ)) → Plan → RepairWorld → RepairWorld → CountedRecord W → CountedRecord W → Type 0
-IsParityRepair contents plan w w' old new = Repairs plan true w w' (contents old.inner) (contents new.inner) true
+IsParityRepair contents plan w w' old new = Repairs plan true w w' (contents old.inner) (contents new.inner) None
 
 -- ---- why there was nothing to be gone over
 
@@ -41,9 +41,9 @@ abbrev pub IsNoImageCause : Device → Device → Device → RepairFault → Typ
 IsNoImageCause data_dev hash_dev hash_dev' (Image fault) = IsSuperblockCause data_dev hash_dev hash_dev' (survey.Image fault)
 IsNoImageCause data_dev hash_dev hash_dev' Write = ⊥
 
--- so, and the devices were only read; or the blocks were gone over, and not to the end
+-- so, and the devices were only read; or the blocks were gone over, up to that fault, which has its cause
 abbrev pub IsUnrepairedBy : Plan → Bool → RepairWorld → RepairWorld → Option (List ℕ) → Option (List ℕ) → RepairFault → Type 0
-IsUnrepairedBy plan parity w w' old new fault = (IsWorldRead w w' × IsNoImageCause w.data_dev w.hash_dev w'.hash_dev fault) ⊎ Repairs plan parity w w' old new false
+IsUnrepairedBy plan parity w w' old new fault = (IsWorldRead w w' × IsNoImageCause w.data_dev w.hash_dev w'.hash_dev fault) ⊎ Repairs plan parity w w' old new (Some fault)
 
 abbrev pub IsUnrepaired : {W : Type 0} → (W → Option (List ℕ)) → Plan → RepairWorld → RepairWorld → CountedRecord W → CountedRecord W → RepairFault → Type 0
 IsUnrepaired contents plan w w' old new fault = IsUnrepairedBy plan false w w' (contents old.inner) (contents new.inner) fault

@@ -1,17 +1,21 @@
 -- A run over the blocks of an image, each with what came of it.
-use Rattle.std.specs.Prelude.{◌≡◌, ℕ, zero, suc, ◌+◌, ◌*◌, ◌/◌, ◌^◌, ◌<◌, ◌≤◌, Bool, true, false, IsTrue, List, [], ◌∷◌, ◌++◌, Option, Result, All, codes, decimal, is_ok}
+use Rattle.std.specs.Prelude.{◌≡◌, ℕ, zero, suc, ◌+◌, ◌*◌, ◌/◌, ◌^◌, ◌<◌, ◌≤◌, Bool, true, false, IsTrue, List, [], ◌∷◌, ◌++◌, Option, Result, All, IfSome, IsNone, codes, decimal}
 use Rattle.std.specs.List.{flat_map}
+use Rattle.std.specs.Result.{result_err}
 use Rattle.std.specs.Io.KnownBytes.{Appends}
 use Rattle.block_device.specs.Device.{Device}
 use Rattle.counted_io.specs.Counted.{CountedRecord}
 use Rattle.tree_shape.specs.Shape.{ShapeRecord, IsShape, ancestor, position}
+use Rattle.verity_format.specs.declared.verifying.VerifyFault.TheVariants.{Device as DeviceFailed, NoMemory}
 use Rattle.verity_format.specs.Blocks.{IsOnlyRead}
 use Rattle.verity_format.specs.Image.{data_sectors, tree_sectors}
 use Rattle.tree_path.specs.Path.{PathRecord, digest_on}
 use Rattle.tree_survey.specs.Surveys.{Tree, IsWay}
+use Rattle.tree_repair.specs.declared.fault.RepairFault.{RepairFault}
+use Rattle.tree_repair.specs.declared.fault.RepairFault.TheVariants.{Image, Write}
 use Rattle.tree_repair.specs.declared.mending.Mended.{Mended}
 use Rattle.tree_repair.specs.declared.mending.Mended.TheVariants as mended
-use Rattle.tree_repair.specs.Mending.{Look, IsBareOf, IsMended}
+use Rattle.tree_repair.specs.Mending.{Look, IsBareOf, IsBlockFound, IsMended}
 use Rattle.tree_repair.specs.Remaking.{IsMadeBeneath, IsNowhereBeneath}
 use Rattle.tree_repair.specs.Sources.{wanted}
 use Rattle.tree_repair.specs.Worlds.{IsWorldRead, RepairWorld}
@@ -169,16 +173,40 @@ visit_line j v = mended_line j v.height v.index v.mended
 abbrev pub IsDone : Visit → Type 0
 IsDone v = v.done ≡ true
 
--- A run, whether it came to its end or not. If so, no write failed, and a line was printed for each block that was mended.
-pub record HasRun (j : Job) (w w' : RepairWorld) (old new : Option (List ℕ)) (ok : Bool) : Type 0 where
+-- No write failed before the last visit; that block's good bytes were at hand, and their write failed.
+pub record EndsAtFailedWrite (visits : List Visit) : Type 0 where
+  pub earlier : List Visit
+  pub last : Visit
+  pub are : visits ≡ earlier ++ (last ∷ [])
+  pub before : All IsDone earlier
+  pub found : IsBlockFound last.mended
+  pub failed : last.done ≡ false
+
+-- Why a run didn't come to its end: a write failed, and it ended with that; or memory was refused or a line can't be written,
+-- and no write had failed. There is no other cause.
+abbrev pub IsEndCause : List Visit → RepairFault → Type 0
+IsEndCause visits (Image DeviceFailed) = EndsAtFailedWrite visits
+IsEndCause visits (Image NoMemory) = All IsDone visits
+IsEndCause visits (Image fault) = ⊥
+IsEndCause visits Write = All IsDone visits
+
+-- A run, and the fault that ended it, if one did. If none, no write failed, and a line was printed for each block that was
+-- mended; else the fault has its cause.
+pub record HasRun (j : Job) (w w' : RepairWorld) (old new : Option (List ℕ)) (fault : Option RepairFault) : Type 0 where
   pub visits : List Visit
   pub runs : VisitsAll j visits w w'
-  pub done : IsTrue ok → All IsDone visits
-  pub printed : IsTrue ok → Appends old new (flat_map (visit_line j) visits)
+  pub done : IsNone fault → All IsDone visits
+  pub printed : IsNone fault → Appends old new (flat_map (visit_line j) visits)
+  pub cause : IfSome fault (IsEndCause visits)
 
 -- the same by a writer before and behind, and by the result of the run
-abbrev pub Ran : {W T E : Type 0} → (W → Option (List ℕ)) → Job → RepairWorld → RepairWorld → CountedRecord W → CountedRecord W → Result T E → Type 0
-Ran contents j w w' old new result = HasRun j w w' (contents old.inner) (contents new.inner) (is_ok result)
+abbrev pub Ran : {W T : Type 0} → (W → Option (List ℕ)) → Job → RepairWorld → RepairWorld → CountedRecord W → CountedRecord W → Result T RepairFault → Type 0
+Ran contents j w w' old new result = HasRun j w w' (contents old.inner) (contents new.inner) (result_err result)
+
+-- a line can't be written only where the writer failed, which it remembers
+abbrev pub IsWriterCause : {W : Type 0} → CountedRecord W → RepairFault → Type 0
+IsWriterCause writer (Image fault) = Unit {0}
+IsWriterCause writer Write = writer.failed ≡ true
 
 -- data and tree lie on the devices, which may be written if anything may
 pub record CanRun (j : Job) (w : RepairWorld) : Type 0 where

@@ -1,5 +1,5 @@
 //! The blocks of a height, gone over row by row.
-ghost use Rattle.std.specs.Prelude.{◌≡◌, ◌<◌, ◌≤◌, ◌-◌, ◌*◌, ◌/◌, IfOk, length, replicate};
+ghost use Rattle.std.specs.Prelude.{◌≡◌, ◌<◌, ◌≤◌, ◌-◌, ◌*◌, ◌/◌, IfErr, IfOk, length, replicate};
 ghost use Rattle.tree_shape.specs.Shape.{levels};
 ghost use Rattle.tree_survey.specs.Surveys.{IsWay};
 ghost use Rattle.tree_path.specs.Steps.{HasReadAtMost};
@@ -7,7 +7,7 @@ ghost use Rattle.tree_repair.specs.Bills.{LeavesWorld, LeavesRow, LeavesVisit, h
 ghost use Rattle.tree_repair.specs.Coverage.{IsBlockAt, IsFromTo, IsOfRow};
 ghost use Rattle.tree_repair.specs.Jobs.{IsRow, job};
 ghost use Rattle.tree_repair.specs.Passes.{Notes};
-ghost use Rattle.tree_repair.specs.Runs.{CanRun};
+ghost use Rattle.tree_repair.specs.Runs.{CanRun, IsWriterCause};
 ghost use Rattle.tree_repair.specs.Tries.{IsWayOr};
 ghost use Rattle.tree_repair.specs.Worlds.{IsWorldRead};
 ghost use Rattle.verity_format.specs.Blocks.{IsOnlyRead};
@@ -40,6 +40,7 @@ pub(crate) fn repair_height<D: BlockDev, H: BlockDev, C: BlockDev, W: Write>(
     requires few { height ≤ 14 }
     requires room { 65536 ≤ length memory.old }
     ensures notes { Notes W.contents (job repair.now) (IsFromTo height 0 repair.now.shape.blocks) image.old image.new bad.old bad.new writer.old writer.new result }
+    ensures told { IfErr result (IsWriterCause writer.new) }
     ensures asked { LeavesWorld (height_over repair.now.shape height repair.now.shape.blocks) nothing_due image.old image.new }
 {
     let blocks = repair.shape.blocks();
@@ -74,6 +75,7 @@ fn repair_row<D: BlockDev, H: BlockDev, C: BlockDev, W: Write>(
     requires some { row.first < repair.now.shape.blocks }
     requires room { 65536 ≤ length memory.old }
     ensures notes { Notes W.contents (job repair.now) (IsOfRow row) image.old image.new bad.old bad.new writer.old writer.new result }
+    ensures told { IfErr result (IsWriterCause writer.new) }
     ensures asked { LeavesRow height_over repair.now.shape row image.old image.new }
 {
     let found = way_to(repair, image, row.first, row.height)?;
@@ -98,6 +100,7 @@ fn repair_unless_good<D: BlockDev, H: BlockDev, C: BlockDev, W: Write>(
     requires way { IsWay (job repair.now).tree row.first row.height path.now }
     requires room { 65536 ≤ length memory.old }
     ensures notes { Notes W.contents (job repair.now) (IsOfRow row) image.old image.new bad.old bad.new writer.old writer.new result }
+    ensures told { IfErr result (IsWriterCause writer.new) }
     ensures asked { LeavesRow rows_over repair.now.shape row image.old image.new }
 {
     if is_good_row(path, repair, row, image, memory) {
@@ -168,6 +171,7 @@ fn repair_blocks<D: BlockDev, H: BlockDev, C: BlockDev, W: Write>(
     requires way { IsWay (job repair.now).tree row.first row.height path.now }
     requires room { 65536 ≤ length memory.old }
     ensures notes { Notes W.contents (job repair.now) (IsOfRow row) image.old image.new bad.old bad.new writer.old writer.new result }
+    ensures told { IfErr result (IsWriterCause writer.new) }
     ensures asked { LeavesRow visits_over repair.now.shape row image.old image.new }
 {
     let Row {
@@ -200,6 +204,7 @@ fn repair_block<D: BlockDev, H: BlockDev, C: BlockDev, W: Write>(
     requires way { IsWay (job repair.now).tree place.index place.height path.now }
     requires room { 65536 ≤ length memory.old }
     ensures notes { Notes W.contents (job repair.now) (IsBlockAt repair.now.shape place) image.old image.new bad.old bad.new writer.old writer.new result }
+    ensures told { IfErr result (IsWriterCause writer.new) }
     ensures asked { LeavesVisit repair.now.shape place.height place.index image.old image.new }
 {
     let mended = visit(path, repair, place, image, memory)?;

@@ -1,5 +1,5 @@
 //! Blocks brought back by parity.
-ghost use Rattle.std.specs.Prelude.{◌≡◌, ◌<◌, ◌≤◌, ◌+◌, ◌/◌, ◌++◌, false, IfOk, IsTrue, OnErr, OnOk, length};
+ghost use Rattle.std.specs.Prelude.{◌≡◌, ◌<◌, ◌≤◌, ◌+◌, ◌/◌, ◌++◌, false, IfErr, IfOk, IsTrue, OnErr, OnOk, length};
 ghost use Rattle.block_device.specs.Device.{IsInside};
 ghost use Rattle.fec_area.specs.Layouts.{IsLaidOn, IsLayout, covered_blocks};
 ghost use Rattle.tree_shape.specs.Digests.{digest};
@@ -9,7 +9,7 @@ ghost use Rattle.verity_format.specs.Blocks.{IsOnlyRead};
 ghost use Rattle.tree_repair.specs.Jobs.{AreGoodAt, job};
 ghost use Rattle.tree_repair.specs.Mending.{IsBlockReplaced};
 ghost use Rattle.tree_repair.specs.Parity.{FailsToPlace, IsBack, IsNotBack, IsPlace, IsPlaced, IsPutOr, end_at};
-ghost use Rattle.tree_repair.specs.Runs.{CanRun, Ran, sector_at, size_at};
+ghost use Rattle.tree_repair.specs.Runs.{CanRun, IsWriterCause, Ran, sector_at, size_at};
 ghost use Rattle.tree_repair.specs.Sources.{due};
 ghost use Rattle.tree_repair.specs.Tries.{AreCovered, HasSought, IsCoveredOr, IsMadeOrVain, IsSought, IsTried, listed_number, trial};
 ghost use Rattle.tree_repair.specs.Worlds.{IsWorldRead};
@@ -52,6 +52,7 @@ pub(crate) fn restore_bad<D: BlockDev, H: BlockDev, C: BlockDev, P: BlockDev, W:
     requires laid { IsLaidOn layout.now image.old.data_dev image.old.hash_dev }
     ensures parity { IsOnlyRead (P.state parity_dev.old) (P.state parity_dev.new) }
     ensures run { Ran W.contents (job repair.now) image.old image.new writer.old writer.new result }
+    ensures told { IfErr result (IsWriterCause writer.new) }
     ensures sought { OnOk result (HasSought (job repair.now) layout.now blocks.now image.old image.new (P.state parity_dev.old) (P.state parity_dev.new)) }
 {
     let lost = covered_of(repair, layout, blocks)?;
@@ -142,6 +143,7 @@ fn restore_block_at<D: BlockDev, H: BlockDev, C: BlockDev, P: BlockDev, W: Write
     requires laid { IsLaidOn losses.now.layout image.old.data_dev image.old.hash_dev }
     ensures parity { IsOnlyRead (P.state parity_dev.old) (P.state parity_dev.new) }
     ensures run { Ran W.contents (job repair.now) image.old image.new writer.old writer.new result }
+    ensures told { IfErr result (IsWriterCause writer.new) }
     ensures sought { IfOk result (IsSought (job repair.now) bad.now (trial losses.now.layout losses.now.lost.items image.old image.new (P.state parity_dev.old) (P.state parity_dev.new))) }
 {
     if bad.found {
@@ -175,6 +177,7 @@ fn restore_along<D: BlockDev, H: BlockDev, C: BlockDev, P: BlockDev, W: Write>(
     requires way { IsWay (job repair.now).tree place.index place.height path.now }
     ensures parity { IsOnlyRead (P.state parity_dev.old) (P.state parity_dev.new) }
     ensures run { Ran W.contents (job repair.now) image.old image.new writer.old writer.new result }
+    ensures told { IfErr result (IsWriterCause writer.new) }
     ensures tried { IfOk result (IsTried (job repair.now) place.height place.index (trial losses.now.layout losses.now.lost.items image.old image.new (P.state parity_dev.old) (P.state parity_dev.new))) }
 {
     let size = block_size(&repair.shape, place.height);
@@ -273,6 +276,7 @@ fn put_restored<D: BlockDev, H: BlockDev, C: BlockDev, W: Write>(
     requires bytes { length bytes.now ≡ size_at repair.now.shape place.height }
     requires size { length block.old ≡ size_at repair.now.shape place.height }
     ensures run { Ran W.contents (job repair.now) image.old image.new writer.old writer.new result }
+    ensures told { IfErr result (IsWriterCause writer.new) }
     ensures placed { IfOk result (IsPlaced (job repair.now) place.height place.index bytes.now image.old image.new) }
 {
     let back = put_block(path, repair, place, image, bytes, block)?;

@@ -5,7 +5,7 @@ ghost use Rattle.verity_format.specs.Blocks.{IsOnlyRead};
 ghost use Rattle.tree_repair.specs.Jobs.{job};
 ghost use Rattle.tree_repair.specs.Passes.{EndsInPass, IsPass};
 ghost use Rattle.tree_repair.specs.Repairs.{IsAllowed, IsParityRepair, IsParityUnrepaired};
-ghost use Rattle.tree_repair.specs.Runs.{CanRun, Ran};
+ghost use Rattle.tree_repair.specs.Runs.{CanRun, IsWriterCause, Ran};
 
 use crate::bad::BadBlocks;
 use crate::fault::RepairFault;
@@ -38,6 +38,7 @@ pub fn repair_with_parity<D: BlockDev, H: BlockDev, C: BlockDev, P: BlockDev, W:
     ensures parity { IsOnlyRead (P.state parity_dev.old) (P.state parity_dev.new) }
     ensures ok { OnOk result (IsParityRepair W.contents plan image.old image.new writer.old writer.new) }
     ensures err { IfErr result (IsParityUnrepaired W.contents plan image.old image.new writer.old writer.new) }
+    ensures told { IfErr result (IsWriterCause writer.new) }
 {
     let superblock = superblock_of(image)?;
     let repair = repair_of(alloc, &superblock, &plan, true);
@@ -58,6 +59,7 @@ fn run_passes<D: BlockDev, H: BlockDev, C: BlockDev, P: BlockDev, W: Write>(
     requires laid { IsLaidOn layout.now image.old.data_dev image.old.hash_dev }
     ensures parity { IsOnlyRead (P.state parity_dev.old) (P.state parity_dev.new) }
     ensures run { Ran W.contents (job repair.now) image.old image.new writer.old writer.new result }
+    ensures told { IfErr result (IsWriterCause writer.new) }
     ensures asks { OnOk result (EndsInPass (job repair.now) layout.now image.old image.new (P.state parity_dev.old) (P.state parity_dev.new)) }
 {
     let mut left = layout.hash_blocks;
@@ -82,6 +84,7 @@ fn run_pass<D: BlockDev, H: BlockDev, C: BlockDev, P: BlockDev, W: Write>(
     requires laid { IsLaidOn layout.now image.old.data_dev image.old.hash_dev }
     ensures parity { IsOnlyRead (P.state parity_dev.old) (P.state parity_dev.new) }
     ensures run { Ran W.contents (job repair.now) image.old image.new writer.old writer.new result }
+    ensures told { IfErr result (IsWriterCause writer.new) }
     ensures pass { OnOk result (IsPass (job repair.now) layout.now image.old image.new (P.state parity_dev.old) (P.state parity_dev.new)) }
 {
     let mut bad = BadBlocks::new(repair.alloc, true);

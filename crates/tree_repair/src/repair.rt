@@ -11,7 +11,7 @@ ghost use Rattle.tree_repair.specs.Coverage.{IsFromUp};
 ghost use Rattle.tree_repair.specs.Jobs.{job};
 ghost use Rattle.tree_repair.specs.Passes.{Notes};
 ghost use Rattle.tree_repair.specs.Repairs.{IsAllowed, IsNoImageCause, IsRepair, IsUnrepaired, job_of};
-ghost use Rattle.tree_repair.specs.Runs.{CanRun};
+ghost use Rattle.tree_repair.specs.Runs.{CanRun, IsWriterCause};
 ghost use Rattle.tree_repair.specs.Worlds.{IsWorldRead};
 
 use crate::bad::BadBlocks;
@@ -47,6 +47,7 @@ pub fn repair_image<D: BlockDev, H: BlockDev, C: BlockDev, W: Write>(
     requires allowed { IsAllowed plan.write image.old.data_dev image.old.hash_dev }
     ensures ok { OnOk result (IsRepair W.contents plan image.old image.new writer.old writer.new) }
     ensures err { IfErr result (IsUnrepaired W.contents plan image.old image.new writer.old writer.new) }
+    ensures told { IfErr result (IsWriterCause writer.new) }
     ensures within { IsRepairWithin W.contents plan image.old image.new writer.old writer.new result }
 {
     let superblock = superblock_of(image)?;
@@ -125,6 +126,7 @@ pub(crate) fn repair_heights<D: BlockDev, H: BlockDev, C: BlockDev, W: Write>(
 ) -> Result<(), RepairFault>
     requires { CanRun (job repair.now) image.old }
     ensures notes { Notes W.contents (job repair.now) (IsFromUp repair.now.shape 0) image.old image.new bad.old bad.new writer.old writer.new result }
+    ensures told { IfErr result (IsWriterCause writer.new) }
     ensures asked { LeavesWorld (pass_over repair.now.shape) nothing_due image.old image.new }
 {
     let mut room = zeros(repair.alloc, ROOM)?;

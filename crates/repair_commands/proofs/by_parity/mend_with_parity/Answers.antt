@@ -1,4 +1,4 @@
-use Rattle.std.proofs.Common.{refl, inl, inr, map, true, subst, sym}
+use Rattle.std.proofs.Common.{refl, inl, inr, map, true, subst, sym, None}
 use Rattle.tree_repair.specs.declared.fault.RepairFault.TheVariants.{Image}
 use Rattle.tree_repair.specs.Repairs.{Repairs}
 use Rattle.tree_repair.specs.Worlds.{RepairWorld, repair_world}
@@ -18,7 +18,7 @@ returns-in_err-sync_both-clause-err g c =
     err-from c.from_residual-in_err-sync_both.result _ (Image DeviceFailed) c.from_residual-in_err-sync_both.ensures.1
     (record {
       mid = a;
-      run = inr (subst (λ (w : RepairWorld). Repairs c.args.plan true c.args.image.now w (g.W.Write.contents c.args.writer.now.inner) (g.W.Write.contents c.repair_with_parity.new.writer.inner) true) (sym c.image.view_is) c.in_ok-repair_with_parity.ensures.ok);
+      run = inr (subst (λ (w : RepairWorld). Repairs c.args.plan true c.args.image.now w (g.W.Write.contents c.args.writer.now.inner) (g.W.Write.contents c.repair_with_parity.new.writer.inner) None) (sym c.image.view_is) c.in_ok-repair_with_parity.ensures.ok, refl);
       kept = c.sync_both.ensures.kept;
       data_copies_are = refl;
       hash_copies_are = refl;
@@ -30,7 +30,7 @@ returns-clause-ok g c =
     let a = repair_world (g.D.BlockDev.state i.data) (g.H.BlockDev.state i.hash) (map g.C.BlockDev.state i.data_copies.items) (map g.C.BlockDev.state i.hash_copies.items) in
     record {
       mid = a;
-      repair = subst (λ (w : RepairWorld). Repairs c.args.plan true c.args.image.now w (g.W.Write.contents c.args.writer.now.inner) (g.W.Write.contents c.repair_with_parity.new.writer.inner) true) (sym c.image.view_is) c.in_ok-repair_with_parity.ensures.ok;
+      repair = subst (λ (w : RepairWorld). Repairs c.args.plan true c.args.image.now w (g.W.Write.contents c.args.writer.now.inner) (g.W.Write.contents c.repair_with_parity.new.writer.inner) None) (sym c.image.view_is) c.in_ok-repair_with_parity.ensures.ok;
       kept = c.sync_both.ensures.kept;
       data_copies_are = refl;
       hash_copies_are = refl;

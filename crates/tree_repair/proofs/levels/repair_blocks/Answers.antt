@@ -58,7 +58,7 @@ places-preserved g c =
     }
 
 pub returns-in_err-repair_block-clause-notes : goal.returns-in_err-repair_block-clause-notes
-returns-in_err-repair_block-clause-notes g c = noted-from c.from_residual.result _ c.from_residual.ensures.1 (noted-ends c.places.invariant.run c.in_err-repair_block.ensures.notes)
+returns-in_err-repair_block-clause-notes g c = noted-from c.from_residual.result c.from_residual.ensures.1 (noted-ends c.places.invariant.run c.in_err-repair_block.ensures.notes)
 
 pub returns-clause-notes : goal.returns-clause-notes
 returns-clause-notes g c = noted-fewer c.places.invariant.run (λ h i due. (due, omega (arith, due.1.1, c.places-test.false)))

@@ -1,4 +1,4 @@
-use Rattle.std.proofs.Common.{◌≡◌, ◌<◌, ◌≤◌, ◌+◌, ◌-◌, ◌%◌, ◌^◌, true}
+use Rattle.std.proofs.Common.{◌≡◌, ◌<◌, ◌≤◌, ◌+◌, ◌-◌, ◌%◌, ◌^◌, None}
 use Rattle.tree_shape.specs.Shape.{per_block}
 use Rattle.tree_repair.specs.Bills.{LeavesWorld, visits_over}
 use Rattle.tree_repair.specs.Coverage.{IsOfRowBefore}
@@ -12,7 +12,7 @@ invariant-places g l = record {
   begins : l.index < l.fn.row.end → l.index % per_block l.fn.repair.shape ^ l.fn.row.height ≡ 0;
   asked : LeavesWorld (visits_over l.fn.repair.shape l.fn.row.height (l.fn.repair.shape.blocks - l.fn.row.first)) (visits_over l.fn.repair.shape l.fn.row.height (l.fn.repair.shape.blocks - l.index)) l.fn.image l.image;
   enough : l.fn.repair.shape.blocks - l.fn.row.first - per_block l.fn.repair.shape ^ (l.fn.row.height + 1) ≤ l.fn.repair.shape.blocks - l.index;
-  run : HasNoted (job l.fn.repair) (IsOfRowBefore l.fn.row l.index) l.fn.image l.image (g.W.Write.contents l.fn.writer.inner) (g.W.Write.contents l.writer.inner) l.fn.bad l.bad true;
+  run : HasNoted (job l.fn.repair) (IsOfRowBefore l.fn.row l.index) l.fn.image l.image (g.W.Write.contents l.fn.writer.inner) (g.W.Write.contents l.writer.inner) l.fn.bad l.bad None;
 }
 
 abbrev pub decreases-places : goal.decreases-places

@@ -69,7 +69,7 @@ rows-smaller g c =
     omega (arith, c.rows-test.true, c.blocks-blocks.ensures.value, c.span-width.ensures, c.min-end.ensures, high, c.requires.can.valid.some)
 
 pub returns-in_err-repair_row-clause-notes : goal.returns-in_err-repair_row-clause-notes
-returns-in_err-repair_row-clause-notes g c = noted-from c.from_residual.result _ c.from_residual.ensures.1 (noted-ends c.rows.invariant.run c.in_err-repair_row.ensures.notes)
+returns-in_err-repair_row-clause-notes g c = noted-from c.from_residual.result c.from_residual.ensures.1 (noted-ends c.rows.invariant.run c.in_err-repair_row.ensures.notes)
 
 pub returns-clause-notes : goal.returns-clause-notes
 returns-clause-notes g c = noted-fewer c.rows.invariant.run (λ h i due. (due.0, (due.1.0, omega (arith, due.1.1, c.rows-test.false, c.blocks-blocks.ensures.value))))

@@ -8,7 +8,7 @@ use Rattle.tree_repair.proofs.RunLemmas.{can-read, ends-read}
 use Rattle.tree_repair.proofs.levels.repair_row.Goals as goal
 
 pub returns-in_err-found-clause-notes : goal.returns-in_err-found-clause-notes
-returns-in_err-found-clause-notes g c = noted-from c.from_residual.result _ c.from_residual.ensures.1 (noted-not (ends-read c.way_to.ensures.read) refl)
+returns-in_err-found-clause-notes g c = noted-from c.from_residual.result c.from_residual.ensures.1 (noted-not (ends-read c.way_to.ensures.read) refl)
 
 pub returns-in-None-clause-notes : goal.returns-in-None-clause-notes
 returns-in-None-clause-notes g c =

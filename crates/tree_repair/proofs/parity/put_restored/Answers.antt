@@ -1,9 +1,9 @@
 use Rattle.std.proofs.Common.{refl}
-use Rattle.tree_repair.proofs.RunLemmas.{ended-from, ends-one, has-one, has-read}
+use Rattle.tree_repair.proofs.RunLemmas.{ended-from, ends-unsaid, ends-unwritten, has-one, has-read}
 use Rattle.tree_repair.proofs.parity.put_restored.Goals as goal
 
 pub returns-in_err-back-clause-run : goal.returns-in_err-back-clause-run
-returns-in_err-back-clause-run g c = ended-from c.from_residual.result _ c.from_residual.ensures.1 (ends-one c.in_err-back.ensures.err)
+returns-in_err-back-clause-run g c = ended-from c.from_residual.result c.from_residual.ensures.1 (ends-unwritten c.in_err-back.ensures.err tt refl)
 
 pub returns-then-not-back-clause-run : goal.returns-then-not-back-clause-run
 returns-then-not-back-clause-run g c = has-read (rw c.if-not-back.true at c.in_ok-back.ensures.ok).0
@@ -13,7 +13,7 @@ returns-then-not-back-clause-placed g c = rw c.if-not-back.true at c.in_ok-back.
 
 pub returns-in_err-say_mended-clause-run : goal.returns-in_err-say_mended-clause-run
 returns-in_err-say_mended-clause-run g c =
-    ended-from c.from_residual-in_err-say_mended.result _ c.from_residual-in_err-say_mended.ensures.1 (ends-one (rw c.if-not-back.false at c.in_ok-back.ensures.ok))
+    ended-from c.from_residual-in_err-say_mended.result c.from_residual-in_err-say_mended.ensures.1 (ends-unsaid (rw c.if-not-back.false at c.in_ok-back.ensures.ok) refl)
 
 pub returns-clause-placed : goal.returns-clause-placed
 returns-clause-placed g c = rw c.if-not-back.false at c.in_ok-back.ensures.ok

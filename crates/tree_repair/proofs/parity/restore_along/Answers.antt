@@ -10,13 +10,13 @@ pub returns-in_err-made-clause-parity : goal.returns-in_err-made-clause-parity
 returns-in_err-made-clause-parity g c = only_read-none (g.P.BlockDev.state c.args.parity_dev.now)
 
 pub returns-in_err-made-clause-run : goal.returns-in_err-made-clause-run
-returns-in_err-made-clause-run g c = ended-from c.from_residual.result _ c.from_residual.ensures.1 (ends-read (world-none c.args.image.now))
+returns-in_err-made-clause-run g c = ended-from c.from_residual.result c.from_residual.ensures.1 (ends-read (world-none c.args.image.now))
 
 pub returns-in_err-read-clause-parity : goal.returns-in_err-read-clause-parity
 returns-in_err-read-clause-parity g c = only_read-none (g.P.BlockDev.state c.args.parity_dev.now)
 
 pub returns-in_err-read-clause-run : goal.returns-in_err-read-clause-run
-returns-in_err-read-clause-run g c = ended-from c.from_residual-in_err-read.result _ c.from_residual-in_err-read.ensures.1 (ends-read (world-none c.args.image.now))
+returns-in_err-read-clause-run g c = ended-from c.from_residual-in_err-read.result c.from_residual-in_err-read.ensures.1 (ends-read (world-none c.args.image.now))
 
 pub make_again-requires-clause-size : goal.make_again-requires-clause-size
 make_again-requires-clause-size g c =
@@ -26,7 +26,7 @@ pub returns-in_err-back-clause-parity : goal.returns-in_err-back-clause-parity
 returns-in_err-back-clause-parity g c = c.make_again.ensures.parity
 
 pub returns-in_err-back-clause-run : goal.returns-in_err-back-clause-run
-returns-in_err-back-clause-run g c = ended-from c.from_residual-in_err-back.result _ c.from_residual-in_err-back.ensures.1 (ends-read c.make_again.ensures.read)
+returns-in_err-back-clause-run g c = ended-from c.from_residual-in_err-back.result c.from_residual-in_err-back.ensures.1 (ends-read c.make_again.ensures.read)
 
 pub returns-then-not-back-clause-parity : goal.returns-then-not-back-clause-parity
 returns-then-not-back-clause-parity g c = c.make_again.ensures.parity

@@ -11,7 +11,7 @@ pub returns-in_err-lost-clause-parity : goal.returns-in_err-lost-clause-parity
 returns-in_err-lost-clause-parity g c = only_read-none (g.P.BlockDev.state c.args.parity_dev.now)
 
 pub returns-in_err-lost-clause-run : goal.returns-in_err-lost-clause-run
-returns-in_err-lost-clause-run g c = ended-from c.from_residual.result _ c.from_residual.ensures.1 (ends-read (world-none c.args.image.now))
+returns-in_err-lost-clause-run g c = ended-from c.from_residual.result c.from_residual.ensures.1 (ends-read (world-none c.args.image.now))
 
 pub each-init : goal.each-init
 each-init g c = record { sought = (refl, refl); parity = only_read-none (g.P.BlockDev.state c.args.parity_dev.now); run = has-none }
@@ -34,7 +34,7 @@ pub returns-in_err-back-clause-parity : goal.returns-in_err-back-clause-parity
 returns-in_err-back-clause-parity g c = only_read-then c.each.invariant.parity c.restore_block_at.ensures.parity
 
 pub returns-in_err-back-clause-run : goal.returns-in_err-back-clause-run
-returns-in_err-back-clause-run g c = ended-from c.from_residual-in_err-back.result _ c.from_residual-in_err-back.ensures.1 (has-then c.each.invariant.run c.in_err-back.ensures.run)
+returns-in_err-back-clause-run g c = ended-from c.from_residual-in_err-back.result c.from_residual-in_err-back.ensures.1 (has-then c.each.invariant.run c.in_err-back.ensures.run)
 
 pub returns-clause-parity : goal.returns-clause-parity
 returns-clause-parity g c = c.each.invariant.parity

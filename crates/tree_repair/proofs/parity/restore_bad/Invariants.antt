@@ -1,4 +1,4 @@
-use Rattle.std.proofs.Common.{take, true}
+use Rattle.std.proofs.Common.{take, None}
 use Rattle.verity_format.specs.Blocks.{IsOnlyRead}
 use Rattle.tree_repair.specs.Jobs.{job}
 use Rattle.tree_repair.specs.Runs.{HasRun}
@@ -10,5 +10,5 @@ abbrev pub invariant-each : goal.invariant-each
 invariant-each g l = record {
   parity : IsOnlyRead (g.P.BlockDev.state l.fn.parity_dev) (g.P.BlockDev.state l.parity_dev);
   sought : AreSought (job l.fn.repair) l.losses.layout l.losses.lost.items (take l.bad-index l.blocks) l.fn.image l.image (g.P.BlockDev.state l.fn.parity_dev) (g.P.BlockDev.state l.parity_dev);
-  run : HasRun (job l.fn.repair) l.fn.image l.image (g.W.Write.contents l.fn.writer.inner) (g.W.Write.contents l.writer.inner) true;
+  run : HasRun (job l.fn.repair) l.fn.image l.image (g.W.Write.contents l.fn.writer.inner) (g.W.Write.contents l.writer.inner) None;
 }

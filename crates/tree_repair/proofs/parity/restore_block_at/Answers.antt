@@ -28,7 +28,7 @@ pub returns-in_err-found-clause-parity : goal.returns-in_err-found-clause-parity
 returns-in_err-found-clause-parity g c = only_read-none (g.P.BlockDev.state c.args.parity_dev.now)
 
 pub returns-in_err-found-clause-run : goal.returns-in_err-found-clause-run
-returns-in_err-found-clause-run g c = ended-from c.from_residual.result _ c.from_residual.ensures.1 (ends-read c.way_to.ensures.read)
+returns-in_err-found-clause-run g c = ended-from c.from_residual.result c.from_residual.ensures.1 (ends-read c.way_to.ensures.read)
 
 pub returns-in-None-clause-parity : goal.returns-in-None-clause-parity
 returns-in-None-clause-parity g c = only_read-none (g.P.BlockDev.state c.args.parity_dev.now)

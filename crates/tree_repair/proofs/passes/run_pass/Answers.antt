@@ -7,7 +7,7 @@ pub returns-in_err-repair_heights-clause-parity : goal.returns-in_err-repair_hei
 returns-in_err-repair_heights-clause-parity g c = only_read-none (g.P.BlockDev.state c.args.parity_dev.now)
 
 pub returns-in_err-repair_heights-clause-run : goal.returns-in_err-repair_heights-clause-run
-returns-in_err-repair_heights-clause-run g c = ended-from c.from_residual.result _ c.from_residual.ensures.1 c.in_err-repair_heights.ensures.notes.run
+returns-in_err-repair_heights-clause-run g c = ended-from c.from_residual.result c.from_residual.ensures.1 c.in_err-repair_heights.ensures.notes.run
 
 pub restore_bad-requires-clause-can : goal.restore_bad-requires-clause-can
 restore_bad-requires-clause-can g c = can-later c.in_ok-repair_heights.ensures.notes.run c.requires.can
@@ -20,7 +20,7 @@ returns-in_err-tree-clause-parity g c = c.restore_bad.ensures.parity
 
 pub returns-in_err-tree-clause-run : goal.returns-in_err-tree-clause-run
 returns-in_err-tree-clause-run g c =
-    ended-from c.from_residual-in_err-tree.result _ c.from_residual-in_err-tree.ensures.1 (has-then c.in_ok-repair_heights.ensures.notes.run c.in_err-tree.ensures.run)
+    ended-from c.from_residual-in_err-tree.result c.from_residual-in_err-tree.ensures.1 (has-then c.in_ok-repair_heights.ensures.notes.run c.in_err-tree.ensures.run)
 
 pub returns-clause-parity : goal.returns-clause-parity
 returns-clause-parity g c = c.restore_bad.ensures.parity

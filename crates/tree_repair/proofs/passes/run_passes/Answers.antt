@@ -7,7 +7,7 @@ pub returns-in_err-again-clause-parity : goal.returns-in_err-again-clause-parity
 returns-in_err-again-clause-parity g c = c.run_pass.ensures.parity
 
 pub returns-in_err-again-clause-run : goal.returns-in_err-again-clause-run
-returns-in_err-again-clause-run g c = ended-from c.from_residual.result _ c.from_residual.ensures.1 c.in_err-again.ensures.run
+returns-in_err-again-clause-run g c = ended-from c.from_residual.result c.from_residual.ensures.1 c.in_err-again.ensures.run
 
 pub passes-init : goal.passes-init
 passes-init g c = record { parity = c.run_pass.ensures.parity; run = c.in_ok-again.ensures.run; asks = pass-first c.in_ok-again.ensures.pass }
@@ -29,7 +29,7 @@ pub returns-in_err-again-2-clause-parity : goal.returns-in_err-again-2-clause-pa
 returns-in_err-again-2-clause-parity g c = only_read-then c.passes.invariant.parity c.run_pass-in-passes.ensures.parity
 
 pub returns-in_err-again-2-clause-run : goal.returns-in_err-again-2-clause-run
-returns-in_err-again-2-clause-run g c = ended-from c.from_residual-in_err-again-2.result _ c.from_residual-in_err-again-2.ensures.1 (has-then c.passes.invariant.run c.in_err-again-2.ensures.run)
+returns-in_err-again-2-clause-run g c = ended-from c.from_residual-in_err-again-2.result c.from_residual-in_err-again-2.ensures.1 (has-then c.passes.invariant.run c.in_err-again-2.ensures.run)
 
 pub returns-after-passes-clause-parity : goal.returns-after-passes-clause-parity
 returns-after-passes-clause-parity g c = c.passes.invariant.parity

@@ -1,4 +1,4 @@
-use Rattle.std.proofs.Common.{true}
+use Rattle.std.proofs.Common.{None}
 use Rattle.verity_format.specs.Blocks.{IsOnlyRead}
 use Rattle.tree_repair.specs.Jobs.{job}
 use Rattle.tree_repair.specs.Passes.{EndsInPass}
@@ -9,7 +9,7 @@ use Rattle.tree_repair.proofs.passes.run_passes.Given as goal
 abbrev pub invariant-passes : goal.invariant-passes
 invariant-passes g l = record {
   parity : IsOnlyRead (g.P.BlockDev.state l.fn.parity_dev) (g.P.BlockDev.state l.parity_dev);
-  run : HasRun (job l.fn.repair) l.fn.image l.image (g.W.Write.contents l.fn.writer.inner) (g.W.Write.contents l.writer.inner) true;
+  run : HasRun (job l.fn.repair) l.fn.image l.image (g.W.Write.contents l.fn.writer.inner) (g.W.Write.contents l.writer.inner) None;
   asks : EndsInPass (job l.fn.repair) l.fn.layout l.fn.image l.image (g.P.BlockDev.state l.fn.parity_dev) (g.P.BlockDev.state l.parity_dev);
 }
 

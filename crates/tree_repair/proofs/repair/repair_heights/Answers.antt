@@ -11,7 +11,7 @@ use Rattle.tree_repair.proofs.RunLemmas.{can-later, ends-read, world-none}
 use Rattle.tree_repair.proofs.repair.repair_heights.Goals as goal
 
 pub returns-in_err-room-clause-notes : goal.returns-in_err-room-clause-notes
-returns-in_err-room-clause-notes g c = noted-from c.from_residual.result _ c.from_residual.ensures.1 (noted-not (ends-read (world-none c.args.image.now)) refl)
+returns-in_err-room-clause-notes g c = noted-from c.from_residual.result c.from_residual.ensures.1 (noted-not (ends-read (world-none c.args.image.now)) refl)
 
 pub heights-init : goal.heights-init
 heights-init g c = record {
@@ -50,7 +50,7 @@ heights-preserved g c = record {
 
 pub returns-in_err-repair_height-clause-notes : goal.returns-in_err-repair_height-clause-notes
 returns-in_err-repair_height-clause-notes g c =
-    noted-from c.from_residual-in_err-repair_height.result _ c.from_residual-in_err-repair_height.ensures.1 (noted-ends c.heights.invariant.run c.in_err-repair_height.ensures.notes)
+    noted-from c.from_residual-in_err-repair_height.result c.from_residual-in_err-repair_height.ensures.1 (noted-ends c.heights.invariant.run c.in_err-repair_height.ensures.notes)
 
 pub returns-clause-notes : goal.returns-clause-notes
 returns-clause-notes g c = noted-fewer c.heights.invariant.run (λ h i due. (omega (arith, c.heights-test.false), due.1))

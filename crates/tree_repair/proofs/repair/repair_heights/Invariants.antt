@@ -1,4 +1,4 @@
-use Rattle.std.proofs.Common.{◌≤◌, ◌+◌, true}
+use Rattle.std.proofs.Common.{◌≤◌, ◌+◌, None}
 use Rattle.tree_shape.specs.Shape.{levels}
 use Rattle.tree_repair.specs.Bills.{LeavesWorld}
 use Rattle.tree_repair.proofs.HeightLemmas.{heights_over}
@@ -11,7 +11,7 @@ abbrev pub invariant-heights : goal.invariant-heights
 invariant-heights g l = record {
   low : l.height ≤ levels l.fn.repair.shape + 1;
   asked : LeavesWorld (heights_over l.fn.repair.shape (levels l.fn.repair.shape + 1)) (heights_over l.fn.repair.shape l.height) l.fn.image l.image;
-  run : HasNoted (job l.fn.repair) (IsFromUp l.fn.repair.shape l.height) l.fn.image l.image (g.W.Write.contents l.fn.writer.inner) (g.W.Write.contents l.writer.inner) l.fn.bad l.bad true;
+  run : HasNoted (job l.fn.repair) (IsFromUp l.fn.repair.shape l.height) l.fn.image l.image (g.W.Write.contents l.fn.writer.inner) (g.W.Write.contents l.writer.inner) l.fn.bad l.bad None;
 }
 
 abbrev pub decreases-heights : goal.decreases-heights

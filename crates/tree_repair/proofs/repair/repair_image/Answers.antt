@@ -1,5 +1,5 @@
 use Rattle.std.proofs.Common.{ap, inl, inr, false, subst}
-use Rattle.std.specs.Prelude.{is_ok}
+use Rattle.std.specs.Result.{result_err}
 use Rattle.tree_shape.specs.Shape.{ShapeRecord}
 use Rattle.verity_format.specs.Superblock.{shape_of}
 use Rattle.tree_repair.specs.Bills.{LeavesWorld, nothing_due, pass_over}
@@ -38,7 +38,7 @@ returns-clause-within g c =
     let new = g.W.Write.contents c.repair_heights.new.writer.inner in
     inr (record {
       repairs = repairs-of s c.args.plan false (job c.repair_of-repair.result) c.args.image.now c.superblock_of.new.image c.repair_of-repair.ensures.job c.superblock_of.ensures.read
-          c.in_ok-superblock.ensures.ok c.repair_heights.new.image old new (is_ok c.repair_heights.result) c.repair_heights.ensures.notes.run;
+          c.in_ok-superblock.ensures.ok c.repair_heights.new.image old new (result_err c.repair_heights.result) c.repair_heights.ensures.notes.run;
       within = one-pass (shape_of s) c.args.image.now c.superblock_of.new.image c.repair_heights.new.image c.in_ok-superblock.ensures.asked
           (subst (λ (x : ShapeRecord). LeavesWorld (pass_over x) nothing_due c.superblock_of.new.image c.repair_heights.new.image) (ap (λ (j : Job). j.tree.shape) c.repair_of-repair.ensures.job) c.repair_heights.ensures.asked);
     })
