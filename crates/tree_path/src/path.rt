@@ -1,5 +1,5 @@
 //! The hash blocks on the way to a data block.
-ghost use Rattle.std.specs.Prelude.{◌≡◌, ◌≤◌, ◌<◌, ◌+◌, ◌-◌, ◌*◌, ◌/◌, OnErr, IfOk};
+ghost use Rattle.std.specs.Prelude.{◌≡◌, ◌≤◌, ◌<◌, ◌+◌, ◌-◌, ◌*◌, ◌/◌, IsTrue, IsOk, OnErr, IfOk};
 ghost use Rattle.std.specs.Str.{bytes_eq};
 ghost use Rattle.block_device.specs.Device.{HasFailed};
 ghost use Rattle.tree_shape.specs.Shape.{ancestor, levels};
@@ -101,6 +101,7 @@ impl TreePath {
         ensures read { IsOnlyRead (H.state device.old) (H.state device.new) }
         ensures ok { IfOk result (HasCome (steps self.old self.new (H.state device.old) (H.state device.new) index from) to) }
         ensures fault { OnErr result (HasFailed (H.state device.old) (H.state device.new)) }
+        ensures sure { IsTrue (H.state device.old).never_fails → IsOk result }
         ensures asked { HasReadAtMost (H.state device.old) ((from - to) * (self.old.shape.hash_block / 512)) (H.state device.new) }
     {
         let mut level = from;
@@ -126,6 +127,7 @@ impl TreePath {
         ensures read { IsOnlyRead (H.state device.old) (H.state device.new) }
         ensures ok { IfOk result (IsStepLoaded (steps self.old self.new (H.state device.old) (H.state device.new) index level)) }
         ensures fault { OnErr result (HasFailed (H.state device.old) (H.state device.new)) }
+        ensures sure { IsTrue (H.state device.old).never_fails → IsOk result }
         ensures asked { HasReadAtMost (H.state device.old) (self.old.shape.hash_block / 512) (H.state device.new) }
     {
         let place = self
