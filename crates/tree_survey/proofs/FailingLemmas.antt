@@ -1,9 +1,10 @@
 -- Reads of devices that may fail, one after another.
-use Rattle.std.proofs.Common.{◌≡◌, ◌≤◌, ◌<◌, ◌+◌, ◌*◌, ◌/◌, ◌^◌, ◌-◌, ◌⊎◌, ℕ, Bool, true, false, IsTrue, List, length, refl, sym, ap, subst, ◌∙◌, arith, inl, inr}
+use Rattle.std.proofs.Common.{◌≡◌, ◌≤◌, ◌+◌, ◌*◌, ◌/◌, ◌^◌, ◌-◌, ◌⊎◌, ℕ, Bool, true, false, IsTrue, List, length, refl, sym, ap, subst, ◌∙◌, arith, inl, inr}
 use Rattle.std.specs.List.{concat}
 use Rattle.std.proofs.lemmas.Bool.{cases_lt}
 use Rattle.block_device.specs.Device.{Device, HasFailed, IsRead, run_of}
 use Rattle.verity_format.specs.Blocks.{IsFullRead, IsOnlyRead, block_at}
+use Rattle.tree_path.specs.Steps.{IsUnloaded, Steps}
 use Rattle.tree_path.proofs.lemmas.DeviceLemmas.{full_read-none, full_read-then, only_read-none, only_read-then}
 use Rattle.tree_survey.specs.Failing.{HasFailedRead, IsAttempt, IsBlockTried, IsReadOver, IsReadThrough, IsSectorsRead}
 
@@ -36,6 +37,14 @@ over-then p q = record {
   more = omega (arith, p.more, q.more);
   sure = λ never. q.sure (p.read.same.never_fails never) ∙ p.sure never;
 }
+
+-- a hash block that couldn't be read
+pub over-unloaded : (w : Steps) → IsOnlyRead w.device w.device' → IsUnloaded w → (IsTrue w.device.never_fails → ⊥) → IsReadOver w.device w.device'
+over-unloaded w read un unsure = record { read = read; more = go un.fault.failed; sure = λ never. absurd (unsure never) }
+  where
+    go : HasFailed w.device w.device' → w.device.failures ≤ w.device'.failures
+    go (inl more) = omega (arith, more)
+    go (inr most) = omega (arith, most, un.fault.counted)
 
 -- a failure stays one behind other reads, and before them
 pub failed-more : (a : Device) {b c : Device} → HasFailedRead a b → IsReadOver b c → HasFailedRead a c

@@ -1,19 +1,19 @@
 -- Pieces of data blocks.
-use Rattle.std.proofs.Common.{◌≡◌, ◌≤◌, ◌<◌, ◌+◌, ◌-◌, ◌*◌, ◌/◌, ◌^◌, ℕ, min, IsTrue, List, [], Option, Some, None, Bool, true, false, length, take, get_or, map, refl, sym, ap, ◌∙◌, subst, arith, inl, inr, ◌⊎◌}
+use Rattle.std.proofs.Common.{◌≡◌, ◌≤◌, ◌<◌, ◌+◌, ◌*◌, ◌/◌, ℕ, IsTrue, List, [], Option, Some, None, Bool, true, false, length, take, get_or, refl, sym, ap, ◌∙◌, subst, arith, inl, inr}
 use Rattle.std.proofs.Math.Nat.{div-mul-le_self, mul-le-mul_right}
-use Rattle.std.proofs.lemmas.List.{get_or-map, get_or-take, length-map, length-take-le}
+use Rattle.std.proofs.lemmas.List.{get_or-map, get_or-take, length-map}
 use Rattle.std.proofs.lemmas.List.FromFn.{get_or-map-range_with_len}
 use Rattle.block_device.specs.Device.{Device}
 use Rattle.tree_shape.specs.Digests.{digest}
 use Rattle.tree_shape.specs.Shape.{ShapeRecord, IsShape, is_block_size}
 use Rattle.tree_shape.proofs.lemmas.ShapeFaultLemmas.{is_block_size-cases}
 use Rattle.tree_path.proofs.lemmas.DeviceLemmas.{steady-then}
-use Rattle.verity_format.specs.Blocks.{IsFullRead, block_at, blocks_at}
+use Rattle.verity_format.specs.Blocks.{IsFullRead, block_at}
 use Rattle.verity_format.specs.Image.{data_sectors}
 use Rattle.verity_format.specs.Premises.{IsBlockOn}
 use Rattle.tree_survey.specs.Failing.{HasFailedRead, IsReadOver, IsReadThrough}
 use Rattle.tree_survey.specs.Pieces.{IsDigestFound, IsDigestRead, LieOnDevice, IsRunRead, IsRunTried, blocks_of}
-use Rattle.tree_survey.proofs.FailingLemmas.{failed-later, failed-more, over-full, over-then, through-failed, through-full}
+use Rattle.tree_survey.proofs.FailingLemmas.{failed-later, failed-more, over-then, through-failed, through-full}
 use Rattle.tree_survey.proofs.RunLemmas.{quotient-some}
 use Rattle.tree_survey.proofs.SightLemmas.{IsDigestOr}
 use Rattle.tree_survey.proofs.SizeLemmas.{block-inside, block-size}

@@ -1,13 +1,12 @@
-use Rattle.std.proofs.Common.{◌≡◌, ◌<◌, ◌≤◌, ◌*◌, ◌/◌, ◌+◌, ℕ, List, [], get_or, length, take, arith, ap, refl, sym, ◌∙◌, subst}
+use Rattle.std.proofs.Common.{◌≡◌, ◌<◌, ◌≤◌, ◌*◌, ◌/◌, ◌+◌, ℕ, List, [], get_or, length, arith, ap, refl, sym, ◌∙◌, subst}
 use Rattle.std.proofs.Math.Nat.{zero-mul}
-use Rattle.std.proofs.lemmas.List.{get_or_read, length-replicate, length-take-le}
+use Rattle.std.proofs.lemmas.List.{get_or_read, length-take-le}
 use Rattle.block_device.specs.Device.{Device}
 use Rattle.tree_shape.specs.Shape.{ShapeRecord}
 use Rattle.tree_shape.proofs.lemmas.ShapeFaultLemmas.{blocks-le}
-use Rattle.verity_format.specs.Image.{data_sectors}
 use Rattle.tree_survey.specs.Failing.{IsReadThrough}
 use Rattle.tree_survey.specs.Passes.{tree_in}
-use Rattle.tree_survey.specs.Pieces.{IsRunTried, blocks_of}
+use Rattle.tree_survey.specs.Pieces.{blocks_of}
 use Rattle.tree_survey.proofs.FailingLemmas.{over-none, over-then, through-none}
 use Rattle.tree_survey.proofs.PieceLemmas.{IsContent, IsPiece, block-on, content-of, piece-is, piece-read, run-on}
 use Rattle.tree_survey.proofs.SizeLemmas.{block-size}
@@ -38,7 +37,7 @@ read_piece-whole-requires-clause-room g c =
     let count : ℕ = c.blocks_of-count.result in
     let left : at < s.blocks = omega (arith, c.pieces-test.true, c.blocks-in-pieces.ensures.value, ap (λ (x : ShapeRecord). x.blocks) c.requires.shape) in
     let piece : IsPiece s at count = piece-is s c.requires.valid.data_size at count left (c.blocks_of-count.ensures ∙ ap (λ (x : ShapeRecord). blocks_of x at) c.requires.shape) in
-    let size : length c.pieces.piece ≡ 65536 = c.pieces.auto.piece ∙ ap (λ (l : List ℕ). length l) (c.as_mut_slice-piece.ensures.value ∙ c.in_ok-memory.ensures) ∙ length-replicate {A = ℕ} 65536 0 in
+    let size : length c.pieces.piece ≡ 65536 = c.pieces.auto.piece ∙ ap (λ (l : List ℕ). length l) c.as_mut_slice-piece.ensures.value ∙ c.in_ok-memory.ensures in
     let bytes : count * c.data_block-size.result ≡ count * s.data_block = ap (λ (n : ℕ). count * n) (c.data_block-size.ensures.value ∙ ap (λ (x : ShapeRecord). x.data_block) c.requires.shape) in
     omega (arith, size, bytes, piece.room)
 
@@ -83,7 +82,7 @@ digest_of-found-requires-clause-run g c =
 pub digest_of-found-requires-clause-room : goal.digest_of-found-requires-clause-room
 digest_of-found-requires-clause-room g c =
     let s : ShapeRecord = c.args.sight.now.path.shape in
-    let size : length c.pieces.piece ≡ 65536 = c.pieces.auto.piece ∙ ap (λ (l : List ℕ). length l) (c.as_mut_slice-piece.ensures.value ∙ c.in_ok-memory.ensures) ∙ length-replicate {A = ℕ} 65536 0 in
+    let size : length c.pieces.piece ≡ 65536 = c.pieces.auto.piece ∙ ap (λ (l : List ℕ). length l) c.as_mut_slice-piece.ensures.value ∙ c.in_ok-memory.ensures in
     let most : c.data_block-size.result ≤ 4096 = omega (arith, c.data_block-size.ensures.value, (block-size s.data_block c.requires.valid.data_size).most_bytes, ap (λ (x : ShapeRecord). x.data_block) c.requires.shape) in
     omega (arith, size, most, c.run.auto.piece, c.read_piece-whole.auto.piece)
 
