@@ -6,7 +6,7 @@ use Rattle.block_device.specs.Device.{Device, HasFailed, IsRead, run_of}
 use Rattle.verity_format.specs.Blocks.{IsFullRead, IsOnlyRead, block_at}
 use Rattle.tree_path.specs.Steps.{IsUnloaded, Steps}
 use Rattle.tree_path.proofs.lemmas.DeviceLemmas.{full_read-none, full_read-then, only_read-none, only_read-then}
-use Rattle.tree_survey.specs.Failing.{HasFailedRead, IsAttempt, IsBlockTried, IsReadOver, IsReadThrough, IsSectorsRead}
+use Rattle.tree_survey.specs.Failing.{HasFailedRead, HasFailedTimes, IsAttempt, IsBlockTried, IsReadOver, IsReadThrough, IsSectorsRead}
 
 -- ---- one read
 
@@ -60,6 +60,20 @@ failed-later {a = a} {b = b} {c = c} p q (inr most, unsure) = (go most, λ never
       | inl less ↦ inl less
       | inr not ↦ inr (omega (arith, most, not, p.more, q.more))
     ]
+
+-- ---- how often
+
+pub times-none : (d : Device) → HasFailedTimes d 0 d
+times-none d = inl (omega arith)
+
+pub times-more : (a b c : Device) (n : ℕ) → HasFailedTimes a n b → b.failures ≤ c.failures → HasFailedTimes a n c
+times-more a b c n (inl few) more = inl (omega (arith, few, more))
+times-more a b c n (inr most) more = inr (omega (arith, most, more))
+
+pub times-next : (a b c : Device) (n m : ℕ) → HasFailedTimes a n b → b.failures ≤ c.failures → HasFailed b c → m ≡ n + 1 → HasFailedTimes a m c
+times-next a b c n m (inr most) more failed is = inr (omega (arith, most, more))
+times-next a b c n m (inl few) more (inl less) is = inl (omega (arith, few, less, is))
+times-next a b c n m (inl few) more (inr most) is = inr (omega (arith, most, more))
 
 pub or-more : (P A B : Type 0) → (A → B) → P ⊎ A → P ⊎ B
 or-more P A B f (inl p) = inl p

@@ -28,12 +28,12 @@ module _ (t u : Tree) (d h h' d' h'' last : Device) (same : u ≡ t) (read : IsR
   failed-was : HasFailedRead h' h'' → HasFailedRead h last
   failed-was failed = failed-more h (failed-later read behind failed) later
 
-  hidden-was : (old new : Option (List ℕ)) (above : Type 0) (state : State) → IsHidden t (pass d h' d' h'' old new) above state → IsHidden t (pass d h d' last old new) above state
-  hidden-was old new above None h = absurd h
-  hidden-was old new above (Some Changed) h = h
-  hidden-was old new above (Some Unknown) (some, failed) = (some, failed-was failed)
-  hidden-was old new above (Some Removed) h = absurd h
-  hidden-was old new above (Some Added) h = absurd h
+  hidden-was : (old new : Option (List ℕ)) (lost : List ℕ) (i : ℕ) (above : Type 0) (state : State) → IsHidden t (pass d h' d' h'' old new) lost i above state → IsHidden t (pass d h d' last old new) lost i above state
+  hidden-was old new lost i above None h = absurd h
+  hidden-was old new lost i above (Some Changed) h = h
+  hidden-was old new lost i above (Some Unknown) (some, failed) = (some, failed-was failed)
+  hidden-was old new lost i above (Some Removed) h = absurd h
+  hidden-was old new lost i above (Some Added) h = absurd h
 
   pub surveys-were : (old new : Option (List ℕ)) (totals : Totals) → Surveys u (pass d h' d' h'' old new) totals → Surveys t (pass d h d' last old new) totals
   surveys-were old new totals was =
@@ -42,13 +42,15 @@ module _ (t u : Tree) (d h h' d' h'' last : Device) (same : u ≡ t) (read : IsR
         states = s.states;
         seen = record {
           count = s.seen.count;
+          lost = s.seen.lost;
+          failed = s.seen.failed;
           contents = s.seen.contents;
           all = s.seen.all;
           over = s.seen.over;
-          seen = λ i low. or-more _ _ _ (hidden-was old new (IsLedTo t i) (get_or s.states i None)) (s.seen.seen i low);
+          seen = λ i low. or-more _ _ _ (hidden-was old new s.seen.lost i (IsLedTo t i) (get_or s.states i None)) (s.seen.seen i low);
           stored = λ steady steady' i low.
-              or-more _ _ _ (hidden-was old new (AllStand t h.image i) (get_or s.states i None))
-              (subst (λ (im : List (List ℕ)). IsContentStoredAs t d.image im i (get_or s.states i None) ⊎ IsHidden t (pass d h' d' h'' old new) (AllStand t im i) (get_or s.states i None)) (read.read.image steady')
+              or-more _ _ _ (hidden-was old new s.seen.lost i (AllStand t h.image i) (get_or s.states i None))
+              (subst (λ (im : List (List ℕ)). IsContentStoredAs t d.image im i (get_or s.states i None) ⊎ IsHidden t (pass d h' d' h'' old new) s.seen.lost i (AllStand t im i) (get_or s.states i None)) (read.read.image steady')
               (s.seen.stored steady (steady-then read.read.same steady') i low));
         };
         totals_are = s.totals_are;

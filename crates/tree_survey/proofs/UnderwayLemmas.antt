@@ -1,8 +1,9 @@
 -- Data blocks that are gone over, while some are left.
-use Rattle.std.proofs.Common.{◌≡◌, ◌≤◌, ◌<◌, ◌+◌, ◌*◌, ◌/◌, ◌^◌, ◌⊎◌, ℕ, Bool, true, false, IsTrue, List, [], ◌∷◌, ◌++◌, length, get_or, Option, Some, None, refl, sym, ap, ◌∙◌, subst, arith, inl, inr}
+use Rattle.std.proofs.Common.{◌≡◌, ◌≤◌, ◌<◌, ◌+◌, ◌*◌, ◌/◌, ◌^◌, ◌⊎◌, ℕ, Bool, true, false, IsTrue, List, [], ◌∷◌, ◌++◌, length, get_or, Contains, Option, Some, None, refl, sym, ap, ◌∙◌, subst, arith, inl, inr}
 use Rattle.std.specs.Io.KnownBytes.{Appends}
 use Rattle.std.proofs.lemmas.Bool.{cases_lt, false≢true}
 use Rattle.std.proofs.lemmas.List.{get_or-append-add, get_or_append_left, length-append}
+use Rattle.std.proofs.lemmas.List.Elements.{Contains-append_left, Contains-push}
 use Rattle.std.proofs.lemmas.List.FromFn.{get_or-map-range_with_len, map-range_with_len_more}
 use Rattle.block_device.specs.Device.{Device}
 use Rattle.tree_shape.specs.Digests.{digest}
@@ -23,10 +24,10 @@ use Rattle.tree_survey.specs.declared.counts.Totals.{Totals}
 use Rattle.tree_survey.specs.declared.sight.Sight.{Sight}
 use Rattle.tree_survey.specs.Counts.{AreFew, IsAdded, closed_at, counted, good_of, totals_of}
 use Rattle.tree_survey.specs.Passes.{CanPass, Surveys, pass, tree_in}
-use Rattle.tree_survey.specs.Failing.{HasFailedRead, IsReadOver, IsReadThrough}
+use Rattle.tree_survey.specs.Failing.{HasFailedRead, HasFailedTimes, IsReadOver, IsReadThrough}
 use Rattle.tree_survey.specs.Sights.{CanGoDown, HasGone, IsOnWay, IsReady, state_at}
 use Rattle.tree_survey.specs.Surveys.{AllStand, IsLedTo, IsContentSeenAs, IsStoredBy, IsUnreadAs, Tree}
-use Rattle.tree_survey.proofs.FailingLemmas.{failed-later, failed-more, or-more, over-none, over-then}
+use Rattle.tree_survey.proofs.FailingLemmas.{failed-later, failed-more, or-more, over-none, over-then, times-more, times-next, times-none}
 use Rattle.tree_survey.proofs.HashLemmas.{path-none}
 use Rattle.tree_survey.proofs.SightLemmas.{IsDigestOr, on-was, ready-next, ready-none, ready-read, seen-at, stored-at}
 
@@ -36,16 +37,18 @@ pub record IsUnderway (t : Tree) (data_dev hash_dev data_dev' hash_dev' : Device
   pub shape : w.shape ≡ w.path.shape
   pub within : at ≤ t.shape.blocks
   pub ready : at < t.shape.blocks → IsReady w hash_dev at
+  pub lost : List ℕ
+  pub times : HasFailedTimes data_dev (length lost) data_dev'
   pub contents : List (List ℕ)
   pub states : List State
   pub here : at ≡ length contents
   pub also : at ≡ length states
   pub over : IsTrue data_dev.steady → contents ≡ blocks_at data_dev.image t.shape.data_block 0 at
   pub seen : (i : ℕ) → i < at
-      → IsContentSeenAs t i (get_or contents i []) (get_or states i None) ⊎ IsUnreadAs t (IsLedTo t i) (HasFailedRead data_dev data_dev') (HasFailedRead hash_dev hash_dev') (get_or states i None)
+      → IsContentSeenAs t i (get_or contents i []) (get_or states i None) ⊎ IsUnreadAs t (IsLedTo t i) (Contains lost i × HasFailedRead data_dev data_dev') (HasFailedRead hash_dev hash_dev') (get_or states i None)
   pub stored : IsTrue hash_dev.steady → (i : ℕ) → i < at
       → IsStoredBy t hash_dev.image i (digest t.salt (get_or contents i [])) (get_or states i None)
-      ⊎ IsUnreadAs t (AllStand t hash_dev.image i) (HasFailedRead data_dev data_dev') (HasFailedRead hash_dev hash_dev') (get_or states i None)
+      ⊎ IsUnreadAs t (AllStand t hash_dev.image i) (Contains lost i × HasFailedRead data_dev data_dev') (HasFailedRead hash_dev hash_dev') (get_or states i None)
   pub data_over : IsReadOver data_dev data_dev'
   pub hash_over : IsReadOver hash_dev hash_dev'
   pub unread : w.unread ≡ true → HasFailedRead hash_dev hash_dev'
@@ -59,6 +62,8 @@ underway-none w salt data_dev hash_dev old g can is = record {
   shape = can.shape;
   within = omega arith;
   ready = λ some. ready-none w hash_dev can.none;
+  lost = [];
+  times = times-none data_dev;
   contents = [];
   states = [];
   here = refl;
@@ -73,6 +78,16 @@ underway-none w salt data_dev hash_dev old g can is = record {
   totals = ap (λ (x : Counts). x.totals) is;
 }
 
+-- ---- data blocks that couldn't be read
+
+abbrev lost_with : List ℕ → ℕ → Option (List ℕ) → List ℕ
+lost_with lost at (Some found) = lost
+lost_with lost at None = lost ++ at ∷ []
+
+lost-still : (lost : List ℕ) (at : ℕ) (found : Option (List ℕ)) (i : ℕ) → Contains lost i → Contains (lost_with lost at found) i
+lost-still lost at (Some found) i h = h
+lost-still lost at None i h = Contains-append_left lost (at ∷ []) i h
+
 -- ---- reads behind
 
 unread-more : (t : Tree) (above data_failed hash_failed data_failed' hash_failed' : Type 0) (state : State) → (data_failed → data_failed') → (hash_failed → hash_failed') → IsUnreadAs t above data_failed hash_failed state
@@ -85,9 +100,9 @@ unread-more t above a b a' b' (Some Added) f g h = absurd h
 
 -- the two devices were read further
 module _ (t : Tree) (data_dev hash_dev data_dev' hash_dev' data_dev'' hash_dev'' : Device) (old now : Option (List ℕ)) (w : Sight) (g : Counts) (at : ℕ) (u : IsUnderway t data_dev hash_dev data_dev' hash_dev' old now w g at) (data_read : IsReadOver data_dev' data_dev'') (hash_read : IsReadOver hash_dev' hash_dev'') where
-  hidden-more : (above : Type 0) (state : State) → IsUnreadAs t above (HasFailedRead data_dev data_dev') (HasFailedRead hash_dev hash_dev') state
-      → IsUnreadAs t above (HasFailedRead data_dev data_dev'') (HasFailedRead hash_dev hash_dev'') state
-  hidden-more above state = unread-more t above _ _ _ _ state (λ failed. failed-more data_dev failed data_read) (λ failed. failed-more hash_dev failed hash_read)
+  hidden-more : (i : ℕ) (above : Type 0) (state : State) → IsUnreadAs t above (Contains u.lost i × HasFailedRead data_dev data_dev') (HasFailedRead hash_dev hash_dev') state
+      → IsUnreadAs t above (Contains u.lost i × HasFailedRead data_dev data_dev'') (HasFailedRead hash_dev hash_dev'') state
+  hidden-more i above state = unread-more t above _ _ _ _ state (λ h. (h.0, failed-more data_dev h.1 data_read)) (λ failed. failed-more hash_dev failed hash_read)
 
   pub underway-more : IsUnderway t data_dev hash_dev data_dev'' hash_dev'' old now w g at
   underway-more = record {
@@ -95,13 +110,15 @@ module _ (t : Tree) (data_dev hash_dev data_dev' hash_dev' data_dev'' hash_dev''
     shape = u.shape;
     within = u.within;
     ready = u.ready;
+    lost = u.lost;
+    times = times-more data_dev data_dev' data_dev'' (length u.lost) u.times data_read.more;
     contents = u.contents;
     states = u.states;
     here = u.here;
     also = u.also;
     over = u.over;
-    seen = λ i low. or-more _ _ _ (hidden-more (IsLedTo t i) (get_or u.states i None)) (u.seen i low);
-    stored = λ steady i low. or-more _ _ _ (hidden-more (AllStand t hash_dev.image i) (get_or u.states i None)) (u.stored steady i low);
+    seen = λ i low. or-more _ _ _ (hidden-more i (IsLedTo t i) (get_or u.states i None)) (u.seen i low);
+    stored = λ steady i low. or-more _ _ _ (hidden-more i (AllStand t hash_dev.image i) (get_or u.states i None)) (u.stored steady i low);
     data_over = over-then u.data_over data_read;
     hash_over = over-then u.hash_over hash_read;
     unread = λ unread. failed-more hash_dev (u.unread unread) hash_read;
@@ -183,7 +200,7 @@ module _ (t : Tree) (valid : IsShape t.shape) (data_dev hash_dev data_dev' hash_
       ready = ready-read w hash_dev hash_dev' at u.hash_over.read (u.ready low);
     }
 
-    module _ (w' : Sight) (data_dev'' hash_dev'' : Device) (gone : HasGone w w' hash_dev' hash_dev'' at) (data_read : IsReadOver data_dev' data_dev'') (hash_read : IsReadOver hash_dev' hash_dev'') (content : List ℕ) (found : Option (List ℕ)) (told : IsDigestOr (HasFailedRead data_dev data_dev'') t.salt content found) where
+    module _ (w' : Sight) (data_dev'' hash_dev'' : Device) (gone : HasGone w w' hash_dev' hash_dev'' at) (data_read : IsReadOver data_dev' data_dev'') (hash_read : IsReadOver hash_dev' hash_dev'') (content : List ℕ) (found : Option (List ℕ)) (told : IsDigestOr (HasFailedRead data_dev' data_dev'') t.salt content found) where
       is_of' : IsPathOf t.shape t.salt t.root w'.path
       is_of' = record { shape_is = gone.same.shape_is ∙ u.is_of.shape_is; salt_is = gone.same.salt_is ∙ u.is_of.salt_is; root_is = gone.same.root_is ∙ u.is_of.root_is }
 
@@ -199,11 +216,36 @@ module _ (t : Tree) (valid : IsShape t.shape) (data_dev hash_dev data_dev' hash_
       on : IsOnWay w' hash_dev at
       on = on-was w' hash_dev hash_dev' at u.hash_over.read gone.on
 
+      -- of this data block too, where it couldn't be read
+      abbrev lost' : List ℕ
+      lost' = lost_with u.lost at found
+
+      abbrev IsLost : ℕ → Type 0
+      IsLost i = Contains lost' i × HasFailedRead data_dev data_dev''
+
       abbrev Seen : ℕ → List ℕ → State → Type 0
-      Seen i x state = IsContentSeenAs t i x state ⊎ IsUnreadAs t (IsLedTo t i) (HasFailedRead data_dev data_dev'') (HasFailedRead hash_dev hash_dev'') state
+      Seen i x state = IsContentSeenAs t i x state ⊎ IsUnreadAs t (IsLedTo t i) (IsLost i) (HasFailedRead hash_dev hash_dev'') state
 
       abbrev Stored : ℕ → List ℕ → State → Type 0
-      Stored i x state = IsStoredBy t hash_dev.image i (digest t.salt x) state ⊎ IsUnreadAs t (AllStand t hash_dev.image i) (HasFailedRead data_dev data_dev'') (HasFailedRead hash_dev hash_dev'') state
+      Stored i x state = IsStoredBy t hash_dev.image i (digest t.salt x) state ⊎ IsUnreadAs t (AllStand t hash_dev.image i) (IsLost i) (HasFailedRead hash_dev hash_dev'') state
+
+      told' : IsDigestOr (IsLost at) t.salt content found
+      told' = go found told
+        where
+          go : (f : Option (List ℕ)) → IsDigestOr (HasFailedRead data_dev' data_dev'') t.salt content f → IsDigestOr (Contains (lost_with u.lost at f) at × HasFailedRead data_dev data_dev'') t.salt content f
+          go (Some x) is = is
+          go None failed = (Contains-push u.lost at, failed-later u.data_over data_read failed)
+
+      times' : HasFailedTimes data_dev (length lost') data_dev''
+      times' = go found told
+        where
+          go : (f : Option (List ℕ)) → IsDigestOr (HasFailedRead data_dev' data_dev'') t.salt content f → HasFailedTimes data_dev (length (lost_with u.lost at f)) data_dev''
+          go (Some x) is = times-more data_dev data_dev' data_dev'' (length u.lost) u.times data_read.more
+          go None failed = times-next data_dev data_dev' data_dev'' (length u.lost) (length (u.lost ++ at ∷ [])) u.times data_read.more failed.0 (omega (arith, length-append u.lost (at ∷ [])))
+
+      wider : (i : ℕ) (above : Type 0) (state : State) → IsUnreadAs t above (Contains u.lost i × HasFailedRead data_dev data_dev'') (HasFailedRead hash_dev hash_dev'') state
+          → IsUnreadAs t above (IsLost i) (HasFailedRead hash_dev hash_dev'') state
+      wider i above state = unread-more t above _ _ _ _ state (λ h. (lost-still u.lost at found i h.0, h.1)) (λ failed. failed)
 
       -- what holds of each data block before, and of this one, holds of each with it
       each-next : (P : ℕ → List ℕ → State → Type 0) (state : State) → ((i : ℕ) → i < at → P i (get_or u.contents i []) (get_or u.states i None)) → P at content state
@@ -231,6 +273,8 @@ module _ (t : Tree) (valid : IsShape t.shape) (data_dev hash_dev data_dev' hash_
             shape = gone.shape ∙ u.shape ∙ sym gone.same.shape_is;
             within = omega (arith, low);
             ready = λ more. ready-next w' (subst IsShape (sym is_of'.shape_is) valid) hash_dev at (omega (arith, more, ap (λ (s : ShapeRecord). s.blocks) is_of'.shape_is)) on;
+            lost = lost';
+            times = times';
             contents = u.contents ++ content ∷ [];
             states = u.states ++ state ∷ [];
             here = length-last u.contents content at u.here;
@@ -239,8 +283,10 @@ module _ (t : Tree) (valid : IsShape t.shape) (data_dev hash_dev data_dev' hash_
                 ap (λ (xs : List (List ℕ)). xs ++ content ∷ []) (u.over steady)
                 ∙ ap (λ (x : List ℕ). blocks_at data_dev.image t.shape.data_block 0 at ++ x ∷ []) (over steady)
                 ∙ sym (map-range_with_len_more (block_at data_dev.image t.shape.data_block) 0 at at (omega arith));
-            seen = each-next Seen state later.seen (seen-at t w' hash_dev at is_of' on (HasFailedRead data_dev data_dev'') (HasFailedRead hash_dev hash_dev'') unread' content found told);
-            stored = λ steady. each-next Stored state (later.stored steady) (stored-at t w' hash_dev at is_of' on (HasFailedRead data_dev data_dev'') (HasFailedRead hash_dev hash_dev'') unread' content steady found told);
+            seen = each-next Seen state (λ i before. or-more _ _ _ (wider i (IsLedTo t i) (get_or u.states i None)) (later.seen i before))
+                (seen-at t w' hash_dev at is_of' on (IsLost at) (HasFailedRead hash_dev hash_dev'') unread' content found told');
+            stored = λ steady. each-next Stored state (λ i before. or-more _ _ _ (wider i (AllStand t hash_dev.image i) (get_or u.states i None)) (later.stored steady i before))
+                (stored-at t w' hash_dev at is_of' on (IsLost at) (HasFailedRead hash_dev hash_dev'') unread' content steady found told');
             data_over = later.data_over;
             hash_over = later.hash_over;
             unread = unread';
@@ -257,13 +303,15 @@ module _ (t : Tree) (valid : IsShape t.shape) (data_dev hash_dev data_dev' hash_
         states = u.states;
         seen = record {
           count = sym u.also ∙ all;
+          lost = u.lost;
+          failed = u.times;
           contents = u.contents;
           all = sym u.here ∙ all;
           over = over';
           seen = λ i low. u.seen i (omega (arith, low, all));
           stored = λ steady steady' i low.
               subst (λ (x : List ℕ). IsStoredBy t hash_dev.image i (digest t.salt x) (get_or u.states i None)
-              ⊎ IsUnreadAs t (AllStand t hash_dev.image i) (HasFailedRead data_dev data_dev') (HasFailedRead hash_dev hash_dev') (get_or u.states i None))
+              ⊎ IsUnreadAs t (AllStand t hash_dev.image i) (Contains u.lost i × HasFailedRead data_dev data_dev') (HasFailedRead hash_dev hash_dev') (get_or u.states i None))
               (ap (λ (xs : List (List ℕ)). get_or xs i []) (over' steady) ∙ get_or-map-range_with_len (block_at data_dev.image t.shape.data_block) 0 t.shape.blocks i i [] low (omega arith))
               (u.stored steady' i (omega (arith, low, all)));
         };

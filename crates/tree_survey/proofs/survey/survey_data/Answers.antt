@@ -139,9 +139,9 @@ run-preserved g c =
     let inside : c.run.k < length ds = omega (arith, few, c.run-test.true) in
     let r : List ℕ = c.index-digests-k.result in
     let known : get_or ds c.run.k r ≡ get_or ds c.run.k [] = sym c.index-digests-k.is ∙ get_or_read ds c.run.k r inside c.index-digests-k.is [] in
-    let content : IsContent t.salt d0 dk' s.data_block at c.digest_of-found.result =
-    subst (λ (n : ℕ). IsContent t.salt d0 dk' n at c.digest_of-found.result) size
-    (subst (λ (z : List ℕ). IsContent z d0 dk' c.data_block-size.result at c.digest_of-found.result) c.requires.salt_is
+    let content : IsContent t.salt d0 dk dk' s.data_block at c.digest_of-found.result =
+    subst (λ (n : ℕ). IsContent t.salt d0 dk dk' n at c.digest_of-found.result) size
+    (subst (λ (z : List ℕ). IsContent z d0 dk dk' c.data_block-size.result at c.digest_of-found.result) c.requires.salt_is
     (content-of c.args.salt.now d0 dp dq dk dk' c.data_block-size.result c.pieces.at count c.run.k ds c.pieces.invariant.data_read.over c.read_piece-whole.ensures.over c.run.invariant.behind c.digest_of-found.ensures.over
     c.run-test.true (length-take-le count ds few) c.read_piece-whole.result (get_or ds c.run.k r) c.digest_of-found.result known c.read_piece-whole.ensures.ends c.digest_of-found.ensures.ends)) in
     let next : at + 1 ≡ c.pieces.at + (c.run.k + 1) = omega arith in
