@@ -75,6 +75,11 @@ times-next a b c n m (inr most) more failed is = inr (omega (arith, most, more))
 times-next a b c n m (inl few) more (inl less) is = inl (omega (arith, few, less, is))
 times-next a b c n m (inl few) more (inr most) is = inr (omega (arith, most, more))
 
+-- between other reads
+pub times-within : (a b c e : Device) (n : ℕ) → a.failures ≤ b.failures → HasFailedTimes b n c → c.failures ≤ e.failures → HasFailedTimes a n e
+times-within a b c e n before (inl few) behind = inl (omega (arith, before, few, behind))
+times-within a b c e n before (inr most) behind = inr (omega (arith, most, behind))
+
 pub or-more : (P A B : Type 0) → (A → B) → P ⊎ A → P ⊎ B
 or-more P A B f (inl p) = inl p
 or-more P A B f (inr a) = inr (f a)

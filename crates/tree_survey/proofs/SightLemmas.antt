@@ -76,8 +76,17 @@ module _ (w : Sight) (q : PathRecord) (d d' : Device) (i top : ℕ) where
       bad = λ some read. absurd (false≢true (sym read));
       stored = λ steady. stored-down w.path q d cut.between i top (level + 1) (level + 1) cut.down steady (can.ready.stored steady top is low);
     };
-    failed = λ unread. inr cut.failed;
+    failed = λ unread. inr (omega arith, cut.failed);
   }
+
+-- nothing is read
+pub gone-stayed : (w : Sight) (d : Device) (i top : ℕ) → CanGoDown w d i → IsTopAt (per_block w.path.shape) (levels w.path.shape) i top → top < w.good → HasGone w w d d i
+gone-stayed w d i top can is low = record {
+  same = record { shape_is = refl; salt_is = refl; root_is = refl };
+  shape = refl;
+  on = can.ready.stays top is low;
+  failed = λ unread. inl (record { is = refl; top = top; is_top = is; low = low });
+}
 
 -- ---- a device that was read
 
@@ -138,7 +147,7 @@ module _ (s : ShapeRecord) (valid : IsShape s) (i top : ℕ) (inside : i + 1 < s
   whole = let small : i % per_block s ^ 0 < per_block s ^ 0 = mod_below i (per_block s ^ 0) (pow_pos (per_block s) 0 some) in omega (arith, small, pow-zero (per_block s))
 
   -- the next data block has the same ones above the subtree that begins there
-  same-above : (m : ℕ) → top < m → ancestor s m i ≡ ancestor s m (i + 1)
+  pub same-above : (m : ℕ) → top < m → ancestor s m i ≡ ancestor s m (i + 1)
   same-above m high = elim (cases_lt (levels s) m) [
     | inl above ↦ ancestor-is s m i ∙ none-above s valid i m (omega (arith, inside)) (omega (arith, above)) ∙ sym (none-above s valid (i + 1) m inside (omega (arith, above))) ∙ sym (ancestor-is s m (i + 1))
     | inr within ↦

@@ -1,5 +1,5 @@
 -- Data blocks that are gone over, while some are left.
-use Rattle.std.proofs.Common.{◌≡◌, ◌≤◌, ◌<◌, ◌+◌, ◌*◌, ◌/◌, ◌^◌, ◌⊎◌, ℕ, Bool, true, false, IsTrue, List, [], ◌∷◌, ◌++◌, length, get_or, Contains, Option, Some, None, refl, sym, ap, ◌∙◌, subst, arith, inl, inr}
+use Rattle.std.proofs.Common.{◌≡◌, ◌≤◌, ◌<◌, ◌+◌, ◌-◌, ◌*◌, ◌/◌, ◌^◌, ◌⊎◌, ℕ, Bool, true, false, IsTrue, List, [], ◌∷◌, ◌++◌, length, get_or, Contains, Option, Some, None, refl, sym, ap, ◌∙◌, subst, arith, inl, inr}
 use Rattle.std.specs.Io.KnownBytes.{Appends}
 use Rattle.std.proofs.lemmas.Bool.{cases_lt, false≢true}
 use Rattle.std.proofs.lemmas.List.{get_or-append-add, get_or_append_left, length-append}
@@ -7,11 +7,12 @@ use Rattle.std.proofs.lemmas.List.Elements.{Contains-append_left, Contains-push}
 use Rattle.std.proofs.lemmas.List.FromFn.{get_or-map-range_with_len, map-range_with_len_more}
 use Rattle.block_device.specs.Device.{Device}
 use Rattle.tree_shape.specs.Digests.{digest}
-use Rattle.tree_shape.specs.Shape.{ShapeRecord, IsShape}
+use Rattle.tree_shape.specs.Shape.{ShapeRecord, IsShape, levels, per_block}
 use Rattle.tree_shape.proofs.lemmas.ShapeFaultLemmas.{blocks-le}
 use Rattle.verity_format.specs.Blocks.{block_at, blocks_at}
 use Rattle.verity_format.specs.Image.{tree_sectors}
 use Rattle.tree_path.specs.Path.{IsPathOf}
+use Rattle.tree_path.specs.Spans.{IsTopAt}
 use Rattle.tree_runs.specs.declared.run.Kind.{Kind}
 use Rattle.tree_runs.specs.declared.run.Kind.TheVariants.{Changed, Unknown, Removed, Added}
 use Rattle.tree_runs.specs.Limits.{begun, limited_lines}
@@ -25,11 +26,12 @@ use Rattle.tree_survey.specs.declared.sight.Sight.{Sight}
 use Rattle.tree_survey.specs.Counts.{AreFew, IsAdded, closed_at, counted, good_of, totals_of}
 use Rattle.tree_survey.specs.Passes.{CanPass, Surveys, pass, tree_in}
 use Rattle.tree_survey.specs.Failing.{HasFailedRead, HasFailedTimes, IsReadOver, IsReadThrough}
+use Rattle.tree_survey.specs.Hashes.{HashBlock, IsUnderOne, hash_block_beneath}
 use Rattle.tree_survey.specs.Sights.{CanGoDown, HasGone, IsOnWay, IsReady, state_at}
 use Rattle.tree_survey.specs.Surveys.{AllStand, IsLedTo, IsContentSeenAs, IsStoredBy, IsUnreadAs, Tree}
 use Rattle.tree_survey.proofs.FailingLemmas.{failed-later, failed-more, or-more, over-none, over-then, times-more, times-next, times-none}
 use Rattle.tree_survey.proofs.HashLemmas.{path-none}
-use Rattle.tree_survey.proofs.SightLemmas.{IsDigestOr, on-was, ready-next, ready-none, ready-read, seen-at, stored-at}
+use Rattle.tree_survey.proofs.SightLemmas.{IsDigestOr, on-was, ready-next, ready-none, ready-read, same-above, seen-at, stored-at}
 
 -- the data blocks before that one were gone over
 pub record IsUnderway (t : Tree) (data_dev hash_dev data_dev' hash_dev' : Device) (old now : Option (List ℕ)) (w : Sight) (g : Counts) (at : ℕ) : Type 0 where
@@ -39,16 +41,19 @@ pub record IsUnderway (t : Tree) (data_dev hash_dev data_dev' hash_dev' : Device
   pub ready : at < t.shape.blocks → IsReady w hash_dev at
   pub lost : List ℕ
   pub times : HasFailedTimes data_dev (length lost) data_dev'
+  pub hashes : List HashBlock
+  pub hash_times : HasFailedTimes hash_dev (length hashes) hash_dev'
+  pub above : w.unread ≡ true → (top : ℕ) → IsTopAt (per_block t.shape) (levels t.shape) at top → top < w.good → at < t.shape.blocks → Contains hashes (hash_block_beneath t.shape w.good at)
   pub contents : List (List ℕ)
   pub states : List State
   pub here : at ≡ length contents
   pub also : at ≡ length states
   pub over : IsTrue data_dev.steady → contents ≡ blocks_at data_dev.image t.shape.data_block 0 at
   pub seen : (i : ℕ) → i < at
-      → IsContentSeenAs t i (get_or contents i []) (get_or states i None) ⊎ IsUnreadAs t (IsLedTo t i) (Contains lost i × HasFailedRead data_dev data_dev') (HasFailedRead hash_dev hash_dev') (get_or states i None)
+      → IsContentSeenAs t i (get_or contents i []) (get_or states i None) ⊎ IsUnreadAs t (IsLedTo t i) (Contains lost i × HasFailedRead data_dev data_dev') (IsUnderOne t.shape hashes i × HasFailedRead hash_dev hash_dev') (get_or states i None)
   pub stored : IsTrue hash_dev.steady → (i : ℕ) → i < at
       → IsStoredBy t hash_dev.image i (digest t.salt (get_or contents i [])) (get_or states i None)
-      ⊎ IsUnreadAs t (AllStand t hash_dev.image i) (Contains lost i × HasFailedRead data_dev data_dev') (HasFailedRead hash_dev hash_dev') (get_or states i None)
+      ⊎ IsUnreadAs t (AllStand t hash_dev.image i) (Contains lost i × HasFailedRead data_dev data_dev') (IsUnderOne t.shape hashes i × HasFailedRead hash_dev hash_dev') (get_or states i None)
   pub data_over : IsReadOver data_dev data_dev'
   pub hash_over : IsReadOver hash_dev hash_dev'
   pub unread : w.unread ≡ true → HasFailedRead hash_dev hash_dev'
@@ -64,6 +69,9 @@ underway-none w salt data_dev hash_dev old g can is = record {
   ready = λ some. ready-none w hash_dev can.none;
   lost = [];
   times = times-none data_dev;
+  hashes = [];
+  hash_times = times-none hash_dev;
+  above = λ unread. absurd (false≢true (sym can.all_read ∙ unread));
   contents = [];
   states = [];
   here = refl;
@@ -88,6 +96,13 @@ lost-still : (lost : List ℕ) (at : ℕ) (found : Option (List ℕ)) (i : ℕ) 
 lost-still lost at (Some found) i h = h
 lost-still lost at None i h = Contains-append_left lost (at ∷ []) i h
 
+-- hash blocks that couldn't be read, with that which one sight ends at
+pub record AreHashesLost (t : Tree) (device device' : Device) (before : List HashBlock) (w : Sight) (at : ℕ) : Type 0 where
+  pub hashes : List HashBlock
+  pub times : HasFailedTimes device (length hashes) device'
+  pub wider : (b : HashBlock) → Contains before b → Contains hashes b
+  pub unread : w.unread ≡ true → (0 < w.good) × Contains hashes (hash_block_beneath t.shape w.good at)
+
 -- ---- reads behind
 
 unread-more : (t : Tree) (above data_failed hash_failed data_failed' hash_failed' : Type 0) (state : State) → (data_failed → data_failed') → (hash_failed → hash_failed') → IsUnreadAs t above data_failed hash_failed state
@@ -100,9 +115,9 @@ unread-more t above a b a' b' (Some Added) f g h = absurd h
 
 -- the two devices were read further
 module _ (t : Tree) (data_dev hash_dev data_dev' hash_dev' data_dev'' hash_dev'' : Device) (old now : Option (List ℕ)) (w : Sight) (g : Counts) (at : ℕ) (u : IsUnderway t data_dev hash_dev data_dev' hash_dev' old now w g at) (data_read : IsReadOver data_dev' data_dev'') (hash_read : IsReadOver hash_dev' hash_dev'') where
-  hidden-more : (i : ℕ) (above : Type 0) (state : State) → IsUnreadAs t above (Contains u.lost i × HasFailedRead data_dev data_dev') (HasFailedRead hash_dev hash_dev') state
-      → IsUnreadAs t above (Contains u.lost i × HasFailedRead data_dev data_dev'') (HasFailedRead hash_dev hash_dev'') state
-  hidden-more i above state = unread-more t above _ _ _ _ state (λ h. (h.0, failed-more data_dev h.1 data_read)) (λ failed. failed-more hash_dev failed hash_read)
+  hidden-more : (i : ℕ) (above : Type 0) (state : State) → IsUnreadAs t above (Contains u.lost i × HasFailedRead data_dev data_dev') (IsUnderOne t.shape u.hashes i × HasFailedRead hash_dev hash_dev') state
+      → IsUnreadAs t above (Contains u.lost i × HasFailedRead data_dev data_dev'') (IsUnderOne t.shape u.hashes i × HasFailedRead hash_dev hash_dev'') state
+  hidden-more i above state = unread-more t above _ _ _ _ state (λ h. (h.0, failed-more data_dev h.1 data_read)) (λ h. (h.0, failed-more hash_dev h.1 hash_read))
 
   pub underway-more : IsUnderway t data_dev hash_dev data_dev'' hash_dev'' old now w g at
   underway-more = record {
@@ -112,6 +127,9 @@ module _ (t : Tree) (data_dev hash_dev data_dev' hash_dev' data_dev'' hash_dev''
     ready = u.ready;
     lost = u.lost;
     times = times-more data_dev data_dev' data_dev'' (length u.lost) u.times data_read.more;
+    hashes = u.hashes;
+    hash_times = times-more hash_dev hash_dev' hash_dev'' (length u.hashes) u.hash_times hash_read.more;
+    above = u.above;
     contents = u.contents;
     states = u.states;
     here = u.here;
@@ -209,8 +227,8 @@ module _ (t : Tree) (valid : IsShape t.shape) (data_dev hash_dev data_dev' hash_
 
       unread' : w'.unread ≡ true → HasFailedRead hash_dev hash_dev''
       unread' e = elim (gone.failed e) [
-        | inl before ↦ later.unread before
-        | inr failed ↦ failed-later u.hash_over hash_read failed
+        | inl stayed ↦ later.unread (ap (λ (v : Sight). v.unread) (sym stayed.is) ∙ e)
+        | inr failed ↦ failed-later u.hash_over hash_read failed.1
       ]
 
       on : IsOnWay w' hash_dev at
@@ -223,11 +241,51 @@ module _ (t : Tree) (valid : IsShape t.shape) (data_dev hash_dev data_dev' hash_
       abbrev IsLost : ℕ → Type 0
       IsLost i = Contains lost' i × HasFailedRead data_dev data_dev''
 
+      -- and the hash blocks, with that above it
+      hash-lost : (b : Bool) → w'.unread ≡ b → AreHashesLost t hash_dev hash_dev'' u.hashes w' at
+      hash-lost false e = record {
+        hashes = u.hashes;
+        times = times-more hash_dev hash_dev' hash_dev'' (length u.hashes) u.hash_times hash_read.more;
+        wider = λ b h. h;
+        unread = λ e'. absurd (false≢true (sym e ∙ e'));
+      }
+      hash-lost true e = elim (gone.failed e) [
+        | inl stayed ↦
+            let top : IsTopAt (per_block t.shape) (levels t.shape) at stayed.top = subst (λ (s : ShapeRecord). IsTopAt (per_block s) (levels s) at stayed.top) u.is_of.shape_is stayed.is_top in
+            let same : w'.good ≡ w.good = ap (λ (v : Sight). v.good) stayed.is in
+            record {
+              hashes = u.hashes;
+              times = times-more hash_dev hash_dev' hash_dev'' (length u.hashes) u.hash_times hash_read.more;
+              wider = λ b h. h;
+              unread = λ e'. (
+                omega (arith, same, stayed.low),
+                subst (λ (m : ℕ). Contains u.hashes (hash_block_beneath t.shape m at)) (sym same) (u.above (ap (λ (v : Sight). v.unread) (sym stayed.is) ∙ e) stayed.top top stayed.low low),
+              );
+            }
+        | inr failed ↦
+            record {
+              hashes = u.hashes ++ hash_block_beneath t.shape w'.good at ∷ [];
+              times = times-next hash_dev hash_dev' hash_dev'' (length u.hashes) (length (u.hashes ++ hash_block_beneath t.shape w'.good at ∷ [])) u.hash_times hash_read.more failed.1.0
+                  (omega (arith, length-append u.hashes (hash_block_beneath t.shape w'.good at ∷ [])));
+              wider = λ b h. Contains-append_left u.hashes (hash_block_beneath t.shape w'.good at ∷ []) b h;
+              unread = λ e'. (failed.0, Contains-push u.hashes (hash_block_beneath t.shape w'.good at));
+            }
+      ]
+
+      hashes' : AreHashesLost t hash_dev hash_dev'' u.hashes w' at
+      hashes' = hash-lost w'.unread refl
+
+      abbrev IsHashLost : ℕ → Type 0
+      IsHashLost i = IsUnderOne t.shape hashes'.hashes i × HasFailedRead hash_dev hash_dev''
+
+      hash-unread : w'.unread ≡ true → IsHashLost at
+      hash-unread e = ((w'.good, ((hashes'.unread e).0, omega (arith, on.few, ap levels is_of'.shape_is), (hashes'.unread e).1)), unread' e)
+
       abbrev Seen : ℕ → List ℕ → State → Type 0
-      Seen i x state = IsContentSeenAs t i x state ⊎ IsUnreadAs t (IsLedTo t i) (IsLost i) (HasFailedRead hash_dev hash_dev'') state
+      Seen i x state = IsContentSeenAs t i x state ⊎ IsUnreadAs t (IsLedTo t i) (IsLost i) (IsHashLost i) state
 
       abbrev Stored : ℕ → List ℕ → State → Type 0
-      Stored i x state = IsStoredBy t hash_dev.image i (digest t.salt x) state ⊎ IsUnreadAs t (AllStand t hash_dev.image i) (IsLost i) (HasFailedRead hash_dev hash_dev'') state
+      Stored i x state = IsStoredBy t hash_dev.image i (digest t.salt x) state ⊎ IsUnreadAs t (AllStand t hash_dev.image i) (IsLost i) (IsHashLost i) state
 
       told' : IsDigestOr (IsLost at) t.salt content found
       told' = go found told
@@ -243,9 +301,9 @@ module _ (t : Tree) (valid : IsShape t.shape) (data_dev hash_dev data_dev' hash_
           go (Some x) is = times-more data_dev data_dev' data_dev'' (length u.lost) u.times data_read.more
           go None failed = times-next data_dev data_dev' data_dev'' (length u.lost) (length (u.lost ++ at ∷ [])) u.times data_read.more failed.0 (omega (arith, length-append u.lost (at ∷ [])))
 
-      wider : (i : ℕ) (above : Type 0) (state : State) → IsUnreadAs t above (Contains u.lost i × HasFailedRead data_dev data_dev'') (HasFailedRead hash_dev hash_dev'') state
-          → IsUnreadAs t above (IsLost i) (HasFailedRead hash_dev hash_dev'') state
-      wider i above state = unread-more t above _ _ _ _ state (λ h. (lost-still u.lost at found i h.0, h.1)) (λ failed. failed)
+      wider : (i : ℕ) (above : Type 0) (state : State) → IsUnreadAs t above (Contains u.lost i × HasFailedRead data_dev data_dev'') (IsUnderOne t.shape u.hashes i × HasFailedRead hash_dev hash_dev'') state
+          → IsUnreadAs t above (IsLost i) (IsHashLost i) state
+      wider i above state = unread-more t above _ _ _ _ state (λ h. (lost-still u.lost at found i h.0, h.1)) (λ h. ((h.0.0, (h.0.1.0, h.0.1.1, hashes'.wider _ h.0.1.2)), h.1))
 
       -- what holds of each data block before, and of this one, holds of each with it
       each-next : (P : ℕ → List ℕ → State → Type 0) (state : State) → ((i : ℕ) → i < at → P i (get_or u.contents i []) (get_or u.states i None)) → P at content state
@@ -275,6 +333,10 @@ module _ (t : Tree) (valid : IsShape t.shape) (data_dev hash_dev data_dev' hash_
             ready = λ more. ready-next w' (subst IsShape (sym is_of'.shape_is) valid) hash_dev at (omega (arith, more, ap (λ (s : ShapeRecord). s.blocks) is_of'.shape_is)) on;
             lost = lost';
             times = times';
+            hashes = hashes'.hashes;
+            hash_times = hashes'.times;
+            above = λ unread top is under inside.
+                subst (λ (n : ℕ). Contains hashes'.hashes (record { level = w'.good - 1; number = n })) (same-above t.shape valid at top inside is w'.good under) (hashes'.unread unread).1;
             contents = u.contents ++ content ∷ [];
             states = u.states ++ state ∷ [];
             here = length-last u.contents content at u.here;
@@ -284,9 +346,9 @@ module _ (t : Tree) (valid : IsShape t.shape) (data_dev hash_dev data_dev' hash_
                 ∙ ap (λ (x : List ℕ). blocks_at data_dev.image t.shape.data_block 0 at ++ x ∷ []) (over steady)
                 ∙ sym (map-range_with_len_more (block_at data_dev.image t.shape.data_block) 0 at at (omega arith));
             seen = each-next Seen state (λ i before. or-more _ _ _ (wider i (IsLedTo t i) (get_or u.states i None)) (later.seen i before))
-                (seen-at t w' hash_dev at is_of' on (IsLost at) (HasFailedRead hash_dev hash_dev'') unread' content found told');
+                (seen-at t w' hash_dev at is_of' on (IsLost at) (IsHashLost at) hash-unread content found told');
             stored = λ steady. each-next Stored state (λ i before. or-more _ _ _ (wider i (AllStand t hash_dev.image i) (get_or u.states i None)) (later.stored steady i before))
-                (stored-at t w' hash_dev at is_of' on (IsLost at) (HasFailedRead hash_dev hash_dev'') unread' content steady found told');
+                (stored-at t w' hash_dev at is_of' on (IsLost at) (IsHashLost at) hash-unread content steady found told');
             data_over = later.data_over;
             hash_over = later.hash_over;
             unread = unread';
@@ -303,15 +365,15 @@ module _ (t : Tree) (valid : IsShape t.shape) (data_dev hash_dev data_dev' hash_
         states = u.states;
         seen = record {
           count = sym u.also ∙ all;
-          lost = u.lost;
-          failed = u.times;
+          lost = record { blocks = u.lost; hashes = u.hashes };
+          failed = record { of_data = u.times; of_hash = u.hash_times };
           contents = u.contents;
           all = sym u.here ∙ all;
           over = over';
           seen = λ i low. u.seen i (omega (arith, low, all));
           stored = λ steady steady' i low.
               subst (λ (x : List ℕ). IsStoredBy t hash_dev.image i (digest t.salt x) (get_or u.states i None)
-              ⊎ IsUnreadAs t (AllStand t hash_dev.image i) (Contains u.lost i × HasFailedRead data_dev data_dev') (HasFailedRead hash_dev hash_dev') (get_or u.states i None))
+              ⊎ IsUnreadAs t (AllStand t hash_dev.image i) (Contains u.lost i × HasFailedRead data_dev data_dev') (IsUnderOne t.shape u.hashes i × HasFailedRead hash_dev hash_dev') (get_or u.states i None))
               (ap (λ (xs : List (List ℕ)). get_or xs i []) (over' steady) ∙ get_or-map-range_with_len (block_at data_dev.image t.shape.data_block) 0 t.shape.blocks i i [] low (omega arith))
               (u.stored steady' i (omega (arith, low, all)));
         };

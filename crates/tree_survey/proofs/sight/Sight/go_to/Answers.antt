@@ -1,6 +1,11 @@
 use Rattle.std.proofs.Common.{arith}
-use Rattle.tree_survey.proofs.SightLemmas.{gone-cut, gone-down, gone-stopped}
+use Rattle.tree_survey.proofs.SightLemmas.{gone-cut, gone-down, gone-stayed, gone-stopped}
 use Rattle.tree_survey.proofs.sight.Sight.go_to.Goals as goal
+
+pub returns-then-top-self-clause-gone : goal.returns-then-top-self-clause-gone
+returns-then-top-self-clause-gone g c =
+    gone-stayed c.args.self.now (g.H.BlockDev.state c.args.device.now) c.args.index c.top_at-top.result
+    c.requires (rw (c.requires.shape, c.levels.ensures) at c.top_at-top.ensures) c.if-top-self.true
 
 pub returns-in-All-clause-gone : goal.returns-in-All-clause-gone
 returns-in-All-clause-gone g c =
