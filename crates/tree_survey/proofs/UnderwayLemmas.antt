@@ -2,8 +2,8 @@
 use Rattle.std.proofs.Common.{◌≡◌, ◌≤◌, ◌<◌, ◌+◌, ◌-◌, ◌*◌, ◌/◌, ◌^◌, ◌⊎◌, ℕ, Bool, true, false, IsTrue, List, [], ◌∷◌, ◌++◌, length, get_or, Contains, Option, Some, None, refl, sym, ap, ◌∙◌, subst, arith, inl, inr}
 use Rattle.std.specs.Io.KnownBytes.{Appends}
 use Rattle.std.proofs.lemmas.Bool.{cases_lt, false≢true}
-use Rattle.std.proofs.lemmas.List.{get_or-append-add, get_or_append_left, length-append}
-use Rattle.std.proofs.lemmas.List.Elements.{Contains-append_left, Contains-push}
+use Rattle.std.proofs.lemmas.List.{get_or_append_left, length-append}
+use Rattle.std.proofs.lemmas.List.Elements.{Contains-push}
 use Rattle.std.proofs.lemmas.List.FromFn.{get_or-map-range_with_len, map-range_with_len_more}
 use Rattle.block_device.specs.Device.{Device}
 use Rattle.tree_shape.specs.Digests.{digest}
@@ -13,17 +13,15 @@ use Rattle.verity_format.specs.Blocks.{block_at, blocks_at}
 use Rattle.verity_format.specs.Image.{tree_sectors}
 use Rattle.tree_path.specs.Path.{IsPathOf}
 use Rattle.tree_path.specs.Spans.{IsTopAt}
-use Rattle.tree_runs.specs.declared.run.Kind.{Kind}
 use Rattle.tree_runs.specs.declared.run.Kind.TheVariants.{Changed, Unknown, Removed, Added}
 use Rattle.tree_runs.specs.Limits.{begun, limited_lines}
-use Rattle.tree_runs.specs.Runs.{State, count_of, is_state, one_if}
+use Rattle.tree_runs.specs.Runs.{State}
 use Rattle.tree_runs.specs.Tallies.{EndsAt, listed}
-use Rattle.tree_runs.proofs.lemmas.ListingLemmas.{IsListed, listed-all, listed-ends, listed-had, listed-none, listed-run}
-use Rattle.tree_runs.proofs.lemmas.RunLemmas.{count_of-append}
+use Rattle.tree_runs.proofs.lemmas.ListingLemmas.{IsListed, listed-all, listed-ends, listed-none}
 use Rattle.tree_survey.specs.declared.counts.Counts.{Counts}
 use Rattle.tree_survey.specs.declared.counts.Totals.{Totals}
 use Rattle.tree_survey.specs.declared.sight.Sight.{Sight}
-use Rattle.tree_survey.specs.Counts.{AreFew, IsAdded, closed_at, counted, good_of, totals_of}
+use Rattle.tree_survey.specs.Counts.{AreFew, IsAdded, closed_at, counted, totals_of}
 use Rattle.tree_survey.specs.Passes.{CanPass, Surveys, pass, tree_in}
 use Rattle.tree_survey.specs.Failing.{HasFailedRead, HasFailedTimes, IsReadOver, IsReadThrough}
 use Rattle.tree_survey.specs.Hashes.{HashBlock, IsUnderOne, hash_block_beneath}
@@ -31,6 +29,8 @@ use Rattle.tree_survey.specs.Sights.{CanGoDown, HasGone, IsOnWay, IsReady, state
 use Rattle.tree_survey.specs.Surveys.{AllStand, IsLedTo, IsContentSeenAs, IsStoredBy, IsUnreadAs, Tree}
 use Rattle.tree_survey.proofs.FailingLemmas.{failed-later, failed-more, or-more, over-none, over-then, times-more, times-next, times-none}
 use Rattle.tree_survey.proofs.HashLemmas.{path-none}
+use Rattle.tree_survey.proofs.LostLemmas.{AreHashesLost, hashes-kept, hashes-next, lost-still, lost_with}
+use Rattle.tree_survey.proofs.StateLemmas.{count-few, get_or-last, good-few, length-last, listed-next, totals-next}
 use Rattle.tree_survey.proofs.SightLemmas.{IsDigestOr, on-was, ready-next, ready-none, ready-read, same-above, seen-at, stored-at}
 
 -- the data blocks before that one were gone over
@@ -86,23 +86,6 @@ underway-none w salt data_dev hash_dev old g can is = record {
   totals = ap (λ (x : Counts). x.totals) is;
 }
 
--- ---- data blocks that couldn't be read
-
-abbrev lost_with : List ℕ → ℕ → Option (List ℕ) → List ℕ
-lost_with lost at (Some found) = lost
-lost_with lost at None = lost ++ at ∷ []
-
-lost-still : (lost : List ℕ) (at : ℕ) (found : Option (List ℕ)) (i : ℕ) → Contains lost i → Contains (lost_with lost at found) i
-lost-still lost at (Some found) i h = h
-lost-still lost at None i h = Contains-append_left lost (at ∷ []) i h
-
--- hash blocks that couldn't be read, with that which one sight ends at
-pub record AreHashesLost (t : Tree) (device device' : Device) (before : List HashBlock) (w : Sight) (at : ℕ) : Type 0 where
-  pub hashes : List HashBlock
-  pub times : HasFailedTimes device (length hashes) device'
-  pub wider : (b : HashBlock) → Contains before b → Contains hashes b
-  pub unread : w.unread ≡ true → (0 < w.good) × Contains hashes (hash_block_beneath t.shape w.good at)
-
 -- ---- reads behind
 
 unread-more : (t : Tree) (above data_failed hash_failed data_failed' hash_failed' : Type 0) (state : State) → (data_failed → data_failed') → (hash_failed → hash_failed') → IsUnreadAs t above data_failed hash_failed state
@@ -143,57 +126,6 @@ module _ (t : Tree) (data_dev hash_dev data_dev' hash_dev' data_dev'' hash_dev''
     listed = u.listed;
     totals = u.totals;
   }
-
--- ---- lists with one element more
-
-get_or-last : {X : Type 0} (xs : List X) (x d : X) (n : ℕ) → n ≡ length xs → get_or (xs ++ x ∷ []) n d ≡ x
-get_or-last xs x d n is = ap (λ (k : ℕ). get_or (xs ++ x ∷ []) k d) (is ∙ sym (plain (length xs))) ∙ get_or-append-add xs (x ∷ []) 0 d
-  where
-    plain : (k : ℕ) → k + 0 ≡ k
-    plain k = omega arith
-
-length-last : {X : Type 0} (xs : List X) (x : X) (n : ℕ) → n ≡ length xs → n + 1 ≡ length (xs ++ x ∷ [])
-length-last xs x n is = omega (arith, is, length-append xs (x ∷ []))
-
-good_of-append : (xs ys : List State) → good_of (xs ++ ys) ≡ good_of xs + good_of ys
-good_of-append [] ys = omega arith
-good_of-append (None ∷ xs) ys = omega (arith, good_of-append xs ys)
-good_of-append (Some kind ∷ xs) ys = good_of-append xs ys
-
-totals-same : (a b : Totals) → a.good ≡ b.good → a.changed ≡ b.changed → a.unknown ≡ b.unknown → a ≡ b
-totals-same a b x y z =
-    let f : ℕ → ℕ → ℕ → Totals = λ p q r. record { good = p; changed = q; unknown = r } in
-    ap (λ (n : ℕ). f n a.changed a.unknown) x ∙ ap (λ (n : ℕ). f b.good n a.unknown) y ∙ ap (f b.good b.changed) z
-
-totals-next : (states : List State) (state : State) → counted (totals_of states) state ≡ totals_of (states ++ state ∷ [])
-totals-next states None =
-    totals-same _ _ (omega (arith, good_of-append states (None ∷ []))) (omega (arith, count_of-append Changed states (None ∷ []))) (omega (arith, count_of-append Unknown states (None ∷ [])))
-totals-next states (Some Changed) =
-    totals-same _ _ (omega (arith, good_of-append states (Some Changed ∷ []))) (omega (arith, count_of-append Changed states (Some Changed ∷ []))) (omega (arith, count_of-append Unknown states (Some Changed ∷ [])))
-totals-next states (Some Unknown) =
-    totals-same _ _ (omega (arith, good_of-append states (Some Unknown ∷ []))) (omega (arith, count_of-append Changed states (Some Unknown ∷ []))) (omega (arith, count_of-append Unknown states (Some Unknown ∷ [])))
-totals-next states (Some Removed) =
-    totals-same _ _ (omega (arith, good_of-append states (Some Removed ∷ []))) (omega (arith, count_of-append Changed states (Some Removed ∷ []))) (omega (arith, count_of-append Unknown states (Some Removed ∷ [])))
-totals-next states (Some Added) =
-    totals-same _ _ (omega (arith, good_of-append states (Some Added ∷ []))) (omega (arith, count_of-append Changed states (Some Added ∷ []))) (omega (arith, count_of-append Unknown states (Some Added ∷ [])))
-
-good-few : (states : List State) → good_of states ≤ length states
-good-few [] = omega arith
-good-few (None ∷ more) = omega (arith, good-few more)
-good-few (Some kind ∷ more) = omega (arith, good-few more)
-
-weight-few : (b : Bool) → one_if b ≤ 1
-weight-few true = omega arith
-weight-few false = omega arith
-
-count-few : (kind : Kind) (states : List State) → count_of kind states ≤ length states
-count-few kind [] = omega arith
-count-few kind (state ∷ more) = omega (arith, weight-few (is_state kind state), count-few kind more)
-
-listed-next : (states : List State) (state : State) (g g' : Counts) (old now new : Option (List ℕ)) (at : ℕ) → at ≡ length states → IsListed None states g.tally old now
-    → Appends now new (limited_lines g.tally.limit (closed_at g.tally.last at state)) → IsAdded g g' at state → IsListed None (states ++ state ∷ []) g'.tally old new
-listed-next states None g g' old now new at is t told added = listed-had None states g.tally g'.tally old now new 1 (omega arith) t told added.last added.limit
-listed-next states (Some kind) g g' old now new at is t told added = listed-run None states g.tally g'.tally old now new at 1 kind is (omega arith) t told added.last added.limit
 
 module _ (t : Tree) (valid : IsShape t.shape) (data_dev hash_dev data_dev' hash_dev' : Device) (old now : Option (List ℕ)) (w : Sight) (g : Counts) (at : ℕ) (u : IsUnderway t data_dev hash_dev data_dev' hash_dev' old now w g at) where
   pub ends-at : EndsAt g.tally.last at
@@ -243,33 +175,15 @@ module _ (t : Tree) (valid : IsShape t.shape) (data_dev hash_dev data_dev' hash_
 
       -- and the hash blocks, with that above it
       hash-lost : (b : Bool) → w'.unread ≡ b → AreHashesLost t hash_dev hash_dev'' u.hashes w' at
-      hash-lost false e = record {
-        hashes = u.hashes;
-        times = times-more hash_dev hash_dev' hash_dev'' (length u.hashes) u.hash_times hash_read.more;
-        wider = λ b h. h;
-        unread = λ e'. absurd (false≢true (sym e ∙ e'));
-      }
+      hash-lost false e = hashes-kept t hash_dev hash_dev' hash_dev'' u.hashes w' at u.hash_times hash_read.more (λ e'. absurd (false≢true (sym e ∙ e')))
       hash-lost true e = elim (gone.failed e) [
         | inl stayed ↦
             let top : IsTopAt (per_block t.shape) (levels t.shape) at stayed.top = subst (λ (s : ShapeRecord). IsTopAt (per_block s) (levels s) at stayed.top) u.is_of.shape_is stayed.is_top in
             let same : w'.good ≡ w.good = ap (λ (v : Sight). v.good) stayed.is in
-            record {
-              hashes = u.hashes;
-              times = times-more hash_dev hash_dev' hash_dev'' (length u.hashes) u.hash_times hash_read.more;
-              wider = λ b h. h;
-              unread = λ e'. (
-                omega (arith, same, stayed.low),
-                subst (λ (m : ℕ). Contains u.hashes (hash_block_beneath t.shape m at)) (sym same) (u.above (ap (λ (v : Sight). v.unread) (sym stayed.is) ∙ e) stayed.top top stayed.low low),
-              );
-            }
-        | inr failed ↦
-            record {
-              hashes = u.hashes ++ hash_block_beneath t.shape w'.good at ∷ [];
-              times = times-next hash_dev hash_dev' hash_dev'' (length u.hashes) (length (u.hashes ++ hash_block_beneath t.shape w'.good at ∷ [])) u.hash_times hash_read.more failed.1.0
-                  (omega (arith, length-append u.hashes (hash_block_beneath t.shape w'.good at ∷ [])));
-              wider = λ b h. Contains-append_left u.hashes (hash_block_beneath t.shape w'.good at ∷ []) b h;
-              unread = λ e'. (failed.0, Contains-push u.hashes (hash_block_beneath t.shape w'.good at));
-            }
+            let above : Contains u.hashes (hash_block_beneath t.shape w.good at) = u.above (ap (λ (v : Sight). v.unread) (sym stayed.is) ∙ e) stayed.top top stayed.low low in
+            hashes-kept t hash_dev hash_dev' hash_dev'' u.hashes w' at u.hash_times hash_read.more
+            (λ e'. (omega (arith, same, stayed.low), subst (λ (m : ℕ). Contains u.hashes (hash_block_beneath t.shape m at)) (sym same) above))
+        | inr failed ↦ hashes-next t hash_dev hash_dev' hash_dev'' u.hashes w' at u.hash_times hash_read.more failed.0 failed.1.0
       ]
 
       hashes' : AreHashesLost t hash_dev hash_dev'' u.hashes w' at
