@@ -1,11 +1,12 @@
 -- Reads of devices that may fail, one after another.
-use Rattle.std.proofs.Common.{◌≡◌, ◌≤◌, ◌<◌, ◌+◌, ◌*◌, ◌/◌, ◌^◌, ◌-◌, ◌⊎◌, ℕ, Bool, true, false, IsTrue, List, length, refl, sym, ap, subst, ◌∙◌, arith, inl, inr}
+use Rattle.std.proofs.Common.{◌≡◌, ◌≤◌, ◌+◌, ◌*◌, ◌/◌, ◌^◌, ◌-◌, ◌⊎◌, ℕ, Bool, true, false, IsTrue, List, length, refl, sym, ap, subst, ◌∙◌, arith, inl, inr}
 use Rattle.std.specs.List.{concat}
 use Rattle.std.proofs.lemmas.Bool.{cases_lt}
 use Rattle.block_device.specs.Device.{Device, HasFailed, IsRead, run_of}
 use Rattle.verity_format.specs.Blocks.{IsFullRead, IsOnlyRead, block_at}
+use Rattle.tree_path.specs.Steps.{IsUnloaded, Steps}
 use Rattle.tree_path.proofs.lemmas.DeviceLemmas.{full_read-none, full_read-then, only_read-none, only_read-then}
-use Rattle.tree_survey.specs.Failing.{HasFailedRead, IsAttempt, IsBlockTried, IsReadOver, IsReadThrough, IsSectorsRead}
+use Rattle.tree_survey.specs.Failing.{HasFailedRead, HasFailedTimes, IsAttempt, IsBlockTried, IsReadOver, IsReadThrough, IsSectorsRead}
 
 -- ---- one read
 
@@ -37,6 +38,14 @@ over-then p q = record {
   sure = λ never. q.sure (p.read.same.never_fails never) ∙ p.sure never;
 }
 
+-- a hash block that couldn't be read
+pub over-unloaded : (w : Steps) → IsOnlyRead w.device w.device' → IsUnloaded w → (IsTrue w.device.never_fails → ⊥) → IsReadOver w.device w.device'
+over-unloaded w read un unsure = record { read = read; more = go un.fault.failed; sure = λ never. absurd (unsure never) }
+  where
+    go : HasFailed w.device w.device' → w.device.failures ≤ w.device'.failures
+    go (inl more) = omega (arith, more)
+    go (inr most) = omega (arith, most, un.fault.counted)
+
 -- a failure stays one behind other reads, and before them
 pub failed-more : (a : Device) {b c : Device} → HasFailedRead a b → IsReadOver b c → HasFailedRead a c
 failed-more a (inl more, unsure) q = (inl (omega (arith, more, q.more)), unsure)
@@ -51,6 +60,25 @@ failed-later {a = a} {b = b} {c = c} p q (inr most, unsure) = (go most, λ never
       | inl less ↦ inl less
       | inr not ↦ inr (omega (arith, most, not, p.more, q.more))
     ]
+
+-- ---- how often
+
+pub times-none : (d : Device) → HasFailedTimes d 0 d
+times-none d = inl (omega arith)
+
+pub times-more : (a b c : Device) (n : ℕ) → HasFailedTimes a n b → b.failures ≤ c.failures → HasFailedTimes a n c
+times-more a b c n (inl few) more = inl (omega (arith, few, more))
+times-more a b c n (inr most) more = inr (omega (arith, most, more))
+
+pub times-next : (a b c : Device) (n m : ℕ) → HasFailedTimes a n b → b.failures ≤ c.failures → HasFailed b c → m ≡ n + 1 → HasFailedTimes a m c
+times-next a b c n m (inr most) more failed is = inr (omega (arith, most, more))
+times-next a b c n m (inl few) more (inl less) is = inl (omega (arith, few, less, is))
+times-next a b c n m (inl few) more (inr most) is = inr (omega (arith, most, more))
+
+-- between other reads
+pub times-within : (a b c e : Device) (n : ℕ) → a.failures ≤ b.failures → HasFailedTimes b n c → c.failures ≤ e.failures → HasFailedTimes a n e
+times-within a b c e n before (inl few) behind = inl (omega (arith, before, few, behind))
+times-within a b c e n before (inr most) behind = inr (omega (arith, most, behind))
 
 pub or-more : (P A B : Type 0) → (A → B) → P ⊎ A → P ⊎ B
 or-more P A B f (inl p) = inl p

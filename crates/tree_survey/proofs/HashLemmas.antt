@@ -1,5 +1,5 @@
 -- Hash blocks read one after another, and those that aren't good.
-use Rattle.std.proofs.Common.{◌≡◌, ◌≢◌, ◌<◌, ◌+◌, ℕ, suc, Bool, true, false, List, refl, sym, ap, ◌∙◌, subst, arith, inl, inr}
+use Rattle.std.proofs.Common.{◌≡◌, ◌≢◌, ◌<◌, ◌+◌, ℕ, suc, Bool, true, false, List, None, refl, sym, ap, ◌∙◌, subst, arith, inl, inr}
 use Rattle.std.specs.Str.{bytes_eq}
 use Rattle.std.proofs.lemmas.Bool.{false≢true}
 use Rattle.std.proofs.lemmas.Slice.Eq.{bytes_eq-Decides}
@@ -7,12 +7,12 @@ use Rattle.block_device.specs.Device.{Device}
 use Rattle.tree_shape.specs.Digests.{digest}
 use Rattle.tree_shape.specs.Shape.{ShapeRecord, levels}
 use Rattle.tree_path.specs.Path.{PathRecord, IsPathOf, block_of, digest_on, stored_block, stored_digest}
-use Rattle.tree_path.specs.Steps.{IsDown, IsStepLoaded, steps}
+use Rattle.tree_path.specs.Steps.{IsDown, IsStepLoaded, IsUnloaded, steps}
 use Rattle.tree_path.proofs.lemmas.DeviceLemmas.{steady-then}
 use Rattle.tree_path.proofs.lemmas.PathLemmas.{digest_on-stored, down-bad, down-good, down-none, down-read}
 use Rattle.tree_survey.specs.Failing.{IsReadOver}
 use Rattle.tree_survey.specs.Hashes.{IsAbove, IsCompared}
-use Rattle.tree_survey.specs.Paths.{IsUnloaded}
+use Rattle.tree_survey.specs.Paths.{IsLoadedOr}
 use Rattle.tree_survey.proofs.FailingLemmas.{failed-later}
 
 pub path-none : (p : PathRecord) → IsPathOf p.shape p.salt p.root p
@@ -62,8 +62,8 @@ module _ (p q : PathRecord) (d d' : Device) (i l : ℕ) where
         failed = λ not. absurd (false≢true (sym not));
       }
 
-  pub above-unread : (m : ℕ) → IsUnloaded (steps p q d d' i l) → IsAbove p q d d' m i false
-  above-unread m un = record { same = path-unloaded un; stored = λ read. absurd (false≢true read); failed = λ not. un.failed }
+  pub above-unread : (m : ℕ) → IsLoadedOr (steps p q d d' i l) None → IsAbove p q d d' m i false
+  above-unread m (un, unsure) = record { same = path-unloaded un; stored = λ read. absurd (false≢true read); failed = λ not. (un.fault.failed, unsure) }
 
 pub above-none : (p : PathRecord) (d : Device) (l i : ℕ) → l + 1 ≡ levels p.shape → IsAbove p p d d l i true
 above-none p d l i top = record { same = path-none p; stored = λ read steady low. absurd (omega (arith, low, top)); failed = λ not. absurd (false≢true (sym not)) }
@@ -95,8 +95,8 @@ compared p q r d d' d'' i l good low over above loaded =
 pub compared-none : (p q : PathRecord) (d d' : Device) (i l : ℕ) → IsAbove p q d d' l i false → IsCompared p q d d' l i false
 compared-none p q d d' i l above = record { same = above.same; stored = λ steady. inr (refl, above.failed refl) }
 
-pub compared-unread : (p q r : PathRecord) (d d' d'' : Device) (i l : ℕ) → IsReadOver d d' → IsReadOver d' d'' → IsAbove p q d d' l i true → IsUnloaded (steps q r d' d'' i l) → IsCompared p r d d'' l i false
-compared-unread p q r d d' d'' i l over later above un = record {
+pub compared-unread : (p q r : PathRecord) (d d' d'' : Device) (i l : ℕ) → IsReadOver d d' → IsReadOver d' d'' → IsAbove p q d d' l i true → IsLoadedOr (steps q r d' d'' i l) None → IsCompared p r d d'' l i false
+compared-unread p q r d d' d'' i l over later above (un, unsure) = record {
   same = path-then p q r above.same (path-unloaded q r d' d'' i l un);
-  stored = λ steady. inr (refl, failed-later over later un.failed);
+  stored = λ steady. inr (refl, failed-later over later (un.fault.failed, unsure));
 }

@@ -1,11 +1,14 @@
 mod FailingLemmas
+mod GoneLemmas
 mod HashLemmas
 mod LawLemmas
+mod LostLemmas
 mod PieceLemmas
 mod ReachLemmas
 mod RunLemmas
 mod SayingLemmas
 mod SightLemmas
 mod SizeLemmas
+mod StateLemmas
 mod SurveyLemmas
 mod UnderwayLemmas

@@ -1,19 +1,19 @@
 -- Pieces of data blocks.
-use Rattle.std.proofs.Common.{◌≡◌, ◌≤◌, ◌<◌, ◌+◌, ◌-◌, ◌*◌, ◌/◌, ◌^◌, ℕ, min, IsTrue, List, [], Option, Some, None, Bool, true, false, length, take, get_or, map, refl, sym, ap, ◌∙◌, subst, arith, inl, inr, ◌⊎◌}
+use Rattle.std.proofs.Common.{◌≡◌, ◌≤◌, ◌<◌, ◌+◌, ◌*◌, ◌/◌, ℕ, IsTrue, List, [], Option, Some, None, Bool, true, false, length, take, get_or, refl, sym, ap, ◌∙◌, subst, arith, inl, inr}
 use Rattle.std.proofs.Math.Nat.{div-mul-le_self, mul-le-mul_right}
-use Rattle.std.proofs.lemmas.List.{get_or-map, get_or-take, length-map, length-take-le}
+use Rattle.std.proofs.lemmas.List.{get_or-map, get_or-take, length-map}
 use Rattle.std.proofs.lemmas.List.FromFn.{get_or-map-range_with_len}
 use Rattle.block_device.specs.Device.{Device}
 use Rattle.tree_shape.specs.Digests.{digest}
 use Rattle.tree_shape.specs.Shape.{ShapeRecord, IsShape, is_block_size}
 use Rattle.tree_shape.proofs.lemmas.ShapeFaultLemmas.{is_block_size-cases}
 use Rattle.tree_path.proofs.lemmas.DeviceLemmas.{steady-then}
-use Rattle.verity_format.specs.Blocks.{IsFullRead, block_at, blocks_at}
+use Rattle.verity_format.specs.Blocks.{IsFullRead, block_at}
 use Rattle.verity_format.specs.Image.{data_sectors}
 use Rattle.verity_format.specs.Premises.{IsBlockOn}
 use Rattle.tree_survey.specs.Failing.{HasFailedRead, IsReadOver, IsReadThrough}
 use Rattle.tree_survey.specs.Pieces.{IsDigestFound, IsDigestRead, LieOnDevice, IsRunRead, IsRunTried, blocks_of}
-use Rattle.tree_survey.proofs.FailingLemmas.{failed-later, failed-more, over-full, over-then, through-failed, through-full}
+use Rattle.tree_survey.proofs.FailingLemmas.{failed-later, failed-more, over-then, through-failed, through-full}
 use Rattle.tree_survey.proofs.RunLemmas.{quotient-some}
 use Rattle.tree_survey.proofs.SightLemmas.{IsDigestOr}
 use Rattle.tree_survey.proofs.SizeLemmas.{block-inside, block-size}
@@ -75,15 +75,15 @@ module _ (s : ShapeRecord) (valid : IsShape s) (d d' : Device) (over : IsReadOve
 
 -- ---- what is said of a block of a piece
 
--- its content, where it could be read; over a steady device the block that stands there
-pub record IsContent (salt : List ℕ) (d d' : Device) (size i : ℕ) (found : Option (List ℕ)) : Type 0 where
+-- its content, where it could be read, else the read failed; over a steady device the block that stands there
+pub record IsContent (salt : List ℕ) (d dk dk' : Device) (size i : ℕ) (found : Option (List ℕ)) : Type 0 where
   pub content : List ℕ
-  pub told : IsDigestOr (HasFailedRead d d') salt content found
+  pub told : IsDigestOr (HasFailedRead dk dk') salt content found
   pub over : IsTrue d.steady → content ≡ block_at d.image size i
 
 module _ (salt : List ℕ) (d dp dq dk dk' : Device) (size at count k : ℕ) (ds : List (List ℕ)) (before : IsReadOver d dp) (piece : IsReadOver dp dq) (between : IsReadOver dq dk) (read : IsReadOver dk dk') (low : k < count) (count_is : length (take count ds) ≡ count) where
   -- of one that was read with others
-  of-run : (known : List ℕ) → known ≡ get_or ds k [] → IsRunRead dp salt size at (take count ds) dq → IsContent salt d dk' size (at + k) (Some known)
+  of-run : (known : List ℕ) → known ≡ get_or ds k [] → IsRunRead dp salt size at (take count ds) dq → IsContent salt d dk dk' size (at + k) (Some known)
   of-run known is run =
       let low' : k < length run.contents = omega (arith, low, count_is, ap length run.are, length-map run.contents (digest salt)) in
       record {
@@ -99,16 +99,16 @@ module _ (salt : List ℕ) (d dp dq dk dk' : Device) (size at count k : ℕ) (ds
   here = over-then before (over-then piece between)
 
   -- of one that was read by itself
-  of-block : (found : Option (List ℕ)) → IsDigestRead dk salt size (at + k) found dk' → IsContent salt d dk' size (at + k) found
+  of-block : (found : Option (List ℕ)) → IsDigestRead dk salt size (at + k) found dk' → IsContent salt d dk dk' size (at + k) found
   of-block (Some x) (content, (is, over)) = record {
     content = content;
     told = is;
     over = λ steady. over (steady-then here.read.same steady) ∙ ap (λ (im : List (List ℕ)). block_at im size (at + k)) (here.read.image steady);
   }
-  of-block None failed = record { content = block_at d.image size (at + k); told = failed-later here read failed; over = λ steady. refl }
+  of-block None failed = record { content = block_at d.image size (at + k); told = failed; over = λ steady. refl }
 
-  pub content-of : (whole : Bool) (known : List ℕ) (found : Option (List ℕ)) → known ≡ get_or ds k [] → IsRunTried dp salt size at (take count ds) whole dq → IsDigestFound dk salt size (at + k) known whole found dk' → IsContent salt d dk' size (at + k) found
-  content-of true known found is run same = subst (IsContent salt d dk' size (at + k)) (sym same.0) (of-run known is run)
+  pub content-of : (whole : Bool) (known : List ℕ) (found : Option (List ℕ)) → known ≡ get_or ds k [] → IsRunTried dp salt size at (take count ds) whole dq → IsDigestFound dk salt size (at + k) known whole found dk' → IsContent salt d dk dk' size (at + k) found
+  content-of true known found is run same = subst (IsContent salt d dk dk' size (at + k)) (sym same.0) (of-run known is run)
   content-of false known found is failed alone = of-block found alone
 
 -- all blocks of a piece were read, or a read failed

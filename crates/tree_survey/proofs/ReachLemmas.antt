@@ -1,12 +1,12 @@
 -- Hash blocks on the way down, above one that couldn't be read.
-use Rattle.std.proofs.Common.{◌≡◌, ◌≢◌, ◌≤◌, ◌<◌, ◌+◌, ◌-◌, ◌*◌, ◌/◌, ℕ, suc, IsTrue, List, [], sym, ap, ◌∙◌, subst, arith, add-one, get_or-set_other}
+use Rattle.std.proofs.Common.{◌≡◌, ◌≢◌, ◌<◌, ◌+◌, ℕ, suc, IsTrue, List, [], sym, ap, ◌∙◌, subst, arith, add-one, get_or-set_other}
 use Rattle.block_device.specs.Device.{Device}
 use Rattle.tree_shape.specs.Digests.{digest}
 use Rattle.tree_path.specs.Path.{PathRecord, block_of, digest_on}
-use Rattle.tree_path.specs.Steps.{IsDown, steps}
+use Rattle.tree_path.specs.Steps.{IsDown, IsUnloaded, steps}
 use Rattle.tree_path.proofs.lemmas.PathLemmas.{digest_on-same}
 use Rattle.tree_survey.specs.Failing.{IsReadOver}
-use Rattle.tree_survey.specs.Paths.{IsWayCutOff, IsUnloaded}
+use Rattle.tree_survey.specs.Paths.{IsWayCutOff}
 use Rattle.tree_survey.proofs.FailingLemmas.{failed-later, over-full}
 
 module _ (old mid new : PathRecord) (d dm d' : Device) (index from l : ℕ) (low : l < from) (down : IsDown (steps old mid d dm index from) (suc l) (suc l)) (un : IsUnloaded (steps mid new dm d' index l)) where
@@ -35,10 +35,10 @@ module _ (old mid new : PathRecord) (d dm d' : Device) (index from l : ℕ) (low
     full = down.full;
   }
 
-  pub cut-off : IsReadOver dm d' → IsWayCutOff (steps old new d d' index from) l
-  cut-off over = record {
+  pub cut-off : IsReadOver dm d' → (IsTrue dm.never_fails → ⊥) → IsWayCutOff (steps old new d d' index from) l
+  cut-off over unsure = record {
     low = low;
     between = dm;
     down = subst (λ (n : ℕ). IsDown (steps old new d dm index from) n n) (sym (add-one l)) down-kept;
-    failed = failed-later (over-full _ down.full) over un.failed;
+    failed = failed-later (over-full _ down.full) over (un.fault.failed, unsure);
   }

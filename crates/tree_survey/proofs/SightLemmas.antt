@@ -12,16 +12,14 @@ use Rattle.tree_shape.proofs.lemmas.ShapeFactLemmas.{quotient-le, two}
 use Rattle.tree_shape.proofs.lemmas.ShapeLemmas.{pow_pos}
 use Rattle.hash_tree.proofs.lemmas.LawLemmas.{levels-least}
 use Rattle.verity_format.specs.Blocks.{IsOnlyRead}
-use Rattle.tree_path.specs.Path.{PathRecord, IsPathOf, AreStored, block_of, digest_on, stored_block, stored_digest}
+use Rattle.tree_path.specs.Path.{IsPathOf, AreStored, block_of, digest_on, stored_block, stored_digest}
 use Rattle.tree_path.specs.Spans.{IsTopAt}
-use Rattle.tree_path.specs.Steps.{IsDown, IsStopped, steps}
 use Rattle.tree_path.proofs.lemmas.DeviceLemmas.{steady-then}
-use Rattle.tree_path.proofs.lemmas.PathLemmas.{digest_on-along, digest_on-stored, leads-along, leads-down, leads-higher, stored-along, stored-down, stored-higher}
+use Rattle.tree_path.proofs.lemmas.PathLemmas.{digest_on-along, digest_on-stored, leads-along, leads-higher, stored-along, stored-higher}
 use Rattle.tree_path.proofs.lemmas.SpanLemmas.{behind, lower-mod, power-least}
 use Rattle.tree_runs.specs.declared.run.Kind.TheVariants.{Changed, Unknown}
 use Rattle.tree_survey.specs.declared.sight.Sight.{Sight}
-use Rattle.tree_survey.specs.Paths.{IsWayCutOff}
-use Rattle.tree_survey.specs.Sights.{CanGoDown, HasGone, IsOnWay, IsReady, read_to, state_at, state_with}
+use Rattle.tree_survey.specs.Sights.{IsOnWay, IsReady, read_to, state_at, state_with}
 use Rattle.tree_survey.specs.Surveys.{AllStand, IsLedTo, IsContentSeenAs, IsStoredBy, IsUnknownAt, IsUnreadAs, IsWay, Tree}
 
 -- ---- the hash blocks that were read
@@ -30,54 +28,6 @@ use Rattle.tree_survey.specs.Surveys.{AllStand, IsLedTo, IsContentSeenAs, IsStor
 read-between : (unread : Bool) (n : ℕ) → (n - 1 ≤ cond unread n (n - 1)) × (cond unread n (n - 1) ≤ n)
 read-between true n = (omega arith, omega arith)
 read-between false n = (omega arith, omega arith)
-
-module _ (w : Sight) (q : PathRecord) (d d' : Device) (i top : ℕ) where
-  -- all of them are good
-  pub gone-down : CanGoDown w d i → IsTopAt (per_block w.path.shape) (levels w.path.shape) i top → w.good ≤ top → IsDown (steps w.path q d d' i top) 0 0
-      → HasGone w (record { path = q; shape = w.shape; good = 0; unread = false }) d d' i
-  gone-down can is low down = record {
-    same = down.same;
-    shape = refl;
-    on = record {
-      few = omega arith;
-      leads = leads-down w.path q d d' i top 0 0 down (can.ready.leads top is low);
-      bad = λ none read. absurd (omega (arith, none));
-      stored = λ steady. stored-down w.path q d d' i top 0 0 down steady (can.ready.stored steady top is low);
-    };
-    failed = λ unread. absurd (false≢true unread);
-  }
-
-  -- one of them isn't
-  pub gone-stopped : (level : ℕ) → CanGoDown w d i → IsTopAt (per_block w.path.shape) (levels w.path.shape) i top → w.good ≤ top → IsStopped (steps w.path q d d' i top) 0 level
-      → HasGone w (record { path = q; shape = w.shape; good = level + 1; unread = false }) d d' i
-  gone-stopped level can is low stopped =
-      let same : level + 1 - 1 ≡ level = omega arith in
-      record {
-        same = stopped.down.same;
-        shape = refl;
-        on = record {
-          few = omega (arith, stopped.between.1, is.few, ap levels stopped.down.same.shape_is);
-          leads = leads-down w.path q d d' i top (level + 1) level stopped.down (can.ready.leads top is low);
-          bad = λ some read. subst (λ (k : ℕ). digest q.salt (block_of q k) ≢ digest_on q i (level + 1)) (sym same) stopped.bad;
-          stored = λ steady. subst (AreStored q d.image i) (sym same) (stored-down w.path q d d' i top (level + 1) level stopped.down steady (can.ready.stored steady top is low));
-        };
-        failed = λ unread. absurd (false≢true unread);
-      }
-
-  -- one of them couldn't be read
-  pub gone-cut : (level : ℕ) → CanGoDown w d i → IsTopAt (per_block w.path.shape) (levels w.path.shape) i top → w.good ≤ top → IsWayCutOff (steps w.path q d d' i top) level
-      → HasGone w (record { path = q; shape = w.shape; good = level + 1; unread = true }) d d' i
-  gone-cut level can is low cut = record {
-    same = cut.down.same;
-    shape = refl;
-    on = record {
-      few = omega (arith, cut.low, is.few, ap levels cut.down.same.shape_is);
-      leads = leads-down w.path q d cut.between i top (level + 1) (level + 1) cut.down (can.ready.leads top is low);
-      bad = λ some read. absurd (false≢true (sym read));
-      stored = λ steady. stored-down w.path q d cut.between i top (level + 1) (level + 1) cut.down steady (can.ready.stored steady top is low);
-    };
-    failed = λ unread. inr cut.failed;
-  }
 
 -- ---- a device that was read
 
@@ -138,7 +88,7 @@ module _ (s : ShapeRecord) (valid : IsShape s) (i top : ℕ) (inside : i + 1 < s
   whole = let small : i % per_block s ^ 0 < per_block s ^ 0 = mod_below i (per_block s ^ 0) (pow_pos (per_block s) 0 some) in omega (arith, small, pow-zero (per_block s))
 
   -- the next data block has the same ones above the subtree that begins there
-  same-above : (m : ℕ) → top < m → ancestor s m i ≡ ancestor s m (i + 1)
+  pub same-above : (m : ℕ) → top < m → ancestor s m i ≡ ancestor s m (i + 1)
   same-above m high = elim (cases_lt (levels s) m) [
     | inl above ↦ ancestor-is s m i ∙ none-above s valid i m (omega (arith, inside)) (omega (arith, above)) ∙ sym (none-above s valid (i + 1) m inside (omega (arith, above))) ∙ sym (ancestor-is s m (i + 1))
     | inr within ↦

@@ -1,5 +1,5 @@
 -- What was found behind the superblock stands of the devices before.
-use Rattle.std.proofs.Common.{◌≡◌, ◌⊎◌, ℕ, Bool, List, Option, Some, None, get_or, ap, ◌∙◌, subst}
+use Rattle.std.proofs.Common.{◌≡◌, ◌⊎◌, ℕ, Bool, List, Option, Some, None, get_or, length, ap, ◌∙◌, subst}
 use Rattle.block_device.specs.Device.{Device}
 use Rattle.tree_shape.specs.Shape.{ShapeRecord, levels}
 use Rattle.verity_format.specs.declared.verifying.VerifyFault.TheVariants.{Super, TooSmall, Device as DeviceFailed, NoMemory}
@@ -14,9 +14,9 @@ use Rattle.tree_survey.specs.declared.fault.SurveyFault.TheVariants.{Image, Writ
 use Rattle.tree_survey.specs.Causes.{IsImageCause, IsPassCause, IsSurveyCause}
 use Rattle.tree_survey.specs.Failing.{HasFailedRead, IsReadOver}
 use Rattle.tree_survey.specs.Hashes.{AreBad, HashesFound, AreWithinHashes, bad_of_levels, tree_of_path}
-use Rattle.tree_survey.specs.Passes.{IsHidden, Surveys, pass, super_tree}
+use Rattle.tree_survey.specs.Passes.{IsHidden, Surveys, Unreadable, pass, super_tree}
 use Rattle.tree_survey.specs.Surveys.{AllStand, IsLedTo, IsContentStoredAs, Tree}
-use Rattle.tree_survey.proofs.FailingLemmas.{failed-later, failed-more, or-more}
+use Rattle.tree_survey.proofs.FailingLemmas.{failed-later, failed-more, or-more, times-within}
 
 -- the tree of a path
 pub tree-of : (s : SuperRecord) (root : List ℕ) (p : PathRecord) → IsPathOf (shape_of s) s.salt root p → tree_of_path p ≡ super_tree s root
@@ -28,12 +28,12 @@ module _ (t u : Tree) (d h h' d' h'' last : Device) (same : u ≡ t) (read : IsR
   failed-was : HasFailedRead h' h'' → HasFailedRead h last
   failed-was failed = failed-more h (failed-later read behind failed) later
 
-  hidden-was : (old new : Option (List ℕ)) (above : Type 0) (state : State) → IsHidden t (pass d h' d' h'' old new) above state → IsHidden t (pass d h d' last old new) above state
-  hidden-was old new above None h = absurd h
-  hidden-was old new above (Some Changed) h = h
-  hidden-was old new above (Some Unknown) (some, failed) = (some, failed-was failed)
-  hidden-was old new above (Some Removed) h = absurd h
-  hidden-was old new above (Some Added) h = absurd h
+  hidden-was : (old new : Option (List ℕ)) (lost : Unreadable) (i : ℕ) (above : Type 0) (state : State) → IsHidden t (pass d h' d' h'' old new) lost i above state → IsHidden t (pass d h d' last old new) lost i above state
+  hidden-was old new lost i above None h = absurd h
+  hidden-was old new lost i above (Some Changed) h = h
+  hidden-was old new lost i above (Some Unknown) (some, (under, failed)) = (some, (under, failed-was failed))
+  hidden-was old new lost i above (Some Removed) h = absurd h
+  hidden-was old new lost i above (Some Added) h = absurd h
 
   pub surveys-were : (old new : Option (List ℕ)) (totals : Totals) → Surveys u (pass d h' d' h'' old new) totals → Surveys t (pass d h d' last old new) totals
   surveys-were old new totals was =
@@ -42,13 +42,18 @@ module _ (t u : Tree) (d h h' d' h'' last : Device) (same : u ≡ t) (read : IsR
         states = s.states;
         seen = record {
           count = s.seen.count;
+          lost = s.seen.lost;
+          failed = record {
+            of_data = s.seen.failed.of_data;
+            of_hash = times-within h h' h'' last (length s.seen.lost.hashes) read.more s.seen.failed.of_hash later.more;
+          };
           contents = s.seen.contents;
           all = s.seen.all;
           over = s.seen.over;
-          seen = λ i low. or-more _ _ _ (hidden-was old new (IsLedTo t i) (get_or s.states i None)) (s.seen.seen i low);
+          seen = λ i low. or-more _ _ _ (hidden-was old new s.seen.lost i (IsLedTo t i) (get_or s.states i None)) (s.seen.seen i low);
           stored = λ steady steady' i low.
-              or-more _ _ _ (hidden-was old new (AllStand t h.image i) (get_or s.states i None))
-              (subst (λ (im : List (List ℕ)). IsContentStoredAs t d.image im i (get_or s.states i None) ⊎ IsHidden t (pass d h' d' h'' old new) (AllStand t im i) (get_or s.states i None)) (read.read.image steady')
+              or-more _ _ _ (hidden-was old new s.seen.lost i (AllStand t h.image i) (get_or s.states i None))
+              (subst (λ (im : List (List ℕ)). IsContentStoredAs t d.image im i (get_or s.states i None) ⊎ IsHidden t (pass d h' d' h'' old new) s.seen.lost i (AllStand t im i) (get_or s.states i None)) (read.read.image steady')
               (s.seen.stored steady (steady-then read.read.same steady') i low));
         };
         totals_are = s.totals_are;

@@ -1,34 +1,37 @@
 -- Data blocks that are gone over, while some are left.
-use Rattle.std.proofs.Common.{◌≡◌, ◌≤◌, ◌<◌, ◌+◌, ◌*◌, ◌/◌, ◌^◌, ◌⊎◌, ℕ, Bool, true, false, IsTrue, List, [], ◌∷◌, ◌++◌, length, get_or, Option, Some, None, refl, sym, ap, ◌∙◌, subst, arith, inl, inr}
+use Rattle.std.proofs.Common.{◌≡◌, ◌≤◌, ◌<◌, ◌+◌, ◌-◌, ◌*◌, ◌/◌, ◌^◌, ◌⊎◌, ℕ, Bool, true, false, IsTrue, List, [], ◌∷◌, ◌++◌, length, get_or, Contains, Option, Some, None, refl, sym, ap, ◌∙◌, subst, arith, inl, inr}
 use Rattle.std.specs.Io.KnownBytes.{Appends}
 use Rattle.std.proofs.lemmas.Bool.{cases_lt, false≢true}
-use Rattle.std.proofs.lemmas.List.{get_or-append-add, get_or_append_left, get_or-map, length-append, length-map}
+use Rattle.std.proofs.lemmas.List.{get_or_append_left, length-append}
+use Rattle.std.proofs.lemmas.List.Elements.{Contains-push}
 use Rattle.std.proofs.lemmas.List.FromFn.{get_or-map-range_with_len, map-range_with_len_more}
 use Rattle.block_device.specs.Device.{Device}
 use Rattle.tree_shape.specs.Digests.{digest}
-use Rattle.tree_shape.specs.Shape.{ShapeRecord, IsShape}
+use Rattle.tree_shape.specs.Shape.{ShapeRecord, IsShape, levels, per_block}
 use Rattle.tree_shape.proofs.lemmas.ShapeFaultLemmas.{blocks-le}
 use Rattle.verity_format.specs.Blocks.{block_at, blocks_at}
 use Rattle.verity_format.specs.Image.{tree_sectors}
 use Rattle.tree_path.specs.Path.{IsPathOf}
-use Rattle.tree_runs.specs.declared.run.Kind.{Kind}
+use Rattle.tree_path.specs.Spans.{IsTopAt}
 use Rattle.tree_runs.specs.declared.run.Kind.TheVariants.{Changed, Unknown, Removed, Added}
 use Rattle.tree_runs.specs.Limits.{begun, limited_lines}
-use Rattle.tree_runs.specs.Runs.{State, count_of, is_state, one_if}
+use Rattle.tree_runs.specs.Runs.{State}
 use Rattle.tree_runs.specs.Tallies.{EndsAt, listed}
-use Rattle.tree_runs.proofs.lemmas.ListingLemmas.{IsListed, listed-all, listed-ends, listed-had, listed-none, listed-run}
-use Rattle.tree_runs.proofs.lemmas.RunLemmas.{count_of-append}
+use Rattle.tree_runs.proofs.lemmas.ListingLemmas.{IsListed, listed-all, listed-ends, listed-none}
 use Rattle.tree_survey.specs.declared.counts.Counts.{Counts}
 use Rattle.tree_survey.specs.declared.counts.Totals.{Totals}
 use Rattle.tree_survey.specs.declared.sight.Sight.{Sight}
-use Rattle.tree_survey.specs.Counts.{AreFew, IsAdded, closed_at, counted, good_of, totals_of}
+use Rattle.tree_survey.specs.Counts.{AreFew, IsAdded, closed_at, counted, totals_of}
 use Rattle.tree_survey.specs.Passes.{CanPass, Surveys, pass, tree_in}
-use Rattle.tree_survey.specs.Failing.{HasFailedRead, IsReadOver, IsReadThrough}
+use Rattle.tree_survey.specs.Failing.{HasFailedRead, HasFailedTimes, IsReadOver, IsReadThrough}
+use Rattle.tree_survey.specs.Hashes.{HashBlock, IsUnderOne, hash_block_beneath}
 use Rattle.tree_survey.specs.Sights.{CanGoDown, HasGone, IsOnWay, IsReady, state_at}
 use Rattle.tree_survey.specs.Surveys.{AllStand, IsLedTo, IsContentSeenAs, IsStoredBy, IsUnreadAs, Tree}
-use Rattle.tree_survey.proofs.FailingLemmas.{failed-later, failed-more, or-more, over-none, over-then}
+use Rattle.tree_survey.proofs.FailingLemmas.{failed-later, failed-more, or-more, over-none, over-then, times-more, times-next, times-none}
 use Rattle.tree_survey.proofs.HashLemmas.{path-none}
-use Rattle.tree_survey.proofs.SightLemmas.{IsDigestOr, on-was, ready-next, ready-none, ready-read, seen-at, stored-at}
+use Rattle.tree_survey.proofs.LostLemmas.{AreHashesLost, hashes-kept, hashes-next, lost-still, lost_with}
+use Rattle.tree_survey.proofs.StateLemmas.{count-few, get_or-last, good-few, length-last, listed-next, totals-next}
+use Rattle.tree_survey.proofs.SightLemmas.{IsDigestOr, on-was, ready-next, ready-none, ready-read, same-above, seen-at, stored-at}
 
 -- the data blocks before that one were gone over
 pub record IsUnderway (t : Tree) (data_dev hash_dev data_dev' hash_dev' : Device) (old now : Option (List ℕ)) (w : Sight) (g : Counts) (at : ℕ) : Type 0 where
@@ -36,16 +39,21 @@ pub record IsUnderway (t : Tree) (data_dev hash_dev data_dev' hash_dev' : Device
   pub shape : w.shape ≡ w.path.shape
   pub within : at ≤ t.shape.blocks
   pub ready : at < t.shape.blocks → IsReady w hash_dev at
+  pub lost : List ℕ
+  pub times : HasFailedTimes data_dev (length lost) data_dev'
+  pub hashes : List HashBlock
+  pub hash_times : HasFailedTimes hash_dev (length hashes) hash_dev'
+  pub above : w.unread ≡ true → (top : ℕ) → IsTopAt (per_block t.shape) (levels t.shape) at top → top < w.good → at < t.shape.blocks → Contains hashes (hash_block_beneath t.shape w.good at)
   pub contents : List (List ℕ)
   pub states : List State
   pub here : at ≡ length contents
   pub also : at ≡ length states
   pub over : IsTrue data_dev.steady → contents ≡ blocks_at data_dev.image t.shape.data_block 0 at
   pub seen : (i : ℕ) → i < at
-      → IsContentSeenAs t i (get_or contents i []) (get_or states i None) ⊎ IsUnreadAs t (IsLedTo t i) (HasFailedRead data_dev data_dev') (HasFailedRead hash_dev hash_dev') (get_or states i None)
+      → IsContentSeenAs t i (get_or contents i []) (get_or states i None) ⊎ IsUnreadAs t (IsLedTo t i) (Contains lost i × HasFailedRead data_dev data_dev') (IsUnderOne t.shape hashes i × HasFailedRead hash_dev hash_dev') (get_or states i None)
   pub stored : IsTrue hash_dev.steady → (i : ℕ) → i < at
       → IsStoredBy t hash_dev.image i (digest t.salt (get_or contents i [])) (get_or states i None)
-      ⊎ IsUnreadAs t (AllStand t hash_dev.image i) (HasFailedRead data_dev data_dev') (HasFailedRead hash_dev hash_dev') (get_or states i None)
+      ⊎ IsUnreadAs t (AllStand t hash_dev.image i) (Contains lost i × HasFailedRead data_dev data_dev') (IsUnderOne t.shape hashes i × HasFailedRead hash_dev hash_dev') (get_or states i None)
   pub data_over : IsReadOver data_dev data_dev'
   pub hash_over : IsReadOver hash_dev hash_dev'
   pub unread : w.unread ≡ true → HasFailedRead hash_dev hash_dev'
@@ -59,6 +67,11 @@ underway-none w salt data_dev hash_dev old g can is = record {
   shape = can.shape;
   within = omega arith;
   ready = λ some. ready-none w hash_dev can.none;
+  lost = [];
+  times = times-none data_dev;
+  hashes = [];
+  hash_times = times-none hash_dev;
+  above = λ unread. absurd (false≢true (sym can.all_read ∙ unread));
   contents = [];
   states = [];
   here = refl;
@@ -85,9 +98,9 @@ unread-more t above a b a' b' (Some Added) f g h = absurd h
 
 -- the two devices were read further
 module _ (t : Tree) (data_dev hash_dev data_dev' hash_dev' data_dev'' hash_dev'' : Device) (old now : Option (List ℕ)) (w : Sight) (g : Counts) (at : ℕ) (u : IsUnderway t data_dev hash_dev data_dev' hash_dev' old now w g at) (data_read : IsReadOver data_dev' data_dev'') (hash_read : IsReadOver hash_dev' hash_dev'') where
-  hidden-more : (above : Type 0) (state : State) → IsUnreadAs t above (HasFailedRead data_dev data_dev') (HasFailedRead hash_dev hash_dev') state
-      → IsUnreadAs t above (HasFailedRead data_dev data_dev'') (HasFailedRead hash_dev hash_dev'') state
-  hidden-more above state = unread-more t above _ _ _ _ state (λ failed. failed-more data_dev failed data_read) (λ failed. failed-more hash_dev failed hash_read)
+  hidden-more : (i : ℕ) (above : Type 0) (state : State) → IsUnreadAs t above (Contains u.lost i × HasFailedRead data_dev data_dev') (IsUnderOne t.shape u.hashes i × HasFailedRead hash_dev hash_dev') state
+      → IsUnreadAs t above (Contains u.lost i × HasFailedRead data_dev data_dev'') (IsUnderOne t.shape u.hashes i × HasFailedRead hash_dev hash_dev'') state
+  hidden-more i above state = unread-more t above _ _ _ _ state (λ h. (h.0, failed-more data_dev h.1 data_read)) (λ h. (h.0, failed-more hash_dev h.1 hash_read))
 
   pub underway-more : IsUnderway t data_dev hash_dev data_dev'' hash_dev'' old now w g at
   underway-more = record {
@@ -95,70 +108,24 @@ module _ (t : Tree) (data_dev hash_dev data_dev' hash_dev' data_dev'' hash_dev''
     shape = u.shape;
     within = u.within;
     ready = u.ready;
+    lost = u.lost;
+    times = times-more data_dev data_dev' data_dev'' (length u.lost) u.times data_read.more;
+    hashes = u.hashes;
+    hash_times = times-more hash_dev hash_dev' hash_dev'' (length u.hashes) u.hash_times hash_read.more;
+    above = u.above;
     contents = u.contents;
     states = u.states;
     here = u.here;
     also = u.also;
     over = u.over;
-    seen = λ i low. or-more _ _ _ (hidden-more (IsLedTo t i) (get_or u.states i None)) (u.seen i low);
-    stored = λ steady i low. or-more _ _ _ (hidden-more (AllStand t hash_dev.image i) (get_or u.states i None)) (u.stored steady i low);
+    seen = λ i low. or-more _ _ _ (hidden-more i (IsLedTo t i) (get_or u.states i None)) (u.seen i low);
+    stored = λ steady i low. or-more _ _ _ (hidden-more i (AllStand t hash_dev.image i) (get_or u.states i None)) (u.stored steady i low);
     data_over = over-then u.data_over data_read;
     hash_over = over-then u.hash_over hash_read;
     unread = λ unread. failed-more hash_dev (u.unread unread) hash_read;
     listed = u.listed;
     totals = u.totals;
   }
-
--- ---- lists with one element more
-
-get_or-last : {X : Type 0} (xs : List X) (x d : X) (n : ℕ) → n ≡ length xs → get_or (xs ++ x ∷ []) n d ≡ x
-get_or-last xs x d n is = ap (λ (k : ℕ). get_or (xs ++ x ∷ []) k d) (is ∙ sym (plain (length xs))) ∙ get_or-append-add xs (x ∷ []) 0 d
-  where
-    plain : (k : ℕ) → k + 0 ≡ k
-    plain k = omega arith
-
-length-last : {X : Type 0} (xs : List X) (x : X) (n : ℕ) → n ≡ length xs → n + 1 ≡ length (xs ++ x ∷ [])
-length-last xs x n is = omega (arith, is, length-append xs (x ∷ []))
-
-good_of-append : (xs ys : List State) → good_of (xs ++ ys) ≡ good_of xs + good_of ys
-good_of-append [] ys = omega arith
-good_of-append (None ∷ xs) ys = omega (arith, good_of-append xs ys)
-good_of-append (Some kind ∷ xs) ys = good_of-append xs ys
-
-totals-same : (a b : Totals) → a.good ≡ b.good → a.changed ≡ b.changed → a.unknown ≡ b.unknown → a ≡ b
-totals-same a b x y z =
-    let f : ℕ → ℕ → ℕ → Totals = λ p q r. record { good = p; changed = q; unknown = r } in
-    ap (λ (n : ℕ). f n a.changed a.unknown) x ∙ ap (λ (n : ℕ). f b.good n a.unknown) y ∙ ap (f b.good b.changed) z
-
-totals-next : (states : List State) (state : State) → counted (totals_of states) state ≡ totals_of (states ++ state ∷ [])
-totals-next states None =
-    totals-same _ _ (omega (arith, good_of-append states (None ∷ []))) (omega (arith, count_of-append Changed states (None ∷ []))) (omega (arith, count_of-append Unknown states (None ∷ [])))
-totals-next states (Some Changed) =
-    totals-same _ _ (omega (arith, good_of-append states (Some Changed ∷ []))) (omega (arith, count_of-append Changed states (Some Changed ∷ []))) (omega (arith, count_of-append Unknown states (Some Changed ∷ [])))
-totals-next states (Some Unknown) =
-    totals-same _ _ (omega (arith, good_of-append states (Some Unknown ∷ []))) (omega (arith, count_of-append Changed states (Some Unknown ∷ []))) (omega (arith, count_of-append Unknown states (Some Unknown ∷ [])))
-totals-next states (Some Removed) =
-    totals-same _ _ (omega (arith, good_of-append states (Some Removed ∷ []))) (omega (arith, count_of-append Changed states (Some Removed ∷ []))) (omega (arith, count_of-append Unknown states (Some Removed ∷ [])))
-totals-next states (Some Added) =
-    totals-same _ _ (omega (arith, good_of-append states (Some Added ∷ []))) (omega (arith, count_of-append Changed states (Some Added ∷ []))) (omega (arith, count_of-append Unknown states (Some Added ∷ [])))
-
-good-few : (states : List State) → good_of states ≤ length states
-good-few [] = omega arith
-good-few (None ∷ more) = omega (arith, good-few more)
-good-few (Some kind ∷ more) = omega (arith, good-few more)
-
-weight-few : (b : Bool) → one_if b ≤ 1
-weight-few true = omega arith
-weight-few false = omega arith
-
-count-few : (kind : Kind) (states : List State) → count_of kind states ≤ length states
-count-few kind [] = omega arith
-count-few kind (state ∷ more) = omega (arith, weight-few (is_state kind state), count-few kind more)
-
-listed-next : (states : List State) (state : State) (g g' : Counts) (old now new : Option (List ℕ)) (at : ℕ) → at ≡ length states → IsListed None states g.tally old now
-    → Appends now new (limited_lines g.tally.limit (closed_at g.tally.last at state)) → IsAdded g g' at state → IsListed None (states ++ state ∷ []) g'.tally old new
-listed-next states None g g' old now new at is t told added = listed-had None states g.tally g'.tally old now new 1 (omega arith) t told added.last added.limit
-listed-next states (Some kind) g g' old now new at is t told added = listed-run None states g.tally g'.tally old now new at 1 kind is (omega arith) t told added.last added.limit
 
 module _ (t : Tree) (valid : IsShape t.shape) (data_dev hash_dev data_dev' hash_dev' : Device) (old now : Option (List ℕ)) (w : Sight) (g : Counts) (at : ℕ) (u : IsUnderway t data_dev hash_dev data_dev' hash_dev' old now w g at) where
   pub ends-at : EndsAt g.tally.last at
@@ -183,7 +150,7 @@ module _ (t : Tree) (valid : IsShape t.shape) (data_dev hash_dev data_dev' hash_
       ready = ready-read w hash_dev hash_dev' at u.hash_over.read (u.ready low);
     }
 
-    module _ (w' : Sight) (data_dev'' hash_dev'' : Device) (gone : HasGone w w' hash_dev' hash_dev'' at) (data_read : IsReadOver data_dev' data_dev'') (hash_read : IsReadOver hash_dev' hash_dev'') (content : List ℕ) (found : Option (List ℕ)) (told : IsDigestOr (HasFailedRead data_dev data_dev'') t.salt content found) where
+    module _ (w' : Sight) (data_dev'' hash_dev'' : Device) (gone : HasGone w w' hash_dev' hash_dev'' at) (data_read : IsReadOver data_dev' data_dev'') (hash_read : IsReadOver hash_dev' hash_dev'') (content : List ℕ) (found : Option (List ℕ)) (told : IsDigestOr (HasFailedRead data_dev' data_dev'') t.salt content found) where
       is_of' : IsPathOf t.shape t.salt t.root w'.path
       is_of' = record { shape_is = gone.same.shape_is ∙ u.is_of.shape_is; salt_is = gone.same.salt_is ∙ u.is_of.salt_is; root_is = gone.same.root_is ∙ u.is_of.root_is }
 
@@ -192,18 +159,65 @@ module _ (t : Tree) (valid : IsShape t.shape) (data_dev hash_dev data_dev' hash_
 
       unread' : w'.unread ≡ true → HasFailedRead hash_dev hash_dev''
       unread' e = elim (gone.failed e) [
-        | inl before ↦ later.unread before
-        | inr failed ↦ failed-later u.hash_over hash_read failed
+        | inl stayed ↦ later.unread (ap (λ (v : Sight). v.unread) (sym stayed.is) ∙ e)
+        | inr failed ↦ failed-later u.hash_over hash_read failed.1
       ]
 
       on : IsOnWay w' hash_dev at
       on = on-was w' hash_dev hash_dev' at u.hash_over.read gone.on
 
+      -- of this data block too, where it couldn't be read
+      abbrev lost' : List ℕ
+      lost' = lost_with u.lost at found
+
+      abbrev IsLost : ℕ → Type 0
+      IsLost i = Contains lost' i × HasFailedRead data_dev data_dev''
+
+      -- and the hash blocks, with that above it
+      hash-lost : (b : Bool) → w'.unread ≡ b → AreHashesLost t hash_dev hash_dev'' u.hashes w' at
+      hash-lost false e = hashes-kept t hash_dev hash_dev' hash_dev'' u.hashes w' at u.hash_times hash_read.more (λ e'. absurd (false≢true (sym e ∙ e')))
+      hash-lost true e = elim (gone.failed e) [
+        | inl stayed ↦
+            let top : IsTopAt (per_block t.shape) (levels t.shape) at stayed.top = subst (λ (s : ShapeRecord). IsTopAt (per_block s) (levels s) at stayed.top) u.is_of.shape_is stayed.is_top in
+            let same : w'.good ≡ w.good = ap (λ (v : Sight). v.good) stayed.is in
+            let above : Contains u.hashes (hash_block_beneath t.shape w.good at) = u.above (ap (λ (v : Sight). v.unread) (sym stayed.is) ∙ e) stayed.top top stayed.low low in
+            hashes-kept t hash_dev hash_dev' hash_dev'' u.hashes w' at u.hash_times hash_read.more
+            (λ e'. (omega (arith, same, stayed.low), subst (λ (m : ℕ). Contains u.hashes (hash_block_beneath t.shape m at)) (sym same) above))
+        | inr failed ↦ hashes-next t hash_dev hash_dev' hash_dev'' u.hashes w' at u.hash_times hash_read.more failed.0 failed.1.0
+      ]
+
+      hashes' : AreHashesLost t hash_dev hash_dev'' u.hashes w' at
+      hashes' = hash-lost w'.unread refl
+
+      abbrev IsHashLost : ℕ → Type 0
+      IsHashLost i = IsUnderOne t.shape hashes'.hashes i × HasFailedRead hash_dev hash_dev''
+
+      hash-unread : w'.unread ≡ true → IsHashLost at
+      hash-unread e = ((w'.good, ((hashes'.unread e).0, omega (arith, on.few, ap levels is_of'.shape_is), (hashes'.unread e).1)), unread' e)
+
       abbrev Seen : ℕ → List ℕ → State → Type 0
-      Seen i x state = IsContentSeenAs t i x state ⊎ IsUnreadAs t (IsLedTo t i) (HasFailedRead data_dev data_dev'') (HasFailedRead hash_dev hash_dev'') state
+      Seen i x state = IsContentSeenAs t i x state ⊎ IsUnreadAs t (IsLedTo t i) (IsLost i) (IsHashLost i) state
 
       abbrev Stored : ℕ → List ℕ → State → Type 0
-      Stored i x state = IsStoredBy t hash_dev.image i (digest t.salt x) state ⊎ IsUnreadAs t (AllStand t hash_dev.image i) (HasFailedRead data_dev data_dev'') (HasFailedRead hash_dev hash_dev'') state
+      Stored i x state = IsStoredBy t hash_dev.image i (digest t.salt x) state ⊎ IsUnreadAs t (AllStand t hash_dev.image i) (IsLost i) (IsHashLost i) state
+
+      told' : IsDigestOr (IsLost at) t.salt content found
+      told' = go found told
+        where
+          go : (f : Option (List ℕ)) → IsDigestOr (HasFailedRead data_dev' data_dev'') t.salt content f → IsDigestOr (Contains (lost_with u.lost at f) at × HasFailedRead data_dev data_dev'') t.salt content f
+          go (Some x) is = is
+          go None failed = (Contains-push u.lost at, failed-later u.data_over data_read failed)
+
+      times' : HasFailedTimes data_dev (length lost') data_dev''
+      times' = go found told
+        where
+          go : (f : Option (List ℕ)) → IsDigestOr (HasFailedRead data_dev' data_dev'') t.salt content f → HasFailedTimes data_dev (length (lost_with u.lost at f)) data_dev''
+          go (Some x) is = times-more data_dev data_dev' data_dev'' (length u.lost) u.times data_read.more
+          go None failed = times-next data_dev data_dev' data_dev'' (length u.lost) (length (u.lost ++ at ∷ [])) u.times data_read.more failed.0 (omega (arith, length-append u.lost (at ∷ [])))
+
+      wider : (i : ℕ) (above : Type 0) (state : State) → IsUnreadAs t above (Contains u.lost i × HasFailedRead data_dev data_dev'') (IsUnderOne t.shape u.hashes i × HasFailedRead hash_dev hash_dev'') state
+          → IsUnreadAs t above (IsLost i) (IsHashLost i) state
+      wider i above state = unread-more t above _ _ _ _ state (λ h. (lost-still u.lost at found i h.0, h.1)) (λ h. ((h.0.0, (h.0.1.0, h.0.1.1, hashes'.wider _ h.0.1.2)), h.1))
 
       -- what holds of each data block before, and of this one, holds of each with it
       each-next : (P : ℕ → List ℕ → State → Type 0) (state : State) → ((i : ℕ) → i < at → P i (get_or u.contents i []) (get_or u.states i None)) → P at content state
@@ -231,6 +245,12 @@ module _ (t : Tree) (valid : IsShape t.shape) (data_dev hash_dev data_dev' hash_
             shape = gone.shape ∙ u.shape ∙ sym gone.same.shape_is;
             within = omega (arith, low);
             ready = λ more. ready-next w' (subst IsShape (sym is_of'.shape_is) valid) hash_dev at (omega (arith, more, ap (λ (s : ShapeRecord). s.blocks) is_of'.shape_is)) on;
+            lost = lost';
+            times = times';
+            hashes = hashes'.hashes;
+            hash_times = hashes'.times;
+            above = λ unread top is under inside.
+                subst (λ (n : ℕ). Contains hashes'.hashes (record { level = w'.good - 1; number = n })) (same-above t.shape valid at top inside is w'.good under) (hashes'.unread unread).1;
             contents = u.contents ++ content ∷ [];
             states = u.states ++ state ∷ [];
             here = length-last u.contents content at u.here;
@@ -239,8 +259,10 @@ module _ (t : Tree) (valid : IsShape t.shape) (data_dev hash_dev data_dev' hash_
                 ap (λ (xs : List (List ℕ)). xs ++ content ∷ []) (u.over steady)
                 ∙ ap (λ (x : List ℕ). blocks_at data_dev.image t.shape.data_block 0 at ++ x ∷ []) (over steady)
                 ∙ sym (map-range_with_len_more (block_at data_dev.image t.shape.data_block) 0 at at (omega arith));
-            seen = each-next Seen state later.seen (seen-at t w' hash_dev at is_of' on (HasFailedRead data_dev data_dev'') (HasFailedRead hash_dev hash_dev'') unread' content found told);
-            stored = λ steady. each-next Stored state (later.stored steady) (stored-at t w' hash_dev at is_of' on (HasFailedRead data_dev data_dev'') (HasFailedRead hash_dev hash_dev'') unread' content steady found told);
+            seen = each-next Seen state (λ i before. or-more _ _ _ (wider i (IsLedTo t i) (get_or u.states i None)) (later.seen i before))
+                (seen-at t w' hash_dev at is_of' on (IsLost at) (IsHashLost at) hash-unread content found told');
+            stored = λ steady. each-next Stored state (λ i before. or-more _ _ _ (wider i (AllStand t hash_dev.image i) (get_or u.states i None)) (later.stored steady i before))
+                (stored-at t w' hash_dev at is_of' on (IsLost at) (IsHashLost at) hash-unread content steady found told');
             data_over = later.data_over;
             hash_over = later.hash_over;
             unread = unread';
@@ -257,13 +279,15 @@ module _ (t : Tree) (valid : IsShape t.shape) (data_dev hash_dev data_dev' hash_
         states = u.states;
         seen = record {
           count = sym u.also ∙ all;
+          lost = record { blocks = u.lost; hashes = u.hashes };
+          failed = record { of_data = u.times; of_hash = u.hash_times };
           contents = u.contents;
           all = sym u.here ∙ all;
           over = over';
           seen = λ i low. u.seen i (omega (arith, low, all));
           stored = λ steady steady' i low.
               subst (λ (x : List ℕ). IsStoredBy t hash_dev.image i (digest t.salt x) (get_or u.states i None)
-              ⊎ IsUnreadAs t (AllStand t hash_dev.image i) (HasFailedRead data_dev data_dev') (HasFailedRead hash_dev hash_dev') (get_or u.states i None))
+              ⊎ IsUnreadAs t (AllStand t hash_dev.image i) (Contains u.lost i × HasFailedRead data_dev data_dev') (IsUnderOne t.shape u.hashes i × HasFailedRead hash_dev hash_dev') (get_or u.states i None))
               (ap (λ (xs : List (List ℕ)). get_or xs i []) (over' steady) ∙ get_or-map-range_with_len (block_at data_dev.image t.shape.data_block) 0 t.shape.blocks i i [] low (omega arith))
               (u.stored steady' i (omega (arith, low, all)));
         };

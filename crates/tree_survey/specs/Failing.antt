@@ -1,5 +1,5 @@
 -- Reads of devices that may fail at some sectors.
-use Rattle.std.specs.Prelude.{◌≡◌, ◌⊎◌, ℕ, ◌/◌, ◌≤◌, Bool, true, false, IsTrue, List, length}
+use Rattle.std.specs.Prelude.{◌≡◌, ◌⊎◌, ℕ, ◌+◌, ◌-◌, ◌/◌, ◌^◌, ◌≤◌, Bool, true, false, IsTrue, List, length}
 use Rattle.std.specs.List.{concat}
 use Rattle.block_device.specs.Device.{Device, HasFailed, run_of}
 use Rattle.verity_format.specs.Blocks.{IsBlockRead, IsFullRead, IsOnlyRead}
@@ -7,6 +7,10 @@ use Rattle.verity_format.specs.Blocks.{IsBlockRead, IsFullRead, IsOnlyRead}
 -- a call failed, and so it is no device that never fails
 abbrev pub HasFailedRead : Device → Device → Type 0
 HasFailedRead old new = HasFailed old new × (IsTrue old.never_fails → ⊥)
+
+-- at least so many calls failed, or the counter of failures came to its end
+abbrev pub HasFailedTimes : Device → ℕ → Device → Type 0
+HasFailedTimes old n new = (old.failures + n ≤ new.failures) ⊎ (2 ^ 64 - 1 ≤ new.failures)
 
 -- calls of read alone, some of which may have failed: of a device that never fails none did
 pub record IsReadOver (old new : Device) : Type 0 where

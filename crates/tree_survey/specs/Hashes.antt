@@ -1,11 +1,11 @@
 -- Hash blocks whose digests don't stand above them.
-use Rattle.std.specs.Prelude.{◌≡◌, ◌⊎◌, ℕ, zero, suc, ◌+◌, ◌-◌, ◌*◌, ◌^◌, ◌<◌, ◌≤◌, Bool, true, false, IsTrue, List, [], ◌∷◌, ◌++◌, Option}
+use Rattle.std.specs.Prelude.{◌≡◌, ◌⊎◌, ℕ, zero, suc, ◌+◌, ◌-◌, ◌*◌, ◌^◌, ◌<◌, ◌≤◌, Bool, true, false, IsTrue, List, [], ◌∷◌, ◌++◌, Contains, Option}
 use Rattle.std.specs.List.{flat_map}
 use Rattle.std.specs.Str.{bytes_eq}
 use Rattle.std.specs.Io.KnownBytes.{Appends}
 use Rattle.block_device.specs.Device.{Device}
 use Rattle.tree_shape.specs.Digests.{digest}
-use Rattle.tree_shape.specs.Shape.{ShapeRecord, IsShape, level_blocks, levels, per_block}
+use Rattle.tree_shape.specs.Shape.{ShapeRecord, IsShape, ancestor, level_blocks, levels, per_block}
 use Rattle.verity_format.specs.Image.{tree_sectors}
 use Rattle.tree_path.specs.Path.{PathRecord, IsPathOf, block_of, stored_block, stored_digest}
 use Rattle.tree_runs.specs.Texts.{hash_text}
@@ -36,6 +36,14 @@ is_whole (b ∷ more) = false
 -- the first data block beneath hash block n of level l
 abbrev pub first_below : ShapeRecord → ℕ → ℕ → ℕ
 first_below s l n = n * per_block s ^ (l + 1)
+
+-- the hash block beneath level m on the way to data block i
+abbrev pub hash_block_beneath : ShapeRecord → ℕ → ℕ → HashBlock
+hash_block_beneath s m i = record { level = m - 1; number = ancestor s m i }
+
+-- one of these hash blocks stands above data block i
+abbrev pub IsUnderOne : ShapeRecord → List HashBlock → ℕ → Type 0
+IsUnderOne s blocks i = (m : ℕ) × ((0 < m) × (m ≤ levels s) × Contains blocks (hash_block_beneath s m i))
 
 -- the digest of the hash block of level l on the way to data block i stands above it
 abbrev pub is_good_on : Tree → List (List ℕ) → ℕ → ℕ → Bool

@@ -1,5 +1,4 @@
 pub mod Failing
-pub mod Seen
 pub mod Paths
 pub mod Surveys
 pub mod Laws

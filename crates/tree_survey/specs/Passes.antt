@@ -1,5 +1,5 @@
 -- What going over an image finds, prints and reads.
-use Rattle.std.specs.Prelude.{◌≡◌, ◌⊎◌, ℕ, ◌<◌, ◌≤◌, false, IsTrue, List, [], length, Option, None}
+use Rattle.std.specs.Prelude.{◌≡◌, ◌⊎◌, ℕ, ◌<◌, ◌≤◌, false, IsTrue, List, [], length, Contains, Option, None}
 use Rattle.std.specs.List.{slice_index_or}
 use Rattle.std.specs.Io.KnownBytes.{Appends}
 use Rattle.block_device.specs.Device.{Device}
@@ -15,8 +15,8 @@ use Rattle.tree_survey.specs.declared.sight.Sight.{Sight}
 use Rattle.tree_survey.specs.declared.survey.Survey.{Survey}
 use Rattle.tree_survey.specs.Causes.{AreImages}
 use Rattle.tree_survey.specs.Counts.{totals_of}
-use Rattle.tree_survey.specs.Failing.{HasFailedRead, IsReadOver, IsReadThrough}
-use Rattle.tree_survey.specs.Hashes.{HashesFound, hash_lines, is_whole}
+use Rattle.tree_survey.specs.Failing.{HasFailedRead, HasFailedTimes, IsReadOver, IsReadThrough}
+use Rattle.tree_survey.specs.Hashes.{HashBlock, HashesFound, IsUnderOne, hash_lines, is_whole}
 use Rattle.tree_survey.specs.Surveys.{AllStand, IsLedTo, IsContentSeenAs, IsContentStoredAs, IsUnreadAs, Tree}
 
 -- two devices before and after, and what was printed, where that is known
@@ -48,22 +48,35 @@ pub record CanPass (w : Sight) (salt : List ℕ) (data_dev hash_dev : Device) : 
 pub record HasPassed (old new : Sight) : Type 0 where
   pub same : IsPathOf old.path.shape old.path.salt old.path.root new.path
 
--- a data block is told as one that isn't good since a read of one of the two devices failed
-abbrev pub IsHidden : Tree → Pass → Type 0 → State → Type 0
-IsHidden t w above_good state = IsUnreadAs t above_good (HasFailedRead w.data_dev w.data_dev') (HasFailedRead w.hash_dev w.hash_dev') state
+-- data blocks and hash blocks that couldn't be read
+pub record Unreadable : Type 0 where
+  pub blocks : List ℕ
+  pub hashes : List HashBlock
+
+-- for each of them a call of its device failed
+pub record HaveFailed (w : Pass) (lost : Unreadable) : Type 0 where
+  pub of_data : HasFailedTimes w.data_dev (length lost.blocks) w.data_dev'
+  pub of_hash : HasFailedTimes w.hash_dev (length lost.hashes) w.hash_dev'
+
+-- data block i is told as one that isn't good since it is one of those that couldn't be read, or a hash block above it is
+abbrev pub IsHidden : Tree → Pass → Unreadable → ℕ → Type 0 → State → Type 0
+IsHidden t w lost i above_good state =
+    IsUnreadAs t above_good (Contains lost.blocks i × HasFailedRead w.data_dev w.data_dev') (IsUnderOne t.shape lost.hashes i × HasFailedRead w.hash_dev w.hash_dev') state
 
 -- The states of all data blocks, each with the content that was read and the way that shows it, unless a read failed. One
--- that is good was read. Over a steady data device the contents are the blocks that stand there; over steady devices the
+-- that is good was read. For each block that couldn't be read a call of its device failed. Over a steady data device the contents are the blocks that stand there; over steady devices the
 -- states are those of what stands there, again unless a read failed.
 pub record AreSeen (t : Tree) (w : Pass) (states : List State) : Type 0 where
   pub count : length states ≡ t.shape.blocks
+  pub lost : Unreadable
+  pub failed : HaveFailed w lost
   pub contents : List (List ℕ)
   pub all : length contents ≡ t.shape.blocks
   pub over : IsTrue w.data_dev.steady → contents ≡ blocks_at w.data_dev.image t.shape.data_block 0 t.shape.blocks
   pub seen : (i : ℕ) → i < t.shape.blocks
-      → IsContentSeenAs t i (slice_index_or contents i []) (slice_index_or states i None) ⊎ IsHidden t w (IsLedTo t i) (slice_index_or states i None)
+      → IsContentSeenAs t i (slice_index_or contents i []) (slice_index_or states i None) ⊎ IsHidden t w lost i (IsLedTo t i) (slice_index_or states i None)
   pub stored : IsTrue w.data_dev.steady → IsTrue w.hash_dev.steady → (i : ℕ) → i < t.shape.blocks
-      → IsContentStoredAs t w.data_dev.image w.hash_dev.image i (slice_index_or states i None) ⊎ IsHidden t w (AllStand t w.hash_dev.image i) (slice_index_or states i None)
+      → IsContentStoredAs t w.data_dev.image w.hash_dev.image i (slice_index_or states i None) ⊎ IsHidden t w lost i (AllStand t w.hash_dev.image i) (slice_index_or states i None)
 
 -- Each data block was read once, or a read failed. A line was printed for each longest run of those that aren't good.
 pub record Surveys (t : Tree) (w : Pass) (totals : Totals) : Type 0 where

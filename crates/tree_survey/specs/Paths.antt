@@ -1,22 +1,15 @@
 -- Hash blocks that are read on the way down to a data block, of which some may be unreadable.
-use Rattle.std.specs.Prelude.{◌≡◌, ℕ, ◌+◌, ◌<◌, Bool, List, length, Option, Some, None, slice_set}
+use Rattle.std.specs.Prelude.{ℕ, ◌+◌, ◌<◌, Bool, IsTrue, Option, Some, None}
 use Rattle.block_device.specs.Device.{Device}
-use Rattle.tree_path.specs.Steps.{IsDown, IsStepLoaded, IsStopped, Steps}
+use Rattle.tree_path.specs.Steps.{IsDown, IsStepLoaded, IsStopped, IsUnloaded, Steps}
 use Rattle.tree_survey.specs.declared.path.Reach.{Reach}
 use Rattle.tree_survey.specs.declared.path.Reach.TheVariants.{All, Bad, Unread}
 use Rattle.tree_survey.specs.Failing.{HasFailedRead}
 
--- the hash block of level `from` couldn't be read, and what is kept for it is anything
-pub record IsUnloaded (w : Steps) : Type 0 where
-  pub block : List ℕ
-  pub inside : w.from < length w.old.blocks
-  pub is : w.new ≡ record w.old { blocks = slice_set w.old.blocks w.from block }
-  pub failed : HasFailedRead w.device w.device'
-
--- it was read, and is good or not; or it couldn't be
+-- a hash block was read, and is good or not; or it couldn't be, from a device that may fail
 abbrev pub IsLoadedOr : Steps → Option Bool → Type 0
 IsLoadedOr w (Some good) = IsStepLoaded w good
-IsLoadedOr w None = IsUnloaded w
+IsLoadedOr w None = IsUnloaded w × (IsTrue w.device.never_fails → ⊥)
 
 -- the hash blocks of the levels below `from` down to one are good, and the one beneath that couldn't be read
 pub record IsWayCutOff (w : Steps) (level : ℕ) : Type 0 where

@@ -41,13 +41,20 @@ pub record CanGoDown (w : Sight) (device : Device) (i : ℕ) : Type 0 where
   pub shape : w.shape ≡ w.path.shape
   pub ready : IsReady w device i
 
+-- the hash blocks down to the first that isn't good are those on the way to data block i too, and nothing is read
+pub record HasStayed (old new : Sight) (i : ℕ) : Type 0 where
+  pub is : new ≡ old
+  pub top : ℕ
+  pub is_top : IsTopAt (per_block old.path.shape) (levels old.path.shape) i top
+  pub low : top < old.good
+
 -- The hash blocks on the way to data block i were read, down to the first that isn't good. Where that couldn't be read, a
 -- read failed here, or it is the one that couldn't be read before.
 pub record HasGone (old new : Sight) (device device' : Device) (i : ℕ) : Type 0 where
   pub same : IsPathOf old.path.shape old.path.salt old.path.root new.path
   pub shape : new.shape ≡ old.shape
   pub on : IsOnWay new device i
-  pub failed : new.unread ≡ true → (old.unread ≡ true) ⊎ HasFailedRead device device'
+  pub failed : new.unread ≡ true → HasStayed old new i ⊎ ((0 < new.good) × HasFailedRead device device')
 
 -- what is said of a data block of that digest, if it could be read, to which good hash blocks lead
 abbrev pub state_by : PathRecord → ℕ → List ℕ → State

@@ -3,7 +3,6 @@ ghost use Rattle.std.specs.Prelude.{◌≡◌};
 ghost use Rattle.tree_survey.specs.declared.fault.SurveyFault.TheVariants as survey_fault;
 ghost use Rattle.verity_format.specs.declared.verifying.VerifyFault.TheVariants as verify_fault;
 
-use block_device::DeviceFault;
 use counted_io::WriteFault;
 use std::alloc::AllocError;
 use verity_format::VerifyFault;
@@ -22,14 +21,6 @@ impl From<VerifyFault> for SurveyFault {
 
     fn from(fault: VerifyFault) -> SurveyFault {
         SurveyFault::Image(fault)
-    }
-}
-
-impl From<DeviceFault> for SurveyFault {
-    ghost from_gives = { λ _ given. given ≡ survey_fault.Image verify_fault.Device };
-
-    fn from(_fault: DeviceFault) -> SurveyFault {
-        SurveyFault::Image(VerifyFault::Device)
     }
 }
 

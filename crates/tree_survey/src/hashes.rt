@@ -6,17 +6,17 @@ ghost use Rattle.tree_runs.specs.Listings.{Tells};
 ghost use Rattle.tree_survey.specs.Failing.{IsReadOver};
 ghost use Rattle.tree_survey.specs.Hashes.{CanCompareHashes, IsAbove, IsCompared, TellsBad, TellsTree, hash_line_at};
 
-use crate::path::ReadPath;
+use crate::path::load;
 use block_device::BlockDev;
 use counted_io::WriteFault;
-use tree_path::span;
+use tree_path::{TreePath, span};
 use tree_runs::{Line, Listing};
 use tree_shape::Shape;
 
 /// Tells a line for each hash block whose digest isn't seen to stand above it, since it doesn't or since one of the two can't
 /// be read, in the order in which they lie on the device, the top level first, and tells whether there was none.
 pub(crate) fn say_hashes<H: BlockDev, L: Listing>(
-    path: &mut ReadPath,
+    path: &mut TreePath,
     shape: &Shape,
     device: &mut H,
     listing: &mut L,
@@ -44,7 +44,7 @@ fn both(a: bool, b: bool) -> bool
 
 // The same of the hash blocks of a level.
 fn say_level<H: BlockDev, L: Listing>(
-    path: &mut ReadPath,
+    path: &mut TreePath,
     shape: &Shape,
     device: &mut H,
     level: u32,
@@ -70,7 +70,7 @@ fn say_level<H: BlockDev, L: Listing>(
 
 // Reads the hash block of that level on the way to a data block, behind the one above it, and tells whether its digest was
 // seen to stand there.
-fn is_good<H: BlockDev>(path: &mut ReadPath, device: &mut H, level: u32, index: u64) -> bool
+fn is_good<H: BlockDev>(path: &mut TreePath, device: &mut H, level: u32, index: u64) -> bool
     requires inside { index < path.old.shape.blocks }
     requires level { level < levels path.old.shape }
     requires few { level < 14 }
@@ -81,7 +81,7 @@ fn is_good<H: BlockDev>(path: &mut ReadPath, device: &mut H, level: u32, index: 
     if !read_above(path, device, level, index) {
         return false;
     }
-    match path.load(device, level, index) {
+    match load(path, device, level, index) {
         Some(good) => good,
         None => false,
     }
@@ -89,7 +89,7 @@ fn is_good<H: BlockDev>(path: &mut ReadPath, device: &mut H, level: u32, index: 
 
 // Reads the hash block above that of a level on the way to a data block, where there is one, and tells whether it could be
 // read; it need not be good.
-fn read_above<H: BlockDev>(path: &mut ReadPath, device: &mut H, level: u32, index: u64) -> bool
+fn read_above<H: BlockDev>(path: &mut TreePath, device: &mut H, level: u32, index: u64) -> bool
     requires inside { index < path.old.shape.blocks }
     requires level { level < levels path.old.shape }
     requires few { level < 14 }
@@ -100,7 +100,7 @@ fn read_above<H: BlockDev>(path: &mut ReadPath, device: &mut H, level: u32, inde
     if level + 1 == path.levels() {
         return true;
     }
-    match path.load(device, level + 1, index) {
+    match load(path, device, level + 1, index) {
         Some(_) => true,
         None => false,
     }

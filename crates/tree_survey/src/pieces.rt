@@ -11,7 +11,14 @@ use std::alloc::{AllocError, Global};
 use tree_shape::{Digest, Salt, Shape};
 
 /// How many bytes of the data are read in one call.
-pub(crate) const PIECE: usize = 1 << 16;
+const PIECE: usize = 1 << 16;
+
+/// Room for the bytes of a piece.
+pub(crate) fn piece_room(alloc: Global) -> Result<Vec<u8>, AllocError>
+    ensures { IfOk result (λ v. length v.items ≡ 65536) }
+{
+    vec![in alloc; 0u8; PIECE]
+}
 
 /// Room for the digests of a piece of the smallest blocks.
 pub(crate) fn digest_room(alloc: Global) -> Result<Vec<Digest>, AllocError>

@@ -1,19 +1,20 @@
 //! The hash blocks on the way to a data block, while data blocks are gone over.
 ghost use Rattle.std.specs.Prelude.{◌≡◌};
+ghost use Rattle.std.specs.Str.{bytes_eq};
 ghost use Rattle.tree_shape.specs.Shape.{levels};
 ghost use Rattle.tree_survey.specs.Failing.{IsReadOver};
 ghost use Rattle.tree_survey.specs.Sights.{CanGoDown, HasGone, none_read, state_at, state_by};
 
-use crate::path::{Reach, ReadPath, is_same};
+use crate::path::{Reach, descend};
 use block_device::BlockDev;
-use tree_path::top_at;
+use tree_path::{TreePath, top_at};
 use tree_runs::Kind;
 use tree_shape::{Digest, Shape};
 
 /// A path, its shape, the level from which up its hash blocks are good, and whether the one below that can't be read.
 #[derive(Drop)]
 pub(crate) struct Sight {
-    pub(crate) path: ReadPath,
+    pub(crate) path: TreePath,
     pub(crate) shape: Shape,
     pub(crate) good: u32,
     pub(crate) unread: bool,
@@ -21,7 +22,7 @@ pub(crate) struct Sight {
 
 impl Sight {
     /// Nothing was read.
-    pub(crate) fn new(path: ReadPath, shape: Shape) -> Sight
+    pub(crate) fn new(path: TreePath, shape: Shape) -> Sight
         ensures { result ≡ none_read path shape }
     {
         let good = path.levels();
@@ -44,7 +45,7 @@ impl Sight {
         if top < self.good {
             return;
         }
-        match self.path.descend(device, index, top) {
+        match descend(&mut self.path, device, index, top) {
             Reach::All => self.end(0, false),
             Reach::Bad(level) => self.end(level + 1, false),
             Reach::Unread(level) => self.end(level + 1, true),
@@ -81,4 +82,11 @@ impl Sight {
         }
         Some(Kind::Changed)
     }
+}
+
+// Whether two digests are the same.
+fn is_same(a: &Digest, b: &Digest) -> bool
+    ensures { result ≡ bytes_eq a.now b.now }
+{
+    a == b
 }

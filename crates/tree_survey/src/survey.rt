@@ -8,11 +8,11 @@ ghost use Rattle.tree_survey.specs.Passes.{CanPass, HasPassed, IsSurvey, Surveys
 use crate::counts::{Counts, Totals};
 use crate::fault::SurveyFault;
 use crate::hashes::say_hashes;
-use crate::path::{ReadPath, zeros};
-use crate::pieces::{PIECE, blocks_of, digest_of, digest_room, read_piece};
+use crate::pieces::{blocks_of, digest_of, digest_room, piece_room, read_piece};
 use crate::sight::Sight;
 use block_device::BlockDev;
 use std::alloc::Global;
+use tree_path::TreePath;
 use tree_runs::Listing;
 use tree_shape::{Digest, Salt};
 use verity_format::{Superblock, VerifyFault, data_sectors, read_superblock, tree_sectors};
@@ -45,7 +45,7 @@ pub fn survey_image<D: BlockDev, H: BlockDev, L: Listing>(
     let superblock = superblock_of(data_dev, hash_dev)?;
     let shape = superblock.shape();
     let salt = superblock.salt();
-    let path = ReadPath::new(alloc, shape, salt, *root)?;
+    let path = TreePath::new(alloc, shape, salt, *root)?;
     let mut sight = Sight::new(path, shape);
     let totals = survey_data(alloc, &mut sight, &salt, data_dev, hash_dev, listing)?;
     let whole_tree = say_hashes(&mut sight.path, &shape, hash_dev, listing)?;
@@ -89,7 +89,7 @@ fn survey_data<D: BlockDev, H: BlockDev, L: Listing>(
     ensures ok { IfOk result (Surveys (tree_in sight.old) (seen_pass D.state H.state L.told data_dev.old hash_dev.old data_dev.new hash_dev.new listing.old listing.new)) }
     ensures err { IfErr result (EndsPass D.state H.state data_dev.old hash_dev.old data_dev.new hash_dev.new (L.failed listing.new)) }
 {
-    let mut memory = zeros(alloc, PIECE)?;
+    let mut memory = piece_room(alloc)?;
     let mut room = digest_room(alloc)?;
     let piece = memory.as_mut_slice();
     let digests = room.as_mut_slice();

@@ -1,4 +1,3 @@
-use Rattle.std.proofs.Common.{true, false}
 use Rattle.std.proofs.lemmas.Bool.{false≢true}
 use Rattle.tree_survey.proofs.FailingLemmas.{over-err, over-ok, sectors-read}
 use Rattle.tree_survey.proofs.attempt.attempt.Goals as goal

@@ -1,4 +1,4 @@
-use Rattle.std.proofs.Common.{◌≡◌, refl}
+use Rattle.std.proofs.Common.{refl}
 use Rattle.tree_survey.proofs.FailingLemmas.{block-tried}
 use Rattle.tree_survey.proofs.attempt.read_block.Goals as goal
 

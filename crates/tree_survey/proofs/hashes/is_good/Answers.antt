@@ -1,4 +1,3 @@
-use Rattle.std.proofs.Common.{true}
 use Rattle.tree_survey.proofs.FailingLemmas.{over-then}
 use Rattle.tree_survey.proofs.HashLemmas.{compared, compared-none, compared-unread}
 use Rattle.tree_survey.proofs.hashes.is_good.Goals as goal
@@ -19,7 +18,7 @@ returns-in-Some-clause-ends g c =
     let d = g.H.BlockDev.state c.args.device.now in
     let d' = g.H.BlockDev.state c.read_above.new.device in
     let d'' = g.H.BlockDev.state c.load.new.device in
-    compared c.args.path.now c.read_above.new.path c.load.new.self d d' d'' c.args.index c.args.level c.in-Some.good c.requires.level c.read_above.ensures.over
+    compared c.args.path.now c.read_above.new.path c.load.new.path d d' d'' c.args.index c.args.level c.in-Some.good c.requires.level c.read_above.ensures.over
     (rw c.if-not-read_above.false at c.read_above.ensures.ends) (rw c.in-Some.is at c.load.ensures.ends)
 
 pub returns-in-None-clause-ends : goal.returns-in-None-clause-ends
@@ -27,5 +26,5 @@ returns-in-None-clause-ends g c =
     let d = g.H.BlockDev.state c.args.device.now in
     let d' = g.H.BlockDev.state c.read_above.new.device in
     let d'' = g.H.BlockDev.state c.load.new.device in
-    compared-unread c.args.path.now c.read_above.new.path c.load.new.self d d' d'' c.args.index c.args.level c.read_above.ensures.over c.load.ensures.over
+    compared-unread c.args.path.now c.read_above.new.path c.load.new.path d d' d'' c.args.index c.args.level c.read_above.ensures.over c.load.ensures.over
     (rw c.if-not-read_above.false at c.read_above.ensures.ends) (rw c.in-None.is at c.load.ensures.ends)

@@ -11,8 +11,8 @@ returns-then-level-levels-clause-ends g c = above-none c.args.path.now (g.H.Bloc
 
 pub returns-in-Some-clause-ends : goal.returns-in-Some-clause-ends
 returns-in-Some-clause-ends g c =
-    above-read c.args.path.now c.load.new.self (g.H.BlockDev.state c.args.device.now) (g.H.BlockDev.state c.load.new.device) c.args.index (c.args.level + 1) c.args.level refl c.in-Some.field-0 (rw c.in-Some.is at c.load.ensures.ends)
+    above-read c.args.path.now c.load.new.path (g.H.BlockDev.state c.args.device.now) (g.H.BlockDev.state c.load.new.device) c.args.index (c.args.level + 1) c.args.level refl c.in-Some.field-0 (rw c.in-Some.is at c.load.ensures.ends)
 
 pub returns-in-None-clause-ends : goal.returns-in-None-clause-ends
 returns-in-None-clause-ends g c =
-    above-unread c.args.path.now c.load.new.self (g.H.BlockDev.state c.args.device.now) (g.H.BlockDev.state c.load.new.device) c.args.index (c.args.level + 1) c.args.level (rw c.in-None.is at c.load.ensures.ends)
+    above-unread c.args.path.now c.load.new.path (g.H.BlockDev.state c.args.device.now) (g.H.BlockDev.state c.load.new.device) c.args.index (c.args.level + 1) c.args.level (rw c.in-None.is at c.load.ensures.ends)

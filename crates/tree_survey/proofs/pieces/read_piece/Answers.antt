@@ -1,4 +1,4 @@
-use Rattle.std.proofs.Common.{◌≡◌, ◌++◌, ◌∙◌, ℕ, List, sym, subst, length, drop, take, arith}
+use Rattle.std.proofs.Common.{◌≡◌, ◌∙◌, ℕ, List, sym, subst, length, drop}
 use Rattle.std.proofs.lemmas.List.{length-take-le, take_at}
 use Rattle.tree_survey.specs.Pieces.{IsRunTried}
 use Rattle.tree_survey.proofs.pieces.read_piece.Goals as goal

@@ -1,4 +1,4 @@
-use Rattle.std.proofs.Common.{◌≡◌, ◌*◌, ◌/◌, ◌∙◌, ℕ, ap, sym, arith, length, subst, refl, true}
+use Rattle.std.proofs.Common.{◌≡◌, ◌*◌, ◌/◌, ◌∙◌, ℕ, ap, sym, arith, length, subst, refl}
 use Rattle.hash_tree.specs.Tree.{cut}
 use Rattle.verity_format.specs.Blocks.{IsFullRead, blocks_at}
 use Rattle.tree_survey.specs.Failing.{IsSectorsRead}

@@ -1,13 +1,12 @@
-use Rattle.std.proofs.Common.{◌≡◌, ◌<◌, ◌≤◌, ◌*◌, ◌/◌, ◌+◌, ℕ, List, [], get_or, length, take, arith, ap, refl, sym, ◌∙◌, subst}
+use Rattle.std.proofs.Common.{◌≡◌, ◌<◌, ◌≤◌, ◌*◌, ◌/◌, ◌+◌, ℕ, List, [], get_or, length, arith, ap, refl, sym, ◌∙◌, subst}
 use Rattle.std.proofs.Math.Nat.{zero-mul}
-use Rattle.std.proofs.lemmas.List.{get_or_read, length-replicate, length-take-le}
+use Rattle.std.proofs.lemmas.List.{get_or_read, length-take-le}
 use Rattle.block_device.specs.Device.{Device}
 use Rattle.tree_shape.specs.Shape.{ShapeRecord}
 use Rattle.tree_shape.proofs.lemmas.ShapeFaultLemmas.{blocks-le}
-use Rattle.verity_format.specs.Image.{data_sectors}
 use Rattle.tree_survey.specs.Failing.{IsReadThrough}
 use Rattle.tree_survey.specs.Passes.{tree_in}
-use Rattle.tree_survey.specs.Pieces.{IsRunTried, blocks_of}
+use Rattle.tree_survey.specs.Pieces.{blocks_of}
 use Rattle.tree_survey.proofs.FailingLemmas.{over-none, over-then, through-none}
 use Rattle.tree_survey.proofs.PieceLemmas.{IsContent, IsPiece, block-on, content-of, piece-is, piece-read, run-on}
 use Rattle.tree_survey.proofs.SizeLemmas.{block-size}
@@ -38,7 +37,7 @@ read_piece-whole-requires-clause-room g c =
     let count : ℕ = c.blocks_of-count.result in
     let left : at < s.blocks = omega (arith, c.pieces-test.true, c.blocks-in-pieces.ensures.value, ap (λ (x : ShapeRecord). x.blocks) c.requires.shape) in
     let piece : IsPiece s at count = piece-is s c.requires.valid.data_size at count left (c.blocks_of-count.ensures ∙ ap (λ (x : ShapeRecord). blocks_of x at) c.requires.shape) in
-    let size : length c.pieces.piece ≡ 65536 = c.pieces.auto.piece ∙ ap (λ (l : List ℕ). length l) (c.as_mut_slice-piece.ensures.value ∙ c.in_ok-memory.ensures) ∙ length-replicate {A = ℕ} 65536 0 in
+    let size : length c.pieces.piece ≡ 65536 = c.pieces.auto.piece ∙ ap (λ (l : List ℕ). length l) c.as_mut_slice-piece.ensures.value ∙ c.in_ok-memory.ensures in
     let bytes : count * c.data_block-size.result ≡ count * s.data_block = ap (λ (n : ℕ). count * n) (c.data_block-size.ensures.value ∙ ap (λ (x : ShapeRecord). x.data_block) c.requires.shape) in
     omega (arith, size, bytes, piece.room)
 
@@ -83,7 +82,7 @@ digest_of-found-requires-clause-run g c =
 pub digest_of-found-requires-clause-room : goal.digest_of-found-requires-clause-room
 digest_of-found-requires-clause-room g c =
     let s : ShapeRecord = c.args.sight.now.path.shape in
-    let size : length c.pieces.piece ≡ 65536 = c.pieces.auto.piece ∙ ap (λ (l : List ℕ). length l) (c.as_mut_slice-piece.ensures.value ∙ c.in_ok-memory.ensures) ∙ length-replicate {A = ℕ} 65536 0 in
+    let size : length c.pieces.piece ≡ 65536 = c.pieces.auto.piece ∙ ap (λ (l : List ℕ). length l) c.as_mut_slice-piece.ensures.value ∙ c.in_ok-memory.ensures in
     let most : c.data_block-size.result ≤ 4096 = omega (arith, c.data_block-size.ensures.value, (block-size s.data_block c.requires.valid.data_size).most_bytes, ap (λ (x : ShapeRecord). x.data_block) c.requires.shape) in
     omega (arith, size, most, c.run.auto.piece, c.read_piece-whole.auto.piece)
 
@@ -140,9 +139,9 @@ run-preserved g c =
     let inside : c.run.k < length ds = omega (arith, few, c.run-test.true) in
     let r : List ℕ = c.index-digests-k.result in
     let known : get_or ds c.run.k r ≡ get_or ds c.run.k [] = sym c.index-digests-k.is ∙ get_or_read ds c.run.k r inside c.index-digests-k.is [] in
-    let content : IsContent t.salt d0 dk' s.data_block at c.digest_of-found.result =
-    subst (λ (n : ℕ). IsContent t.salt d0 dk' n at c.digest_of-found.result) size
-    (subst (λ (z : List ℕ). IsContent z d0 dk' c.data_block-size.result at c.digest_of-found.result) c.requires.salt_is
+    let content : IsContent t.salt d0 dk dk' s.data_block at c.digest_of-found.result =
+    subst (λ (n : ℕ). IsContent t.salt d0 dk dk' n at c.digest_of-found.result) size
+    (subst (λ (z : List ℕ). IsContent z d0 dk dk' c.data_block-size.result at c.digest_of-found.result) c.requires.salt_is
     (content-of c.args.salt.now d0 dp dq dk dk' c.data_block-size.result c.pieces.at count c.run.k ds c.pieces.invariant.data_read.over c.read_piece-whole.ensures.over c.run.invariant.behind c.digest_of-found.ensures.over
     c.run-test.true (length-take-le count ds few) c.read_piece-whole.result (get_or ds c.run.k r) c.digest_of-found.result known c.read_piece-whole.ensures.ends c.digest_of-found.ensures.ends)) in
     let next : at + 1 ≡ c.pieces.at + (c.run.k + 1) = omega arith in

@@ -1,10 +1,10 @@
 use Rattle.std.proofs.Common.{◌≤◌}
 use Rattle.tree_path.specs.Steps.{IsDown, steps}
-use Rattle.tree_survey.proofs.path.ReadPath.descend.Given as goal
+use Rattle.tree_survey.proofs.path.descend.Given as goal
 
 abbrev pub invariant-levels : goal.invariant-levels
 invariant-levels g l = record {
-  down : IsDown (steps l.fn.self l.self (g.H.BlockDev.state l.fn.device) (g.H.BlockDev.state l.device) l.index l.from) l.level l.level;
+  down : IsDown (steps l.fn.path l.path (g.H.BlockDev.state l.fn.device) (g.H.BlockDev.state l.device) l.index l.from) l.level l.level;
   high : l.level ≤ l.from;
 }
 

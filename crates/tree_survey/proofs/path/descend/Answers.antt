@@ -1,11 +1,11 @@
-use Rattle.std.proofs.Common.{◌≡◌, ◌-◌, ◌+◌, ◌<◌, ℕ, suc, refl, sym, arith, subst, true, false, add-one, rules}
+use Rattle.std.proofs.Common.{◌≡◌, ◌-◌, ◌+◌, ◌<◌, ℕ, suc, sym, arith, subst, true, false, add-one, rules}
 use Rattle.block_device.specs.Device.{Device}
 use Rattle.tree_path.specs.Path.{PathRecord}
 use Rattle.tree_path.specs.Steps.{IsDown, IsStepLoaded, steps}
 use Rattle.tree_path.proofs.lemmas.PathLemmas.{down-bad, down-good, down-read}
 use Rattle.tree_survey.proofs.FailingLemmas.{over-full, over-then}
 use Rattle.tree_survey.proofs.ReachLemmas.{cut-off}
-use Rattle.tree_survey.proofs.path.ReadPath.descend.Goals as goal
+use Rattle.tree_survey.proofs.path.descend.Goals as goal
 
 pub returns-in-Some-false-clause-over : goal.returns-in-Some-false-clause-over
 returns-in-Some-false-clause-over g c = over-then (over-full _ c.levels.invariant.down.full) c.load.ensures.over
@@ -21,9 +21,9 @@ returns-in-Some-false-clause-ends g c =
     let l : ℕ = c.levels.level - 1 in
     let level : c.levels.level ≡ suc l = omega (arith, c.levels-test.true) in
     let next : suc l ≡ l + 1 = sym (add-one l) in
-    let old : PathRecord = c.args.self.now in
-    let mid : PathRecord = c.levels.self in
-    let new : PathRecord = c.load.new.self in
+    let old : PathRecord = c.args.path.now in
+    let mid : PathRecord = c.levels.path in
+    let new : PathRecord = c.load.new.path in
     let d : Device = g.H.BlockDev.state c.args.device.now in
     let dm : Device = g.H.BlockDev.state c.levels.device in
     let d' : Device = g.H.BlockDev.state c.load.new.device in
@@ -42,23 +42,23 @@ pub returns-in-None-clause-ends : goal.returns-in-None-clause-ends
 returns-in-None-clause-ends g c =
     let l : ℕ = c.levels.level - 1 in
     let level : c.levels.level ≡ suc l = omega (arith, c.levels-test.true) in
-    let old : PathRecord = c.args.self.now in
-    let mid : PathRecord = c.levels.self in
-    let new : PathRecord = c.load.new.self in
+    let old : PathRecord = c.args.path.now in
+    let mid : PathRecord = c.levels.path in
+    let new : PathRecord = c.load.new.path in
     let d : Device = g.H.BlockDev.state c.args.device.now in
     let dm : Device = g.H.BlockDev.state c.levels.device in
     let d' : Device = g.H.BlockDev.state c.load.new.device in
     let low : l < c.args.from = omega (arith, level, c.levels.invariant.high) in
     let down : IsDown (steps old mid d dm c.args.index c.args.from) (suc l) (suc l) = subst (λ (n : ℕ). IsDown (steps old mid d dm c.args.index c.args.from) n n) level c.levels.invariant.down in
-    cut-off old mid new d dm d' c.args.index c.args.from l low down (rw c.in-None.is at c.load.ensures.ends) c.load.ensures.over
+    cut-off old mid new d dm d' c.args.index c.args.from l low down (rw c.in-None.is at c.load.ensures.ends).0 c.load.ensures.over (rw c.in-None.is at c.load.ensures.ends).1
 
 pub levels-preserved : goal.levels-preserved
 levels-preserved g c =
     let l : ℕ = c.levels.level - 1 in
     let level : c.levels.level ≡ suc l = omega (arith, c.levels-test.true) in
-    let old : PathRecord = c.args.self.now in
-    let mid : PathRecord = c.levels.self in
-    let new : PathRecord = c.load.new.self in
+    let old : PathRecord = c.args.path.now in
+    let mid : PathRecord = c.levels.path in
+    let new : PathRecord = c.load.new.path in
     let d : Device = g.H.BlockDev.state c.args.device.now in
     let dm : Device = g.H.BlockDev.state c.levels.device in
     let d' : Device = g.H.BlockDev.state c.load.new.device in
@@ -75,4 +75,4 @@ levels-preserved g c =
 pub returns-clause-ends : goal.returns-clause-ends
 returns-clause-ends g c =
     let none : c.levels.level ≡ 0 = omega (arith, c.levels-test.false) in
-    subst (λ (n : ℕ). IsDown (steps c.args.self.now c.levels.self (g.H.BlockDev.state c.args.device.now) (g.H.BlockDev.state c.levels.device) c.args.index c.args.from) n n) none c.levels.invariant.down
+    subst (λ (n : ℕ). IsDown (steps c.args.path.now c.levels.path (g.H.BlockDev.state c.args.device.now) (g.H.BlockDev.state c.levels.device) c.args.index c.args.from) n n) none c.levels.invariant.down
