@@ -1,11 +1,12 @@
 //! The blocks of a height, gone over row by row.
-ghost use Rattle.std.specs.Prelude.{◌≡◌, ◌<◌, ◌≤◌, ◌-◌, ◌*◌, ◌/◌, IfOk, length, replicate};
+ghost use Rattle.std.specs.Prelude.{◌≡◌, ◌<◌, ◌≤◌, ◌+◌, ◌-◌, ◌*◌, ◌/◌, IfOk, OnOk, length, replicate};
 ghost use Rattle.tree_shape.specs.Shape.{levels};
 ghost use Rattle.tree_survey.specs.Surveys.{IsWay};
 ghost use Rattle.tree_path.specs.Steps.{HasReadAtMost};
 ghost use Rattle.tree_repair.specs.Bills.{LeavesWorld, LeavesRow, LeavesVisit, height_over, nothing_due, reading, rows_over, visits_over};
 ghost use Rattle.tree_repair.specs.Coverage.{IsBlockAt, IsFromTo, IsOfRow};
 ghost use Rattle.tree_repair.specs.Jobs.{IsRow, job};
+ghost use Rattle.tree_repair.specs.ParityBounds.{LeavesNoted, NotesInRow, blocks_over};
 ghost use Rattle.tree_repair.specs.Passes.{Notes};
 ghost use Rattle.tree_repair.specs.Runs.{CanRun};
 ghost use Rattle.tree_repair.specs.Tries.{IsWayOr};
@@ -41,6 +42,7 @@ pub(crate) fn repair_height<D: BlockDev, H: BlockDev, C: BlockDev, W: Write>(
     requires room { 65536 ≤ length memory.old }
     ensures notes { Notes W.contents (job repair.now) (IsFromTo height 0 repair.now.shape.blocks) image.old image.new bad.old bad.new writer.old writer.new result }
     ensures asked { LeavesWorld (height_over repair.now.shape height repair.now.shape.blocks) nothing_due image.old image.new }
+    ensures few { OnOk result (LeavesNoted (blocks_over repair.now.shape height repair.now.shape.blocks) 0 bad.old bad.new) }
 {
     let blocks = repair.shape.blocks();
     let width = span(&repair.shape, height + 1, blocks);
@@ -75,6 +77,7 @@ fn repair_row<D: BlockDev, H: BlockDev, C: BlockDev, W: Write>(
     requires room { 65536 ≤ length memory.old }
     ensures notes { Notes W.contents (job repair.now) (IsOfRow row) image.old image.new bad.old bad.new writer.old writer.new result }
     ensures asked { LeavesRow height_over repair.now.shape row image.old image.new }
+    ensures few { OnOk result (NotesInRow repair.now.shape row bad.old bad.new) }
 {
     let found = way_to(repair, image, row.first, row.height)?;
     match found {
@@ -99,6 +102,7 @@ fn repair_unless_good<D: BlockDev, H: BlockDev, C: BlockDev, W: Write>(
     requires room { 65536 ≤ length memory.old }
     ensures notes { Notes W.contents (job repair.now) (IsOfRow row) image.old image.new bad.old bad.new writer.old writer.new result }
     ensures asked { LeavesRow rows_over repair.now.shape row image.old image.new }
+    ensures few { OnOk result (NotesInRow repair.now.shape row bad.old bad.new) }
 {
     if is_good_row(path, repair, row, image, memory) {
         return Ok(());
@@ -169,6 +173,7 @@ fn repair_blocks<D: BlockDev, H: BlockDev, C: BlockDev, W: Write>(
     requires room { 65536 ≤ length memory.old }
     ensures notes { Notes W.contents (job repair.now) (IsOfRow row) image.old image.new bad.old bad.new writer.old writer.new result }
     ensures asked { LeavesRow visits_over repair.now.shape row image.old image.new }
+    ensures few { OnOk result (NotesInRow repair.now.shape row bad.old bad.new) }
 {
     let Row {
         height,
@@ -201,6 +206,7 @@ fn repair_block<D: BlockDev, H: BlockDev, C: BlockDev, W: Write>(
     requires room { 65536 ≤ length memory.old }
     ensures notes { Notes W.contents (job repair.now) (IsBlockAt repair.now.shape place) image.old image.new bad.old bad.new writer.old writer.new result }
     ensures asked { LeavesVisit repair.now.shape place.height place.index image.old image.new }
+    ensures few { OnOk result (LeavesNoted 1 0 bad.old bad.new) }
 {
     let mended = visit(path, repair, place, image, memory)?;
     say_mended(writer, repair, place, mended)?;

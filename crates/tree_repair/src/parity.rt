@@ -8,6 +8,7 @@ ghost use Rattle.tree_survey.specs.Surveys.{IsWay};
 ghost use Rattle.verity_format.specs.Blocks.{IsOnlyRead};
 ghost use Rattle.tree_repair.specs.Jobs.{AreGoodAt, job};
 ghost use Rattle.tree_repair.specs.Mending.{IsBlockReplaced};
+ghost use Rattle.tree_repair.specs.ParityBounds.{IsAskedAlone, IsAskedWithin, IsMadeWithin, IsReplacedOnce, along_bill, parity_bill, put_bill, round_bill, sought_among, tries_of};
 ghost use Rattle.tree_repair.specs.Parity.{FailsToPlace, IsBack, IsNotBack, IsPlace, IsPlaced, IsPutOr, end_at};
 ghost use Rattle.tree_repair.specs.Runs.{CanRun, Ran, sector_at, size_at};
 ghost use Rattle.tree_repair.specs.Sources.{due};
@@ -53,6 +54,7 @@ pub(crate) fn restore_bad<D: BlockDev, H: BlockDev, C: BlockDev, P: BlockDev, W:
     ensures parity { IsOnlyRead (P.state parity_dev.old) (P.state parity_dev.new) }
     ensures run { Ran W.contents (job repair.now) image.old image.new writer.old writer.new result }
     ensures sought { OnOk result (HasSought (job repair.now) layout.now blocks.now image.old image.new (P.state parity_dev.old) (P.state parity_dev.new)) }
+    ensures within { IsAskedWithin (parity_bill repair.now.shape layout.now 0 0 (sought_among blocks.now)) image.old image.new (P.state parity_dev.old) (P.state parity_dev.new) }
 {
     let lost = covered_of(repair, layout, blocks)?;
     let losses = Losses {
@@ -143,6 +145,7 @@ fn restore_block_at<D: BlockDev, H: BlockDev, C: BlockDev, P: BlockDev, W: Write
     ensures parity { IsOnlyRead (P.state parity_dev.old) (P.state parity_dev.new) }
     ensures run { Ran W.contents (job repair.now) image.old image.new writer.old writer.new result }
     ensures sought { IfOk result (IsSought (job repair.now) bad.now (trial losses.now.layout losses.now.lost.items image.old image.new (P.state parity_dev.old) (P.state parity_dev.new))) }
+    ensures within { IsAskedWithin (parity_bill repair.now.shape losses.now.layout 0 0 (tries_of bad.now.found)) image.old image.new (P.state parity_dev.old) (P.state parity_dev.new) }
 {
     if bad.found {
         return Ok(false);
@@ -176,6 +179,7 @@ fn restore_along<D: BlockDev, H: BlockDev, C: BlockDev, P: BlockDev, W: Write>(
     ensures parity { IsOnlyRead (P.state parity_dev.old) (P.state parity_dev.new) }
     ensures run { Ran W.contents (job repair.now) image.old image.new writer.old writer.new result }
     ensures tried { IfOk result (IsTried (job repair.now) place.height place.index (trial losses.now.layout losses.now.lost.items image.old image.new (P.state parity_dev.old) (P.state parity_dev.new))) }
+    ensures within { IsAskedWithin (along_bill losses.now.layout) image.old image.new (P.state parity_dev.old) (P.state parity_dev.new) }
 {
     let size = block_size(&repair.shape, place.height);
     let mut made = zeros(repair.alloc, size)?;
@@ -206,6 +210,7 @@ fn make_again<D: BlockDev, H: BlockDev, C: BlockDev, P: BlockDev>(
     ensures parity { IsOnlyRead (P.state parity_dev.old) (P.state parity_dev.new) }
     ensures good { IfOk result (λ made. IsTrue made → AreGoodAt repair.now path.now place bytes.new) }
     ensures vain { IfOk result (IsMadeOrVain (job repair.now) path.now place.height place.index (trial losses.now.layout losses.now.lost.items image.old image.new (P.state parity_dev.old) (P.state parity_dev.new))) }
+    ensures within { IsMadeWithin repair.now.shape losses.now.layout place.height image.old image.new (P.state parity_dev.old) (P.state parity_dev.new) result }
 {
     let index = match covered_at(repair, &losses.layout, place) {
         None => return Ok(false),
@@ -235,6 +240,7 @@ fn restore<D: BlockDev, H: BlockDev, C: BlockDev, P: BlockDev>(
     ensures parity { IsOnlyRead (P.state parity_dev.old) (P.state parity_dev.new) }
     ensures bytes { IfOk result (IsBack losses.now image.old (P.state parity_dev.old) index bytes.new) }
     ensures none { IfOk result (IsNotBack losses.now index image.old image.new (P.state parity_dev.old) (P.state parity_dev.new)) }
+    ensures within { IsAskedWithin (round_bill losses.now.layout) image.old image.new (P.state parity_dev.old) (P.state parity_dev.new) }
 {
     let Losses { layout, lost } = losses;
     match restore_block(
@@ -274,6 +280,7 @@ fn put_restored<D: BlockDev, H: BlockDev, C: BlockDev, W: Write>(
     requires size { length block.old ≡ size_at repair.now.shape place.height }
     ensures run { Ran W.contents (job repair.now) image.old image.new writer.old writer.new result }
     ensures placed { IfOk result (IsPlaced (job repair.now) place.height place.index bytes.now image.old image.new) }
+    ensures within { IsAskedAlone (put_bill (size_at repair.now.shape place.height / 512)) image.old image.new }
 {
     let back = put_block(path, repair, place, image, bytes, block)?;
     if !back {
@@ -301,6 +308,7 @@ fn put_block<D: BlockDev, H: BlockDev, C: BlockDev>(
     requires size { length block.old ≡ size_at repair.now.shape place.height }
     ensures ok { IfOk result (IsPlaced (job repair.now) place.height place.index bytes.now image.old image.new) }
     ensures err { OnErr result (FailsToPlace (job repair.now) place.height place.index bytes.now image.old image.new) }
+    ensures within { IsAskedAlone (put_bill (size_at repair.now.shape place.height / 512)) image.old image.new }
 {
     let Place { height, index } = place;
     let first = first_sector(repair, place);
@@ -346,6 +354,7 @@ fn replace<B: BlockDev>(
     requires allowed { IsTrue write → IsTrue (B.state device.old).may_write }
     ensures ok { IfOk result (IsPutOr (B.state device.old) first (due salt.now expected.now bytes.now) write bytes.now (B.state device.new)) }
     ensures err { OnErr result (IsBlockReplaced (B.state device.old) first (due salt.now expected.now bytes.now) write bytes.now false (B.state device.new)) }
+    ensures within { IsReplacedOnce (length bytes.now / 512) (B.state device.old) (B.state device.new) }
 {
     if is_there(device, first, salt, expected, block) {
         return Ok(false);

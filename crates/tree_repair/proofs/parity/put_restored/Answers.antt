@@ -23,3 +23,15 @@ returns-clause-run g c = has-one (rw c.if-not-back.false at c.in_ok-back.ensures
 
 pub say_mended-requires : goal.say_mended-requires
 say_mended-requires g c = c.requires.place.inside
+
+pub returns-in_err-back-clause-within : goal.returns-in_err-back-clause-within
+returns-in_err-back-clause-within g c = c.put_block.ensures.within
+
+pub returns-then-not-back-clause-within : goal.returns-then-not-back-clause-within
+returns-then-not-back-clause-within g c = c.put_block.ensures.within
+
+pub returns-in_err-say_mended-clause-within : goal.returns-in_err-say_mended-clause-within
+returns-in_err-say_mended-clause-within g c = c.put_block.ensures.within
+
+pub returns-clause-within : goal.returns-clause-within
+returns-clause-within g c = c.put_block.ensures.within
