@@ -1,6 +1,6 @@
 -- How often the devices of an image and its parity are asked at most, in failed calls too: in passes over the image, and for
 -- each block that is sought by parity.
-use Rattle.std.specs.Prelude.{◌≡◌, ◌⊎◌, ℕ, ◌+◌, ◌-◌, ◌*◌, ◌/◌, ◌^◌, ◌≤◌, Bool, true, false, IsTrue, List, Option, Result, IfOk, IsErrAnd, length, is_ok, sum_by}
+use Rattle.std.specs.Prelude.{◌≡◌, ◌⊎◌, ℕ, ◌+◌, ◌-◌, ◌*◌, ◌/◌, ◌^◌, ◌<◌, ◌≤◌, zero, suc, Bool, true, false, IsTrue, List, Option, Result, Ok, Err, IfOk, IsErrAnd, length, is_ok, sum_by}
 use Rattle.std.specs.Int.{div_ceil}
 use Rattle.block_device.specs.Device.{Device}
 use Rattle.counted_io.specs.Counted.{CountedRecord}
@@ -135,31 +135,66 @@ blocks_over s h n = div_ceil n (per_block s ^ h)
 abbrev pub NotesInRow : ShapeRecord → Row → BadBlocks → BadBlocks → Type 0
 NotesInRow s row old new = LeavesNoted (blocks_over s row.height (s.blocks - row.first)) (blocks_over s row.height (s.blocks - row.first - per_block s ^ (row.height + 1))) old new
 
+-- a hash block that parity brought back
+abbrev pub back_of : ℕ → Mended → ℕ
+back_of zero m = 0
+back_of (suc l) mended.Good = 0
+back_of (suc l) (mended.Copy k) = 0
+back_of (suc l) mended.Remade = 0
+back_of (suc l) mended.Parity = 1
+back_of (suc l) mended.Lost = 0
+
+-- how many of these are
+abbrev pub hashes_back : List Visit → ℕ
+hashes_back visits = sum_by (λ v. back_of v.height v.mended) visits
+
+-- what is told by a call that ended well
+abbrev pub told_of : {E : Type 0} → Result Bool E → Bool
+told_of (Ok told) = told
+told_of (Err fault) = false
+
+-- A run that tells whether a block of a height came back by parity: where it tells so of a hash block, one did.
+pub record TellsOfHash (j : Job) (h : ℕ) (w w' : RepairWorld) (old new : Option (List ℕ)) (ok told : Bool) : Type 0 where
+  pub run : HasRun j w w' old new ok
+  pub came : IsTrue told → 0 < h → 1 ≤ hashes_back run.visits
+
+-- the same by a writer before and behind, and by the result of the run
+abbrev pub TellsBack : {W E : Type 0} → (W → Option (List ℕ)) → Job → ℕ → RepairWorld → RepairWorld → CountedRecord W → CountedRecord W → Result Bool E → Type 0
+TellsBack contents j h w w' old new result = TellsOfHash j h w w' (contents old.inner) (contents new.inner) (is_ok result) (told_of result)
+
 -- ---- passes
 
--- A run in some passes, and in no more than so many. Each block that is sought was lost in one of them.
-pub record RunsInPasses (j : Job) (l : Layout) (most : ℕ) (w w' : RepairWorld) (p p' : Device) (old new : Option (List ℕ)) (ok : Bool) : Type 0 where
+-- A run in some passes, and in no more than so many. Each further one follows on a hash block that parity brought back; if one
+-- more is due, so would that. Each block that is sought was lost in one of them.
+pub record RunsInPasses (j : Job) (l : Layout) (most : ℕ) (w w' : RepairWorld) (p p' : Device) (old new : Option (List ℕ)) (ok again : Bool) : Type 0 where
   pub run : HasRun j w w' old new ok
   pub passes : ℕ
   pub sought : ℕ
   pub passes_few : passes ≤ most
+  pub further : passes ≤ 1 + hashes_back run.visits
+  pub due : IsTrue again → passes ≤ hashes_back run.visits
   pub lost : sought ≤ sum_by (λ v. lost_of v.mended) run.visits
   pub sought_few : sought ≤ passes * image_blocks j.tree.shape
   pub within : IsAskedWithin (parity_bill j.tree.shape l 0 passes sought) w w' p p'
 
 -- the same by a writer before and behind, and by the result of the run
-abbrev pub RunsInAtMost : {W T E : Type 0} → ℕ → (W → Option (List ℕ)) → Job → Layout → RepairWorld → RepairWorld → Device → Device → CountedRecord W → CountedRecord W → Result T E → Type 0
-RunsInAtMost most contents j l w w' p p' old new result = RunsInPasses j l most w w' p p' (contents old.inner) (contents new.inner) (is_ok result)
+abbrev pub RunsInOne : {W E : Type 0} → (W → Option (List ℕ)) → Job → Layout → RepairWorld → RepairWorld → Device → Device → CountedRecord W → CountedRecord W → Result Bool E → Type 0
+RunsInOne contents j l w w' p p' old new result = RunsInPasses j l 1 w w' p p' (contents old.inner) (contents new.inner) (is_ok result) (told_of result)
+
+abbrev pub RunsInAll : {W T E : Type 0} → (W → Option (List ℕ)) → Job → Layout → RepairWorld → RepairWorld → Device → Device → CountedRecord W → CountedRecord W → Result T E → Type 0
+RunsInAll contents j l w w' p p' old new result = RunsInPasses j l (1 + l.hash_blocks) w w' p p' (contents old.inner) (contents new.inner) (is_ok result) false
 
 -- ---- the whole
 
--- An image was repaired with parity, by the shape that its superblock says: in one pass, and no more further ones than there
--- are covered blocks of the hash device.
+-- An image was repaired with parity, by the shape that its superblock says: in one pass, and no more further ones than hash
+-- blocks came back by parity, nor than there are covered blocks of the hash device. No block was sought by parity but those that
+-- a pass found nowhere.
 pub record RepairsInPasses (plan : Plan) (l : Layout) (w w' : RepairWorld) (p p' : Device) (old new : Option (List ℕ)) (ok : Bool) : Type 0 where
   pub repairs : Repairs plan true w w' old new ok
   pub passes : ℕ
   pub sought : ℕ
   pub passes_few : passes ≤ 1 + l.hash_blocks
+  pub further : passes ≤ 1 + hashes_back repairs.run.visits
   pub lost : sought ≤ sum_by (λ v. lost_of v.mended) repairs.run.visits
   pub sought_few : sought ≤ passes * image_blocks (shape_of repairs.s)
   pub within : IsAskedWithin (parity_bill (shape_of repairs.s) l 1 passes sought) w w' p p'

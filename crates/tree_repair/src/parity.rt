@@ -1,5 +1,5 @@
 //! Blocks brought back by parity.
-ghost use Rattle.std.specs.Prelude.{◌≡◌, ◌<◌, ◌≤◌, ◌+◌, ◌/◌, ◌++◌, false, IfOk, IsTrue, OnErr, OnOk, length};
+ghost use Rattle.std.specs.Prelude.{◌≡◌, ◌<◌, ◌≤◌, ◌+◌, ◌/◌, ◌++◌, ◌&&◌, ◌||◌, false, nat_lt, IfOk, IsTrue, OnErr, OnOk, length};
 ghost use Rattle.block_device.specs.Device.{IsInside};
 ghost use Rattle.fec_area.specs.Layouts.{IsLaidOn, IsLayout, covered_blocks};
 ghost use Rattle.tree_shape.specs.Digests.{digest};
@@ -8,7 +8,7 @@ ghost use Rattle.tree_survey.specs.Surveys.{IsWay};
 ghost use Rattle.verity_format.specs.Blocks.{IsOnlyRead};
 ghost use Rattle.tree_repair.specs.Jobs.{AreGoodAt, job};
 ghost use Rattle.tree_repair.specs.Mending.{IsBlockReplaced};
-ghost use Rattle.tree_repair.specs.ParityBounds.{IsAskedAlone, IsAskedWithin, IsMadeWithin, IsReplacedOnce, along_bill, parity_bill, put_bill, round_bill, sought_among, tries_of};
+ghost use Rattle.tree_repair.specs.ParityBounds.{IsAskedAlone, IsAskedWithin, IsMadeWithin, IsReplacedOnce, TellsBack, along_bill, parity_bill, put_bill, round_bill, sought_among, tries_of};
 ghost use Rattle.tree_repair.specs.Parity.{FailsToPlace, IsBack, IsNotBack, IsPlace, IsPlaced, IsPutOr, end_at};
 ghost use Rattle.tree_repair.specs.Runs.{CanRun, Ran, sector_at, size_at};
 ghost use Rattle.tree_repair.specs.Sources.{due};
@@ -55,6 +55,7 @@ pub(crate) fn restore_bad<D: BlockDev, H: BlockDev, C: BlockDev, P: BlockDev, W:
     ensures run { Ran W.contents (job repair.now) image.old image.new writer.old writer.new result }
     ensures sought { OnOk result (HasSought (job repair.now) layout.now blocks.now image.old image.new (P.state parity_dev.old) (P.state parity_dev.new)) }
     ensures within { IsAskedWithin (parity_bill repair.now.shape layout.now 0 0 (sought_among blocks.now)) image.old image.new (P.state parity_dev.old) (P.state parity_dev.new) }
+    ensures came { TellsBack W.contents (job repair.now) 1 image.old image.new writer.old writer.new result }
 {
     let lost = covered_of(repair, layout, blocks)?;
     let losses = Losses {
@@ -69,7 +70,9 @@ pub(crate) fn restore_bad<D: BlockDev, H: BlockDev, C: BlockDev, P: BlockDev, W:
     Ok(tree)
 }
 
-fn is_in_tree(tree: bool, back: bool, bad: &BadBlock) -> bool {
+fn is_in_tree(tree: bool, back: bool, bad: &BadBlock) -> bool
+    ensures { result ≡ (tree || back && nat_lt 0 bad.now.place.height) }
+{
     tree || back && bad.place.height > 0
 }
 
@@ -146,6 +149,7 @@ fn restore_block_at<D: BlockDev, H: BlockDev, C: BlockDev, P: BlockDev, W: Write
     ensures run { Ran W.contents (job repair.now) image.old image.new writer.old writer.new result }
     ensures sought { IfOk result (IsSought (job repair.now) bad.now (trial losses.now.layout losses.now.lost.items image.old image.new (P.state parity_dev.old) (P.state parity_dev.new))) }
     ensures within { IsAskedWithin (parity_bill repair.now.shape losses.now.layout 0 0 (tries_of bad.now.found)) image.old image.new (P.state parity_dev.old) (P.state parity_dev.new) }
+    ensures came { TellsBack W.contents (job repair.now) bad.now.place.height image.old image.new writer.old writer.new result }
 {
     if bad.found {
         return Ok(false);
@@ -180,6 +184,7 @@ fn restore_along<D: BlockDev, H: BlockDev, C: BlockDev, P: BlockDev, W: Write>(
     ensures run { Ran W.contents (job repair.now) image.old image.new writer.old writer.new result }
     ensures tried { IfOk result (IsTried (job repair.now) place.height place.index (trial losses.now.layout losses.now.lost.items image.old image.new (P.state parity_dev.old) (P.state parity_dev.new))) }
     ensures within { IsAskedWithin (along_bill losses.now.layout) image.old image.new (P.state parity_dev.old) (P.state parity_dev.new) }
+    ensures came { TellsBack W.contents (job repair.now) place.height image.old image.new writer.old writer.new result }
 {
     let size = block_size(&repair.shape, place.height);
     let mut made = zeros(repair.alloc, size)?;
@@ -281,6 +286,7 @@ fn put_restored<D: BlockDev, H: BlockDev, C: BlockDev, W: Write>(
     ensures run { Ran W.contents (job repair.now) image.old image.new writer.old writer.new result }
     ensures placed { IfOk result (IsPlaced (job repair.now) place.height place.index bytes.now image.old image.new) }
     ensures within { IsAskedAlone (put_bill (size_at repair.now.shape place.height / 512)) image.old image.new }
+    ensures came { TellsBack W.contents (job repair.now) place.height image.old image.new writer.old writer.new result }
 {
     let back = put_block(path, repair, place, image, bytes, block)?;
     if !back {

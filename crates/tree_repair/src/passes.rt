@@ -1,9 +1,9 @@
 //! An image, repaired in passes by its parity too.
-ghost use Rattle.std.specs.Prelude.{◌≤◌, ◌+◌, ◌^◌, IfErr, IsTrue, OnOk};
+ghost use Rattle.std.specs.Prelude.{◌≤◌, ◌^◌, IfErr, IsTrue, OnOk};
 ghost use Rattle.fec_area.specs.Layouts.{IsLaidOn};
 ghost use Rattle.verity_format.specs.Blocks.{IsOnlyRead};
 ghost use Rattle.tree_repair.specs.Jobs.{job};
-ghost use Rattle.tree_repair.specs.ParityBounds.{IsParityWithin, RunsInAtMost};
+ghost use Rattle.tree_repair.specs.ParityBounds.{IsParityWithin, RunsInAll, RunsInOne};
 ghost use Rattle.tree_repair.specs.Passes.{EndsInPass, IsPass};
 ghost use Rattle.tree_repair.specs.Repairs.{IsAllowed, IsParityRepair, IsParityUnrepaired};
 ghost use Rattle.tree_repair.specs.Runs.{CanRun, Ran};
@@ -61,7 +61,7 @@ fn run_passes<D: BlockDev, H: BlockDev, C: BlockDev, P: BlockDev, W: Write>(
     ensures parity { IsOnlyRead (P.state parity_dev.old) (P.state parity_dev.new) }
     ensures run { Ran W.contents (job repair.now) image.old image.new writer.old writer.new result }
     ensures asks { OnOk result (EndsInPass (job repair.now) layout.now image.old image.new (P.state parity_dev.old) (P.state parity_dev.new)) }
-    ensures within { RunsInAtMost (1 + layout.now.hash_blocks) W.contents (job repair.now) layout.now image.old image.new (P.state parity_dev.old) (P.state parity_dev.new) writer.old writer.new result }
+    ensures within { RunsInAll W.contents (job repair.now) layout.now image.old image.new (P.state parity_dev.old) (P.state parity_dev.new) writer.old writer.new result }
 {
     let mut left = layout.hash_blocks;
     let mut again = run_pass(repair, layout, image, parity_dev, writer)?;
@@ -86,7 +86,7 @@ fn run_pass<D: BlockDev, H: BlockDev, C: BlockDev, P: BlockDev, W: Write>(
     ensures parity { IsOnlyRead (P.state parity_dev.old) (P.state parity_dev.new) }
     ensures run { Ran W.contents (job repair.now) image.old image.new writer.old writer.new result }
     ensures pass { OnOk result (IsPass (job repair.now) layout.now image.old image.new (P.state parity_dev.old) (P.state parity_dev.new)) }
-    ensures within { RunsInAtMost 1 W.contents (job repair.now) layout.now image.old image.new (P.state parity_dev.old) (P.state parity_dev.new) writer.old writer.new result }
+    ensures within { RunsInOne W.contents (job repair.now) layout.now image.old image.new (P.state parity_dev.old) (P.state parity_dev.new) writer.old writer.new result }
 {
     let mut bad = BadBlocks::new(repair.alloc, true);
     repair_heights(repair, image, &mut bad, writer)?;

@@ -7,6 +7,7 @@ use Rattle.tree_repair.proofs.RunLemmas.{can-read, ended-from, ends-read, has-be
 use Rattle.tree_repair.specs.ParityBounds.{along_bill}
 use Rattle.tree_repair.specs.Runs.{size_at}
 use Rattle.tree_repair.proofs.ParityBillLemmas.{asked-along, asked-none, asked-round_alone}
+use Rattle.tree_repair.proofs.ParityPassLemmas.{tells-behind, tells-from, tells-none}
 use Rattle.tree_repair.proofs.parity.restore_along.Goals as goal
 
 pub returns-in_err-made-clause-parity : goal.returns-in_err-made-clause-parity
@@ -81,3 +82,18 @@ pub returns-clause-within : goal.returns-clause-within
 returns-clause-within g c =
     asked-along c.args.losses.now.layout c.requires.laid.layout (size_at c.args.repair.now.shape c.args.place.height) (c.in_ok-back.ensures.within.1 c.if-not-back.false)
     c.make_again.ensures.within.0 (c.put_restored.ensures.within (g.P.BlockDev.state c.make_again.new.parity_dev))
+
+pub returns-in_err-made-clause-came : goal.returns-in_err-made-clause-came
+returns-in_err-made-clause-came g c = tells-from c.args.place.height c.from_residual.result _ c.from_residual.ensures.1 (ends-read (world-none c.args.image.now))
+
+pub returns-in_err-read-clause-came : goal.returns-in_err-read-clause-came
+returns-in_err-read-clause-came g c = tells-from c.args.place.height c.from_residual-in_err-read.result _ c.from_residual-in_err-read.ensures.1 (ends-read (world-none c.args.image.now))
+
+pub returns-in_err-back-clause-came : goal.returns-in_err-back-clause-came
+returns-in_err-back-clause-came g c = tells-from c.args.place.height c.from_residual-in_err-back.result _ c.from_residual-in_err-back.ensures.1 (ends-read c.make_again.ensures.read)
+
+pub returns-then-not-back-clause-came : goal.returns-then-not-back-clause-came
+returns-then-not-back-clause-came g c = tells-none c.args.place.height (has-read c.make_again.ensures.read)
+
+pub returns-clause-came : goal.returns-clause-came
+returns-clause-came g c = tells-behind c.make_again.ensures.read c.put_restored.ensures.came

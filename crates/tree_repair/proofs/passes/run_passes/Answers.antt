@@ -2,7 +2,7 @@ use Rattle.std.proofs.Common.{◌+◌, ◌-◌, arith}
 use Rattle.tree_path.proofs.lemmas.DeviceLemmas.{only_read-then}
 use Rattle.tree_repair.proofs.PassLemmas.{pass-first, pass-later}
 use Rattle.tree_repair.proofs.RunLemmas.{can-later, ended-from, has-then, laid-later}
-use Rattle.tree_repair.proofs.ParityPassLemmas.{runs-from, runs-more, runs-then}
+use Rattle.tree_repair.proofs.ParityPassLemmas.{runs-end, runs-from, runs-more, runs-then}
 use Rattle.tree_repair.proofs.passes.run_passes.Goals as goal
 
 pub returns-in_err-again-clause-parity : goal.returns-in_err-again-clause-parity
@@ -25,7 +25,7 @@ passes-preserved g c = record {
   left_few = omega (arith, c.passes.invariant.left_few);
   within =
       let n = c.args.layout.now.hash_blocks in
-      runs-then (1 + n - c.passes.left) (1 + n - (c.passes.left - 1)) (omega (arith, c.passes.invariant.left_few, c.if-left-gt0.true)) c.passes.invariant.within c.in_ok-again-2.ensures.within;
+      runs-then (1 + n - c.passes.left) (1 + n - (c.passes.left - 1)) (omega (arith, c.passes.invariant.left_few, c.if-left-gt0.true)) c.passes-test.true c.passes.invariant.within c.in_ok-again-2.ensures.within;
   parity = only_read-then c.passes.invariant.parity c.run_pass-in-passes.ensures.parity;
   run = has-then c.passes.invariant.run c.in_ok-again-2.ensures.run;
   asks = pass-later c.passes.invariant.run c.passes.invariant.parity c.in_ok-again-2.ensures.pass;
@@ -62,14 +62,14 @@ pub returns-in_err-again-2-clause-within : goal.returns-in_err-again-2-clause-wi
 returns-in_err-again-2-clause-within g c =
     let n = c.args.layout.now.hash_blocks in
     runs-from c.from_residual-in_err-again-2.result _ c.from_residual-in_err-again-2.ensures.1
-    (runs-then (1 + n - c.passes.left) (1 + n) (omega (arith, c.passes.invariant.left_few, c.if-left-gt0.true)) c.passes.invariant.within c.in_err-again-2.ensures.within)
+    (runs-then (1 + n - c.passes.left) (1 + n) (omega (arith, c.passes.invariant.left_few, c.if-left-gt0.true)) c.passes-test.true c.passes.invariant.within c.in_err-again-2.ensures.within)
 
 pub returns-after-passes-clause-within : goal.returns-after-passes-clause-within
 returns-after-passes-clause-within g c =
     let n = c.args.layout.now.hash_blocks in
-    runs-more (1 + n - c.passes.left) (1 + n) (omega arith) c.passes.invariant.within
+    runs-end (1 + n - c.passes.left) (1 + n) (omega arith) c.passes.invariant.within
 
 pub returns-else-left-gt0-clause-within : goal.returns-else-left-gt0-clause-within
 returns-else-left-gt0-clause-within g c =
     let n = c.args.layout.now.hash_blocks in
-    runs-more (1 + n - c.passes.left) (1 + n) (omega arith) c.passes.invariant.within
+    runs-end (1 + n - c.passes.left) (1 + n) (omega arith) c.passes.invariant.within

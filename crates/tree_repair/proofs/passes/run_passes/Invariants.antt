@@ -11,7 +11,7 @@ abbrev pub invariant-passes : goal.invariant-passes
 invariant-passes g l = record {
   parity : IsOnlyRead (g.P.BlockDev.state l.fn.parity_dev) (g.P.BlockDev.state l.parity_dev);
   left_few : l.left ≤ l.fn.layout.hash_blocks;
-  within : RunsInPasses (job l.fn.repair) l.fn.layout (1 + l.fn.layout.hash_blocks - l.left) l.fn.image l.image (g.P.BlockDev.state l.fn.parity_dev) (g.P.BlockDev.state l.parity_dev) (g.W.Write.contents l.fn.writer.inner) (g.W.Write.contents l.writer.inner) true;
+  within : RunsInPasses (job l.fn.repair) l.fn.layout (1 + l.fn.layout.hash_blocks - l.left) l.fn.image l.image (g.P.BlockDev.state l.fn.parity_dev) (g.P.BlockDev.state l.parity_dev) (g.W.Write.contents l.fn.writer.inner) (g.W.Write.contents l.writer.inner) true l.again;
   run : HasRun (job l.fn.repair) l.fn.image l.image (g.W.Write.contents l.fn.writer.inner) (g.W.Write.contents l.writer.inner) true;
   asks : EndsInPass (job l.fn.repair) l.fn.layout l.fn.image l.image (g.P.BlockDev.state l.fn.parity_dev) (g.P.BlockDev.state l.parity_dev);
 }
