@@ -1,5 +1,5 @@
 -- How many blocks are noted at most.
-use Rattle.std.proofs.Common.{◌≡◌, ◌≤◌, ◌<◌, ◌+◌, ◌-◌, ◌^◌, ℕ, zero, suc, List, length, refl, sym, ap, ◌∙◌, arith, add-one}
+use Rattle.std.proofs.Common.{◌≡◌, ◌≤◌, ◌<◌, ◌+◌, ◌-◌, ◌^◌, ℕ, zero, suc, sym, ap, ◌∙◌, arith, add-one}
 use Rattle.std.proofs.Math.Nat.{pow-zero}
 use Rattle.std.specs.Prelude.{sum_by}
 use Rattle.std.specs.Int.{div_ceil}
@@ -7,7 +7,7 @@ use Rattle.std.specs.List.{range_with_len}
 use Rattle.tree_shape.specs.Shape.{ShapeRecord, IsShape, level_blocks, levels, per_block}
 use Rattle.tree_repair.specs.declared.bad.BadBlocks.{BadBlocks}
 use Rattle.tree_repair.specs.declared.place.Row.{Row}
-use Rattle.tree_repair.specs.ParityBounds.{LeavesNoted, NotesInRow, blocks_over, image_blocks}
+use Rattle.tree_repair.specs.ParityBounds.{NotesInRow, blocks_over, image_blocks}
 use Rattle.tree_repair.proofs.HeightLemmas.{area-is, level-is, sum-next}
 use Rattle.tree_repair.proofs.OverLemmas.{ceil-more, ceil-next, ceil-one, power-some}
 

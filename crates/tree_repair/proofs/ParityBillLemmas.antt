@@ -1,37 +1,19 @@
 -- What a repair with parity asks of the devices, step by step.
-use Rattle.std.proofs.Common.{◌≡◌, ◌≤◌, ◌<◌, ◌+◌, ◌-◌, ◌*◌, ◌/◌, ℕ, zero, suc, Bool, true, false, IsTrue, Result, Ok, Err, List, [], ◌∷◌, ◌++◌, length, take, get_or, Option, refl, sym, ap, ◌∙◌, subst, arith, zero-add}
-use Rattle.std.specs.Prelude.{IsErrAnd, is_ok, sum_by}
+use Rattle.std.proofs.Common.{◌≡◌, ◌≤◌, ◌+◌, ◌-◌, ◌*◌, ◌/◌, ℕ, suc, Bool, List, sym, ap, ◌∙◌, arith}
 use Rattle.std.proofs.Math.Nat.{mul-le-mul_right}
-use Rattle.std.proofs.lemmas.List.Sums.{sum_by-append, sum_by-cons, sum_by_more, sum_by_more_le}
-use Rattle.std.specs.List.{flat_map}
 use Rattle.block_device.specs.Device.{Device}
 use Rattle.fec_area.specs.declared.layout.Layout.{Layout}
 use Rattle.fec_area.specs.Asking.{AreAskedFor, kept_data, kept_hash}
 use Rattle.fec_area.specs.Layouts.{IsLayout}
 use Rattle.fec_area.proofs.lemmas.KeptLemmas.{kept_data-few, kept_hash-few}
 use Rattle.tree_shape.specs.Shape.{ShapeRecord, levels}
-use Rattle.tree_path.specs.Steps.{HasReadAtMost}
-use Rattle.tree_path.proofs.lemmas.DeviceLemmas.{only_read-none}
 use Rattle.verity_format.specs.Blocks.{AreOnlyRead, IsOnlyRead}
 use Rattle.verity_format.specs.Image.{data_sectors}
-use Rattle.verity_format.specs.Superblock.{SuperRecord, shape_of}
-use Rattle.tree_survey.specs.Causes.{AreImages}
-use Rattle.tree_repair.specs.declared.bad.BadBlock.{BadBlock}
-use Rattle.tree_repair.specs.declared.bad.BadBlocks.{BadBlocks}
-use Rattle.tree_repair.specs.declared.mending.Mended.{Mended}
-use Rattle.tree_repair.specs.declared.mending.Mended.TheVariants as mended
-use Rattle.tree_repair.specs.declared.repair.Plan.{Plan}
 use Rattle.tree_repair.specs.Bills.{Bill, LeavesWorld, nothing_due, pass_over, reading}
-use Rattle.tree_repair.specs.Bounds.{AreReadAtMost, HasWrittenAtMost, area_block_sectors}
-use Rattle.tree_repair.specs.Noting.{bad_blocks, found_of, unless}
-use Rattle.tree_repair.specs.Coverage.{IsFromUp}
-use Rattle.tree_repair.specs.ParityBounds.{IsAskedWithin, IsReplacedOnce, LeavesNoted, ParityBill, RepairsInPasses, RunsInPasses, along_bill, image_blocks, lost_of, parity_bill, put_bill, round_bill, sought_among, tries_of}
-use Rattle.tree_repair.specs.Passes.{HasNoted, bad_of}
-use Rattle.tree_repair.specs.Repairs.{job_of}
-use Rattle.tree_repair.specs.Runs.{HasRun, Job, Visit}
-use Rattle.tree_repair.specs.Worlds.{IsWorldRead, RepairWorld, repair_world}
+use Rattle.tree_repair.specs.Bounds.{AreReadAtMost, area_block_sectors}
+use Rattle.tree_repair.specs.ParityBounds.{IsAskedWithin, IsReplacedOnce, ParityBill, along_bill, parity_bill, put_bill, round_bill}
+use Rattle.tree_repair.specs.Worlds.{RepairWorld, repair_world}
 use Rattle.tree_repair.proofs.BillLemmas.{at_most-left, at_most-none}
-use Rattle.tree_repair.proofs.RunLemmas.{has-behind, has-then}
 
 -- ---- some devices
 
@@ -299,17 +281,3 @@ module _ (s : ShapeRecord) (l : Layout) where
         data_sought = omega arith;
         hash_sought = omega arith;
       })
-
--- ---- one after another
-
-module _ {w x y : RepairWorld} {p q r : Device} (s : ShapeRecord) (l : Layout) (bs : List BadBlock) (i : ℕ) (b : BadBlock) (inside : i < length bs) where
-  pub work-next : IsAskedWithin (parity_bill s l 0 0 (sought_among (take i bs))) w x p q → IsAskedWithin (parity_bill s l 0 0 (tries_of (get_or bs i b).found)) x y q r → IsAskedWithin (parity_bill s l 0 0 (sought_among (take (i + 1) bs))) w y p r
-  work-next one two =
-      work-then s l 0 0 0 0 0 0 (sought_among (take i bs)) (tries_of (get_or bs i b).found) (sought_among (take (i + 1) bs)) refl refl (sym (sum_by_more (λ (c : BadBlock). tries_of c.found) bs i b inside)) one two
-
-  -- and of those behind it nothing is known
-  pub work-last : IsAskedWithin (parity_bill s l 0 0 (sought_among (take i bs))) w x p q → IsAskedWithin (parity_bill s l 0 0 (tries_of (get_or bs i b).found)) x y q r → IsAskedWithin (parity_bill s l 0 0 (sought_among bs)) w y p r
-  work-last one two =
-      let f : BadBlock → ℕ = λ c. tries_of c.found in
-      work-more s l 0 0 (sum_by f (take i bs) + f (get_or bs i b)) (sought_among bs)
-      (work-then s l 0 0 0 0 0 0 (sought_among (take i bs)) (tries_of (get_or bs i b).found) (sum_by f (take i bs) + f (get_or bs i b)) refl refl refl one two) (sum_by_more_le f bs i b inside)

@@ -1,18 +1,13 @@
 -- Passes of a repair with parity, and which blocks are sought by it.
-use Rattle.std.proofs.Common.{◌≡◌, ◌≤◌, ◌<◌, ◌+◌, ◌-◌, ◌*◌, ◌/◌, ℕ, zero, suc, Bool, true, false, IsTrue, Result, Ok, Err, List, [], ◌∷◌, ◌++◌, length, take, get_or, Option, refl, sym, ap, ◌∙◌, subst, arith, inl, inr, zero-add}
+use Rattle.std.proofs.Common.{◌≡◌, ◌≤◌, ◌<◌, ◌+◌, ℕ, zero, suc, Bool, true, false, IsTrue, Result, Ok, Err, List, [], ◌∷◌, ◌++◌, length, take, get_or, Option, refl, sym, ap, ◌∙◌, subst, arith, inl, inr, zero-add}
 use Rattle.std.specs.Prelude.{◌⊎◌, ◌&&◌, ◌||◌, IsErrAnd, is_ok, nat_lt, sum_by}
 use Rattle.std.proofs.lemmas.Bool.{and_parts, false≢true, ltb-true, or_cases}
 use Rattle.std.specs.Io.KnownBytes.{Appends}
-use Rattle.std.proofs.Math.Nat.{mul-le-mul_right}
 use Rattle.std.proofs.lemmas.List.Sums.{sum_by-append, sum_by-cons, sum_by_more, sum_by_more_le}
 use Rattle.std.specs.List.{flat_map}
 use Rattle.block_device.specs.Device.{Device}
 use Rattle.fec_area.specs.declared.layout.Layout.{Layout}
-use Rattle.tree_shape.specs.Shape.{ShapeRecord, levels}
-use Rattle.tree_path.specs.Steps.{HasReadAtMost}
-use Rattle.tree_path.proofs.lemmas.DeviceLemmas.{only_read-none}
-use Rattle.verity_format.specs.Blocks.{AreOnlyRead, IsOnlyRead}
-use Rattle.verity_format.specs.Image.{data_sectors}
+use Rattle.tree_shape.specs.Shape.{ShapeRecord}
 use Rattle.verity_format.specs.Superblock.{SuperRecord, shape_of}
 use Rattle.tree_survey.specs.Causes.{AreImages}
 use Rattle.tree_repair.specs.declared.bad.BadBlock.{BadBlock}
@@ -20,17 +15,30 @@ use Rattle.tree_repair.specs.declared.bad.BadBlocks.{BadBlocks}
 use Rattle.tree_repair.specs.declared.mending.Mended.{Mended}
 use Rattle.tree_repair.specs.declared.mending.Mended.TheVariants as mended
 use Rattle.tree_repair.specs.declared.repair.Plan.{Plan}
-use Rattle.tree_repair.specs.Bills.{Bill, LeavesWorld, nothing_due, pass_over, reading}
-use Rattle.tree_repair.specs.Bounds.{AreReadAtMost, HasWrittenAtMost, area_block_sectors}
-use Rattle.tree_repair.specs.Noting.{bad_blocks, found_of, unless}
+use Rattle.tree_repair.specs.Bills.{LeavesWorld, nothing_due, pass_over, reading}
+use Rattle.tree_repair.specs.Noting.{bad_blocks, found_of}
 use Rattle.tree_repair.specs.Coverage.{IsFromUp}
-use Rattle.tree_repair.specs.ParityBounds.{IsAskedWithin, IsReplacedOnce, LeavesNoted, ParityBill, RepairsInPasses, RunsInPasses, TellsOfHash, along_bill, back_of, hashes_back, image_blocks, lost_of, parity_bill, put_bill, round_bill, sought_among, told_of, tries_of}
+use Rattle.tree_repair.specs.ParityBounds.{IsAskedWithin, LeavesNoted, RepairsInPasses, RunsInPasses, TellsOfHash, back_of, hashes_back, image_blocks, lost_of, parity_bill, sought_among, told_of, tries_of}
 use Rattle.tree_repair.specs.Passes.{HasNoted, bad_of}
 use Rattle.tree_repair.specs.Repairs.{job_of}
 use Rattle.tree_repair.specs.Runs.{HasRun, IsVisited, Job, Visit, visit, visit_line}
-use Rattle.tree_repair.specs.Worlds.{IsWorldRead, RepairWorld, repair_world}
-use Rattle.tree_repair.proofs.ParityBillLemmas.{times-sum, work-pass, work-superblock, work-then}
+use Rattle.tree_repair.specs.Worlds.{IsWorldRead, RepairWorld}
+use Rattle.tree_repair.proofs.ParityBillLemmas.{times-sum, work-more, work-pass, work-superblock, work-then}
 use Rattle.tree_repair.proofs.RunLemmas.{has-behind, has-one, has-then}
+
+-- ---- one after another
+
+module _ {w x y : RepairWorld} {p q r : Device} (s : ShapeRecord) (l : Layout) (bs : List BadBlock) (i : ℕ) (b : BadBlock) (inside : i < length bs) where
+  pub work-next : IsAskedWithin (parity_bill s l 0 0 (sought_among (take i bs))) w x p q → IsAskedWithin (parity_bill s l 0 0 (tries_of (get_or bs i b).found)) x y q r → IsAskedWithin (parity_bill s l 0 0 (sought_among (take (i + 1) bs))) w y p r
+  work-next one two =
+      work-then s l 0 0 0 0 0 0 (sought_among (take i bs)) (tries_of (get_or bs i b).found) (sought_among (take (i + 1) bs)) refl refl (sym (sum_by_more (λ (c : BadBlock). tries_of c.found) bs i b inside)) one two
+
+  -- and of those behind it nothing is known
+  pub work-last : IsAskedWithin (parity_bill s l 0 0 (sought_among (take i bs))) w x p q → IsAskedWithin (parity_bill s l 0 0 (tries_of (get_or bs i b).found)) x y q r → IsAskedWithin (parity_bill s l 0 0 (sought_among bs)) w y p r
+  work-last one two =
+      let f : BadBlock → ℕ = λ c. tries_of c.found in
+      work-more s l 0 0 (sum_by f (take i bs) + f (get_or bs i b)) (sought_among bs)
+      (work-then s l 0 0 0 0 0 0 (sought_among (take i bs)) (tries_of (get_or bs i b).found) (sum_by f (take i bs) + f (get_or bs i b)) refl refl refl one two) (sum_by_more_le f bs i b inside)
 
 tries-at_most : (found : Bool) → tries_of found ≤ 1
 tries-at_most true = omega arith

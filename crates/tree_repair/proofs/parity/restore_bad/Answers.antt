@@ -6,8 +6,8 @@ use Rattle.tree_repair.specs.Tries.{AreSought}
 use Rattle.tree_repair.proofs.TryLemmas.{sought-next}
 use Rattle.tree_repair.proofs.RunLemmas.{can-later, ended-from, ends-read, has-none, has-then, laid-later, world-none}
 use Rattle.tree_repair.specs.ParityBounds.{IsAskedWithin, parity_bill, sought_among}
-use Rattle.tree_repair.proofs.ParityBillLemmas.{asked-none, work-last, work-next}
-use Rattle.tree_repair.proofs.ParityPassLemmas.{tells-from, tells-none, tells-then}
+use Rattle.tree_repair.proofs.ParityBillLemmas.{asked-none}
+use Rattle.tree_repair.proofs.ParityPassLemmas.{tells-from, tells-none, tells-then, work-last, work-next}
 use Rattle.tree_repair.proofs.parity.restore_bad.Goals as goal
 
 pub returns-in_err-lost-clause-parity : goal.returns-in_err-lost-clause-parity
