@@ -119,18 +119,18 @@ same-list : (l : List ℕ) → map (λ x. x) l ≡ l
 same-list [] = refl
 same-list (x ∷ more) = ap (λ (l : List ℕ). x ∷ l) (same-list more)
 
-sum-next : (f : ℕ → ℕ) (k : ℕ) → sum_by f (range_with_len 0 (suc k)) ≡ sum_by f (range_with_len 0 k) + f k
+pub sum-next : (f : ℕ → ℕ) (k : ℕ) → sum_by f (range_with_len 0 (suc k)) ≡ sum_by f (range_with_len 0 k) + f k
 sum-next f k =
     let range : range_with_len 0 (k + 1) ≡ range_with_len 0 k ++ (k ∷ []) =
     sym (same-list (range_with_len 0 (k + 1))) ∙ map-range_with_len_more (λ x. x) 0 k k (omega arith) ∙ ap (λ (l : List ℕ). l ++ (k ∷ [])) (same-list (range_with_len 0 k)) in
     let one : sum_by f (k ∷ []) ≡ f k = omega arith in
     ap (λ (n : ℕ). sum_by f (range_with_len 0 n)) (sym (add-one k)) ∙ ap (sum_by f) range ∙ sum_by-append f (range_with_len 0 k) (k ∷ []) ∙ ap (λ (n : ℕ). sum_by f (range_with_len 0 k) + n) one
 
-level-is : (s : ShapeRecord) (l : ℕ) → level_blocks s l ≡ div_ceil s.blocks (per_block s ^ suc l)
+pub level-is : (s : ShapeRecord) (l : ℕ) → level_blocks s l ≡ div_ceil s.blocks (per_block s ^ suc l)
 unfolding level_blocks
 level-is s l = ap (λ (n : ℕ). div_ceil s.blocks (per_block s ^ n)) (add-one l)
 
-area-is : (s : ShapeRecord) → area_blocks s ≡ sum_by (level_blocks s) (range_with_len 0 (levels s))
+pub area-is : (s : ShapeRecord) → area_blocks s ≡ sum_by (level_blocks s) (range_with_len 0 (levels s))
 unfolding area_blocks
 area-is s = refl
 

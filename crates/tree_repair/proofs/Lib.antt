@@ -3,11 +3,14 @@ mod GoodLemmas
 mod LawLemmas
 mod AskedLemmas
 mod BillLemmas
+mod CountLemmas
 mod HeightLemmas
 mod LookLemmas
 mod MakeLemmas
 mod OverLemmas
 mod ParityLemmas
+mod ParityBillLemmas
+mod ParityPassLemmas
 mod PassLemmas
 mod PieceLemmas
 mod RepairLemmas

@@ -21,14 +21,14 @@ times-more x d = grind arith
 -- ---- a quotient that is rounded up
 
 module _ (d : ℕ) (some : 0 < d) where
-  ceil-more : (n m : ℕ) → n ≤ m → div_ceil n d ≤ div_ceil m d
+  pub ceil-more : (n m : ℕ) → n ≤ m → div_ceil n d ≤ div_ceil m d
   ceil-more n m le =
       let low : div_ceil n d * d < n + d = (div_ceil_times n d some).1 in
       let high : m ≤ div_ceil m d * d = (div_ceil_times m d some).0 in
       let less : div_ceil n d < suc (div_ceil m d) = lt_of_mul-lt-mul_right d (omega (arith, low, high, times-next (div_ceil m d) d, le)) in
       omega (arith, less)
 
-  ceil-next : (n : ℕ) → 0 < n → suc (div_ceil (n - d) d) ≤ div_ceil n d
+  pub ceil-next : (n : ℕ) → 0 < n → suc (div_ceil (n - d) d) ≤ div_ceil n d
   ceil-next n more =
       let low : div_ceil (n - d) d * d < n - d + d = (div_ceil_times (n - d) d some).1 in
       let high : n ≤ div_ceil n d * d = (div_ceil_times n d some).0 in
@@ -48,7 +48,7 @@ module _ (d : ℕ) (some : 0 < d) where
       let most : suc k * d ≤ div_ceil b d * d = mul-le-mul_right d below in
       omega (arith, low, most, times-next k d)
 
-ceil-one : (n : ℕ) → div_ceil n 1 ≡ n
+pub ceil-one : (n : ℕ) → div_ceil n 1 ≡ n
 ceil-one n = omega (arith, (div_ceil_times n 1 (omega arith)).0, (div_ceil_times n 1 (omega arith)).1)
 
 level-is : (s : ShapeRecord) (l : ℕ) → level_blocks s l ≡ div_ceil s.blocks (per_block s ^ (l + 1))
@@ -62,7 +62,7 @@ ancestor-is s m i = refl
 -- ---- over n data blocks
 
 module _ (s : ShapeRecord) (valid : IsShape s) where
-  power-some : (h : ℕ) → 0 < per_block s ^ h
+  pub power-some : (h : ℕ) → 0 < per_block s ^ h
   power-some h = pow_pos (per_block s) h (per_block-some s valid)
 
   pub sectors-more : (h n m : ℕ) → n ≤ m → sectors_over s h n ≤ sectors_over s h m

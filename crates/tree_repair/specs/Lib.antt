@@ -10,6 +10,7 @@ pub mod Visits
 pub mod Repairs
 pub mod Bounds
 pub mod Bills
+pub mod ParityBounds
 pub mod Laws
 pub mod Parity
 pub mod Tries

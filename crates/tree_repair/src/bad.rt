@@ -1,5 +1,5 @@
 //! Blocks that aren't good where they stand.
-ghost use Rattle.std.specs.Prelude.{◌≡◌, [], OnOk};
+ghost use Rattle.std.specs.Prelude.{◌≡◌, ◌≤◌, ◌+◌, [], OnOk, length};
 ghost use Rattle.tree_repair.specs.Noting.{IsNoted, found_of, unless};
 
 use crate::mending::Mended;
@@ -41,6 +41,7 @@ impl BadBlocks {
     ) -> Result<(), AllocError>
         ensures asked { self.new.asked ≡ self.old.asked }
         ensures noted { OnOk result (IsNoted self.old self.new place (found_of write mended)) }
+        ensures few { OnOk result (length self.new.blocks.items ≤ length self.old.blocks.items + 1) }
     {
         if !self.asked {
             return Ok(());

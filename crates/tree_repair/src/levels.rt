@@ -1,11 +1,12 @@
 //! The blocks of a height, gone over row by row.
-ghost use Rattle.std.specs.Prelude.{◌≡◌, ◌<◌, ◌≤◌, ◌-◌, ◌*◌, ◌/◌, IfErr, IfOk, length, replicate};
+ghost use Rattle.std.specs.Prelude.{◌≡◌, ◌<◌, ◌≤◌, ◌+◌, ◌-◌, ◌*◌, ◌/◌, IfOk, OnOk, length, replicate, IfErr};
 ghost use Rattle.tree_shape.specs.Shape.{levels};
 ghost use Rattle.tree_survey.specs.Surveys.{IsWay};
 ghost use Rattle.tree_path.specs.Steps.{HasReadAtMost};
 ghost use Rattle.tree_repair.specs.Bills.{LeavesWorld, LeavesRow, LeavesVisit, height_over, nothing_due, reading, rows_over, visits_over};
 ghost use Rattle.tree_repair.specs.Coverage.{IsBlockAt, IsFromTo, IsOfRow};
 ghost use Rattle.tree_repair.specs.Jobs.{IsRow, job};
+ghost use Rattle.tree_repair.specs.ParityBounds.{LeavesNoted, NotesInRow, blocks_over};
 ghost use Rattle.tree_repair.specs.Passes.{Notes};
 ghost use Rattle.tree_repair.specs.Runs.{CanRun, IsWriterCause};
 ghost use Rattle.tree_repair.specs.Tries.{IsWayOr};
@@ -42,6 +43,7 @@ pub(crate) fn repair_height<D: BlockDev, H: BlockDev, C: BlockDev, W: Write>(
     ensures notes { Notes W.contents (job repair.now) (IsFromTo height 0 repair.now.shape.blocks) image.old image.new bad.old bad.new writer.old writer.new result }
     ensures told { IfErr result (IsWriterCause writer.new) }
     ensures asked { LeavesWorld (height_over repair.now.shape height repair.now.shape.blocks) nothing_due image.old image.new }
+    ensures few { OnOk result (LeavesNoted (blocks_over repair.now.shape height repair.now.shape.blocks) 0 bad.old bad.new) }
 {
     let blocks = repair.shape.blocks();
     let width = span(&repair.shape, height + 1, blocks);
@@ -77,6 +79,7 @@ fn repair_row<D: BlockDev, H: BlockDev, C: BlockDev, W: Write>(
     ensures notes { Notes W.contents (job repair.now) (IsOfRow row) image.old image.new bad.old bad.new writer.old writer.new result }
     ensures told { IfErr result (IsWriterCause writer.new) }
     ensures asked { LeavesRow height_over repair.now.shape row image.old image.new }
+    ensures few { OnOk result (NotesInRow repair.now.shape row bad.old bad.new) }
 {
     let found = way_to(repair, image, row.first, row.height)?;
     match found {
@@ -102,6 +105,7 @@ fn repair_unless_good<D: BlockDev, H: BlockDev, C: BlockDev, W: Write>(
     ensures notes { Notes W.contents (job repair.now) (IsOfRow row) image.old image.new bad.old bad.new writer.old writer.new result }
     ensures told { IfErr result (IsWriterCause writer.new) }
     ensures asked { LeavesRow rows_over repair.now.shape row image.old image.new }
+    ensures few { OnOk result (NotesInRow repair.now.shape row bad.old bad.new) }
 {
     if is_good_row(path, repair, row, image, memory) {
         return Ok(());
@@ -173,6 +177,7 @@ fn repair_blocks<D: BlockDev, H: BlockDev, C: BlockDev, W: Write>(
     ensures notes { Notes W.contents (job repair.now) (IsOfRow row) image.old image.new bad.old bad.new writer.old writer.new result }
     ensures told { IfErr result (IsWriterCause writer.new) }
     ensures asked { LeavesRow visits_over repair.now.shape row image.old image.new }
+    ensures few { OnOk result (NotesInRow repair.now.shape row bad.old bad.new) }
 {
     let Row {
         height,
@@ -206,6 +211,7 @@ fn repair_block<D: BlockDev, H: BlockDev, C: BlockDev, W: Write>(
     ensures notes { Notes W.contents (job repair.now) (IsBlockAt repair.now.shape place) image.old image.new bad.old bad.new writer.old writer.new result }
     ensures told { IfErr result (IsWriterCause writer.new) }
     ensures asked { LeavesVisit repair.now.shape place.height place.index image.old image.new }
+    ensures few { OnOk result (LeavesNoted 1 0 bad.old bad.new) }
 {
     let mended = visit(path, repair, place, image, memory)?;
     say_mended(writer, repair, place, mended)?;

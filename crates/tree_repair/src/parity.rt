@@ -1,5 +1,5 @@
 //! Blocks brought back by parity.
-ghost use Rattle.std.specs.Prelude.{◌≡◌, ◌<◌, ◌≤◌, ◌+◌, ◌/◌, ◌++◌, false, IfErr, IfOk, IsTrue, OnErr, OnOk, length};
+ghost use Rattle.std.specs.Prelude.{◌≡◌, ◌<◌, ◌≤◌, ◌+◌, ◌/◌, ◌++◌, ◌&&◌, ◌||◌, false, nat_lt, IfOk, IsTrue, OnErr, OnOk, length, IfErr};
 ghost use Rattle.block_device.specs.Device.{IsInside};
 ghost use Rattle.fec_area.specs.Layouts.{IsLaidOn, IsLayout, covered_blocks};
 ghost use Rattle.tree_shape.specs.Digests.{digest};
@@ -8,6 +8,7 @@ ghost use Rattle.tree_survey.specs.Surveys.{IsWay};
 ghost use Rattle.verity_format.specs.Blocks.{IsOnlyRead};
 ghost use Rattle.tree_repair.specs.Jobs.{AreGoodAt, job};
 ghost use Rattle.tree_repair.specs.Mending.{IsBlockReplaced};
+ghost use Rattle.tree_repair.specs.ParityBounds.{IsAskedAlone, IsAskedWithin, IsMadeWithin, IsReplacedOnce, TellsBack, along_bill, parity_bill, put_bill, round_bill, sought_among, tries_of};
 ghost use Rattle.tree_repair.specs.Parity.{FailsToPlace, IsBack, IsNotBack, IsPlace, IsPlaced, IsPutOr, end_at};
 ghost use Rattle.tree_repair.specs.Runs.{CanRun, IsWriterCause, Ran, sector_at, size_at};
 ghost use Rattle.tree_repair.specs.Sources.{due};
@@ -24,7 +25,7 @@ use crate::saying::say_mended;
 use crate::seeking::{is_same, is_there};
 use block_device::{BlockDev, DeviceFault};
 use counted_io::Counted;
-use fec_area::{Layout, RestoreFault, restore_block};
+use fec_area::{Layout, LostBlock, RestoreFault, restore_block};
 use std::alloc::{AllocError, Global};
 use std::io::Write;
 use tree_path::TreePath;
@@ -54,6 +55,8 @@ pub(crate) fn restore_bad<D: BlockDev, H: BlockDev, C: BlockDev, P: BlockDev, W:
     ensures run { Ran W.contents (job repair.now) image.old image.new writer.old writer.new result }
     ensures told { IfErr result (IsWriterCause writer.new) }
     ensures sought { OnOk result (HasSought (job repair.now) layout.now blocks.now image.old image.new (P.state parity_dev.old) (P.state parity_dev.new)) }
+    ensures within { IsAskedWithin (parity_bill repair.now.shape layout.now 0 0 (sought_among blocks.now)) image.old image.new (P.state parity_dev.old) (P.state parity_dev.new) }
+    ensures came { TellsBack W.contents (job repair.now) 1 image.old image.new writer.old writer.new result }
 {
     let lost = covered_of(repair, layout, blocks)?;
     let losses = Losses {
@@ -68,7 +71,9 @@ pub(crate) fn restore_bad<D: BlockDev, H: BlockDev, C: BlockDev, P: BlockDev, W:
     Ok(tree)
 }
 
-fn is_in_tree(tree: bool, back: bool, bad: &BadBlock) -> bool {
+fn is_in_tree(tree: bool, back: bool, bad: &BadBlock) -> bool
+    ensures { result ≡ (tree || back && nat_lt 0 bad.now.place.height) }
+{
     tree || back && bad.place.height > 0
 }
 
@@ -145,6 +150,8 @@ fn restore_block_at<D: BlockDev, H: BlockDev, C: BlockDev, P: BlockDev, W: Write
     ensures run { Ran W.contents (job repair.now) image.old image.new writer.old writer.new result }
     ensures told { IfErr result (IsWriterCause writer.new) }
     ensures sought { IfOk result (IsSought (job repair.now) bad.now (trial losses.now.layout losses.now.lost.items image.old image.new (P.state parity_dev.old) (P.state parity_dev.new))) }
+    ensures within { IsAskedWithin (parity_bill repair.now.shape losses.now.layout 0 0 (tries_of bad.now.found)) image.old image.new (P.state parity_dev.old) (P.state parity_dev.new) }
+    ensures came { TellsBack W.contents (job repair.now) bad.now.place.height image.old image.new writer.old writer.new result }
 {
     if bad.found {
         return Ok(false);
@@ -179,6 +186,8 @@ fn restore_along<D: BlockDev, H: BlockDev, C: BlockDev, P: BlockDev, W: Write>(
     ensures run { Ran W.contents (job repair.now) image.old image.new writer.old writer.new result }
     ensures told { IfErr result (IsWriterCause writer.new) }
     ensures tried { IfOk result (IsTried (job repair.now) place.height place.index (trial losses.now.layout losses.now.lost.items image.old image.new (P.state parity_dev.old) (P.state parity_dev.new))) }
+    ensures within { IsAskedWithin (along_bill losses.now.layout) image.old image.new (P.state parity_dev.old) (P.state parity_dev.new) }
+    ensures came { TellsBack W.contents (job repair.now) place.height image.old image.new writer.old writer.new result }
 {
     let size = block_size(&repair.shape, place.height);
     let mut made = zeros(repair.alloc, size)?;
@@ -209,6 +218,7 @@ fn make_again<D: BlockDev, H: BlockDev, C: BlockDev, P: BlockDev>(
     ensures parity { IsOnlyRead (P.state parity_dev.old) (P.state parity_dev.new) }
     ensures good { IfOk result (λ made. IsTrue made → AreGoodAt repair.now path.now place bytes.new) }
     ensures vain { IfOk result (IsMadeOrVain (job repair.now) path.now place.height place.index (trial losses.now.layout losses.now.lost.items image.old image.new (P.state parity_dev.old) (P.state parity_dev.new))) }
+    ensures within { IsMadeWithin repair.now.shape losses.now.layout place.height image.old image.new (P.state parity_dev.old) (P.state parity_dev.new) result }
 {
     let index = match covered_at(repair, &losses.layout, place) {
         None => return Ok(false),
@@ -238,13 +248,16 @@ fn restore<D: BlockDev, H: BlockDev, C: BlockDev, P: BlockDev>(
     ensures parity { IsOnlyRead (P.state parity_dev.old) (P.state parity_dev.new) }
     ensures bytes { IfOk result (IsBack losses.now image.old (P.state parity_dev.old) index bytes.new) }
     ensures none { IfOk result (IsNotBack losses.now index image.old image.new (P.state parity_dev.old) (P.state parity_dev.new)) }
+    ensures within { IsAskedWithin (round_bill losses.now.layout) image.old image.new (P.state parity_dev.old) (P.state parity_dev.new) }
 {
     let Losses { layout, lost } = losses;
     match restore_block(
         alloc,
-        layout,
-        lost,
-        index,
+        &LostBlock {
+            layout,
+            lost,
+            index,
+        },
         &mut image.data,
         &mut image.hash,
         parity_dev,
@@ -278,6 +291,8 @@ fn put_restored<D: BlockDev, H: BlockDev, C: BlockDev, W: Write>(
     ensures run { Ran W.contents (job repair.now) image.old image.new writer.old writer.new result }
     ensures told { IfErr result (IsWriterCause writer.new) }
     ensures placed { IfOk result (IsPlaced (job repair.now) place.height place.index bytes.now image.old image.new) }
+    ensures within { IsAskedAlone (put_bill (size_at repair.now.shape place.height / 512)) image.old image.new }
+    ensures came { TellsBack W.contents (job repair.now) place.height image.old image.new writer.old writer.new result }
 {
     let back = put_block(path, repair, place, image, bytes, block)?;
     if !back {
@@ -305,6 +320,7 @@ fn put_block<D: BlockDev, H: BlockDev, C: BlockDev>(
     requires size { length block.old ≡ size_at repair.now.shape place.height }
     ensures ok { IfOk result (IsPlaced (job repair.now) place.height place.index bytes.now image.old image.new) }
     ensures err { OnErr result (FailsToPlace (job repair.now) place.height place.index bytes.now image.old image.new) }
+    ensures within { IsAskedAlone (put_bill (size_at repair.now.shape place.height / 512)) image.old image.new }
 {
     let Place { height, index } = place;
     let first = first_sector(repair, place);
@@ -350,6 +366,7 @@ fn replace<B: BlockDev>(
     requires allowed { IsTrue write → IsTrue (B.state device.old).may_write }
     ensures ok { IfOk result (IsPutOr (B.state device.old) first (due salt.now expected.now bytes.now) write bytes.now (B.state device.new)) }
     ensures err { OnErr result (IsBlockReplaced (B.state device.old) first (due salt.now expected.now bytes.now) write bytes.now false (B.state device.new)) }
+    ensures within { IsReplacedOnce (length bytes.now / 512) (B.state device.old) (B.state device.new) }
 {
     if is_there(device, first, salt, expected, block) {
         return Ok(false);

@@ -3,6 +3,7 @@ ghost use Rattle.std.specs.Prelude.{◌≤◌, ◌^◌, IfErr, IsTrue, OnOk};
 ghost use Rattle.fec_area.specs.Layouts.{IsLaidOn};
 ghost use Rattle.verity_format.specs.Blocks.{IsOnlyRead};
 ghost use Rattle.tree_repair.specs.Jobs.{job};
+ghost use Rattle.tree_repair.specs.ParityBounds.{IsParityWithin, RunsInAll, RunsInOne};
 ghost use Rattle.tree_repair.specs.Passes.{EndsInPass, IsPass};
 ghost use Rattle.tree_repair.specs.Repairs.{IsAllowed, IsParityRepair, IsParityUnrepaired};
 ghost use Rattle.tree_repair.specs.Runs.{CanRun, IsWriterCause, Ran};
@@ -39,6 +40,7 @@ pub fn repair_with_parity<D: BlockDev, H: BlockDev, C: BlockDev, P: BlockDev, W:
     ensures ok { OnOk result (IsParityRepair W.contents plan image.old image.new writer.old writer.new) }
     ensures err { IfErr result (IsParityUnrepaired W.contents plan image.old image.new writer.old writer.new) }
     ensures told { IfErr result (IsWriterCause writer.new) }
+    ensures within { IsParityWithin W.contents plan layout.now image.old image.new (P.state parity_dev.old) (P.state parity_dev.new) writer.old writer.new result }
 {
     let superblock = superblock_of(image)?;
     let repair = repair_of(alloc, &superblock, &plan, true);
@@ -61,6 +63,7 @@ fn run_passes<D: BlockDev, H: BlockDev, C: BlockDev, P: BlockDev, W: Write>(
     ensures run { Ran W.contents (job repair.now) image.old image.new writer.old writer.new result }
     ensures told { IfErr result (IsWriterCause writer.new) }
     ensures asks { OnOk result (EndsInPass (job repair.now) layout.now image.old image.new (P.state parity_dev.old) (P.state parity_dev.new)) }
+    ensures within { RunsInAll W.contents (job repair.now) layout.now image.old image.new (P.state parity_dev.old) (P.state parity_dev.new) writer.old writer.new result }
 {
     let mut left = layout.hash_blocks;
     let mut again = run_pass(repair, layout, image, parity_dev, writer)?;
@@ -86,6 +89,7 @@ fn run_pass<D: BlockDev, H: BlockDev, C: BlockDev, P: BlockDev, W: Write>(
     ensures run { Ran W.contents (job repair.now) image.old image.new writer.old writer.new result }
     ensures told { IfErr result (IsWriterCause writer.new) }
     ensures pass { OnOk result (IsPass (job repair.now) layout.now image.old image.new (P.state parity_dev.old) (P.state parity_dev.new)) }
+    ensures within { RunsInOne W.contents (job repair.now) layout.now image.old image.new (P.state parity_dev.old) (P.state parity_dev.new) writer.old writer.new result }
 {
     let mut bad = BadBlocks::new(repair.alloc, true);
     repair_heights(repair, image, &mut bad, writer)?;

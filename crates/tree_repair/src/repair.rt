@@ -9,6 +9,7 @@ ghost use Rattle.tree_repair.specs.Bills.{LeavesWorld, nothing_due, pass_over, r
 ghost use Rattle.tree_repair.specs.Bounds.{IsHashReadAlone, IsRepairWithin};
 ghost use Rattle.tree_repair.specs.Coverage.{IsFromUp};
 ghost use Rattle.tree_repair.specs.Jobs.{job};
+ghost use Rattle.tree_repair.specs.ParityBounds.{LeavesNoted, image_blocks};
 ghost use Rattle.tree_repair.specs.Passes.{Notes};
 ghost use Rattle.tree_repair.specs.Repairs.{IsAllowed, IsNoImageCause, IsRepair, IsUnrepaired, job_of};
 ghost use Rattle.tree_repair.specs.Runs.{CanRun, IsWriterCause};
@@ -128,6 +129,7 @@ pub(crate) fn repair_heights<D: BlockDev, H: BlockDev, C: BlockDev, W: Write>(
     ensures notes { Notes W.contents (job repair.now) (IsFromUp repair.now.shape 0) image.old image.new bad.old bad.new writer.old writer.new result }
     ensures told { IfErr result (IsWriterCause writer.new) }
     ensures asked { LeavesWorld (pass_over repair.now.shape) nothing_due image.old image.new }
+    ensures few { OnOk result (LeavesNoted (image_blocks repair.now.shape) 0 bad.old bad.new) }
 {
     let mut room = zeros(repair.alloc, ROOM)?;
     let memory = room.as_mut_slice();

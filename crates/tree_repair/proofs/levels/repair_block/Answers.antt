@@ -1,4 +1,4 @@
-use Rattle.std.proofs.Common.{refl}
+use Rattle.std.proofs.Common.{refl, arith}
 use Rattle.tree_repair.proofs.PassLemmas.{noted-from, noted-not, noted-one}
 use Rattle.tree_repair.proofs.RunLemmas.{ends-unnoted, ends-unsaid, ends-unwritten}
 use Rattle.tree_repair.proofs.levels.repair_block.Goals as goal
@@ -14,3 +14,6 @@ returns-in_err-note-clause-notes g c = noted-from c.from_residual-in_err-note.re
 
 pub returns-clause-notes : goal.returns-clause-notes
 returns-clause-notes g c = noted-one _ c.in_ok-mended.ensures.ok.1 refl c.in_ok-say_mended.ensures.ok c.note.ensures.asked c.in_ok-note.ensures.noted (λ h i due. record { height_is = due.0; same = due.1 })
+
+pub returns-clause-few : goal.returns-clause-few
+returns-clause-few g c = omega (arith, c.in_ok-note.ensures.few)

@@ -1,10 +1,12 @@
-use Rattle.std.proofs.Common.{◌≡◌, ◌+◌, ◌-◌, ◌^◌, ℕ, sym, arith, inl, inr, subst}
+use Rattle.std.proofs.Common.{◌≡◌, ◌+◌, ◌-◌, ◌^◌, ℕ, sym, ap, arith, inl, inr, subst}
 use Rattle.std.proofs.lemmas.Bool.{cases_lt}
 use Rattle.tree_shape.specs.Shape.{ancestor, per_block}
 use Rattle.tree_repair.proofs.LookLemmas.{first-begins, next-begins, same-above}
 use Rattle.tree_shape.proofs.lemmas.ShapeFaultLemmas.{blocks-le}
 use Rattle.tree_repair.specs.Bills.{LeavesWorld, visits_over}
 use Rattle.tree_repair.proofs.BillLemmas.{leaves-none, leaves-then}
+use Rattle.tree_repair.specs.ParityBounds.{blocks_over}
+use Rattle.tree_repair.proofs.CountLemmas.{count-fewer, count-next}
 use Rattle.tree_repair.proofs.HeightLemmas.{next-left, row-left, visit-at, visits-fewer}
 use Rattle.tree_repair.specs.Jobs.{job}
 use Rattle.tree_repair.proofs.RowLemmas.{way-along}
@@ -17,6 +19,7 @@ places-init g c = record {
   from = omega arith;
   begins = λ less. first-begins c.args.repair.now.shape c.args.row c.requires.can.valid c.requires.row;
   asked = leaves-none (visits_over c.args.repair.now.shape c.args.row.height (c.args.repair.now.shape.blocks - c.args.row.first)) c.args.image.now;
+  few = omega arith;
   enough = omega arith;
   run = noted-none (λ h i due. omega (arith, due.0.1.0, due.1));
 }
@@ -44,6 +47,7 @@ places-preserved g c =
       begins = λ less. next-begins (per_block s) row.height c.places.index row.step s.blocks row.end (c.places.invariant.begins c.places-test.true) c.requires.row.step_is c.requires.row.inside less;
       asked = subst (λ (n : ℕ). LeavesWorld (visits_over s row.height (s.blocks - row.first)) (visits_over s row.height n) c.args.image.now c.repair_block.new.image) (sym (next-left s c.requires.can.valid row c.requires.row c.places.index))
           (leaves-then c.places.invariant.asked (visit-at s c.requires.can.valid row.height c.places.index (c.places.invariant.begins c.places-test.true) c.places.image c.repair_block.new.image c.repair_block.ensures.asked));
+      few = omega (arith, c.places.invariant.few, c.in_ok-repair_block.ensures.few, count-next s c.requires.can.valid row.height (s.blocks - c.places.index) (omega (arith, c.places-test.true, c.requires.row.inside)), ap (blocks_over s row.height) (next-left s c.requires.can.valid row c.requires.row c.places.index));
       enough = omega (arith, next-left s c.requires.can.valid row c.requires.row c.places.index, row-left s c.requires.can.valid row c.requires.row c.places.index (c.places.invariant.begins c.places-test.true) c.places-test.true);
       run = noted-then c.places.invariant.run c.in_ok-repair_block.ensures.notes
           (λ h i due.
@@ -78,3 +82,9 @@ returns-clause-asked g c =
     let s = c.args.repair.now.shape in
     let row = c.args.row in
     visits-fewer s c.requires.can.valid row.height (s.blocks - c.places.index) (s.blocks - row.first - per_block s ^ (row.height + 1)) c.args.image.now c.places.image c.places.invariant.enough c.places.invariant.asked
+
+pub returns-clause-few : goal.returns-clause-few
+returns-clause-few g c =
+    let s = c.args.repair.now.shape in
+    let row = c.args.row in
+    omega (arith, c.places.invariant.few, count-fewer s c.requires.can.valid row.height (s.blocks - row.first - per_block s ^ (row.height + 1)) (s.blocks - c.places.index) c.places.invariant.enough)

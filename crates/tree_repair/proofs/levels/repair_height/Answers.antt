@@ -5,6 +5,7 @@ use Rattle.tree_shape.specs.Shape.{per_block}
 use Rattle.tree_shape.proofs.lemmas.ShapeFaultLemmas.{blocks-le}
 use Rattle.tree_shape.proofs.lemmas.ShapeLemmas.{pow_pos}
 use Rattle.tree_repair.specs.Bills.{LeavesWorld, height_over}
+use Rattle.tree_repair.specs.ParityBounds.{blocks_over}
 use Rattle.tree_repair.proofs.BillLemmas.{leaves-end, leaves-none, leaves-then}
 use Rattle.tree_repair.proofs.HeightLemmas.{rows-next}
 use Rattle.tree_repair.proofs.RowLemmas.{per_block-some, row-next}
@@ -19,7 +20,7 @@ pub span-step-requires : goal.span-step-requires
 span-step-requires g c = omega (arith, c.blocks-blocks.ensures.value, (blocks-le c.args.repair.now.shape c.requires.can.valid).0)
 
 pub rows-init : goal.rows-init
-rows-init g c = record { begins = λ some. zero-mod (per_block c.args.repair.now.shape ^ (c.args.height + 1)); asked = (let s = c.args.repair.now.shape in let all : s.blocks ≡ s.blocks - 0 = omega arith in subst (λ (n : ℕ). LeavesWorld (height_over s c.args.height s.blocks) (height_over s c.args.height n) c.args.image.now c.args.image.now) all (leaves-none (height_over s c.args.height s.blocks) c.args.image.now)); run = noted-none (λ h i due. omega (arith, due.1.1)) }
+rows-init g c = record { begins = λ some. zero-mod (per_block c.args.repair.now.shape ^ (c.args.height + 1)); asked = (let s = c.args.repair.now.shape in let all : s.blocks ≡ s.blocks - 0 = omega arith in subst (λ (n : ℕ). LeavesWorld (height_over s c.args.height s.blocks) (height_over s c.args.height n) c.args.image.now c.args.image.now) all (leaves-none (height_over s c.args.height s.blocks) c.args.image.now)); few = (let s = c.args.repair.now.shape in let all : s.blocks - 0 ≡ s.blocks = omega arith in omega (arith, ap (blocks_over s c.args.height) all)); run = noted-none (λ h i due. omega (arith, due.1.1)) }
 
 pub repair_row-requires-clause-can : goal.repair_row-requires-clause-can
 repair_row-requires-clause-can g c = can-later c.rows.invariant.run.run c.requires.can
@@ -54,6 +55,11 @@ rows-preserved g c = record {
       let next : s.blocks - c.rows.first - per_block s ^ (c.args.height + 1) ≡ s.blocks - c.min-end.result =
       sym (rows-next s.blocks c.rows.first c.span-width.result (per_block s ^ (c.args.height + 1)) c.min-end.result (c.span-width.ensures ∙ ap (min (per_block s ^ (c.args.height + 1))) c.blocks-blocks.ensures.value) (c.min-end.ensures ∙ ap (min (c.rows.first + c.span-width.result)) c.blocks-blocks.ensures.value)) in
       subst (λ (n : ℕ). LeavesWorld (height_over s c.args.height s.blocks) (height_over s c.args.height n) c.args.image.now c.repair_row.new.image) next (leaves-then c.rows.invariant.asked c.repair_row.ensures.asked);
+  few =
+      let s = c.args.repair.now.shape in
+      let next : s.blocks - c.rows.first - per_block s ^ (c.args.height + 1) ≡ s.blocks - c.min-end.result =
+      sym (rows-next s.blocks c.rows.first c.span-width.result (per_block s ^ (c.args.height + 1)) c.min-end.result (c.span-width.ensures ∙ ap (min (per_block s ^ (c.args.height + 1))) c.blocks-blocks.ensures.value) (c.min-end.ensures ∙ ap (min (c.rows.first + c.span-width.result)) c.blocks-blocks.ensures.value)) in
+      omega (arith, c.rows.invariant.few, c.in_ok-repair_row.ensures.few, ap (blocks_over s c.args.height) next);
   run = noted-then c.rows.invariant.run c.in_ok-repair_row.ensures.notes
       (λ h i due.
       elim (cases_lt i c.rows.first) [
@@ -79,3 +85,6 @@ returns-in_err-repair_row-clause-asked g c = leaves-end (leaves-then c.rows.inva
 
 pub returns-clause-asked : goal.returns-clause-asked
 returns-clause-asked g c = leaves-end c.rows.invariant.asked
+
+pub returns-clause-few : goal.returns-clause-few
+returns-clause-few g c = omega (arith, c.rows.invariant.few)

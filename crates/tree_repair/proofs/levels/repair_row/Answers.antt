@@ -1,6 +1,7 @@
 use Rattle.std.proofs.Common.{ℕ, [], refl, subst}
 use Rattle.tree_repair.specs.Coverage.{IsLookedAt}
 use Rattle.tree_repair.specs.Jobs.{job}
+use Rattle.tree_repair.proofs.CountLemmas.{row-unnoted}
 use Rattle.tree_repair.proofs.HeightLemmas.{row-all, row-cut}
 use Rattle.tree_repair.proofs.LookLemmas.{looked-cut, row-above}
 use Rattle.tree_repair.proofs.PassLemmas.{noted-behind, noted-from, noted-not, noted-read}
@@ -39,3 +40,9 @@ returns-in-None-clause-asked g c =
 pub returns-in-Some-clause-asked : goal.returns-in-Some-clause-asked
 returns-in-Some-clause-asked g c =
     row-all c.args.repair.now.shape c.requires.can.valid c.args.row c.requires.row c.requires.some c.args.image.now c.way_to.new.image c.repair_unless_good.new.image c.way_to.ensures.asked c.repair_unless_good.ensures.asked
+
+pub returns-in-None-clause-few : goal.returns-in-None-clause-few
+returns-in-None-clause-few g c = row-unnoted c.args.repair.now.shape c.requires.can.valid c.args.row c.args.bad.now
+
+pub returns-in-Some-clause-few : goal.returns-in-Some-clause-few
+returns-in-Some-clause-few g c = c.repair_unless_good.ensures.few

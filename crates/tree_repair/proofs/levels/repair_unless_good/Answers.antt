@@ -1,5 +1,6 @@
 use Rattle.std.proofs.Common.{arith}
 use Rattle.tree_repair.specs.Jobs.{job}
+use Rattle.tree_repair.proofs.CountLemmas.{row-unnoted}
 use Rattle.tree_repair.proofs.GoodLemmas.{noted-good}
 use Rattle.tree_repair.proofs.HeightLemmas.{row-seen, row-visited}
 use Rattle.tree_repair.proofs.PassLemmas.{noted-behind}
@@ -28,3 +29,9 @@ returns-then-is_good_row-clause-asked g c =
 pub returns-clause-asked : goal.returns-clause-asked
 returns-clause-asked g c =
     row-visited c.args.repair.now.shape c.requires.can.valid c.args.row c.requires.row c.args.image.now c.is_good_row.new.image c.repair_blocks.new.image c.is_good_row.ensures.asked c.repair_blocks.ensures.asked
+
+pub returns-then-is_good_row-clause-few : goal.returns-then-is_good_row-clause-few
+returns-then-is_good_row-clause-few g c = row-unnoted c.args.repair.now.shape c.requires.can.valid c.args.row c.args.bad.now
+
+pub returns-clause-few : goal.returns-clause-few
+returns-clause-few g c = c.repair_blocks.ensures.few

@@ -1,11 +1,15 @@
 use Rattle.std.proofs.Common.{List, ℕ, sym, ap, ◌∙◌, inl, inr}
 use Rattle.std.specs.Str.{bytes_eq}
+use Rattle.std.proofs.lemmas.Bool.{false≢true}
 use Rattle.tree_shape.specs.Digests.{digest}
 use Rattle.tree_path.proofs.lemmas.DeviceLemmas.{only_read-none}
 use Rattle.tree_repair.specs.Jobs.{job}
 use Rattle.tree_repair.specs.Tries.{trial}
 use Rattle.tree_repair.proofs.TryLemmas.{made-or}
 use Rattle.tree_repair.proofs.RunLemmas.{world-none}
+use Rattle.tree_repair.specs.ParityBounds.{round_bill}
+use Rattle.tree_repair.proofs.ParityBillLemmas.{asked-none}
+use Rattle.tree_repair.proofs.ParityLemmas.{if_ok-from}
 use Rattle.tree_repair.proofs.parity.make_again.Goals as goal
 
 pub returns-in-None-clause-read : goal.returns-in-None-clause-read
@@ -31,3 +35,15 @@ returns-clause-vain g c =
     made-or (job c.args.repair.now) c.args.path.now c.args.place.height c.args.place.index
     (trial c.args.losses.now.layout c.args.losses.now.lost.items c.args.image.now c.restore.new.image (g.P.BlockDev.state c.args.parity_dev.now) (g.P.BlockDev.state c.restore.new.parity_dev))
     c.in-Some.index c.restore.new.bytes c.is_same.result c.in-Some.ensures (c.in_ok-back.ensures.bytes c.if-not-back.false) (c.is_same.ensures ∙ ap (λ (x : List ℕ). bytes_eq x c.digest_at-expected.result) c.digest.ensures ∙ ap (bytes_eq (digest c.args.repair.now.salt c.restore.new.bytes)) c.digest_at-expected.ensures)
+
+pub returns-in-None-clause-within : goal.returns-in-None-clause-within
+returns-in-None-clause-within g c = (asked-none (round_bill c.args.losses.now.layout) c.args.image.now (g.P.BlockDev.state c.args.parity_dev.now), λ yes. absurd (false≢true yes))
+
+pub returns-in_err-back-clause-within : goal.returns-in_err-back-clause-within
+returns-in_err-back-clause-within g c = (c.restore.ensures.within, if_ok-from c.from_residual.result _ _ c.from_residual.ensures.1)
+
+pub returns-then-not-back-clause-within : goal.returns-then-not-back-clause-within
+returns-then-not-back-clause-within g c = (c.restore.ensures.within, λ yes. absurd (false≢true yes))
+
+pub returns-clause-within : goal.returns-clause-within
+returns-clause-within g c = (c.restore.ensures.within, λ yes. c.in-Some.ensures.size)

@@ -1,11 +1,13 @@
-use Rattle.std.proofs.Common.{◌≡◌, ◌≤◌, ◌-◌, ℕ, suc, length, map, sym, ap, ◌∙◌, subst, arith}
+use Rattle.std.proofs.Common.{◌≡◌, ◌≤◌, ◌-◌, ℕ, suc, length, map, sym, ap, ◌∙◌, subst, arith, ◌/◌}
 use Rattle.std.specs.Prelude.{IfOk, OnErr}
 use Rattle.tree_shape.specs.Shape.{levels}
 use Rattle.tree_repair.specs.Jobs.{job}
 use Rattle.tree_repair.specs.Parity.{FailsToPlace, IsPlaced, end_at}
-use Rattle.tree_repair.specs.Runs.{CanRun}
+use Rattle.tree_repair.specs.Runs.{CanRun, size_at}
 use Rattle.tree_repair.specs.Worlds.{RepairWorld, repair_world}
 use Rattle.tree_repair.proofs.ParityLemmas.{data-placed, data-unplaced, hash-placed, hash-unplaced, inside-place}
+use Rattle.tree_repair.specs.ParityBounds.{IsAskedAlone, put_bill}
+use Rattle.tree_repair.proofs.ParityBillLemmas.{asked-data, asked-hash}
 use Rattle.tree_repair.proofs.parity.put_block.Goals as goal
 
 pub digest_at-digest-requires : goal.digest_at-digest-requires
@@ -82,3 +84,21 @@ returns-clause-err g c =
     subst (λ (w : RepairWorld). OnErr c.replace-2.result (FailsToPlace (job c.args.repair.now) c.args.place.height c.args.place.index c.args.bytes.now w (repair_world a.data_dev h' a.data_copies a.hash_copies))) c.image.view_is
     (hash-unplaced (job c.args.repair.now) c.args.path.now c.args.place.height c.args.place.index c.args.bytes.now a.hash_dev h' a.data_dev a.hash_copies a.data_copies
     c.requires.asked c.requires.place.inside c.requires.way (c.args.place.height - 1) c.replace-2.result some (rw (c.digest_at-digest.ensures, c.first_sector-first.ensures.value, c.requires.bytes) at c.replace-2.ensures.err))
+
+pub returns-then-height-eq0-clause-within : goal.returns-then-height-eq0-clause-within
+returns-then-height-eq0-clause-within g c =
+    let n : ℕ = size_at c.args.repair.now.shape c.args.place.height / 512 in
+    let i = c.image.inside in
+    let a = repair_world (g.D.BlockDev.state i.data) (g.H.BlockDev.state i.hash) (map g.C.BlockDev.state i.data_copies.items) (map g.C.BlockDev.state i.hash_copies.items) in
+    let d' = g.D.BlockDev.state c.replace.new.device in
+    subst (λ (w : RepairWorld). IsAskedAlone (put_bill n) w (repair_world d' a.hash_dev a.data_copies a.hash_copies)) c.image.view_is
+    (λ p. asked-data n a.data_dev d' a.hash_dev a.data_copies a.hash_copies p (rw c.requires.bytes at c.replace.ensures.within))
+
+pub returns-clause-within : goal.returns-clause-within
+returns-clause-within g c =
+    let n : ℕ = size_at c.args.repair.now.shape c.args.place.height / 512 in
+    let i = c.image.inside in
+    let a = repair_world (g.D.BlockDev.state i.data) (g.H.BlockDev.state i.hash) (map g.C.BlockDev.state i.data_copies.items) (map g.C.BlockDev.state i.hash_copies.items) in
+    let h' = g.H.BlockDev.state c.replace-2.new.device in
+    subst (λ (w : RepairWorld). IsAskedAlone (put_bill n) w (repair_world a.data_dev h' a.data_copies a.hash_copies)) c.image.view_is
+    (λ p. asked-hash n a.hash_dev h' a.data_dev a.data_copies a.hash_copies p (rw c.requires.bytes at c.replace-2.ensures.within))

@@ -1,6 +1,7 @@
-use Rattle.std.proofs.Common.{arith}
+use Rattle.std.proofs.Common.{arith, ◌/◌, ℕ, ap, length, true, false}
 use Rattle.tree_repair.proofs.ParityLemmas.{if_ok-from}
 use Rattle.tree_repair.proofs.SourceLemmas.{on_err-from}
+use Rattle.tree_repair.proofs.BillLemmas.{put-once}
 use Rattle.tree_repair.proofs.parity.replace.Goals as goal
 
 pub is_there-requires : goal.is_there-requires
@@ -37,3 +38,16 @@ returns-in_err-put-clause-err g c =
       good = c.requires.good;
       put = c.in_err-put.ensures;
     })
+
+pub returns-then-is_there-clause-within : goal.returns-then-is_there-clause-within
+returns-then-is_there-clause-within g c = record { reads = omega (arith, c.is_there.ensures.asked, ap (λ (n : ℕ). n / 512) c.requires.size); writes = omega (arith, c.is_there.ensures.read.writes) }
+
+pub returns-clause-within : goal.returns-clause-within
+returns-clause-within g c =
+    let once = put-once c.args.write (g.B.BlockDev.state c.is_there.new.device) c.args.first (length c.args.bytes.now / 512) c.args.bytes.now true (g.B.BlockDev.state c.put.new.device) c.in_ok-put.ensures in
+    record { reads = omega (arith, c.is_there.ensures.asked, ap (λ (n : ℕ). n / 512) c.requires.size, once.reads); writes = omega (arith, c.is_there.ensures.read.writes, once.writes) }
+
+pub returns-in_err-put-clause-within : goal.returns-in_err-put-clause-within
+returns-in_err-put-clause-within g c =
+    let once = put-once c.args.write (g.B.BlockDev.state c.is_there.new.device) c.args.first (length c.args.bytes.now / 512) c.args.bytes.now false (g.B.BlockDev.state c.put.new.device) c.in_err-put.ensures in
+    record { reads = omega (arith, c.is_there.ensures.asked, ap (λ (n : ℕ). n / 512) c.requires.size, once.reads); writes = omega (arith, c.is_there.ensures.read.writes, once.writes) }

@@ -1,7 +1,22 @@
-use Rattle.std.proofs.Common.{subst, sym}
+use Rattle.std.proofs.Common.{subst, sym, map}
 use Rattle.fec_area.specs.Layouts.{IsLaidOn}
-use Rattle.tree_repair.specs.Worlds.{RepairWorld}
+use Rattle.tree_repair.specs.Worlds.{RepairWorld, repair_world}
+use Rattle.std.specs.Prelude.{is_ok}
+use Rattle.tree_repair.specs.ParityBounds.{IsAskedWithin, round_bill}
+use Rattle.tree_repair.proofs.ParityBillLemmas.{asked-round}
 use Rattle.tree_repair.proofs.parity.restore.Goals as goal
 
 pub restore_block-requires-clause-laid : goal.restore_block-requires-clause-laid
 restore_block-requires-clause-laid g c = subst (λ (w : RepairWorld). IsLaidOn c.args.losses.now.layout w.data_dev w.hash_dev) (sym c.image.view_is) c.requires.laid
+
+pub returns-clause-within : goal.returns-clause-within
+returns-clause-within g c =
+    let l = c.args.losses.now in
+    let i = c.image.inside in
+    let a = repair_world (g.D.BlockDev.state i.data) (g.H.BlockDev.state i.hash) (map g.C.BlockDev.state i.data_copies.items) (map g.C.BlockDev.state i.hash_copies.items) in
+    let d' = g.D.BlockDev.state c.restore_block.new.data_dev in
+    let h' = g.H.BlockDev.state c.restore_block.new.hash_dev in
+    let p = g.P.BlockDev.state c.args.parity_dev.now in
+    let p' = g.P.BlockDev.state c.restore_block.new.parity_dev in
+    subst (λ (w : RepairWorld). IsAskedWithin (round_bill l.layout) w (repair_world d' h' a.data_copies a.hash_copies) p p') c.image.view_is
+    (asked-round l.layout c.requires.laid.layout c.deref.result.now c.args.index (is_ok c.restore_block.result) a d' h' p p' c.restore_block.ensures.read c.restore_block.ensures.parity c.restore_block.ensures.asks)

@@ -4,6 +4,10 @@ use Rattle.tree_path.proofs.lemmas.DeviceLemmas.{only_read-none}
 use Rattle.tree_repair.specs.Jobs.{job}
 use Rattle.tree_repair.proofs.TryLemmas.{tried-placed}
 use Rattle.tree_repair.proofs.RunLemmas.{can-read, ended-from, ends-read, has-behind, has-read, world-none}
+use Rattle.tree_repair.specs.ParityBounds.{along_bill}
+use Rattle.tree_repair.specs.Runs.{size_at}
+use Rattle.tree_repair.proofs.ParityBillLemmas.{asked-along, asked-none, asked-round_alone}
+use Rattle.tree_repair.proofs.ParityPassLemmas.{tells-behind, tells-from, tells-none}
 use Rattle.tree_repair.proofs.parity.restore_along.Goals as goal
 
 pub returns-in_err-made-clause-parity : goal.returns-in_err-made-clause-parity
@@ -61,3 +65,35 @@ pub returns-clause-tried : goal.returns-clause-tried
 returns-clause-tried g c =
     tried-placed (job c.args.repair.now) c.args.place.height c.args.place.index c.args.losses.now.layout c.args.losses.now.lost.items c.args.image.now c.make_again.new.image c.put_restored.new.image
     (g.P.BlockDev.state c.args.parity_dev.now) (g.P.BlockDev.state c.make_again.new.parity_dev) c.make_again.new.bytes c.put_restored.result c.make_again.ensures.read c.make_again.ensures.parity c.put_restored.ensures.placed
+
+pub returns-in_err-made-clause-within : goal.returns-in_err-made-clause-within
+returns-in_err-made-clause-within g c = asked-none (along_bill c.args.losses.now.layout) c.args.image.now (g.P.BlockDev.state c.args.parity_dev.now)
+
+pub returns-in_err-read-clause-within : goal.returns-in_err-read-clause-within
+returns-in_err-read-clause-within g c = asked-none (along_bill c.args.losses.now.layout) c.args.image.now (g.P.BlockDev.state c.args.parity_dev.now)
+
+pub returns-in_err-back-clause-within : goal.returns-in_err-back-clause-within
+returns-in_err-back-clause-within g c = asked-round_alone c.args.losses.now.layout c.requires.laid.layout c.make_again.ensures.within.0
+
+pub returns-then-not-back-clause-within : goal.returns-then-not-back-clause-within
+returns-then-not-back-clause-within g c = asked-round_alone c.args.losses.now.layout c.requires.laid.layout c.make_again.ensures.within.0
+
+pub returns-clause-within : goal.returns-clause-within
+returns-clause-within g c =
+    asked-along c.args.losses.now.layout c.requires.laid.layout (size_at c.args.repair.now.shape c.args.place.height) (c.in_ok-back.ensures.within.1 c.if-not-back.false)
+    c.make_again.ensures.within.0 (c.put_restored.ensures.within (g.P.BlockDev.state c.make_again.new.parity_dev))
+
+pub returns-in_err-made-clause-came : goal.returns-in_err-made-clause-came
+returns-in_err-made-clause-came g c = tells-from c.args.place.height c.from_residual.result c.from_residual.ensures.1 (ends-read (world-none c.args.image.now))
+
+pub returns-in_err-read-clause-came : goal.returns-in_err-read-clause-came
+returns-in_err-read-clause-came g c = tells-from c.args.place.height c.from_residual-in_err-read.result c.from_residual-in_err-read.ensures.1 (ends-read (world-none c.args.image.now))
+
+pub returns-in_err-back-clause-came : goal.returns-in_err-back-clause-came
+returns-in_err-back-clause-came g c = tells-from c.args.place.height c.from_residual-in_err-back.result c.from_residual-in_err-back.ensures.1 (ends-read c.make_again.ensures.read)
+
+pub returns-then-not-back-clause-came : goal.returns-then-not-back-clause-came
+returns-then-not-back-clause-came g c = tells-none c.args.place.height (has-read c.make_again.ensures.read)
+
+pub returns-clause-came : goal.returns-clause-came
+returns-clause-came g c = tells-behind c.make_again.ensures.read c.put_restored.ensures.came

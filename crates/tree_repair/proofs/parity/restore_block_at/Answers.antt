@@ -4,6 +4,9 @@ use Rattle.tree_repair.specs.Tries.{IsSoughtAt, trial}
 use Rattle.tree_repair.proofs.TryLemmas.{sought-behind}
 use Rattle.tree_path.proofs.lemmas.DeviceLemmas.{only_read-none}
 use Rattle.tree_repair.proofs.RunLemmas.{can-read, ended-from, ends-read, has-behind, has-none, has-read, laid-read, world-none}
+use Rattle.tree_repair.specs.ParityBounds.{IsAskedWithin, parity_bill, tries_of}
+use Rattle.tree_repair.proofs.ParityBillLemmas.{asked-none, work-along, work-way}
+use Rattle.tree_repair.proofs.ParityPassLemmas.{tells-behind, tells-from, tells-none}
 use Rattle.tree_repair.proofs.parity.restore_block_at.Goals as goal
 
 pub returns-then-bad-clause-parity : goal.returns-then-bad-clause-parity
@@ -76,3 +79,41 @@ pub returns-in-Some-clause-sought : goal.returns-in-Some-clause-sought
 returns-in-Some-clause-sought g c =
     sought-behind (job c.args.repair.now) c.args.bad.now.place.height c.args.bad.now.place.index c.args.bad.now.found c.args.losses.now.layout c.args.losses.now.lost.items c.args.image.now c.way_to.new.image c.restore_along.new.image
     (g.P.BlockDev.state c.args.parity_dev.now) (g.P.BlockDev.state c.restore_along.new.parity_dev) c.restore_along.result c.way_to.ensures.read c.if-bad.false c.restore_along.ensures.tried
+
+pub returns-then-bad-clause-within : goal.returns-then-bad-clause-within
+returns-then-bad-clause-within g c = asked-none (parity_bill c.args.repair.now.shape c.args.losses.now.layout 0 0 (tries_of c.args.bad.now.found)) c.args.image.now (g.P.BlockDev.state c.args.parity_dev.now)
+
+pub returns-then-not-is_place-clause-within : goal.returns-then-not-is_place-clause-within
+returns-then-not-is_place-clause-within g c = asked-none (parity_bill c.args.repair.now.shape c.args.losses.now.layout 0 0 (tries_of c.args.bad.now.found)) c.args.image.now (g.P.BlockDev.state c.args.parity_dev.now)
+
+pub returns-in_err-found-clause-within : goal.returns-in_err-found-clause-within
+returns-in_err-found-clause-within g c =
+    let p = g.P.BlockDev.state c.args.parity_dev.now in
+    subst (λ (found : Bool). IsAskedWithin (parity_bill c.args.repair.now.shape c.args.losses.now.layout 0 0 (tries_of found)) c.args.image.now c.way_to.new.image p p) (sym c.if-bad.false)
+    (work-way c.args.repair.now.shape c.args.losses.now.layout c.args.bad.now.place.height c.way_to.ensures.asked p)
+
+pub returns-in-None-clause-within : goal.returns-in-None-clause-within
+returns-in-None-clause-within g c =
+    let p = g.P.BlockDev.state c.args.parity_dev.now in
+    subst (λ (found : Bool). IsAskedWithin (parity_bill c.args.repair.now.shape c.args.losses.now.layout 0 0 (tries_of found)) c.args.image.now c.way_to.new.image p p) (sym c.if-bad.false)
+    (work-way c.args.repair.now.shape c.args.losses.now.layout c.args.bad.now.place.height c.way_to.ensures.asked p)
+
+pub returns-in-Some-clause-within : goal.returns-in-Some-clause-within
+returns-in-Some-clause-within g c =
+    subst (λ (found : Bool). IsAskedWithin (parity_bill c.args.repair.now.shape c.args.losses.now.layout 0 0 (tries_of found)) c.args.image.now c.restore_along.new.image (g.P.BlockDev.state c.args.parity_dev.now) (g.P.BlockDev.state c.restore_along.new.parity_dev)) (sym c.if-bad.false)
+    (work-along c.args.repair.now.shape c.args.losses.now.layout c.args.bad.now.place.height c.way_to.ensures.asked c.restore_along.ensures.within)
+
+pub returns-then-bad-clause-came : goal.returns-then-bad-clause-came
+returns-then-bad-clause-came g c = tells-none c.args.bad.now.place.height has-none
+
+pub returns-then-not-is_place-clause-came : goal.returns-then-not-is_place-clause-came
+returns-then-not-is_place-clause-came g c = tells-none c.args.bad.now.place.height has-none
+
+pub returns-in_err-found-clause-came : goal.returns-in_err-found-clause-came
+returns-in_err-found-clause-came g c = tells-from c.args.bad.now.place.height c.from_residual.result c.from_residual.ensures.1 (ends-read c.way_to.ensures.read)
+
+pub returns-in-None-clause-came : goal.returns-in-None-clause-came
+returns-in-None-clause-came g c = tells-none c.args.bad.now.place.height (has-read c.way_to.ensures.read)
+
+pub returns-in-Some-clause-came : goal.returns-in-Some-clause-came
+returns-in-Some-clause-came g c = tells-behind c.way_to.ensures.read c.restore_along.ensures.came

@@ -1,9 +1,10 @@
-use Rattle.std.proofs.Common.{inl, true, ap}
+use Rattle.std.proofs.Common.{inl, true, ap, inr, refl}
 use Rattle.tree_path.proofs.lemmas.DeviceLemmas.{only_read-none}
 use Rattle.tree_repair.specs.Jobs.{job}
 use Rattle.tree_repair.specs.Runs.{Job}
-use Rattle.tree_repair.proofs.RepairLemmas.{can-begin, err-from, whole-err, whole-ok}
+use Rattle.tree_repair.proofs.RepairLemmas.{can-begin, err-from, is_err-from, whole-err, whole-ok}
 use Rattle.tree_repair.proofs.RunLemmas.{laid-read}
+use Rattle.tree_repair.proofs.ParityPassLemmas.{repairs-passes}
 use Rattle.tree_repair.proofs.passes.repair_with_parity.Goals as goal
 
 pub returns-in_err-superblock-clause-parity : goal.returns-in_err-superblock-clause-parity
@@ -36,3 +37,10 @@ pub returns-clause-err : goal.returns-clause-err
 returns-clause-err g c =
     whole-err c.in_ok-superblock.superblock c.args.plan true (job c.repair_of-repair.result) c.args.image.now c.superblock_of.new.image c.repair_of-repair.ensures.job c.superblock_of.ensures.read
     c.in_ok-superblock.ensures.ok c.run_passes.new.image (g.W.Write.contents c.args.writer.now.inner) (g.W.Write.contents c.run_passes.new.writer.inner) c.run_passes.result c.run_passes.ensures.run
+
+pub returns-in_err-superblock-clause-within : goal.returns-in_err-superblock-clause-within
+returns-in_err-superblock-clause-within g c = inl (is_err-from c.from_residual.result _ c.in_err-superblock.field-0.0 c.from_residual.ensures.1 c.in_err-superblock.ensures.err, (c.superblock_of.ensures.alone, refl))
+
+pub returns-clause-within : goal.returns-clause-within
+returns-clause-within g c =
+    inr (repairs-passes c.in_ok-superblock.superblock c.args.plan (job c.repair_of-repair.result) c.repair_of-repair.ensures.job c.superblock_of.ensures.read c.in_ok-superblock.ensures.ok c.in_ok-superblock.ensures.asked c.run_passes.ensures.within)

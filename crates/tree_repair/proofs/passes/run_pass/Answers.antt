@@ -1,7 +1,11 @@
+use Rattle.std.proofs.Common.{IsTrue, false, sym, ◌∙◌}
+use Rattle.std.proofs.lemmas.Bool.{false≢true}
 use Rattle.tree_path.proofs.lemmas.DeviceLemmas.{only_read-none}
 use Rattle.tree_repair.proofs.PassLemmas.{pass-of}
 use Rattle.tree_repair.proofs.RunLemmas.{can-later, ended-from, has-then, laid-later}
+use Rattle.tree_repair.proofs.ParityPassLemmas.{runs-not, runs-pass, runs-told}
 use Rattle.tree_repair.proofs.passes.run_pass.Goals as goal
+use Rattle.tree_repair.proofs.passes.run_pass.Goals.{then-tree, else-tree}
 
 pub returns-in_err-repair_heights-clause-parity : goal.returns-in_err-repair_heights-clause-parity
 returns-in_err-repair_heights-clause-parity g c = only_read-none (g.P.BlockDev.state c.args.parity_dev.now)
@@ -30,3 +34,17 @@ returns-clause-run g c = has-then c.in_ok-repair_heights.ensures.notes.run c.in_
 
 pub returns-clause-pass : goal.returns-clause-pass
 returns-clause-pass g c = pass-of c.noted.result.now c.in_ok-repair_heights.ensures.notes c.new-bad.ensures.asked c.new-bad.ensures.none c.noted.ensures c.in_ok-tree.ensures.sought
+
+pub returns-in_err-repair_heights-clause-within : goal.returns-in_err-repair_heights-clause-within
+returns-in_err-repair_heights-clause-within g c = runs-told c.from_residual.result c.from_residual.ensures.1 (runs-not c.in_err-repair_heights.ensures.notes.run c.repair_heights.ensures.asked)
+
+pub returns-in_err-tree-clause-within : goal.returns-in_err-tree-clause-within
+returns-in_err-tree-clause-within g c =
+    runs-told c.from_residual-in_err-tree.result c.from_residual-in_err-tree.ensures.1
+    (runs-pass false (λ more. absurd (false≢true more)) c.noted.result.now c.in_ok-repair_heights.ensures.notes c.new-bad.ensures.asked c.new-bad.ensures.none c.noted.ensures c.in_ok-repair_heights.ensures.few c.repair_heights.ensures.asked c.in_err-tree.ensures.came c.restore_bad.ensures.within)
+
+pub returns-clause-within : goal.returns-clause-within
+returns-clause-within g c =
+    let came : IsTrue c.if-tree.result → IsTrue c.in_ok-tree.tree =
+    λ more. elim c.if-tree.branch [ then-tree w ↦ w.if-tree.true | else-tree w ↦ sym w.result-is ∙ more ] in
+    runs-pass c.if-tree.result came c.noted.result.now c.in_ok-repair_heights.ensures.notes c.new-bad.ensures.asked c.new-bad.ensures.none c.noted.ensures c.in_ok-repair_heights.ensures.few c.repair_heights.ensures.asked c.in_ok-tree.ensures.came c.restore_bad.ensures.within

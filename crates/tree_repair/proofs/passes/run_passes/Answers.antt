@@ -1,6 +1,8 @@
+use Rattle.std.proofs.Common.{◌+◌, ◌-◌, arith}
 use Rattle.tree_path.proofs.lemmas.DeviceLemmas.{only_read-then}
 use Rattle.tree_repair.proofs.PassLemmas.{pass-first, pass-later}
 use Rattle.tree_repair.proofs.RunLemmas.{can-later, ended-from, has-then, laid-later}
+use Rattle.tree_repair.proofs.ParityPassLemmas.{runs-end, runs-from, runs-more, runs-then}
 use Rattle.tree_repair.proofs.passes.run_passes.Goals as goal
 
 pub returns-in_err-again-clause-parity : goal.returns-in_err-again-clause-parity
@@ -10,7 +12,7 @@ pub returns-in_err-again-clause-run : goal.returns-in_err-again-clause-run
 returns-in_err-again-clause-run g c = ended-from c.from_residual.result c.from_residual.ensures.1 c.in_err-again.ensures.run
 
 pub passes-init : goal.passes-init
-passes-init g c = record { parity = c.run_pass.ensures.parity; run = c.in_ok-again.ensures.run; asks = pass-first c.in_ok-again.ensures.pass }
+passes-init g c = record { left_few = omega arith; within = runs-more 1 (1 + c.args.layout.now.hash_blocks - c.args.layout.now.hash_blocks) (omega arith) c.in_ok-again.ensures.within; parity = c.run_pass.ensures.parity; run = c.in_ok-again.ensures.run; asks = pass-first c.in_ok-again.ensures.pass }
 
 pub run_pass-requires-in-passes-clause-can : goal.run_pass-requires-in-passes-clause-can
 run_pass-requires-in-passes-clause-can g c = can-later c.passes.invariant.run c.requires.can
@@ -20,6 +22,10 @@ run_pass-requires-in-passes-clause-laid g c = laid-later c.passes.invariant.run 
 
 pub passes-preserved : goal.passes-preserved
 passes-preserved g c = record {
+  left_few = omega (arith, c.passes.invariant.left_few);
+  within =
+      let n = c.args.layout.now.hash_blocks in
+      runs-then (1 + n - c.passes.left) (1 + n - (c.passes.left - 1)) (omega (arith, c.passes.invariant.left_few, c.if-left-gt0.true)) c.passes-test.true c.passes.invariant.within c.in_ok-again-2.ensures.within;
   parity = only_read-then c.passes.invariant.parity c.run_pass-in-passes.ensures.parity;
   run = has-then c.passes.invariant.run c.in_ok-again-2.ensures.run;
   asks = pass-later c.passes.invariant.run c.passes.invariant.parity c.in_ok-again-2.ensures.pass;
@@ -48,3 +54,22 @@ returns-else-left-gt0-clause-run g c = c.passes.invariant.run
 
 pub returns-else-left-gt0-clause-asks : goal.returns-else-left-gt0-clause-asks
 returns-else-left-gt0-clause-asks g c = c.passes.invariant.asks
+
+pub returns-in_err-again-clause-within : goal.returns-in_err-again-clause-within
+returns-in_err-again-clause-within g c = runs-from c.from_residual.result c.from_residual.ensures.1 (runs-more 1 (1 + c.args.layout.now.hash_blocks) (omega arith) c.in_err-again.ensures.within)
+
+pub returns-in_err-again-2-clause-within : goal.returns-in_err-again-2-clause-within
+returns-in_err-again-2-clause-within g c =
+    let n = c.args.layout.now.hash_blocks in
+    runs-from c.from_residual-in_err-again-2.result c.from_residual-in_err-again-2.ensures.1
+    (runs-then (1 + n - c.passes.left) (1 + n) (omega (arith, c.passes.invariant.left_few, c.if-left-gt0.true)) c.passes-test.true c.passes.invariant.within c.in_err-again-2.ensures.within)
+
+pub returns-after-passes-clause-within : goal.returns-after-passes-clause-within
+returns-after-passes-clause-within g c =
+    let n = c.args.layout.now.hash_blocks in
+    runs-end (1 + n - c.passes.left) (1 + n) (omega arith) c.passes.invariant.within
+
+pub returns-else-left-gt0-clause-within : goal.returns-else-left-gt0-clause-within
+returns-else-left-gt0-clause-within g c =
+    let n = c.args.layout.now.hash_blocks in
+    runs-end (1 + n - c.passes.left) (1 + n) (omega arith) c.passes.invariant.within

@@ -5,6 +5,7 @@ use Rattle.tree_shape.proofs.lemmas.ShapeFactLemmas.{levels-few}
 use Rattle.tree_shape.specs.Shape.{levels}
 use Rattle.tree_repair.specs.Bills.{LeavesWorld, pass_over}
 use Rattle.tree_repair.proofs.BillLemmas.{leaves-end, leaves-none}
+use Rattle.tree_repair.proofs.CountLemmas.{count-down, counts-all, counts_over}
 use Rattle.tree_repair.proofs.HeightLemmas.{heights-next, heights-pass, heights_over}
 use Rattle.tree_repair.proofs.PassLemmas.{noted-ends, noted-fewer, noted-from, noted-none, noted-not, noted-then}
 use Rattle.tree_repair.proofs.RunLemmas.{can-later, ends-read, world-none}
@@ -20,6 +21,10 @@ heights-init g c = record {
       let s = c.args.repair.now.shape in
       let top : levels s + 1 ≡ c.levels-levels.result + 1 = ap (λ (n : ℕ). n + 1) (sym c.levels-levels.ensures.value) in
       subst (λ (n : ℕ). LeavesWorld (heights_over s (levels s + 1)) (heights_over s n) c.args.image.now c.args.image.now) top (leaves-none (heights_over s (levels s + 1)) c.args.image.now);
+  few =
+      let s = c.args.repair.now.shape in
+      let top : levels s + 1 ≡ c.levels-levels.result + 1 = ap (λ (n : ℕ). n + 1) (sym c.levels-levels.ensures.value) in
+      omega (arith, ap (counts_over s) top);
   run = noted-none (λ h i due. omega (arith, due.0, due.1.0, c.levels-levels.ensures.value));
 }
 
@@ -40,6 +45,7 @@ pub heights-preserved : goal.heights-preserved
 heights-preserved g c = record {
   low = omega (arith, c.heights.invariant.low);
   asked = heights-next c.args.repair.now.shape c.heights.height (c.heights.height - 1) (omega (arith, c.heights-test.true)) c.args.image.now c.heights.image c.repair_height.new.image c.heights.invariant.asked c.repair_height.ensures.asked;
+  few = omega (arith, c.heights.invariant.few, c.in_ok-repair_height.ensures.few, count-down c.args.repair.now.shape c.heights.height (c.heights.height - 1) (omega (arith, c.heights-test.true)));
   run = noted-then c.heights.invariant.run c.in_ok-repair_height.ensures.notes
       (λ h i due.
       elim (cases_lt h c.heights.height) [
@@ -65,3 +71,6 @@ returns-in_err-repair_height-clause-asked g c =
 
 pub returns-clause-asked : goal.returns-clause-asked
 returns-clause-asked g c = heights-pass c.args.repair.now.shape c.requires.valid c.args.image.now c.heights.image c.heights.invariant.asked
+
+pub returns-clause-few : goal.returns-clause-few
+returns-clause-few g c = omega (arith, c.heights.invariant.few, counts-all c.args.repair.now.shape)

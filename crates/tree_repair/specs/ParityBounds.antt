@@ -1,0 +1,207 @@
+-- How often the devices of an image and its parity are asked at most, in failed calls too: in passes over the image, and for
+-- each block that is sought by parity.
+use Rattle.std.specs.Prelude.{◌≡◌, ◌⊎◌, ℕ, ◌+◌, ◌-◌, ◌*◌, ◌/◌, ◌^◌, ◌<◌, ◌≤◌, zero, suc, Bool, true, false, IsTrue, List, Option, Result, Ok, Err, IfOk, IsErrAnd, length, sum_by}
+use Rattle.std.specs.Int.{div_ceil}
+use Rattle.std.specs.Result.{result_err}
+use Rattle.block_device.specs.Device.{Device}
+use Rattle.counted_io.specs.Counted.{CountedRecord}
+use Rattle.fec_area.specs.declared.layout.Layout.{Layout}
+use Rattle.tree_shape.specs.Shape.{ShapeRecord, area_blocks, levels, per_block}
+use Rattle.tree_path.specs.Steps.{HasReadAtMost}
+use Rattle.verity_format.specs.Image.{data_sectors}
+use Rattle.verity_format.specs.Superblock.{shape_of}
+use Rattle.tree_repair.specs.declared.bad.BadBlock.{BadBlock}
+use Rattle.tree_repair.specs.declared.bad.BadBlocks.{BadBlocks}
+use Rattle.tree_repair.specs.declared.fault.RepairFault.{RepairFault}
+use Rattle.tree_repair.specs.declared.mending.Mended.{Mended}
+use Rattle.tree_repair.specs.declared.mending.Mended.TheVariants as mended
+use Rattle.tree_repair.specs.declared.place.Row.{Row}
+use Rattle.tree_repair.specs.declared.repair.Plan.{Plan}
+use Rattle.tree_repair.specs.Bounds.{AreReadAtMost, HasWrittenAtMost, IsHashReadAlone, area_block_sectors}
+use Rattle.tree_repair.specs.Repairs.{IsNoImageCause, Repairs}
+use Rattle.tree_repair.specs.Runs.{HasRun, Job, Visit, size_at}
+use Rattle.tree_repair.specs.Worlds.{RepairWorld}
+
+-- ---- what is asked
+
+-- How many sectors may be read of the data device, of the hash device and of the parity, how many written to the first two, and
+-- how many read of each of their copies.
+pub record ParityBill : Type 0 where
+  pub data_reads : ℕ
+  pub hash_reads : ℕ
+  pub parity_reads : ℕ
+  pub data_writes : ℕ
+  pub hash_writes : ℕ
+  pub data_sought : ℕ
+  pub hash_sought : ℕ
+
+-- no more was asked
+pub record IsAskedWithin (b : ParityBill) (w w' : RepairWorld) (p p' : Device) : Type 0 where
+  pub data_reads : HasReadAtMost w.data_dev b.data_reads w'.data_dev
+  pub hash_reads : HasReadAtMost w.hash_dev b.hash_reads w'.hash_dev
+  pub parity_reads : HasReadAtMost p b.parity_reads p'
+  pub data_writes : HasWrittenAtMost w.data_dev b.data_writes w'.data_dev
+  pub hash_writes : HasWrittenAtMost w.hash_dev b.hash_writes w'.hash_dev
+  pub data_copies : AreReadAtMost w.data_copies b.data_sought w'.data_copies
+  pub hash_copies : AreReadAtMost w.hash_copies b.hash_sought w'.hash_copies
+
+-- So many superblocks are read, so many passes made, and so many blocks sought by parity. For a sought block the way to it is
+-- read on the hash device, of each device no more than the other blocks of its round and then the block itself, and of the
+-- parity that of the round; and the block may be written.
+abbrev pub parity_bill : ShapeRecord → Layout → ℕ → ℕ → ℕ → ParityBill
+parity_bill s l superblocks passes sought = record {
+  data_reads = passes * ((levels s + 2) * data_sectors s) + sought * ((256 - l.roots) * (l.block / 512));
+  hash_reads = superblocks + passes * (2 * levels s * area_block_sectors s) + sought * (levels s * (s.hash_block / 512) + (256 - l.roots) * (l.block / 512));
+  parity_reads = sought * (l.roots * (l.block / 512));
+  data_writes = passes * data_sectors s + sought * (l.block / 512);
+  hash_writes = passes * area_block_sectors s + sought * (l.block / 512);
+  data_sought = passes * data_sectors s;
+  hash_sought = passes * area_block_sectors s;
+}
+
+-- ---- its steps
+
+-- one device was asked, and no other
+abbrev pub IsAskedAlone : ParityBill → RepairWorld → RepairWorld → Type 0
+IsAskedAlone b w w' = (p : Device) → IsAskedWithin b w w' p p
+
+-- a block of so many sectors was read and written, each at most once
+pub record IsReplacedOnce (n : ℕ) (old new : Device) : Type 0 where
+  pub reads : HasReadAtMost old n new
+  pub writes : HasWrittenAtMost old n new
+
+abbrev pub put_bill : ℕ → ParityBill
+put_bill n = record { data_reads = n; hash_reads = n; parity_reads = 0; data_writes = n; hash_writes = n; data_sought = 0; hash_sought = 0 }
+
+-- the other blocks of a round were read, and their parity
+abbrev pub round_bill : Layout → ParityBill
+round_bill l = record {
+  data_reads = (255 - l.roots) * (l.block / 512);
+  hash_reads = (255 - l.roots) * (l.block / 512);
+  parity_reads = l.roots * (l.block / 512);
+  data_writes = 0;
+  hash_writes = 0;
+  data_sought = 0;
+  hash_sought = 0;
+}
+
+-- both
+abbrev pub along_bill : Layout → ParityBill
+along_bill l = record {
+  data_reads = (256 - l.roots) * (l.block / 512);
+  hash_reads = (256 - l.roots) * (l.block / 512);
+  parity_reads = l.roots * (l.block / 512);
+  data_writes = l.block / 512;
+  hash_writes = l.block / 512;
+  data_sought = 0;
+  hash_sought = 0;
+}
+
+-- a block of a height was made again, or not; if so it has the size of those that are covered
+abbrev pub IsMadeWithin : {E : Type 0} → ShapeRecord → Layout → ℕ → RepairWorld → RepairWorld → Device → Device → Result Bool E → Type 0
+IsMadeWithin s l h w w' p p' result = IsAskedWithin (round_bill l) w w' p p' × IfOk result (λ made. IsTrue made → l.block ≡ size_at s h)
+
+-- ---- which blocks are sought
+
+-- one that was found elsewhere isn't
+abbrev pub tries_of : Bool → ℕ
+tries_of true = 0
+tries_of false = 1
+
+-- how many of these are
+abbrev pub sought_among : List BadBlock → ℕ
+sought_among blocks = sum_by (λ b. tries_of b.found) blocks
+
+-- a block that a pass found nowhere
+abbrev pub lost_of : Mended → ℕ
+lost_of mended.Good = 0
+lost_of (mended.Copy k) = 0
+lost_of mended.Remade = 0
+lost_of mended.Parity = 0
+lost_of mended.Lost = 1
+
+-- how many blocks of an image there are
+abbrev pub image_blocks : ShapeRecord → ℕ
+image_blocks s = s.blocks + area_blocks s
+
+-- so many may be noted before, and so many still behind
+abbrev pub LeavesNoted : ℕ → ℕ → BadBlocks → BadBlocks → Type 0
+LeavesNoted a b old new = length new.blocks.items + b ≤ length old.blocks.items + a
+
+-- how many blocks of a height there are over n data blocks
+abbrev pub blocks_over : ShapeRecord → ℕ → ℕ → ℕ
+blocks_over s h n = div_ceil n (per_block s ^ h)
+
+-- at most those of a row are
+abbrev pub NotesInRow : ShapeRecord → Row → BadBlocks → BadBlocks → Type 0
+NotesInRow s row old new = LeavesNoted (blocks_over s row.height (s.blocks - row.first)) (blocks_over s row.height (s.blocks - row.first - per_block s ^ (row.height + 1))) old new
+
+-- a hash block that parity brought back
+abbrev pub back_of : ℕ → Mended → ℕ
+back_of zero m = 0
+back_of (suc l) mended.Good = 0
+back_of (suc l) (mended.Copy k) = 0
+back_of (suc l) mended.Remade = 0
+back_of (suc l) mended.Parity = 1
+back_of (suc l) mended.Lost = 0
+
+-- how many of these are
+abbrev pub hashes_back : List Visit → ℕ
+hashes_back visits = sum_by (λ v. back_of v.height v.mended) visits
+
+-- what is told by a call that ended well
+abbrev pub told_of : {E : Type 0} → Result Bool E → Bool
+told_of (Ok told) = told
+told_of (Err fault) = false
+
+-- A run that tells whether a block of a height came back by parity: where it tells so of a hash block, one did.
+pub record TellsOfHash (j : Job) (h : ℕ) (w w' : RepairWorld) (old new : Option (List ℕ)) (fault : Option RepairFault) (told : Bool) : Type 0 where
+  pub run : HasRun j w w' old new fault
+  pub came : IsTrue told → 0 < h → 1 ≤ hashes_back run.visits
+
+-- the same by a writer before and behind, and by the result of the run
+abbrev pub TellsBack : {W : Type 0} → (W → Option (List ℕ)) → Job → ℕ → RepairWorld → RepairWorld → CountedRecord W → CountedRecord W → Result Bool RepairFault → Type 0
+TellsBack contents j h w w' old new result = TellsOfHash j h w w' (contents old.inner) (contents new.inner) (result_err result) (told_of result)
+
+-- ---- passes
+
+-- A run in some passes, and in no more than so many. Each further one follows on a hash block that parity brought back; if one
+-- more is due, so would that. Each block that is sought was lost in one of them.
+pub record RunsInPasses (j : Job) (l : Layout) (most : ℕ) (w w' : RepairWorld) (p p' : Device) (old new : Option (List ℕ)) (fault : Option RepairFault) (again : Bool) : Type 0 where
+  pub run : HasRun j w w' old new fault
+  pub passes : ℕ
+  pub sought : ℕ
+  pub passes_few : passes ≤ most
+  pub further : passes ≤ 1 + hashes_back run.visits
+  pub due : IsTrue again → passes ≤ hashes_back run.visits
+  pub lost : sought ≤ sum_by (λ v. lost_of v.mended) run.visits
+  pub sought_few : sought ≤ passes * image_blocks j.tree.shape
+  pub within : IsAskedWithin (parity_bill j.tree.shape l 0 passes sought) w w' p p'
+
+-- the same by a writer before and behind, and by the result of the run
+abbrev pub RunsInOne : {W : Type 0} → (W → Option (List ℕ)) → Job → Layout → RepairWorld → RepairWorld → Device → Device → CountedRecord W → CountedRecord W → Result Bool RepairFault → Type 0
+RunsInOne contents j l w w' p p' old new result = RunsInPasses j l 1 w w' p p' (contents old.inner) (contents new.inner) (result_err result) (told_of result)
+
+abbrev pub RunsInAll : {W T : Type 0} → (W → Option (List ℕ)) → Job → Layout → RepairWorld → RepairWorld → Device → Device → CountedRecord W → CountedRecord W → Result T RepairFault → Type 0
+RunsInAll contents j l w w' p p' old new result = RunsInPasses j l (1 + l.hash_blocks) w w' p p' (contents old.inner) (contents new.inner) (result_err result) false
+
+-- ---- the whole
+
+-- An image was repaired with parity, by the shape that its superblock says: in one pass, and no more further ones than hash
+-- blocks came back by parity, nor than there are covered blocks of the hash device. No block was sought by parity but those that
+-- a pass found nowhere.
+pub record RepairsInPasses (plan : Plan) (l : Layout) (w w' : RepairWorld) (p p' : Device) (old new : Option (List ℕ)) (fault : Option RepairFault) : Type 0 where
+  pub repairs : Repairs plan true w w' old new fault
+  pub passes : ℕ
+  pub sought : ℕ
+  pub passes_few : passes ≤ 1 + l.hash_blocks
+  pub further : passes ≤ 1 + hashes_back repairs.run.visits
+  pub lost : sought ≤ sum_by (λ v. lost_of v.mended) repairs.run.visits
+  pub sought_few : sought ≤ passes * image_blocks (shape_of repairs.s)
+  pub within : IsAskedWithin (parity_bill (shape_of repairs.s) l 1 passes sought) w w' p p'
+
+-- so, whether to the end or not; or there was nothing to be gone over
+abbrev pub IsParityWithin : {W T : Type 0} → (W → Option (List ℕ)) → Plan → Layout → RepairWorld → RepairWorld → Device → Device → CountedRecord W → CountedRecord W → Result T RepairFault → Type 0
+IsParityWithin contents plan l w w' p p' old new result =
+    (IsErrAnd result (IsNoImageCause w.data_dev w.hash_dev w'.hash_dev) × (IsHashReadAlone w w' × (p' ≡ p)))
+    ⊎ RepairsInPasses plan l w w' p p' (contents old.inner) (contents new.inner) (result_err result)
