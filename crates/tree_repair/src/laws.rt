@@ -1,4 +1,5 @@
 //! Laws of repairs: each function's contract is the law, and its call gives it.
+ghost use Rattle.tree_repair.specs.Beyond.{WhatStaysLostIsBeyondParity};
 ghost use Rattle.tree_repair.specs.Laws.{MendedBlocksAreFormatted, MendedBlocksAreGood, NoHashBlockIsLost, OtherSectorsStay};
 
 use hash_tree::laws::formed_chains_are_good;
@@ -25,4 +26,10 @@ pub fn no_hash_block_is_lost()
 /// A sector that is in no block that was mended is as it was.
 pub fn other_sectors_stay()
     ensures { OtherSectorsStay }
+{}
+
+/// Where parity was asked, on devices that never fail, each block of the tree was good or found when the last pass came to it, or
+/// came back by parity, or a hash block above it isn't good, or parity doesn't cover it or can't make it again.
+pub fn what_stays_lost_is_beyond_parity()
+    ensures { WhatStaysLostIsBeyondParity }
 {}

@@ -1,5 +1,5 @@
 //! Blocks brought back by parity.
-ghost use Rattle.std.specs.Prelude.{◌≡◌, ◌<◌, ◌≤◌, ◌+◌, ◌/◌, ◌++◌, ◌&&◌, ◌||◌, false, nat_lt, IfOk, IsTrue, OnErr, OnOk, length, IfErr};
+ghost use Rattle.std.specs.Prelude.{◌≡◌, ◌<◌, ◌≤◌, ◌+◌, ◌/◌, ◌++◌, ◌&&◌, ◌||◌, false, IfOk, IsTrue, OnErr, OnOk, length, IfErr};
 ghost use Rattle.block_device.specs.Device.{IsInside};
 ghost use Rattle.fec_area.specs.Layouts.{IsLaidOn, IsLayout, covered_blocks};
 ghost use Rattle.tree_shape.specs.Digests.{digest};
@@ -12,7 +12,7 @@ ghost use Rattle.tree_repair.specs.ParityBounds.{IsAskedAlone, IsAskedWithin, Is
 ghost use Rattle.tree_repair.specs.Parity.{FailsToPlace, IsBack, IsNotBack, IsPlace, IsPlaced, IsPutOr, end_at};
 ghost use Rattle.tree_repair.specs.Runs.{CanRun, IsWriterCause, Ran, sector_at, size_at};
 ghost use Rattle.tree_repair.specs.Sources.{due};
-ghost use Rattle.tree_repair.specs.Tries.{AreCovered, HasSought, IsCoveredOr, IsMadeOrVain, IsSought, IsTried, listed_number, trial};
+ghost use Rattle.tree_repair.specs.Tries.{AreCovered, HasSought, IsCoveredOr, IsMadeOrVain, IsSought, IsTried, is_hash_back, listed_number, trial};
 ghost use Rattle.tree_repair.specs.Worlds.{IsWorldRead};
 
 use crate::bad::BadBlock;
@@ -54,7 +54,7 @@ pub(crate) fn restore_bad<D: BlockDev, H: BlockDev, C: BlockDev, P: BlockDev, W:
     ensures parity { IsOnlyRead (P.state parity_dev.old) (P.state parity_dev.new) }
     ensures run { Ran W.contents (job repair.now) image.old image.new writer.old writer.new result }
     ensures told { IfErr result (IsWriterCause writer.new) }
-    ensures sought { OnOk result (HasSought (job repair.now) layout.now blocks.now image.old image.new (P.state parity_dev.old) (P.state parity_dev.new)) }
+    ensures sought { IfOk result (HasSought (job repair.now) layout.now blocks.now image.old image.new (P.state parity_dev.old) (P.state parity_dev.new)) }
     ensures within { IsAskedWithin (parity_bill repair.now.shape layout.now 0 0 (sought_among blocks.now)) image.old image.new (P.state parity_dev.old) (P.state parity_dev.new) }
     ensures came { TellsBack W.contents (job repair.now) 1 image.old image.new writer.old writer.new result }
 {
@@ -72,7 +72,7 @@ pub(crate) fn restore_bad<D: BlockDev, H: BlockDev, C: BlockDev, P: BlockDev, W:
 }
 
 fn is_in_tree(tree: bool, back: bool, bad: &BadBlock) -> bool
-    ensures { result ≡ (tree || back && nat_lt 0 bad.now.place.height) }
+    ensures { result ≡ (tree || is_hash_back back bad.now) }
 {
     tree || back && bad.place.height > 0
 }
@@ -251,13 +251,14 @@ fn restore<D: BlockDev, H: BlockDev, C: BlockDev, P: BlockDev>(
     ensures within { IsAskedWithin (round_bill losses.now.layout) image.old image.new (P.state parity_dev.old) (P.state parity_dev.new) }
 {
     let Losses { layout, lost } = losses;
+    let sought = LostBlock {
+        layout,
+        lost,
+        index,
+    };
     match restore_block(
         alloc,
-        &LostBlock {
-            layout,
-            lost,
-            index,
-        },
+        &sought,
         &mut image.data,
         &mut image.hash,
         parity_dev,

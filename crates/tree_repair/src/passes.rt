@@ -1,11 +1,11 @@
 //! An image, repaired in passes by its parity too.
-ghost use Rattle.std.specs.Prelude.{◌≤◌, ◌^◌, IfErr, IsTrue, OnOk};
+ghost use Rattle.std.specs.Prelude.{◌≤◌, ◌^◌, IfErr, IfOk, IsTrue, OnOk};
 ghost use Rattle.fec_area.specs.Layouts.{IsLaidOn};
 ghost use Rattle.verity_format.specs.Blocks.{IsOnlyRead};
 ghost use Rattle.tree_repair.specs.Jobs.{job};
 ghost use Rattle.tree_repair.specs.ParityBounds.{IsParityWithin, RunsInAll, RunsInOne};
 ghost use Rattle.tree_repair.specs.Passes.{EndsInPass, IsPass};
-ghost use Rattle.tree_repair.specs.Repairs.{IsAllowed, IsParityRepair, IsParityUnrepaired};
+ghost use Rattle.tree_repair.specs.Repairs.{IsAllowed, IsParityRepair, IsParityUnrepaired, IsSoughtByParity};
 ghost use Rattle.tree_repair.specs.Runs.{CanRun, IsWriterCause, Ran};
 
 use crate::bad::BadBlocks;
@@ -41,6 +41,7 @@ pub fn repair_with_parity<D: BlockDev, H: BlockDev, C: BlockDev, P: BlockDev, W:
     ensures err { IfErr result (IsParityUnrepaired W.contents plan image.old image.new writer.old writer.new) }
     ensures told { IfErr result (IsWriterCause writer.new) }
     ensures within { IsParityWithin W.contents plan layout.now image.old image.new (P.state parity_dev.old) (P.state parity_dev.new) writer.old writer.new result }
+    ensures sought { OnOk result (IsSoughtByParity P.state plan layout.now image.old image.new parity_dev.old parity_dev.new) }
 {
     let superblock = superblock_of(image)?;
     let repair = repair_of(alloc, &superblock, &plan, true);
@@ -88,7 +89,7 @@ fn run_pass<D: BlockDev, H: BlockDev, C: BlockDev, P: BlockDev, W: Write>(
     ensures parity { IsOnlyRead (P.state parity_dev.old) (P.state parity_dev.new) }
     ensures run { Ran W.contents (job repair.now) image.old image.new writer.old writer.new result }
     ensures told { IfErr result (IsWriterCause writer.new) }
-    ensures pass { OnOk result (IsPass (job repair.now) layout.now image.old image.new (P.state parity_dev.old) (P.state parity_dev.new)) }
+    ensures pass { IfOk result (IsPass (job repair.now) layout.now image.old image.new (P.state parity_dev.old) (P.state parity_dev.new)) }
     ensures within { RunsInOne W.contents (job repair.now) layout.now image.old image.new (P.state parity_dev.old) (P.state parity_dev.new) writer.old writer.new result }
 {
     let mut bad = BadBlocks::new(repair.alloc, true);

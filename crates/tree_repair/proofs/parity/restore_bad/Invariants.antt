@@ -10,7 +10,7 @@ use Rattle.tree_repair.proofs.parity.restore_bad.Given as goal
 abbrev pub invariant-each : goal.invariant-each
 invariant-each g l = record {
   parity : IsOnlyRead (g.P.BlockDev.state l.fn.parity_dev) (g.P.BlockDev.state l.parity_dev);
-  sought : AreSought (job l.fn.repair) l.losses.layout l.losses.lost.items (take l.bad-index l.blocks) l.fn.image l.image (g.P.BlockDev.state l.fn.parity_dev) (g.P.BlockDev.state l.parity_dev);
+  sought : AreSought (job l.fn.repair) l.losses.layout l.losses.lost.items (take l.bad-index l.blocks) l.fn.image l.image (g.P.BlockDev.state l.fn.parity_dev) (g.P.BlockDev.state l.parity_dev) l.tree;
   within : IsAskedWithin (parity_bill l.fn.repair.shape l.losses.layout 0 0 (sought_among (take l.bad-index l.blocks))) l.fn.image l.image (g.P.BlockDev.state l.fn.parity_dev) (g.P.BlockDev.state l.parity_dev);
   came : TellsOfHash (job l.fn.repair) 1 l.fn.image l.image (g.W.Write.contents l.fn.writer.inner) (g.W.Write.contents l.writer.inner) None l.tree;
   run : HasRun (job l.fn.repair) l.fn.image l.image (g.W.Write.contents l.fn.writer.inner) (g.W.Write.contents l.writer.inner) None;

@@ -1,4 +1,4 @@
-use Rattle.std.proofs.Common.{IsTrue, false, sym, ◌∙◌}
+use Rattle.std.proofs.Common.{IsTrue, false, sym, ◌∙◌, ◌&&◌, Bool, ap}
 use Rattle.std.proofs.lemmas.Bool.{false≢true}
 use Rattle.tree_path.proofs.lemmas.DeviceLemmas.{only_read-none}
 use Rattle.tree_repair.proofs.PassLemmas.{pass-of}
@@ -33,7 +33,11 @@ pub returns-clause-run : goal.returns-clause-run
 returns-clause-run g c = has-then c.in_ok-repair_heights.ensures.notes.run c.in_ok-tree.ensures.run
 
 pub returns-clause-pass : goal.returns-clause-pass
-returns-clause-pass g c = pass-of c.noted.result.now c.in_ok-repair_heights.ensures.notes c.new-bad.ensures.asked c.new-bad.ensures.none c.noted.ensures c.in_ok-tree.ensures.sought
+returns-clause-pass g c = pass-of c.noted.result.now c.if-tree.result c.in_ok-repair_heights.ensures.notes c.new-bad.ensures.asked c.new-bad.ensures.none c.noted.ensures c.in_ok-tree.ensures.sought
+    (elim c.if-tree.branch [
+      | then-tree w ↦ w.result-is ∙ ap (λ (b : Bool). b && c.args.repair.now.write) (sym w.if-tree.true)
+      | else-tree w ↦ w.result-is ∙ w.if-tree.false ∙ ap (λ (b : Bool). b && c.args.repair.now.write) (sym w.if-tree.false)
+    ])
 
 pub returns-in_err-repair_heights-clause-within : goal.returns-in_err-repair_heights-clause-within
 returns-in_err-repair_heights-clause-within g c = runs-told c.from_residual.result c.from_residual.ensures.1 (runs-not c.in_err-repair_heights.ensures.notes.run c.repair_heights.ensures.asked)
