@@ -1,6 +1,6 @@
 -- Runs of which the blocks that aren't good are noted.
 use Rattle.std.proofs.Common.{◌≡◌, ℕ, true, IsTrue, List, [], ◌++◌, Option, None, Some, Result, Ok, Err, refl, sym, ap, ◌∙◌, subst, arith, inl, inr, ◌&&◌, zero, suc, Bool, false}
-use Rattle.std.specs.Prelude.{◌⊎◌, IsErrAnd, is_ok}
+use Rattle.std.specs.Prelude.{◌⊎◌, IsErrAnd}
 use Rattle.std.specs.List.{flat_map}
 use Rattle.std.specs.Io.KnownBytes.{Appends}
 use Rattle.std.specs.Result.{result_err}

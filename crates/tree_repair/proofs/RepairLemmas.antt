@@ -1,20 +1,23 @@
 -- What a repair did, behind the superblock.
-use Rattle.std.proofs.Common.{◌≡◌, ◌≤◌, ◌^◌, ℕ, List, Option, None, Some, Bool, IsTrue, Result, Ok, Err, sym, subst, arith, inr, true, false}
-use Rattle.std.specs.Prelude.{IfErr, IsErrAnd, OnOk, is_ok}
+use Rattle.std.proofs.Common.{◌≡◌, ◌≤◌, ◌^◌, ℕ, List, Option, None, Some, Bool, IsTrue, Result, Ok, Err, sym, subst, arith, inr, true, false, refl}
+use Rattle.std.specs.Prelude.{IfErr, IsErrAnd, OnOk}
 use Rattle.std.specs.Result.{result_err}
 use Rattle.block_device.specs.Device.{Device}
 use Rattle.fec_area.specs.declared.layout.Layout.{Layout}
 use Rattle.tree_shape.specs.Shape.{IsShape}
 use Rattle.verity_format.specs.Superblock.{SuperRecord, shape_of}
 use Rattle.tree_survey.specs.Causes.{AreImages}
+use Rattle.tree_repair.specs.declared.bad.BadBlocks.{BadBlocks}
 use Rattle.tree_repair.specs.declared.fault.RepairFault.{RepairFault}
 use Rattle.tree_repair.specs.declared.repair.Plan.{Plan}
-use Rattle.tree_repair.specs.Passes.{EndsInPass}
-use Rattle.tree_repair.specs.Repairs.{IsAllowed, IsUnrepairedBy, Repairs, SeeksByParity, job_of}
+use Rattle.tree_repair.specs.Coverage.{IsFromUp}
+use Rattle.tree_repair.specs.Passes.{EndsInPass, HasNoted}
+use Rattle.tree_repair.specs.Repairs.{IsAllowed, IsUnrepairedBy, LooksAtAll, Repairs, SeeksByParity, job_of}
 use Rattle.tree_repair.specs.Runs.{CanRun, HasRun, Job}
 use Rattle.tree_repair.specs.Worlds.{IsWorldRead, RepairWorld}
 use Rattle.tree_repair.proofs.PassLemmas.{ends-behind}
-use Rattle.tree_repair.proofs.RunLemmas.{has-behind}
+use Rattle.tree_repair.proofs.LookLemmas.{looked-behind}
+use Rattle.tree_repair.proofs.RunLemmas.{has-behind, runs-read}
 
 module _ (s : SuperRecord) (plan : Plan) (parity : Bool) (j : Job) (w b : RepairWorld) (same : j ≡ job_of s plan parity) (read : IsWorldRead w b) (images : AreImages w.data_dev w.hash_dev s) where
   begin-of : IsShape (shape_of s) → IsAllowed plan.write w.data_dev w.hash_dev → plan.copy_first ≤ 2 ^ 55 → CanRun (job_of s plan parity) b
@@ -49,6 +52,23 @@ pub whole-sought : (s : SuperRecord) (plan : Plan) (j : Job) (l : Layout) (w b w
     → OnOk r (EndsInPass j l b w' p p') → OnOk r (SeeksByParity plan l w w' p p')
 whole-sought s plan j l w b w' p p' (Ok x) same read images valid ends = ends-of s plan j l w b w' p p' same read images valid ends
 whole-sought s plan j l w b w' p p' (Err e) same read images valid ends = tt
+
+-- what was looked at behind the superblock
+looks-of : (s : SuperRecord) (plan : Plan) (j : Job) (w b w' : RepairWorld) (old new : Option (List ℕ)) (x y : BadBlocks) → job_of s plan false ≡ j → IsWorldRead w b → AreImages w.data_dev w.hash_dev s → HasNoted j (IsFromUp j.tree.shape 0) b w' old new x y None → LooksAtAll plan w w'
+looks-of s plan j w b w' old new x y same read images noted =
+    let here = subst (λ (k : Job). HasNoted k (IsFromUp k.tree.shape 0) b w' old new x y None) (sym same) noted in
+    record {
+      s = s;
+      images = images;
+      visits = here.run.visits;
+      runs = runs-read (job_of s plan false) here.run.visits w b w' read here.run.runs;
+      looked = λ h i high inside. looked-behind (job_of s plan false) h i here.run.visits w b w' read (here.looked refl h i (omega arith, (high, inside)));
+    }
+
+pub whole-looked : (s : SuperRecord) (plan : Plan) (j : Job) (w b w' : RepairWorld) (old new : Option (List ℕ)) (x y : BadBlocks) (r : Result (Unit {0}) RepairFault) → j ≡ job_of s plan false → IsWorldRead w b → AreImages w.data_dev w.hash_dev s
+    → HasNoted j (IsFromUp j.tree.shape 0) b w' old new x y (result_err r) → OnOk r (LooksAtAll plan w w')
+whole-looked s plan j w b w' old new x y (Ok done) same read images noted = looks-of s plan j w b w' old new x y (sym same) read images noted
+whole-looked s plan j w b w' old new x y (Err e) same read images noted = tt
 
 -- what holds of a fault holds of the result that hands it on
 pub err-from : {T E : Type 0} (r : Result T E) (P : E → Type 0) (fault : E) → IsErrAnd r (λ e. e ≡ fault) → P fault → IfErr r P

@@ -1,17 +1,18 @@
 -- What a repair of an image did.
-use Rattle.std.specs.Prelude.{◌⊎◌, ℕ, Bool, true, false, IsTrue, List, Option, None, Some}
+use Rattle.std.specs.Prelude.{◌⊎◌, ℕ, Bool, true, false, IsTrue, List, Option, None, Some, ◌<◌, ◌≤◌}
 use Rattle.block_device.specs.Device.{Device}
 use Rattle.counted_io.specs.Counted.{CountedRecord}
 use Rattle.fec_area.specs.declared.layout.Layout.{Layout}
-use Rattle.tree_shape.specs.Shape.{IsShape}
+use Rattle.tree_shape.specs.Shape.{IsShape, levels}
 use Rattle.verity_format.specs.Superblock.{SuperRecord, shape_of}
 use Rattle.tree_survey.specs.declared.fault.SurveyFault.TheVariants as survey
 use Rattle.tree_survey.specs.Causes.{AreImages, IsImageCause as IsSuperblockCause}
 use Rattle.tree_repair.specs.declared.fault.RepairFault.{RepairFault}
 use Rattle.tree_repair.specs.declared.fault.RepairFault.TheVariants.{Image, Write}
 use Rattle.tree_repair.specs.declared.repair.Plan.{Plan}
+use Rattle.tree_repair.specs.Coverage.{IsLookedAt}
 use Rattle.tree_repair.specs.Passes.{EndsInPass}
-use Rattle.tree_repair.specs.Runs.{HasRun, Job}
+use Rattle.tree_repair.specs.Runs.{HasRun, Job, Visit, VisitsAll}
 use Rattle.tree_repair.specs.Worlds.{IsWorldRead, RepairWorld}
 
 -- that of the tree of a superblock under the plan's root, with parity or without
@@ -36,6 +37,14 @@ IsRepair contents plan w w' old new = Repairs plan false w w' (contents old.inne
 -- the same with parity
 abbrev pub IsParityRepair : {W : Type 0} → (W → Option (List ℕ)) → Plan → RepairWorld → RepairWorld → CountedRecord W → CountedRecord W → Type 0
 IsParityRepair contents plan w w' old new = Repairs plan true w w' (contents old.inner) (contents new.inner) None
+
+-- the superblock was read, and each block of its tree was looked at, if good hash blocks led to it
+pub record LooksAtAll (plan : Plan) (w w' : RepairWorld) : Type 0 where
+  pub s : SuperRecord
+  pub images : AreImages w.data_dev w.hash_dev s
+  pub visits : List Visit
+  pub runs : VisitsAll (job_of s plan false) visits w w'
+  pub looked : (h i : ℕ) → h ≤ levels (shape_of s) → i < (shape_of s).blocks → IsLookedAt (job_of s plan false) h i visits w w'
 
 -- The superblock was read, and the blocks of its tree were gone over, to the end, in passes in each of which what was found
 -- nowhere was sought by parity.

@@ -6,7 +6,7 @@ use Rattle.tree_repair.specs.Bills.{LeavesWorld, nothing_due, pass_over}
 use Rattle.tree_repair.specs.Runs.{Job}
 use Rattle.tree_repair.proofs.BillLemmas.{one-pass}
 use Rattle.tree_repair.specs.Jobs.{job}
-use Rattle.tree_repair.proofs.RepairLemmas.{can-begin, err-from, is_err-from, repairs-of, whole-err, whole-ok}
+use Rattle.tree_repair.proofs.RepairLemmas.{can-begin, err-from, is_err-from, repairs-of, whole-err, whole-looked, whole-ok}
 use Rattle.tree_repair.proofs.repair.repair_image.Goals as goal
 
 pub repair_heights-requires : goal.repair_heights-requires
@@ -42,3 +42,8 @@ returns-clause-within g c =
       within = one-pass (shape_of s) c.args.image.now c.superblock_of.new.image c.repair_heights.new.image c.in_ok-superblock.ensures.asked
           (subst (λ (x : ShapeRecord). LeavesWorld (pass_over x) nothing_due c.superblock_of.new.image c.repair_heights.new.image) (ap (λ (j : Job). j.tree.shape) c.repair_of-repair.ensures.job) c.repair_heights.ensures.asked);
     })
+
+pub returns-clause-looked : goal.returns-clause-looked
+returns-clause-looked g c =
+    whole-looked c.in_ok-superblock.superblock c.args.plan (job c.repair_of-repair.result) c.args.image.now c.superblock_of.new.image c.repair_heights.new.image
+    (g.W.Write.contents c.args.writer.now.inner) (g.W.Write.contents c.repair_heights.new.writer.inner) _ _ c.repair_heights.result c.repair_of-repair.ensures.job c.superblock_of.ensures.read c.in_ok-superblock.ensures.ok c.repair_heights.ensures.notes
