@@ -1,6 +1,7 @@
 mod FormedLemmas
 mod GoodLemmas
 mod LawLemmas
+mod ApartLemmas
 mod AskedLemmas
 mod BillLemmas
 mod HeightLemmas
@@ -10,10 +11,13 @@ mod OverLemmas
 mod ParityLemmas
 mod PassLemmas
 mod PieceLemmas
+mod PutLemmas
 mod RepairLemmas
 mod RowLemmas
 mod RunLemmas
 mod SourceLemmas
+mod StandLemmas
 mod StayLemmas
 mod TryLemmas
 mod VisitLemmas
+mod WayLemmas

@@ -16,3 +16,4 @@ pub mod Tries
 pub mod Noting
 pub mod Coverage
 pub mod Passes
+pub mod Standing
