@@ -1,11 +1,13 @@
 -- A block that a visit left good stands good behind all later visits.
-use Rattle.std.proofs.Common.{◌≡◌, ◌≤◌, ◌<◌, ◌+◌, ◌*◌, ◌/◌, ℕ, zero, suc, Bool, true, IsTrue, List, [], ◌∷◌, All, length, refl, sym, ap, ◌∙◌, subst, arith, inl, inr, ◌⊎◌}
+use Rattle.std.proofs.Common.{◌≡◌, ◌≤◌, ◌<◌, ◌+◌, ◌/◌, ℕ, zero, suc, Bool, true, IsTrue, List, [], ◌∷◌, All, length, refl, sym, ap, ◌∙◌, subst, arith, inl, inr, ◌⊎◌}
 use Rattle.std.specs.List.{concat}
 use Rattle.std.proofs.lemmas.List.Elements.{All-head, All-tail}
 use Rattle.block_device.specs.Device.{Device, IsSameDevice, run_of}
 use Rattle.tree_shape.specs.Digests.{digest}
-use Rattle.tree_shape.specs.Shape.{ShapeRecord, IsShape, ancestor, levels}
-use Rattle.tree_path.specs.Path.{PathRecord, digest_on}
+use Rattle.tree_shape.specs.Shape.{ShapeRecord, IsShape, ancestor}
+use Rattle.hash_tree.specs.Chain.{formed}
+use Rattle.hash_tree.specs.Laws.{FormedChainsAreGood}
+use Rattle.tree_path.specs.Path.{PathRecord}
 use Rattle.tree_path.proofs.lemmas.DeviceLemmas.{steady-then}
 use Rattle.tree_path.proofs.lemmas.PathLemmas.{digest_on-along, leads-along}
 use Rattle.tree_survey.specs.Surveys.{Tree, IsWay}
@@ -15,11 +17,12 @@ use Rattle.tree_repair.specs.declared.mending.Mended.TheVariants as mended
 use Rattle.tree_repair.specs.Mending.{IsMended}
 use Rattle.tree_repair.specs.Parity.{IsPlace, end_at}
 use Rattle.tree_repair.specs.Runs.{IsDone, IsVisited, Job, OtherStays, VisitsAll, Visit, look_at, other, own, sector_at, size_at}
-use Rattle.tree_repair.specs.Standing.{IsLeftGoodIn, IsNotLost, IsSteadyImage, LeftGoodBlocksStand, StandsGood, standing_bytes}
+use Rattle.tree_repair.specs.Standing.{IsLeftGoodIn, IsNotLost, IsSteadyImage, LeftGoodBlocksAreFormatted, LeftGoodBlocksStand, RepairsWriteAll, StandsGood, standing_bytes}
 use Rattle.tree_repair.specs.Worlds.{IsWorldRead, RepairWorld}
 use Rattle.tree_repair.proofs.ApartLemmas.{IsElsewhere, IsSamePlace, above-same, place-inside, same-or-elsewhere, sector-same}
+use Rattle.tree_repair.proofs.LawLemmas.{formed-chain, way-good}
 use Rattle.tree_repair.proofs.PutLemmas.{look-good, look-length, look-run, lost-image}
-use Rattle.tree_repair.proofs.RunLemmas.{AreSame, other-image, read-same, visited-same}
+use Rattle.tree_repair.proofs.RunLemmas.{AreSame, other-image, visited-same}
 
 -- ---- steady devices with room for the image
 
@@ -182,11 +185,27 @@ module _ (j : Job) (valid : IsShape j.tree.shape) (write : IsTrue j.write) where
       let now : IsReady j.tree.shape x = read-ready j.tree.shape a x read ready in
       runs-stand more y b rest (All-tail IsDone v more done) (visit-ready v x y here one now) h i inside later
 
-image-ready : (j : Job) (w : RepairWorld) → IsSteadyImage j w → IsReady j.tree.shape w
-image-ready j w image = record {
-  data_ready = record { steady = image.data_steady; room = omega (arith, image.can.data_fits, image.data_whole.length) };
-  hash_ready = record { steady = image.hash_steady; room = omega (arith, image.can.tree_fits, image.hash_whole.length) };
+image-ready : (s : ShapeRecord) (w : RepairWorld) → IsSteadyImage s w → IsReady s w
+image-ready s w image = record {
+  data_ready = record { steady = image.steady.data_steady; room = omega (arith, image.data_fits, image.steady.data_whole.length) };
+  hash_ready = record { steady = image.steady.hash_steady; room = omega (arith, image.tree_fits, image.steady.hash_whole.length) };
 }
 
 pub left-good-stand : LeftGoodBlocksStand
-left-good-stand j vs w w' run h i inside left = runs-stand j run.image.can.valid run.write vs w w' run.runs run.done (image-ready j w run.image) h i inside left
+left-good-stand j vs w w' run h i inside left = runs-stand j run.image.valid run.write vs w w' run.runs run.done (image-ready j.tree.shape w run.image) h i inside left
+
+-- so it is the block of all data that are formatted with the root
+pub left-good-formatted : FormedChainsAreGood → LeftGoodBlocksAreFormatted
+left-good-formatted form j vs w w' run h i inside left contents are =
+    let stands : StandsGood j h i w' = left-good-stand j vs w w' run h i inside left in
+    way-good j.tree stands.p i h (standing_bytes j h i w') (formed j.tree.shape j.tree.salt contents i) stands.way (formed-chain form j.tree contents are i inside) stands.good
+
+-- ---- a repair
+
+pub repairs-write : RepairsWriteAll
+repairs-write plan parity w w' old new r write steady = record {
+  image = record { valid = r.images.from.carried.valid.shape; steady = steady; data_fits = r.images.data_fits; tree_fits = r.images.tree_fits };
+  write = write;
+  runs = r.run.runs;
+  done = r.run.done refl;
+}

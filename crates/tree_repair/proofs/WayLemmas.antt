@@ -1,5 +1,5 @@
 -- A data block stands good where it and all hash blocks above it do, each by a way of its own.
-use Rattle.std.proofs.Common.{◌≡◌, ◌≤◌, ◌<◌, ◌+◌, ◌-◌, ◌*◌, ◌/◌, ℕ, zero, suc, List, None, refl, sym, ap, ◌∙◌, subst, arith, inl, inr, ◌⊎◌, add-one}
+use Rattle.std.proofs.Common.{◌≡◌, ◌≤◌, ◌<◌, ◌+◌, ◌-◌, ℕ, zero, suc, List, None, refl, sym, ap, ◌∙◌, subst, arith, inl, inr, ◌⊎◌, add-one}
 use Rattle.std.proofs.lemmas.Bool.{cases_lt}
 use Rattle.tree_shape.specs.Digests.{digest}
 use Rattle.tree_shape.specs.Shape.{ShapeRecord, levels}

@@ -1,34 +1,51 @@
 -- What stands on the devices of an image behind a run in which no write failed.
-use Rattle.std.specs.Prelude.{◌≡◌, ◌⊎◌, ℕ, ◌/◌, ◌<◌, ◌≤◌, IsTrue, List, [], ◌∷◌, None, All}
+use Rattle.std.specs.Prelude.{◌≡◌, ◌⊎◌, ℕ, ◌/◌, ◌<◌, ◌≤◌, Bool, true, IsTrue, List, [], ◌∷◌, Option, None, All}
 use Rattle.block_device.specs.Device.{IsWhole}
 use Rattle.tree_shape.specs.Digests.{digest}
-use Rattle.tree_shape.specs.Shape.{ShapeRecord, levels}
+use Rattle.tree_shape.specs.Shape.{ShapeRecord, IsShape, levels}
+use Rattle.hash_tree.specs.Chain.{formed}
 use Rattle.tree_path.specs.Laws.{Collide}
 use Rattle.tree_path.specs.Path.{PathRecord, digest_on}
+use Rattle.tree_survey.specs.Laws.{AreContents}
 use Rattle.tree_survey.specs.Surveys.{IsContentStoredAs, IsWay}
+use Rattle.verity_format.specs.Image.{data_sectors, tree_sectors}
 use Rattle.tree_repair.specs.declared.mending.Mended.{Mended}
 use Rattle.tree_repair.specs.declared.mending.Mended.TheVariants as mended
+use Rattle.tree_repair.specs.declared.repair.Plan.{Plan}
 use Rattle.tree_repair.specs.Coverage.{IsVisitAt}
-use Rattle.tree_repair.specs.Runs.{CanRun, IsDone, Job, VisitsAll, Visit, own, sector_at, size_at}
+use Rattle.tree_repair.specs.Laws.{block_of_height}
+use Rattle.tree_repair.specs.Repairs.{Repairs, job_of}
+use Rattle.tree_repair.specs.Runs.{IsDone, Job, VisitsAll, Visit, own, sector_at, size_at}
 use Rattle.tree_repair.specs.Sources.{bytes_on_device}
 use Rattle.tree_repair.specs.Worlds.{RepairWorld}
 
 -- ---- the run
 
--- data and tree lie on two steady devices
-pub record IsSteadyImage (j : Job) (w : RepairWorld) : Type 0 where
-  pub can : CanRun j w
+-- the data device and the hash device are steady, and their images are whole
+pub record IsWorldSteady (w : RepairWorld) : Type 0 where
   pub data_whole : IsWhole w.data_dev
   pub hash_whole : IsWhole w.hash_dev
   pub data_steady : IsTrue w.data_dev.steady
   pub hash_steady : IsTrue w.hash_dev.steady
 
--- they may be written, these blocks were visited, and no write failed
+-- data and tree lie on such devices
+pub record IsSteadyImage (s : ShapeRecord) (w : RepairWorld) : Type 0 where
+  pub valid : IsShape s
+  pub steady : IsWorldSteady w
+  pub data_fits : data_sectors s ≤ w.data_dev.size
+  pub tree_fits : tree_sectors s ≤ w.hash_dev.size
+
+-- these blocks were visited, what was found or made could be written, and no write failed
 pub record HasWrittenAll (j : Job) (visits : List Visit) (w w' : RepairWorld) : Type 0 where
-  pub image : IsSteadyImage j w
+  pub image : IsSteadyImage j.tree.shape w
   pub write : IsTrue j.write
   pub runs : VisitsAll j visits w w'
   pub done : All IsDone visits
+
+-- so it is of a repair that ended well, with parity or without
+abbrev pub RepairsWriteAll : Type 0
+RepairsWriteAll = (plan : Plan) → (parity : Bool) → (w w' : RepairWorld) → (old new : Option (List ℕ)) → (r : Repairs plan parity w w' old new true) → IsTrue plan.write → IsWorldSteady w
+    → HasWrittenAll (job_of r.s plan parity) r.run.visits w w'
 
 -- ---- a block of it
 
@@ -63,6 +80,11 @@ pub record StandsGood (j : Job) (h i : ℕ) (w : RepairWorld) : Type 0 where
 abbrev pub LeftGoodBlocksStand : Type 0
 LeftGoodBlocksStand = (j : Job) → (visits : List Visit) → (w w' : RepairWorld) → HasWrittenAll j visits w w' → (h i : ℕ) → i < j.tree.shape.blocks → IsLeftGoodIn j.tree.shape h i visits
     → StandsGood j h i w'
+
+-- it is the block of all data whose tree has the root, or two different inputs have one digest
+abbrev pub LeftGoodBlocksAreFormatted : Type 0
+LeftGoodBlocksAreFormatted = (j : Job) → (visits : List Visit) → (w w' : RepairWorld) → HasWrittenAll j visits w w' → (h i : ℕ) → i < j.tree.shape.blocks → IsLeftGoodIn j.tree.shape h i visits
+    → (contents : List (List ℕ)) → AreContents j.tree contents → (standing_bytes j h i w' ≡ block_of_height j.tree (formed j.tree.shape j.tree.salt contents i) h) ⊎ Collide j.tree.salt
 
 -- ---- a data block and all hash blocks above it
 

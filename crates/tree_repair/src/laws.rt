@@ -1,6 +1,6 @@
 //! Laws of repairs: each function's contract is the law, and its call gives it.
 ghost use Rattle.tree_repair.specs.Laws.{MendedBlocksAreFormatted, MendedBlocksAreGood, NoHashBlockIsLost, OtherSectorsStay};
-ghost use Rattle.tree_repair.specs.Standing.{LeftGoodBlocksStand, LeftGoodWaysStand};
+ghost use Rattle.tree_repair.specs.Standing.{LeftGoodBlocksAreFormatted, LeftGoodBlocksStand, LeftGoodWaysStand, RepairsWriteAll};
 
 use hash_tree::laws::formed_chains_are_good;
 
@@ -28,12 +28,24 @@ pub fn other_sectors_stay()
     ensures { OtherSectorsStay }
 {}
 
-/// A block that one visit of a run left good stands good behind it, on steady devices, where no write failed.
+/// A repair that ended well, over steady devices that may be written, has written all that it visited.
+pub fn repairs_write_all()
+    ensures { RepairsWriteAll }
+{}
+
+/// Then a block that one visit left good stands good behind the run.
 pub fn left_good_blocks_stand()
     ensures { LeftGoodBlocksStand }
 {}
 
-/// So a data block and all hash blocks above it are good there, or two different inputs have one digest.
+/// It is that of all data whose tree has this root, or two different inputs have one digest.
+pub fn left_good_blocks_are_formatted()
+    ensures { LeftGoodBlocksAreFormatted }
+{
+    formed_chains_are_good()
+}
+
+/// Where a data block and all hash blocks above it were left good each has the digest that stands above it, or again.
 pub fn left_good_ways_stand()
     ensures { LeftGoodWaysStand }
 {}
