@@ -115,7 +115,7 @@ place-inside s (suc l) i place =
 
 -- ---- what stands above the same block is the same
 
-above-from : (s : ShapeRecord) → IsShape s → (d h m i k : ℕ) → m ≡ h + d → ancestor s h k ≡ ancestor s h i → ancestor s m k ≡ ancestor s m i
+pub above-from : (s : ShapeRecord) → IsShape s → (d h m i k : ℕ) → m ≡ h + d → ancestor s h k ≡ ancestor s h i → ancestor s m k ≡ ancestor s m i
 above-from s valid zero h m i k at same = let here : h ≡ m = omega (arith, at) in subst (λ (x : ℕ). ancestor s x k ≡ ancestor s x i) here same
 above-from s valid (suc d) h m i k at same =
     let here : (h + d) + 1 ≡ m = omega (arith, at) in

@@ -7,6 +7,7 @@ mod BillLemmas
 mod HeightLemmas
 mod LookLemmas
 mod MakeLemmas
+mod OutcomeLemmas
 mod OverLemmas
 mod ParityLemmas
 mod PassLemmas

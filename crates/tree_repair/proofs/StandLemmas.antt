@@ -26,13 +26,13 @@ use Rattle.tree_repair.proofs.RunLemmas.{AreSame, other-image, visited-same}
 
 -- ---- steady devices with room for the image
 
-record IsRoomy (n : ℕ) (d : Device) : Type 0 where
-  steady : IsTrue d.steady
-  room : n ≤ length d.image
+pub record IsRoomy (n : ℕ) (d : Device) : Type 0 where
+  pub steady : IsTrue d.steady
+  pub room : n ≤ length d.image
 
-record IsReady (s : ShapeRecord) (w : RepairWorld) : Type 0 where
-  data_ready : IsRoomy (data_sectors s) w.data_dev
-  hash_ready : IsRoomy (tree_sectors s) w.hash_dev
+pub record IsReady (s : ShapeRecord) (w : RepairWorld) : Type 0 where
+  pub data_ready : IsRoomy (data_sectors s) w.data_dev
+  pub hash_ready : IsRoomy (tree_sectors s) w.hash_dev
 
 roomy-then : (n : ℕ) (a b : Device) → IsRoomy n a → IsSameDevice a b → length b.image ≡ length a.image → IsRoomy n b
 roomy-then n a b ready same long = record { steady = steady-then same ready.steady; room = omega (arith, ready.room, long) }
@@ -57,7 +57,7 @@ way-beside t valid h i k p same way = record {
 }
 
 module _ (j : Job) (valid : IsShape j.tree.shape) where
-  stands-beside : (h i k : ℕ) (w : RepairWorld) → ancestor j.tree.shape h k ≡ ancestor j.tree.shape h i → StandsGood j h k w → StandsGood j h i w
+  pub stands-beside : (h i k : ℕ) (w : RepairWorld) → ancestor j.tree.shape h k ≡ ancestor j.tree.shape h i → StandsGood j h k w → StandsGood j h i w
   stands-beside h i k w same stands =
       let s = j.tree.shape in
       let p = stands.p in
@@ -128,7 +128,7 @@ module _ (j : Job) (p : PathRecord) (bytes : List ℕ) (a b : RepairWorld) (read
   lost-bytes (suc l) i zero k looked stays = image-bytes (suc l) i a.hash_dev.image b.hash_dev.image (other-image zero mended.Lost a.hash_dev b.hash_dev stays ready.hash_ready.steady)
   lost-bytes (suc l) i (suc n) k looked stays = image-bytes (suc l) i a.hash_dev.image b.hash_dev.image (lost-image (look_at j p (suc n) k a b) bytes true looked ready.hash_ready.steady)
 
-lost-or : (m : Mended) → (m ≡ mended.Lost) ⊎ IsNotLost m
+pub lost-or : (m : Mended) → (m ≡ mended.Lost) ⊎ IsNotLost m
 lost-or mended.Good = inr tt
 lost-or (mended.Copy k) = inr tt
 lost-or mended.Remade = inr tt
@@ -164,7 +164,12 @@ module _ (j : Job) (valid : IsShape j.tree.shape) (write : IsTrue j.write) where
 
   -- ---- one after another
 
-  runs-keep : (vs : List Visit) (a b : RepairWorld) → VisitsAll j vs a b → All IsDone vs → IsReady j.tree.shape a → (h i : ℕ) → IsPlace j.tree.shape h i → StandsGood j h i a → StandsGood j h i b
+  pub runs-ready : (vs : List Visit) (a b : RepairWorld) → VisitsAll j vs a b → All IsDone vs → IsReady j.tree.shape a → IsReady j.tree.shape b
+  runs-ready [] a b read done ready = read-ready j.tree.shape a b read ready
+  runs-ready (v ∷ more) a b (x, (y, (read, (here, rest)))) done ready =
+      runs-ready more y b rest (All-tail IsDone v more done) (visit-ready v x y here (All-head IsDone v more done) (read-ready j.tree.shape a x read ready))
+
+  pub runs-keep : (vs : List Visit) (a b : RepairWorld) → VisitsAll j vs a b → All IsDone vs → IsReady j.tree.shape a → (h i : ℕ) → IsPlace j.tree.shape h i → StandsGood j h i a → StandsGood j h i b
   runs-keep [] a b read done ready h i at stands = stands-as j h i a b (read-bytes j h i a b read ready) stands
   runs-keep (v ∷ more) a b (x, (y, (read, (here, rest)))) done ready h i at stands =
       let one : v.done ≡ true = All-head IsDone v more done in
@@ -172,7 +177,7 @@ module _ (j : Job) (valid : IsShape j.tree.shape) (write : IsTrue j.write) where
       runs-keep more y b rest (All-tail IsDone v more done) (visit-ready v x y here one now) h i at
       (visit-keeps v x y here one now h i at (stands-as j h i a x (read-bytes j h i a x read ready) stands))
 
-  runs-stand : (vs : List Visit) (a b : RepairWorld) → VisitsAll j vs a b → All IsDone vs → IsReady j.tree.shape a → (h i : ℕ) → i < j.tree.shape.blocks → IsLeftGoodIn j.tree.shape h i vs → StandsGood j h i b
+  pub runs-stand : (vs : List Visit) (a b : RepairWorld) → VisitsAll j vs a b → All IsDone vs → IsReady j.tree.shape a → (h i : ℕ) → i < j.tree.shape.blocks → IsLeftGoodIn j.tree.shape h i vs → StandsGood j h i b
   runs-stand [] a b read done ready h i inside left = absurd left
   runs-stand (v ∷ more) a b (x, (y, (read, (here, rest)))) done ready h i inside (inl left) =
       let one : v.done ≡ true = All-head IsDone v more done in
@@ -185,7 +190,7 @@ module _ (j : Job) (valid : IsShape j.tree.shape) (write : IsTrue j.write) where
       let now : IsReady j.tree.shape x = read-ready j.tree.shape a x read ready in
       runs-stand more y b rest (All-tail IsDone v more done) (visit-ready v x y here one now) h i inside later
 
-image-ready : (s : ShapeRecord) (w : RepairWorld) → IsSteadyImage s w → IsReady s w
+pub image-ready : (s : ShapeRecord) (w : RepairWorld) → IsSteadyImage s w → IsReady s w
 image-ready s w image = record {
   data_ready = record { steady = image.steady.data_steady; room = omega (arith, image.data_fits, image.steady.data_whole.length) };
   hash_ready = record { steady = image.steady.hash_steady; room = omega (arith, image.tree_fits, image.steady.hash_whole.length) };

@@ -53,7 +53,7 @@ stored-by t p image i h way same =
     ∙ ap (λ (r : List ℕ). stored_digest t.shape r image i h) way.is.root_is
 
 -- what holds of each number below one, or something else does
-each-or : (P : ℕ → Type 0) (C : Type 0) (n : ℕ) → ((l : ℕ) → l < n → P l ⊎ C) → ((l : ℕ) → l < n → P l) ⊎ C
+pub each-or : (P : ℕ → Type 0) (C : Type 0) (n : ℕ) → ((l : ℕ) → l < n → P l ⊎ C) → ((l : ℕ) → l < n → P l) ⊎ C
 each-or P C zero each = inl (λ l low. absurd (omega (arith, low)))
 each-or P C (suc n) each = elim (each-or P C n (λ l low. each l (omega (arith, low)))) [
   | inr other ↦ inr other
@@ -72,7 +72,7 @@ data-block : (j : Job) (i : ℕ) (w : RepairWorld) → block_at w.data_dev.image
 unfolding block_at
 data-block j i w = refl
 
-hash-block : (j : Job) (l i : ℕ) (w : RepairWorld) → stored_block j.tree.shape w.hash_dev.image l i ≡ standing_bytes j (suc l) i w
+pub hash-block : (j : Job) (l i : ℕ) (w : RepairWorld) → stored_block j.tree.shape w.hash_dev.image l i ≡ standing_bytes j (suc l) i w
 unfolding block_at
 hash-block j l i w = refl
 
@@ -113,7 +113,7 @@ module _ (j : Job) (i : ℕ) (w : RepairWorld) (all : (h : ℕ) → h ≤ levels
   all-stand : AllStand j.tree w.hash_dev.image i ⊎ Collide j.tree.salt
   all-stand = each-or (λ (l : ℕ). HasDigestAbove j.tree w.hash_dev.image l i) (Collide j.tree.salt) (levels j.tree.shape) hash-stands
 
-  way-stands : IsContentStoredAs j.tree w.data_dev.image w.hash_dev.image i None ⊎ Collide j.tree.salt
+  pub way-stands : IsContentStoredAs j.tree w.data_dev.image w.hash_dev.image i None ⊎ Collide j.tree.salt
   way-stands = elim all-stand [
     | inr clash ↦ inr clash
     | inl above ↦ elim (digest-stands 0 (omega arith)) [

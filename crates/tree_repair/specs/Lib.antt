@@ -17,3 +17,4 @@ pub mod Noting
 pub mod Coverage
 pub mod Passes
 pub mod Standing
+pub mod Outcomes

@@ -9,6 +9,7 @@ ghost use Rattle.tree_repair.specs.Bills.{LeavesWorld, nothing_due, pass_over, r
 ghost use Rattle.tree_repair.specs.Bounds.{IsHashReadAlone, IsRepairWithin};
 ghost use Rattle.tree_repair.specs.Coverage.{IsFromUp};
 ghost use Rattle.tree_repair.specs.Jobs.{job};
+ghost use Rattle.tree_repair.specs.Outcomes.{LeavesWhole, StandsFrom};
 ghost use Rattle.tree_repair.specs.Passes.{Notes};
 ghost use Rattle.tree_repair.specs.Repairs.{IsAllowed, IsNoImageCause, IsRepair, IsUnrepaired, job_of};
 ghost use Rattle.tree_repair.specs.Runs.{CanRun};
@@ -48,6 +49,7 @@ pub fn repair_image<D: BlockDev, H: BlockDev, C: BlockDev, W: Write>(
     ensures ok { OnOk result (IsRepair W.contents plan image.old image.new writer.old writer.new) }
     ensures err { IfErr result (IsUnrepaired W.contents plan image.old image.new writer.old writer.new) }
     ensures within { IsRepairWithin W.contents plan image.old image.new writer.old writer.new result }
+    ensures whole { OnOk result (LeavesWhole plan image.old image.new) }
 {
     let superblock = superblock_of(image)?;
     let repair = repair_of(alloc, &superblock, &plan, false);
@@ -126,6 +128,7 @@ pub(crate) fn repair_heights<D: BlockDev, H: BlockDev, C: BlockDev, W: Write>(
     requires { CanRun (job repair.now) image.old }
     ensures notes { Notes W.contents (job repair.now) (IsFromUp repair.now.shape 0) image.old image.new bad.old bad.new writer.old writer.new result }
     ensures asked { LeavesWorld (pass_over repair.now.shape) nothing_due image.old image.new }
+    ensures whole { OnOk result (StandsFrom (job repair.now) 0 image.old image.new) }
 {
     let mut room = zeros(repair.alloc, ROOM)?;
     let memory = room.as_mut_slice();

@@ -4,6 +4,7 @@ use Rattle.tree_repair.specs.Bills.{LeavesWorld}
 use Rattle.tree_repair.proofs.HeightLemmas.{heights_over}
 use Rattle.tree_repair.specs.Coverage.{IsFromUp}
 use Rattle.tree_repair.specs.Jobs.{job}
+use Rattle.tree_repair.specs.Outcomes.{StandsFrom}
 use Rattle.tree_repair.specs.Passes.{HasNoted}
 use Rattle.tree_repair.proofs.repair.repair_heights.Given as goal
 
@@ -12,6 +13,7 @@ invariant-heights g l = record {
   low : l.height ≤ levels l.fn.repair.shape + 1;
   asked : LeavesWorld (heights_over l.fn.repair.shape (levels l.fn.repair.shape + 1)) (heights_over l.fn.repair.shape l.height) l.fn.image l.image;
   run : HasNoted (job l.fn.repair) (IsFromUp l.fn.repair.shape l.height) l.fn.image l.image (g.W.Write.contents l.fn.writer.inner) (g.W.Write.contents l.writer.inner) l.fn.bad l.bad true;
+  whole : StandsFrom (job l.fn.repair) l.height l.fn.image l.image;
 }
 
 abbrev pub decreases-heights : goal.decreases-heights

@@ -6,6 +6,7 @@ use Rattle.tree_repair.specs.Bills.{LeavesWorld, nothing_due, pass_over}
 use Rattle.tree_repair.specs.Runs.{Job}
 use Rattle.tree_repair.proofs.BillLemmas.{one-pass}
 use Rattle.tree_repair.specs.Jobs.{job}
+use Rattle.tree_repair.proofs.OutcomeLemmas.{on_ok-from, whole-repair}
 use Rattle.tree_repair.proofs.RepairLemmas.{can-begin, err-from, is_err-from, repairs-of, whole-err, whole-ok}
 use Rattle.tree_repair.proofs.repair.repair_image.Goals as goal
 
@@ -42,3 +43,11 @@ returns-clause-within g c =
       within = one-pass (shape_of s) c.args.image.now c.superblock_of.new.image c.repair_heights.new.image c.in_ok-superblock.ensures.asked
           (subst (λ (x : ShapeRecord). LeavesWorld (pass_over x) nothing_due c.superblock_of.new.image c.repair_heights.new.image) (ap (λ (j : Job). j.tree.shape) c.repair_of-repair.ensures.job) c.repair_heights.ensures.asked);
     })
+
+pub returns-in_err-superblock-clause-whole : goal.returns-in_err-superblock-clause-whole
+returns-in_err-superblock-clause-whole g c = on_ok-from c.from_residual.result _ _ c.from_residual.ensures.1
+
+pub returns-clause-whole : goal.returns-clause-whole
+returns-clause-whole g c =
+    whole-repair c.in_ok-superblock.superblock c.args.plan c.args.image.now c.superblock_of.new.image c.repair_heights.new.image c.superblock_of.ensures.read c.in_ok-superblock.ensures.ok
+    (job c.repair_of-repair.result) c.repair_heights.result c.repair_of-repair.ensures.job c.repair_heights.ensures.whole
