@@ -5,7 +5,7 @@ use Rattle.verity_format.specs.Blocks.{AreOnlyRead, IsOnlyRead}
 use Rattle.verity_format.proofs.DeviceLemmas.{only_read-none, only_read-then, steady-then, failed-then}
 use Rattle.fec_area.specs.declared.layout.Layout.{Layout}
 use Rattle.fec_area.specs.Layouts.{IsLaidOn}
-use Rattle.fec_area.specs.Rounds.{AreUnfailed, HasOneFailed}
+use Rattle.fec_area.specs.Rounds.{AreUnfailed, BothNeverFail, HasOneFailed}
 
 pub read-none : (a b : Device) → AreOnlyRead a b a b
 read-none a b = record { data_read = only_read-none a; hash_read = only_read-none b }
@@ -30,6 +30,10 @@ laid-then l p known = record {
   data_room = omega (arith, known.data_room, p.data_read.same.size);
   hash_room = omega (arith, known.hash_room, p.hash_read.same.size);
 }
+
+-- devices that never fail are such once they were read
+pub never-then : {a b c d : Device} → AreOnlyRead a b c d → BothNeverFail a b → BothNeverFail c d
+never-then p never = (p.data_read.same.never_fails never.0, p.hash_read.same.never_fails never.1)
 
 -- what holds of images that were only read holds of them before
 pub image-then : {a b c d : Device} → AreOnlyRead a b c d → (P : List (List ℕ) → List (List ℕ) → Type 0) → (IsTrue c.steady → IsTrue d.steady → P c.image d.image) → IsTrue a.steady → IsTrue b.steady → P a.image b.image

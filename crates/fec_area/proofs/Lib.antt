@@ -6,3 +6,4 @@ pub mod RestoringLemmas
 pub mod WritingLemmas
 pub mod SumLemmas
 pub mod AskingLemmas
+pub mod lemmas

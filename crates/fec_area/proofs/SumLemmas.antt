@@ -55,6 +55,15 @@ sum-le f a n le =
     let whole : sum_to f (a + (n - a)) ≡ sum_to f n = ap (λ k. sum_to f k) e in
     omega (arith, split, whole)
 
+-- of summands that are at most 1
+pub sum-most : (f : ℕ → ℕ) (n : ℕ) → ((k : ℕ) → k < n → f k ≤ 1) → sum_to f n ≤ n
+unfolding sum_to
+sum-most f zero few = omega arith
+sum-most f (suc n) few =
+    let front = sum-most f n (λ k h. few k (omega arith)) in
+    let last = few n (omega arith) in
+    omega (arith, front, last)
+
 -- past some number nothing is added
 pub sum-past : (f : ℕ → ℕ) (a n : ℕ) → a ≤ n → ((k : ℕ) → a ≤ k → f k ≡ 0) → sum_to f n ≡ sum_to f a
 sum-past f a n le none =

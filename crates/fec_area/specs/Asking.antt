@@ -3,8 +3,10 @@ use Rattle.std.specs.Prelude.{◌≡◌, ◌==◌, ◌&&◌, ℕ, zero, suc, ◌
 use Rattle.std.specs.List.{list_any, range_with_len}
 use Rattle.block_device.specs.Device.{Device}
 use Rattle.verity_format.specs.Blocks.{IsFullRead}
+use Rattle.fec_area.specs.declared.code.Code.{Code}
 use Rattle.fec_area.specs.declared.code.Gap.{Gap}
 use Rattle.fec_area.specs.declared.layout.Layout.{Layout}
+use Rattle.fec_area.specs.declared.restoring.LostBlock.{LostBlock}
 use Rattle.fec_area.specs.Layouts.{covered_blocks, code_rounds}
 use Rattle.fec_area.specs.Restoring.{is_beside}
 
@@ -35,9 +37,13 @@ pub record AreAskedFor (n m k : ℕ) (ok : Bool) (data_dev hash_dev parity_dev d
 
 -- Of the image as many sectors are asked for as the blocks of the round have that aren't lost, and of the parity as many as the
 -- round's has, by what a proof sees of the three devices: as they were before the call, and then after it.
-abbrev pub AsksKept : {D H P : Type 0} → Layout → List ℕ → ℕ → Bool → (D → Device) → (H → Device) → (P → Device) → D → H → P → D → H → P → Type 0
-AsksKept l lost index ok data_state hash_state parity_state d h p d' h' p' =
-    AreAskedFor (kept_data l lost index * (l.block / 512)) (kept_hash l lost index * (l.block / 512)) (l.roots * (l.block / 512)) ok (data_state d) (hash_state h) (parity_state p) (data_state d') (hash_state h') (parity_state p')
+abbrev pub AsksKept : {D H P : Type 0} → LostBlock → Bool → (D → Device) → (H → Device) → (P → Device) → D → H → P → D → H → P → Type 0
+AsksKept sought ok data_state hash_state parity_state d h p d' h' p' =
+    let l = sought.layout.now in
+    let data_blocks = kept_data l sought.lost.now sought.index in
+    let hash_blocks = kept_hash l sought.lost.now sought.index in
+    AreAskedFor (data_blocks * (l.block / 512)) (hash_blocks * (l.block / 512)) (l.roots * (l.block / 512)) ok
+    (data_state d) (hash_state h) (parity_state p) (data_state d') (hash_state h') (parity_state p')
 
 -- ---- its parts
 
@@ -61,7 +67,11 @@ pub record AreAsked (n m : ℕ) (data_dev hash_dev data_dev' hash_dev' : Device)
 abbrev pub AsksBlock : {D H : Type 0} → Layout → ℕ → (D → Device) → (H → Device) → D → H → D → H → Type 0
 AsksBlock l j data_state hash_state d h d' h' = AreAsked (sectors_on_data l j) (sectors_on_hash l j) (data_state d) (hash_state h) (data_state d') (hash_state h')
 
--- of the block at place i of a round, unless that place is lost
+-- of the block at place i of a round
+abbrev pub AsksAt : {D H : Type 0} → Code → ℕ → ℕ → (D → Device) → (H → Device) → D → H → D → H → Type 0
+AsksAt code round i = AsksBlock code.layout.now (i * code_rounds code.layout.now + round)
+
+-- the same, and none where that place is lost
 abbrev pub kept_at : (ℕ → ℕ) → Layout → ℕ → List ℕ → ℕ → ℕ
 kept_at sectors l round places i = if is_among places i then 0 else sectors (i * code_rounds l + round)
 

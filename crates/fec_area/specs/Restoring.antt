@@ -1,13 +1,14 @@
 -- A lost block that is made again.
-use Rattle.std.specs.Prelude.{◌≡◌, ◌⊎◌, ◌==◌, ◌&&◌, ℕ, ◌+◌, ◌-◌, ◌/◌, ◌%◌, ◌<◌, Bool, not, IsTrue, List, length, nat_lt, slice_index, EachIndex, count_by}
+use Rattle.std.specs.Prelude.{◌≡◌, ◌≢◌, ◌⊎◌, ◌==◌, ◌&&◌, ℕ, ◌+◌, ◌-◌, ◌/◌, ◌%◌, ◌<◌, Bool, not, IsTrue, List, length, nat_lt, slice_index, EachIndex, count_by}
 use Rattle.block_device.specs.Device.{Device}
 use Rattle.verity_format.specs.Blocks.{block_at}
 use Rattle.fec_area.specs.declared.code.Gap.{Gap}
 use Rattle.fec_area.specs.declared.layout.Layout.{Layout}
+use Rattle.fec_area.specs.declared.restoring.LostBlock.{LostBlock}
 use Rattle.fec_area.specs.declared.restoring.RestoreFault.{RestoreFault}
 use Rattle.fec_area.specs.declared.restoring.RestoreFault.TheVariants.{TooManyLost, TooSmall, Device as DeviceFailed, NoMemory}
 use Rattle.fec_area.specs.Layouts.{IsLayout, IsParityOf, IsProtected, covered, covered_blocks, message_byte, parity_sectors, round_bytes, code_rounds}
-use Rattle.fec_area.specs.Rounds.{IsFormerly}
+use Rattle.fec_area.specs.Rounds.{AllNeverFail, IsFormerly}
 use Rattle.fec_area.specs.Writing.{HasAnyFailed}
 
 -- the round of a covered block
@@ -56,13 +57,19 @@ IsRestoreCause l lost index data_dev hash_dev parity_dev data_dev' hash_dev' par
 IsRestoreCause l lost index data_dev hash_dev parity_dev data_dev' hash_dev' parity_dev' NoMemory = AreUnasked data_dev hash_dev parity_dev data_dev' hash_dev' parity_dev'
 
 -- over steady devices the bytes are the lost block
-abbrev pub MakesAgain : Layout → Device → Device → Device → List ℕ → ℕ → List ℕ → Type 0
-MakesAgain l data_dev hash_dev parity_dev lost index bytes =
-    IsTrue data_dev.steady → IsTrue hash_dev.steady → IsTrue parity_dev.steady → IsMadeAgain l data_dev.image hash_dev.image parity_dev.image lost index bytes
+abbrev pub MakesAgain : LostBlock → Device → Device → Device → List ℕ → Type 0
+MakesAgain sought data_dev hash_dev parity_dev bytes =
+    IsTrue data_dev.steady → IsTrue hash_dev.steady → IsTrue parity_dev.steady
+    → IsMadeAgain sought.layout.now data_dev.image hash_dev.image parity_dev.image sought.lost.now sought.index bytes
+
+-- where none of three devices ever fails, the cause is another one
+abbrev pub IsOtherCause : Device → Device → Device → RestoreFault → Type 0
+IsOtherCause data_dev hash_dev parity_dev fault = AllNeverFail data_dev hash_dev parity_dev → fault ≢ DeviceFailed
 
 -- why a block wasn't made again, by what a proof sees of the three devices: as they were before the call, and then after it
-abbrev pub FailsToRestore : {D H P : Type 0} → Layout → List ℕ → ℕ → (D → Device) → (H → Device) → (P → Device) → D → H → P → D → H → P → RestoreFault → Type 0
-FailsToRestore l lost index data_state hash_state parity_state d h p d' h' p' = IsRestoreCause l lost index (data_state d) (hash_state h) (parity_state p) (data_state d') (hash_state h') (parity_state p')
+abbrev pub FailsToRestore : {D H P : Type 0} → LostBlock → (D → Device) → (H → Device) → (P → Device) → D → H → P → D → H → P → RestoreFault → Type 0
+FailsToRestore sought data_state hash_state parity_state d h p d' h' p' =
+    IsRestoreCause sought.layout.now sought.lost.now sought.index (data_state d) (hash_state h) (parity_state p) (data_state d') (hash_state h') (parity_state p')
 
 -- ---- its parts
 

@@ -18,6 +18,13 @@ pub record AreUnfailed (data_dev hash_dev data_dev' hash_dev' : Device) : Type 0
 abbrev pub HasOneFailed : Device → Device → Device → Device → Type 0
 HasOneFailed data_dev hash_dev data_dev' hash_dev' = HasFailed data_dev data_dev' ⊎ HasFailed hash_dev hash_dev'
 
+-- neither of two devices ever fails, and none of three
+abbrev pub BothNeverFail : Device → Device → Type 0
+BothNeverFail data_dev hash_dev = IsTrue data_dev.never_fails × IsTrue hash_dev.never_fails
+
+abbrev pub AllNeverFail : Device → Device → Device → Type 0
+AllNeverFail data_dev hash_dev parity_dev = IsTrue data_dev.never_fails × IsTrue hash_dev.never_fails × IsTrue parity_dev.never_fails
+
 -- ---- calls, by what a proof sees of the two devices: as they were before, and then after
 
 -- both were only read

@@ -13,5 +13,5 @@ mod writing;
 
 pub use checking::check_parity;
 pub use layout::Layout;
-pub use restoring::{RestoreFault, restore_block};
+pub use restoring::{LostBlock, RestoreFault, restore_block};
 pub use writing::{ParityFault, write_parity};

@@ -1,10 +1,10 @@
 //! A lost block, made again from the other blocks of its round and the parity.
-ghost use Rattle.std.specs.Prelude.{◌≡◌, ◌<◌, ◌≤◌, ◌/◌, IfErr, IfOk, OnErr, OnOk, is_ok, length};
+ghost use Rattle.std.specs.Prelude.{◌≡◌, ◌<◌, ◌≤◌, ◌/◌, IfErr, IfOk, IsOk, OnErr, OnOk, is_ok, length};
 ghost use Rattle.verity_format.specs.Blocks.{IsOnlyRead};
 ghost use Rattle.fec_area.specs.Asking.{AsksForFirst, AsksKept};
 ghost use Rattle.fec_area.specs.Layouts.{IsLaidOn, IsLayout, covered_blocks, parity_sectors};
-ghost use Rattle.fec_area.specs.Restoring.{AreLostPlaces, FailsToRestore, MakesAgain, RestoresFirst, is_beside};
-ghost use Rattle.fec_area.specs.Rounds.{CanRestore, OnlyReadsCovered};
+ghost use Rattle.fec_area.specs.Restoring.{AreLostPlaces, FailsToRestore, IsOtherCause, MakesAgain, RestoresFirst, is_beside};
+ghost use Rattle.fec_area.specs.Rounds.{AllNeverFail, CanRestore, OnlyReadsCovered};
 ghost use Rattle.fec_area.specs.Writing.{AnyFails};
 
 use crate::code::{Code, Gap};
@@ -15,6 +15,17 @@ use block_device::{BlockDev, DeviceFault};
 use reed_solomon::restoring_products;
 use std::alloc::{AllocError, Global};
 use thiserror::Error;
+
+/// A lost block, and which others are lost with it.
+#[derive(Clone, Copy)]
+pub struct LostBlock<'a> {
+    /// How the blocks lie.
+    pub layout: &'a Layout,
+    /// The numbers of covered blocks that are known as lost, each listed once. The block itself may be among them.
+    pub lost: &'a [u64],
+    /// The block's own number among the covered ones.
+    pub index: u64,
+}
 
 /// Why a lost block isn't made again.
 #[derive(Clone, Copy, Debug, PartialEq, Eq, Error)]
@@ -53,35 +64,35 @@ impl From<AllocError> for RestoreFault {
     }
 }
 
-/// Makes the bytes of covered block `index` again, where it is lost and those of `lost` are, each listed once.
+/// Makes the bytes of a lost block again.
 ///
 /// The blocks of its round that aren't lost and the round's parity are read once, and no others: lost blocks may stand on
 /// sectors that can't be read. It takes room for the round's parity, as much for sums, and 64 KiB for each lost block of
 /// the round, twice as much while that grows: less than 4 MiB.
 pub fn restore_block<D: BlockDev, H: BlockDev, P: BlockDev>(
     alloc: Global,
-    layout: &Layout,
-    lost: &[u64],
-    index: u64,
+    sought: &LostBlock<'_>,
     data_dev: &mut D,
     hash_dev: &mut H,
     parity_dev: &mut P,
     block: &mut [u8],
 ) -> Result<(), RestoreFault>
-    requires laid { IsLaidOn layout.now (D.state data_dev.old) (H.state hash_dev.old) }
-    requires index { index < covered_blocks layout.now }
-    requires size { length block.old ≡ layout.now.block }
+    requires laid { IsLaidOn sought.now.layout.now (D.state data_dev.old) (H.state hash_dev.old) }
+    requires index { sought.now.index < covered_blocks sought.now.layout.now }
+    requires size { length block.old ≡ sought.now.layout.now.block }
     ensures read { OnlyReadsCovered D.state H.state data_dev.old hash_dev.old data_dev.new hash_dev.new }
     ensures parity { IsOnlyRead (P.state parity_dev.old) (P.state parity_dev.new) }
-    ensures bytes { OnOk result (MakesAgain layout.now (D.state data_dev.old) (H.state hash_dev.old) (P.state parity_dev.old) lost.now index block.new) }
-    ensures err { IfErr result (FailsToRestore layout.now lost.now index D.state H.state P.state data_dev.old hash_dev.old parity_dev.old data_dev.new hash_dev.new parity_dev.new) }
-    ensures asks { AsksKept layout.now lost.now index (is_ok result) D.state H.state P.state data_dev.old hash_dev.old parity_dev.old data_dev.new hash_dev.new parity_dev.new }
+    ensures bytes { OnOk result (MakesAgain sought.now (D.state data_dev.old) (H.state hash_dev.old) (P.state parity_dev.old) block.new) }
+    ensures err { IfErr result (FailsToRestore sought.now D.state H.state P.state data_dev.old hash_dev.old parity_dev.old data_dev.new hash_dev.new parity_dev.new) }
+    ensures sure { IfErr result (IsOtherCause (D.state data_dev.old) (H.state hash_dev.old) (P.state parity_dev.old)) }
+    ensures asks { AsksKept sought.now (is_ok result) D.state H.state P.state data_dev.old hash_dev.old parity_dev.old data_dev.new hash_dev.new parity_dev.new }
 {
+    let layout = sought.layout;
     let needed = layout.parity_sectors();
     if parity_dev.sectors() < needed {
         return Err(RestoreFault::TooSmall { needed });
     }
-    let places = lost_places(alloc, layout, lost, index)?;
+    let places = lost_places(alloc, sought)?;
     let count = places.len();
     if count > layout.roots {
         return Err(RestoreFault::TooManyLost { count });
@@ -89,7 +100,7 @@ pub fn restore_block<D: BlockDev, H: BlockDev, P: BlockDev>(
     let products = restoring_products(alloc, &places)?;
     let mut parity = zeros(alloc, layout.round_bytes())?;
     let mut sums = zeros(alloc, layout.block as usize * count)?;
-    let round = index % layout.rounds();
+    let round = sought.index % layout.rounds();
     let code = Code {
         layout,
         count,
@@ -113,21 +124,16 @@ pub fn restore_block<D: BlockDev, H: BlockDev, P: BlockDev>(
 }
 
 // The places of the lost blocks of a round, that of the block first.
-fn lost_places(
-    alloc: Global,
-    layout: &Layout,
-    lost: &[u64],
-    index: u64,
-) -> Result<Vec<usize>, AllocError>
-    requires layout { IsLayout layout.now }
-    requires index { index < covered_blocks layout.now }
-    ensures { IfOk result (λ v. AreLostPlaces layout.now lost.now index v.items) }
+fn lost_places(alloc: Global, sought: &LostBlock<'_>) -> Result<Vec<usize>, AllocError>
+    requires layout { IsLayout sought.now.layout.now }
+    requires index { sought.now.index < covered_blocks sought.now.layout.now }
+    ensures { IfOk result (λ v. AreLostPlaces sought.now.layout.now sought.now.lost.now sought.now.index v.items) }
 {
-    let rounds = layout.rounds();
+    let rounds = sought.layout.rounds();
     let mut places = Vec::new(alloc);
-    places.push((index / rounds) as usize)?;
-    for other in lost {
-        if is_beside(layout, index, *other) {
+    places.push((sought.index / rounds) as usize)?;
+    for other in sought.lost {
+        if is_beside(sought.layout, sought.index, *other) {
             places.push((*other / rounds) as usize)?;
         }
     }
@@ -161,6 +167,7 @@ fn restore_first<D: BlockDev, H: BlockDev, P: BlockDev>(
     ensures parity { IsOnlyRead (P.state parity_dev.old) (P.state parity_dev.new) }
     ensures first { OnOk result (RestoresFirst gap.now (D.state data_dev.old) (H.state hash_dev.old) (P.state parity_dev.old) block.new) }
     ensures err { OnErr result (AnyFails D.state H.state P.state data_dev.old hash_dev.old parity_dev.old data_dev.new hash_dev.new parity_dev.new) }
+    ensures sure { AllNeverFail (D.state data_dev.old) (H.state hash_dev.old) (P.state parity_dev.old) → IsOk result }
     ensures asks { AsksForFirst gap.now (is_ok result) D.state H.state P.state data_dev.old hash_dev.old parity_dev.old data_dev.new hash_dev.new parity_dev.new }
 {
     let sectors = (parity.len() / 512) as u64;

@@ -1,8 +1,8 @@
 //! A round of codewords, summed up place by place: its parity, or its lost blocks.
-ghost use Rattle.std.specs.Prelude.{◌≡◌, ◌+◌, ◌*◌, ◌<◌, ◌-◌, OnOk, OnErr, EachIndex, is_ok, length, slice_index};
-ghost use Rattle.fec_area.specs.Asking.{AsksBlock, AsksPlace, AsksRound, is_among};
+ghost use Rattle.std.specs.Prelude.{◌≡◌, ◌+◌, ◌*◌, ◌<◌, ◌-◌, IsOk, OnOk, OnErr, EachIndex, is_ok, length, slice_index};
+ghost use Rattle.fec_area.specs.Asking.{AsksAt, AsksPlace, AsksRound, is_among};
 ghost use Rattle.fec_area.specs.Layouts.{code_rounds};
-ghost use Rattle.fec_area.specs.Rounds.{Adds, AddsKept, CanAdd, CanAddKept, CanRestore, CanSum, NeitherFails, OneFails, OnlyReadsCovered, Restores, SumsUp};
+ghost use Rattle.fec_area.specs.Rounds.{Adds, AddsKept, BothNeverFail, CanAdd, CanAddKept, CanRestore, CanSum, NeitherFails, OneFails, OnlyReadsCovered, Restores, SumsUp};
 
 use crate::code::{Code, Gap};
 use crate::covered::read_covered;
@@ -48,6 +48,7 @@ pub(crate) fn restore_blocks<D: BlockDev, H: BlockDev>(
     ensures ok { OnOk result (NeitherFails D.state H.state data_dev.old hash_dev.old data_dev.new hash_dev.new) }
     ensures restored { OnOk result (Restores gap.now (D.state data_dev.old) (H.state hash_dev.old) parity.now sums.new) }
     ensures err { OnErr result (OneFails D.state H.state data_dev.old hash_dev.old data_dev.new hash_dev.new) }
+    ensures sure { BothNeverFail (D.state data_dev.old) (H.state hash_dev.old) → IsOk result }
     ensures asks { AsksRound gap.now (is_ok result) D.state H.state data_dev.old hash_dev.old data_dev.new hash_dev.new }
 {
     let roots = gap.code.layout.roots;
@@ -79,6 +80,7 @@ fn add_kept<D: BlockDev, H: BlockDev>(
     ensures ok { OnOk result (NeitherFails D.state H.state data_dev.old hash_dev.old data_dev.new hash_dev.new) }
     ensures added { OnOk result (AddsKept gap.now D.state H.state data_dev.old hash_dev.old place sums.old sums.new) }
     ensures err { OnErr result (OneFails D.state H.state data_dev.old hash_dev.old data_dev.new hash_dev.new) }
+    ensures sure { BothNeverFail (D.state data_dev.old) (H.state hash_dev.old) → IsOk result }
     ensures asks { AsksPlace gap.now place D.state H.state data_dev.old hash_dev.old data_dev.new hash_dev.new }
 {
     if is_lost(gap.places, place) {
@@ -110,7 +112,8 @@ fn add_place<D: BlockDev, H: BlockDev>(
     ensures ok { OnOk result (NeitherFails D.state H.state data_dev.old hash_dev.old data_dev.new hash_dev.new) }
     ensures added { OnOk result (Adds code.now D.state H.state data_dev.old hash_dev.old round place sums.old sums.new) }
     ensures err { OnErr result (OneFails D.state H.state data_dev.old hash_dev.old data_dev.new hash_dev.new) }
-    ensures asks { AsksBlock code.now.layout.now (place * code_rounds code.now.layout.now + round) D.state H.state data_dev.old hash_dev.old data_dev.new hash_dev.new }
+    ensures sure { BothNeverFail (D.state data_dev.old) (H.state hash_dev.old) → IsOk result }
+    ensures asks { AsksAt code.now round place D.state H.state data_dev.old hash_dev.old data_dev.new hash_dev.new }
 {
     let layout = code.layout;
     let index = place as u64 * layout.rounds() + round;

@@ -2,7 +2,7 @@
 use crate::losing::{block_of, lose, spoil};
 use crate::parity::{CASES, Protected, protect};
 use block_device::MemoryDev;
-use fec_area::{RestoreFault, restore_block};
+use fec_area::{LostBlock, RestoreFault, restore_block};
 use std::alloc::Global;
 use std::process::Abort;
 use std::test::Fail;
@@ -223,9 +223,11 @@ fn loses<R: Abort>(rt: &R, alloc: Global, loss: &Loss) -> Result<(), Fail> {
     assert!(rt; sought < layout.covered_blocks());
     let done = restore_block(
         alloc,
-        &layout,
-        loss.known,
-        sought,
+        &LostBlock {
+            layout: &layout,
+            lost: loss.known,
+            index: sought,
+        },
         &mut data,
         &mut hash,
         &mut parity,

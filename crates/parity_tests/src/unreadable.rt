@@ -2,7 +2,7 @@
 use crate::losing::{block_of, lose};
 use crate::parity::{CASES, Protected, protect};
 use block_device::{FailAt, MemoryDev};
-use fec_area::{RestoreFault, restore_block};
+use fec_area::{LostBlock, RestoreFault, restore_block};
 use std::alloc::Global;
 use std::process::Abort;
 use std::test::Fail;
@@ -88,9 +88,11 @@ fn restores<R: Abort>(rt: &R, alloc: Global, row: &Unreadable) -> Result<(), Fai
     assert!(rt; sought < layout.covered_blocks());
     let done = restore_block(
         alloc,
-        &layout,
-        row.lost,
-        sought,
+        &LostBlock {
+            layout: &layout,
+            lost: row.lost,
+            index: sought,
+        },
         &mut data,
         &mut hash,
         &mut parity,

@@ -2,12 +2,12 @@
 use Rattle.std.specs.Prelude.{◌≡◌, ◌≢◌, ℕ, ◌+◌, ◌-◌, ◌*◌, ◌/◌, ◌<◌, ◌≤◌, Bool, IsTrue, List, length, Option, Some, None}
 use Rattle.std.specs.Str.{bytes_eq}
 use Rattle.std.specs.Prelude.{slice_set}
-use Rattle.block_device.specs.Device.{Device}
+use Rattle.block_device.specs.Device.{Device, HasFailed, capped}
 use Rattle.tree_shape.specs.Digests.{digest}
 use Rattle.tree_shape.specs.Shape.{levels, position, ancestor}
 use Rattle.verity_format.specs.Blocks.{IsFullRead, IsBlockRead}
 use Rattle.verity_format.specs.Image.{tree_sectors}
-use Rattle.tree_path.specs.Path.{PathRecord, IsPathOf, LeadsTo, block_of, digest_on, stored_block}
+use Rattle.tree_path.specs.Path.{PathRecord, IsPathOf, block_of, digest_on, stored_block}
 
 -- a path and a device before and after, the data block that is gone to, and from which level
 pub record Steps : Type 0 where
@@ -35,6 +35,23 @@ pub record IsStepLoaded (w : Steps) (good : Bool) : Type 0 where
   pub is : w.new ≡ record w.old { blocks = slice_set w.old.blocks w.from block }
   pub test : good ≡ bytes_eq (digest w.old.salt block) (digest_on w.old w.index (w.from + 1))
   pub read : IsBlockRead w.device w.old.shape.hash_block (position w.old.shape w.from (ancestor w.old.shape (w.from + 1) w.index)) block w.device'
+
+-- one call failed, and counted the failure
+pub record HasFailedOnce (old new : Device) : Type 0 where
+  pub failed : HasFailed old new
+  pub counted : new.failures ≡ capped (old.failures + 1)
+
+-- that hash block couldn't be read, and what is kept of it is anything
+pub record IsUnloaded (w : Steps) : Type 0 where
+  pub block : List ℕ
+  pub inside : w.from < length w.old.blocks
+  pub is : w.new ≡ record w.old { blocks = slice_set w.old.blocks w.from block }
+  pub fault : HasFailedOnce w.device w.device'
+
+-- the tree stays, and so do the blocks of the levels from `from` up
+pub record IsKeptAbove (w : Steps) : Type 0 where
+  pub same : IsPathOf w.old.shape w.old.salt w.old.root w.new
+  pub kept : (l : ℕ) → w.from ≤ l → block_of w.new l ≡ block_of w.old l
 
 -- The hash blocks of the levels below `from` down to one were read, each once, and those down to another are good.
 pub record IsDown (w : Steps) (good level : ℕ) : Type 0 where

@@ -1,12 +1,12 @@
 //! The hash blocks on the way to a data block.
-ghost use Rattle.std.specs.Prelude.{◌≡◌, ◌≤◌, ◌<◌, ◌+◌, ◌-◌, ◌*◌, ◌/◌, OnErr, IfOk};
+ghost use Rattle.std.specs.Prelude.{◌≡◌, ◌≤◌, ◌<◌, ◌+◌, ◌-◌, ◌*◌, ◌/◌, IsTrue, IsOk, OnErr, IfOk};
 ghost use Rattle.std.specs.Str.{bytes_eq};
 ghost use Rattle.block_device.specs.Device.{HasFailed};
 ghost use Rattle.tree_shape.specs.Shape.{ancestor, levels};
 ghost use Rattle.verity_format.specs.Blocks.{IsOnlyRead};
 ghost use Rattle.verity_format.specs.Image.{tree_sectors};
 ghost use Rattle.tree_path.specs.Path.{IsPathOf, digest_on};
-ghost use Rattle.tree_path.specs.Steps.{CanDescend, HasCome, HasReadAtMost, IsStepLoaded, steps};
+ghost use Rattle.tree_path.specs.Steps.{CanDescend, HasCome, HasReadAtMost, IsKeptAbove, IsStepLoaded, IsUnloaded, steps};
 
 use crate::reading::{read_block, zero_blocks};
 use block_device::{BlockDev, DeviceFault};
@@ -88,6 +88,31 @@ impl TreePath {
         self.shape.block_on_path(level, index)
     }
 
+    /// Reads the hash block of a level on the way to a data block, and tells whether its digest stands above it. Where it
+    /// can't be read, what is kept of that block is anything.
+    pub fn load<H: BlockDev>(
+        &mut self,
+        device: &mut H,
+        level: u32,
+        index: u64,
+    ) -> Result<bool, DeviceFault>
+        requires level { level < levels self.old.shape }
+        requires index { index < self.old.shape.blocks }
+        requires fits { tree_sectors self.old.shape ≤ (H.state device.old).size }
+        ensures read { IsOnlyRead (H.state device.old) (H.state device.new) }
+        ensures ok { IfOk result (IsStepLoaded (steps self.old self.new (H.state device.old) (H.state device.new) index level)) }
+        ensures fault { OnErr result (IsUnloaded (steps self.old self.new (H.state device.old) (H.state device.new) index level)) }
+        ensures sure { IsTrue (H.state device.old).never_fails → IsOk result }
+        ensures asked { HasReadAtMost (H.state device.old) (self.old.shape.hash_block / 512) (H.state device.new) }
+    {
+        let place = self
+            .shape
+            .position(level, self.shape.block_on_path(level, index));
+        read_block(device, place, &mut self.blocks[level as usize])?;
+        let found = self.salt.digest(&self.blocks[level as usize]);
+        Ok(is_same(&found, &self.digest_at(level + 1, index)))
+    }
+
     /// Reads the hash blocks of the levels from `from - 1` down to `to` on the way to a data block, and checks each
     /// against the digest that stands above it. It ends with the first whose digest is another one, and names its level.
     pub fn descend<H: BlockDev>(
@@ -101,6 +126,8 @@ impl TreePath {
         ensures read { IsOnlyRead (H.state device.old) (H.state device.new) }
         ensures ok { IfOk result (HasCome (steps self.old self.new (H.state device.old) (H.state device.new) index from) to) }
         ensures fault { OnErr result (HasFailed (H.state device.old) (H.state device.new)) }
+        ensures kept { OnErr result (IsKeptAbove (steps self.old self.new (H.state device.old) (H.state device.new) index from)) }
+        ensures sure { IsTrue (H.state device.old).never_fails → IsOk result }
         ensures asked { HasReadAtMost (H.state device.old) ((from - to) * (self.old.shape.hash_block / 512)) (H.state device.new) }
     {
         let mut level = from;
@@ -111,29 +138,6 @@ impl TreePath {
             }
         }
         Ok(None)
-    }
-
-    // Reads the hash block of a level on the way to a data block, and tells whether its digest stands above it.
-    fn load<H: BlockDev>(
-        &mut self,
-        device: &mut H,
-        level: u32,
-        index: u64,
-    ) -> Result<bool, DeviceFault>
-        requires level { level < levels self.old.shape }
-        requires index { index < self.old.shape.blocks }
-        requires fits { tree_sectors self.old.shape ≤ (H.state device.old).size }
-        ensures read { IsOnlyRead (H.state device.old) (H.state device.new) }
-        ensures ok { IfOk result (IsStepLoaded (steps self.old self.new (H.state device.old) (H.state device.new) index level)) }
-        ensures fault { OnErr result (HasFailed (H.state device.old) (H.state device.new)) }
-        ensures asked { HasReadAtMost (H.state device.old) (self.old.shape.hash_block / 512) (H.state device.new) }
-    {
-        let place = self
-            .shape
-            .position(level, self.shape.block_on_path(level, index));
-        read_block(device, place, &mut self.blocks[level as usize])?;
-        let found = self.salt.digest(&self.blocks[level as usize]);
-        Ok(is_same(&found, &self.digest_at(level + 1, index)))
     }
 }
 

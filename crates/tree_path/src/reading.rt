@@ -1,9 +1,8 @@
 //! Blocks read from a device, and memory for them.
-ghost use Rattle.std.specs.Prelude.{◌≡◌, ◌/◌, OnOk, OnErr, IfOk, All, length, replicate};
-ghost use Rattle.block_device.specs.Device.{HasFailed};
+ghost use Rattle.std.specs.Prelude.{◌≡◌, ◌/◌, IsTrue, IsOk, OnOk, OnErr, IfOk, All, length, replicate};
 ghost use Rattle.verity_format.specs.Blocks.{IsBlockRead, IsOnlyRead};
 ghost use Rattle.verity_format.specs.Premises.{IsBlockOn};
-ghost use Rattle.tree_path.specs.Steps.{HasReadAtMost};
+ghost use Rattle.tree_path.specs.Steps.{HasFailedOnce, HasReadAtMost};
 
 use block_device::{BlockDev, DeviceFault};
 use std::alloc::{AllocError, Global};
@@ -42,7 +41,8 @@ pub(crate) fn read_block<D: BlockDev>(
     requires { IsBlockOn (D.state device.old) (length block.old) index }
     ensures read { IsOnlyRead (D.state device.old) (D.state device.new) }
     ensures ok { OnOk result (IsBlockRead (D.state device.old) (length block.old) index block.new (D.state device.new)) }
-    ensures fault { OnErr result (HasFailed (D.state device.old) (D.state device.new)) }
+    ensures fault { OnErr result (HasFailedOnce (D.state device.old) (D.state device.new)) }
+    ensures sure { IsTrue (D.state device.old).never_fails → IsOk result }
     ensures asked { HasReadAtMost (D.state device.old) (length block.old / 512) (D.state device.new) }
 {
     let sectors = (block.len() / 512) as u64;

@@ -1,3 +1,4 @@
+mod BeyondLemmas
 mod FormedLemmas
 mod GoodLemmas
 mod LawLemmas

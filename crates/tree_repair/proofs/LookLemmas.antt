@@ -3,9 +3,9 @@ use Rattle.std.proofs.Common.{◌≡◌, ◌≤◌, ◌<◌, ◌+◌, ◌%◌, �
 use Rattle.std.specs.Prelude.{◌⊎◌}
 use Rattle.std.proofs.Math.Nat.{add-mod_right}
 use Rattle.std.proofs.lemmas.List.{append_assoc}
-use Rattle.block_device.specs.Device.{HasFailed}
 use Rattle.tree_shape.specs.Shape.{ShapeRecord, IsShape, ancestor, per_block}
 use Rattle.tree_path.proofs.lemmas.SpanLemmas.{along, lower-mod}
+use Rattle.tree_survey.specs.Failing.{HasFailedRead}
 use Rattle.tree_repair.specs.declared.place.Row.{Row}
 use Rattle.tree_repair.specs.Coverage.{IsLookedAt, IsVisitedIn}
 use Rattle.tree_repair.specs.Jobs.{IsRow}
@@ -73,7 +73,7 @@ looked-behind j h i vs x y z read (inr by) = inr (record {
 })
 
 -- none of a row was looked at, for no good hash blocks lead to it
-pub looked-cut : (j : Job) (h i k : ℕ) (x y : RepairWorld) → IsWorldRead x y → ancestor j.tree.shape (h + 1) k ≡ ancestor j.tree.shape (h + 1) i → HasFailed x.hash_dev y.hash_dev ⊎ IsCutOff j.tree k h x.hash_dev → IsLookedAt j h i [] x y
+pub looked-cut : (j : Job) (h i k : ℕ) (x y : RepairWorld) → IsWorldRead x y → ancestor j.tree.shape (h + 1) k ≡ ancestor j.tree.shape (h + 1) i → HasFailedRead x.hash_dev y.hash_dev ⊎ IsCutOff j.tree k h x.hash_dev → IsLookedAt j h i [] x y
 looked-cut j h i k x y read same cut = inr (record {
   earlier = [];
   later = [];

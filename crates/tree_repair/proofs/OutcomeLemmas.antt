@@ -18,7 +18,7 @@ use Rattle.tree_repair.specs.declared.bad.BadBlocks.{BadBlocks}
 use Rattle.tree_repair.specs.declared.fault.RepairFault.{RepairFault}
 use Rattle.tree_repair.specs.declared.repair.Plan.{Plan}
 use Rattle.tree_repair.specs.Coverage.{IsFromTo, IsFromUp, IsLookedAt, IsPassedBy, IsVisitedIn}
-use Rattle.tree_repair.specs.Outcomes.{IsExcused, IsFailedUnderway, IsLostIn, LeavesWhole, StandsFrom}
+use Rattle.tree_repair.specs.Outcomes.{IsExcused, IsLostIn, IsSureImage, LeavesWhole, StandsFrom}
 use Rattle.tree_repair.specs.Parity.{IsPlace}
 use Rattle.tree_repair.specs.Passes.{HasNoted}
 use Rattle.tree_repair.specs.Repairs.{job_of}
@@ -27,7 +27,7 @@ use Rattle.tree_repair.specs.Standing.{IsLeftGoodIn, IsSteadyImage, IsWorldStead
 use Rattle.tree_repair.specs.Tries.{IsCutOff}
 use Rattle.tree_repair.specs.Worlds.{IsWorldRead, RepairWorld}
 use Rattle.tree_repair.proofs.ApartLemmas.{above-from}
-use Rattle.tree_repair.proofs.RunLemmas.{runs-read, runs-then, world-none}
+use Rattle.tree_repair.proofs.RunLemmas.{runs-read, runs-same, runs-then, world-none}
 use Rattle.tree_repair.proofs.StandLemmas.{IsReady, image-ready, lost-or, runs-keep, runs-ready, runs-stand, stands-beside}
 use Rattle.tree_repair.proofs.WayLemmas.{each-or, hash-block, way-stands, ways-agree}
 
@@ -46,34 +46,9 @@ done-left : (vs us : List Visit) → All IsDone (vs ++ us) → All IsDone vs
 done-left [] us done = All-nil IsDone
 done-left (v ∷ more) us done = All-cons IsDone v more (All-head IsDone v (more ++ us) done) (done-left more us (All-tail IsDone v (more ++ us) done))
 
-module _ (j : Job) (vs us : List Visit) (w x y : RepairWorld) where
-  excused-left : (i : ℕ) → IsExcused j i vs w x → VisitsAll j us x y → IsExcused j i (vs ++ us) w y
-  excused-left i (inl (h, lost)) runs = inl (h, lost-left j.tree.shape h i vs us lost)
-  excused-left i (inr (inl f)) runs = inr (inl (record {
-    earlier = f.earlier;
-    later = f.later ++ us;
-    are = ap (λ (l : List Visit). l ++ us) f.are ∙ append_assoc f.earlier f.later us;
-    a = f.a;
-    b = f.b;
-    before = f.before;
-    read = f.read;
-    behind = runs-then j f.later us f.b x y f.behind runs;
-    failed = f.failed;
-  }))
-  excused-left i (inr (inr clash)) runs = inr (inr clash)
-
-  failed-right : VisitsAll j vs w x → IsFailedUnderway j us x y → IsFailedUnderway j (vs ++ us) w y
-  failed-right runs f = record {
-    earlier = vs ++ f.earlier;
-    later = f.later;
-    are = ap (λ (l : List Visit). vs ++ l) f.are ∙ sym (append_assoc vs f.earlier f.later);
-    a = f.a;
-    b = f.b;
-    before = runs-then j vs f.earlier w x f.a runs f.before;
-    read = f.read;
-    behind = f.behind;
-    failed = f.failed;
-  }
+excused-left : (j : Job) (vs us : List Visit) (i : ℕ) → IsExcused j i vs → IsExcused j i (vs ++ us)
+excused-left j vs us i (inl (h, lost)) = inl (h, lost-left j.tree.shape h i vs us lost)
+excused-left j vs us i (inr clash) = inr clash
 
 -- a visit left the block good, or it was lost
 visited-or : (s : ShapeRecord) (h i : ℕ) (vs : List Visit) → IsVisitedIn s h i vs → IsLeftGoodIn s h i vs ⊎ IsLostIn s h i vs
@@ -107,40 +82,42 @@ cut-clash j valid h i k a steady beside cut stands =
 -- ---- one height more
 
 module _ (j : Job) (h : ℕ) (w x y : RepairWorld) (p : StandsFrom j (suc h) w x) (us : List Visit) (runs : VisitsAll j us x y) (done : All IsDone us)
-    (looked : (g i : ℕ) → IsFromTo h 0 j.tree.shape.blocks g i → IsLookedAt j g i us x y) (write : IsTrue j.write) (image : IsSteadyImage j.tree.shape w) where
+    (looked : (g i : ℕ) → IsFromTo h 0 j.tree.shape.blocks g i → IsLookedAt j g i us x y) (write : IsTrue j.write) (sure : IsSureImage j.tree.shape w) where
+  image : IsSteadyImage j.tree.shape w
+  image = sure.image
+
   ready : IsReady j.tree.shape x
   ready = runs-ready j image.valid write p.visits w x p.runs p.done (image-ready j.tree.shape w image)
 
   place : (g i : ℕ) → g ≤ levels j.tree.shape → i < j.tree.shape.blocks → IsPlace j.tree.shape g i
   place g i few inside = record { valid = image.valid; inside = inside; high = few }
 
-  higher : (g i : ℕ) → h < g → g ≤ levels j.tree.shape → i < j.tree.shape.blocks → StandsGood j g i x ⊎ IsExcused j i p.visits w x
-  higher g i up few inside = p.stand write image g i (up, (few, inside))
+  higher : (g i : ℕ) → h < g → g ≤ levels j.tree.shape → i < j.tree.shape.blocks → StandsGood j g i x ⊎ IsExcused j i p.visits
+  higher g i up few inside = p.stand write sure g i (up, (few, inside))
 
   -- those above stay as they were
-  higher-kept : (g i : ℕ) → h < g → g ≤ levels j.tree.shape → i < j.tree.shape.blocks → StandsGood j g i y ⊎ IsExcused j i (p.visits ++ us) w y
+  higher-kept : (g i : ℕ) → h < g → g ≤ levels j.tree.shape → i < j.tree.shape.blocks → StandsGood j g i y ⊎ IsExcused j i (p.visits ++ us)
   higher-kept g i up few inside = elim (higher g i up few inside) [
     | inl stands ↦ inl (runs-keep j image.valid write us x y runs done ready g i (place g i few inside) stands)
-    | inr excused ↦ inr (excused-left j p.visits us w x y i excused runs)
+    | inr excused ↦ inr (excused-left j p.visits us i excused)
   ]
 
-  passed-by : (i : ℕ) → i < j.tree.shape.blocks → IsPassedBy j h i us x y → IsExcused j i (p.visits ++ us) w y
+  passed-by : (i : ℕ) → i < j.tree.shape.blocks → IsPassedBy j h i us x y → IsExcused j i (p.visits ++ us)
   passed-by i inside q = elim q.cut [
-    | inl failed ↦
-        inr (inl (failed-right j p.visits us w x y p.runs (record { earlier = q.earlier; later = q.later; are = q.are; a = q.a; b = q.b; before = q.before; read = q.read; behind = q.behind; failed = failed })))
+    | inl failed ↦ absurd (failed.1 ((runs-same j q.earlier x q.a q.before).hash_same.never_fails ((runs-same j p.visits w x p.runs).hash_same.never_fails sure.sure)))
     | inr cut ↦
         let few : suc cut.l ≤ levels j.tree.shape = omega (arith, cut.way.few) in
         let earlier_done : All IsDone q.earlier = done-left q.earlier q.later (subst (All IsDone) q.are done) in
         let now : IsReady j.tree.shape q.a = runs-ready j image.valid write q.earlier x q.a q.before earlier_done ready in
         elim (higher (suc cut.l) i (omega (arith, cut.above)) few inside) [
-          | inr excused ↦ excused-left j p.visits us w x y i excused runs
+          | inr excused ↦ excused-left j p.visits us i excused
           | inl stands ↦
-              inr (inr (cut-clash j image.valid h i q.beside q.a now.hash_ready.steady q.same cut
-              (runs-keep j image.valid write q.earlier x q.a q.before earlier_done ready (suc cut.l) i (place (suc cut.l) i few inside) stands)))
+              inr (cut-clash j image.valid h i q.beside q.a now.hash_ready.steady q.same cut
+              (runs-keep j image.valid write q.earlier x q.a q.before earlier_done ready (suc cut.l) i (place (suc cut.l) i few inside) stands))
         ]
   ]
 
-  height-here : (i : ℕ) → i < j.tree.shape.blocks → StandsGood j h i y ⊎ IsExcused j i (p.visits ++ us) w y
+  height-here : (i : ℕ) → i < j.tree.shape.blocks → StandsGood j h i y ⊎ IsExcused j i (p.visits ++ us)
   height-here i inside = elim (looked h i (refl, (omega arith, inside))) [
     | inr passed ↦ inr (passed-by i inside passed)
     | inl visited ↦ elim (visited-or j.tree.shape h i us visited) [
@@ -149,12 +126,12 @@ module _ (j : Job) (h : ℕ) (w x y : RepairWorld) (p : StandsFrom j (suc h) w x
     ]
   ]
 
-  height-stands : (g i : ℕ) → IsFromUp j.tree.shape h g i → StandsGood j g i y ⊎ IsExcused j i (p.visits ++ us) w y
+  height-stands : (g i : ℕ) → IsFromUp j.tree.shape h g i → StandsGood j g i y ⊎ IsExcused j i (p.visits ++ us)
   height-stands g i due = elim (cases_lt h g) [
     | inl up ↦ higher-kept g i up due.1.0 due.1.1
     | inr not ↦
         let same : h ≡ g = omega (arith, due.0, not) in
-        subst (λ (n : ℕ). StandsGood j n i y ⊎ IsExcused j i (p.visits ++ us) w y) same (height-here i due.1.1)
+        subst (λ (n : ℕ). StandsGood j n i y ⊎ IsExcused j i (p.visits ++ us)) same (height-here i due.1.1)
   ]
 
 pub stands-none : (j : Job) (low : ℕ) (w : RepairWorld) → levels j.tree.shape < low → StandsFrom j low w w
@@ -189,29 +166,17 @@ steady-behind a b read steady = record {
   hash_steady = steady-then read.hash_read.same steady.hash_steady;
 }
 
-excused-behind : (j : Job) (i : ℕ) (vs : List Visit) (w x y : RepairWorld) → IsWorldRead w x → IsExcused j i vs x y → IsExcused j i vs w y
-excused-behind j i vs w x y read (inl lost) = inl lost
-excused-behind j i vs w x y read (inr (inl f)) = inr (inl (record {
-  earlier = f.earlier;
-  later = f.later;
-  are = f.are;
-  a = f.a;
-  b = f.b;
-  before = runs-read j f.earlier w x f.a read f.before;
-  read = f.read;
-  behind = f.behind;
-  failed = f.failed;
-}))
-excused-behind j i vs w x y read (inr (inr clash)) = inr (inr clash)
-
 module _ (s : SuperRecord) (plan : Plan) (w x y : RepairWorld) (read : IsWorldRead w x) (images : AreImages w.data_dev w.hash_dev s) where
-  begin-image : IsWorldSteady w → IsSteadyImage (job_of s plan false).tree.shape x
-  begin-image steady = record {
+  steady-image : IsWorldSteady w → IsSteadyImage (job_of s plan false).tree.shape x
+  steady-image steady = record {
     valid = images.from.carried.valid.shape;
     steady = steady-behind w x read steady;
     data_fits = omega (arith, images.data_fits, read.data_read.same.size);
     tree_fits = omega (arith, images.tree_fits, read.hash_read.same.size);
   }
+
+  sure-image : IsWorldSteady w → IsTrue w.hash_dev.never_fails → IsSureImage (job_of s plan false).tree.shape x
+  sure-image steady sure = record { image = steady-image steady; sure = read.hash_read.same.never_fails sure }
 
   whole-of : StandsFrom (job_of s plan false) 0 x y → LeavesWhole plan w y
   whole-of p =
@@ -222,15 +187,12 @@ module _ (s : SuperRecord) (plan : Plan) (w x y : RepairWorld) (read : IsWorldRe
         visits = p.visits;
         runs = runs-read j p.visits w x y read p.runs;
         done = p.done;
-        good = λ write steady i inside.
-            elim (each-or (λ (h : ℕ). StandsGood j h i y) (IsExcused j i p.visits w y) (suc (levels j.tree.shape)) (λ h few. elim (p.stand write (begin-image steady) h i (omega arith, (omega (arith, few), inside))) [
-              | inl stands ↦ inl stands
-              | inr excused ↦ inr (excused-behind j i p.visits w x y read excused)
-            ])) [
+        good = λ write steady sure i inside.
+            elim (each-or (λ (h : ℕ). StandsGood j h i y) (IsExcused j i p.visits) (suc (levels j.tree.shape)) (λ h few. p.stand write (sure-image steady sure) h i (omega arith, (omega (arith, few), inside)))) [
               | inr excused ↦ inr excused
               | inl all ↦ elim (way-stands j i y (λ h few. all h (omega (arith, few)))) [
                 | inl good ↦ inl good
-                | inr clash ↦ inr (inr (inr clash))
+                | inr clash ↦ inr (inr clash)
               ]
             ];
       }

@@ -1,5 +1,5 @@
 -- Runs of which the blocks that aren't good are noted.
-use Rattle.std.proofs.Common.{◌≡◌, ℕ, Bool, true, false, IsTrue, List, [], ◌++◌, Option, Result, Ok, Err, refl, sym, ap, ◌∙◌, subst, arith, inl, inr}
+use Rattle.std.proofs.Common.{◌≡◌, ◌&&◌, ℕ, zero, suc, Bool, true, false, IsTrue, List, [], ◌++◌, Option, Result, Ok, Err, refl, sym, ap, ◌∙◌, subst, arith, inl, inr}
 use Rattle.std.specs.Prelude.{◌⊎◌, IsErrAnd, is_ok}
 use Rattle.std.specs.List.{flat_map}
 use Rattle.std.specs.Io.KnownBytes.{Appends}
@@ -13,12 +13,12 @@ use Rattle.fec_area.specs.declared.layout.Layout.{Layout}
 use Rattle.tree_repair.specs.declared.bad.BadBlock.{BadBlock}
 use Rattle.tree_repair.specs.declared.bad.BadBlocks.{BadBlocks}
 use Rattle.tree_repair.specs.Coverage.{IsFromUp, IsLookedAt, IsVisitAt}
-use Rattle.tree_repair.specs.Passes.{EndsInPass, HasNoted, IsPass, bad_of}
+use Rattle.tree_repair.specs.Passes.{AreDuePasses, ArePasses, EndsInPass, HasNoted, IsPass, bad_of}
 use Rattle.tree_repair.specs.Runs.{HasRun, IsVisited, Job, Visit, visit_line}
 use Rattle.tree_repair.specs.Tries.{HasSought}
 use Rattle.tree_repair.specs.Worlds.{IsWorldRead, RepairWorld}
 use Rattle.tree_repair.proofs.LookLemmas.{looked-behind, looked-left, looked-right}
-use Rattle.tree_repair.proofs.RunLemmas.{has-behind, has-none, has-one, has-read, has-then, world-none}
+use Rattle.tree_repair.proofs.RunLemmas.{has-behind, has-none, has-one, has-read, has-then, runs-read, world-none, world-then}
 
 pub noted-none : {j : Job} {Due : ℕ → ℕ → Type 0} {w : RepairWorld} {old : Option (List ℕ)} {a : BadBlocks} → ((h i : ℕ) → Due h i → ⊥) → HasNoted j Due w w old old a a true
 noted-none {j} {Due} {w} {old} {a} none = record { run = has-none; asked = refl; noted = λ end on. sym (append-nil a.blocks.items); looked = λ end h i due. absurd (none h i due) }
@@ -73,18 +73,52 @@ noted-from (Err e) P is run = noted-not run.run run.asked
 -- ---- passes
 
 -- those that were noted in a run from none on were sought
-pub pass-of : {j : Job} {l : Layout} {w x y : RepairWorld} {old new : Option (List ℕ)} {a b : BadBlocks} {p p' : Device} (blocks : List BadBlock) → HasNoted j (IsFromUp j.tree.shape 0) w x old new a b true → IsTrue a.asked → a.blocks.items ≡ [] → blocks ≡ b.blocks.items
-    → HasSought j l blocks x y p p' → IsPass j l w y p p'
-pass-of {j} {l} {w} {x} {y} {old} {new} {a} {b} {p} {p'} blocks noted on none are sought = record {
+pub pass-of : {j : Job} {l : Layout} {w x y : RepairWorld} {old new : Option (List ℕ)} {a b : BadBlocks} {p p' : Device} {hash_came : Bool} (blocks : List BadBlock) (again : Bool) → HasNoted j (IsFromUp j.tree.shape 0) w x old new a b true → IsTrue a.asked → a.blocks.items ≡ []
+    → blocks ≡ b.blocks.items → HasSought j l blocks x y p p' hash_came → again ≡ (hash_came && j.write) → IsPass j l w y p p' again
+pass-of {j} {l} {w} {x} {y} {old} {new} {a} {b} {p} {p'} {hash_came} blocks again noted on none are sought is = record {
   visits = noted.run.visits;
   behind = x;
   runs = noted.run.runs;
   looked = λ h i high inside. noted.looked refl h i (omega arith, (high, inside));
-  sought = subst (λ (l' : List BadBlock). HasSought j l l' x y p p') (are ∙ noted.noted refl on ∙ ap (λ (l' : List BadBlock). l' ++ flat_map (bad_of j) noted.run.visits) none) sought;
+  hash_came = hash_came;
+  sought = subst (λ (l' : List BadBlock). HasSought j l l' x y p p' hash_came) (are ∙ noted.noted refl on ∙ ap (λ (l' : List BadBlock). l' ++ flat_map (bad_of j) noted.run.visits) none) sought;
+  again_is = is;
 }
 
-pub pass-first : {j : Job} {l : Layout} {w w' : RepairWorld} {p p' : Device} → IsPass j l w w' p p' → EndsInPass j l w w' p p'
-pass-first {j} {l} {w} {w'} {p} {p'} pass = record { earlier = []; last = w; last_parity = p; before = world-none w; parity_read = only_read-none p; pass = pass }
+pub passes-first : {j : Job} {l : Layout} {w w' : RepairWorld} {p p' : Device} {again : Bool} → IsPass j l w w' p p' again → ArePasses j l 0 w w' p p' again
+passes-first {j} {l} {w} {w'} {p} {p'} {again} pass = record { earlier = []; last = w; last_parity = p; before = world-none w; parity_read = only_read-none p; due = (world-none w, only_read-none p); pass = pass }
 
-pub pass-later : {j : Job} {l : Layout} {w x w' : RepairWorld} {p q p' : Device} {old new : Option (List ℕ)} {ok : Bool} → HasRun j w x old new ok → IsOnlyRead p q → IsPass j l x w' q p' → EndsInPass j l w w' p p'
-pass-later {j} {l} {w} {x} {w'} {p} {q} {p'} run read pass = record { earlier = run.visits; last = x; last_parity = q; before = run.runs; parity_read = read; pass = pass }
+-- one that was due behind those so far, which are as the run has them
+pub passes-next : {j : Job} {l : Layout} {n : ℕ} {w x w' : RepairWorld} {p q p' : Device} {old new : Option (List ℕ)} {so_far again ok : Bool} → HasRun j w x old new ok → IsOnlyRead p q → ArePasses j l n w x p q so_far → IsTrue so_far → IsPass j l x w' q p' again
+    → ArePasses j l (suc n) w w' p p' again
+passes-next {j} {l} {n} {w} {x} {w'} {p} {q} {p'} {old} {new} {so_far} {again} {ok} run read before due pass = record {
+  earlier = run.visits;
+  last = x;
+  last_parity = q;
+  before = run.runs;
+  parity_read = read;
+  due = (before.last, (before.last_parity, (before.due, subst (λ (b : Bool). IsPass j l before.last x before.last_parity q b) due before.pass)));
+  pass = pass;
+}
+
+-- passes behind a reading
+due-behind : (j : Job) (l : Layout) (n : ℕ) (w b w' : RepairWorld) (p p' : Device) → IsWorldRead w b → AreDuePasses j l n b w' p p' → AreDuePasses j l n w w' p p'
+due-behind j l zero w b w' p p' read due = (world-then w b w' read due.0, due.1)
+due-behind j l (suc n) w b w' p p' read (a, (q, (due, pass))) = (a, (q, (due-behind j l n w b a p q read due, pass)))
+
+pub ends-behind : {j : Job} {l : Layout} {w b w' : RepairWorld} {p p' : Device} → IsWorldRead w b → EndsInPass j l b w' p p' → EndsInPass j l w w' p p'
+ends-behind {j} {l} {w} {b} {w'} {p} {p'} read ends = record {
+  count = ends.count;
+  again = ends.again;
+  passes = record {
+    earlier = ends.passes.earlier;
+    last = ends.passes.last;
+    last_parity = ends.passes.last_parity;
+    before = runs-read j ends.passes.earlier w b ends.passes.last read ends.passes.before;
+    parity_read = ends.passes.parity_read;
+    due = due-behind j l ends.count w b ends.passes.last p ends.passes.last_parity read ends.passes.due;
+    pass = ends.passes.pass;
+  };
+  few = ends.few;
+  over = ends.over;
+}

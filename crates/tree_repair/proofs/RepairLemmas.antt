@@ -1,14 +1,18 @@
 -- What a repair did, behind the superblock.
 use Rattle.std.proofs.Common.{◌≡◌, ◌≤◌, ◌^◌, ℕ, List, Option, Bool, true, false, IsTrue, Result, Ok, Err, sym, subst, arith, inr}
 use Rattle.std.specs.Prelude.{IfErr, IsErrAnd, OnOk, is_ok}
+use Rattle.block_device.specs.Device.{Device}
+use Rattle.fec_area.specs.declared.layout.Layout.{Layout}
 use Rattle.tree_shape.specs.Shape.{IsShape}
 use Rattle.verity_format.specs.Superblock.{SuperRecord, shape_of}
 use Rattle.tree_survey.specs.Causes.{AreImages}
 use Rattle.tree_repair.specs.declared.fault.RepairFault.{RepairFault}
 use Rattle.tree_repair.specs.declared.repair.Plan.{Plan}
-use Rattle.tree_repair.specs.Repairs.{IsAllowed, IsUnrepairedBy, Repairs, job_of}
+use Rattle.tree_repair.specs.Passes.{EndsInPass}
+use Rattle.tree_repair.specs.Repairs.{IsAllowed, IsUnrepairedBy, Repairs, SeeksByParity, job_of}
 use Rattle.tree_repair.specs.Runs.{CanRun, HasRun, Job}
 use Rattle.tree_repair.specs.Worlds.{IsWorldRead, RepairWorld}
+use Rattle.tree_repair.proofs.PassLemmas.{ends-behind}
 use Rattle.tree_repair.proofs.RunLemmas.{has-behind}
 
 module _ (s : SuperRecord) (plan : Plan) (parity : Bool) (j : Job) (w b : RepairWorld) (same : j ≡ job_of s plan parity) (read : IsWorldRead w b) (images : AreImages w.data_dev w.hash_dev s) where
@@ -35,6 +39,15 @@ module _ (s : SuperRecord) (plan : Plan) (parity : Bool) (j : Job) (w b : Repair
   pub whole-err : (w' : RepairWorld) (old new : Option (List ℕ)) (r : Result (Unit {0}) RepairFault) → HasRun j b w' old new (is_ok r) → IfErr r (IsUnrepairedBy plan parity w w' old new)
   whole-err w' old new (Ok x) run = tt
   whole-err w' old new (Err e) run = inr (repairs-of w' old new false run)
+
+-- what ends in a pass behind the superblock does so from before it
+ends-of : (s : SuperRecord) (plan : Plan) (j : Job) (l : Layout) (w b w' : RepairWorld) (p p' : Device) → j ≡ job_of s plan true → IsWorldRead w b → AreImages w.data_dev w.hash_dev s → IsShape (shape_of s) → EndsInPass j l b w' p p' → SeeksByParity plan l w w' p p'
+ends-of s plan j l w b w' p p' same read images valid ends = record { s = s; images = images; valid = valid; ends = subst (λ (x : Job). EndsInPass x l w w' p p') same (ends-behind read ends) }
+
+pub whole-sought : (s : SuperRecord) (plan : Plan) (j : Job) (l : Layout) (w b w' : RepairWorld) (p p' : Device) (r : Result (Unit {0}) RepairFault) → j ≡ job_of s plan true → IsWorldRead w b → AreImages w.data_dev w.hash_dev s → IsShape (shape_of s)
+    → OnOk r (EndsInPass j l b w' p p') → OnOk r (SeeksByParity plan l w w' p p')
+whole-sought s plan j l w b w' p p' (Ok x) same read images valid ends = ends-of s plan j l w b w' p p' same read images valid ends
+whole-sought s plan j l w b w' p p' (Err e) same read images valid ends = tt
 
 -- what holds of a fault holds of the result that hands it on
 pub err-from : {T E : Type 0} (r : Result T E) (P : E → Type 0) (fault : E) → IsErrAnd r (λ e. e ≡ fault) → P fault → IfErr r P

@@ -140,7 +140,7 @@ visited-same j v a b here =
     at-same v.height a b (mended-same (look_at j here.p v.height v.index a b) v.bytes v.done v.mended here.mended_as)
     (other-same v.height v.mended (other v.height a) (other v.height b) here.other_stays)
 
-runs-same : (j : Job) (vs : List Visit) (a b : RepairWorld) → VisitsAll j vs a b → AreSame a b
+pub runs-same : (j : Job) (vs : List Visit) (a b : RepairWorld) → VisitsAll j vs a b → AreSame a b
 runs-same j [] a b read = read-same a b read
 runs-same j (v ∷ more) a b (x, (y, (read, (here, rest)))) = are-then a x b (read-same a x read) (are-then x y b (visited-same j v x y here) (runs-same j more y b rest))
 

@@ -1,8 +1,9 @@
 -- Lost blocks that are sought by parity, one after another.
-use Rattle.std.proofs.Common.{◌≡◌, ◌<◌, ◌+◌, ℕ, Bool, true, false, IsTrue, List, [], ◌∷◌, ◌++◌, length, take, get_or, Option, Some, None, Result, Ok, Err, refl, sym, ap, ◌∙◌, subst, inl, inr}
+use Rattle.std.proofs.Common.{◌≡◌, ◌<◌, ◌+◌, ◌||◌, ℕ, Bool, true, false, IsTrue, List, [], ◌∷◌, ◌++◌, length, take, get_or, Option, Some, None, Result, Ok, Err, refl, sym, ap, ◌∙◌, subst, inl, inr}
 use Rattle.std.specs.Prelude.{IfOk}
 use Rattle.std.specs.Str.{bytes_eq}
 use Rattle.std.proofs.lemmas.Bool.{true≢false}
+use Rattle.std.proofs.Math.Bool.{or-false, or_assoc}
 use Rattle.std.proofs.lemmas.List.{append-nil, take_more}
 use Rattle.block_device.specs.Device.{Device}
 use Rattle.fec_area.specs.declared.layout.Layout.{Layout}
@@ -14,7 +15,7 @@ use Rattle.tree_path.proofs.lemmas.PathLemmas.{is_same-cases}
 use Rattle.tree_repair.specs.declared.bad.BadBlock.{BadBlock}
 use Rattle.tree_repair.specs.Parity.{IsCoveredAt, IsPlaced}
 use Rattle.tree_repair.specs.Runs.{Job}
-use Rattle.tree_repair.specs.Tries.{AreCovered, AreSought, IsCoveredOr, IsMadeOrVain, IsSought, IsSoughtAt, IsTried, Trial, listed_number, trial}
+use Rattle.tree_repair.specs.Tries.{AreCovered, AreSought, IsCoveredOr, IsMadeOrVain, IsSought, IsSoughtAt, IsTried, Trial, is_hash_back, listed_number, trial}
 use Rattle.tree_repair.specs.Worlds.{IsWorldRead, RepairWorld}
 use Rattle.tree_repair.proofs.RunLemmas.{world-then}
 use Rattle.verity_format.specs.Blocks.{IsOnlyRead}
@@ -41,16 +42,17 @@ sought-behind j h i false l lost w a w' p p' (Ok back) read not tried = inr (rec
 sought-behind j h i false l lost w a w' p p' (Err e) read not tried = tt
 
 -- one more
-sought-last : (j : Job) (l : Layout) (lost : List ℕ) (bs : List BadBlock) (b : BadBlock) (w a w' : RepairWorld) (p q p' : Device) (back : Bool) → AreSought j l lost bs w a p q → IsSought j b (trial l lost a w' q p') back
-    → AreSought j l lost (bs ++ b ∷ []) w w' p p'
-sought-last j l lost [] b w a w' p q p' back before last =
-    (w', (p', (back, (subst (λ (x : RepairWorld). IsSought j b (trial l lost x w' p p') back) before.0 (subst (λ (d : Device). IsSought j b (trial l lost a w' d p') back) before.1 last), (refl, refl)))))
-sought-last j l lost (c ∷ more) b w a w' p q p' back (x, (d, (y, (here, rest)))) last = (x, (d, (y, (here, sought-last j l lost more b x a w' d q p' back rest last))))
+sought-last : (j : Job) (l : Layout) (lost : List ℕ) (bs : List BadBlock) (b : BadBlock) (w a w' : RepairWorld) (p q p' : Device) (hash_came back : Bool) → AreSought j l lost bs w a p q hash_came → IsSought j b (trial l lost a w' q p') back
+    → AreSought j l lost (bs ++ b ∷ []) w w' p p' (hash_came || is_hash_back back b)
+sought-last j l lost [] b w a w' p q p' hash_came back (same, (parity_same, none)) last =
+    (w', (p', (back, (false, (ap (λ (z : Bool). z || is_hash_back back b) none ∙ sym (or-false (is_hash_back back b)), (subst (λ (x : RepairWorld). IsSought j b (trial l lost x w' p p') back) same (subst (λ (d : Device). IsSought j b (trial l lost a w' d p') back) parity_same last), (refl, (refl, refl))))))))
+sought-last j l lost (c ∷ more) b w a w' p q p' hash_came back (x, (d, (y, (rest, (is, (here, are)))))) last =
+    (x, (d, (y, (rest || is_hash_back back b, (ap (λ (z : Bool). z || is_hash_back back b) is ∙ or_assoc (is_hash_back y c) rest (is_hash_back back b), (here, sought-last j l lost more b x a w' d q p' rest back are last))))))
 
-pub sought-next : (j : Job) (l : Layout) (lost : List ℕ) (bs : List BadBlock) (i : ℕ) (b : BadBlock) (w a w' : RepairWorld) (p q p' : Device) (back : Bool) → i < length bs
-    → AreSought j l lost (take i bs) w a p q → IsSought j (get_or bs i b) (trial l lost a w' q p') back → AreSought j l lost (take (i + 1) bs) w w' p p'
-sought-next j l lost bs i b w a w' p q p' back inside before last =
-    subst (λ (xs : List BadBlock). AreSought j l lost xs w w' p p') (sym (take_more bs i b inside)) (sought-last j l lost (take i bs) (get_or bs i b) w a w' p q p' back before last)
+pub sought-next : (j : Job) (l : Layout) (lost : List ℕ) (bs : List BadBlock) (i : ℕ) (b : BadBlock) (w a w' : RepairWorld) (p q p' : Device) (hash_came back : Bool) → i < length bs
+    → AreSought j l lost (take i bs) w a p q hash_came → IsSought j (get_or bs i b) (trial l lost a w' q p') back → AreSought j l lost (take (i + 1) bs) w w' p p' (hash_came || is_hash_back back (get_or bs i b))
+sought-next j l lost bs i b w a w' p q p' hash_came back inside before last =
+    subst (λ (xs : List BadBlock). AreSought j l lost xs w w' p p' (hash_came || is_hash_back back (get_or bs i b))) (sym (take_more bs i b inside)) (sought-last j l lost (take i bs) (get_or bs i b) w a w' p q p' hash_came back before last)
 
 -- ---- those that are covered
 

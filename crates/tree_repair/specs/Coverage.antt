@@ -1,9 +1,10 @@
 -- Which blocks of an image a run looks at.
 use Rattle.std.specs.Prelude.{◌≡◌, ◌⊎◌, ℕ, ◌+◌, ◌-◌, ◌*◌, ◌/◌, ◌<◌, ◌≤◌, List, [], ◌∷◌, ◌++◌, length}
 use Rattle.std.specs.List.{slice_index_or}
-use Rattle.block_device.specs.Device.{Device, HasFailed}
+use Rattle.block_device.specs.Device.{Device}
 use Rattle.tree_shape.specs.Shape.{ShapeRecord, ancestor, levels}
 use Rattle.tree_path.specs.Path.{PathRecord, digest_on}
+use Rattle.tree_survey.specs.Failing.{HasFailedRead}
 use Rattle.tree_repair.specs.declared.place.Place.{Place}
 use Rattle.tree_repair.specs.declared.place.Row.{Row}
 use Rattle.tree_repair.specs.Runs.{Job, VisitsAll, Visit}
@@ -46,8 +47,8 @@ abbrev pub IsVisitedIn : ShapeRecord → ℕ → ℕ → List Visit → Type 0
 IsVisitedIn s h i [] = ⊥
 IsVisitedIn s h i (v ∷ more) = IsVisitAt s h i v ⊎ IsVisitedIn s h i more
 
--- When its turn came, behind some of the visits, a hash block above it wasn't good, or the hash device failed. It was tried
--- with a block beside it, which has the same hash blocks above.
+-- When its turn came, behind some of the visits, a hash block above it wasn't good, or the hash device failed and isn't one that
+-- never fails. It was tried with a block beside it, which has the same hash blocks above.
 pub record IsPassedBy (j : Job) (h i : ℕ) (visits : List Visit) (w w' : RepairWorld) : Type 0 where
   pub earlier : List Visit
   pub later : List Visit
@@ -59,7 +60,7 @@ pub record IsPassedBy (j : Job) (h i : ℕ) (visits : List Visit) (w w' : Repair
   pub behind : VisitsAll j later b w'
   pub beside : ℕ
   pub same : ancestor j.tree.shape (h + 1) beside ≡ ancestor j.tree.shape (h + 1) i
-  pub cut : HasFailed a.hash_dev b.hash_dev ⊎ IsCutOff j.tree beside h a.hash_dev
+  pub cut : HasFailedRead a.hash_dev b.hash_dev ⊎ IsCutOff j.tree beside h a.hash_dev
 
 -- it was looked at, if good hash blocks led to it
 abbrev pub IsLookedAt : Job → ℕ → ℕ → List Visit → RepairWorld → RepairWorld → Type 0

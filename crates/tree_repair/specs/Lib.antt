@@ -18,3 +18,4 @@ pub mod Coverage
 pub mod Passes
 pub mod Standing
 pub mod Outcomes
+pub mod Beyond

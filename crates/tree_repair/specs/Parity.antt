@@ -6,6 +6,7 @@ use Rattle.fec_area.specs.declared.restoring.RestoreFault.{RestoreFault}
 use Rattle.fec_area.specs.declared.restoring.RestoreFault.TheVariants.{TooManyLost, TooSmall, Device as DeviceFailed, NoMemory}
 use Rattle.fec_area.specs.Layouts.{IsOfData, IsOfHash, covered_blocks}
 use Rattle.fec_area.specs.Restoring.{IsMadeAgain, IsRestoreCause}
+use Rattle.fec_area.specs.Rounds.{AllNeverFail}
 use Rattle.tree_shape.specs.Shape.{ShapeRecord, IsShape, ancestor, levels, position}
 use Rattle.tree_path.specs.Path.{PathRecord, digest_on}
 use Rattle.tree_survey.specs.Surveys.{IsWay}
@@ -68,14 +69,14 @@ abbrev pub IsBack : Losses → RepairWorld → Device → ℕ → List ℕ → B
 IsBack l w parity_dev index bytes back = IsTrue back → IsTrue w.data_dev.steady → IsTrue w.hash_dev.steady → IsTrue parity_dev.steady
     → IsMadeAgain l.layout w.data_dev.image w.hash_dev.image parity_dev.image l.lost.items index bytes
 
--- a cause other than that memory was refused
-abbrev pub IsOfBlocks : RestoreFault → Type 0
-IsOfBlocks (TooManyLost count) = Unit {0}
-IsOfBlocks (TooSmall needed) = Unit {0}
-IsOfBlocks DeviceFailed = Unit {0}
-IsOfBlocks NoMemory = ⊥
+-- a cause other than that memory was refused; that a device failed is one only where not all three are such that never fail
+abbrev pub IsOfBlocks : Device → Device → Device → RestoreFault → Type 0
+IsOfBlocks data_dev hash_dev parity_dev (TooManyLost count) = Unit {0}
+IsOfBlocks data_dev hash_dev parity_dev (TooSmall needed) = Unit {0}
+IsOfBlocks data_dev hash_dev parity_dev DeviceFailed = AllNeverFail data_dev hash_dev parity_dev → ⊥
+IsOfBlocks data_dev hash_dev parity_dev NoMemory = ⊥
 
 -- or it wasn't, and that has such a cause
 abbrev pub IsNotBack : Losses → ℕ → RepairWorld → RepairWorld → Device → Device → Bool → Type 0
 IsNotBack l index w w' parity_dev parity_dev' back = back ≡ false
-    → (fault : RestoreFault) × (IsOfBlocks fault × IsRestoreCause l.layout l.lost.items index w.data_dev w.hash_dev parity_dev w'.data_dev w'.hash_dev parity_dev' fault)
+    → (fault : RestoreFault) × (IsOfBlocks w.data_dev w.hash_dev parity_dev fault × IsRestoreCause l.layout l.lost.items index w.data_dev w.hash_dev parity_dev w'.data_dev w'.hash_dev parity_dev' fault)

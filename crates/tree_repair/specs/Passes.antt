@@ -1,5 +1,5 @@
 -- A pass of a repair by parity: what is noted of its blocks, and that each that is lost is sought.
-use Rattle.std.specs.Prelude.{◌≡◌, ◌<◌, ◌≤◌, ℕ, Bool, IsTrue, List, ◌++◌, Option, Result, is_ok}
+use Rattle.std.specs.Prelude.{◌≡◌, ◌&&◌, ◌<◌, ◌≤◌, ℕ, zero, suc, Bool, true, IsTrue, List, ◌++◌, Option, Result, is_ok}
 use Rattle.std.specs.List.{flat_map}
 use Rattle.block_device.specs.Device.{Device}
 use Rattle.counted_io.specs.Counted.{CountedRecord}
@@ -12,7 +12,7 @@ use Rattle.tree_repair.specs.Coverage.{IsLookedAt}
 use Rattle.tree_repair.specs.Noting.{bad_blocks, found_of}
 use Rattle.tree_repair.specs.Runs.{HasRun, Job, VisitsAll, Visit}
 use Rattle.tree_repair.specs.Tries.{HasSought}
-use Rattle.tree_repair.specs.Worlds.{RepairWorld}
+use Rattle.tree_repair.specs.Worlds.{IsWorldRead, RepairWorld}
 
 -- that of a visit
 abbrev pub bad_of : Job → Visit → List BadBlock
@@ -30,19 +30,35 @@ abbrev pub Notes : {W T E : Type 0} → (W → Option (List ℕ)) → Job → (�
 Notes contents j Due w w' a b old new result = HasNoted j Due w w' (contents old.inner) (contents new.inner) a b (is_ok result)
 
 -- All blocks were gone over, from the top down, and each that was lost was then sought by parity, where all that aren't good
--- count as lost.
-pub record IsPass (j : Job) (l : Layout) (w w' : RepairWorld) (p p' : Device) : Type 0 where
+-- count as lost. It is due again where a hash block came back, and was written.
+pub record IsPass (j : Job) (l : Layout) (w w' : RepairWorld) (p p' : Device) (again : Bool) : Type 0 where
   pub visits : List Visit
   pub behind : RepairWorld
   pub runs : VisitsAll j visits w behind
   pub looked : (h i : ℕ) → h ≤ levels j.tree.shape → i < j.tree.shape.blocks → IsLookedAt j h i visits w behind
-  pub sought : HasSought j l (flat_map (bad_of j) visits) behind w' p p'
+  pub hash_came : Bool
+  pub sought : HasSought j l (flat_map (bad_of j) visits) behind w' p p' hash_came
+  pub again_is : again ≡ (hash_came && j.write)
 
--- a run ends with one
-pub record EndsInPass (j : Job) (l : Layout) (w w' : RepairWorld) (p p' : Device) : Type 0 where
+-- so many passes, behind each of which one is due again
+abbrev pub AreDuePasses : Job → Layout → ℕ → RepairWorld → RepairWorld → Device → Device → Type 0
+AreDuePasses j l zero w w' p p' = IsWorldRead w w' × IsOnlyRead p p'
+AreDuePasses j l (suc n) w w' p p' = (a : RepairWorld) × ((q : Device) × (AreDuePasses j l n w a p q × IsPass j l a w' q p' true))
+
+-- One more than n passes were made. The visits are those of all but the last one.
+pub record ArePasses (j : Job) (l : Layout) (n : ℕ) (w w' : RepairWorld) (p p' : Device) (again : Bool) : Type 0 where
   pub earlier : List Visit
   pub last : RepairWorld
   pub last_parity : Device
   pub before : VisitsAll j earlier w last
   pub parity_read : IsOnlyRead p last_parity
-  pub pass : IsPass j l last w' last_parity p'
+  pub due : AreDuePasses j l n w last p last_parity
+  pub pass : IsPass j l last w' last_parity p' again
+
+-- A run ends with one, behind which none is due; or as many were made as there are covered hash blocks, and one more.
+pub record EndsInPass (j : Job) (l : Layout) (w w' : RepairWorld) (p p' : Device) : Type 0 where
+  pub count : ℕ
+  pub again : Bool
+  pub passes : ArePasses j l count w w' p p' again
+  pub few : count ≤ l.hash_blocks
+  pub over : IsTrue again → count ≡ l.hash_blocks

@@ -2,12 +2,15 @@
 use Rattle.std.specs.Prelude.{◌⊎◌, ℕ, Bool, true, false, IsTrue, List, Option}
 use Rattle.block_device.specs.Device.{Device}
 use Rattle.counted_io.specs.Counted.{CountedRecord}
+use Rattle.fec_area.specs.declared.layout.Layout.{Layout}
+use Rattle.tree_shape.specs.Shape.{IsShape}
 use Rattle.verity_format.specs.Superblock.{SuperRecord, shape_of}
 use Rattle.tree_survey.specs.declared.fault.SurveyFault.TheVariants as survey
 use Rattle.tree_survey.specs.Causes.{AreImages, IsImageCause as IsSuperblockCause}
 use Rattle.tree_repair.specs.declared.fault.RepairFault.{RepairFault}
 use Rattle.tree_repair.specs.declared.fault.RepairFault.TheVariants.{Image, Write}
 use Rattle.tree_repair.specs.declared.repair.Plan.{Plan}
+use Rattle.tree_repair.specs.Passes.{EndsInPass}
 use Rattle.tree_repair.specs.Runs.{HasRun, Job}
 use Rattle.tree_repair.specs.Worlds.{IsWorldRead, RepairWorld}
 
@@ -33,6 +36,18 @@ IsRepair contents plan w w' old new = Repairs plan false w w' (contents old.inne
 -- the same with parity
 abbrev pub IsParityRepair : {W : Type 0} → (W → Option (List ℕ)) → Plan → RepairWorld → RepairWorld → CountedRecord W → CountedRecord W → Type 0
 IsParityRepair contents plan w w' old new = Repairs plan true w w' (contents old.inner) (contents new.inner) true
+
+-- The superblock was read, and the blocks of its tree were gone over, to the end, in passes in each of which what was found
+-- nowhere was sought by parity.
+pub record SeeksByParity (plan : Plan) (l : Layout) (w w' : RepairWorld) (p p' : Device) : Type 0 where
+  pub s : SuperRecord
+  pub images : AreImages w.data_dev w.hash_dev s
+  pub valid : IsShape (shape_of s)
+  pub ends : EndsInPass (job_of s plan true) l w w' p p'
+
+-- the same by the parity device before and behind
+abbrev pub IsSoughtByParity : {P : Type 0} → (P → Device) → Plan → Layout → RepairWorld → RepairWorld → P → P → Type 0
+IsSoughtByParity state plan l w w' old new = SeeksByParity plan l w w' (state old) (state new)
 
 -- ---- why there was nothing to be gone over
 

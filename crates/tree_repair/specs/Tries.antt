@@ -1,6 +1,6 @@
 -- Lost blocks that are sought by parity, and why some don't come back.
-use Rattle.std.specs.Prelude.{◌≡◌, ◌≢◌, ◌⊎◌, ℕ, zero, suc, ◌+◌, ◌≤◌, Bool, true, false, IsTrue, List, [], ◌∷◌, Option, None, Some}
-use Rattle.block_device.specs.Device.{Device, HasFailed}
+use Rattle.std.specs.Prelude.{◌≡◌, ◌≢◌, ◌⊎◌, ◌&&◌, ◌||◌, ℕ, zero, suc, ◌+◌, ◌≤◌, Bool, true, false, nat_lt, IsTrue, List, [], ◌∷◌, Option, None, Some}
+use Rattle.block_device.specs.Device.{Device}
 use Rattle.fec_area.specs.declared.layout.Layout.{Layout}
 use Rattle.fec_area.specs.declared.restoring.RestoreFault.{RestoreFault}
 use Rattle.fec_area.specs.Layouts.{IsOffHash}
@@ -8,6 +8,7 @@ use Rattle.fec_area.specs.Restoring.{IsMadeAgain, IsRestoreCause}
 use Rattle.tree_shape.specs.Digests.{digest}
 use Rattle.tree_shape.specs.Shape.{ShapeRecord, ancestor, position}
 use Rattle.tree_path.specs.Path.{PathRecord, digest_on, stored_block}
+use Rattle.tree_survey.specs.Failing.{HasFailedRead}
 use Rattle.tree_survey.specs.Surveys.{Tree, IsWay}
 use Rattle.tree_repair.specs.declared.bad.BadBlock.{BadBlock}
 use Rattle.tree_repair.specs.declared.mending.Mended.TheVariants as mended
@@ -28,9 +29,9 @@ pub record IsCutOff (t : Tree) (i h : ℕ) (old : Device) : Type 0 where
   pub bad : digest t.salt block ≢ digest_on p i (l + 1)
   pub stand : IsTrue old.steady → block ≡ stored_block t.shape old.image l i
 
--- good hash blocks lead to it; or one above it isn't good, or the hash device failed
+-- good hash blocks lead to it; or one above it isn't good, or the hash device failed and isn't one that never fails
 abbrev pub IsWayOr : Tree → ℕ → ℕ → Device → Device → Option PathRecord → Type 0
-IsWayOr t i h old new None = HasFailed old new ⊎ IsCutOff t i h old
+IsWayOr t i h old new None = HasFailedRead old new ⊎ IsCutOff t i h old
 IsWayOr t i h old new (Some p) = IsWay t i h p
 
 -- ---- whether parity covers it
@@ -73,10 +74,11 @@ pub record Trial : Type 0 where
 abbrev pub trial : Layout → List ℕ → RepairWorld → RepairWorld → Device → Device → Trial
 trial layout lost w w' parity_dev parity_dev' = record { layout = layout; lost = lost; w = w; w' = w'; parity_dev = parity_dev; parity_dev' = parity_dev' }
 
--- Covered block k isn't made again: too many of its round are lost, parity is too short, a device failed.
+-- Covered block k isn't made again: too many of its round are lost, parity is too short, or a device failed where not all three are
+-- such that never fail.
 abbrev pub IsBlockUnmade : Trial → ℕ → Type 0
 IsBlockUnmade t k =
-    (fault : RestoreFault) × (IsOfBlocks fault × IsRestoreCause t.layout t.lost k t.w.data_dev t.w.hash_dev t.parity_dev t.w'.data_dev t.w'.hash_dev t.parity_dev' fault)
+    (fault : RestoreFault) × (IsOfBlocks t.w.data_dev t.w.hash_dev t.parity_dev fault × IsRestoreCause t.layout t.lost k t.w.data_dev t.w.hash_dev t.parity_dev t.w'.data_dev t.w'.hash_dev t.parity_dev' fault)
 
 -- or what is made of the others and the parity has another digest
 pub record IsMadeOther (salt digest_is : List ℕ) (t : Trial) (k : ℕ) : Type 0 where
@@ -131,7 +133,7 @@ pub record IsTriedBehind (j : Job) (h i : ℕ) (t : Trial) (back : Bool) : Type 
 
 -- it isn't in the tree, or a hash block above it isn't good
 abbrev pub IsOutOfReach : Job → ℕ → ℕ → Trial → Type 0
-IsOutOfReach j h i t = (IsPlace j.tree.shape h i → ⊥) ⊎ (HasFailed t.w.hash_dev t.w'.hash_dev ⊎ IsCutOff j.tree i h t.w.hash_dev)
+IsOutOfReach j h i t = (IsPlace j.tree.shape h i → ⊥) ⊎ (HasFailedRead t.w.hash_dev t.w'.hash_dev ⊎ IsCutOff j.tree i h t.w.hash_dev)
 
 -- a block that was found elsewhere isn't sought; each that was found nowhere is, if it can be
 abbrev pub IsSoughtAt : Job → ℕ → ℕ → Trial → Bool → Bool → Type 0
@@ -141,14 +143,19 @@ IsSoughtAt j h i t false back = ((back ≡ false) × (IsLeft t × IsOutOfReach j
 abbrev pub IsSought : Job → BadBlock → Trial → Bool → Type 0
 IsSought j b t back = IsSoughtAt j b.place.height b.place.index t b.found back
 
--- one after another
-abbrev pub AreSought : Job → Layout → List ℕ → List BadBlock → RepairWorld → RepairWorld → Device → Device → Type 0
-AreSought j l lost [] w w' p p' = (w' ≡ w) × (p' ≡ p)
-AreSought j l lost (b ∷ more) w w' p p' =
-    (a : RepairWorld) × ((q : Device) × ((back : Bool) × (IsSought j b (trial l lost w a p q) back × AreSought j l lost more a w' q p')))
+-- a hash block came back
+abbrev pub is_hash_back : Bool → BadBlock → Bool
+is_hash_back back b = back && nat_lt 0 b.place.height
+
+-- one after another; and whether a hash block came back
+abbrev pub AreSought : Job → Layout → List ℕ → List BadBlock → RepairWorld → RepairWorld → Device → Device → Bool → Type 0
+AreSought j l lost [] w w' p p' hash_came = (w' ≡ w) × ((p' ≡ p) × (hash_came ≡ false))
+AreSought j l lost (b ∷ more) w w' p p' hash_came =
+    (a : RepairWorld) × ((q : Device) × ((back : Bool) × ((rest : Bool) ×
+    ((hash_came ≡ (is_hash_back back b || rest)) × (IsSought j b (trial l lost w a p q) back × AreSought j l lost more a w' q p' rest)))))
 
 -- all that are covered count as lost for each of them
-pub record HasSought (j : Job) (l : Layout) (blocks : List BadBlock) (w w' : RepairWorld) (p p' : Device) : Type 0 where
+pub record HasSought (j : Job) (l : Layout) (blocks : List BadBlock) (w w' : RepairWorld) (p p' : Device) (hash_came : Bool) : Type 0 where
   pub lost : List ℕ
   pub are : AreCovered j.tree.shape l blocks lost
-  pub sought : AreSought j l lost blocks w w' p p'
+  pub sought : AreSought j l lost blocks w w' p p' hash_came

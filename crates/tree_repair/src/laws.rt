@@ -1,4 +1,5 @@
 //! Laws of repairs: each function's contract is the law, and its call gives it.
+ghost use Rattle.tree_repair.specs.Beyond.{WhatStaysLostIsBeyondParity};
 ghost use Rattle.tree_repair.specs.Laws.{MendedBlocksAreFormatted, MendedBlocksAreGood, NoHashBlockIsLost, OtherSectorsStay};
 ghost use Rattle.tree_repair.specs.Standing.{LeftGoodBlocksAreFormatted, LeftGoodBlocksStand, LeftGoodWaysStand, RepairsWriteAll};
 
@@ -48,4 +49,10 @@ pub fn left_good_blocks_are_formatted()
 /// Where a data block and all hash blocks above it were left good each has the digest that stands above it, or again.
 pub fn left_good_ways_stand()
     ensures { LeftGoodWaysStand }
+{}
+
+/// Where parity was asked, on devices that never fail, each block of the tree was good or found when the last pass came to it, or
+/// came back by parity, or a hash block above it isn't good, or parity doesn't cover it or can't make it again.
+pub fn what_stays_lost_is_beyond_parity()
+    ensures { WhatStaysLostIsBeyondParity }
 {}

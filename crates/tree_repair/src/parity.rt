@@ -1,5 +1,5 @@
 //! Blocks brought back by parity.
-ghost use Rattle.std.specs.Prelude.{◌≡◌, ◌<◌, ◌≤◌, ◌+◌, ◌/◌, ◌++◌, false, IfOk, IsTrue, OnErr, OnOk, length};
+ghost use Rattle.std.specs.Prelude.{◌≡◌, ◌<◌, ◌≤◌, ◌+◌, ◌/◌, ◌++◌, ◌||◌, false, IfOk, IsTrue, OnErr, OnOk, length};
 ghost use Rattle.block_device.specs.Device.{IsInside};
 ghost use Rattle.fec_area.specs.Layouts.{IsLaidOn, IsLayout, covered_blocks};
 ghost use Rattle.tree_shape.specs.Digests.{digest};
@@ -11,7 +11,7 @@ ghost use Rattle.tree_repair.specs.Mending.{IsBlockReplaced};
 ghost use Rattle.tree_repair.specs.Parity.{FailsToPlace, IsBack, IsNotBack, IsPlace, IsPlaced, IsPutOr, end_at};
 ghost use Rattle.tree_repair.specs.Runs.{CanRun, Ran, sector_at, size_at};
 ghost use Rattle.tree_repair.specs.Sources.{due};
-ghost use Rattle.tree_repair.specs.Tries.{AreCovered, HasSought, IsCoveredOr, IsMadeOrVain, IsSought, IsTried, listed_number, trial};
+ghost use Rattle.tree_repair.specs.Tries.{AreCovered, HasSought, IsCoveredOr, IsMadeOrVain, IsSought, IsTried, is_hash_back, listed_number, trial};
 ghost use Rattle.tree_repair.specs.Worlds.{IsWorldRead};
 
 use crate::bad::BadBlock;
@@ -24,7 +24,7 @@ use crate::saying::say_mended;
 use crate::seeking::{is_same, is_there};
 use block_device::{BlockDev, DeviceFault};
 use counted_io::Counted;
-use fec_area::{Layout, RestoreFault, restore_block};
+use fec_area::{Layout, LostBlock, RestoreFault, restore_block};
 use std::alloc::{AllocError, Global};
 use std::io::Write;
 use tree_path::TreePath;
@@ -52,7 +52,7 @@ pub(crate) fn restore_bad<D: BlockDev, H: BlockDev, C: BlockDev, P: BlockDev, W:
     requires laid { IsLaidOn layout.now image.old.data_dev image.old.hash_dev }
     ensures parity { IsOnlyRead (P.state parity_dev.old) (P.state parity_dev.new) }
     ensures run { Ran W.contents (job repair.now) image.old image.new writer.old writer.new result }
-    ensures sought { OnOk result (HasSought (job repair.now) layout.now blocks.now image.old image.new (P.state parity_dev.old) (P.state parity_dev.new)) }
+    ensures sought { IfOk result (HasSought (job repair.now) layout.now blocks.now image.old image.new (P.state parity_dev.old) (P.state parity_dev.new)) }
 {
     let lost = covered_of(repair, layout, blocks)?;
     let losses = Losses {
@@ -67,7 +67,9 @@ pub(crate) fn restore_bad<D: BlockDev, H: BlockDev, C: BlockDev, P: BlockDev, W:
     Ok(tree)
 }
 
-fn is_in_tree(tree: bool, back: bool, bad: &BadBlock) -> bool {
+fn is_in_tree(tree: bool, back: bool, bad: &BadBlock) -> bool
+    ensures { result ≡ (tree || is_hash_back back bad.now) }
+{
     tree || back && bad.place.height > 0
 }
 
@@ -237,11 +239,14 @@ fn restore<D: BlockDev, H: BlockDev, C: BlockDev, P: BlockDev>(
     ensures none { IfOk result (IsNotBack losses.now index image.old image.new (P.state parity_dev.old) (P.state parity_dev.new)) }
 {
     let Losses { layout, lost } = losses;
-    match restore_block(
-        alloc,
+    let sought = LostBlock {
         layout,
         lost,
         index,
+    };
+    match restore_block(
+        alloc,
+        &sought,
         &mut image.data,
         &mut image.hash,
         parity_dev,

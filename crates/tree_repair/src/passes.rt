@@ -1,10 +1,10 @@
 //! An image, repaired in passes by its parity too.
-ghost use Rattle.std.specs.Prelude.{◌≤◌, ◌^◌, IfErr, IsTrue, OnOk};
+ghost use Rattle.std.specs.Prelude.{◌≤◌, ◌^◌, IfErr, IfOk, IsTrue, OnOk};
 ghost use Rattle.fec_area.specs.Layouts.{IsLaidOn};
 ghost use Rattle.verity_format.specs.Blocks.{IsOnlyRead};
 ghost use Rattle.tree_repair.specs.Jobs.{job};
 ghost use Rattle.tree_repair.specs.Passes.{EndsInPass, IsPass};
-ghost use Rattle.tree_repair.specs.Repairs.{IsAllowed, IsParityRepair, IsParityUnrepaired};
+ghost use Rattle.tree_repair.specs.Repairs.{IsAllowed, IsParityRepair, IsParityUnrepaired, IsSoughtByParity};
 ghost use Rattle.tree_repair.specs.Runs.{CanRun, Ran};
 
 use crate::bad::BadBlocks;
@@ -38,6 +38,7 @@ pub fn repair_with_parity<D: BlockDev, H: BlockDev, C: BlockDev, P: BlockDev, W:
     ensures parity { IsOnlyRead (P.state parity_dev.old) (P.state parity_dev.new) }
     ensures ok { OnOk result (IsParityRepair W.contents plan image.old image.new writer.old writer.new) }
     ensures err { IfErr result (IsParityUnrepaired W.contents plan image.old image.new writer.old writer.new) }
+    ensures sought { OnOk result (IsSoughtByParity P.state plan layout.now image.old image.new parity_dev.old parity_dev.new) }
 {
     let superblock = superblock_of(image)?;
     let repair = repair_of(alloc, &superblock, &plan, true);
@@ -82,7 +83,7 @@ fn run_pass<D: BlockDev, H: BlockDev, C: BlockDev, P: BlockDev, W: Write>(
     requires laid { IsLaidOn layout.now image.old.data_dev image.old.hash_dev }
     ensures parity { IsOnlyRead (P.state parity_dev.old) (P.state parity_dev.new) }
     ensures run { Ran W.contents (job repair.now) image.old image.new writer.old writer.new result }
-    ensures pass { OnOk result (IsPass (job repair.now) layout.now image.old image.new (P.state parity_dev.old) (P.state parity_dev.new)) }
+    ensures pass { IfOk result (IsPass (job repair.now) layout.now image.old image.new (P.state parity_dev.old) (P.state parity_dev.new)) }
 {
     let mut bad = BadBlocks::new(repair.alloc, true);
     repair_heights(repair, image, &mut bad, writer)?;

@@ -6,9 +6,8 @@ use Rattle.std.proofs.lemmas.Slice.Eq.{bytes_eq-Decides}
 use Rattle.tree_shape.specs.Digests.{digest, digest_in}
 use Rattle.tree_shape.specs.Shape.{ShapeRecord, levels, slot, ancestor}
 use Rattle.hash_tree.specs.Chain.{ChainRecord, HangsFrom, IsGood}
-use Rattle.hash_tree.specs.Difference.{IsCollision}
 use Rattle.tree_path.specs.Laws.{Collide}
-use Rattle.tree_path.specs.Path.{PathRecord, IsPathOf, LeadsTo, block_of, digest_on}
+use Rattle.tree_path.specs.Path.{PathRecord, LeadsTo, block_of, digest_on}
 use Rattle.tree_path.proofs.lemmas.PathLemmas.{digest_on-below, digest_on-top}
 
 pub same-or : (xs ys : List ℕ) → (xs ≡ ys) ⊎ (xs ≢ ys)

@@ -1,6 +1,5 @@
 -- What a path leads to, and one hash block more of it.
-use Rattle.std.proofs.Common.{◌≡◌, ◌≢◌, ◌≤◌, ◌<◌, ◌+◌, ◌-◌, ◌*◌, ◌/◌, ◌==◌, ℕ, zero, suc, Bool, true, false, cond, IsTrue, List, [], length, get_or, All, refl, sym, ap, ◌∙◌, subst, arith, inl, inr, get_or-set_other, get_or-set_same}
-use Rattle.std.specs.Prelude.{slice_set}
+use Rattle.std.proofs.Common.{◌≡◌, ◌≢◌, ◌≤◌, ◌<◌, ◌+◌, ◌-◌, ◌*◌, ◌/◌, ◌==◌, ℕ, suc, Bool, true, false, cond, IsTrue, List, [], refl, sym, ap, ◌∙◌, subst, arith, inl, inr, get_or-set_other, get_or-set_same}
 use Rattle.std.specs.Str.{bytes_eq}
 use Rattle.std.proofs.lemmas.Bool.{eq-eqb, ne_eqb, cases_lt, false≢true}
 use Rattle.std.proofs.lemmas.Slice.Eq.{bytes_eq-Decides}
@@ -8,8 +7,8 @@ use Rattle.block_device.specs.Device.{Device}
 use Rattle.tree_shape.specs.Digests.{digest, digest_in}
 use Rattle.tree_shape.specs.Shape.{ShapeRecord, levels, slot, ancestor, position}
 use Rattle.verity_format.specs.Blocks.{IsFullRead, block_at}
-use Rattle.tree_path.specs.Path.{PathRecord, IsPathOf, LeadsTo, AreStored, block_of, digest_on, stored_block, stored_digest}
-use Rattle.tree_path.specs.Steps.{Steps, steps, IsDown, IsStepLoaded}
+use Rattle.tree_path.specs.Path.{PathRecord, LeadsTo, AreStored, block_of, digest_on, stored_block, stored_digest}
+use Rattle.tree_path.specs.Steps.{steps, IsDown, IsKeptAbove, IsStepLoaded, IsUnloaded}
 use Rattle.tree_path.proofs.lemmas.DeviceLemmas.{full_read-none, full_read-then, steady-then}
 
 module _ (p : PathRecord) (i m : ℕ) where
@@ -135,6 +134,18 @@ module _ (old mid new : PathRecord) (d dm d' : Device) (index from l : ℕ) (low
   pub down-bad : good ≡ false → digest new.salt (block_of new l) ≢ digest_on new index (l + 1)
   down-bad e same =
       false≢true (sym e ∙ loaded.test ∙ (bytes_eq-Decides (digest mid.salt loaded.block) (digest_on mid index (l + 1))).1 (sym here-digest ∙ same ∙ above (l + 1) (omega arith)))
+
+-- the next one couldn't be read
+pub kept-unloaded : (old mid new : PathRecord) (d dm d' : Device) (index from good level l : ℕ) → l < from → IsDown (steps old mid d dm index from) good level → IsUnloaded (steps mid new dm d' index l)
+    → IsKeptAbove (steps old new d d' index from)
+kept-unloaded old mid new d dm d' index from good level l low down un = record {
+  same = record {
+    shape_is = ap (λ (p : PathRecord). p.shape) un.is ∙ down.same.shape_is;
+    salt_is = ap (λ (p : PathRecord). p.salt) un.is ∙ down.same.salt_is;
+    root_is = ap (λ (p : PathRecord). p.root) un.is ∙ down.same.root_is;
+  };
+  kept = λ k le. ap (λ (p : PathRecord). block_of p k) un.is ∙ get_or-set_other mid.blocks l k un.block [] (λ e. omega (arith, e, le, low)) ∙ down.kept k le;
+}
 
 -- ---- what was read down from a level
 

@@ -8,13 +8,13 @@ pub loop-other-init : goal.loop-other-init
 loop-other-init c =
     let rounds = c.rounds-rounds.result in
     rw (c.in_ok-push.ensures.items, c.new-places.ensures.items)
-    (placed-none c.args.layout.now c.args.lost.now c.args.index (c.args.index / rounds) (ap (λ (n : ℕ). c.args.index / n) c.rounds-rounds.ensures.value) c.requires.layout c.requires.index)
+    (placed-none c.args.sought.now.layout.now c.args.sought.now.lost.now c.args.sought.now.index (c.args.sought.now.index / rounds) (ap (λ (n : ℕ). c.args.sought.now.index / n) c.rounds-rounds.ensures.value) c.requires.layout c.requires.index)
 
 pub loop-other-preserved : goal.loop-other-preserved
 loop-other-preserved c =
-    let l = c.args.layout.now in
-    let lost = c.args.lost.now in
-    let index = c.args.index in
+    let l = c.args.sought.now.layout.now in
+    let lost = c.args.sought.now.lost.now in
+    let index = c.args.sought.now.index in
     let n = c.loop-other.other-index in
     let other = slice_index lost n in
     let items = c.loop-other.places.items in

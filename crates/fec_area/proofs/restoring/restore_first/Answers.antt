@@ -108,3 +108,13 @@ returns-clause-first g c one other third =
     let restored = subst (λ (xs : List ℕ). AreRestored l a.image b.image round xs places sums) at (c.in_ok-restore_blocks.ensures.restored one other) in
     first-restored l a.image b.image round (block_at image (round_bytes l) round) places sums bytes c.requires.some (c.take_column.auto.column ∙ c.restore_blocks.auto.block ∙ c.requires.can.block_is)
     c.take_column.ensures restored
+
+pub returns-in_err-read-clause-sure : goal.returns-in_err-read-clause-sure
+returns-in_err-read-clause-sure g c never =
+    let p = err_from_is_err_and c.from_residual.result c.from_residual.ensures.1 in
+    rw p.1 (c.in_err-read.ensures.sure never.2)
+
+pub returns-in_err-restore_blocks-clause-sure : goal.returns-in_err-restore_blocks-clause-sure
+returns-in_err-restore_blocks-clause-sure g c never =
+    let p = err_from_is_err_and c.from_residual-in_err-restore_blocks.result c.from_residual-in_err-restore_blocks.ensures.1 in
+    rw p.1 (c.in_err-restore_blocks.ensures.sure (never.0, never.1))

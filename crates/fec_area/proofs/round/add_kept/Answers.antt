@@ -1,6 +1,5 @@
-use Rattle.std.proofs.Common.{◌≡◌, ◌∙◌, ℕ, length, sym, subst, true, false, IsTrue}
+use Rattle.std.proofs.Common.{◌∙◌, ℕ, sym, subst}
 use Rattle.std.proofs.lemmas.Result.{on_ok_weaker}
-use Rattle.fec_area.specs.Asking.{is_among}
 use Rattle.fec_area.specs.Rounds.{AreProductsAdded}
 use Rattle.fec_area.proofs.AskingLemmas.{among-at, kept-asked, lost-asked}
 use Rattle.fec_area.proofs.PlaceLemmas.{place-lost}

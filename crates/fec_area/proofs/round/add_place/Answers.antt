@@ -1,5 +1,6 @@
 use Rattle.std.proofs.Common.{◌≡◌, ◌+◌, ◌*◌, ◌/◌, ◌%◌, ◌<◌, ◌≤◌, ℕ, length, subst, ap, ◌∙◌, arith, bit_xor}
 use Rattle.std.specs.Prelude.{slice_index}
+use Rattle.std.proofs.lemmas.Result.{err_from_is_err_and}
 use Rattle.reed_solomon.specs.Field.{field_product}
 use Rattle.fec_area.specs.Layouts.{covered, covered_blocks, code_rounds}
 use Rattle.fec_area.proofs.AskingLemmas.{asked-at, past-asked}
@@ -54,3 +55,8 @@ returns-clause-added g c one other =
       sums = λ m lt. added m lt ∙ ap (λ bytes. bit_xor (slice_index old m) (field_product (slice_index products (first + m % count)) (slice_index bytes (m / count)))) is;
       bytes = λ k. subst (λ bytes. slice_index bytes k < 256) is (c.read_covered.ensures.fits k);
     }
+
+pub returns-in_err-read_covered-clause-sure : goal.returns-in_err-read_covered-clause-sure
+returns-in_err-read_covered-clause-sure g c never =
+    let p = err_from_is_err_and c.from_residual.result c.from_residual.ensures.1 in
+    rw p.1 (c.in_err-read_covered.ensures.sure never)

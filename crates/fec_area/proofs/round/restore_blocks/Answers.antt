@@ -6,7 +6,7 @@ use Rattle.fec_area.specs.Asking.{kept_at, sectors_on_data, sectors_on_hash, sum
 use Rattle.fec_area.specs.Layouts.{codeword}
 use Rattle.fec_area.specs.Rounds.{AreProductsAdded}
 use Rattle.fec_area.proofs.AskingLemmas.{asked-all, both-some, places-more, places-none}
-use Rattle.fec_area.proofs.CallLemmas.{read-none, read-then, unfailed-none, unfailed-then, one_failed-then, laid-then, image-then}
+use Rattle.fec_area.proofs.CallLemmas.{read-none, read-then, unfailed-none, unfailed-then, one_failed-then, laid-then, never-then, image-then}
 use Rattle.fec_area.proofs.PlaceLemmas.{place-fits, products-added}
 use Rattle.fec_area.proofs.RoundLemmas.{AreSummed, column-more, message-more, summed-none, summed-restored}
 use Rattle.fec_area.proofs.SumLemmas.{sum-le}
@@ -138,3 +138,8 @@ slice_bounds-add_products-end g c =
     let l = c.args.gap.now.code.layout.now in
     let last = place-fits (255 - l.roots + c.loop-k.k) (length c.args.gap.now.places.now) (omega (arith, c.requires.laid.layout.few, c.loop-k-test.true)) in
     omega (arith, last, c.requires.products_are.len)
+
+pub returns-in_err-add_kept-clause-sure : goal.returns-in_err-add_kept-clause-sure
+returns-in_err-add_kept-clause-sure g c never =
+    let p = err_from_is_err_and c.from_residual.result c.from_residual.ensures.1 in
+    rw p.1 (c.in_err-add_kept.ensures.sure (never-then c.loop-place.invariant.read never))

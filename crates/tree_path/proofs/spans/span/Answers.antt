@@ -1,4 +1,4 @@
-use Rattle.std.proofs.Common.{◌≤◌, ◌<◌, ◌^◌, arith, ap, subst}
+use Rattle.std.proofs.Common.{◌≤◌, ◌<◌, ◌^◌, arith}
 use Rattle.tree_shape.specs.Shape.{per_block}
 use Rattle.tree_path.proofs.lemmas.SpanLemmas.{power-least}
 use Rattle.tree_path.proofs.spans.span.Goals as goal

@@ -1,4 +1,5 @@
 use Rattle.std.proofs.Common.{◌-◌, ◌*◌, ◌/◌, ℕ, arith, ap, inl, inr, subst}
+use Rattle.std.proofs.lemmas.Bool.{false≢true}
 use Rattle.tree_shape.specs.Shape.{ShapeRecord, levels}
 use Rattle.verity_format.specs.Image.{tree_sectors}
 use Rattle.tree_path.specs.Steps.{HasReadAtMost}
@@ -27,7 +28,7 @@ returns-in-Ok-Some-clause-way g c =
     c.in_ok-path.ensures c.levels-top.ensures (rw c.in-Ok-Some.field-0-is at c.in-Ok-Some.ensures.ok))
 
 pub returns-in-Err-clause-way : goal.returns-in-Err-clause-way
-returns-in-Err-clause-way g c = inl c.in-Err.ensures.fault
+returns-in-Err-clause-way g c = inl (c.in-Err.ensures.fault, λ sure. false≢true (c.in-Err.ensures.sure sure))
 
 pub returns-in-Ok-None-clause-asked : goal.returns-in-Ok-None-clause-asked
 returns-in-Ok-None-clause-asked g c =

@@ -1,4 +1,4 @@
-use Rattle.std.proofs.Common.{refl, subst}
+use Rattle.std.proofs.Common.{◌+◌, Bool, refl, subst, sym, take}
 use Rattle.std.proofs.lemmas.List.{take_all}
 use Rattle.tree_path.proofs.lemmas.DeviceLemmas.{only_read-none, only_read-then}
 use Rattle.tree_repair.specs.Jobs.{job}
@@ -14,7 +14,7 @@ pub returns-in_err-lost-clause-run : goal.returns-in_err-lost-clause-run
 returns-in_err-lost-clause-run g c = ended-from c.from_residual.result _ c.from_residual.ensures.1 (ends-read (world-none c.args.image.now))
 
 pub each-init : goal.each-init
-each-init g c = record { sought = (refl, refl); parity = only_read-none (g.P.BlockDev.state c.args.parity_dev.now); run = has-none }
+each-init g c = record { sought = (refl, (refl, refl)); parity = only_read-none (g.P.BlockDev.state c.args.parity_dev.now); run = has-none }
 
 pub restore_block_at-requires-clause-can : goal.restore_block_at-requires-clause-can
 restore_block_at-requires-clause-can g c = can-later c.each.invariant.run c.requires.can
@@ -24,8 +24,11 @@ restore_block_at-requires-clause-laid g c = laid-later c.each.invariant.run c.re
 
 pub each-preserved : goal.each-preserved
 each-preserved g c = record {
-  sought = sought-next (job c.args.repair.now) c.args.layout.now c.in_ok-lost.lost.items c.args.blocks.now c.each.bad-index _ c.args.image.now c.each.image c.restore_block_at.new.image
-      (g.P.BlockDev.state c.args.parity_dev.now) (g.P.BlockDev.state c.each.parity_dev) (g.P.BlockDev.state c.restore_block_at.new.parity_dev) c.in_ok-back.back c.each-test.true c.each.invariant.sought c.in_ok-back.ensures.sought;
+  sought = subst (λ (tree : Bool). AreSought (job c.args.repair.now) c.args.layout.now c.in_ok-lost.lost.items (take (c.each.bad-index + 1) c.args.blocks.now) c.args.image.now c.restore_block_at.new.image
+      (g.P.BlockDev.state c.args.parity_dev.now) (g.P.BlockDev.state c.restore_block_at.new.parity_dev) tree)
+      (sym c.is_in_tree-tree.ensures)
+      (sought-next (job c.args.repair.now) c.args.layout.now c.in_ok-lost.lost.items c.args.blocks.now c.each.bad-index _ c.args.image.now c.each.image c.restore_block_at.new.image
+      (g.P.BlockDev.state c.args.parity_dev.now) (g.P.BlockDev.state c.each.parity_dev) (g.P.BlockDev.state c.restore_block_at.new.parity_dev) c.each.tree c.in_ok-back.back c.each-test.true c.each.invariant.sought c.in_ok-back.ensures.sought);
   parity = only_read-then c.each.invariant.parity c.restore_block_at.ensures.parity;
   run = has-then c.each.invariant.run c.in_ok-back.ensures.run;
 }
@@ -46,6 +49,6 @@ pub returns-clause-sought : goal.returns-clause-sought
 returns-clause-sought g c = record {
   lost = c.in_ok-lost.lost.items;
   are = c.in_ok-lost.ensures;
-  sought = subst (λ xs. AreSought (job c.args.repair.now) c.args.layout.now c.in_ok-lost.lost.items xs c.args.image.now c.each.image (g.P.BlockDev.state c.args.parity_dev.now) (g.P.BlockDev.state c.each.parity_dev))
+  sought = subst (λ xs. AreSought (job c.args.repair.now) c.args.layout.now c.in_ok-lost.lost.items xs c.args.image.now c.each.image (g.P.BlockDev.state c.args.parity_dev.now) (g.P.BlockDev.state c.each.parity_dev) c.each.tree)
       (take_all c.each.bad-index c.args.blocks.now c.each-test.false) c.each.invariant.sought;
 }

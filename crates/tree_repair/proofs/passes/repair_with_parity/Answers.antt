@@ -2,7 +2,7 @@ use Rattle.std.proofs.Common.{inl, true, ap}
 use Rattle.tree_path.proofs.lemmas.DeviceLemmas.{only_read-none}
 use Rattle.tree_repair.specs.Jobs.{job}
 use Rattle.tree_repair.specs.Runs.{Job}
-use Rattle.tree_repair.proofs.RepairLemmas.{can-begin, err-from, whole-err, whole-ok}
+use Rattle.tree_repair.proofs.RepairLemmas.{can-begin, err-from, whole-err, whole-ok, whole-sought}
 use Rattle.tree_repair.proofs.RunLemmas.{laid-read}
 use Rattle.tree_repair.proofs.passes.repair_with_parity.Goals as goal
 
@@ -36,3 +36,8 @@ pub returns-clause-err : goal.returns-clause-err
 returns-clause-err g c =
     whole-err c.in_ok-superblock.superblock c.args.plan true (job c.repair_of-repair.result) c.args.image.now c.superblock_of.new.image c.repair_of-repair.ensures.job c.superblock_of.ensures.read
     c.in_ok-superblock.ensures.ok c.run_passes.new.image (g.W.Write.contents c.args.writer.now.inner) (g.W.Write.contents c.run_passes.new.writer.inner) c.run_passes.result c.run_passes.ensures.run
+
+pub returns-clause-sought : goal.returns-clause-sought
+returns-clause-sought g c =
+    whole-sought c.in_ok-superblock.superblock c.args.plan (job c.repair_of-repair.result) c.args.layout.now c.args.image.now c.superblock_of.new.image c.run_passes.new.image
+    (g.P.BlockDev.state c.args.parity_dev.now) (g.P.BlockDev.state c.run_passes.new.parity_dev) c.run_passes.result c.repair_of-repair.ensures.job c.superblock_of.ensures.read c.in_ok-superblock.ensures.ok c.repair_of-repair.ensures.valid c.run_passes.ensures.asks

@@ -1,5 +1,9 @@
+use Rattle.std.proofs.Common.{◌-◌, ◌∙◌, ℕ, arith, subst, sym}
+use Rattle.std.proofs.lemmas.Bool.{false≢true}
 use Rattle.tree_path.proofs.lemmas.DeviceLemmas.{only_read-then}
-use Rattle.tree_repair.proofs.PassLemmas.{pass-first, pass-later}
+use Rattle.tree_repair.specs.Jobs.{job}
+use Rattle.tree_repair.specs.Passes.{ArePasses}
+use Rattle.tree_repair.proofs.PassLemmas.{passes-first, passes-next}
 use Rattle.tree_repair.proofs.RunLemmas.{can-later, ended-from, has-then, laid-later}
 use Rattle.tree_repair.proofs.passes.run_passes.Goals as goal
 
@@ -10,7 +14,7 @@ pub returns-in_err-again-clause-run : goal.returns-in_err-again-clause-run
 returns-in_err-again-clause-run g c = ended-from c.from_residual.result _ c.from_residual.ensures.1 c.in_err-again.ensures.run
 
 pub passes-init : goal.passes-init
-passes-init g c = record { parity = c.run_pass.ensures.parity; run = c.in_ok-again.ensures.run; asks = pass-first c.in_ok-again.ensures.pass }
+passes-init g c = record { parity = c.run_pass.ensures.parity; run = c.in_ok-again.ensures.run; passes = subst (λ (n : ℕ). ArePasses (job c.args.repair.now) c.args.layout.now n c.args.image.now c.run_pass.new.image (g.P.BlockDev.state c.args.parity_dev.now) (g.P.BlockDev.state c.run_pass.new.parity_dev) c.in_ok-again.again) (omega arith) (passes-first c.in_ok-again.ensures.pass); few = omega arith }
 
 pub run_pass-requires-in-passes-clause-can : goal.run_pass-requires-in-passes-clause-can
 run_pass-requires-in-passes-clause-can g c = can-later c.passes.invariant.run c.requires.can
@@ -22,7 +26,9 @@ pub passes-preserved : goal.passes-preserved
 passes-preserved g c = record {
   parity = only_read-then c.passes.invariant.parity c.run_pass-in-passes.ensures.parity;
   run = has-then c.passes.invariant.run c.in_ok-again-2.ensures.run;
-  asks = pass-later c.passes.invariant.run c.passes.invariant.parity c.in_ok-again-2.ensures.pass;
+  passes = subst (λ (n : ℕ). ArePasses (job c.args.repair.now) c.args.layout.now n c.args.image.now c.run_pass-in-passes.new.image (g.P.BlockDev.state c.args.parity_dev.now) (g.P.BlockDev.state c.run_pass-in-passes.new.parity_dev) c.in_ok-again-2.again)
+      (omega (arith, c.passes.invariant.few, c.if-left-gt0.true)) (passes-next c.passes.invariant.run c.passes.invariant.parity c.passes.invariant.passes c.passes-test.true c.in_ok-again-2.ensures.pass);
+  few = omega (arith, c.passes.invariant.few);
 }
 
 pub returns-in_err-again-2-clause-parity : goal.returns-in_err-again-2-clause-parity
@@ -38,7 +44,13 @@ pub returns-after-passes-clause-run : goal.returns-after-passes-clause-run
 returns-after-passes-clause-run g c = c.passes.invariant.run
 
 pub returns-after-passes-clause-asks : goal.returns-after-passes-clause-asks
-returns-after-passes-clause-asks g c = c.passes.invariant.asks
+returns-after-passes-clause-asks g c = record {
+  count = c.args.layout.now.hash_blocks - c.passes.left;
+  again = c.passes.again;
+  passes = c.passes.invariant.passes;
+  few = omega arith;
+  over = λ again. absurd (false≢true (sym c.passes-test.false ∙ again));
+}
 
 pub returns-else-left-gt0-clause-parity : goal.returns-else-left-gt0-clause-parity
 returns-else-left-gt0-clause-parity g c = c.passes.invariant.parity
@@ -47,4 +59,10 @@ pub returns-else-left-gt0-clause-run : goal.returns-else-left-gt0-clause-run
 returns-else-left-gt0-clause-run g c = c.passes.invariant.run
 
 pub returns-else-left-gt0-clause-asks : goal.returns-else-left-gt0-clause-asks
-returns-else-left-gt0-clause-asks g c = c.passes.invariant.asks
+returns-else-left-gt0-clause-asks g c = record {
+  count = c.args.layout.now.hash_blocks - c.passes.left;
+  again = c.passes.again;
+  passes = c.passes.invariant.passes;
+  few = omega arith;
+  over = λ again. omega (arith, c.if-left-gt0.false, c.passes.invariant.few);
+}

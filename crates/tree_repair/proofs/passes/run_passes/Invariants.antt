@@ -1,7 +1,7 @@
-use Rattle.std.proofs.Common.{true}
+use Rattle.std.proofs.Common.{◌-◌, ◌≤◌, true}
 use Rattle.verity_format.specs.Blocks.{IsOnlyRead}
 use Rattle.tree_repair.specs.Jobs.{job}
-use Rattle.tree_repair.specs.Passes.{EndsInPass}
+use Rattle.tree_repair.specs.Passes.{ArePasses}
 use Rattle.tree_repair.specs.Runs.{HasRun}
 use Rattle.tree_repair.proofs.passes.run_passes.Given as goal
 
@@ -10,7 +10,8 @@ abbrev pub invariant-passes : goal.invariant-passes
 invariant-passes g l = record {
   parity : IsOnlyRead (g.P.BlockDev.state l.fn.parity_dev) (g.P.BlockDev.state l.parity_dev);
   run : HasRun (job l.fn.repair) l.fn.image l.image (g.W.Write.contents l.fn.writer.inner) (g.W.Write.contents l.writer.inner) true;
-  asks : EndsInPass (job l.fn.repair) l.fn.layout l.fn.image l.image (g.P.BlockDev.state l.fn.parity_dev) (g.P.BlockDev.state l.parity_dev);
+  passes : ArePasses (job l.fn.repair) l.fn.layout (l.fn.layout.hash_blocks - l.left) l.fn.image l.image (g.P.BlockDev.state l.fn.parity_dev) (g.P.BlockDev.state l.parity_dev) l.again;
+  few : l.left ≤ l.fn.layout.hash_blocks;
 }
 
 abbrev pub decreases-passes : goal.decreases-passes

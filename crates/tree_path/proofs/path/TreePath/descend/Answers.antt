@@ -1,10 +1,11 @@
-use Rattle.std.proofs.Common.{◌≡◌, ◌-◌, ◌+◌, ◌*◌, ◌/◌, ◌<◌, ℕ, suc, sym, arith, subst, true, false, add-one}
+use Rattle.std.proofs.Common.{◌≡◌, ◌-◌, ◌+◌, ◌*◌, ◌/◌, ◌<◌, ℕ, suc, sym, arith, subst, add-one}
+use Rattle.std.proofs.lemmas.Result.{err_from_is_err_and}
 use Rattle.block_device.specs.Device.{Device}
 use Rattle.tree_path.specs.Path.{PathRecord}
 use Rattle.tree_shape.specs.Shape.{ShapeRecord}
 use Rattle.tree_path.specs.Steps.{HasReadAtMost, IsDown, steps}
-use Rattle.tree_path.proofs.lemmas.DeviceLemmas.{at_most-fewer, at_most-more}
-use Rattle.tree_path.proofs.lemmas.PathLemmas.{down-bad, down-good, down-read}
+use Rattle.tree_path.proofs.lemmas.DeviceLemmas.{at_most-fewer, at_most-more, failed-then}
+use Rattle.tree_path.proofs.lemmas.PathLemmas.{down-bad, down-good, down-read, kept-unloaded}
 use Rattle.tree_path.proofs.path.TreePath.descend.Goals as goal
 
 pub returns-then-not-branch-clause-ok : goal.returns-then-not-branch-clause-ok
@@ -80,3 +81,18 @@ pub returns-clause-asked : goal.returns-clause-asked
 returns-clause-asked g c =
     at_most-fewer (g.H.BlockDev.state c.args.device.now) (g.H.BlockDev.state c.levels.device) (c.args.self.now.shape.hash_block / 512) (c.args.from - c.levels.level) (c.args.from - c.args.to)
     (omega (arith, c.levels.invariant.low)) c.levels.invariant.asked
+
+pub returns-in_err-load-clause-fault : goal.returns-in_err-load-clause-fault
+returns-in_err-load-clause-fault g c =
+    let p = err_from_is_err_and c.from_residual.result c.from_residual.ensures.1 in
+    rw p.1
+    (failed-then (g.H.BlockDev.state c.args.device.now) (g.H.BlockDev.state c.levels.device) (g.H.BlockDev.state c.load.new.device) c.levels.invariant.down.full.failures c.in_err-load.ensures.fault.fault.failed)
+
+pub returns-in_err-load-clause-kept : goal.returns-in_err-load-clause-kept
+returns-in_err-load-clause-kept g c =
+    let l : ℕ = c.levels.level - 1 in
+    let low : l < c.args.from = omega (arith, c.levels-test.true, c.levels.invariant.high) in
+    let p = err_from_is_err_and c.from_residual.result c.from_residual.ensures.1 in
+    rw p.1
+    (kept-unloaded c.args.self.now c.levels.self c.load.new.self (g.H.BlockDev.state c.args.device.now) (g.H.BlockDev.state c.levels.device) (g.H.BlockDev.state c.load.new.device) c.args.index c.args.from
+    c.levels.level c.levels.level l low c.levels.invariant.down c.in_err-load.ensures.fault)

@@ -1,8 +1,7 @@
-use Rattle.std.proofs.Common.{◌≡◌, ◌≤◌, ◌<◌, ℕ, arith, ap, sym, ◌∙◌, length}
+use Rattle.std.proofs.Common.{◌<◌, arith, ap, sym, ◌∙◌, length}
 use Rattle.std.proofs.lemmas.List.{length-map}
 use Rattle.tree_shape.specs.Digests.{digest_in}
 use Rattle.tree_shape.specs.Shape.{levels}
-use Rattle.tree_path.specs.Path.{digest_on}
 use Rattle.tree_path.specs.Seen.{seen_path}
 use Rattle.tree_path.proofs.MemoryLemmas.{read-is, read-sized}
 use Rattle.tree_path.proofs.lemmas.PathLemmas.{digest_on-below, digest_on-top}

@@ -1,17 +1,16 @@
-use Rattle.std.proofs.Common.{◌≡◌, ◌≢◌, ◌≤◌, ◌<◌, ◌+◌, ◌/◌, ℕ, List, Vec, Global, arith, ap, refl, sym, subst, ◌∙◌, [], length, get_or, get_or-set_same, get_or-set_other, map}
+use Rattle.std.proofs.Common.{◌≡◌, ◌≢◌, ◌<◌, ◌+◌, ◌/◌, ℕ, List, Vec, Global, arith, ap, refl, sym, subst, ◌∙◌, [], length, get_or, get_or-set_same, get_or-set_other}
 use Rattle.std.specs.Prelude.{slice_set}
 use Rattle.std.specs.Str.{bytes_eq}
 use Rattle.std.specs.Vec.{with_items}
+use Rattle.std.proofs.lemmas.Result.{err_from_is_err_and}
 use Rattle.std.proofs.lemmas.List.{length-map, with_items_is}
-use Rattle.block_device.specs.Device.{Device}
 use Rattle.tree_shape.specs.Digests.{digest}
-use Rattle.tree_shape.specs.Shape.{levels, ancestor, position, area_end}
+use Rattle.tree_shape.specs.Shape.{ancestor, position, area_end}
 use Rattle.tree_shape.proofs.lemmas.ShapeFactLemmas.{levels-few}
 use Rattle.verity_format.specs.Blocks.{IsBlockRead}
 use Rattle.tree_path.specs.Path.{IsPath, PathRecord, digest_on}
 use Rattle.tree_path.specs.Seen.{seen_path}
-use Rattle.tree_path.specs.Steps.{IsStepLoaded, steps}
-use Rattle.tree_path.proofs.MemoryLemmas.{bytes_of, path-put, put-is, read-is, read-sized, with_block}
+use Rattle.tree_path.proofs.MemoryLemmas.{bytes_of, path-put, put-is, read-sized}
 use Rattle.tree_path.proofs.lemmas.DeviceLemmas.{block-size, block-inside}
 use Rattle.tree_path.proofs.lemmas.PathLemmas.{digest_on-same}
 use Rattle.tree_path.proofs.path.TreePath.load.Goals as goal
@@ -116,3 +115,22 @@ returns-in_err-read_block-clause-asked g c =
     let sized : length v.items ≡ s.hash_block = read-sized blocks s.hash_block c.args.level v c.self.invariant.sized c.index_mut.ensures.value inside in
     let size : length c.deref_mut.result.now ≡ s.hash_block = ap length c.deref_mut.ensures.value ∙ sized in
     rw (← c.self.view_is) (rw size at c.read_block.ensures.asked)
+
+pub returns-in_err-read_block-clause-fault : goal.returns-in_err-read_block-clause-fault
+returns-in_err-read_block-clause-fault g c =
+    let s = c.self.inside.shape in
+    let blocks = c.self.inside.blocks.items in
+    let v : Vec ℕ Global = c.index_mut.result.now in
+    let b : List ℕ = c.read_block.new.block in
+    let l : ℕ = c.args.level in
+    let low = rw (← c.self.view_is) at c.requires.level in
+    let inside : l < length blocks = omega (arith, low, c.self.invariant.count, length-map blocks (λ b. b.items)) in
+    let long : length b ≡ v.len = c.read_block.auto.block ∙ ap length c.deref_mut.ensures.value ∙ sym v.ok.0 in
+    let put : bytes_of (slice_set blocks l (with_items v b)) ≡ slice_set (bytes_of blocks) l b = put-is blocks l v b long in
+    let p = err_from_is_err_and c.from_residual.result c.from_residual.ensures.1 in
+    rw (p.1, ← c.self.view_is) (record {
+      block = b;
+      inside = omega (arith, inside, length-map blocks (λ b. b.items));
+      is = ap (λ (bs : List (List ℕ)). record { shape = s; salt = c.self.inside.salt; root = c.self.inside.root; blocks = bs }) put;
+      fault = c.in_err-read_block.ensures.fault;
+    })

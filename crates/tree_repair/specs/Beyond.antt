@@ -1,0 +1,99 @@
+-- Why a block stays lost where parity is asked for it.
+use Rattle.std.specs.Prelude.{◌≡◌, ◌⊎◌, ℕ, ◌+◌, ◌<◌, ◌≤◌, true, List, [], ◌∷◌}
+use Rattle.block_device.specs.Device.{Device}
+use Rattle.fec_area.specs.declared.layout.Layout.{Layout}
+use Rattle.fec_area.specs.Layouts.{parity_sectors}
+use Rattle.fec_area.specs.Restoring.{lost_count}
+use Rattle.fec_area.specs.Rounds.{AllNeverFail}
+use Rattle.tree_shape.specs.Shape.{ShapeRecord, ancestor, levels}
+use Rattle.tree_path.specs.Path.{PathRecord, digest_on}
+use Rattle.tree_survey.specs.Surveys.{IsWay}
+use Rattle.verity_format.specs.Superblock.{shape_of}
+use Rattle.verity_format.specs.Blocks.{IsOnlyRead}
+use Rattle.tree_repair.specs.declared.mending.Mended.{Mended}
+use Rattle.tree_repair.specs.declared.mending.Mended.TheVariants as mended
+use Rattle.tree_repair.specs.declared.repair.Plan.{Plan}
+use Rattle.tree_repair.specs.Coverage.{IsVisitAt}
+use Rattle.tree_repair.specs.Parity.{IsCoveredAt}
+use Rattle.tree_repair.specs.Repairs.{SeeksByParity, job_of}
+use Rattle.tree_repair.specs.Runs.{Job, Visit, VisitsAll}
+use Rattle.tree_repair.specs.Tries.{IsBroughtBack, IsCutOff, IsGoodBehind, IsMadeOther, IsUncovered, Trial, trial}
+use Rattle.tree_repair.specs.Worlds.{RepairWorld}
+
+-- ---- blocks that needn't be sought by parity
+
+-- it is good, or was found elsewhere or made again
+abbrev pub IsHad : Mended → Type 0
+IsHad mended.Good = Unit {0}
+IsHad (mended.Copy k) = Unit {0}
+IsHad mended.Remade = Unit {0}
+IsHad mended.Parity = Unit {0}
+IsHad mended.Lost = ⊥
+
+-- one of these visits was to the block of that height above data block i, and had it
+abbrev pub IsHadIn : ShapeRecord → ℕ → ℕ → List Visit → Type 0
+IsHadIn s h i [] = ⊥
+IsHadIn s h i (v ∷ more) = (IsVisitAt s h i v × IsHad v.mended) ⊎ IsHadIn s h i more
+
+-- ---- blocks that are sought by parity
+
+-- Covered block k can't be made again: with it more blocks of its round are lost than the code has roots, or there is less
+-- parity than the code needs, or what is made of the others and the parity has another digest.
+abbrev pub IsRoundBeyond : Job → PathRecord → ℕ → ℕ → Trial → ℕ → Type 0
+IsRoundBeyond j p h i t k =
+    (t.layout.roots < lost_count t.layout t.lost k) ⊎ ((t.parity_dev.size < parity_sectors t.layout) ⊎ IsMadeOther j.tree.salt (digest_on p i h) t k)
+
+-- good hash blocks lead to a block, and parity doesn't cover it, or can't make it again
+pub record IsBeyondParity (j : Job) (h i : ℕ) (t : Trial) : Type 0 where
+  pub p : PathRecord
+  pub way : IsWay j.tree i h p
+  pub vain : IsUncovered j.tree.shape t.layout h i ⊎ ((k : ℕ) × (IsCoveredAt j.tree.shape t.layout h i k × IsRoundBeyond j p h i t k))
+
+-- what comes of a block that is sought: it comes back, or stands there by now, or a hash block above it isn't good, or it is beyond
+-- parity
+abbrev pub IsOutcome : Job → ℕ → ℕ → Trial → Type 0
+IsOutcome j h i t = IsBroughtBack j h i t.w t.w' ⊎ (IsGoodBehind j h i t.w ⊎ (IsCutOff j.tree i h t.w.hash_dev ⊎ IsBeyondParity j h i t))
+
+-- ---- when it was so
+
+-- a part of a run from one world to another: blocks were visited before it and behind it
+pub record IsPart (j : Job) (w a b w' : RepairWorld) : Type 0 where
+  pub earlier : List Visit
+  pub later : List Visit
+  pub before : VisitsAll j earlier w a
+  pub behind : VisitsAll j later b w'
+
+-- When its turn came a hash block above it wasn't good: one above a block beside it, which has the same hash blocks above.
+pub record IsUnderBad (j : Job) (h i : ℕ) (w w' : RepairWorld) : Type 0 where
+  pub beside : ℕ
+  pub same : ancestor j.tree.shape (h + 1) beside ≡ ancestor j.tree.shape (h + 1) i
+  pub a : RepairWorld
+  pub b : RepairWorld
+  pub part : IsPart j w a b w'
+  pub cut : IsCutOff j.tree beside h a.hash_dev
+
+-- It was sought, where these covered blocks count as lost. Beside is the data block beneath it by which it was.
+pub record IsSoughtIn (j : Job) (l : Layout) (lost : List ℕ) (h i : ℕ) (w w' : RepairWorld) (p : Device) : Type 0 where
+  pub beside : ℕ
+  pub same : ancestor j.tree.shape h beside ≡ ancestor j.tree.shape h i
+  pub a : RepairWorld
+  pub b : RepairWorld
+  pub q : Device
+  pub q' : Device
+  pub part : IsPart j w a b w'
+  pub parity_read : IsOnlyRead p q
+  pub outcome : IsOutcome j h beside (trial l lost a b q q')
+
+-- ---- the law
+
+-- what came of a block in a pass with these visits
+abbrev pub IsSettled : Job → Layout → List ℕ → List Visit → ℕ → ℕ → RepairWorld → RepairWorld → Device → Type 0
+IsSettled j l lost visits h i w w' p = IsHadIn j.tree.shape h i visits ⊎ (IsUnderBad j h i w w' ⊎ IsSoughtIn j l lost h i w w' p)
+
+-- Over devices that never fail each block of the tree was good or found when the last pass came to it, or came back by parity,
+-- or a hash block above it isn't good, or it is beyond parity.
+abbrev pub WhatStaysLostIsBeyondParity : Type 0
+WhatStaysLostIsBeyondParity =
+    (plan : Plan) → (l : Layout) → (w w' : RepairWorld) → (p p' : Device) → (seeks : SeeksByParity plan l w w' p p') → AllNeverFail w.data_dev w.hash_dev p
+    → (h i : ℕ) → h ≤ levels (shape_of seeks.s) → i < (shape_of seeks.s).blocks
+    → let passes = seeks.ends.passes in IsSettled (job_of seeks.s plan true) l passes.pass.sought.lost passes.pass.visits h i passes.last w' passes.last_parity
