@@ -65,7 +65,7 @@ way-digest t p i h c way chain =
     (subst (λ (s : ShapeRecord). (digest p.salt (chain_block_below c.path c.content (levels s - h)) ≡ digest_on p i h) ⊎ Collide p.salt) way.is.shape_is (path-digest p i h c way.leads few chain.index good))
 
 -- so one of the same digest is that block
-way-good : (t : Tree) (p : PathRecord) (i h : ℕ) (bytes : List ℕ) (c : ChainRecord) → IsWay t i h p → IsChain t i c → digest t.salt bytes ≡ digest_on p i h → (bytes ≡ block_of_height t c h) ⊎ Collide t.salt
+pub way-good : (t : Tree) (p : PathRecord) (i h : ℕ) (bytes : List ℕ) (c : ChainRecord) → IsWay t i h p → IsChain t i c → digest t.salt bytes ≡ digest_on p i h → (bytes ≡ block_of_height t c h) ⊎ Collide t.salt
 way-good t p i h bytes c way chain same =
     elim (way-digest t p i h c way chain) [
       | inr clash ↦ inr clash
@@ -84,7 +84,7 @@ mended-good j v w w' m c chain =
     way-good j.tree m.visited.p v.index v.height v.bytes c m.visited.way chain (found-good (look_at j m.visited.p v.height v.index w w') v.bytes v.done v.mended m.visited.mended_as m.found)
 
 -- the chain that is formed of the data
-formed-chain : FormedChainsAreGood → (t : Tree) (contents : List (List ℕ)) → AreContents t contents → (i : ℕ) → i < t.shape.blocks → IsChain t i (formed t.shape t.salt contents i)
+pub formed-chain : FormedChainsAreGood → (t : Tree) (contents : List (List ℕ)) → AreContents t contents → (i : ℕ) → i < t.shape.blocks → IsChain t i (formed t.shape t.salt contents i)
 unfolding formed
 formed-chain form t contents are i inside = record {
   index = refl;

@@ -17,4 +17,6 @@ pub mod Tries
 pub mod Noting
 pub mod Coverage
 pub mod Passes
+pub mod Standing
+pub mod Outcomes
 pub mod Beyond

@@ -1,5 +1,5 @@
 -- What comes of a block that is looked at: it is good, or it isn't and was found elsewhere, or it is lost.
-use Rattle.std.specs.Prelude.{◌≡◌, ℕ, ◌/◌, Bool, true, false, IsTrue, List, length}
+use Rattle.std.specs.Prelude.{◌≡◌, ℕ, ◌*◌, ◌/◌, Bool, true, false, IsTrue, List, length}
 use Rattle.block_device.specs.Device.{Device, IsWritten, sectors_of, spliced}
 use Rattle.tree_shape.specs.Digests.{digest}
 use Rattle.verity_format.specs.Blocks.{IsOnlyRead}
@@ -19,8 +19,9 @@ pub record Look : Type 0 where
   pub w : Wanted
   pub write : Bool
 
--- a block of those bytes was written, or the write failed
+-- a block of those bytes, which fill its sectors, was written, or the write failed
 pub record IsBlockPut (old : Device) (first sectors : ℕ) (bytes : List ℕ) (done : Bool) (new : Device) : Type 0 where
+  pub whole : length bytes ≡ 512 * sectors
   pub moved : IsWritten old first sectors done new
   pub image : IsTrue done → IsTrue old.steady → new.image ≡ spliced old.image first (sectors_of sectors bytes)
 

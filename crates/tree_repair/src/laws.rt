@@ -1,6 +1,7 @@
 //! Laws of repairs: each function's contract is the law, and its call gives it.
 ghost use Rattle.tree_repair.specs.Beyond.{WhatStaysLostIsBeyondParity};
 ghost use Rattle.tree_repair.specs.Laws.{MendedBlocksAreFormatted, MendedBlocksAreGood, NoHashBlockIsLost, OtherSectorsStay};
+ghost use Rattle.tree_repair.specs.Standing.{LeftGoodBlocksAreFormatted, LeftGoodBlocksStand, LeftGoodWaysStand, RepairsWriteAll};
 
 use hash_tree::laws::formed_chains_are_good;
 
@@ -26,6 +27,28 @@ pub fn no_hash_block_is_lost()
 /// A sector that is in no block that was mended is as it was.
 pub fn other_sectors_stay()
     ensures { OtherSectorsStay }
+{}
+
+/// A repair that ended well, over steady devices that may be written, has written all that it visited.
+pub fn repairs_write_all()
+    ensures { RepairsWriteAll }
+{}
+
+/// Then a block that one visit left good stands good behind the run.
+pub fn left_good_blocks_stand()
+    ensures { LeftGoodBlocksStand }
+{}
+
+/// It is that of all data whose tree has this root, or two different inputs have one digest.
+pub fn left_good_blocks_are_formatted()
+    ensures { LeftGoodBlocksAreFormatted }
+{
+    formed_chains_are_good()
+}
+
+/// Where a data block and all hash blocks above it were left good each has the digest that stands above it, or again.
+pub fn left_good_ways_stand()
+    ensures { LeftGoodWaysStand }
 {}
 
 /// Where parity was asked, on devices that never fail, each block of the tree was good or found when the last pass came to it, or

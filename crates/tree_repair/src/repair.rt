@@ -10,6 +10,7 @@ ghost use Rattle.tree_repair.specs.Bounds.{IsHashReadAlone, IsRepairWithin};
 ghost use Rattle.tree_repair.specs.Coverage.{IsFromUp};
 ghost use Rattle.tree_repair.specs.Jobs.{job};
 ghost use Rattle.tree_repair.specs.ParityBounds.{LeavesNoted, image_blocks};
+ghost use Rattle.tree_repair.specs.Outcomes.{LeavesWhole, StandsFrom};
 ghost use Rattle.tree_repair.specs.Passes.{Notes};
 ghost use Rattle.tree_repair.specs.Repairs.{IsAllowed, IsNoImageCause, IsRepair, IsUnrepaired, job_of, LooksAtAll};
 ghost use Rattle.tree_repair.specs.Runs.{CanRun, IsWriterCause};
@@ -51,6 +52,7 @@ pub fn repair_image<D: BlockDev, H: BlockDev, C: BlockDev, W: Write>(
     ensures told { IfErr result (IsWriterCause writer.new) }
     ensures within { IsRepairWithin W.contents plan image.old image.new writer.old writer.new result }
     ensures looked { OnOk result (LooksAtAll plan image.old image.new) }
+    ensures whole { OnOk result (LeavesWhole plan image.old image.new) }
 {
     let superblock = superblock_of(image)?;
     let repair = repair_of(alloc, &superblock, &plan, false);
@@ -131,6 +133,7 @@ pub(crate) fn repair_heights<D: BlockDev, H: BlockDev, C: BlockDev, W: Write>(
     ensures told { IfErr result (IsWriterCause writer.new) }
     ensures asked { LeavesWorld (pass_over repair.now.shape) nothing_due image.old image.new }
     ensures few { OnOk result (LeavesNoted (image_blocks repair.now.shape) 0 bad.old bad.new) }
+    ensures whole { OnOk result (StandsFrom (job repair.now) 0 image.old image.new) }
 {
     let mut room = zeros(repair.alloc, ROOM)?;
     let memory = room.as_mut_slice();

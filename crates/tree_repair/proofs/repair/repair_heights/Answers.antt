@@ -7,6 +7,9 @@ use Rattle.tree_repair.specs.Bills.{LeavesWorld, pass_over}
 use Rattle.tree_repair.proofs.BillLemmas.{leaves-end, leaves-none}
 use Rattle.tree_repair.proofs.CountLemmas.{count-down, counts-all, counts_over}
 use Rattle.tree_repair.proofs.HeightLemmas.{heights-next, heights-pass, heights_over}
+use Rattle.tree_repair.specs.Jobs.{job}
+use Rattle.tree_repair.specs.Outcomes.{StandsFrom}
+use Rattle.tree_repair.proofs.OutcomeLemmas.{on_ok-from, stands-next, stands-none}
 use Rattle.tree_repair.proofs.PassLemmas.{noted-ends, noted-fewer, noted-from, noted-none, noted-not, noted-then}
 use Rattle.tree_repair.proofs.RunLemmas.{can-later, ends-read, world-none}
 use Rattle.tree_repair.proofs.repair.repair_heights.Goals as goal
@@ -26,6 +29,7 @@ heights-init g c = record {
       let top : levels s + 1 ≡ c.levels-levels.result + 1 = ap (λ (n : ℕ). n + 1) (sym c.levels-levels.ensures.value) in
       omega (arith, ap (counts_over s) top);
   run = noted-none (λ h i due. omega (arith, due.0, due.1.0, c.levels-levels.ensures.value));
+  whole = stands-none (job c.args.repair.now) (c.levels-levels.result + 1) c.args.image.now (omega (arith, c.levels-levels.ensures.value));
 }
 
 pub repair_height-requires-clause-can : goal.repair_height-requires-clause-can
@@ -52,6 +56,7 @@ heights-preserved g c = record {
         | inl below ↦ inr (omega (arith, below, due.0, c.heights-test.true), (omega arith, due.1.1))
         | inr above ↦ inl (above, due.1)
       ]);
+  whole = stands-next c.heights.height (c.heights.height - 1) (omega (arith, c.heights-test.true)) c.heights.invariant.whole c.in_ok-repair_height.ensures.notes;
 }
 
 pub returns-in_err-repair_height-clause-notes : goal.returns-in_err-repair_height-clause-notes
@@ -74,3 +79,14 @@ returns-clause-asked g c = heights-pass c.args.repair.now.shape c.requires.valid
 
 pub returns-clause-few : goal.returns-clause-few
 returns-clause-few g c = omega (arith, c.heights.invariant.few, counts-all c.args.repair.now.shape)
+
+pub returns-in_err-room-clause-whole : goal.returns-in_err-room-clause-whole
+returns-in_err-room-clause-whole g c = on_ok-from c.from_residual.result _ _ c.from_residual.ensures.1
+
+pub returns-in_err-repair_height-clause-whole : goal.returns-in_err-repair_height-clause-whole
+returns-in_err-repair_height-clause-whole g c = on_ok-from c.from_residual-in_err-repair_height.result _ _ c.from_residual-in_err-repair_height.ensures.1
+
+pub returns-clause-whole : goal.returns-clause-whole
+returns-clause-whole g c =
+    let end : c.heights.height ≡ 0 = omega (arith, c.heights-test.false) in
+    subst (λ (n : ℕ). StandsFrom (job c.args.repair.now) n c.args.image.now c.heights.image) end c.heights.invariant.whole

@@ -6,6 +6,7 @@ use Rattle.tree_repair.proofs.HeightLemmas.{heights_over}
 use Rattle.tree_repair.specs.Coverage.{IsFromUp}
 use Rattle.tree_repair.specs.Jobs.{job}
 use Rattle.tree_repair.specs.ParityBounds.{LeavesNoted}
+use Rattle.tree_repair.specs.Outcomes.{StandsFrom}
 use Rattle.tree_repair.specs.Passes.{HasNoted}
 use Rattle.tree_repair.proofs.repair.repair_heights.Given as goal
 
@@ -15,6 +16,7 @@ invariant-heights g l = record {
   asked : LeavesWorld (heights_over l.fn.repair.shape (levels l.fn.repair.shape + 1)) (heights_over l.fn.repair.shape l.height) l.fn.image l.image;
   few : LeavesNoted (counts_over l.fn.repair.shape (levels l.fn.repair.shape + 1)) (counts_over l.fn.repair.shape l.height) l.fn.bad l.bad;
   run : HasNoted (job l.fn.repair) (IsFromUp l.fn.repair.shape l.height) l.fn.image l.image (g.W.Write.contents l.fn.writer.inner) (g.W.Write.contents l.writer.inner) l.fn.bad l.bad None;
+  whole : StandsFrom (job l.fn.repair) l.height l.fn.image l.image;
 }
 
 abbrev pub decreases-heights : goal.decreases-heights

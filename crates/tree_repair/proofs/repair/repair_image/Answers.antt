@@ -7,6 +7,7 @@ use Rattle.tree_repair.specs.Runs.{Job}
 use Rattle.tree_repair.proofs.BillLemmas.{one-pass}
 use Rattle.tree_repair.specs.Jobs.{job}
 use Rattle.tree_repair.proofs.RepairLemmas.{can-begin, err-from, is_err-from, repairs-of, whole-err, whole-looked, whole-ok}
+use Rattle.tree_repair.proofs.OutcomeLemmas.{on_ok-from, whole-repair}
 use Rattle.tree_repair.proofs.repair.repair_image.Goals as goal
 
 pub repair_heights-requires : goal.repair_heights-requires
@@ -47,3 +48,11 @@ pub returns-clause-looked : goal.returns-clause-looked
 returns-clause-looked g c =
     whole-looked c.in_ok-superblock.superblock c.args.plan (job c.repair_of-repair.result) c.args.image.now c.superblock_of.new.image c.repair_heights.new.image
     (g.W.Write.contents c.args.writer.now.inner) (g.W.Write.contents c.repair_heights.new.writer.inner) _ _ c.repair_heights.result c.repair_of-repair.ensures.job c.superblock_of.ensures.read c.in_ok-superblock.ensures.ok c.repair_heights.ensures.notes
+
+pub returns-in_err-superblock-clause-whole : goal.returns-in_err-superblock-clause-whole
+returns-in_err-superblock-clause-whole g c = on_ok-from c.from_residual.result _ _ c.from_residual.ensures.1
+
+pub returns-clause-whole : goal.returns-clause-whole
+returns-clause-whole g c =
+    whole-repair c.in_ok-superblock.superblock c.args.plan c.args.image.now c.superblock_of.new.image c.repair_heights.new.image c.superblock_of.ensures.read c.in_ok-superblock.ensures.ok
+    (job c.repair_of-repair.result) c.repair_heights.result c.repair_of-repair.ensures.job c.repair_heights.ensures.whole

@@ -1,0 +1,207 @@
+-- Behind a pass each block stands good, unless one on its way was lost or the hash device failed.
+use Rattle.std.proofs.Common.{◌≡◌, ◌≤◌, ◌<◌, ◌+◌, ◌-◌, ℕ, suc, true, false, IsTrue, List, [], ◌∷◌, ◌++◌, All, Option, None, Result, Ok, Err, length, refl, sym, ap, ◌∙◌, subst, arith, inl, inr, ◌⊎◌, add-one}
+use Rattle.std.specs.Prelude.{IsErrAnd, OnOk}
+use Rattle.std.proofs.lemmas.Bool.{cases_lt}
+use Rattle.std.proofs.lemmas.List.{append_assoc}
+use Rattle.std.proofs.lemmas.List.Elements.{All-append, All-cons, All-head, All-nil, All-tail}
+use Rattle.block_device.specs.Device.{Device, IsSector, IsWhole}
+use Rattle.tree_shape.specs.Digests.{digest}
+use Rattle.tree_shape.specs.Shape.{ShapeRecord, IsShape, ancestor, levels}
+use Rattle.tree_path.specs.Laws.{Collide}
+use Rattle.tree_path.specs.Path.{digest_on}
+use Rattle.tree_path.proofs.lemmas.DeviceLemmas.{steady-then}
+use Rattle.tree_survey.specs.Causes.{AreImages}
+use Rattle.tree_survey.specs.Surveys.{IsWay}
+use Rattle.verity_format.specs.Blocks.{IsOnlyRead}
+use Rattle.verity_format.specs.Superblock.{SuperRecord}
+use Rattle.tree_repair.specs.declared.bad.BadBlocks.{BadBlocks}
+use Rattle.tree_repair.specs.declared.fault.RepairFault.{RepairFault}
+use Rattle.tree_repair.specs.declared.repair.Plan.{Plan}
+use Rattle.tree_repair.specs.Coverage.{IsFromTo, IsFromUp, IsLookedAt, IsPassedBy, IsVisitedIn}
+use Rattle.tree_repair.specs.Outcomes.{IsExcused, IsLostIn, IsSureImage, LeavesWhole, StandsFrom}
+use Rattle.tree_repair.specs.Parity.{IsPlace}
+use Rattle.tree_repair.specs.Passes.{HasNoted}
+use Rattle.tree_repair.specs.Repairs.{job_of}
+use Rattle.tree_repair.specs.Runs.{IsDone, Job, VisitsAll, Visit}
+use Rattle.tree_repair.specs.Standing.{IsLeftGoodIn, IsSteadyImage, IsWorldSteady, StandsGood}
+use Rattle.tree_repair.specs.Tries.{IsCutOff}
+use Rattle.tree_repair.specs.Worlds.{IsWorldRead, RepairWorld}
+use Rattle.tree_repair.proofs.ApartLemmas.{above-from}
+use Rattle.tree_repair.proofs.RunLemmas.{runs-read, runs-same, runs-then, world-none}
+use Rattle.tree_repair.proofs.StandLemmas.{IsReady, image-ready, lost-or, runs-keep, runs-ready, runs-stand, stands-beside}
+use Rattle.tree_repair.proofs.WayLemmas.{each-or, hash-block, way-stands, ways-agree}
+
+-- ---- among more visits
+
+lost-left : (s : ShapeRecord) (h i : ℕ) (vs us : List Visit) → IsLostIn s h i vs → IsLostIn s h i (vs ++ us)
+lost-left s h i [] us lost = absurd lost
+lost-left s h i (v ∷ more) us (inl here) = inl here
+lost-left s h i (v ∷ more) us (inr later) = inr (lost-left s h i more us later)
+
+lost-right : (s : ShapeRecord) (h i : ℕ) (vs us : List Visit) → IsLostIn s h i us → IsLostIn s h i (vs ++ us)
+lost-right s h i [] us lost = lost
+lost-right s h i (v ∷ more) us lost = inr (lost-right s h i more us lost)
+
+done-left : (vs us : List Visit) → All IsDone (vs ++ us) → All IsDone vs
+done-left [] us done = All-nil IsDone
+done-left (v ∷ more) us done = All-cons IsDone v more (All-head IsDone v (more ++ us) done) (done-left more us (All-tail IsDone v (more ++ us) done))
+
+excused-left : (j : Job) (vs us : List Visit) (i : ℕ) → IsExcused j i vs → IsExcused j i (vs ++ us)
+excused-left j vs us i (inl (h, lost)) = inl (h, lost-left j.tree.shape h i vs us lost)
+excused-left j vs us i (inr clash) = inr clash
+
+-- a visit left the block good, or it was lost
+visited-or : (s : ShapeRecord) (h i : ℕ) (vs : List Visit) → IsVisitedIn s h i vs → IsLeftGoodIn s h i vs ⊎ IsLostIn s h i vs
+visited-or s h i [] visited = absurd visited
+visited-or s h i (v ∷ more) (inl at) = elim (lost-or v.mended) [
+  | inl lost ↦ inr (inl (at, lost))
+  | inr kept ↦ inl (inl (record { at = at; kept = kept }))
+]
+visited-or s h i (v ∷ more) (inr later) = elim (visited-or s h i more later) [
+  | inl left ↦ inl (inr left)
+  | inr lost ↦ inr (inr lost)
+]
+
+-- ---- a block that was passed by
+
+-- where all hash blocks above it stand good none of them isn't
+cut-clash : (j : Job) → IsShape j.tree.shape → (h i k : ℕ) (a : RepairWorld) → IsTrue a.hash_dev.steady → ancestor j.tree.shape (h + 1) k ≡ ancestor j.tree.shape (h + 1) i → (cut : IsCutOff j.tree k h a.hash_dev)
+    → StandsGood j (suc cut.l) i a → Collide j.tree.salt
+cut-clash j valid h i k a steady beside cut stands =
+    let s = j.tree.shape in
+    let l : ℕ = cut.l in
+    let same : ancestor s (suc l) k ≡ ancestor s (suc l) i = above-from s valid (l - h) (h + 1) (suc l) i k (omega (arith, cut.above)) beside in
+    let here : StandsGood j (suc l) k a = stands-beside j valid (suc l) k i a (sym same) stands in
+    let up : suc l ≡ l + 1 = sym (add-one l) in
+    let way : IsWay j.tree k (l + 1) here.p = subst (λ (n : ℕ). IsWay j.tree k n here.p) up here.way in
+    elim (ways-agree j.tree k here.p cut.p (l + 1) way cut.way) [
+      | inr clash ↦ clash
+      | inl one ↦ absurd (cut.bad (ap (digest j.tree.salt) (cut.stand steady ∙ hash-block j l k a) ∙ here.good ∙ ap (digest_on here.p k) up ∙ one))
+    ]
+
+-- ---- one height more
+
+module _ (j : Job) (h : ℕ) (w x y : RepairWorld) (p : StandsFrom j (suc h) w x) (us : List Visit) (runs : VisitsAll j us x y) (done : All IsDone us)
+    (looked : (g i : ℕ) → IsFromTo h 0 j.tree.shape.blocks g i → IsLookedAt j g i us x y) (write : IsTrue j.write) (sure : IsSureImage j.tree.shape w) where
+  image : IsSteadyImage j.tree.shape w
+  image = sure.image
+
+  ready : IsReady j.tree.shape x
+  ready = runs-ready j image.valid write p.visits w x p.runs p.done (image-ready j.tree.shape w image)
+
+  place : (g i : ℕ) → g ≤ levels j.tree.shape → i < j.tree.shape.blocks → IsPlace j.tree.shape g i
+  place g i few inside = record { valid = image.valid; inside = inside; high = few }
+
+  higher : (g i : ℕ) → h < g → g ≤ levels j.tree.shape → i < j.tree.shape.blocks → StandsGood j g i x ⊎ IsExcused j i p.visits
+  higher g i up few inside = p.stand write sure g i (up, (few, inside))
+
+  -- those above stay as they were
+  higher-kept : (g i : ℕ) → h < g → g ≤ levels j.tree.shape → i < j.tree.shape.blocks → StandsGood j g i y ⊎ IsExcused j i (p.visits ++ us)
+  higher-kept g i up few inside = elim (higher g i up few inside) [
+    | inl stands ↦ inl (runs-keep j image.valid write us x y runs done ready g i (place g i few inside) stands)
+    | inr excused ↦ inr (excused-left j p.visits us i excused)
+  ]
+
+  passed-by : (i : ℕ) → i < j.tree.shape.blocks → IsPassedBy j h i us x y → IsExcused j i (p.visits ++ us)
+  passed-by i inside q = elim q.cut [
+    | inl failed ↦ absurd (failed.1 ((runs-same j q.earlier x q.a q.before).hash_same.never_fails ((runs-same j p.visits w x p.runs).hash_same.never_fails sure.sure)))
+    | inr cut ↦
+        let few : suc cut.l ≤ levels j.tree.shape = omega (arith, cut.way.few) in
+        let earlier_done : All IsDone q.earlier = done-left q.earlier q.later (subst (All IsDone) q.are done) in
+        let now : IsReady j.tree.shape q.a = runs-ready j image.valid write q.earlier x q.a q.before earlier_done ready in
+        elim (higher (suc cut.l) i (omega (arith, cut.above)) few inside) [
+          | inr excused ↦ excused-left j p.visits us i excused
+          | inl stands ↦
+              inr (cut-clash j image.valid h i q.beside q.a now.hash_ready.steady q.same cut
+              (runs-keep j image.valid write q.earlier x q.a q.before earlier_done ready (suc cut.l) i (place (suc cut.l) i few inside) stands))
+        ]
+  ]
+
+  height-here : (i : ℕ) → i < j.tree.shape.blocks → StandsGood j h i y ⊎ IsExcused j i (p.visits ++ us)
+  height-here i inside = elim (looked h i (refl, (omega arith, inside))) [
+    | inr passed ↦ inr (passed-by i inside passed)
+    | inl visited ↦ elim (visited-or j.tree.shape h i us visited) [
+      | inl left ↦ inl (runs-stand j image.valid write us x y runs done ready h i inside left)
+      | inr lost ↦ inr (inl (h, lost-right j.tree.shape h i p.visits us lost))
+    ]
+  ]
+
+  height-stands : (g i : ℕ) → IsFromUp j.tree.shape h g i → StandsGood j g i y ⊎ IsExcused j i (p.visits ++ us)
+  height-stands g i due = elim (cases_lt h g) [
+    | inl up ↦ higher-kept g i up due.1.0 due.1.1
+    | inr not ↦
+        let same : h ≡ g = omega (arith, due.0, not) in
+        subst (λ (n : ℕ). StandsGood j n i y ⊎ IsExcused j i (p.visits ++ us)) same (height-here i due.1.1)
+  ]
+
+pub stands-none : (j : Job) (low : ℕ) (w : RepairWorld) → levels j.tree.shape < low → StandsFrom j low w w
+stands-none j low w high = record {
+  visits = [];
+  runs = world-none w;
+  done = All-nil IsDone;
+  stand = λ write image h i due. absurd (omega (arith, high, due.0, due.1.0));
+}
+
+pub stands-next : {j : Job} {w x y : RepairWorld} {old new : Option (List ℕ)} {a b : BadBlocks} (high low : ℕ) → high ≡ suc low → StandsFrom j high w x → HasNoted j (IsFromTo low 0 j.tree.shape.blocks) x y old new a b None → StandsFrom j low w y
+stands-next {j} {w} {x} {y} high low next p q =
+    let from : StandsFrom j (suc low) w x = subst (λ (n : ℕ). StandsFrom j n w x) next p in
+    record {
+      visits = from.visits ++ q.run.visits;
+      runs = runs-then j from.visits q.run.visits w x y from.runs q.run.runs;
+      done = All-append IsDone from.visits q.run.visits from.done (q.run.done refl);
+      stand = height-stands j low w x y from q.run.visits q.run.runs (q.run.done refl) (q.looked refl);
+    }
+
+-- ---- the whole image
+
+whole-behind : (a b : Device) → IsOnlyRead a b → IsTrue a.steady → IsWhole a → IsWhole b
+whole-behind a b read steady whole =
+    record { length = ap length (read.image steady) ∙ whole.length ∙ sym read.same.size; sectors = subst (All IsSector) (sym (read.image steady)) whole.sectors }
+
+steady-behind : (a b : RepairWorld) → IsWorldRead a b → IsWorldSteady a → IsWorldSteady b
+steady-behind a b read steady = record {
+  data_whole = whole-behind a.data_dev b.data_dev read.data_read steady.data_steady steady.data_whole;
+  hash_whole = whole-behind a.hash_dev b.hash_dev read.hash_read steady.hash_steady steady.hash_whole;
+  data_steady = steady-then read.data_read.same steady.data_steady;
+  hash_steady = steady-then read.hash_read.same steady.hash_steady;
+}
+
+module _ (s : SuperRecord) (plan : Plan) (w x y : RepairWorld) (read : IsWorldRead w x) (images : AreImages w.data_dev w.hash_dev s) where
+  steady-image : IsWorldSteady w → IsSteadyImage (job_of s plan false).tree.shape x
+  steady-image steady = record {
+    valid = images.from.carried.valid.shape;
+    steady = steady-behind w x read steady;
+    data_fits = omega (arith, images.data_fits, read.data_read.same.size);
+    tree_fits = omega (arith, images.tree_fits, read.hash_read.same.size);
+  }
+
+  sure-image : IsWorldSteady w → IsTrue w.hash_dev.never_fails → IsSureImage (job_of s plan false).tree.shape x
+  sure-image steady sure = record { image = steady-image steady; sure = read.hash_read.same.never_fails sure }
+
+  whole-of : StandsFrom (job_of s plan false) 0 x y → LeavesWhole plan w y
+  whole-of p =
+      let j : Job = job_of s plan false in
+      record {
+        s = s;
+        images = images;
+        visits = p.visits;
+        runs = runs-read j p.visits w x y read p.runs;
+        done = p.done;
+        good = λ write steady sure i inside.
+            elim (each-or (λ (h : ℕ). StandsGood j h i y) (IsExcused j i p.visits) (suc (levels j.tree.shape)) (λ h few. p.stand write (sure-image steady sure) h i (omega arith, (omega (arith, few), inside)))) [
+              | inr excused ↦ inr excused
+              | inl all ↦ elim (way-stands j i y (λ h few. all h (omega (arith, few)))) [
+                | inl good ↦ inl good
+                | inr clash ↦ inr (inr clash)
+              ]
+            ];
+      }
+
+  pub whole-repair : (j : Job) (r : Result (Unit {0}) RepairFault) → j ≡ job_of s plan false → OnOk r (StandsFrom j 0 x y) → OnOk r (LeavesWhole plan w y)
+  whole-repair j (Ok done) same p = whole-of (subst (λ (n : Job). StandsFrom n 0 x y) same p)
+  whole-repair j (Err e) same p = tt
+
+-- nothing is said of a fault that is handed on
+pub on_ok-from : {T E : Type 0} (r : Result T E) (P : E → Type 0) (Q : Type 0) → IsErrAnd r P → OnOk r Q
+on_ok-from (Ok x) P Q is = absurd is
+on_ok-from (Err e) P Q is = tt
