@@ -18,19 +18,21 @@ use Rattle.repair_commands.specs.declared.fault.ParityRepairFault.TheVariants.{T
 use Rattle.repair_commands.specs.declared.opening.Opened.{Opened}
 use Rattle.repair_commands.specs.declared.parity.Parity.{Parity}
 use Rattle.repair_commands.specs.Commands.{GivesBackImages, ending_fault, plan_of, surveyed, world_of}
-use Rattle.repair_commands.specs.Mends.{HalfMends, MendsWhole}
+use Rattle.repair_commands.specs.Mends.{HalfMends, MendsInPasses, MendsWhole}
 use Rattle.repair_commands.specs.Openings.{FailsToOpenCopies, OpensAll}
 use Rattle.repair_commands.specs.Pairs.{Places}
 use Rattle.repair_commands.specs.Parity.{FailsToOpenParity, IsUnlaid, LaysOutParity, OpensParity}
 
 -- ---- of devices
 
--- the parity was laid out, and the image gone over by it too
+-- The parity was laid out, and the image gone over by it too; of the passes more is said, from behind the reading for the layout.
 pub record MendsByParity (plan : Plan) (parity_dev : Device) (roots : ℕ) (w w' : RepairWorld) (old new : Option (List ℕ)) : Type 0 where
   pub layout : Layout
   pub read_dev : Device
   pub lays : LaysOutParity w.data_dev w.hash_dev parity_dev roots read_dev layout
   pub mends : MendsWhole plan true w w' old new
+  pub parity_dev' : Device
+  pub passes : MendsInPasses plan layout parity_dev parity_dev' (record w { hash_dev = read_dev }) w' old new
 
 -- it isn't gone over to its end, or not all is on the media: good blocks alone were written all the same
 pub record EndsHalf (plan : Plan) (w w' : RepairWorld) (old new : Option (List ℕ)) (fault : ParityRepairFault) : Type 0 where

@@ -12,7 +12,7 @@ use Rattle.tree_repair.specs.declared.repair.Plan.{Plan}
 use Rattle.tree_repair.specs.Worlds.{RepairWorld, repair_world}
 use Rattle.repair_commands.specs.declared.opening.Opened.{Opened}
 use Rattle.repair_commands.specs.declared.pair.Parts.{Parts}
-use Rattle.repair_commands.specs.Mends.{HalfMends, MendsWhole}
+use Rattle.repair_commands.specs.Mends.{HalfMends, MendsInOnePass}
 use Rattle.repair_commands.specs.Openings.{FailsToOpenCopies, OpensAll}
 use Rattle.repair_commands.specs.Pairs.{Places}
 
@@ -40,7 +40,7 @@ pub record MendsOpened {S D : Type 0} (w : Calls S D) (p : Places) (o : Opened D
   pub hash_dev : D
   pub data_copies : List D
   pub hash_copies : List D
-  pub mends : MendsWhole (plan_of p root) false (world_of w o) (repair_world (w.state data_dev) (w.state hash_dev) (map w.state data_copies) (map w.state hash_copies)) old new
+  pub mends : MendsInOnePass (plan_of p root) (world_of w o) (repair_world (w.state data_dev) (w.state hash_dev) (map w.state data_copies) (map w.state hash_copies)) old new
   pub back : GivesBackImages p.write w p o.parts data_dev hash_dev
 
 -- the fault with which a repair ends that isn't one to the end

@@ -5,7 +5,7 @@ ghost use Rattle.fec_area.specs.Layouts.{IsLaidOn};
 ghost use Rattle.image_files.specs.Opener.{IsFresh, calls};
 ghost use Rattle.tree_repair.specs.Repairs.{IsAllowed};
 ghost use Rattle.repair_commands.specs.ByParity.{HalfMendsOpenedByParity, IsHalfByParity, IsMendedByParity, IsParityRepairEnd, MendsOpenedByParity, RepairsByParity};
-ghost use Rattle.repair_commands.specs.Mends.{IsMendedHalf, IsMendedWhole};
+ghost use Rattle.repair_commands.specs.Mends.{IsMendedHalf, IsMendedInPasses};
 ghost use Rattle.repair_commands.specs.Pairs.{places_of};
 
 use crate::fault::ParityRepairFault;
@@ -138,7 +138,7 @@ fn mend_with_parity<D: SyncDev, H: SyncDev, C: BlockDev, P: BlockDev, W: Write>(
     requires first { plan.copy_first ≤ 2 ^ 55 }
     requires allowed { IsAllowed plan.write image.old.data_dev image.old.hash_dev }
     requires laid { IsLaidOn layout.now image.old.data_dev image.old.hash_dev }
-    ensures ok { OnOk result (IsMendedWhole W.contents plan true image.old image.new writer.old writer.new) }
+    ensures ok { OnOk result (IsMendedInPasses P.state W.contents plan layout.now image.old image.new parity_dev.old parity_dev.new writer.old writer.new) }
     ensures err { IfErr result (IsMendedHalf W.contents plan true image.old image.new writer.old writer.new) }
 {
     let write = plan.write;

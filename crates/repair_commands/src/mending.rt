@@ -1,7 +1,7 @@
 //! The two devices repaired, and what was written put on their media.
 ghost use Rattle.std.specs.Prelude.{◌≡◌, ◌≤◌, ◌^◌, false, IfErr, IsTrue, OnOk};
 ghost use Rattle.tree_repair.specs.Repairs.{IsAllowed};
-ghost use Rattle.repair_commands.specs.Mends.{IsMendedHalf, IsMendedWhole, IsOnMedium, KeepsBothImages};
+ghost use Rattle.repair_commands.specs.Mends.{IsMendedHalf, IsMendedInOnePass, IsOnMedium, KeepsBothImages};
 
 use block_device::{BlockDev, DeviceFault, SyncDev};
 use counted_io::Counted;
@@ -18,7 +18,7 @@ pub(crate) fn mend<D: SyncDev, H: SyncDev, C: BlockDev, W: Write>(
 ) -> Result<(), RepairFault>
     requires first { plan.copy_first ≤ 2 ^ 55 }
     requires allowed { IsAllowed plan.write image.old.data_dev image.old.hash_dev }
-    ensures ok { OnOk result (IsMendedWhole W.contents plan false image.old image.new writer.old writer.new) }
+    ensures ok { OnOk result (IsMendedInOnePass W.contents plan image.old image.new writer.old writer.new) }
     ensures err { IfErr result (IsMendedHalf W.contents plan false image.old image.new writer.old writer.new) }
 {
     let write = plan.write;

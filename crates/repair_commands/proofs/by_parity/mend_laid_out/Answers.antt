@@ -48,5 +48,7 @@ returns-clause-ok g c =
       layout = c.in_ok-layout.layout;
       read_dev = g.H.BlockDev.state c.lay_out.new.hash_dev;
       lays = c.in_ok-layout.ensures.ok;
-      mends = mends-behind c.args.plan _ _ _ _ c.lay_out.ensures.read c.in_ok-mend_with_parity.ensures.ok;
+      mends = mends-behind c.args.plan _ _ _ _ c.lay_out.ensures.read c.in_ok-mend_with_parity.ensures.ok.mends;
+      parity_dev' = g.P.BlockDev.state c.mend_with_parity.new.parity_dev;
+      passes = c.in_ok-mend_with_parity.ensures.ok;
     })

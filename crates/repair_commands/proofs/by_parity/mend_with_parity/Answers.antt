@@ -1,6 +1,7 @@
 use Rattle.std.proofs.Common.{refl, inl, inr, map, true, subst, sym, None}
 use Rattle.tree_repair.specs.declared.fault.RepairFault.TheVariants.{Image}
-use Rattle.tree_repair.specs.Repairs.{Repairs}
+use Rattle.tree_repair.specs.ParityBounds.{RepairsInPasses}
+use Rattle.tree_repair.specs.Repairs.{Repairs, SeeksByParity}
 use Rattle.tree_repair.specs.Worlds.{RepairWorld, repair_world}
 use Rattle.verity_format.specs.declared.verifying.VerifyFault.TheVariants.{Device as DeviceFailed}
 use Rattle.repair_commands.proofs.EndingLemmas.{err-from}
@@ -28,11 +29,19 @@ pub returns-clause-ok : goal.returns-clause-ok
 returns-clause-ok g c =
     let i = c.image.inside in
     let a = repair_world (g.D.BlockDev.state i.data) (g.H.BlockDev.state i.hash) (map g.C.BlockDev.state i.data_copies.items) (map g.C.BlockDev.state i.hash_copies.items) in
+    let old = g.W.Write.contents c.args.writer.now.inner in
+    let new = g.W.Write.contents c.repair_with_parity.new.writer.inner in
+    let p = g.P.BlockDev.state c.args.parity_dev.now in
+    let q = g.P.BlockDev.state c.repair_with_parity.new.parity_dev in
     record {
-      mid = a;
-      repair = subst (λ (w : RepairWorld). Repairs c.args.plan true c.args.image.now w (g.W.Write.contents c.args.writer.now.inner) (g.W.Write.contents c.repair_with_parity.new.writer.inner) None) (sym c.image.view_is) c.in_ok-repair_with_parity.ensures.ok;
-      kept = c.sync_both.ensures.kept;
-      data_copies_are = refl;
-      hash_copies_are = refl;
-      on_medium = c.in_ok-sync_both.ensures.ok;
+      mends = record {
+        mid = a;
+        repair = subst (λ (w : RepairWorld). Repairs c.args.plan true c.args.image.now w old new None) (sym c.image.view_is) c.in_ok-repair_with_parity.ensures.ok;
+        kept = c.sync_both.ensures.kept;
+        data_copies_are = refl;
+        hash_copies_are = refl;
+        on_medium = c.in_ok-sync_both.ensures.ok;
+      };
+      within = subst (λ (w : RepairWorld). RepairsInPasses c.args.plan c.args.layout.now c.args.image.now w p q old new None) (sym c.image.view_is) (elim c.in_ok-repair_with_parity.ensures.within [ inl none ↦ absurd none.0 | inr runs ↦ runs ]);
+      sought = subst (λ (w : RepairWorld). SeeksByParity c.args.plan c.args.layout.now c.args.image.now w p q) (sym c.image.view_is) c.in_ok-repair_with_parity.ensures.sought;
     }

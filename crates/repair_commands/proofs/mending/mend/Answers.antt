@@ -1,5 +1,7 @@
 use Rattle.std.proofs.Common.{refl, inl, inr, map, false, subst, sym, None}
 use Rattle.tree_repair.specs.declared.fault.RepairFault.TheVariants.{Image}
+use Rattle.tree_repair.specs.Bounds.{RepairsInOnePass}
+use Rattle.tree_repair.specs.Outcomes.{LeavesWhole}
 use Rattle.tree_repair.specs.Repairs.{Repairs}
 use Rattle.tree_repair.specs.Worlds.{RepairWorld, repair_world}
 use Rattle.verity_format.specs.declared.verifying.VerifyFault.TheVariants.{Device as DeviceFailed}
@@ -28,11 +30,17 @@ pub returns-clause-ok : goal.returns-clause-ok
 returns-clause-ok g c =
     let i = c.image.inside in
     let a = repair_world (g.D.BlockDev.state i.data) (g.H.BlockDev.state i.hash) (map g.C.BlockDev.state i.data_copies.items) (map g.C.BlockDev.state i.hash_copies.items) in
+    let old = g.W.Write.contents c.args.writer.now.inner in
+    let new = g.W.Write.contents c.repair_image.new.writer.inner in
     record {
-      mid = a;
-      repair = subst (λ (w : RepairWorld). Repairs c.args.plan false c.args.image.now w (g.W.Write.contents c.args.writer.now.inner) (g.W.Write.contents c.repair_image.new.writer.inner) None) (sym c.image.view_is) c.in_ok-repair_image.ensures.ok;
-      kept = c.sync_both.ensures.kept;
-      data_copies_are = refl;
-      hash_copies_are = refl;
-      on_medium = c.in_ok-sync_both.ensures.ok;
+      mends = record {
+        mid = a;
+        repair = subst (λ (w : RepairWorld). Repairs c.args.plan false c.args.image.now w old new None) (sym c.image.view_is) c.in_ok-repair_image.ensures.ok;
+        kept = c.sync_both.ensures.kept;
+        data_copies_are = refl;
+        hash_copies_are = refl;
+        on_medium = c.in_ok-sync_both.ensures.ok;
+      };
+      within = subst (λ (w : RepairWorld). RepairsInOnePass c.args.plan c.args.image.now w old new None) (sym c.image.view_is) (elim c.in_ok-repair_image.ensures.within [ inl none ↦ absurd none.0 | inr runs ↦ runs ]);
+      whole = subst (λ (w : RepairWorld). LeavesWhole c.args.plan c.args.image.now w) (sym c.image.view_is) c.in_ok-repair_image.ensures.whole;
     }
