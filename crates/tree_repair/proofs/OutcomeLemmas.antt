@@ -2,7 +2,6 @@
 use Rattle.std.proofs.Common.{◌≡◌, ◌≤◌, ◌<◌, ◌+◌, ◌-◌, ℕ, suc, true, false, IsTrue, List, [], ◌∷◌, ◌++◌, All, Option, None, Result, Ok, Err, length, refl, sym, ap, ◌∙◌, subst, arith, inl, inr, ◌⊎◌, add-one}
 use Rattle.std.specs.Prelude.{IsErrAnd, OnOk}
 use Rattle.std.proofs.lemmas.Bool.{cases_lt}
-use Rattle.std.proofs.lemmas.List.{append_assoc}
 use Rattle.std.proofs.lemmas.List.Elements.{All-append, All-cons, All-head, All-nil, All-tail}
 use Rattle.block_device.specs.Device.{Device, IsSector, IsWhole}
 use Rattle.tree_shape.specs.Digests.{digest}
