@@ -23,7 +23,7 @@ is-some (Some r) range is = ap (λ x. Some x) is
 abbrev any_number : ValueRange
 any_number = record { start_inclusive = 0; end_inclusive = usize_max }
 
-pub rule_of-words : (a b c d : Arg) → rule_of a ≡ new_rule (codes "word_rule") → b ≡ record a { num_vals = b.num_vals } → IsSomeAnd b.num_vals (λ r. r ≡ any_number)
+pub rule_of-words : (a b c d : Arg) → rule_of a ≡ new_rule (codes "words") → b ≡ record a { num_vals = b.num_vals } → IsSomeAnd b.num_vals (λ r. r ≡ any_number)
     → c ≡ record b { action = Some Append } → d ≡ record c { trailing_var_arg = true } → rule_of d ≡ word_rule
 rule_of-words a b c d new ranged range acts trails =
     ap rule_of trails ∙ ap (λ (r : Rule). record r { trailing_var_arg = true })

@@ -14,7 +14,7 @@ option_rule o = record (new_rule o.name) { long = Some o.name; aliases = o.other
 
 -- all positional words, of which the first ends the options
 abbrev pub word_rule : Rule
-word_rule = record (new_rule (codes "word_rule")) {
+word_rule = record (new_rule (codes "words")) {
   range = Some (record { start_inclusive = 0; end_inclusive = usize_max });
   action = Some Append;
   trailing_var_arg = true;
