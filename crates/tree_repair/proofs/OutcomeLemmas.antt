@@ -1,5 +1,5 @@
 -- Behind a pass each block stands good, unless one on its way was lost or the hash device failed.
-use Rattle.std.proofs.Common.{◌≡◌, ◌≤◌, ◌<◌, ◌+◌, ◌-◌, ℕ, suc, true, false, IsTrue, List, [], ◌∷◌, ◌++◌, All, Option, None, Result, Ok, Err, length, refl, sym, ap, ◌∙◌, subst, arith, inl, inr, ◌⊎◌, add-one}
+use Rattle.std.proofs.Common.{◌≡◌, ◌≤◌, ◌<◌, ◌+◌, ◌-◌, ℕ, suc, false, IsTrue, List, [], ◌∷◌, ◌++◌, All, Option, None, Result, Ok, Err, length, refl, sym, ap, ◌∙◌, subst, arith, inl, inr, ◌⊎◌, add-one}
 use Rattle.std.specs.Prelude.{IsErrAnd, OnOk}
 use Rattle.std.proofs.lemmas.Bool.{cases_lt}
 use Rattle.std.proofs.lemmas.List.Elements.{All-append, All-cons, All-head, All-nil, All-tail}

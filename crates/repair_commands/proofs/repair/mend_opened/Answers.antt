@@ -1,6 +1,4 @@
-use Rattle.std.proofs.Common.{IsTrue, false, subst, sym}
-use Rattle.tree_repair.specs.Worlds.{RepairWorld}
-use Rattle.repair_commands.specs.Commands.{plan_of, world_of}
+use Rattle.std.proofs.Common.{IsTrue, subst, sym}
 use Rattle.repair_commands.proofs.repair.mend_opened.Goals as goal
 
 pub mend-ended-requires-clause-allowed : goal.mend-ended-requires-clause-allowed
