@@ -15,7 +15,7 @@ use Rattle.verity_format.specs.Blocks.{IsFullRead, IsOnlyRead, block_at}
 use Rattle.verity_format.specs.Image.{tree_sectors}
 use Rattle.verity_format.specs.Superblock.{SuperRecord, shape_of}
 use Rattle.verity_format.specs.Verifying.{IsFirstSector, IsReadFrom}
-use Rattle.repair_commands.specs.Mends.{HalfMends, MendsWhole}
+use Rattle.repair_commands.specs.Mends.{HalfMends, IsUnsyncedCause, MendsWhole}
 
 each-none : (ds : List Device) → AreEachRead ds ds
 each-none ds = record { count = refl; each = λ j inside d. only_read-none _ }
@@ -92,17 +92,17 @@ unrepaired-behind : (plan : Plan) (parity : Bool) (d h h' : Device) (cs es : Lis
 unrepaired-behind plan parity d h h' cs es w' old new fault full (inl (behind, cause)) = inl (read-behind w' full.read behind, cause-behind d h h' w'.hash_dev fault full cause)
 unrepaired-behind plan parity d h h' cs es w' old new fault full (inr repairs) = inr (repairs-behind plan parity w' old new _ full.read repairs)
 
-half-run : (plan : Plan) (parity : Bool) (d h h' : Device) (cs es : List Device) (w' : RepairWorld) (old new : Option (List ℕ)) (fault : RepairFault) → IsFullRead h 1 h'
-    → (IsUnrepairedBy plan parity (repair_world d h' cs es) w' old new fault ⊎ (Repairs plan parity (repair_world d h' cs es) w' old new None × (fault ≡ Image DeviceFailed)))
-    → (IsUnrepairedBy plan parity (repair_world d h cs es) w' old new fault ⊎ (Repairs plan parity (repair_world d h cs es) w' old new None × (fault ≡ Image DeviceFailed)))
-half-run plan parity d h h' cs es w' old new fault full (inl ended) = inl (unrepaired-behind plan parity d h h' cs es w' old new fault full ended)
-half-run plan parity d h h' cs es w' old new fault full (inr (repairs, failed)) = inr (repairs-behind plan parity w' old new _ full.read repairs, failed)
+half-run : (plan : Plan) (parity : Bool) (d h h' : Device) (cs es : List Device) (w' after : RepairWorld) (old new : Option (List ℕ)) (fault : RepairFault) → IsFullRead h 1 h'
+    → (IsUnrepairedBy plan parity (repair_world d h' cs es) w' old new fault ⊎ (Repairs plan parity (repair_world d h' cs es) w' old new None × IsUnsyncedCause plan.write w' after fault))
+    → (IsUnrepairedBy plan parity (repair_world d h cs es) w' old new fault ⊎ (Repairs plan parity (repair_world d h cs es) w' old new None × IsUnsyncedCause plan.write w' after fault))
+half-run plan parity d h h' cs es w' after old new fault full (inl ended) = inl (unrepaired-behind plan parity d h h' cs es w' old new fault full ended)
+half-run plan parity d h h' cs es w' after old new fault full (inr (repairs, failed)) = inr (repairs-behind plan parity w' old new _ full.read repairs, failed)
 
 pub half-behind : (plan : Plan) (parity : Bool) (d h h' : Device) (cs es : List Device) (w' : RepairWorld) (old new : Option (List ℕ)) (fault : RepairFault) → IsFullRead h 1 h'
     → HalfMends plan parity (repair_world d h' cs es) w' old new fault → HalfMends plan parity (repair_world d h cs es) w' old new fault
 half-behind plan parity d h h' cs es w' old new fault full half = record {
   mid = half.mid;
-  run = half-run plan parity d h h' cs es half.mid old new fault full half.run;
+  run = half-run plan parity d h h' cs es half.mid w' old new fault full half.run;
   kept = half.kept;
   data_copies_are = half.data_copies_are;
   hash_copies_are = half.hash_copies_are;

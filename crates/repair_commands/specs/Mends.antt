@@ -1,6 +1,6 @@
 -- What a repair of two devices did, up to their media.
 use Rattle.std.specs.Prelude.{◌≡◌, ◌⊎◌, ℕ, Bool, true, false, IsTrue, List, Option, None}
-use Rattle.block_device.specs.Device.{Device}
+use Rattle.block_device.specs.Device.{Device, HasFailed}
 use Rattle.counted_io.specs.Counted.{CountedRecord}
 use Rattle.fec_area.specs.declared.layout.Layout.{Layout}
 use Rattle.tree_repair.specs.declared.fault.RepairFault.{RepairFault}
@@ -9,7 +9,7 @@ use Rattle.tree_repair.specs.declared.repair.Plan.{Plan}
 use Rattle.tree_repair.specs.Bounds.{RepairsInOnePass}
 use Rattle.tree_repair.specs.Outcomes.{LeavesWhole}
 use Rattle.tree_repair.specs.ParityBounds.{RepairsInPasses}
-use Rattle.tree_repair.specs.Repairs.{IsUnrepairedBy, Repairs, SeeksByParity}
+use Rattle.tree_repair.specs.Repairs.{IsUnrepairedBy, LooksAtAll, Repairs, SeeksByParity}
 use Rattle.tree_repair.specs.Worlds.{RepairWorld}
 use Rattle.verity_format.specs.declared.verifying.VerifyFault.TheVariants.{Device as DeviceFailed}
 
@@ -32,10 +32,11 @@ pub record MendsWhole (plan : Plan) (parity : Bool) (w w' : RepairWorld) (old ne
   pub hash_copies_are : w'.hash_copies ≡ mid.hash_copies
   pub on_medium : IsOnMedium plan.write w'.data_dev w'.hash_dev
 
--- so by copies and what is beneath hash blocks alone: in one pass, and over steady devices each data block is good behind it,
--- unless one on its way was lost
+-- So by copies and what is beneath hash blocks alone: each block was looked at, in one pass. Over steady devices that may be
+-- written, of which the hash device never fails, each data block is good behind it, or one on its way was lost.
 pub record MendsInOnePass (plan : Plan) (w w' : RepairWorld) (old new : Option (List ℕ)) : Type 0 where
   pub mends : MendsWhole plan false w w' old new
+  pub all : LooksAtAll plan w mends.mid old new
   pub within : RepairsInOnePass plan w mends.mid old new None
   pub whole : LeavesWhole plan w mends.mid
 
@@ -45,10 +46,17 @@ pub record MendsInPasses (plan : Plan) (l : Layout) (p p' : Device) (w w' : Repa
   pub within : RepairsInPasses plan l w mends.mid p p' old new None
   pub sought : SeeksByParity plan l w mends.mid p p'
 
+-- what was written isn't all on the media, since a device failed in a sync
+abbrev pub HasFailedInSync : Bool → Device → Device → Device → Device → Type 0
+HasFailedInSync write data_dev hash_dev data_dev' hash_dev' = IsTrue write × (HasFailed data_dev data_dev' ⊎ HasFailed hash_dev hash_dev')
+
+abbrev pub IsUnsyncedCause : Bool → RepairWorld → RepairWorld → RepairFault → Type 0
+IsUnsyncedCause write w w' fault = (fault ≡ Image DeviceFailed) × HasFailedInSync write w.data_dev w.hash_dev w'.data_dev w'.hash_dev
+
 -- Or it wasn't, up to that fault, or not all is on the media, since a device failed: good blocks alone were written all the same.
 pub record HalfMends (plan : Plan) (parity : Bool) (w w' : RepairWorld) (old new : Option (List ℕ)) (fault : RepairFault) : Type 0 where
   pub mid : RepairWorld
-  pub run : IsUnrepairedBy plan parity w mid old new fault ⊎ (Repairs plan parity w mid old new None × (fault ≡ Image DeviceFailed))
+  pub run : IsUnrepairedBy plan parity w mid old new fault ⊎ (Repairs plan parity w mid old new None × IsUnsyncedCause plan.write mid w' fault)
   pub kept : KeepsBothImages mid.data_dev mid.hash_dev w'.data_dev w'.hash_dev
   pub data_copies_are : w'.data_copies ≡ mid.data_copies
   pub hash_copies_are : w'.hash_copies ≡ mid.hash_copies

@@ -1,7 +1,8 @@
 //! The two devices repaired, and what was written put on their media.
-ghost use Rattle.std.specs.Prelude.{◌≡◌, ◌≤◌, ◌^◌, false, IfErr, IsTrue, OnOk};
+ghost use Rattle.std.specs.Prelude.{◌≡◌, ◌≤◌, ◌^◌, false, IfErr, IsTrue, OnErr, OnOk};
+ghost use Rattle.block_device.specs.Device.{HasFailed};
 ghost use Rattle.tree_repair.specs.Repairs.{IsAllowed};
-ghost use Rattle.repair_commands.specs.Mends.{IsMendedHalf, IsMendedInOnePass, IsOnMedium, KeepsBothImages};
+ghost use Rattle.repair_commands.specs.Mends.{HasFailedInSync, IsMendedHalf, IsMendedInOnePass, IsOnMedium, KeepsBothImages};
 
 use block_device::{BlockDev, DeviceFault, SyncDev};
 use counted_io::Counted;
@@ -35,6 +36,7 @@ pub(crate) fn sync_both<D: SyncDev, H: SyncDev>(
 ) -> Result<(), DeviceFault>
     ensures kept { KeepsBothImages (D.state data_dev.old) (H.state hash_dev.old) (D.state data_dev.new) (H.state hash_dev.new) }
     ensures ok { OnOk result (IsOnMedium write (D.state data_dev.new) (H.state hash_dev.new)) }
+    ensures err { OnErr result (HasFailedInSync write (D.state data_dev.old) (H.state hash_dev.old) (D.state data_dev.new) (H.state hash_dev.new)) }
 {
     sync_one(data_dev, write)?;
     sync_one(hash_dev, write)
@@ -44,6 +46,7 @@ pub(crate) fn sync_both<D: SyncDev, H: SyncDev>(
 fn sync_one<D: SyncDev>(device: &mut D, write: bool) -> Result<(), DeviceFault>
     ensures kept { (D.state device.new).image ≡ (D.state device.old).image }
     ensures ok { OnOk result (IsTrue write → (D.state device.new).dirty ≡ false) }
+    ensures err { OnErr result (IsTrue write × HasFailed (D.state device.old) (D.state device.new)) }
 {
     if !write {
         return Ok(());

@@ -82,6 +82,7 @@ pass-of {j} {l} {w} {x} {y} {old} {new} {a} {b} {p} {p'} {hash_came} blocks agai
   visits = noted.run.visits;
   behind = x;
   runs = noted.run.runs;
+  done = noted.run.done refl;
   looked = λ h i high inside. noted.looked refl h i (omega arith, (high, inside));
   hash_came = hash_came;
   sought = subst (λ (l' : List BadBlock). HasSought j l l' x y p p' hash_came) (are ∙ noted.noted refl on ∙ ap (λ (l' : List BadBlock). l' ++ flat_map (bad_of j) noted.run.visits) none) sought;

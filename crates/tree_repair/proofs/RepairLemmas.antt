@@ -17,7 +17,7 @@ use Rattle.tree_repair.specs.Runs.{CanRun, HasRun, Job}
 use Rattle.tree_repair.specs.Worlds.{IsWorldRead, RepairWorld}
 use Rattle.tree_repair.proofs.PassLemmas.{ends-behind}
 use Rattle.tree_repair.proofs.LookLemmas.{looked-behind}
-use Rattle.tree_repair.proofs.RunLemmas.{has-behind, runs-read}
+use Rattle.tree_repair.proofs.RunLemmas.{has-behind}
 
 module _ (s : SuperRecord) (plan : Plan) (parity : Bool) (j : Job) (w b : RepairWorld) (same : j ≡ job_of s plan parity) (read : IsWorldRead w b) (images : AreImages w.data_dev w.hash_dev s) where
   begin-of : IsShape (shape_of s) → IsAllowed plan.write w.data_dev w.hash_dev → plan.copy_first ≤ 2 ^ 55 → CanRun (job_of s plan parity) b
@@ -54,19 +54,16 @@ whole-sought s plan j l w b w' p p' (Ok x) same read images valid ends = ends-of
 whole-sought s plan j l w b w' p p' (Err e) same read images valid ends = tt
 
 -- what was looked at behind the superblock
-looks-of : (s : SuperRecord) (plan : Plan) (j : Job) (w b w' : RepairWorld) (old new : Option (List ℕ)) (x y : BadBlocks) → job_of s plan false ≡ j → IsWorldRead w b → AreImages w.data_dev w.hash_dev s → HasNoted j (IsFromUp j.tree.shape 0) b w' old new x y None → LooksAtAll plan w w'
+looks-of : (s : SuperRecord) (plan : Plan) (j : Job) (w b w' : RepairWorld) (old new : Option (List ℕ)) (x y : BadBlocks) → job_of s plan false ≡ j → IsWorldRead w b → AreImages w.data_dev w.hash_dev s → HasNoted j (IsFromUp j.tree.shape 0) b w' old new x y None → LooksAtAll plan w w' old new
 looks-of s plan j w b w' old new x y same read images noted =
     let here = subst (λ (k : Job). HasNoted k (IsFromUp k.tree.shape 0) b w' old new x y None) (sym same) noted in
     record {
-      s = s;
-      images = images;
-      visits = here.run.visits;
-      runs = runs-read (job_of s plan false) here.run.visits w b w' read here.run.runs;
+      repairs = record { s = s; images = images; run = has-behind read here.run };
       looked = λ h i high inside. looked-behind (job_of s plan false) h i here.run.visits w b w' read (here.looked refl h i (omega arith, (high, inside)));
     }
 
 pub whole-looked : (s : SuperRecord) (plan : Plan) (j : Job) (w b w' : RepairWorld) (old new : Option (List ℕ)) (x y : BadBlocks) (r : Result (Unit {0}) RepairFault) → j ≡ job_of s plan false → IsWorldRead w b → AreImages w.data_dev w.hash_dev s
-    → HasNoted j (IsFromUp j.tree.shape 0) b w' old new x y (result_err r) → OnOk r (LooksAtAll plan w w')
+    → HasNoted j (IsFromUp j.tree.shape 0) b w' old new x y (result_err r) → OnOk r (LooksAtAll plan w w' old new)
 whole-looked s plan j w b w' old new x y (Ok done) same read images noted = looks-of s plan j w b w' old new x y (sym same) read images noted
 whole-looked s plan j w b w' old new x y (Err e) same read images noted = tt
 

@@ -47,8 +47,8 @@ abbrev pub IsVisitedIn : ShapeRecord → ℕ → ℕ → List Visit → Type 0
 IsVisitedIn s h i [] = ⊥
 IsVisitedIn s h i (v ∷ more) = IsVisitAt s h i v ⊎ IsVisitedIn s h i more
 
--- When its turn came, behind some of the visits, a hash block above it wasn't good, or the hash device failed and isn't one that
--- never fails. It was tried with a block beside it, which has the same hash blocks above.
+-- Behind some of the visits a hash block above it wasn't good, or the hash device, which isn't one that never fails, failed in some
+-- read of the tree. It was tried with a block beside it, which has the same hash blocks above.
 pub record IsPassedBy (j : Job) (h i : ℕ) (visits : List Visit) (w w' : RepairWorld) : Type 0 where
   pub earlier : List Visit
   pub later : List Visit

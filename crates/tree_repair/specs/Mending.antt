@@ -19,11 +19,12 @@ pub record Look : Type 0 where
   pub w : Wanted
   pub write : Bool
 
--- a block of those bytes, which fill its sectors, was written, or the write failed
+-- a block of those bytes, which fill its sectors, was written, or the write failed: not so on a device that never fails
 pub record IsBlockPut (old : Device) (first sectors : ℕ) (bytes : List ℕ) (done : Bool) (new : Device) : Type 0 where
   pub whole : length bytes ≡ 512 * sectors
   pub moved : IsWritten old first sectors done new
   pub image : IsTrue done → IsTrue old.steady → new.image ≡ spliced old.image first (sectors_of sectors bytes)
+  pub sure : IsTrue old.never_fails → IsTrue done
 
 -- the same where anything may be written
 abbrev pub IsAllowedPut : Bool → Device → ℕ → ℕ → List ℕ → Bool → Device → Type 0
@@ -71,7 +72,7 @@ pub record IsBlockReplaced (old : Device) (first : ℕ) (w : Wanted) (write : Bo
   pub good : digest w.salt bytes ≡ w.digest_is
   pub put : IsAllowedPut write between first w.sectors bytes done new
 
--- so, by parity that was asked before
+-- the same where parity is named as the source; what parity made isn't said here
 pub record IsFoundByParity (l : Look) (bytes : List ℕ) (done : Bool) : Type 0 where
   pub replaced : IsBlockReplaced l.old l.first l.w l.write bytes done l.new
   pub copies_read : AreEachRead l.copies l.copies'

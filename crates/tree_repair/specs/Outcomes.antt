@@ -35,7 +35,8 @@ pub record IsSureImage (s : ShapeRecord) (w : RepairWorld) : Type 0 where
   pub image : IsSteadyImage s w
   pub sure : IsTrue w.hash_dev.never_fails
 
--- The blocks from some height up were gone over, and no write failed. On such devices that may be written each stands good.
+-- The blocks from some height up were gone over, and no write failed. On such devices that may be written each stands good,
+-- or a block on its way was lost, or two different inputs have one digest.
 pub record StandsFrom (j : Job) (low : ℕ) (w w' : RepairWorld) : Type 0 where
   pub visits : List Visit
   pub runs : VisitsAll j visits w w'

@@ -1,5 +1,5 @@
 -- A pass of a repair by parity: what is noted of its blocks, and that each that is lost is sought.
-use Rattle.std.specs.Prelude.{◌≡◌, ◌<◌, ◌≤◌, ℕ, IsTrue, List, ◌++◌, Option, Result, IsNone, ◌&&◌, zero, suc, Bool, true}
+use Rattle.std.specs.Prelude.{◌≡◌, ◌<◌, ◌≤◌, ℕ, IsTrue, List, ◌++◌, Option, Result, IsNone, ◌&&◌, zero, suc, Bool, true, All}
 use Rattle.std.specs.List.{flat_map}
 use Rattle.std.specs.Result.{result_err}
 use Rattle.block_device.specs.Device.{Device}
@@ -12,7 +12,7 @@ use Rattle.tree_repair.specs.declared.bad.BadBlocks.{BadBlocks}
 use Rattle.tree_repair.specs.declared.fault.RepairFault.{RepairFault}
 use Rattle.tree_repair.specs.Coverage.{IsLookedAt}
 use Rattle.tree_repair.specs.Noting.{bad_blocks, found_of}
-use Rattle.tree_repair.specs.Runs.{HasRun, Job, VisitsAll, Visit}
+use Rattle.tree_repair.specs.Runs.{HasRun, IsDone, Job, VisitsAll, Visit}
 use Rattle.tree_repair.specs.Tries.{HasSought}
 use Rattle.tree_repair.specs.Worlds.{IsWorldRead, RepairWorld}
 
@@ -32,11 +32,12 @@ abbrev pub Notes : {W T : Type 0} → (W → Option (List ℕ)) → Job → (ℕ
 Notes contents j Due w w' a b old new result = HasNoted j Due w w' (contents old.inner) (contents new.inner) a b (result_err result)
 
 -- All blocks were gone over, from the top down, and each that was lost was then sought by parity, where all that aren't good
--- count as lost. It is due again where a hash block came back, and was written.
+-- count as lost; no write failed. It is due again where a hash block came back, and was written.
 pub record IsPass (j : Job) (l : Layout) (w w' : RepairWorld) (p p' : Device) (again : Bool) : Type 0 where
   pub visits : List Visit
   pub behind : RepairWorld
   pub runs : VisitsAll j visits w behind
+  pub done : All IsDone visits
   pub looked : (h i : ℕ) → h ≤ levels j.tree.shape → i < j.tree.shape.blocks → IsLookedAt j h i visits w behind
   pub hash_came : Bool
   pub sought : HasSought j l (flat_map (bad_of j) visits) behind w' p p' hash_came

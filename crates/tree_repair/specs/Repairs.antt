@@ -12,7 +12,7 @@ use Rattle.tree_repair.specs.declared.fault.RepairFault.TheVariants.{Image, Writ
 use Rattle.tree_repair.specs.declared.repair.Plan.{Plan}
 use Rattle.tree_repair.specs.Coverage.{IsLookedAt}
 use Rattle.tree_repair.specs.Passes.{EndsInPass}
-use Rattle.tree_repair.specs.Runs.{HasRun, Job, Visit, VisitsAll}
+use Rattle.tree_repair.specs.Runs.{HasRun, Job}
 use Rattle.tree_repair.specs.Worlds.{IsWorldRead, RepairWorld}
 
 -- that of the tree of a superblock under the plan's root, with parity or without
@@ -38,13 +38,14 @@ IsRepair contents plan w w' old new = Repairs plan false w w' (contents old.inne
 abbrev pub IsParityRepair : {W : Type 0} → (W → Option (List ℕ)) → Plan → RepairWorld → RepairWorld → CountedRecord W → CountedRecord W → Type 0
 IsParityRepair contents plan w w' old new = Repairs plan true w w' (contents old.inner) (contents new.inner) None
 
--- the superblock was read, and each block of its tree was looked at, if good hash blocks led to it
-pub record LooksAtAll (plan : Plan) (w w' : RepairWorld) : Type 0 where
-  pub s : SuperRecord
-  pub images : AreImages w.data_dev w.hash_dev s
-  pub visits : List Visit
-  pub runs : VisitsAll (job_of s plan false) visits w w'
-  pub looked : (h i : ℕ) → h ≤ levels (shape_of s) → i < (shape_of s).blocks → IsLookedAt (job_of s plan false) h i visits w w'
+-- the superblock was read, and the run, whose lines were printed, looked at each block of its tree, if good hash blocks led to it
+pub record LooksAtAll (plan : Plan) (w w' : RepairWorld) (old new : Option (List ℕ)) : Type 0 where
+  pub repairs : Repairs plan false w w' old new None
+  pub looked : (h i : ℕ) → h ≤ levels (shape_of repairs.s) → i < (shape_of repairs.s).blocks → IsLookedAt (job_of repairs.s plan false) h i repairs.run.visits w w'
+
+-- so by a writer before and behind
+abbrev pub IsGoneOver : {W : Type 0} → (W → Option (List ℕ)) → Plan → RepairWorld → RepairWorld → CountedRecord W → CountedRecord W → Type 0
+IsGoneOver contents plan w w' old new = LooksAtAll plan w w' (contents old.inner) (contents new.inner)
 
 -- The superblock was read, and the blocks of its tree were gone over, to the end, in passes in each of which what was found
 -- nowhere was sought by parity.

@@ -1,8 +1,9 @@
 -- Where the bytes of a block are sought, and what a read of them tells.
 use Rattle.std.specs.Prelude.{◌≡◌, ◌≢◌, ◌⊎◌, ℕ, ◌+◌, ◌-◌, ◌/◌, ◌<◌, ◌≤◌, IsTrue, List, length}
 use Rattle.std.specs.List.{concat, slice_index_or}
-use Rattle.block_device.specs.Device.{Device, HasFailed, run_of}
+use Rattle.block_device.specs.Device.{Device, run_of}
 use Rattle.tree_shape.specs.Digests.{digest}
+use Rattle.tree_survey.specs.Failing.{HasFailedRead}
 use Rattle.verity_format.specs.Blocks.{IsOnlyRead}
 
 -- the bytes that should stand somewhere: so many sectors, of that digest
@@ -33,9 +34,9 @@ pub record IsOther (device : Device) (first : ℕ) (w : Wanted) : Type 0 where
   pub other : digest w.salt bytes ≢ w.digest_is
   pub stand : IsTrue device.steady → bytes ≡ bytes_on_device device first w.sectors
 
--- they weren't read there: the device failed, or gave other bytes
+-- they weren't read there: the device failed, and isn't one that never fails, or gave other bytes
 abbrev pub IsBad : Device → ℕ → Wanted → Device → Type 0
-IsBad old first w new = HasFailed old new ⊎ IsOther old first w
+IsBad old first w new = HasFailedRead old new ⊎ IsOther old first w
 
 -- a steady device that can't fail hasn't them there
 abbrev pub IsWithout : Device → ℕ → Wanted → Type 0

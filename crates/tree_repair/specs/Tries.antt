@@ -131,7 +131,7 @@ pub record IsTriedBehind (j : Job) (h i : ℕ) (t : Trial) (back : Bool) : Type 
   pub read : IsWorldRead t.w between
   pub tried : IsTried j h i (record t { w = between }) back
 
--- it isn't in the tree, or a hash block above it isn't good
+-- it isn't in the tree, or a hash block above it isn't good, or the hash device failed and isn't one that never fails
 abbrev pub IsOutOfReach : Job → ℕ → ℕ → Trial → Type 0
 IsOutOfReach j h i t = (IsPlace j.tree.shape h i → ⊥) ⊎ (HasFailedRead t.w.hash_dev t.w'.hash_dev ⊎ IsCutOff j.tree i h t.w.hash_dev)
 

@@ -12,7 +12,7 @@ ghost use Rattle.tree_repair.specs.Jobs.{job};
 ghost use Rattle.tree_repair.specs.ParityBounds.{LeavesNoted, image_blocks};
 ghost use Rattle.tree_repair.specs.Outcomes.{LeavesWhole, StandsFrom};
 ghost use Rattle.tree_repair.specs.Passes.{Notes};
-ghost use Rattle.tree_repair.specs.Repairs.{IsAllowed, IsNoImageCause, IsRepair, IsUnrepaired, job_of, LooksAtAll};
+ghost use Rattle.tree_repair.specs.Repairs.{IsAllowed, IsGoneOver, IsNoImageCause, IsRepair, IsUnrepaired, job_of};
 ghost use Rattle.tree_repair.specs.Runs.{CanRun, IsWriterCause};
 ghost use Rattle.tree_repair.specs.Worlds.{IsWorldRead};
 
@@ -51,7 +51,7 @@ pub fn repair_image<D: BlockDev, H: BlockDev, C: BlockDev, W: Write>(
     ensures err { IfErr result (IsUnrepaired W.contents plan image.old image.new writer.old writer.new) }
     ensures told { IfErr result (IsWriterCause writer.new) }
     ensures within { IsRepairWithin W.contents plan image.old image.new writer.old writer.new result }
-    ensures looked { OnOk result (LooksAtAll plan image.old image.new) }
+    ensures looked { OnOk result (IsGoneOver W.contents plan image.old image.new writer.old writer.new) }
     ensures whole { OnOk result (LeavesWhole plan image.old image.new) }
 {
     let superblock = superblock_of(image)?;

@@ -19,7 +19,7 @@ returns-in_err-sync_both-clause-err g c =
     err-from c.from_residual-in_err-sync_both.result _ (Image DeviceFailed) c.from_residual-in_err-sync_both.ensures.1
     (record {
       mid = a;
-      run = inr (subst (λ (w : RepairWorld). Repairs c.args.plan true c.args.image.now w (g.W.Write.contents c.args.writer.now.inner) (g.W.Write.contents c.repair_with_parity.new.writer.inner) None) (sym c.image.view_is) c.in_ok-repair_with_parity.ensures.ok, refl);
+      run = inr (subst (λ (w : RepairWorld). Repairs c.args.plan true c.args.image.now w (g.W.Write.contents c.args.writer.now.inner) (g.W.Write.contents c.repair_with_parity.new.writer.inner) None) (sym c.image.view_is) c.in_ok-repair_with_parity.ensures.ok, (refl, c.in_err-sync_both.ensures.err));
       kept = c.sync_both.ensures.kept;
       data_copies_are = refl;
       hash_copies_are = refl;

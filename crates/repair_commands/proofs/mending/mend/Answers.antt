@@ -2,7 +2,7 @@ use Rattle.std.proofs.Common.{refl, inl, inr, map, false, subst, sym, None}
 use Rattle.tree_repair.specs.declared.fault.RepairFault.TheVariants.{Image}
 use Rattle.tree_repair.specs.Bounds.{RepairsInOnePass}
 use Rattle.tree_repair.specs.Outcomes.{LeavesWhole}
-use Rattle.tree_repair.specs.Repairs.{Repairs}
+use Rattle.tree_repair.specs.Repairs.{LooksAtAll, Repairs}
 use Rattle.tree_repair.specs.Worlds.{RepairWorld, repair_world}
 use Rattle.verity_format.specs.declared.verifying.VerifyFault.TheVariants.{Device as DeviceFailed}
 use Rattle.repair_commands.proofs.EndingLemmas.{err-from}
@@ -20,7 +20,7 @@ returns-in_err-sync_both-clause-err g c =
     err-from c.from_residual-in_err-sync_both.result _ (Image DeviceFailed) c.from_residual-in_err-sync_both.ensures.1
     (record {
       mid = a;
-      run = inr (subst (λ (w : RepairWorld). Repairs c.args.plan false c.args.image.now w (g.W.Write.contents c.args.writer.now.inner) (g.W.Write.contents c.repair_image.new.writer.inner) None) (sym c.image.view_is) c.in_ok-repair_image.ensures.ok, refl);
+      run = inr (subst (λ (w : RepairWorld). Repairs c.args.plan false c.args.image.now w (g.W.Write.contents c.args.writer.now.inner) (g.W.Write.contents c.repair_image.new.writer.inner) None) (sym c.image.view_is) c.in_ok-repair_image.ensures.ok, (refl, c.in_err-sync_both.ensures.err));
       kept = c.sync_both.ensures.kept;
       data_copies_are = refl;
       hash_copies_are = refl;
@@ -41,6 +41,7 @@ returns-clause-ok g c =
         hash_copies_are = refl;
         on_medium = c.in_ok-sync_both.ensures.ok;
       };
+      all = subst (λ (w : RepairWorld). LooksAtAll c.args.plan c.args.image.now w old new) (sym c.image.view_is) c.in_ok-repair_image.ensures.looked;
       within = subst (λ (w : RepairWorld). RepairsInOnePass c.args.plan c.args.image.now w old new None) (sym c.image.view_is) (elim c.in_ok-repair_image.ensures.within [ inl none ↦ absurd none.0 | inr runs ↦ runs ]);
       whole = subst (λ (w : RepairWorld). LeavesWhole c.args.plan c.args.image.now w) (sym c.image.view_is) c.in_ok-repair_image.ensures.whole;
     }

@@ -1,7 +1,7 @@
 use Rattle.std.proofs.Common.{ap}
 use Rattle.std.proofs.lemmas.Result.{on_ok_weaker}
 use Rattle.block_device.specs.Device.{Device}
-use Rattle.repair_commands.proofs.MendLemmas.{sync-image}
+use Rattle.repair_commands.proofs.MendLemmas.{on_err-weaker, sync-image}
 use Rattle.repair_commands.proofs.mending.sync_one.Goals as goal
 
 pub returns-clause-kept : goal.returns-clause-kept
@@ -9,3 +9,6 @@ returns-clause-kept g c = sync-image (g.D.BlockDev.state c.args.device.now) (g.D
 
 pub returns-clause-ok : goal.returns-clause-ok
 returns-clause-ok g c = on_ok_weaker c.sync.result (λ done write. ap (λ (d : Device). d.dirty) done) c.sync.ensures.ok
+
+pub returns-clause-err : goal.returns-clause-err
+returns-clause-err g c = on_err-weaker c.sync.result (λ fails. (c.if-not-write.false, fails.failed)) c.sync.ensures.err
