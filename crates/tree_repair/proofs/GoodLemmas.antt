@@ -20,7 +20,7 @@ use Rattle.tree_repair.specs.declared.bad.BadBlocks.{BadBlocks}
 use Rattle.tree_repair.specs.declared.mending.Mended.TheVariants as mended
 use Rattle.tree_repair.specs.declared.place.Row.{Row}
 use Rattle.tree_repair.specs.Coverage.{AreDigestsOn, AreGoodFrom, AreThere, IsGoodRow, IsOfRow, IsVisitedIn}
-use Rattle.tree_repair.specs.Passes.{HasNoted, bad_of}
+use Rattle.tree_repair.specs.Passes.{HasNoted, IsGoodThen, bad_of}
 use Rattle.tree_repair.specs.Runs.{IsDone, Job, VisitsAll, Visit, visit_line, visit}
 use Rattle.tree_repair.specs.Worlds.{IsWorldRead, RepairWorld}
 use Rattle.tree_repair.proofs.RunLemmas.{runs-then, world-none}
@@ -117,6 +117,10 @@ good-noted : (j : Job) (i : ℕ) (cs : List (List ℕ)) → flat_map (bad_of j) 
 good-noted j i [] = refl
 good-noted j i (b ∷ more) = good-noted j (i + 1) more
 
+good-then : (j : Job) (i : ℕ) (cs : List (List ℕ)) → All (IsGoodThen j) (good_visits i cs)
+good-then j i [] = All-nil (IsGoodThen j)
+good-then j i (b ∷ more) = All-cons (IsGoodThen j) (visit 0 i mended.Good b true) (good_visits (i + 1) more) refl (good-then j (i + 1) more)
+
 good-in : (s : ShapeRecord) (i : ℕ) (cs : List (List ℕ)) (k : ℕ) → i ≤ k → k < i + length cs → IsVisitedIn s 0 k (good_visits i cs)
 good-in s i [] k from below = absurd (omega (arith, from, below))
 good-in s i (b ∷ more) k from below = elim (cases_eq k i) [
@@ -131,6 +135,8 @@ noted-good {j} {w} {w'} {old} {a} p row read good ways =
     let cs = good.good.contents in
     let vs = good_visits row.first cs in
     let end : (k : ℕ) → row.first ≤ k → k < row.end → k < row.first + length cs = λ k from below. omega (arith, from, below, good.good.count) in
+    let visited : (h i : ℕ) → IsOfRow row h i → IsVisitedIn j.tree.shape h i vs =
+    λ h i due. subst (λ (n : ℕ). IsVisitedIn j.tree.shape n i vs) (sym good.height_is ∙ due.0) (good-in j.tree.shape row.first cs i due.1.0 (end i due.1.0 due.1.1)) in
     record {
       run = record {
         visits = vs;
@@ -145,5 +151,7 @@ noted-good {j} {w} {w'} {old} {a} p row read good ways =
       };
       asked = refl;
       noted = λ ok on. sym (append-nil a.blocks.items) ∙ ap (λ (l : List BadBlock). a.blocks.items ++ l) (sym (good-noted j row.first cs));
-      looked = λ ok h i due. inl (subst (λ (n : ℕ). IsVisitedIn j.tree.shape n i vs) (sym good.height_is ∙ due.0) (good-in j.tree.shape row.first cs i due.1.0 (end i due.1.0 due.1.1)));
+      looked = λ ok h i due. inl (visited h i due);
+      any = λ ok clean. (clean, good-then j row.first cs);
+      passed = λ ok clean. (clean, visited);
     }

@@ -26,3 +26,4 @@ mod StayLemmas
 mod TryLemmas
 mod VisitLemmas
 mod WayLemmas
+mod WholeLemmas

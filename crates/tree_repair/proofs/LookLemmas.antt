@@ -15,12 +15,12 @@ use Rattle.tree_repair.specs.Worlds.{IsWorldRead, RepairWorld}
 use Rattle.tree_repair.proofs.RowLemmas.{per_block-some}
 use Rattle.tree_repair.proofs.RunLemmas.{runs-read, runs-then, world-none}
 
-in-left : (s : ShapeRecord) (h i : ℕ) (vs us : List Visit) → IsVisitedIn s h i vs → IsVisitedIn s h i (vs ++ us)
+pub in-left : (s : ShapeRecord) (h i : ℕ) (vs us : List Visit) → IsVisitedIn s h i vs → IsVisitedIn s h i (vs ++ us)
 in-left s h i [] us at = absurd at
 in-left s h i (v ∷ more) us (inl here) = inl here
 in-left s h i (v ∷ more) us (inr there) = inr (in-left s h i more us there)
 
-in-right : (s : ShapeRecord) (h i : ℕ) (vs us : List Visit) → IsVisitedIn s h i us → IsVisitedIn s h i (vs ++ us)
+pub in-right : (s : ShapeRecord) (h i : ℕ) (vs us : List Visit) → IsVisitedIn s h i us → IsVisitedIn s h i (vs ++ us)
 in-right s h i [] us at = at
 in-right s h i (v ∷ more) us at = inr (in-right s h i more us at)
 

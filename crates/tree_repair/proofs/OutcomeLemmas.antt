@@ -177,7 +177,7 @@ module _ (s : SuperRecord) (plan : Plan) (w x y : RepairWorld) (read : IsWorldRe
   sure-image : IsWorldSteady w → IsTrue w.hash_dev.never_fails → IsSureImage (job_of s plan false).tree.shape x
   sure-image steady sure = record { image = steady-image steady; sure = read.hash_read.same.never_fails sure }
 
-  whole-of : StandsFrom (job_of s plan false) 0 x y → LeavesWhole plan w y
+  pub whole-of : StandsFrom (job_of s plan false) 0 x y → LeavesWhole plan w y
   whole-of p =
       let j : Job = job_of s plan false in
       record {
@@ -195,10 +195,6 @@ module _ (s : SuperRecord) (plan : Plan) (w x y : RepairWorld) (read : IsWorldRe
               ]
             ];
       }
-
-  pub whole-repair : (j : Job) (r : Result (Unit {0}) RepairFault) → j ≡ job_of s plan false → OnOk r (StandsFrom j 0 x y) → OnOk r (LeavesWhole plan w y)
-  whole-repair j (Ok done) same p = whole-of (subst (λ (n : Job). StandsFrom n 0 x y) same p)
-  whole-repair j (Err e) same p = tt
 
 -- nothing is said of a fault that is handed on
 pub on_ok-from : {T E : Type 0} (r : Result T E) (P : E → Type 0) (Q : Type 0) → IsErrAnd r P → OnOk r Q

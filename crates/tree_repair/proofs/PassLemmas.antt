@@ -1,5 +1,5 @@
 -- Runs of which the blocks that aren't good are noted.
-use Rattle.std.proofs.Common.{◌≡◌, ℕ, true, IsTrue, List, [], ◌++◌, Option, None, Some, Result, Ok, Err, refl, sym, ap, ◌∙◌, subst, arith, inl, inr, ◌&&◌, zero, suc, Bool}
+use Rattle.std.proofs.Common.{◌≡◌, ℕ, true, false, IsTrue, List, [], ◌++◌, Option, None, Some, Result, Ok, Err, refl, sym, ap, ◌∙◌, subst, arith, inl, inr, ◌&&◌, zero, suc, Bool}
 use Rattle.std.specs.Prelude.{◌⊎◌, IsErrAnd}
 use Rattle.std.specs.List.{flat_map}
 use Rattle.std.specs.Io.KnownBytes.{Appends}
@@ -7,6 +7,7 @@ use Rattle.std.specs.Result.{result_err}
 use Rattle.std.proofs.lemmas.Bool.{true≢false}
 use Rattle.std.proofs.lemmas.Grind.{flat_map-append}
 use Rattle.std.proofs.lemmas.List.{append_assoc, append-nil}
+use Rattle.std.proofs.lemmas.List.Elements.{All-append, All-cons, All-nil}
 use Rattle.block_device.specs.Device.{Device}
 use Rattle.verity_format.specs.Blocks.{IsOnlyRead}
 use Rattle.tree_path.proofs.lemmas.DeviceLemmas.{only_read-none}
@@ -15,18 +16,34 @@ use Rattle.tree_repair.specs.declared.bad.BadBlock.{BadBlock}
 use Rattle.tree_repair.specs.declared.bad.BadBlocks.{BadBlocks}
 use Rattle.tree_repair.specs.declared.fault.RepairFault.{RepairFault}
 use Rattle.tree_repair.specs.Coverage.{IsFromUp, IsLookedAt, IsVisitAt}
-use Rattle.tree_repair.specs.Passes.{AreDuePasses, ArePasses, EndsInPass, HasNoted, IsPass, bad_of}
+use Rattle.tree_repair.specs.Noting.{IsGoodBefore, found_of, passed_some}
+use Rattle.tree_repair.specs.Passes.{AreDuePasses, ArePasses, EndsInPass, HasNoted, IsGoodThen, IsPass, bad_of}
 use Rattle.tree_repair.specs.Runs.{HasRun, IsVisited, Job, Visit, visit_line}
 use Rattle.tree_repair.specs.Tries.{HasSought}
 use Rattle.tree_repair.specs.Worlds.{IsWorldRead, RepairWorld}
-use Rattle.tree_repair.proofs.LookLemmas.{looked-behind, looked-left, looked-right}
+use Rattle.tree_repair.proofs.LookLemmas.{in-left, in-right, looked-behind, looked-left, looked-right}
 use Rattle.tree_repair.proofs.RunLemmas.{has-behind, has-none, has-one, has-read, has-then, runs-read, world-none, world-then}
 
 pub noted-none : {j : Job} {Due : ℕ → ℕ → Type 0} {w : RepairWorld} {old : Option (List ℕ)} {a : BadBlocks} → ((h i : ℕ) → Due h i → ⊥) → HasNoted j Due w w old old a a None
-noted-none {j} {Due} {w} {old} {a} none = record { run = has-none; asked = refl; noted = λ end on. sym (append-nil a.blocks.items); looked = λ end h i due. absurd (none h i due) }
+noted-none {j} {Due} {w} {old} {a} none = record {
+  run = has-none;
+  asked = refl;
+  noted = λ end on. sym (append-nil a.blocks.items);
+  looked = λ end h i due. absurd (none h i due);
+  any = λ end clean. (clean, All-nil (IsGoodThen j));
+  passed = λ end clean. (clean, λ h i due. absurd (none h i due));
+}
 
-pub noted-read : {j : Job} {Due : ℕ → ℕ → Type 0} {w w' : RepairWorld} {old : Option (List ℕ)} {a : BadBlocks} → IsWorldRead w w' → ((h i : ℕ) → Due h i → IsLookedAt j h i [] w w') → HasNoted j Due w w' old old a a None
-noted-read {j} {Due} {w} {w'} {old} {a} read looked = record { run = has-read read; asked = refl; noted = λ end on. sym (append-nil a.blocks.items); looked = λ end. looked }
+-- blocks that were passed by
+pub noted-read : {j : Job} {Due : ℕ → ℕ → Type 0} {w w' : RepairWorld} {old : Option (List ℕ)} {a b : BadBlocks} → b ≡ passed_some a → IsWorldRead w w' → ((h i : ℕ) → Due h i → IsLookedAt j h i [] w w') → HasNoted j Due w w' old old a b None
+noted-read {j} {Due} {w} {w'} {old} {a} {b} same read looked = subst (λ (x : BadBlocks). HasNoted j Due w w' old old a x None) (sym same) (record {
+  run = has-read read;
+  asked = refl;
+  noted = λ end on. sym (append-nil a.blocks.items);
+  looked = λ end. looked;
+  any = λ end clean. (clean, All-nil (IsGoodThen j));
+  passed = λ end clean. absurd (true≢false clean);
+})
 
 pub noted-then : {j : Job} {Due First Next : ℕ → ℕ → Type 0} {w x y : RepairWorld} {old now new : Option (List ℕ)} {a b c : BadBlocks} {fault : Option RepairFault} → HasNoted j First w x old now a b None → HasNoted j Next x y now new b c fault
     → ((h i : ℕ) → Due h i → First h i ⊎ Next h i) → HasNoted j Due w y old new a c fault
@@ -42,27 +59,62 @@ noted-then {j} {Due} {First} {Next} {w} {x} {y} {old} {now} {new} {a} {b} {c} {f
     | inl at ↦ looked-left j h i p.run.visits q.run.visits w x y (p.looked refl h i at) q.run.runs
     | inr at ↦ looked-right j h i p.run.visits q.run.visits w x y p.run.runs (q.looked end h i at)
   ];
+  any = λ end clean.
+      let behind = q.any end clean in
+      let before = p.any refl behind.0 in
+      (before.0, All-append (IsGoodThen j) p.run.visits q.run.visits before.1 behind.1);
+  passed = λ end clean.
+      let behind = q.passed end clean in
+      let before = p.passed refl behind.0 in
+      (before.0, λ h i due. elim (either h i due) [
+        | inl at ↦ in-left j.tree.shape h i p.run.visits q.run.visits (before.1 h i at)
+        | inr at ↦ in-right j.tree.shape h i p.run.visits q.run.visits (behind.1 h i at)
+      ]);
 }
 
 pub noted-behind : {j : Job} {Due : ℕ → ℕ → Type 0} {w x y : RepairWorld} {old new : Option (List ℕ)} {a b : BadBlocks} {fault : Option RepairFault} → IsWorldRead w x → HasNoted j Due x y old new a b fault → HasNoted j Due w y old new a b fault
-noted-behind {j} {Due} {w} {x} {y} read p = record { run = has-behind read p.run; asked = p.asked; noted = p.noted; looked = λ end h i due. looked-behind j h i p.run.visits w x y read (p.looked end h i due) }
+noted-behind {j} {Due} {w} {x} {y} read p = record {
+  run = has-behind read p.run;
+  asked = p.asked;
+  noted = p.noted;
+  looked = λ end h i due. looked-behind j h i p.run.visits w x y read (p.looked end h i due);
+  any = p.any;
+  passed = p.passed;
+}
 
 pub noted-one : {j : Job} {v : Visit} {w w' : RepairWorld} {old new : Option (List ℕ)} {a b : BadBlocks} (Due : ℕ → ℕ → Type 0) → IsVisited j v w w' → v.done ≡ true → Appends old new (visit_line j v) → b.asked ≡ a.asked
-    → (IsTrue a.asked → b.blocks.items ≡ a.blocks.items ++ bad_of j v) → ((h i : ℕ) → Due h i → IsVisitAt j.tree.shape h i v) → HasNoted j Due w w' old new a b None
-noted-one {j} {v} {w} {w'} {old} {new} {a} {b} Due here done told same noted at = record {
+    → (IsTrue a.asked → b.blocks.items ≡ a.blocks.items ++ bad_of j v) → (b.any ≡ false → IsGoodBefore a (found_of j.write v.mended)) → b.passed ≡ a.passed → ((h i : ℕ) → Due h i → IsVisitAt j.tree.shape h i v)
+    → HasNoted j Due w w' old new a b None
+noted-one {j} {v} {w} {w'} {old} {new} {a} {b} Due here done told same noted any by at = record {
   run = has-one here done told;
   asked = same;
   noted = λ end on. noted on ∙ ap (λ (l : List BadBlock). a.blocks.items ++ l) (sym (append-nil (bad_of j v)));
   looked = λ end h i due. inl (inl (at h i due));
+  any = λ end clean. (let is = any clean in (is.0, All-cons (IsGoodThen j) v [] is.1 (All-nil (IsGoodThen j))));
+  passed = λ end clean. (sym by ∙ clean, λ h i due. inl (at h i due));
 }
 
 -- for fewer blocks
 pub noted-fewer : {j : Job} {Due More : ℕ → ℕ → Type 0} {w w' : RepairWorld} {old new : Option (List ℕ)} {a b : BadBlocks} {fault : Option RepairFault} → HasNoted j More w w' old new a b fault → ((h i : ℕ) → Due h i → More h i) → HasNoted j Due w w' old new a b fault
-noted-fewer p fewer = record { run = p.run; asked = p.asked; noted = p.noted; looked = λ end h i due. p.looked end h i (fewer h i due) }
+noted-fewer p fewer = record {
+  run = p.run;
+  asked = p.asked;
+  noted = p.noted;
+  looked = λ end h i due. p.looked end h i (fewer h i due);
+  any = p.any;
+  passed = λ end clean. (let all = p.passed end clean in (all.0, λ h i due. all.1 h i (fewer h i due)));
+}
 
 -- one that didn't come to its end
 pub noted-not : {j : Job} {Due : ℕ → ℕ → Type 0} {w w' : RepairWorld} {old new : Option (List ℕ)} {a b : BadBlocks} {fault : RepairFault} → HasRun j w w' old new (Some fault) → b.asked ≡ a.asked → HasNoted j Due w w' old new a b (Some fault)
-noted-not run same = record { run = run; asked = same; noted = λ end. absurd (true≢false end); looked = λ end. absurd (true≢false end) }
+noted-not run same = record {
+  run = run;
+  asked = same;
+  noted = λ end. absurd (true≢false end);
+  looked = λ end. absurd (true≢false end);
+  any = λ end. absurd (true≢false end);
+  passed = λ end. absurd (true≢false end);
+}
 
 -- behind one that did
 pub noted-ends : {j : Job} {Due First Next : ℕ → ℕ → Type 0} {w x y : RepairWorld} {old now new : Option (List ℕ)} {a b c : BadBlocks} {fault : RepairFault} → HasNoted j First w x old now a b None → HasNoted j Next x y now new b c (Some fault) → HasNoted j Due w y old new a c (Some fault)

@@ -40,7 +40,7 @@ module _ (s : SuperRecord) (plan : Plan) (parity : Bool) (j : Job) (w b : Repair
   whole-ok w' old new (Ok x) run = repairs-of w' old new None run
   whole-ok w' old new (Err e) run = tt
 
-  pub whole-err : (w' : RepairWorld) (old new : Option (List ℕ)) (r : Result (Unit {0}) RepairFault) → HasRun j b w' old new (result_err r) → IfErr r (IsUnrepairedBy plan parity w w' old new)
+  pub whole-err : {T : Type 0} (w' : RepairWorld) (old new : Option (List ℕ)) (r : Result T RepairFault) → HasRun j b w' old new (result_err r) → IfErr r (IsUnrepairedBy plan parity w w' old new)
   whole-err w' old new (Ok x) run = tt
   whole-err w' old new (Err e) run = inr (repairs-of w' old new (Some e) run)
 
@@ -54,18 +54,13 @@ whole-sought s plan j l w b w' p p' (Ok x) same read images valid ends = ends-of
 whole-sought s plan j l w b w' p p' (Err e) same read images valid ends = tt
 
 -- what was looked at behind the superblock
-looks-of : (s : SuperRecord) (plan : Plan) (j : Job) (w b w' : RepairWorld) (old new : Option (List ℕ)) (x y : BadBlocks) → job_of s plan false ≡ j → IsWorldRead w b → AreImages w.data_dev w.hash_dev s → HasNoted j (IsFromUp j.tree.shape 0) b w' old new x y None → LooksAtAll plan w w' old new
+pub looks-of : (s : SuperRecord) (plan : Plan) (j : Job) (w b w' : RepairWorld) (old new : Option (List ℕ)) (x y : BadBlocks) → job_of s plan false ≡ j → IsWorldRead w b → AreImages w.data_dev w.hash_dev s → HasNoted j (IsFromUp j.tree.shape 0) b w' old new x y None → LooksAtAll plan w w' old new
 looks-of s plan j w b w' old new x y same read images noted =
     let here = subst (λ (k : Job). HasNoted k (IsFromUp k.tree.shape 0) b w' old new x y None) (sym same) noted in
     record {
       repairs = record { s = s; images = images; run = has-behind read here.run };
       looked = λ h i high inside. looked-behind (job_of s plan false) h i here.run.visits w b w' read (here.looked refl h i (omega arith, (high, inside)));
     }
-
-pub whole-looked : (s : SuperRecord) (plan : Plan) (j : Job) (w b w' : RepairWorld) (old new : Option (List ℕ)) (x y : BadBlocks) (r : Result (Unit {0}) RepairFault) → j ≡ job_of s plan false → IsWorldRead w b → AreImages w.data_dev w.hash_dev s
-    → HasNoted j (IsFromUp j.tree.shape 0) b w' old new x y (result_err r) → OnOk r (LooksAtAll plan w w' old new)
-whole-looked s plan j w b w' old new x y (Ok done) same read images noted = looks-of s plan j w b w' old new x y (sym same) read images noted
-whole-looked s plan j w b w' old new x y (Err e) same read images noted = tt
 
 -- what holds of a fault holds of the result that hands it on
 pub err-from : {T E : Type 0} (r : Result T E) (P : E → Type 0) (fault : E) → IsErrAnd r (λ e. e ≡ fault) → P fault → IfErr r P

@@ -159,7 +159,7 @@ pub record AreSame (a b : RepairWorld) : Type 0 where
   pub data_same : IsSameDevice a.data_dev b.data_dev
   pub hash_same : IsSameDevice a.hash_dev b.hash_dev
 
-are-then : (a b c : RepairWorld) → AreSame a b → AreSame b c → AreSame a c
+pub are-then : (a b c : RepairWorld) → AreSame a b → AreSame b c → AreSame a c
 are-then a b c p q = record { data_same = same-then p.data_same q.data_same; hash_same = same-then p.hash_same q.hash_same }
 
 pub read-same : (a b : RepairWorld) → IsWorldRead a b → AreSame a b

@@ -73,7 +73,7 @@ module _ (j : Job) (valid : IsShape j.tree.shape) where
   stands-same h i g k w same stands = stands-beside h i k w same.1 (subst (λ (n : ℕ). StandsGood j n k w) same.0 stands)
 
 -- the same bytes
-stands-as : (j : Job) (h i : ℕ) (a b : RepairWorld) → standing_bytes j h i b ≡ standing_bytes j h i a → StandsGood j h i a → StandsGood j h i b
+pub stands-as : (j : Job) (h i : ℕ) (a b : RepairWorld) → standing_bytes j h i b ≡ standing_bytes j h i a → StandsGood j h i a → StandsGood j h i b
 stands-as j h i a b same stands = record { p = stands.p; way = stands.way; good = ap (digest j.tree.salt) same ∙ stands.good }
 
 read-bytes : (j : Job) (h i : ℕ) (a b : RepairWorld) → IsWorldRead a b → IsReady j.tree.shape a → standing_bytes j h i b ≡ standing_bytes j h i a

@@ -1,9 +1,11 @@
 -- What is noted of a block behind a visit.
-use Rattle.std.specs.Prelude.{◌≡◌, ◌++◌, IsTrue, Bool, true, false, List, [], ◌∷◌, Option, None, Some}
+use Rattle.std.specs.Prelude.{◌≡◌, ◌++◌, ℕ, IsTrue, Bool, true, false, List, [], ◌∷◌, Option, None, Some}
 use Rattle.tree_repair.specs.declared.bad.BadBlock.{BadBlock}
 use Rattle.tree_repair.specs.declared.bad.BadBlocks.{BadBlocks}
 use Rattle.tree_repair.specs.declared.mending.Mended.{Mended}
 use Rattle.tree_repair.specs.declared.mending.Mended.TheVariants as mended
+use Rattle.tree_repair.specs.declared.outcome.Outcome.{Outcome}
+use Rattle.tree_repair.specs.declared.outcome.Outcome.TheVariants.{Partly, Whole}
 use Rattle.tree_repair.specs.declared.place.Place.{Place}
 
 -- one that was found is good, if it was written
@@ -26,3 +28,16 @@ bad_blocks place (Some found) = record { place = place; found = found } ∷ []
 
 abbrev pub IsNoted : BadBlocks → BadBlocks → Place → Option Bool → Type 0
 IsNoted old new place found = IsTrue old.asked → new.blocks.items ≡ old.blocks.items ++ bad_blocks place found
+
+-- it is good, and so were all before it
+abbrev pub IsGoodBefore : BadBlocks → Option Bool → Type 0
+IsGoodBefore old found = (old.any ≡ false) × (found ≡ None)
+
+-- some blocks were passed by
+abbrev pub passed_some : BadBlocks → BadBlocks
+passed_some bad = record bad { passed = true }
+
+-- what is known behind a pass of so many data blocks, where some block isn't good or was passed by, and where none is or was
+abbrev pub pass_outcome : Bool → ℕ → Outcome
+pass_outcome true blocks = Partly
+pass_outcome false blocks = Whole blocks

@@ -1,14 +1,17 @@
 -- What a pass over an image leaves of its blocks.
-use Rattle.std.specs.Prelude.{◌≡◌, ◌⊎◌, ℕ, ◌<◌, false, IsTrue, List, [], ◌∷◌, None, All}
-use Rattle.tree_shape.specs.Shape.{ShapeRecord}
+use Rattle.std.specs.Prelude.{◌≡◌, ◌⊎◌, ℕ, ◌<◌, ◌≤◌, Bool, true, false, IsTrue, List, [], ◌∷◌, None, All}
+use Rattle.tree_shape.specs.Shape.{ShapeRecord, levels}
 use Rattle.tree_path.specs.Laws.{Collide}
 use Rattle.tree_survey.specs.Causes.{AreImages}
 use Rattle.tree_survey.specs.Surveys.{IsContentStoredAs}
 use Rattle.verity_format.specs.Superblock.{SuperRecord, shape_of}
 use Rattle.tree_repair.specs.declared.mending.Mended.TheVariants as mended
+use Rattle.tree_repair.specs.declared.outcome.Outcome.{Outcome}
+use Rattle.tree_repair.specs.declared.outcome.Outcome.TheVariants.{Partly, Whole}
 use Rattle.tree_repair.specs.declared.repair.Plan.{Plan}
 use Rattle.tree_repair.specs.Coverage.{IsFromUp, IsVisitAt}
-use Rattle.tree_repair.specs.Repairs.{job_of}
+use Rattle.tree_repair.specs.Noting.{found_of}
+use Rattle.tree_repair.specs.Repairs.{Repairs, job_of}
 use Rattle.tree_repair.specs.Runs.{IsDone, Job, VisitsAll, Visit}
 use Rattle.tree_repair.specs.Standing.{IsSteadyImage, IsWorldSteady, StandsGood}
 use Rattle.tree_repair.specs.Worlds.{RepairWorld}
@@ -53,3 +56,32 @@ pub record LeavesWhole (plan : Plan) (w w' : RepairWorld) : Type 0 where
   pub done : All IsDone visits
   pub good : IsTrue plan.write → IsWorldSteady w → IsTrue w.hash_dev.never_fails → (i : ℕ) → i < (shape_of s).blocks
       → IsContentStoredAs (job_of s plan false).tree w'.data_dev.image w'.hash_dev.image i None ⊎ IsExcused (job_of s plan false) i visits
+
+-- ---- what is known of it
+
+-- one of the visits was to the block of that height above data block i, which is good behind it
+abbrev pub IsGoodThenIn : Bool → ShapeRecord → ℕ → ℕ → List Visit → Type 0
+IsGoodThenIn write s h i [] = ⊥
+IsGoodThenIn write s h i (v ∷ more) = (IsVisitAt s h i v × (found_of write v.mended ≡ None)) ⊎ IsGoodThenIn write s h i more
+
+-- So many data blocks, and all hash blocks above them, were visited, whatever the devices did, and each was good behind its visit.
+-- On steady devices each data block is good at the end, as are all hash blocks above it, or two different inputs have one digest.
+pub record LeavesAllGood (plan : Plan) (parity : Bool) (w w' : RepairWorld) (count : ℕ) : Type 0 where
+  pub s : SuperRecord
+  pub images : AreImages w.data_dev w.hash_dev s
+  pub count_is : count ≡ (shape_of s).blocks
+  pub visits : List Visit
+  pub runs : VisitsAll (job_of s plan parity) visits w w'
+  pub done : All IsDone visits
+  pub each : (h i : ℕ) → h ≤ levels (shape_of s) → i < count → IsGoodThenIn plan.write (shape_of s) h i visits
+  pub good : IsWorldSteady w → (i : ℕ) → i < count → IsContentStoredAs (job_of s plan parity).tree w'.data_dev.image w'.hash_dev.image i None ⊎ Collide s.salt
+
+-- of a repair by copies
+abbrev pub IsOutcomeOf : Plan → RepairWorld → RepairWorld → Outcome → Type 0
+IsOutcomeOf plan w w' (Whole count) = LeavesAllGood plan false w w' count
+IsOutcomeOf plan w w' Partly = LeavesWhole plan w w'
+
+-- and by parity too
+abbrev pub IsParityOutcome : Plan → RepairWorld → RepairWorld → Outcome → Type 0
+IsParityOutcome plan w w' (Whole count) = LeavesAllGood plan true w w' count
+IsParityOutcome plan w w' Partly = Unit {0}

@@ -1,5 +1,5 @@
 -- A pass of a repair by parity: what is noted of its blocks, and that each that is lost is sought.
-use Rattle.std.specs.Prelude.{◌≡◌, ◌<◌, ◌≤◌, ℕ, IsTrue, List, ◌++◌, Option, Result, IsNone, ◌&&◌, zero, suc, Bool, true, All}
+use Rattle.std.specs.Prelude.{◌≡◌, ◌<◌, ◌≤◌, ℕ, IsTrue, List, ◌++◌, Option, Result, IsNone, ◌&&◌, zero, suc, Bool, true, false, None, All}
 use Rattle.std.specs.List.{flat_map}
 use Rattle.std.specs.Result.{result_err}
 use Rattle.block_device.specs.Device.{Device}
@@ -10,7 +10,7 @@ use Rattle.verity_format.specs.Blocks.{IsOnlyRead}
 use Rattle.tree_repair.specs.declared.bad.BadBlock.{BadBlock}
 use Rattle.tree_repair.specs.declared.bad.BadBlocks.{BadBlocks}
 use Rattle.tree_repair.specs.declared.fault.RepairFault.{RepairFault}
-use Rattle.tree_repair.specs.Coverage.{IsLookedAt}
+use Rattle.tree_repair.specs.Coverage.{IsLookedAt, IsVisitedIn}
 use Rattle.tree_repair.specs.Noting.{bad_blocks, found_of}
 use Rattle.tree_repair.specs.Runs.{HasRun, IsDone, Job, VisitsAll, Visit}
 use Rattle.tree_repair.specs.Tries.{HasSought}
@@ -20,12 +20,19 @@ use Rattle.tree_repair.specs.Worlds.{IsWorldRead, RepairWorld}
 abbrev pub bad_of : Job → Visit → List BadBlock
 bad_of j v = bad_blocks (record { height = v.height; index = v.index }) (found_of j.write v.mended)
 
--- A run of which the blocks were noted that aren't good behind it, where that is asked. It looked at each block that was due.
+-- it is good behind a visit
+abbrev pub IsGoodThen : Job → Visit → Type 0
+IsGoodThen j v = found_of j.write v.mended ≡ None
+
+-- A run of which the blocks were noted that aren't good behind it, where that is asked. It looked at each block that was due. If it
+-- knows of none that isn't good, all that it visited are; if of none that was passed by, it visited all that were due.
 pub record HasNoted (j : Job) (Due : ℕ → ℕ → Type 0) (w w' : RepairWorld) (old new : Option (List ℕ)) (a b : BadBlocks) (fault : Option RepairFault) : Type 0 where
   pub run : HasRun j w w' old new fault
   pub asked : b.asked ≡ a.asked
   pub noted : IsNone fault → IsTrue a.asked → b.blocks.items ≡ a.blocks.items ++ flat_map (bad_of j) run.visits
   pub looked : IsNone fault → (h i : ℕ) → Due h i → IsLookedAt j h i run.visits w w'
+  pub any : IsNone fault → b.any ≡ false → (a.any ≡ false) × All (IsGoodThen j) run.visits
+  pub passed : IsNone fault → b.passed ≡ false → (a.passed ≡ false) × ((h i : ℕ) → Due h i → IsVisitedIn j.tree.shape h i run.visits)
 
 -- the same by a writer before and behind, and by the result of the run
 abbrev pub Notes : {W T : Type 0} → (W → Option (List ℕ)) → Job → (ℕ → ℕ → Type 0) → RepairWorld → RepairWorld → BadBlocks → BadBlocks → CountedRecord W → CountedRecord W → Result T RepairFault → Type 0

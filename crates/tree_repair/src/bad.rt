@@ -1,8 +1,9 @@
 //! Blocks that aren't good where they stand.
-ghost use Rattle.std.specs.Prelude.{◌≡◌, ◌≤◌, ◌+◌, [], OnOk, length};
-ghost use Rattle.tree_repair.specs.Noting.{IsNoted, found_of, unless};
+ghost use Rattle.std.specs.Prelude.{◌≡◌, ◌≤◌, ◌+◌, ◌||◌, ◌++◌, ◌∷◌, true, false, [], IsTrue, OnOk, length};
+ghost use Rattle.tree_repair.specs.Noting.{IsGoodBefore, IsNoted, found_of, pass_outcome, passed_some, unless};
 
 use crate::mending::Mended;
+use crate::outcome::Outcome;
 use crate::place::Place;
 use std::alloc::{AllocError, Global};
 
@@ -13,11 +14,13 @@ pub(crate) struct BadBlock {
     pub(crate) found: bool,
 }
 
-/// The blocks that aren't good behind a pass, if anyone asks for them.
+/// The blocks that aren't good behind a pass, if anyone asks for them; whether there are any; and whether some were passed by.
 #[derive(Drop)]
 pub(crate) struct BadBlocks {
     asked: bool,
     blocks: Vec<BadBlock>,
+    any: bool,
+    passed: bool,
 }
 
 impl BadBlocks {
@@ -29,6 +32,8 @@ impl BadBlocks {
         BadBlocks {
             asked,
             blocks: Vec::new(alloc),
+            any: false,
+            passed: false,
         }
     }
 
@@ -42,14 +47,45 @@ impl BadBlocks {
         ensures asked { self.new.asked ≡ self.old.asked }
         ensures noted { OnOk result (IsNoted self.old self.new place (found_of write mended)) }
         ensures few { OnOk result (length self.new.blocks.items ≤ length self.old.blocks.items + 1) }
+        ensures any { OnOk result (self.new.any ≡ false → IsGoodBefore self.old (found_of write mended)) }
+        ensures passed { self.new.passed ≡ self.old.passed }
     {
+        match found_of(mended, write) {
+            None => Ok(()),
+            Some(found) => self.push(BadBlock { place, found }),
+        }
+    }
+
+    // Notes a block that isn't good.
+    fn push(&mut self, block: BadBlock) -> Result<(), AllocError>
+        ensures asked { self.new.asked ≡ self.old.asked }
+        ensures noted { OnOk result (IsTrue self.old.asked → self.new.blocks.items ≡ self.old.blocks.items ++ (block ∷ [])) }
+        ensures few { OnOk result (length self.new.blocks.items ≤ length self.old.blocks.items + 1) }
+        ensures any { self.new.any ≡ true }
+        ensures passed { self.new.passed ≡ self.old.passed }
+    {
+        self.any = true;
         if !self.asked {
             return Ok(());
         }
-        match found_of(mended, write) {
-            None => Ok(()),
-            Some(found) => Ok(self.blocks.push(BadBlock { place, found })?),
+        Ok(self.blocks.push(block)?)
+    }
+
+    /// Notes that blocks were passed by.
+    pub(crate) fn pass_by(&mut self)
+        ensures { self.new ≡ passed_some self.old }
+    {
+        self.passed = true;
+    }
+
+    /// What is known of an image of so many data blocks behind a pass.
+    pub(crate) fn outcome(&self, blocks: u64) -> Outcome
+        ensures { result ≡ pass_outcome (self.now.any || self.now.passed) blocks }
+    {
+        if self.any || self.passed {
+            return Outcome::Partly;
         }
+        Outcome::Whole(blocks)
     }
 
     /// Those that were noted.

@@ -83,7 +83,10 @@ fn repair_row<D: BlockDev, H: BlockDev, C: BlockDev, W: Write>(
 {
     let found = way_to(repair, image, row.first, row.height)?;
     match found {
-        None => Ok(()),
+        None => {
+            bad.pass_by();
+            Ok(())
+        }
         Some(path) => repair_unless_good(&path, repair, row, image, memory, bad, writer),
     }
 }

@@ -10,7 +10,7 @@ ghost use Rattle.tree_repair.specs.Bounds.{IsHashReadAlone, IsRepairWithin};
 ghost use Rattle.tree_repair.specs.Coverage.{IsFromUp};
 ghost use Rattle.tree_repair.specs.Jobs.{job};
 ghost use Rattle.tree_repair.specs.ParityBounds.{LeavesNoted, image_blocks};
-ghost use Rattle.tree_repair.specs.Outcomes.{LeavesWhole, StandsFrom};
+ghost use Rattle.tree_repair.specs.Outcomes.{IsOutcomeOf, StandsFrom};
 ghost use Rattle.tree_repair.specs.Passes.{Notes};
 ghost use Rattle.tree_repair.specs.Repairs.{IsAllowed, IsGoneOver, IsNoImageCause, IsRepair, IsUnrepaired, job_of};
 ghost use Rattle.tree_repair.specs.Runs.{CanRun, IsWriterCause};
@@ -20,6 +20,7 @@ use crate::bad::BadBlocks;
 use crate::fault::RepairFault;
 use crate::image::DamagedImage;
 use crate::levels::{repair_height, zeros};
+use crate::outcome::Outcome;
 use crate::place::{ROOM, Repair};
 use block_device::BlockDev;
 use counted_io::Counted;
@@ -39,12 +40,14 @@ pub struct Plan {
 /// Goes over an image from the root down, and looks at each block to which good hash blocks lead. One that isn't good is
 /// sought in the copies; a hash block that none has is made again from the blocks beneath it. What has its digest is written,
 /// if anything may be written. A line is printed for each such block.
+///
+/// It tells whether all of the image is good by then: what was seen or written once isn't read again for that.
 pub fn repair_image<D: BlockDev, H: BlockDev, C: BlockDev, W: Write>(
     alloc: Global,
     image: &mut DamagedImage<D, H, C>,
     plan: Plan,
     writer: &mut Counted<W>,
-) -> Result<(), RepairFault>
+) -> Result<Outcome, RepairFault>
     requires first { plan.copy_first ≤ 2 ^ 55 }
     requires allowed { IsAllowed plan.write image.old.data_dev image.old.hash_dev }
     ensures ok { OnOk result (IsRepair W.contents plan image.old image.new writer.old writer.new) }
@@ -52,12 +55,14 @@ pub fn repair_image<D: BlockDev, H: BlockDev, C: BlockDev, W: Write>(
     ensures told { IfErr result (IsWriterCause writer.new) }
     ensures within { IsRepairWithin W.contents plan image.old image.new writer.old writer.new result }
     ensures looked { OnOk result (IsGoneOver W.contents plan image.old image.new writer.old writer.new) }
-    ensures whole { OnOk result (LeavesWhole plan image.old image.new) }
+    ensures whole { IfOk result (IsOutcomeOf plan image.old image.new) }
 {
     let superblock = superblock_of(image)?;
     let repair = repair_of(alloc, &superblock, &plan, false);
     let mut bad = BadBlocks::new(alloc, false);
-    repair_heights(&repair, image, &mut bad, writer)
+    repair_heights(&repair, image, &mut bad, writer)?;
+    let blocks = repair.shape.blocks();
+    Ok(bad.outcome(blocks))
 }
 
 /// What is repaired by a plan, with parity or without.

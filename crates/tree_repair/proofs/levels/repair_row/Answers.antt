@@ -14,7 +14,7 @@ returns-in_err-found-clause-notes g c = noted-from c.from_residual.result c.from
 pub returns-in-None-clause-notes : goal.returns-in-None-clause-notes
 returns-in-None-clause-notes g c =
     let j = job c.args.repair.now in
-    noted-read c.way_to.ensures.read
+    noted-read c.pass_by.ensures c.way_to.ensures.read
     (λ h i due.
     subst (λ (n : ℕ). IsLookedAt j n i [] c.args.image.now c.way_to.new.image) due.0
     (looked-cut j c.args.row.height i c.args.row.first c.args.image.now c.way_to.new.image c.way_to.ensures.read (row-above c.args.repair.now.shape c.args.row i c.requires.can.valid c.requires.row due.1.0 due.1.1)
@@ -42,7 +42,7 @@ returns-in-Some-clause-asked g c =
     row-all c.args.repair.now.shape c.requires.can.valid c.args.row c.requires.row c.requires.some c.args.image.now c.way_to.new.image c.repair_unless_good.new.image c.way_to.ensures.asked c.repair_unless_good.ensures.asked
 
 pub returns-in-None-clause-few : goal.returns-in-None-clause-few
-returns-in-None-clause-few g c = row-unnoted c.args.repair.now.shape c.requires.can.valid c.args.row c.args.bad.now
+returns-in-None-clause-few g c = rw c.pass_by.ensures (row-unnoted c.args.repair.now.shape c.requires.can.valid c.args.row c.args.bad.now)
 
 pub returns-in-Some-clause-few : goal.returns-in-Some-clause-few
 returns-in-Some-clause-few g c = c.repair_unless_good.ensures.few
