@@ -1,3 +1,4 @@
+mod BackLemmas
 mod BeyondLemmas
 mod FormedLemmas
 mod GoodLemmas

@@ -36,22 +36,13 @@ module _ (s : SuperRecord) (plan : Plan) (parity : Bool) (j : Job) (w b : Repair
   abbrev pub repairs-of : (w' : RepairWorld) (old new : Option (List ℕ)) (fault : Option RepairFault) → HasRun j b w' old new fault → Repairs plan parity w w' old new fault
   repairs-of w' old new fault run = record { s = s; images = images; run = subst (λ (x : Job). HasRun x w w' old new fault) same (has-behind read run) }
 
-  pub whole-ok : (w' : RepairWorld) (old new : Option (List ℕ)) (r : Result (Unit {0}) RepairFault) → HasRun j b w' old new (result_err r) → OnOk r (Repairs plan parity w w' old new None)
-  whole-ok w' old new (Ok x) run = repairs-of w' old new None run
-  whole-ok w' old new (Err e) run = tt
-
   pub whole-err : {T : Type 0} (w' : RepairWorld) (old new : Option (List ℕ)) (r : Result T RepairFault) → HasRun j b w' old new (result_err r) → IfErr r (IsUnrepairedBy plan parity w w' old new)
   whole-err w' old new (Ok x) run = tt
   whole-err w' old new (Err e) run = inr (repairs-of w' old new (Some e) run)
 
 -- what ends in a pass behind the superblock does so from before it
-ends-of : (s : SuperRecord) (plan : Plan) (j : Job) (l : Layout) (w b w' : RepairWorld) (p p' : Device) → j ≡ job_of s plan true → IsWorldRead w b → AreImages w.data_dev w.hash_dev s → IsShape (shape_of s) → EndsInPass j l b w' p p' → SeeksByParity plan l w w' p p'
+pub ends-of : (s : SuperRecord) (plan : Plan) (j : Job) (l : Layout) (w b w' : RepairWorld) (p p' : Device) → j ≡ job_of s plan true → IsWorldRead w b → AreImages w.data_dev w.hash_dev s → IsShape (shape_of s) → EndsInPass j l b w' p p' → SeeksByParity plan l w w' p p'
 ends-of s plan j l w b w' p p' same read images valid ends = record { s = s; images = images; valid = valid; ends = subst (λ (x : Job). EndsInPass x l w w' p p') same (ends-behind read ends) }
-
-pub whole-sought : (s : SuperRecord) (plan : Plan) (j : Job) (l : Layout) (w b w' : RepairWorld) (p p' : Device) (r : Result (Unit {0}) RepairFault) → j ≡ job_of s plan true → IsWorldRead w b → AreImages w.data_dev w.hash_dev s → IsShape (shape_of s)
-    → OnOk r (EndsInPass j l b w' p p') → OnOk r (SeeksByParity plan l w w' p p')
-whole-sought s plan j l w b w' p p' (Ok x) same read images valid ends = ends-of s plan j l w b w' p p' same read images valid ends
-whole-sought s plan j l w b w' p p' (Err e) same read images valid ends = tt
 
 -- what was looked at behind the superblock
 pub looks-of : (s : SuperRecord) (plan : Plan) (j : Job) (w b w' : RepairWorld) (old new : Option (List ℕ)) (x y : BadBlocks) → job_of s plan false ≡ j → IsWorldRead w b → AreImages w.data_dev w.hash_dev s → HasNoted j (IsFromUp j.tree.shape 0) b w' old new x y None → LooksAtAll plan w w' old new

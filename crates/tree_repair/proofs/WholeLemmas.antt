@@ -156,7 +156,7 @@ module _ (j : Job) (valid : IsShape j.tree.shape) (never : j.write ≡ false) wh
 
 -- ---- the whole image
 
-bool-or : (b : Bool) → IsTrue b ⊎ (b ≡ false)
+pub bool-or : (b : Bool) → IsTrue b ⊎ (b ≡ false)
 bool-or true = inl refl
 bool-or false = inr refl
 

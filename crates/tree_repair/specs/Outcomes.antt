@@ -64,6 +64,13 @@ abbrev pub IsGoodThenIn : Bool → ShapeRecord → ℕ → ℕ → List Visit �
 IsGoodThenIn write s h i [] = ⊥
 IsGoodThenIn write s h i (v ∷ more) = (IsVisitAt s h i v × (found_of write v.mended ≡ None)) ⊎ IsGoodThenIn write s h i more
 
+-- each block of the tree was visited, and was good behind its visit; no write failed
+pub record IsAllGood (j : Job) (w w' : RepairWorld) : Type 0 where
+  pub visits : List Visit
+  pub runs : VisitsAll j visits w w'
+  pub done : All IsDone visits
+  pub each : (h i : ℕ) → h ≤ levels j.tree.shape → i < j.tree.shape.blocks → IsGoodThenIn j.write j.tree.shape h i visits
+
 -- So many data blocks, and all hash blocks above them, were visited, whatever the devices did, and each was good behind its visit.
 -- On steady devices each data block is good at the end, as are all hash blocks above it, or two different inputs have one digest.
 pub record LeavesAllGood (plan : Plan) (parity : Bool) (w w' : RepairWorld) (count : ℕ) : Type 0 where

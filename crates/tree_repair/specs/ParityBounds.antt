@@ -16,6 +16,7 @@ use Rattle.tree_repair.specs.declared.fault.RepairFault.{RepairFault}
 use Rattle.tree_repair.specs.declared.mending.Mended.{Mended}
 use Rattle.tree_repair.specs.declared.mending.Mended.TheVariants as mended
 use Rattle.tree_repair.specs.declared.place.Row.{Row}
+use Rattle.tree_repair.specs.declared.parity.Came.{Came}
 use Rattle.tree_repair.specs.declared.repair.Plan.{Plan}
 use Rattle.tree_repair.specs.Bounds.{AreReadAtMost, HasWrittenAtMost, IsHashReadAlone, area_block_sectors}
 use Rattle.tree_repair.specs.Repairs.{IsNoImageCause, Repairs}
@@ -163,6 +164,15 @@ pub record TellsOfHash (j : Job) (h : ℕ) (w w' : RepairWorld) (old new : Optio
 abbrev pub TellsBack : {W : Type 0} → (W → Option (List ℕ)) → Job → ℕ → RepairWorld → RepairWorld → CountedRecord W → CountedRecord W → Result Bool RepairFault → Type 0
 TellsBack contents j h w w' old new result = TellsOfHash j h w w' (contents old.inner) (contents new.inner) (result_err result) (told_of result)
 
+-- what is told of a hash block by a call that ended well
+abbrev pub tree_told : {E : Type 0} → Result Came E → Bool
+tree_told (Ok came) = came.tree
+tree_told (Err fault) = false
+
+-- a run over some blocks that tells whether a hash block among them came back
+abbrev pub TellsCame : {W : Type 0} → (W → Option (List ℕ)) → Job → RepairWorld → RepairWorld → CountedRecord W → CountedRecord W → Result Came RepairFault → Type 0
+TellsCame contents j w w' old new result = TellsOfHash j 1 w w' (contents old.inner) (contents new.inner) (result_err result) (tree_told result)
+
 -- ---- passes
 
 -- A run in some passes, and in no more than so many. Each further one follows on a hash block that parity brought back; if one
@@ -179,8 +189,8 @@ pub record RunsInPasses (j : Job) (l : Layout) (most : ℕ) (w w' : RepairWorld)
   pub within : IsAskedWithin (parity_bill j.tree.shape l 0 passes sought) w w' p p'
 
 -- the same by a writer before and behind, and by the result of the run
-abbrev pub RunsInOne : {W : Type 0} → (W → Option (List ℕ)) → Job → Layout → RepairWorld → RepairWorld → Device → Device → CountedRecord W → CountedRecord W → Result Bool RepairFault → Type 0
-RunsInOne contents j l w w' p p' old new result = RunsInPasses j l 1 w w' p p' (contents old.inner) (contents new.inner) (result_err result) (told_of result)
+abbrev pub RunsInOne : {W : Type 0} → (W → Option (List ℕ)) → Job → Layout → RepairWorld → RepairWorld → Device → Device → CountedRecord W → CountedRecord W → Result Came RepairFault → Type 0
+RunsInOne contents j l w w' p p' old new result = RunsInPasses j l 1 w w' p p' (contents old.inner) (contents new.inner) (result_err result) (tree_told result)
 
 abbrev pub RunsInAll : {W T : Type 0} → (W → Option (List ℕ)) → Job → Layout → RepairWorld → RepairWorld → Device → Device → CountedRecord W → CountedRecord W → Result T RepairFault → Type 0
 RunsInAll contents j l w w' p p' old new result = RunsInPasses j l (1 + l.hash_blocks) w w' p p' (contents old.inner) (contents new.inner) (result_err result) false

@@ -1,16 +1,17 @@
 -- A pass of a repair by parity: what is noted of its blocks, and that each that is lost is sought.
-use Rattle.std.specs.Prelude.{◌≡◌, ◌<◌, ◌≤◌, ℕ, IsTrue, List, ◌++◌, Option, Result, IsNone, ◌&&◌, zero, suc, Bool, true, false, None, All}
+use Rattle.std.specs.Prelude.{◌≡◌, ◌⊎◌, ◌<◌, ◌≤◌, ℕ, IsTrue, List, [], ◌∷◌, ◌++◌, Option, Result, IsNone, ◌&&◌, zero, suc, Bool, true, false, None, All}
 use Rattle.std.specs.List.{flat_map}
 use Rattle.std.specs.Result.{result_err}
 use Rattle.block_device.specs.Device.{Device}
 use Rattle.counted_io.specs.Counted.{CountedRecord}
-use Rattle.tree_shape.specs.Shape.{levels}
+use Rattle.tree_shape.specs.Shape.{ShapeRecord, levels}
 use Rattle.fec_area.specs.declared.layout.Layout.{Layout}
 use Rattle.verity_format.specs.Blocks.{IsOnlyRead}
 use Rattle.tree_repair.specs.declared.bad.BadBlock.{BadBlock}
 use Rattle.tree_repair.specs.declared.bad.BadBlocks.{BadBlocks}
 use Rattle.tree_repair.specs.declared.fault.RepairFault.{RepairFault}
-use Rattle.tree_repair.specs.Coverage.{IsLookedAt, IsVisitedIn}
+use Rattle.tree_repair.specs.declared.mending.Mended.TheVariants as mended
+use Rattle.tree_repair.specs.Coverage.{IsLookedAt, IsVisitAt, IsVisitedIn}
 use Rattle.tree_repair.specs.Noting.{bad_blocks, found_of}
 use Rattle.tree_repair.specs.Runs.{HasRun, IsDone, Job, VisitsAll, Visit}
 use Rattle.tree_repair.specs.Tries.{HasSought}
@@ -37,6 +38,22 @@ pub record HasNoted (j : Job) (Due : ℕ → ℕ → Type 0) (w w' : RepairWorld
 -- the same by a writer before and behind, and by the result of the run
 abbrev pub Notes : {W T : Type 0} → (W → Option (List ℕ)) → Job → (ℕ → ℕ → Type 0) → RepairWorld → RepairWorld → BadBlocks → BadBlocks → CountedRecord W → CountedRecord W → Result T RepairFault → Type 0
 Notes contents j Due w w' a b old new result = HasNoted j Due w w' (contents old.inner) (contents new.inner) a b (result_err result)
+
+-- ---- blocks that came back
+
+-- one of the visits brought the block back
+abbrev pub IsBackIn : ShapeRecord → BadBlock → List Visit → Type 0
+IsBackIn s b [] = ⊥
+IsBackIn s b (v ∷ more) = (IsVisitAt s b.place.height b.place.index v × (v.mended ≡ mended.Parity)) ⊎ IsBackIn s b more
+
+-- each of these blocks came back, and no write failed
+pub record AreBack (j : Job) (blocks : List BadBlock) (w w' : RepairWorld) : Type 0 where
+  pub visits : List Visit
+  pub runs : VisitsAll j visits w w'
+  pub done : All IsDone visits
+  pub each : All (λ (b : BadBlock). IsBackIn j.tree.shape b visits) blocks
+
+-- ---- passes
 
 -- All blocks were gone over, from the top down, and each that was lost was then sought by parity, where all that aren't good
 -- count as lost; no write failed. It is due again where a hash block came back, and was written.

@@ -78,6 +78,19 @@ impl BadBlocks {
         self.passed = true;
     }
 
+    /// Whether all of an image is good behind a pass, where this says whether all that were noted came back since, and whether
+    /// anything may be written.
+    pub(crate) fn is_whole(&self, back: bool, write: bool) -> bool
+        ensures passed { IsTrue result → self.now.passed ≡ false }
+        ensures back { IsTrue result → IsTrue back }
+        ensures any { IsTrue result → write ≡ false → self.now.any ≡ false }
+    {
+        if self.passed || !back {
+            return false;
+        }
+        write || !self.any
+    }
+
     /// What is known of an image of so many data blocks behind a pass.
     pub(crate) fn outcome(&self, blocks: u64) -> Outcome
         ensures { result ≡ pass_outcome (self.now.any || self.now.passed) blocks }

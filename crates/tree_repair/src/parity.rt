@@ -8,7 +8,8 @@ ghost use Rattle.tree_survey.specs.Surveys.{IsWay};
 ghost use Rattle.verity_format.specs.Blocks.{IsOnlyRead};
 ghost use Rattle.tree_repair.specs.Jobs.{AreGoodAt, job};
 ghost use Rattle.tree_repair.specs.Mending.{IsBlockReplaced};
-ghost use Rattle.tree_repair.specs.ParityBounds.{IsAskedAlone, IsAskedWithin, IsMadeWithin, IsReplacedOnce, TellsBack, along_bill, parity_bill, put_bill, round_bill, sought_among, tries_of};
+ghost use Rattle.tree_repair.specs.ParityBounds.{IsAskedAlone, IsAskedWithin, IsMadeWithin, IsReplacedOnce, TellsBack, TellsCame, along_bill, parity_bill, put_bill, round_bill, sought_among, tries_of};
+ghost use Rattle.tree_repair.specs.Passes.{AreBack};
 ghost use Rattle.tree_repair.specs.Parity.{FailsToPlace, IsBack, IsNotBack, IsPlace, IsPlaced, IsPutOr, end_at};
 ghost use Rattle.tree_repair.specs.Runs.{CanRun, IsWriterCause, Ran, sector_at, size_at};
 ghost use Rattle.tree_repair.specs.Sources.{due};
@@ -31,6 +32,13 @@ use std::io::Write;
 use tree_path::TreePath;
 use tree_shape::{Digest, Salt};
 
+/// Whether a hash block came back by parity, and whether all is good by then.
+#[derive(Clone, Copy)]
+pub(crate) struct Came {
+    pub(crate) tree: bool,
+    pub(crate) all: bool,
+}
+
 /// How parity lies across an image, and the covered blocks that count as lost.
 #[derive(Drop)]
 struct Losses {
@@ -39,7 +47,7 @@ struct Losses {
 }
 
 /// Goes over the blocks that were found nowhere, from the root down, and brings back those that parity has. Tells whether
-/// a hash block is among them.
+/// a hash block is among them, and whether all of them came back.
 pub(crate) fn restore_bad<D: BlockDev, H: BlockDev, C: BlockDev, P: BlockDev, W: Write>(
     repair: &Repair,
     layout: &Layout,
@@ -47,16 +55,17 @@ pub(crate) fn restore_bad<D: BlockDev, H: BlockDev, C: BlockDev, P: BlockDev, W:
     image: &mut DamagedImage<D, H, C>,
     parity_dev: &mut P,
     writer: &mut Counted<W>,
-) -> Result<bool, RepairFault>
+) -> Result<Came, RepairFault>
     requires asked { IsTrue repair.now.parity }
     requires can { CanRun (job repair.now) image.old }
     requires laid { IsLaidOn layout.now image.old.data_dev image.old.hash_dev }
     ensures parity { IsOnlyRead (P.state parity_dev.old) (P.state parity_dev.new) }
     ensures run { Ran W.contents (job repair.now) image.old image.new writer.old writer.new result }
     ensures told { IfErr result (IsWriterCause writer.new) }
-    ensures sought { IfOk result (HasSought (job repair.now) layout.now blocks.now image.old image.new (P.state parity_dev.old) (P.state parity_dev.new)) }
+    ensures sought { IfOk result (λ came. HasSought (job repair.now) layout.now blocks.now image.old image.new (P.state parity_dev.old) (P.state parity_dev.new) came.tree) }
+    ensures back { IfOk result (λ came. IsTrue came.all → AreBack (job repair.now) blocks.now image.old image.new) }
     ensures within { IsAskedWithin (parity_bill repair.now.shape layout.now 0 0 (sought_among blocks.now)) image.old image.new (P.state parity_dev.old) (P.state parity_dev.new) }
-    ensures came { TellsBack W.contents (job repair.now) 1 image.old image.new writer.old writer.new result }
+    ensures came { TellsCame W.contents (job repair.now) image.old image.new writer.old writer.new result }
 {
     let lost = covered_of(repair, layout, blocks)?;
     let losses = Losses {
@@ -64,11 +73,19 @@ pub(crate) fn restore_bad<D: BlockDev, H: BlockDev, C: BlockDev, P: BlockDev, W:
         lost,
     };
     let mut tree = false;
+    let mut all = true;
     'each: for bad in blocks {
         let back = restore_block_at(repair, &losses, bad, image, parity_dev, writer)?;
         tree = is_in_tree(tree, back, bad);
+        all = are_both(all, back);
     }
-    Ok(tree)
+    Ok(Came { tree, all })
+}
+
+fn are_both(all: bool, back: bool) -> bool
+    ensures { result ≡ (all && back) }
+{
+    all && back
 }
 
 fn is_in_tree(tree: bool, back: bool, bad: &BadBlock) -> bool

@@ -2,12 +2,14 @@ use Rattle.std.proofs.Common.{◌+◌, Bool, refl, subst, sym, take}
 use Rattle.std.proofs.lemmas.List.{take_all}
 use Rattle.tree_path.proofs.lemmas.DeviceLemmas.{only_read-none, only_read-then}
 use Rattle.tree_repair.specs.Jobs.{job}
+use Rattle.tree_repair.specs.Passes.{AreBack}
 use Rattle.tree_repair.specs.Tries.{AreSought}
+use Rattle.tree_repair.proofs.BackLemmas.{back-next, back-none}
 use Rattle.tree_repair.proofs.TryLemmas.{sought-next}
 use Rattle.tree_repair.proofs.RunLemmas.{can-later, ended-from, ends-read, has-none, has-then, laid-later, world-none}
 use Rattle.tree_repair.specs.ParityBounds.{IsAskedWithin, parity_bill, sought_among}
 use Rattle.tree_repair.proofs.ParityBillLemmas.{asked-none}
-use Rattle.tree_repair.proofs.ParityPassLemmas.{tells-from, tells-none, tells-then, work-last, work-next}
+use Rattle.tree_repair.proofs.ParityPassLemmas.{tells-came, tells-none, tells-then, work-last, work-next}
 use Rattle.tree_repair.proofs.parity.restore_bad.Goals as goal
 
 pub returns-in_err-lost-clause-parity : goal.returns-in_err-lost-clause-parity
@@ -17,7 +19,7 @@ pub returns-in_err-lost-clause-run : goal.returns-in_err-lost-clause-run
 returns-in_err-lost-clause-run g c = ended-from c.from_residual.result c.from_residual.ensures.1 (ends-read (world-none c.args.image.now))
 
 pub each-init : goal.each-init
-each-init g c = record { came = tells-none 1 has-none; within = asked-none _ c.args.image.now (g.P.BlockDev.state c.args.parity_dev.now); sought = (refl, (refl, refl)); parity = only_read-none (g.P.BlockDev.state c.args.parity_dev.now); run = has-none }
+each-init g c = record { back = λ yes. back-none (job c.args.repair.now) c.args.image.now; came = tells-none 1 has-none; within = asked-none _ c.args.image.now (g.P.BlockDev.state c.args.parity_dev.now); sought = (refl, (refl, refl)); parity = only_read-none (g.P.BlockDev.state c.args.parity_dev.now); run = has-none }
 
 pub restore_block_at-requires-clause-can : goal.restore_block_at-requires-clause-can
 restore_block_at-requires-clause-can g c = can-later c.each.invariant.run c.requires.can
@@ -32,6 +34,8 @@ each-preserved g c = record {
       (sym c.is_in_tree-tree.ensures)
       (sought-next (job c.args.repair.now) c.args.layout.now c.in_ok-lost.lost.items c.args.blocks.now c.each.bad-index _ c.args.image.now c.each.image c.restore_block_at.new.image
       (g.P.BlockDev.state c.args.parity_dev.now) (g.P.BlockDev.state c.each.parity_dev) (g.P.BlockDev.state c.restore_block_at.new.parity_dev) c.each.tree c.in_ok-back.back c.each-test.true c.each.invariant.sought c.in_ok-back.ensures.sought);
+  back = back-next (job c.args.repair.now) c.args.layout.now c.in_ok-lost.lost.items c.args.blocks.now c.each.bad-index _ c.args.image.now c.each.image c.restore_block_at.new.image
+      (g.P.BlockDev.state c.each.parity_dev) (g.P.BlockDev.state c.restore_block_at.new.parity_dev) c.each.all c.in_ok-back.back c.are_both-all.result c.each-test.true c.are_both-all.ensures c.each.invariant.back c.in_ok-back.ensures.sought;
   came = tells-then c.each.tree c.in_ok-back.back c.is_in_tree-tree.result c.is_in_tree-tree.ensures c.each.invariant.came c.in_ok-back.ensures.came;
   within = work-next c.args.repair.now.shape c.args.layout.now c.args.blocks.now c.each.bad-index _ c.each-test.true c.each.invariant.within c.restore_block_at.ensures.within;
   parity = only_read-then c.each.invariant.parity c.restore_block_at.ensures.parity;
@@ -58,6 +62,9 @@ returns-clause-sought g c = record {
       (take_all c.each.bad-index c.args.blocks.now c.each-test.false) c.each.invariant.sought;
 }
 
+pub returns-clause-back : goal.returns-clause-back
+returns-clause-back g c = λ yes. subst (λ xs. AreBack (job c.args.repair.now) xs c.args.image.now c.each.image) (take_all c.each.bad-index c.args.blocks.now c.each-test.false) (c.each.invariant.back yes)
+
 pub returns-in_err-lost-clause-within : goal.returns-in_err-lost-clause-within
 returns-in_err-lost-clause-within g c = asked-none (parity_bill c.args.repair.now.shape c.args.layout.now 0 0 (sought_among c.args.blocks.now)) c.args.image.now (g.P.BlockDev.state c.args.parity_dev.now)
 
@@ -70,10 +77,10 @@ returns-clause-within g c =
     (take_all c.each.bad-index c.args.blocks.now c.each-test.false) c.each.invariant.within
 
 pub returns-in_err-lost-clause-came : goal.returns-in_err-lost-clause-came
-returns-in_err-lost-clause-came g c = tells-from 1 c.from_residual.result c.from_residual.ensures.1 (ends-read (world-none c.args.image.now))
+returns-in_err-lost-clause-came g c = tells-came c.from_residual.result c.from_residual.ensures.1 (ends-read (world-none c.args.image.now))
 
 pub returns-in_err-back-clause-came : goal.returns-in_err-back-clause-came
-returns-in_err-back-clause-came g c = tells-from 1 c.from_residual-in_err-back.result c.from_residual-in_err-back.ensures.1 (has-then c.each.invariant.run c.in_err-back.ensures.run)
+returns-in_err-back-clause-came g c = tells-came c.from_residual-in_err-back.result c.from_residual-in_err-back.ensures.1 (has-then c.each.invariant.run c.in_err-back.ensures.run)
 
 pub returns-clause-came : goal.returns-clause-came
 returns-clause-came g c = c.each.invariant.came

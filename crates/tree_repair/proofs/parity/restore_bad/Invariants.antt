@@ -1,7 +1,8 @@
-use Rattle.std.proofs.Common.{take, None}
+use Rattle.std.proofs.Common.{IsTrue, take, None}
 use Rattle.verity_format.specs.Blocks.{IsOnlyRead}
 use Rattle.tree_repair.specs.Jobs.{job}
 use Rattle.tree_repair.specs.ParityBounds.{IsAskedWithin, TellsOfHash, parity_bill, sought_among}
+use Rattle.tree_repair.specs.Passes.{AreBack}
 use Rattle.tree_repair.specs.Runs.{HasRun}
 use Rattle.tree_repair.specs.Tries.{AreSought}
 use Rattle.tree_repair.proofs.parity.restore_bad.Given as goal
@@ -13,5 +14,6 @@ invariant-each g l = record {
   sought : AreSought (job l.fn.repair) l.losses.layout l.losses.lost.items (take l.bad-index l.blocks) l.fn.image l.image (g.P.BlockDev.state l.fn.parity_dev) (g.P.BlockDev.state l.parity_dev) l.tree;
   within : IsAskedWithin (parity_bill l.fn.repair.shape l.losses.layout 0 0 (sought_among (take l.bad-index l.blocks))) l.fn.image l.image (g.P.BlockDev.state l.fn.parity_dev) (g.P.BlockDev.state l.parity_dev);
   came : TellsOfHash (job l.fn.repair) 1 l.fn.image l.image (g.W.Write.contents l.fn.writer.inner) (g.W.Write.contents l.writer.inner) None l.tree;
+  back : IsTrue l.all → AreBack (job l.fn.repair) (take l.bad-index l.blocks) l.fn.image l.image;
   run : HasRun (job l.fn.repair) l.fn.image l.image (g.W.Write.contents l.fn.writer.inner) (g.W.Write.contents l.writer.inner) None;
 }

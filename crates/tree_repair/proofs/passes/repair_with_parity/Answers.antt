@@ -1,10 +1,12 @@
-use Rattle.std.proofs.Common.{inl, true, ap, inr, refl}
+use Rattle.std.proofs.Common.{inl, true, ap, inr, refl, None, subst, sym}
 use Rattle.tree_path.proofs.lemmas.DeviceLemmas.{only_read-none}
 use Rattle.tree_repair.specs.Jobs.{job}
+use Rattle.tree_repair.specs.Outcomes.{IsParityOutcome}
 use Rattle.tree_repair.specs.Runs.{Job}
-use Rattle.tree_repair.proofs.RepairLemmas.{can-begin, err-from, is_err-from, whole-err, whole-ok, whole-sought}
-use Rattle.tree_repair.proofs.RunLemmas.{laid-read}
-use Rattle.tree_repair.proofs.ParityPassLemmas.{repairs-passes}
+use Rattle.tree_repair.proofs.BackLemmas.{parity-outcome}
+use Rattle.tree_repair.proofs.RepairLemmas.{can-begin, ends-of, err-from, is_err-from, repairs-of, whole-err}
+use Rattle.tree_repair.proofs.RunLemmas.{ended-from, laid-read}
+use Rattle.tree_repair.proofs.ParityPassLemmas.{repairs-passes, runs-from}
 use Rattle.tree_repair.proofs.passes.repair_with_parity.Goals as goal
 
 pub returns-in_err-superblock-clause-parity : goal.returns-in_err-superblock-clause-parity
@@ -25,27 +27,44 @@ run_passes-requires-clause-can g c =
 pub run_passes-requires-clause-laid : goal.run_passes-requires-clause-laid
 run_passes-requires-clause-laid g c = laid-read c.superblock_of.ensures.read c.requires.laid
 
+pub returns-in_err-all-clause-parity : goal.returns-in_err-all-clause-parity
+returns-in_err-all-clause-parity g c = c.run_passes.ensures.parity
+
 pub returns-clause-parity : goal.returns-clause-parity
 returns-clause-parity g c = c.run_passes.ensures.parity
 
+pub returns-in_err-all-clause-err : goal.returns-in_err-all-clause-err
+returns-in_err-all-clause-err g c =
+    whole-err c.in_ok-superblock.superblock c.args.plan true (job c.repair_of-repair.result) c.args.image.now c.superblock_of.new.image c.repair_of-repair.ensures.job c.superblock_of.ensures.read
+    c.in_ok-superblock.ensures.ok c.run_passes.new.image (g.W.Write.contents c.args.writer.now.inner) (g.W.Write.contents c.run_passes.new.writer.inner) c.from_residual-in_err-all.result
+    (ended-from c.from_residual-in_err-all.result c.from_residual-in_err-all.ensures.1 c.in_err-all.ensures.run)
+
 pub returns-clause-ok : goal.returns-clause-ok
 returns-clause-ok g c =
-    whole-ok c.in_ok-superblock.superblock c.args.plan true (job c.repair_of-repair.result) c.args.image.now c.superblock_of.new.image c.repair_of-repair.ensures.job c.superblock_of.ensures.read
-    c.in_ok-superblock.ensures.ok c.run_passes.new.image (g.W.Write.contents c.args.writer.now.inner) (g.W.Write.contents c.run_passes.new.writer.inner) c.run_passes.result c.run_passes.ensures.run
-
-pub returns-clause-err : goal.returns-clause-err
-returns-clause-err g c =
-    whole-err c.in_ok-superblock.superblock c.args.plan true (job c.repair_of-repair.result) c.args.image.now c.superblock_of.new.image c.repair_of-repair.ensures.job c.superblock_of.ensures.read
-    c.in_ok-superblock.ensures.ok c.run_passes.new.image (g.W.Write.contents c.args.writer.now.inner) (g.W.Write.contents c.run_passes.new.writer.inner) c.run_passes.result c.run_passes.ensures.run
+    repairs-of c.in_ok-superblock.superblock c.args.plan true (job c.repair_of-repair.result) c.args.image.now c.superblock_of.new.image c.repair_of-repair.ensures.job c.superblock_of.ensures.read
+    c.in_ok-superblock.ensures.ok c.run_passes.new.image (g.W.Write.contents c.args.writer.now.inner) (g.W.Write.contents c.run_passes.new.writer.inner) None c.in_ok-all.ensures.run
 
 pub returns-in_err-superblock-clause-within : goal.returns-in_err-superblock-clause-within
 returns-in_err-superblock-clause-within g c = inl (is_err-from c.from_residual.result _ c.in_err-superblock.field-0.0 c.from_residual.ensures.1 c.in_err-superblock.ensures.err, (c.superblock_of.ensures.alone, refl))
 
+pub returns-in_err-all-clause-within : goal.returns-in_err-all-clause-within
+returns-in_err-all-clause-within g c =
+    inr (repairs-passes c.in_ok-superblock.superblock c.args.plan (job c.repair_of-repair.result) c.repair_of-repair.ensures.job c.superblock_of.ensures.read c.in_ok-superblock.ensures.ok c.in_ok-superblock.ensures.asked
+    (runs-from c.from_residual-in_err-all.result c.from_residual-in_err-all.ensures.1 c.in_err-all.ensures.within))
+
 pub returns-clause-within : goal.returns-clause-within
 returns-clause-within g c =
-    inr (repairs-passes c.in_ok-superblock.superblock c.args.plan (job c.repair_of-repair.result) c.repair_of-repair.ensures.job c.superblock_of.ensures.read c.in_ok-superblock.ensures.ok c.in_ok-superblock.ensures.asked c.run_passes.ensures.within)
+    inr (repairs-passes c.in_ok-superblock.superblock c.args.plan (job c.repair_of-repair.result) c.repair_of-repair.ensures.job c.superblock_of.ensures.read c.in_ok-superblock.ensures.ok c.in_ok-superblock.ensures.asked c.in_ok-all.ensures.within)
+
+pub returns-clause-whole : goal.returns-clause-whole
+returns-clause-whole g c =
+    let w = c.args.image.now in
+    let y = c.run_passes.new.image in
+    subst (IsParityOutcome c.args.plan w y) (sym c.outcome_of.ensures)
+    (parity-outcome c.in_ok-superblock.superblock c.args.plan (job c.repair_of-repair.result) w c.superblock_of.new.image y c.repair_of-repair.ensures.job c.superblock_of.ensures.read c.in_ok-superblock.ensures.ok
+    c.in_ok-all.all c.blocks-blocks.result c.blocks-blocks.ensures.value c.in_ok-all.ensures.whole)
 
 pub returns-clause-sought : goal.returns-clause-sought
 returns-clause-sought g c =
-    whole-sought c.in_ok-superblock.superblock c.args.plan (job c.repair_of-repair.result) c.args.layout.now c.args.image.now c.superblock_of.new.image c.run_passes.new.image
-    (g.P.BlockDev.state c.args.parity_dev.now) (g.P.BlockDev.state c.run_passes.new.parity_dev) c.run_passes.result c.repair_of-repair.ensures.job c.superblock_of.ensures.read c.in_ok-superblock.ensures.ok c.repair_of-repair.ensures.valid c.run_passes.ensures.asks
+    ends-of c.in_ok-superblock.superblock c.args.plan (job c.repair_of-repair.result) c.args.layout.now c.args.image.now c.superblock_of.new.image c.run_passes.new.image
+    (g.P.BlockDev.state c.args.parity_dev.now) (g.P.BlockDev.state c.run_passes.new.parity_dev) c.repair_of-repair.ensures.job c.superblock_of.ensures.read c.in_ok-superblock.ensures.ok c.repair_of-repair.ensures.valid c.in_ok-all.ensures.asks

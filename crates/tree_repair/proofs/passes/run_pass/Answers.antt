@@ -1,6 +1,7 @@
 use Rattle.std.proofs.Common.{IsTrue, false, sym, ◌∙◌, ◌&&◌, Bool, ap}
 use Rattle.std.proofs.lemmas.Bool.{false≢true}
 use Rattle.tree_path.proofs.lemmas.DeviceLemmas.{only_read-none}
+use Rattle.tree_repair.proofs.BackLemmas.{all-good-pass}
 use Rattle.tree_repair.proofs.PassLemmas.{pass-of}
 use Rattle.tree_repair.proofs.RunLemmas.{can-later, ended-from, has-then, laid-later}
 use Rattle.tree_repair.proofs.ParityPassLemmas.{runs-not, runs-pass, runs-told}
@@ -19,36 +20,41 @@ restore_bad-requires-clause-can g c = can-later c.in_ok-repair_heights.ensures.n
 pub restore_bad-requires-clause-laid : goal.restore_bad-requires-clause-laid
 restore_bad-requires-clause-laid g c = laid-later c.in_ok-repair_heights.ensures.notes.run c.requires.laid
 
-pub returns-in_err-tree-clause-parity : goal.returns-in_err-tree-clause-parity
-returns-in_err-tree-clause-parity g c = c.restore_bad.ensures.parity
+pub returns-in_err-came-clause-parity : goal.returns-in_err-came-clause-parity
+returns-in_err-came-clause-parity g c = c.restore_bad.ensures.parity
 
-pub returns-in_err-tree-clause-run : goal.returns-in_err-tree-clause-run
-returns-in_err-tree-clause-run g c =
-    ended-from c.from_residual-in_err-tree.result c.from_residual-in_err-tree.ensures.1 (has-then c.in_ok-repair_heights.ensures.notes.run c.in_err-tree.ensures.run)
+pub returns-in_err-came-clause-run : goal.returns-in_err-came-clause-run
+returns-in_err-came-clause-run g c =
+    ended-from c.from_residual-in_err-came.result c.from_residual-in_err-came.ensures.1 (has-then c.in_ok-repair_heights.ensures.notes.run c.in_err-came.ensures.run)
 
 pub returns-clause-parity : goal.returns-clause-parity
 returns-clause-parity g c = c.restore_bad.ensures.parity
 
 pub returns-clause-run : goal.returns-clause-run
-returns-clause-run g c = has-then c.in_ok-repair_heights.ensures.notes.run c.in_ok-tree.ensures.run
+returns-clause-run g c = has-then c.in_ok-repair_heights.ensures.notes.run c.in_ok-came.ensures.run
 
 pub returns-clause-pass : goal.returns-clause-pass
-returns-clause-pass g c = pass-of c.noted.result.now c.if-tree.result c.in_ok-repair_heights.ensures.notes c.new-bad.ensures.asked c.new-bad.ensures.none c.noted.ensures c.in_ok-tree.ensures.sought
+returns-clause-pass g c = pass-of c.noted.result.now c.if-tree.result c.in_ok-repair_heights.ensures.notes c.new-bad.ensures.asked c.new-bad.ensures.none c.noted.ensures c.in_ok-came.ensures.sought
     (elim c.if-tree.branch [
       | then-tree w ↦ w.result-is ∙ ap (λ (b : Bool). b && c.args.repair.now.write) (sym w.if-tree.true)
       | else-tree w ↦ w.result-is ∙ w.if-tree.false ∙ ap (λ (b : Bool). b && c.args.repair.now.write) (sym w.if-tree.false)
     ])
 
+pub returns-clause-whole : goal.returns-clause-whole
+returns-clause-whole g c = λ yes.
+    all-good-pass c.noted.result.now c.in_ok-repair_heights.ensures.notes c.new-bad.ensures.asked c.new-bad.ensures.none c.noted.ensures
+    (c.in_ok-came.ensures.back (c.is_whole-all.ensures.back yes)) (c.is_whole-all.ensures.passed yes) (c.is_whole-all.ensures.any yes)
+
 pub returns-in_err-repair_heights-clause-within : goal.returns-in_err-repair_heights-clause-within
 returns-in_err-repair_heights-clause-within g c = runs-told c.from_residual.result c.from_residual.ensures.1 (runs-not c.in_err-repair_heights.ensures.notes.run c.repair_heights.ensures.asked)
 
-pub returns-in_err-tree-clause-within : goal.returns-in_err-tree-clause-within
-returns-in_err-tree-clause-within g c =
-    runs-told c.from_residual-in_err-tree.result c.from_residual-in_err-tree.ensures.1
-    (runs-pass false (λ more. absurd (false≢true more)) c.noted.result.now c.in_ok-repair_heights.ensures.notes c.new-bad.ensures.asked c.new-bad.ensures.none c.noted.ensures c.in_ok-repair_heights.ensures.few c.repair_heights.ensures.asked c.in_err-tree.ensures.came c.restore_bad.ensures.within)
+pub returns-in_err-came-clause-within : goal.returns-in_err-came-clause-within
+returns-in_err-came-clause-within g c =
+    runs-told c.from_residual-in_err-came.result c.from_residual-in_err-came.ensures.1
+    (runs-pass false (λ more. absurd (false≢true more)) c.noted.result.now c.in_ok-repair_heights.ensures.notes c.new-bad.ensures.asked c.new-bad.ensures.none c.noted.ensures c.in_ok-repair_heights.ensures.few c.repair_heights.ensures.asked c.in_err-came.ensures.came c.restore_bad.ensures.within)
 
 pub returns-clause-within : goal.returns-clause-within
 returns-clause-within g c =
-    let came : IsTrue c.if-tree.result → IsTrue c.in_ok-tree.tree =
+    let came : IsTrue c.if-tree.result → IsTrue c.in_ok-came.came.tree =
     λ more. elim c.if-tree.branch [ then-tree w ↦ w.if-tree.true | else-tree w ↦ sym w.result-is ∙ more ] in
-    runs-pass c.if-tree.result came c.noted.result.now c.in_ok-repair_heights.ensures.notes c.new-bad.ensures.asked c.new-bad.ensures.none c.noted.ensures c.in_ok-repair_heights.ensures.few c.repair_heights.ensures.asked c.in_ok-tree.ensures.came c.restore_bad.ensures.within
+    runs-pass c.if-tree.result came c.noted.result.now c.in_ok-repair_heights.ensures.notes c.new-bad.ensures.asked c.new-bad.ensures.none c.noted.ensures c.in_ok-repair_heights.ensures.few c.repair_heights.ensures.asked c.in_ok-came.ensures.came c.restore_bad.ensures.within
