@@ -9,30 +9,31 @@ use Rattle.image_files.specs.declared.opening.UnopenedFile.{UnopenedFile}
 use Rattle.image_files.specs.Opener.{Calls}
 use Rattle.tree_commands.specs.declared.fault.TreeFault.{TreeFault}
 use Rattle.tree_commands.specs.declared.fault.TreeFault.TheVariants.{Open}
-use Rattle.tree_commands.specs.Surveys.{IsSurveyFilesEnd, PrintsGood}
 use Rattle.tree_repair.specs.declared.fault.RepairFault.{RepairFault}
+use Rattle.tree_repair.specs.declared.outcome.Outcome.{Outcome}
 use Rattle.tree_repair.specs.declared.repair.Plan.{Plan}
 use Rattle.tree_repair.specs.Worlds.{IsWorldRead, RepairWorld, repair_world}
 use Rattle.repair_commands.specs.declared.fault.ParityRepairFault.{ParityRepairFault}
 use Rattle.repair_commands.specs.declared.fault.ParityRepairFault.TheVariants.{Tree}
 use Rattle.repair_commands.specs.declared.opening.Opened.{Opened}
 use Rattle.repair_commands.specs.declared.parity.Parity.{Parity}
-use Rattle.repair_commands.specs.Commands.{GivesBackImages, ending_fault, plan_of, surveyed, world_of}
+use Rattle.repair_commands.specs.Commands.{GivesBackImages, ending_fault, plan_of, world_of}
 use Rattle.repair_commands.specs.Mends.{HalfMends, MendsInPasses, MendsWhole}
 use Rattle.repair_commands.specs.Openings.{FailsToOpenCopies, OpensAll}
 use Rattle.repair_commands.specs.Pairs.{Places}
+use Rattle.repair_commands.specs.Rest.{IsRestEnd, TellsRest}
 use Rattle.repair_commands.specs.Parity.{FailsToOpenParity, IsUnlaid, LaysOutParity, OpensParity}
 
 -- ---- of devices
 
 -- The parity was laid out, and the image gone over by it too; of the passes more is said, from behind the reading for the layout.
-pub record MendsByParity (plan : Plan) (parity_dev : Device) (roots : ℕ) (w w' : RepairWorld) (old new : Option (List ℕ)) : Type 0 where
+pub record MendsByParity (plan : Plan) (parity_dev : Device) (roots : ℕ) (w w' : RepairWorld) (old new : Option (List ℕ)) (outcome : Outcome) : Type 0 where
   pub layout : Layout
   pub read_dev : Device
   pub lays : LaysOutParity w.data_dev w.hash_dev parity_dev roots read_dev layout
   pub mends : MendsWhole plan true w w' old new
   pub parity_dev' : Device
-  pub passes : MendsInPasses plan layout parity_dev parity_dev' (record w { hash_dev = read_dev }) w' old new
+  pub passes : MendsInPasses plan layout parity_dev parity_dev' (record w { hash_dev = read_dev }) w' old new outcome
 
 -- it isn't gone over to its end, or not all is on the media: good blocks alone were written all the same
 pub record EndsHalf (plan : Plan) (w w' : RepairWorld) (old new : Option (List ℕ)) (fault : ParityRepairFault) : Type 0 where
@@ -50,8 +51,8 @@ abbrev pub HalfMendsByParity : Plan → Device → ℕ → RepairWorld → Repai
 HalfMendsByParity plan parity_dev roots w w' old new fault = IsUnlaidEnd parity_dev roots w w' old new fault ⊎ EndsHalf plan w w' old new fault
 
 -- the same by a writer before and behind
-abbrev pub IsMendedByParity : {W : Type 0} → (W → Option (List ℕ)) → Plan → Device → ℕ → RepairWorld → RepairWorld → CountedRecord W → CountedRecord W → Type 0
-IsMendedByParity contents plan parity_dev roots w w' old new = MendsByParity plan parity_dev roots w w' (contents old.inner) (contents new.inner)
+abbrev pub IsMendedByParity : {W : Type 0} → (W → Option (List ℕ)) → Plan → Device → ℕ → RepairWorld → RepairWorld → CountedRecord W → CountedRecord W → Outcome → Type 0
+IsMendedByParity contents plan parity_dev roots w w' old new outcome = MendsByParity plan parity_dev roots w w' (contents old.inner) (contents new.inner) outcome
 
 abbrev pub IsHalfByParity : {W : Type 0} → (W → Option (List ℕ)) → Plan → Device → ℕ → RepairWorld → RepairWorld → CountedRecord W → CountedRecord W → ParityRepairFault → Type 0
 IsHalfByParity contents plan parity_dev roots w w' old new fault = HalfMendsByParity plan parity_dev roots w w' (contents old.inner) (contents new.inner) fault
@@ -59,12 +60,12 @@ IsHalfByParity contents plan parity_dev roots w w' old new fault = HalfMendsByPa
 -- ---- of files
 
 -- what is open was repaired, and both parts given back
-pub record MendsOpenedByParity {S D : Type 0} (w : Calls S D) (p : Places) (o : Opened D) (parity : Parity D) (root : List ℕ) (old new : Option (List ℕ)) : Type 0 where
+pub record MendsOpenedByParity {S D : Type 0} (w : Calls S D) (p : Places) (o : Opened D) (parity : Parity D) (root : List ℕ) (old new : Option (List ℕ)) (outcome : Outcome) : Type 0 where
   pub data_dev : D
   pub hash_dev : D
   pub data_copies : List D
   pub hash_copies : List D
-  pub mends : MendsByParity (plan_of p root) (w.state parity.device) parity.roots (world_of w o) (repair_world (w.state data_dev) (w.state hash_dev) (map w.state data_copies) (map w.state hash_copies)) old new
+  pub mends : MendsByParity (plan_of p root) (w.state parity.device) parity.roots (world_of w o) (repair_world (w.state data_dev) (w.state hash_dev) (map w.state data_copies) (map w.state hash_copies)) old new outcome
   pub back : GivesBackImages p.write w p o.parts data_dev hash_dev
 
 -- or not to the end
@@ -83,19 +84,20 @@ pub record OpensAllWithParity {S D : Type 0} (w : Calls S D) (p : Places) (fec :
   pub parity_opens : OpensParity (record w { old = between }) p o fec parity
 
 -- all is open, was repaired and given back
-pub record MendsFilesByParity {S D : Type 0} (w : Calls S D) (p : Places) (fec : FecRecord) (copies : List ImageCopy) (root : List ℕ) (old new : Option (List ℕ)) : Type 0 where
+pub record MendsFilesByParity {S D : Type 0} (w : Calls S D) (p : Places) (fec : FecRecord) (copies : List ImageCopy) (root : List ℕ) (old new : Option (List ℕ)) (outcome : Outcome) : Type 0 where
   pub ready : S
   pub opened : Opened D
   pub parity : Parity D
   pub opens : OpensAllWithParity (record w { new = ready }) p fec copies opened parity
-  pub mends : MendsOpenedByParity (record w { old = ready }) p opened parity root old new
+  pub mends : MendsOpenedByParity (record w { old = ready }) p opened parity root old new outcome
 
--- and then the image gone over as by `verify --all`, and all of it is good
+-- and then it was told what is still lost, and that is nothing
 pub record RepairsByParity {S D : Type 0} (w : Calls S D) (p : Places) (fec : FecRecord) (copies : List ImageCopy) (root : List ℕ) (old new : Option (List ℕ)) : Type 0 where
   pub mended : S
   pub between : Option (List ℕ)
-  pub mends : MendsFilesByParity (record w { new = mended }) p fec copies root old between
-  pub surveys : PrintsGood false (record w { old = mended }) (surveyed p) root between new
+  pub outcome : Outcome
+  pub mends : MendsFilesByParity (record w { new = mended }) p fec copies root old between outcome
+  pub tells : TellsRest outcome (record w { old = mended }) p root between new
 
 -- ---- how it ends early
 
@@ -124,13 +126,14 @@ pub record EndsUnmendedByParity {S D : Type 0} (w : Calls S D) (p : Places) (fec
   pub opens : OpensAllWithParity (record w { new = ready }) p fec copies opened parity
   pub half : HalfMendsOpenedByParity (record w { old = ready }) p opened parity root old new fault
 
--- it is, and then the image isn't gone over, or not all of it is good
+-- it is, and then that isn't told to its end, or not all of it is good
 pub record EndsBehindByParity {S D : Type 0} (w : Calls S D) (p : Places) (fec : FecRecord) (copies : List ImageCopy) (root : List ℕ) (old new : Option (List ℕ)) (failed : Bool) (fault : ParityRepairFault) : Type 0 where
   pub mended : S
   pub between : Option (List ℕ)
-  pub mends : MendsFilesByParity (record w { new = mended }) p fec copies root old between
+  pub outcome : Outcome
+  pub mends : MendsFilesByParity (record w { new = mended }) p fec copies root old between outcome
   pub cause : TreeFault
-  pub ends : IsSurveyFilesEnd false (record w { old = mended }) (surveyed p) root between new failed cause
+  pub ends : IsRestEnd outcome (record w { old = mended }) p root between new failed cause
   pub is : fault ≡ Tree cause
 
 abbrev pub IsParityRepairEnd : {S D : Type 0} → Calls S D → Places → FecRecord → List ImageCopy → List ℕ → Option (List ℕ) → Option (List ℕ) → Bool → ParityRepairFault → Type 0

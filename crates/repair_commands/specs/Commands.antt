@@ -4,10 +4,10 @@ use Rattle.command_line.specs.declared.image_copies.ImageCopy.{ImageCopy}
 use Rattle.image_files.specs.Opener.{Calls}
 use Rattle.tree_commands.specs.declared.fault.TreeFault.{TreeFault}
 use Rattle.tree_commands.specs.declared.fault.TreeFault.TheVariants as trees
-use Rattle.tree_commands.specs.Surveys.{IsSurveyFilesEnd, PrintsGood, SurveyedPlaces}
 use Rattle.tree_survey.specs.declared.fault.SurveyFault.TheVariants as survey
 use Rattle.tree_repair.specs.declared.fault.RepairFault.{RepairFault}
 use Rattle.tree_repair.specs.declared.fault.RepairFault.TheVariants.{Image, Write}
+use Rattle.tree_repair.specs.declared.outcome.Outcome.{Outcome}
 use Rattle.tree_repair.specs.declared.repair.Plan.{Plan}
 use Rattle.tree_repair.specs.Worlds.{RepairWorld, repair_world}
 use Rattle.repair_commands.specs.declared.opening.Opened.{Opened}
@@ -15,6 +15,7 @@ use Rattle.repair_commands.specs.declared.pair.Parts.{Parts}
 use Rattle.repair_commands.specs.Mends.{HalfMends, MendsInOnePass}
 use Rattle.repair_commands.specs.Openings.{FailsToOpenCopies, OpensAll}
 use Rattle.repair_commands.specs.Pairs.{Places}
+use Rattle.repair_commands.specs.Rest.{IsRestEnd, TellsRest}
 
 abbrev pub plan_of : Places → List ℕ → Plan
 plan_of p root = record { root = root; copy_first = p.first; write = p.write }
@@ -35,12 +36,12 @@ GivesBackImages true w p parts data_dev hash_dev = TakesBoth w p parts data_dev 
 GivesBackImages false w p parts data_dev hash_dev = w.new ≡ w.old
 
 -- what is open was repaired, what was written put on the media, and both parts given back
-pub record MendsOpened {S D : Type 0} (w : Calls S D) (p : Places) (o : Opened D) (root : List ℕ) (old new : Option (List ℕ)) : Type 0 where
+pub record MendsOpened {S D : Type 0} (w : Calls S D) (p : Places) (o : Opened D) (root : List ℕ) (old new : Option (List ℕ)) (outcome : Outcome) : Type 0 where
   pub data_dev : D
   pub hash_dev : D
   pub data_copies : List D
   pub hash_copies : List D
-  pub mends : MendsInOnePass (plan_of p root) (world_of w o) (repair_world (w.state data_dev) (w.state hash_dev) (map w.state data_copies) (map w.state hash_copies)) old new
+  pub mends : MendsInOnePass (plan_of p root) (world_of w o) (repair_world (w.state data_dev) (w.state hash_dev) (map w.state data_copies) (map w.state hash_copies)) old new outcome
   pub back : GivesBackImages p.write w p o.parts data_dev hash_dev
 
 -- the fault with which a repair ends that isn't one to the end
@@ -62,11 +63,11 @@ pub record HalfMendsOpened {S D : Type 0} (w : Calls S D) (p : Places) (o : Open
 -- ---- from the words on
 
 -- the images and the copies were opened, and the images repaired and given back
-pub record MendsFiles {S D : Type 0} (w : Calls S D) (p : Places) (copies : List ImageCopy) (root : List ℕ) (old new : Option (List ℕ)) : Type 0 where
+pub record MendsFiles {S D : Type 0} (w : Calls S D) (p : Places) (copies : List ImageCopy) (root : List ℕ) (old new : Option (List ℕ)) (outcome : Outcome) : Type 0 where
   pub ready : S
   pub opened : Opened D
   pub opens : OpensAll (record w { new = ready }) p copies opened
-  pub mends : MendsOpened (record w { old = ready }) p opened root old new
+  pub mends : MendsOpened (record w { old = ready }) p opened root old new outcome
 
 -- a file isn't opened, and nothing was written or printed
 pub record EndsUnopenedRepair {S D : Type 0} (w : Calls S D) (p : Places) (copies : List ImageCopy) (old new : Option (List ℕ)) (fault : TreeFault) : Type 0 where
@@ -85,22 +86,21 @@ IsMendingEnd w p copies root old new fault = EndsUnopenedRepair w p copies old n
 
 -- ---- and what is still lost
 
-abbrev pub surveyed : Places → SurveyedPlaces
-surveyed p = record { paths = record { first_path = p.data_path; second_path = p.hash_path }; first = p.first }
-
--- behind that the image was gone over as by `verify --all`, and all of it is good
+-- behind that it was told what is still lost, and that is nothing
 pub record RepairsFiles {S D : Type 0} (w : Calls S D) (p : Places) (copies : List ImageCopy) (root : List ℕ) (old new : Option (List ℕ)) : Type 0 where
   pub mended : S
   pub between : Option (List ℕ)
-  pub mends : MendsFiles (record w { new = mended }) p copies root old between
-  pub surveys : PrintsGood false (record w { old = mended }) (surveyed p) root between new
+  pub outcome : Outcome
+  pub mends : MendsFiles (record w { new = mended }) p copies root old between outcome
+  pub tells : TellsRest outcome (record w { old = mended }) p root between new
 
--- or it wasn't, or not all of it is good
+-- or that isn't told to its end, or not all of it is good
 pub record EndsBehind {S D : Type 0} (w : Calls S D) (p : Places) (copies : List ImageCopy) (root : List ℕ) (old new : Option (List ℕ)) (failed : Bool) (fault : TreeFault) : Type 0 where
   pub mended : S
   pub between : Option (List ℕ)
-  pub mends : MendsFiles (record w { new = mended }) p copies root old between
-  pub ends : IsSurveyFilesEnd false (record w { old = mended }) (surveyed p) root between new failed fault
+  pub outcome : Outcome
+  pub mends : MendsFiles (record w { new = mended }) p copies root old between outcome
+  pub ends : IsRestEnd outcome (record w { old = mended }) p root between new failed fault
 
 -- it isn't repaired to the end, or is, and that comes behind
 abbrev pub IsRepairEnd : {S D : Type 0} → Calls S D → Places → List ImageCopy → List ℕ → Option (List ℕ) → Option (List ℕ) → Bool → TreeFault → Type 0

@@ -5,9 +5,10 @@ use Rattle.counted_io.specs.Counted.{CountedRecord}
 use Rattle.fec_area.specs.declared.layout.Layout.{Layout}
 use Rattle.tree_repair.specs.declared.fault.RepairFault.{RepairFault}
 use Rattle.tree_repair.specs.declared.fault.RepairFault.TheVariants.{Image}
+use Rattle.tree_repair.specs.declared.outcome.Outcome.{Outcome}
 use Rattle.tree_repair.specs.declared.repair.Plan.{Plan}
 use Rattle.tree_repair.specs.Bounds.{RepairsInOnePass}
-use Rattle.tree_repair.specs.Outcomes.{LeavesWhole}
+use Rattle.tree_repair.specs.Outcomes.{IsOutcomeOf, IsParityOutcome}
 use Rattle.tree_repair.specs.ParityBounds.{RepairsInPasses}
 use Rattle.tree_repair.specs.Repairs.{IsUnrepairedBy, LooksAtAll, Repairs, SeeksByParity}
 use Rattle.tree_repair.specs.Worlds.{RepairWorld}
@@ -32,19 +33,19 @@ pub record MendsWhole (plan : Plan) (parity : Bool) (w w' : RepairWorld) (old ne
   pub hash_copies_are : w'.hash_copies ≡ mid.hash_copies
   pub on_medium : IsOnMedium plan.write w'.data_dev w'.hash_dev
 
--- So by copies and what is beneath hash blocks alone: each block was looked at, in one pass. Over steady devices that may be
--- written, of which the hash device never fails, each data block is good behind it, or one on its way was lost.
-pub record MendsInOnePass (plan : Plan) (w w' : RepairWorld) (old new : Option (List ℕ)) : Type 0 where
+-- So by copies and what is beneath hash blocks alone: each block was looked at, in one pass, and this is known of the image.
+pub record MendsInOnePass (plan : Plan) (w w' : RepairWorld) (old new : Option (List ℕ)) (outcome : Outcome) : Type 0 where
   pub mends : MendsWhole plan false w w' old new
   pub all : LooksAtAll plan w mends.mid old new
   pub within : RepairsInOnePass plan w mends.mid old new None
-  pub whole : LeavesWhole plan w mends.mid
+  pub whole : IsOutcomeOf plan w mends.mid outcome
 
--- so with parity: in passes, in each of which what was found nowhere was sought by it
-pub record MendsInPasses (plan : Plan) (l : Layout) (p p' : Device) (w w' : RepairWorld) (old new : Option (List ℕ)) : Type 0 where
+-- so with parity: in passes, in each of which what was found nowhere was sought by it, and this is known of the image
+pub record MendsInPasses (plan : Plan) (l : Layout) (p p' : Device) (w w' : RepairWorld) (old new : Option (List ℕ)) (outcome : Outcome) : Type 0 where
   pub mends : MendsWhole plan true w w' old new
   pub within : RepairsInPasses plan l w mends.mid p p' old new None
   pub sought : SeeksByParity plan l w mends.mid p p'
+  pub whole : IsParityOutcome plan w mends.mid outcome
 
 -- what was written isn't all on the media, since a device failed in a sync
 abbrev pub HasFailedInSync : Bool → Device → Device → Device → Device → Type 0
@@ -63,12 +64,12 @@ pub record HalfMends (plan : Plan) (parity : Bool) (w w' : RepairWorld) (old new
 
 -- ---- the same by a writer before and behind
 
-abbrev pub IsMendedInOnePass : {W : Type 0} → (W → Option (List ℕ)) → Plan → RepairWorld → RepairWorld → CountedRecord W → CountedRecord W → Type 0
-IsMendedInOnePass contents plan w w' old new = MendsInOnePass plan w w' (contents old.inner) (contents new.inner)
+abbrev pub IsMendedInOnePass : {W : Type 0} → (W → Option (List ℕ)) → Plan → RepairWorld → RepairWorld → CountedRecord W → CountedRecord W → Outcome → Type 0
+IsMendedInOnePass contents plan w w' old new outcome = MendsInOnePass plan w w' (contents old.inner) (contents new.inner) outcome
 
 -- and by the parity device before and behind
-abbrev pub IsMendedInPasses : {P W : Type 0} → (P → Device) → (W → Option (List ℕ)) → Plan → Layout → RepairWorld → RepairWorld → P → P → CountedRecord W → CountedRecord W → Type 0
-IsMendedInPasses state contents plan l w w' p p' old new = MendsInPasses plan l (state p) (state p') w w' (contents old.inner) (contents new.inner)
+abbrev pub IsMendedInPasses : {P W : Type 0} → (P → Device) → (W → Option (List ℕ)) → Plan → Layout → RepairWorld → RepairWorld → P → P → CountedRecord W → CountedRecord W → Outcome → Type 0
+IsMendedInPasses state contents plan l w w' p p' old new outcome = MendsInPasses plan l (state p) (state p') w w' (contents old.inner) (contents new.inner) outcome
 
 abbrev pub IsMendedHalf : {W : Type 0} → (W → Option (List ℕ)) → Plan → Bool → RepairWorld → RepairWorld → CountedRecord W → CountedRecord W → RepairFault → Type 0
 IsMendedHalf contents plan parity w w' old new fault = HalfMends plan parity w w' (contents old.inner) (contents new.inner) fault

@@ -1,5 +1,5 @@
 //! `repair --fec FILE`: what no copy has is made again by the parity in a file.
-ghost use Rattle.std.specs.Prelude.{◌≤◌, ◌^◌, true, IfErr, OnOk};
+ghost use Rattle.std.specs.Prelude.{◌≤◌, ◌^◌, true, IfErr, IfOk, OnOk};
 ghost use Rattle.command_line.specs.FecFiles.{fec_record};
 ghost use Rattle.fec_area.specs.Layouts.{IsLaidOn};
 ghost use Rattle.image_files.specs.Opener.{IsFresh, calls};
@@ -13,7 +13,8 @@ use crate::mending::sync_both;
 use crate::opening::{Copies, Opened, open_all};
 use crate::pair::{Pair, RepairPlaces};
 use crate::parity::{Parity, lay_out, open_parity};
-use crate::repair::{give_back, say_lost};
+use crate::repair::give_back;
+use crate::rest::say_rest;
 use block_device::{BlockDev, SyncDev};
 use command_line::{FecFile, ImageCopy};
 use counted_io::Counted;
@@ -22,7 +23,7 @@ use image_files::Images;
 use std::alloc::Global;
 use std::io::Write;
 use tree_commands::TreeFault;
-use tree_repair::{DamagedImage, Plan, RepairFault, repair_with_parity};
+use tree_repair::{DamagedImage, Outcome, Plan, RepairFault, repair_with_parity};
 use tree_shape::Digest;
 use watched_device::Watchers;
 
@@ -49,8 +50,8 @@ pub fn repair_by_parity<'a, I: Images, S: Watchers, W: Write>(
         Ok(parity) => parity,
         Err(file) => return Err(ParityRepairFault::Tree(TreeFault::Open(file))),
     };
-    mend_opened(alloc, images, places, opened, parity, root, writer)?;
-    say_lost(alloc, images, watchers, places, root, writer)?;
+    let outcome = mend_opened(alloc, images, places, opened, parity, root, writer)?;
+    say_rest(alloc, images, watchers, places, outcome, root, writer)?;
     Ok(())
 }
 
@@ -63,13 +64,13 @@ fn mend_opened<'a, I: Images, W: Write>(
     parity: Parity<I::Dev>,
     root: &Digest,
     writer: &mut Counted<W>,
-) -> Result<(), ParityRepairFault<'a>>
+) -> Result<Outcome, ParityRepairFault<'a>>
     requires first { places.hash_first ≤ 2 ^ 55 }
     requires some { 2 ≤ parity.roots }
     requires few { parity.roots ≤ 24 }
     requires data_fresh { IsFresh (I.Dev.state opened.pair.data_image.device) places.write }
     requires hash_fresh { IsFresh (I.Dev.state opened.pair.hash_image.device) places.write }
-    ensures ok { OnOk result (MendsOpenedByParity (calls I.relations I.Dev.state images.old images.new) (places_of places.entry) opened parity root.now (W.contents writer.old.inner) (W.contents writer.new.inner)) }
+    ensures ok { IfOk result (MendsOpenedByParity (calls I.relations I.Dev.state images.old images.new) (places_of places.entry) opened parity root.now (W.contents writer.old.inner) (W.contents writer.new.inner)) }
     ensures err { IfErr result (HalfMendsOpenedByParity (calls I.relations I.Dev.state images.old images.new) (places_of places.entry) opened parity root.now (W.contents writer.old.inner) (W.contents writer.new.inner)) }
 {
     let Opened {
@@ -113,17 +114,23 @@ fn mend_laid_out<'a, D: SyncDev, H: SyncDev, C: BlockDev, P: BlockDev, W: Write>
     parity: &mut Parity<P>,
     plan: Plan,
     writer: &mut Counted<W>,
-) -> Result<(), ParityRepairFault<'a>>
+) -> Result<Outcome, ParityRepairFault<'a>>
     requires first { plan.copy_first ≤ 2 ^ 55 }
     requires some { 2 ≤ parity.old.roots }
     requires few { parity.old.roots ≤ 24 }
     requires allowed { IsAllowed plan.write image.old.data_dev image.old.hash_dev }
-    ensures ok { OnOk result (IsMendedByParity W.contents plan (P.state parity.old.device) parity.old.roots image.old image.new writer.old writer.new) }
+    ensures ok { IfOk result (IsMendedByParity W.contents plan (P.state parity.old.device) parity.old.roots image.old image.new writer.old writer.new) }
     ensures err { IfErr result (IsHalfByParity W.contents plan (P.state parity.old.device) parity.old.roots image.old image.new writer.old writer.new) }
 {
     let layout = lay_out(&image.data, &mut image.hash, parity)?;
-    mend_with_parity(alloc, image, &layout, &mut parity.device, plan, writer)?;
-    Ok(())
+    Ok(mend_with_parity(
+        alloc,
+        image,
+        &layout,
+        &mut parity.device,
+        plan,
+        writer,
+    )?)
 }
 
 // Repairs both by copies and parity, and has what was written put on their media.
@@ -134,15 +141,15 @@ fn mend_with_parity<D: SyncDev, H: SyncDev, C: BlockDev, P: BlockDev, W: Write>(
     parity_dev: &mut P,
     plan: Plan,
     writer: &mut Counted<W>,
-) -> Result<(), RepairFault>
+) -> Result<Outcome, RepairFault>
     requires first { plan.copy_first ≤ 2 ^ 55 }
     requires allowed { IsAllowed plan.write image.old.data_dev image.old.hash_dev }
     requires laid { IsLaidOn layout.now image.old.data_dev image.old.hash_dev }
-    ensures ok { OnOk result (IsMendedInPasses P.state W.contents plan layout.now image.old image.new parity_dev.old parity_dev.new writer.old writer.new) }
+    ensures ok { IfOk result (IsMendedInPasses P.state W.contents plan layout.now image.old image.new parity_dev.old parity_dev.new writer.old writer.new) }
     ensures err { IfErr result (IsMendedHalf W.contents plan true image.old image.new writer.old writer.new) }
 {
     let write = plan.write;
-    repair_with_parity(alloc, image, layout, parity_dev, plan, writer)?;
+    let outcome = repair_with_parity(alloc, image, layout, parity_dev, plan, writer)?;
     sync_both(&mut image.data, &mut image.hash, write)?;
-    Ok(())
+    Ok(outcome)
 }

@@ -9,6 +9,7 @@ mod opening;
 mod pair;
 mod parity;
 mod repair;
+mod rest;
 
 pub use by_parity::repair_by_parity;
 pub use fault::ParityRepairFault;

@@ -1,5 +1,5 @@
 //! The two devices repaired, and what was written put on their media.
-ghost use Rattle.std.specs.Prelude.{◌≡◌, ◌≤◌, ◌^◌, false, IfErr, IsTrue, OnErr, OnOk};
+ghost use Rattle.std.specs.Prelude.{◌≡◌, ◌≤◌, ◌^◌, false, IfErr, IfOk, IsTrue, OnErr, OnOk};
 ghost use Rattle.block_device.specs.Device.{HasFailed};
 ghost use Rattle.tree_repair.specs.Repairs.{IsAllowed};
 ghost use Rattle.repair_commands.specs.Mends.{HasFailedInSync, IsMendedHalf, IsMendedInOnePass, IsOnMedium, KeepsBothImages};
@@ -8,24 +8,24 @@ use block_device::{BlockDev, DeviceFault, SyncDev};
 use counted_io::Counted;
 use std::alloc::Global;
 use std::io::Write;
-use tree_repair::{DamagedImage, Plan, RepairFault, repair_image};
+use tree_repair::{DamagedImage, Outcome, Plan, RepairFault, repair_image};
 
-/// Repairs both, and has what was written put on their media.
+/// Repairs both, and has what was written put on their media. Tells what is known of the image by then.
 pub(crate) fn mend<D: SyncDev, H: SyncDev, C: BlockDev, W: Write>(
     alloc: Global,
     image: &mut DamagedImage<D, H, C>,
     plan: Plan,
     writer: &mut Counted<W>,
-) -> Result<(), RepairFault>
+) -> Result<Outcome, RepairFault>
     requires first { plan.copy_first ≤ 2 ^ 55 }
     requires allowed { IsAllowed plan.write image.old.data_dev image.old.hash_dev }
-    ensures ok { OnOk result (IsMendedInOnePass W.contents plan image.old image.new writer.old writer.new) }
+    ensures ok { IfOk result (IsMendedInOnePass W.contents plan image.old image.new writer.old writer.new) }
     ensures err { IfErr result (IsMendedHalf W.contents plan false image.old image.new writer.old writer.new) }
 {
     let write = plan.write;
-    repair_image(alloc, image, plan, writer)?;
+    let outcome = repair_image(alloc, image, plan, writer)?;
     sync_both(&mut image.data, &mut image.hash, write)?;
-    Ok(())
+    Ok(outcome)
 }
 
 /// Has what was written put on the media of both.

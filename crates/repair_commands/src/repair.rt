@@ -1,26 +1,26 @@
 //! The command `repair`: blocks that aren't good are sought in copies, and what is still lost is told.
-ghost use Rattle.std.specs.Prelude.{◌≡◌, ◌≤◌, ◌^◌, false, IfErr, OnOk};
+ghost use Rattle.std.specs.Prelude.{◌≡◌, ◌≤◌, ◌^◌, IfErr, IfOk, OnOk};
 ghost use Rattle.image_files.specs.Opener.{IsFresh, calls};
-ghost use Rattle.repair_commands.specs.Commands.{GivesBackImages, HalfMendsOpened, IsMendingEnd, IsRepairEnd, MendsFiles, MendsOpened, RepairsFiles, ending_fault, surveyed};
-ghost use Rattle.tree_commands.specs.Surveys.{IsSurveyFilesEnd, PrintsGood};
+ghost use Rattle.repair_commands.specs.Commands.{GivesBackImages, HalfMendsOpened, IsMendingEnd, IsRepairEnd, MendsFiles, MendsOpened, RepairsFiles, ending_fault};
 ghost use Rattle.repair_commands.specs.Pairs.{places_of};
 
 use crate::mending::mend;
 use crate::opening::{Copies, Opened, open_all};
 use crate::pair::{Pair, Parts, RepairPlaces};
+use crate::rest::say_rest;
 use command_line::ImageCopy;
 use counted_io::Counted;
 use image_files::Images;
 use std::alloc::Global;
 use std::io::Write;
-use tree_commands::{SurveyOrder, TreeFault, survey_images};
-use tree_repair::{DamagedImage, Plan, RepairFault};
+use tree_commands::TreeFault;
+use tree_repair::{DamagedImage, Outcome, Plan, RepairFault};
 use tree_shape::Digest;
 use tree_survey::SurveyFault;
 use watched_device::Watchers;
 
 /// `repair [--check] [--hash-offset BYTES] DATA HASH ROOT [COPY ..]`: a line for each block that isn't good and was found in a
-/// copy, and then what `verify --all` prints. Each copy is asked for each such block, at its place in DATA or in HASH.
+/// copy, and then what `verify --all` prints; where the repair left all good, without reading all again. Each copy is asked for each such block, at its place in DATA or in HASH.
 pub fn repair_images<'a, I: Images, S: Watchers, W: Write>(
     alloc: Global,
     images: &mut I,
@@ -34,36 +34,8 @@ pub fn repair_images<'a, I: Images, S: Watchers, W: Write>(
     ensures ok { OnOk result (RepairsFiles (calls I.relations I.Dev.state images.old images.new) (places_of places.entry) copies.now root.now (W.contents writer.old.inner) (W.contents writer.new.inner)) }
     ensures err { IfErr result (IsRepairEnd (calls I.relations I.Dev.state images.old images.new) (places_of places.entry) copies.now root.now (W.contents writer.old.inner) (W.contents writer.new.inner) writer.new.failed) }
 {
-    mend_images(alloc, images, places, copies, root, writer)?;
-    say_lost(alloc, images, watchers, places, root, writer)
-}
-
-/// Prints what `verify --all` prints of the same images.
-pub(crate) fn say_lost<'a, I: Images, S: Watchers, W: Write>(
-    alloc: Global,
-    images: &mut I,
-    watchers: &S,
-    places: RepairPlaces<'a>,
-    root: &Digest,
-    writer: &mut Counted<W>,
-) -> Result<(), TreeFault<'a>>
-    ensures ok { OnOk result (PrintsGood false (calls I.relations I.Dev.state images.old images.new) (surveyed (places_of places.entry)) root.now (W.contents writer.old.inner) (W.contents writer.new.inner)) }
-    ensures err { IfErr result (IsSurveyFilesEnd false (calls I.relations I.Dev.state images.old images.new) (surveyed (places_of places.entry)) root.now (W.contents writer.old.inner) (W.contents writer.new.inner) writer.new.failed) }
-{
-    let RepairPlaces {
-        data,
-        hash,
-        hash_first,
-        write: _,
-    } = places;
-    let order = SurveyOrder {
-        data,
-        hash,
-        hash_first,
-        json: false,
-        progress: false,
-    };
-    survey_images(alloc, images, watchers, order, root, writer)
+    let outcome = mend_images(alloc, images, places, copies, root, writer)?;
+    say_rest(alloc, images, watchers, places, outcome, root, writer)
 }
 
 // Opens the images and the copies, repairs, and gives the images back.
@@ -74,9 +46,9 @@ fn mend_images<'a, I: Images, W: Write>(
     copies: &[ImageCopy<'a>],
     root: &Digest,
     writer: &mut Counted<W>,
-) -> Result<(), TreeFault<'a>>
+) -> Result<Outcome, TreeFault<'a>>
     requires { places.hash_first ≤ 2 ^ 55 }
-    ensures ok { OnOk result (MendsFiles (calls I.relations I.Dev.state images.old images.new) (places_of places.entry) copies.now root.now (W.contents writer.old.inner) (W.contents writer.new.inner)) }
+    ensures ok { IfOk result (MendsFiles (calls I.relations I.Dev.state images.old images.new) (places_of places.entry) copies.now root.now (W.contents writer.old.inner) (W.contents writer.new.inner)) }
     ensures err { IfErr result (IsMendingEnd (calls I.relations I.Dev.state images.old images.new) (places_of places.entry) copies.now root.now (W.contents writer.old.inner) (W.contents writer.new.inner)) }
 {
     let opened = open_all(alloc, images, places, copies)?;
@@ -91,11 +63,11 @@ fn mend_opened<'a, I: Images, W: Write>(
     opened: Opened<I::Dev>,
     root: &Digest,
     writer: &mut Counted<W>,
-) -> Result<(), TreeFault<'a>>
+) -> Result<Outcome, TreeFault<'a>>
     requires first { places.hash_first ≤ 2 ^ 55 }
     requires data_fresh { IsFresh (I.Dev.state opened.pair.data_image.device) places.write }
     requires hash_fresh { IsFresh (I.Dev.state opened.pair.hash_image.device) places.write }
-    ensures ok { OnOk result (MendsOpened (calls I.relations I.Dev.state images.old images.new) (places_of places.entry) opened root.now (W.contents writer.old.inner) (W.contents writer.new.inner)) }
+    ensures ok { IfOk result (MendsOpened (calls I.relations I.Dev.state images.old images.new) (places_of places.entry) opened root.now (W.contents writer.old.inner) (W.contents writer.new.inner)) }
     ensures err { IfErr result (HalfMendsOpened (calls I.relations I.Dev.state images.old images.new) (places_of places.entry) opened root.now (W.contents writer.old.inner) (W.contents writer.new.inner)) }
 {
     let Opened {
@@ -129,7 +101,7 @@ fn mend_opened<'a, I: Images, W: Write>(
     } = image;
     give_back(images, places, parts, data, hash);
     match ended {
-        Ok(()) => Ok(()),
+        Ok(outcome) => Ok(outcome),
         Err(fault) => Err(fault_of(fault)),
     }
 }

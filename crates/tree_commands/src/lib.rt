@@ -15,4 +15,4 @@ pub use fault::TreeFault;
 pub use fault_text::{say_tree_fault, tree_status};
 pub use invoke::{invoke_diff, invoke_survey};
 pub use paths::HashPaths;
-pub use survey::{SurveyOrder, survey_images};
+pub use survey::{SurveyOrder, say_totals, survey_images};

@@ -187,9 +187,9 @@ pub(crate) fn is_all_good(found: Survey) -> bool
     found.totals.changed == 0 && found.totals.unknown == 0 && found.whole_tree
 }
 
-// `good N changed N unknown N`
+/// Prints how many data blocks are good and how many aren't: `good N changed N unknown N`.
 #[tactic(auto, unfolding(crate::specs::Surveys::survey_totals))]
-fn say_totals<W: Write>(writer: &mut Counted<W>, totals: Totals) -> Result<(), WriteFault>
+pub fn say_totals<W: Write>(writer: &mut Counted<W>, totals: Totals) -> Result<(), WriteFault>
     ensures { Writes W.contents writer.old writer.new (survey_totals totals) result }
 {
     let Totals {

@@ -43,7 +43,7 @@ pub returns-clause-ok : goal.returns-clause-ok
 returns-clause-ok g c =
     let old = g.W.Write.contents c.args.writer.now.inner in
     let new = g.W.Write.contents c.mend_with_parity.new.writer.inner in
-    subst (λ (w : RepairWorld). MendsByParity c.args.plan (g.P.BlockDev.state c.args.parity.now.device) c.args.parity.now.roots w c.mend_with_parity.new.image old new) c.image.view_is
+    subst (λ (w : RepairWorld). MendsByParity c.args.plan (g.P.BlockDev.state c.args.parity.now.device) c.args.parity.now.roots w c.mend_with_parity.new.image old new c.in_ok-mend_with_parity.field-0) c.image.view_is
     (record {
       layout = c.in_ok-layout.layout;
       read_dev = g.H.BlockDev.state c.lay_out.new.hash_dev;

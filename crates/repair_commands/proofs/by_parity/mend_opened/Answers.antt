@@ -1,5 +1,5 @@
 use Rattle.std.proofs.Common.{IsTrue, subst, sym}
-use Rattle.std.proofs.lemmas.Result.{IfErr-weaker, on_ok_weaker}
+use Rattle.std.proofs.lemmas.Result.{IfErr-weaker, IfOk-weaker}
 use Rattle.repair_commands.proofs.by_parity.mend_opened.Goals as goal
 
 pub mend_laid_out-ended-requires-clause-allowed : goal.mend_laid_out-ended-requires-clause-allowed
@@ -10,8 +10,8 @@ mend_laid_out-ended-requires-clause-allowed g c = record {
 
 pub returns-clause-ok : goal.returns-clause-ok
 returns-clause-ok g c =
-    on_ok_weaker c.mend_laid_out-ended.result
-    (λ mends. record {
+    IfOk-weaker c.mend_laid_out-ended.result _ _
+    (λ outcome mends. record {
       data_dev = c.image.inside.data;
       hash_dev = c.image.inside.hash;
       data_copies = c.image.inside.data_copies.items;

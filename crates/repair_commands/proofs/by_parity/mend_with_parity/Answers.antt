@@ -1,5 +1,6 @@
 use Rattle.std.proofs.Common.{refl, inl, inr, map, true, subst, sym, None}
 use Rattle.tree_repair.specs.declared.fault.RepairFault.TheVariants.{Image}
+use Rattle.tree_repair.specs.Outcomes.{IsParityOutcome}
 use Rattle.tree_repair.specs.ParityBounds.{RepairsInPasses}
 use Rattle.tree_repair.specs.Repairs.{Repairs, SeeksByParity}
 use Rattle.tree_repair.specs.Worlds.{RepairWorld, repair_world}
@@ -7,10 +8,10 @@ use Rattle.verity_format.specs.declared.verifying.VerifyFault.TheVariants.{Devic
 use Rattle.repair_commands.proofs.EndingLemmas.{err-from}
 use Rattle.repair_commands.proofs.by_parity.mend_with_parity.Goals as goal
 
-pub returns-in_err-repair_with_parity-clause-err : goal.returns-in_err-repair_with_parity-clause-err
-returns-in_err-repair_with_parity-clause-err g c =
-    err-from c.from_residual.result _ c.in_err-repair_with_parity.field-0.0 c.from_residual.ensures.1
-    (record { mid = c.repair_with_parity.new.image; run = inl c.in_err-repair_with_parity.ensures.err; kept = record { data_image = refl; hash_image = refl }; data_copies_are = refl; hash_copies_are = refl })
+pub returns-in_err-outcome-clause-err : goal.returns-in_err-outcome-clause-err
+returns-in_err-outcome-clause-err g c =
+    err-from c.from_residual.result _ c.in_err-outcome.field-0.0 c.from_residual.ensures.1
+    (record { mid = c.repair_with_parity.new.image; run = inl c.in_err-outcome.ensures.err; kept = record { data_image = refl; hash_image = refl }; data_copies_are = refl; hash_copies_are = refl })
 
 pub returns-in_err-sync_both-clause-err : goal.returns-in_err-sync_both-clause-err
 returns-in_err-sync_both-clause-err g c =
@@ -19,7 +20,7 @@ returns-in_err-sync_both-clause-err g c =
     err-from c.from_residual-in_err-sync_both.result _ (Image DeviceFailed) c.from_residual-in_err-sync_both.ensures.1
     (record {
       mid = a;
-      run = inr (subst (λ (w : RepairWorld). Repairs c.args.plan true c.args.image.now w (g.W.Write.contents c.args.writer.now.inner) (g.W.Write.contents c.repair_with_parity.new.writer.inner) None) (sym c.image.view_is) c.in_ok-repair_with_parity.ensures.ok, (refl, c.in_err-sync_both.ensures.err));
+      run = inr (subst (λ (w : RepairWorld). Repairs c.args.plan true c.args.image.now w (g.W.Write.contents c.args.writer.now.inner) (g.W.Write.contents c.repair_with_parity.new.writer.inner) None) (sym c.image.view_is) c.in_ok-outcome.ensures.ok, (refl, c.in_err-sync_both.ensures.err));
       kept = c.sync_both.ensures.kept;
       data_copies_are = refl;
       hash_copies_are = refl;
@@ -36,12 +37,13 @@ returns-clause-ok g c =
     record {
       mends = record {
         mid = a;
-        repair = subst (λ (w : RepairWorld). Repairs c.args.plan true c.args.image.now w old new None) (sym c.image.view_is) c.in_ok-repair_with_parity.ensures.ok;
+        repair = subst (λ (w : RepairWorld). Repairs c.args.plan true c.args.image.now w old new None) (sym c.image.view_is) c.in_ok-outcome.ensures.ok;
         kept = c.sync_both.ensures.kept;
         data_copies_are = refl;
         hash_copies_are = refl;
         on_medium = c.in_ok-sync_both.ensures.ok;
       };
-      within = subst (λ (w : RepairWorld). RepairsInPasses c.args.plan c.args.layout.now c.args.image.now w p q old new None) (sym c.image.view_is) (elim c.in_ok-repair_with_parity.ensures.within [ inl none ↦ absurd none.0 | inr runs ↦ runs ]);
-      sought = subst (λ (w : RepairWorld). SeeksByParity c.args.plan c.args.layout.now c.args.image.now w p q) (sym c.image.view_is) c.in_ok-repair_with_parity.ensures.sought;
+      within = subst (λ (w : RepairWorld). RepairsInPasses c.args.plan c.args.layout.now c.args.image.now w p q old new None) (sym c.image.view_is) (elim c.in_ok-outcome.ensures.within [ inl none ↦ absurd none.0 | inr runs ↦ runs ]);
+      sought = subst (λ (w : RepairWorld). SeeksByParity c.args.plan c.args.layout.now c.args.image.now w p q) (sym c.image.view_is) c.in_ok-outcome.ensures.sought;
+      whole = subst (λ (w : RepairWorld). IsParityOutcome c.args.plan c.args.image.now w c.in_ok-outcome.outcome) (sym c.image.view_is) c.in_ok-outcome.ensures.whole;
     }

@@ -20,32 +20,33 @@ returns-in-Err-clause-err g c =
       is = refl;
     }))
 
-pub returns-in_err-mend_opened-clause-err : goal.returns-in_err-mend_opened-clause-err
-returns-in_err-mend_opened-clause-err g c =
-    err-from c.from_residual-in_err-mend_opened.result _ c.in_err-mend_opened.field-0.0 c.from_residual-in_err-mend_opened.ensures.1
+pub returns-in_err-outcome-clause-err : goal.returns-in_err-outcome-clause-err
+returns-in_err-outcome-clause-err g c =
+    err-from c.from_residual-in_err-outcome.result _ c.in_err-outcome.field-0.0 c.from_residual-in_err-outcome.ensures.1
     (inr (inr (inl (record {
       ready = c.open_parity.new.images;
       opened = c.in_ok-opened.opened;
       parity = c.in-Ok.parity;
       opens = record { between = c.open_all.new.images; opens = c.in_ok-opened.ensures.ok; parity_opens = c.in-Ok.ensures.ok };
-      half = c.in_err-mend_opened.ensures.err;
+      half = c.in_err-outcome.ensures.err;
     }))))
 
-pub returns-in_err-say_lost-clause-err : goal.returns-in_err-say_lost-clause-err
-returns-in_err-say_lost-clause-err g c =
-    err-from c.from_residual-in_err-say_lost.result _ (Tree c.in_err-say_lost.field-0.0) c.from_residual-in_err-say_lost.ensures.1
+pub returns-in_err-say_rest-clause-err : goal.returns-in_err-say_rest-clause-err
+returns-in_err-say_rest-clause-err g c =
+    err-from c.from_residual-in_err-say_rest.result _ (Tree c.in_err-say_rest.field-0.0) c.from_residual-in_err-say_rest.ensures.1
     (inr (inr (inr (record {
       mended = c.mend_opened.new.images;
       between = g.W.Write.contents c.mend_opened.new.writer.inner;
+  outcome = c.in_ok-outcome.outcome;
       mends = record {
         ready = c.open_parity.new.images;
         opened = c.in_ok-opened.opened;
         parity = c.in-Ok.parity;
         opens = record { between = c.open_all.new.images; opens = c.in_ok-opened.ensures.ok; parity_opens = c.in-Ok.ensures.ok };
-        mends = c.in_ok-mend_opened.ensures.ok;
+        mends = c.in_ok-outcome.ensures.ok;
       };
-      cause = c.in_err-say_lost.field-0.0;
-      ends = c.in_err-say_lost.ensures.err;
+      cause = c.in_err-say_rest.field-0.0;
+      ends = c.in_err-say_rest.ensures.err;
       is = refl;
     }))))
 
@@ -53,12 +54,13 @@ pub returns-clause-ok : goal.returns-clause-ok
 returns-clause-ok g c = record {
   mended = c.mend_opened.new.images;
   between = g.W.Write.contents c.mend_opened.new.writer.inner;
+  outcome = c.in_ok-outcome.outcome;
   mends = record {
     ready = c.open_parity.new.images;
     opened = c.in_ok-opened.opened;
     parity = c.in-Ok.parity;
     opens = record { between = c.open_all.new.images; opens = c.in_ok-opened.ensures.ok; parity_opens = c.in-Ok.ensures.ok };
-    mends = c.in_ok-mend_opened.ensures.ok;
+    mends = c.in_ok-outcome.ensures.ok;
   };
-  surveys = c.in_ok-say_lost.ensures.ok;
+  tells = c.in_ok-say_rest.ensures.ok;
 }

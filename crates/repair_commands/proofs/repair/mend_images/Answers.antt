@@ -1,5 +1,5 @@
 use Rattle.std.proofs.Common.{inl, inr, refl}
-use Rattle.std.proofs.lemmas.Result.{IfErr-weaker, on_ok_weaker}
+use Rattle.std.proofs.lemmas.Result.{IfErr-weaker, IfOk-weaker}
 use Rattle.repair_commands.proofs.EndingLemmas.{err-from}
 use Rattle.repair_commands.proofs.repair.mend_images.Goals as goal
 
@@ -9,8 +9,8 @@ returns-in_err-opened-clause-err g c =
 
 pub returns-clause-ok : goal.returns-clause-ok
 returns-clause-ok g c =
-    on_ok_weaker c.mend_opened.result
-    (λ mends. record { ready = c.open_all.new.images; opened = c.in_ok-opened.opened; opens = c.in_ok-opened.ensures.ok; mends = mends })
+    IfOk-weaker c.mend_opened.result _ _
+    (λ outcome mends. record { ready = c.open_all.new.images; opened = c.in_ok-opened.opened; opens = c.in_ok-opened.ensures.ok; mends = mends })
     c.mend_opened.ensures.ok
 
 pub returns-clause-err : goal.returns-clause-err

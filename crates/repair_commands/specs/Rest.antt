@@ -1,0 +1,41 @@
+-- What is told of an image behind its repair.
+use Rattle.std.specs.Prelude.{◌≡◌, ℕ, ◌%◌, ◌==◌, Bool, true, false, List, Option, None, Some, if◌then◌else◌}
+use Rattle.std.specs.Io.KnownBytes.{Appends}
+use Rattle.image_files.specs.Opener.{Calls}
+use Rattle.tree_commands.specs.declared.fault.TreeFault.{TreeFault}
+use Rattle.tree_commands.specs.declared.fault.TreeFault.TheVariants.{Write}
+use Rattle.tree_commands.specs.Surveys.{IsSurveyFilesEnd, PrintsGood, SurveyedPlaces, survey_totals}
+use Rattle.tree_repair.specs.declared.outcome.Outcome.{Outcome}
+use Rattle.tree_repair.specs.declared.outcome.Outcome.TheVariants.{Partly, Whole}
+use Rattle.tree_survey.specs.declared.counts.Totals.{Totals}
+use Rattle.repair_commands.specs.Pairs.{Places}
+
+abbrev pub surveyed : Places → SurveyedPlaces
+surveyed p = record { paths = record { first_path = p.data_path; second_path = p.hash_path }; first = p.first }
+
+-- all of so many data blocks
+abbrev pub all_good_totals : ℕ → Totals
+all_good_totals count = record { good = count; changed = 0; unknown = 0 }
+
+-- How many data blocks the repair knows to be good, where all of the image is. A hash block of whatever size, up to 4,096 bytes,
+-- must be able to begin at the image's first sector, which a survey would say else.
+abbrev pub known_good : Outcome → ℕ → Option ℕ
+known_good (Whole count) first = if first % 8 == 0 then Some count else None
+known_good Partly first = None
+
+-- Where they are known the totals were printed, and no file was opened. Else the image was gone over as by `verify --all`, and all
+-- of it is good.
+abbrev pub TellsKnown : {S D : Type 0} → Option ℕ → Calls S D → Places → List ℕ → Option (List ℕ) → Option (List ℕ) → Type 0
+TellsKnown (Some count) w p root old new = (w.new ≡ w.old) × Appends old new (survey_totals (all_good_totals count))
+TellsKnown None w p root old new = PrintsGood false w (surveyed p) root old new
+
+-- they couldn't be printed; or the image wasn't gone over, or not all of it is good
+abbrev pub IsKnownEnd : {S D : Type 0} → Option ℕ → Calls S D → Places → List ℕ → Option (List ℕ) → Option (List ℕ) → Bool → TreeFault → Type 0
+IsKnownEnd (Some count) w p root old new failed fault = (w.new ≡ w.old) × ((fault ≡ Write) × (failed ≡ true))
+IsKnownEnd None w p root old new failed fault = IsSurveyFilesEnd false w (surveyed p) root old new failed fault
+
+abbrev pub TellsRest : {S D : Type 0} → Outcome → Calls S D → Places → List ℕ → Option (List ℕ) → Option (List ℕ) → Type 0
+TellsRest outcome w p root old new = TellsKnown (known_good outcome p.first) w p root old new
+
+abbrev pub IsRestEnd : {S D : Type 0} → Outcome → Calls S D → Places → List ℕ → Option (List ℕ) → Option (List ℕ) → Bool → TreeFault → Type 0
+IsRestEnd outcome w p root old new failed fault = IsKnownEnd (known_good outcome p.first) w p root old new failed fault

@@ -1,0 +1,94 @@
+//! What is still lost behind a repair.
+ghost use Rattle.std.specs.Prelude.{◌≡◌, IfErr, None, OnOk};
+ghost use Rattle.counted_io.specs.Counted.{Writes};
+ghost use Rattle.image_files.specs.Opener.{calls};
+ghost use Rattle.tree_commands.specs.Surveys.{survey_totals};
+ghost use Rattle.repair_commands.specs.Pairs.{places_of};
+ghost use Rattle.repair_commands.specs.Rest.{IsKnownEnd, IsRestEnd, TellsKnown, TellsRest, all_good_totals, known_good};
+
+use crate::pair::RepairPlaces;
+use counted_io::{Counted, WriteFault};
+use image_files::Images;
+use std::alloc::Global;
+use std::io::Write;
+use tree_commands::{SurveyOrder, TreeFault, say_totals, survey_images};
+use tree_repair::Outcome;
+use tree_shape::Digest;
+use tree_survey::Totals;
+use watched_device::Watchers;
+
+// How many sectors the largest hash block takes.
+const MOST_SECTORS: u64 = 8;
+
+/// Prints what `verify --all` prints of the images behind a repair. Where it left all of them good they aren't read again.
+pub(crate) fn say_rest<'a, I: Images, S: Watchers, W: Write>(
+    alloc: Global,
+    images: &mut I,
+    watchers: &S,
+    places: RepairPlaces<'a>,
+    outcome: Outcome,
+    root: &Digest,
+    writer: &mut Counted<W>,
+) -> Result<(), TreeFault<'a>>
+    ensures ok { OnOk result (TellsRest outcome (calls I.relations I.Dev.state images.old images.new) (places_of places.entry) root.now (W.contents writer.old.inner) (W.contents writer.new.inner)) }
+    ensures err { IfErr result (IsRestEnd outcome (calls I.relations I.Dev.state images.old images.new) (places_of places.entry) root.now (W.contents writer.old.inner) (W.contents writer.new.inner) writer.new.failed) }
+{
+    match known_good(outcome, places.hash_first) {
+        Some(count) => Ok(say_all_good(writer, count)?),
+        None => say_lost(alloc, images, watchers, places, root, writer),
+    }
+}
+
+// How many data blocks are known to be good, where all of the image is, and a hash block may begin at that sector.
+fn known_good(outcome: Outcome, first: u64) -> Option<u64>
+    ensures { result ≡ known_good outcome first }
+{
+    match outcome {
+        Outcome::Whole(count) => {
+            if first % MOST_SECTORS == 0 {
+                return Some(count);
+            }
+            None
+        }
+        Outcome::Partly => None,
+    }
+}
+
+fn say_all_good<W: Write>(writer: &mut Counted<W>, count: u64) -> Result<(), WriteFault>
+    ensures { Writes W.contents writer.old writer.new (survey_totals (all_good_totals count)) result }
+{
+    let totals = Totals {
+        good: count,
+        changed: 0,
+        unknown: 0,
+    };
+    say_totals(writer, totals)
+}
+
+// Goes over the images, and prints what `verify --all` prints of them.
+fn say_lost<'a, I: Images, S: Watchers, W: Write>(
+    alloc: Global,
+    images: &mut I,
+    watchers: &S,
+    places: RepairPlaces<'a>,
+    root: &Digest,
+    writer: &mut Counted<W>,
+) -> Result<(), TreeFault<'a>>
+    ensures ok { OnOk result (TellsKnown None (calls I.relations I.Dev.state images.old images.new) (places_of places.entry) root.now (W.contents writer.old.inner) (W.contents writer.new.inner)) }
+    ensures err { IfErr result (IsKnownEnd None (calls I.relations I.Dev.state images.old images.new) (places_of places.entry) root.now (W.contents writer.old.inner) (W.contents writer.new.inner) writer.new.failed) }
+{
+    let RepairPlaces {
+        data,
+        hash,
+        hash_first,
+        write: _,
+    } = places;
+    let order = SurveyOrder {
+        data,
+        hash,
+        hash_first,
+        json: false,
+        progress: false,
+    };
+    survey_images(alloc, images, watchers, order, root, writer)
+}
