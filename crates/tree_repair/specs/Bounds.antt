@@ -6,7 +6,6 @@ use Rattle.block_device.specs.Device.{Device}
 use Rattle.counted_io.specs.Counted.{CountedRecord}
 use Rattle.tree_shape.specs.Shape.{ShapeRecord, area_blocks, levels, blocks_sectors}
 use Rattle.tree_path.specs.Steps.{HasReadAtMost}
-use Rattle.verity_format.specs.Blocks.{IsOnlyRead}
 use Rattle.verity_format.specs.Image.{data_sectors}
 use Rattle.verity_format.specs.Superblock.{shape_of}
 use Rattle.tree_repair.specs.declared.repair.Plan.{Plan}
