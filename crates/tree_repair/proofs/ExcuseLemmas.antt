@@ -3,17 +3,22 @@ use Rattle.std.proofs.Common.{◌≡◌, ◌≢◌, ◌⊎◌, ◌≤◌, ◌+�
 use Rattle.std.proofs.lemmas.Bool.{cases_lt}
 use Rattle.block_device.specs.Device.{Device, HasFailed}
 use Rattle.tree_shape.specs.Digests.{digest}
+use Rattle.hash_tree.specs.Chain.{formed}
+use Rattle.hash_tree.specs.Laws.{FormedChainsAreGood}
+use Rattle.tree_path.specs.Laws.{Collide}
+use Rattle.tree_survey.specs.Laws.{AreContents}
 use Rattle.tree_survey.specs.Failing.{HasFailedRead, HasFailedTimes}
 use Rattle.verity_format.specs.Blocks.{IsOnlyRead}
 use Rattle.tree_repair.specs.declared.mending.Mended.{Mended}
 use Rattle.tree_repair.specs.declared.mending.Mended.TheVariants as mended
 use Rattle.tree_repair.specs.Coverage.{IsPassedBy}
-use Rattle.tree_repair.specs.Excuses.{AreUnreadCounted, HasCountedNone, IsRightlyTouched, Throughout, first_counts, if_data, if_hash, unread_data, unread_hash, unread_look, unread_visit}
+use Rattle.tree_repair.specs.Excuses.{AreUnreadCounted, HasCountedNone, IsLeftAlone, IsTreatedRightly, StandsIntact, Throughout, first_counts, if_data, if_hash, unread_data, unread_hash, unread_look, unread_visit}
 use Rattle.tree_repair.specs.Mending.{IsAllowedPut, IsMended, Look}
 use Rattle.tree_repair.specs.Runs.{IsVisited, Job, OtherStays, VisitsAll, Visit, look_at, other, own}
 use Rattle.tree_repair.specs.Sources.{IsBad, IsOther, Wanted, bytes_on_device}
 use Rattle.tree_repair.specs.Tries.{IsCutOff}
 use Rattle.tree_repair.specs.Worlds.{IsWorldRead, RepairWorld}
+use Rattle.tree_repair.proofs.LawLemmas.{formed-chain, way-digest}
 use Rattle.tree_repair.proofs.RunLemmas.{world-none}
 
 -- ---- a device
@@ -112,12 +117,12 @@ module _ (j : Job) (v : Visit) (a b : RepairWorld) (here : IsVisited j v a b) wh
   beside-counted : HasFailedTimes (other v.height a) 0 (other v.height b)
   beside-counted = other-counted v.height v.mended (other v.height a) (other v.height b) here.other_stays
 
-  rightly : IsLookFor (look_at j here.p v.height v.index a b) v.mended (unread_visit j v a b here) → (unread_visit j v a b here ≡ 1) ⊎ IsRightlyTouched j v a b
+  rightly : IsLookFor (look_at j here.p v.height v.index a b) v.mended (unread_visit j v a b here) → (unread_visit j v a b here ≡ 1) ⊎ IsTreatedRightly j v a b
   rightly (inl unread) = inl unread
   rightly (inr (inl (good, read))) = inr (inl (record { good = good; read = read }))
   rightly (inr (inr stood)) = inr (inr (record { p = here.p; way = here.way; bad = stood }))
 
-  visit-why : (unread_visit j v a b here ≡ 1) ⊎ IsRightlyTouched j v a b
+  visit-why : (unread_visit j v a b here ≡ 1) ⊎ IsTreatedRightly j v a b
   visit-why = rightly (look-why (look_at j here.p v.height v.index a b) v.bytes v.done v.mended here.mended_as)
 
 -- ---- a run
@@ -142,9 +147,26 @@ pub unread-counted : (j : Job) (visits : List Visit) (w w' : RepairWorld) (runs 
 unread-counted j visits w w' runs = record { data_counts = data-more j visits w w' runs; hash_counts = hash-more j visits w w' runs }
 
 pub touched-for : (j : Job) (visits : List Visit) (w w' : RepairWorld) (runs : VisitsAll j visits w w')
-    → Throughout j (λ v a b here. (unread_visit j v a b here ≡ 1) ⊎ IsRightlyTouched j v a b) visits w w' runs
+    → Throughout j (λ v a b here. (unread_visit j v a b here ≡ 1) ⊎ IsTreatedRightly j v a b) visits w w' runs
 touched-for j [] w w' runs = tt
 touched-for j (v ∷ more) w w' (a, (b, (read, (here, rest)))) = (visit-why j v a b here, touched-for j more b w' rest)
+
+module _ (form : FormedChainsAreGood) (j : Job) (contents : List (List ℕ)) (are : AreContents j.tree contents) where
+  -- the digest that is due is that of the block as it was formatted
+  intact-or : (v : Visit) (a b : RepairWorld) (here : IsVisited j v a b) → StandsIntact j contents v a → (unread_visit j v a b here ≡ 1) ⊎ IsTreatedRightly j v a b
+      → IsLeftAlone v a b ⊎ ((unread_visit j v a b here ≡ 1) ⊎ Collide j.tree.salt)
+  intact-or v a b here intact (inl unread) = inr (inl unread)
+  intact-or v a b here intact (inr (inl left)) = inl left
+  intact-or v a b here intact (inr (inr stood)) =
+      elim (way-digest j.tree stood.p v.index v.height (formed j.tree.shape j.tree.salt contents v.index) stood.way (formed-chain form j.tree contents are v.index here.inside)) [
+        | inl same ↦ absurd (stood.bad intact.steady (ap (digest j.tree.salt) intact.is ∙ same))
+        | inr clash ↦ inr (inr clash)
+      ]
+
+  pub intact-left : (visits : List Visit) (w w' : RepairWorld) (runs : VisitsAll j visits w w')
+      → Throughout j (λ v a b here. StandsIntact j contents v a → IsLeftAlone v a b ⊎ ((unread_visit j v a b here ≡ 1) ⊎ Collide j.tree.salt)) visits w w' runs
+  intact-left [] w w' runs = tt
+  intact-left (v ∷ more) w w' (a, (b, (read, (here, rest)))) = (λ intact. intact-or v a b here intact (visit-why j v a b here), intact-left more b w' rest)
 
 -- ---- where a device counts none
 
@@ -171,13 +193,13 @@ runs-own j h visits w w' runs =
 world-own : (h : ℕ) (a b : RepairWorld) → IsWorldRead a b → HasFailedTimes (own h a) 0 (own h b)
 world-own h a b read = own-of h a b (more-none a.data_dev b.data_dev read.data_more) (more-none a.hash_dev b.hash_dev read.hash_more)
 
-not-unread : (j : Job) (v : Visit) (a b : RepairWorld) (n : ℕ) → n ≡ 0 → (n ≡ 1) ⊎ IsRightlyTouched j v a b → IsRightlyTouched j v a b
+not-unread : (j : Job) (v : Visit) (a b : RepairWorld) (n : ℕ) → n ≡ 0 → (n ≡ 1) ⊎ IsTreatedRightly j v a b → IsTreatedRightly j v a b
 not-unread j v a b n none (inl unread) = absurd (omega (arith, none, unread))
 not-unread j v a b n none (inr right) = right
 
 -- a run behind calls that count from another world
 left-alone : (j : Job) (visits : List Visit) (x w w' : RepairWorld) (runs : VisitsAll j visits w w') → ((h : ℕ) → HasFailedTimes (own h x) 0 (own h w))
-    → Throughout j (λ v a b here. HasCountedNone (own v.height x) (own v.height w') → IsRightlyTouched j v a b) visits w w' runs
+    → Throughout j (λ v a b here. HasCountedNone (own v.height x) (own v.height w') → IsTreatedRightly j v a b) visits w w' runs
 left-alone j [] x w w' runs before = tt
 left-alone j (v ∷ more) x w w' (a, (b, (read, (here, rest)))) before =
     let until : (h : ℕ) → HasFailedTimes (own h x) 0 (own h a) = λ h. times-then (own h x) (own h w) (own h a) 0 0 0 refl (before h) (world-own h w a read) in
@@ -188,7 +210,7 @@ left-alone j (v ∷ more) x w w' (a, (b, (read, (here, rest)))) before =
     )
 
 pub good-left : (j : Job) (visits : List Visit) (w w' : RepairWorld) (runs : VisitsAll j visits w w')
-    → Throughout j (λ v a b here. HasCountedNone (own v.height w) (own v.height w') → IsRightlyTouched j v a b) visits w w' runs
+    → Throughout j (λ v a b here. HasCountedNone (own v.height w) (own v.height w') → IsTreatedRightly j v a b) visits w w' runs
 good-left j visits w w' runs = left-alone j visits w w w' runs (λ h. world-own h w w (world-none w))
 
 -- ---- blocks that are passed by

@@ -3,13 +3,17 @@ use Rattle.std.specs.Prelude.{◌≡◌, ◌≢◌, ◌⊎◌, ℕ, zero, suc, �
 use mathlib.Core.Logic.{inl, inr}
 use Rattle.block_device.specs.Device.{Device}
 use Rattle.tree_shape.specs.Digests.{digest}
+use Rattle.hash_tree.specs.Chain.{formed}
+use Rattle.tree_path.specs.Laws.{Collide}
 use Rattle.tree_path.specs.Path.{PathRecord, digest_on}
 use Rattle.tree_survey.specs.Failing.{HasFailedTimes}
+use Rattle.tree_survey.specs.Laws.{AreContents}
 use Rattle.tree_survey.specs.Surveys.{IsWay}
 use Rattle.verity_format.specs.Blocks.{IsOnlyRead}
 use Rattle.tree_repair.specs.declared.mending.Mended.{Mended}
 use Rattle.tree_repair.specs.declared.mending.Mended.TheVariants as mended
 use Rattle.tree_repair.specs.Coverage.{IsPassedBy}
+use Rattle.tree_repair.specs.Laws.{block_of_height}
 use Rattle.tree_repair.specs.Mending.{IsMended, Look}
 use Rattle.tree_repair.specs.Runs.{IsVisited, Job, VisitsAll, Visit, look_at, own}
 use Rattle.tree_repair.specs.Standing.{standing_bytes}
@@ -79,13 +83,25 @@ pub record StoodBad (j : Job) (v : Visit) (w : RepairWorld) : Type 0 where
   pub way : IsWay j.tree v.index v.height p
   pub bad : IsTrue (own v.height w).steady → digest j.tree.salt (standing_bytes j v.height v.index w) ≢ digest_on p v.index v.height
 
-abbrev pub IsRightlyTouched : Job → Visit → RepairWorld → RepairWorld → Type 0
-IsRightlyTouched j v w w' = IsLeftAlone v w w' ⊎ StoodBad j v w
+-- one of both
+abbrev pub IsTreatedRightly : Job → Visit → RepairWorld → RepairWorld → Type 0
+IsTreatedRightly j v w w' = IsLeftAlone v w w' ⊎ StoodBad j v w
 
 -- A block that isn't left alone couldn't be read just then, which is counted, or wasn't good.
 abbrev pub BlocksAreTouchedForCause : Type 0
 BlocksAreTouchedForCause = (j : Job) → (visits : List Visit) → (w w' : RepairWorld) → (runs : VisitsAll j visits w w')
-    → Throughout j (λ v a b here. (unread_visit j v a b here ≡ 1) ⊎ IsRightlyTouched j v a b) visits w w' runs
+    → Throughout j (λ v a b here. (unread_visit j v a b here ≡ 1) ⊎ IsTreatedRightly j v a b) visits w w' runs
+
+-- the block of all data whose tree has the root stands there, on a steady device
+pub record StandsIntact (j : Job) (contents : List (List ℕ)) (v : Visit) (w : RepairWorld) : Type 0 where
+  pub steady : IsTrue (own v.height w).steady
+  pub is : standing_bytes j v.height v.index w ≡ block_of_height j.tree (formed j.tree.shape j.tree.salt contents v.index) v.height
+
+-- So a block that stands as the data and its tree were formatted is left alone, unless it couldn't be read just then, which is
+-- counted, or two different inputs have one digest.
+abbrev pub IntactBlocksAreLeftAlone : Type 0
+IntactBlocksAreLeftAlone = (j : Job) → (contents : List (List ℕ)) → AreContents j.tree contents → (visits : List Visit) → (w w' : RepairWorld) → (runs : VisitsAll j visits w w')
+    → Throughout j (λ v a b here. StandsIntact j contents v a → IsLeftAlone v a b ⊎ ((unread_visit j v a b here ≡ 1) ⊎ Collide j.tree.salt)) visits w w' runs
 
 -- ---- where nothing failed
 
@@ -97,7 +113,7 @@ pub record HasCountedNone (old new : Device) : Type 0 where
 -- A block whose device has counted no failure in the whole run is touched only if it wasn't good when its turn came.
 abbrev pub GoodBlocksAreLeftAlone : Type 0
 GoodBlocksAreLeftAlone = (j : Job) → (visits : List Visit) → (w w' : RepairWorld) → (runs : VisitsAll j visits w w')
-    → Throughout j (λ v a b here. HasCountedNone (own v.height w) (own v.height w') → IsRightlyTouched j v a b) visits w w' runs
+    → Throughout j (λ v a b here. HasCountedNone (own v.height w) (own v.height w') → IsTreatedRightly j v a b) visits w w' runs
 
 -- If the hash device has counted none, a block is passed by only where a hash block above it wasn't good.
 abbrev pub BlocksArePassedByForCause : Type 0

@@ -1,6 +1,6 @@
 //! Laws of repairs: each function's contract is the law, and its call gives it.
 ghost use Rattle.tree_repair.specs.Beyond.{WhatStaysLostIsBeyondParity};
-ghost use Rattle.tree_repair.specs.Excuses.{BlocksArePassedByForCause, BlocksAreTouchedForCause, GoodBlocksAreLeftAlone, UnreadBlocksAreCounted};
+ghost use Rattle.tree_repair.specs.Excuses.{BlocksArePassedByForCause, BlocksAreTouchedForCause, GoodBlocksAreLeftAlone, IntactBlocksAreLeftAlone, UnreadBlocksAreCounted};
 ghost use Rattle.tree_repair.specs.Laws.{MendedBlocksAreFormatted, MendedBlocksAreGood, NoHashBlockIsLost, OtherSectorsStay};
 ghost use Rattle.tree_repair.specs.Standing.{LeftGoodBlocksAreFormatted, LeftGoodBlocksStand, LeftGoodWaysStand, RepairsWriteAll};
 
@@ -41,7 +41,15 @@ pub fn blocks_are_touched_for_cause()
     ensures { BlocksAreTouchedForCause }
 {}
 
-/// So a block whose device counts no failure in the run is touched only if it wasn't good when its turn came.
+/// So a block that stands as all data whose tree has this root say is left alone, unless it couldn't be read just then, or two
+/// different inputs have one digest.
+pub fn intact_blocks_are_left_alone()
+    ensures { IntactBlocksAreLeftAlone }
+{
+    formed_chains_are_good()
+}
+
+/// And a block whose device counts no failure in the run is touched only if it wasn't good when its turn came.
 pub fn good_blocks_are_left_alone()
     ensures { GoodBlocksAreLeftAlone }
 {}
