@@ -5,7 +5,7 @@ use Rattle.verity_format.specs.Blocks.{AreOnlyRead, IsOnlyRead}
 use Rattle.verity_format.proofs.DeviceLemmas.{only_read-none, only_read-then, steady-then, failed-then}
 use Rattle.fec_area.specs.declared.layout.Layout.{Layout}
 use Rattle.fec_area.specs.Layouts.{IsLaidOn}
-use Rattle.fec_area.specs.Rounds.{AreUnfailed, BothNeverFail, HasOneFailed}
+use Rattle.fec_area.specs.Rounds.{AreFailuresCounted, AreUnfailed, BothNeverFail, HasOneFailed}
 
 pub read-none : (a b : Device) → AreOnlyRead a b a b
 read-none a b = record { data_read = only_read-none a; hash_read = only_read-none b }
@@ -22,6 +22,13 @@ unfailed-then p q = record { data_kept = q.data_kept ∙ p.data_kept; hash_kept 
 pub one_failed-then : (a b c d e f : Device) → AreUnfailed a b c d → HasOneFailed c d e f → HasOneFailed a b e f
 one_failed-then a b c d e f p (inl x) = inl (failed-then a c e p.data_kept x)
 one_failed-then a b c d e f p (inr x) = inr (failed-then b d f p.hash_kept x)
+
+-- failures that were counted behind calls that didn't fail are counted from before them
+pub counted-behind : {a b c d e f : Device} → AreUnfailed a b c d → AreFailuresCounted c d e f → AreFailuresCounted a b e f
+counted-behind p q = record { data_more = omega (arith, p.data_kept, q.data_more); hash_more = omega (arith, p.hash_kept, q.hash_more) }
+
+pub counted-unfailed : {a b c d : Device} → AreUnfailed a b c d → AreFailuresCounted a b c d
+counted-unfailed p = record { data_more = omega (arith, p.data_kept); hash_more = omega (arith, p.hash_kept) }
 
 -- the covered blocks still lie on devices that were read
 pub laid-then : (l : Layout) {a b c d : Device} → AreOnlyRead a b c d → IsLaidOn l a b → IsLaidOn l c d

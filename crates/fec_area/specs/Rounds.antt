@@ -14,6 +14,11 @@ pub record AreUnfailed (data_dev hash_dev data_dev' hash_dev' : Device) : Type 0
   pub data_kept : data_dev'.failures ≡ data_dev.failures
   pub hash_kept : hash_dev'.failures ≡ hash_dev.failures
 
+-- of neither are there fewer failures
+pub record AreFailuresCounted (data_dev hash_dev data_dev' hash_dev' : Device) : Type 0 where
+  pub data_more : data_dev.failures ≤ data_dev'.failures
+  pub hash_more : hash_dev.failures ≤ hash_dev'.failures
+
 -- one of two devices failed
 abbrev pub HasOneFailed : Device → Device → Device → Device → Type 0
 HasOneFailed data_dev hash_dev data_dev' hash_dev' = HasFailed data_dev data_dev' ⊎ HasFailed hash_dev hash_dev'
@@ -34,6 +39,10 @@ OnlyReadsCovered data_state hash_state d h d' h' = AreOnlyRead (data_state d) (h
 -- neither failed
 abbrev pub NeitherFails : {D H : Type 0} → (D → Device) → (H → Device) → D → H → D → H → Type 0
 NeitherFails data_state hash_state d h d' h' = AreUnfailed (data_state d) (hash_state h) (data_state d') (hash_state h')
+
+-- the counters of failures stay or grow
+abbrev pub CountsFailures : {D H : Type 0} → (D → Device) → (H → Device) → D → H → D → H → Type 0
+CountsFailures data_state hash_state d h d' h' = AreFailuresCounted (data_state d) (hash_state h) (data_state d') (hash_state h')
 
 -- one of them failed
 abbrev pub OneFails : {D H : Type 0} → (D → Device) → (H → Device) → D → H → D → H → Type 0

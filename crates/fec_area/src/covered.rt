@@ -2,7 +2,7 @@
 ghost use Rattle.std.specs.Prelude.{◌≡◌, ◌<◌, ℕ, IsOk, OnOk, OnErr, length, slice_index};
 ghost use Rattle.fec_area.specs.Asking.{AsksBlock};
 ghost use Rattle.fec_area.specs.Layouts.{IsCovered, IsLaidOn, covered_blocks};
-ghost use Rattle.fec_area.specs.Rounds.{BothNeverFail, NeitherFails, OneFails, OnlyReadsCovered};
+ghost use Rattle.fec_area.specs.Rounds.{BothNeverFail, CountsFailures, NeitherFails, OneFails, OnlyReadsCovered};
 
 use crate::layout::Layout;
 use block_device::{BlockDev, DeviceFault};
@@ -26,6 +26,7 @@ pub(crate) fn read_covered<D: BlockDev, H: BlockDev>(
     ensures err { OnErr result (OneFails D.state H.state data_dev.old hash_dev.old data_dev.new hash_dev.new) }
     ensures sure { BothNeverFail (D.state data_dev.old) (H.state hash_dev.old) → IsOk result }
     ensures asks { AsksBlock layout.now index D.state H.state data_dev.old hash_dev.old data_dev.new hash_dev.new }
+    ensures counted { CountsFailures D.state H.state data_dev.old hash_dev.old data_dev.new hash_dev.new }
 {
     let sectors = u64::from(layout.block / 512);
     if index < layout.data_blocks {

@@ -4,7 +4,7 @@ ghost use Rattle.verity_format.specs.Blocks.{IsOnlyRead};
 ghost use Rattle.fec_area.specs.Asking.{AsksForFirst, AsksKept};
 ghost use Rattle.fec_area.specs.Layouts.{IsLaidOn, IsLayout, covered_blocks, parity_sectors};
 ghost use Rattle.fec_area.specs.Restoring.{AreLostPlaces, FailsToRestore, IsOtherCause, MakesAgain, RestoresFirst, is_beside};
-ghost use Rattle.fec_area.specs.Rounds.{AllNeverFail, CanRestore, OnlyReadsCovered};
+ghost use Rattle.fec_area.specs.Rounds.{AllNeverFail, CanRestore, CountsFailures, OnlyReadsCovered};
 ghost use Rattle.fec_area.specs.Writing.{AnyFails};
 
 use crate::code::{Code, Gap};
@@ -86,6 +86,8 @@ pub fn restore_block<D: BlockDev, H: BlockDev, P: BlockDev>(
     ensures err { IfErr result (FailsToRestore sought.now D.state H.state P.state data_dev.old hash_dev.old parity_dev.old data_dev.new hash_dev.new parity_dev.new) }
     ensures sure { IfErr result (IsOtherCause (D.state data_dev.old) (H.state hash_dev.old) (P.state parity_dev.old)) }
     ensures asks { AsksKept sought.now (is_ok result) D.state H.state P.state data_dev.old hash_dev.old parity_dev.old data_dev.new hash_dev.new parity_dev.new }
+    ensures counted { CountsFailures D.state H.state data_dev.old hash_dev.old data_dev.new hash_dev.new }
+    ensures parity_counted { (P.state parity_dev.old).failures ≤ (P.state parity_dev.new).failures }
 {
     let layout = sought.layout;
     let needed = layout.parity_sectors();
@@ -169,6 +171,8 @@ fn restore_first<D: BlockDev, H: BlockDev, P: BlockDev>(
     ensures err { OnErr result (AnyFails D.state H.state P.state data_dev.old hash_dev.old parity_dev.old data_dev.new hash_dev.new parity_dev.new) }
     ensures sure { AllNeverFail (D.state data_dev.old) (H.state hash_dev.old) (P.state parity_dev.old) → IsOk result }
     ensures asks { AsksForFirst gap.now (is_ok result) D.state H.state P.state data_dev.old hash_dev.old parity_dev.old data_dev.new hash_dev.new parity_dev.new }
+    ensures counted { CountsFailures D.state H.state data_dev.old hash_dev.old data_dev.new hash_dev.new }
+    ensures parity_counted { (P.state parity_dev.old).failures ≤ (P.state parity_dev.new).failures }
 {
     let sectors = (parity.len() / 512) as u64;
     parity_dev.read(gap.round * sectors, parity)?;

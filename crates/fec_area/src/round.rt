@@ -2,7 +2,7 @@
 ghost use Rattle.std.specs.Prelude.{◌≡◌, ◌+◌, ◌*◌, ◌<◌, ◌-◌, IsOk, OnOk, OnErr, EachIndex, is_ok, length, slice_index};
 ghost use Rattle.fec_area.specs.Asking.{AsksAt, AsksPlace, AsksRound, is_among};
 ghost use Rattle.fec_area.specs.Layouts.{code_rounds};
-ghost use Rattle.fec_area.specs.Rounds.{Adds, AddsKept, BothNeverFail, CanAdd, CanAddKept, CanRestore, CanSum, NeitherFails, OneFails, OnlyReadsCovered, Restores, SumsUp};
+ghost use Rattle.fec_area.specs.Rounds.{Adds, AddsKept, BothNeverFail, CanAdd, CanAddKept, CanRestore, CanSum, CountsFailures, NeitherFails, OneFails, OnlyReadsCovered, Restores, SumsUp};
 
 use crate::code::{Code, Gap};
 use crate::covered::read_covered;
@@ -50,6 +50,7 @@ pub(crate) fn restore_blocks<D: BlockDev, H: BlockDev>(
     ensures err { OnErr result (OneFails D.state H.state data_dev.old hash_dev.old data_dev.new hash_dev.new) }
     ensures sure { BothNeverFail (D.state data_dev.old) (H.state hash_dev.old) → IsOk result }
     ensures asks { AsksRound gap.now (is_ok result) D.state H.state data_dev.old hash_dev.old data_dev.new hash_dev.new }
+    ensures counted { CountsFailures D.state H.state data_dev.old hash_dev.old data_dev.new hash_dev.new }
 {
     let roots = gap.code.layout.roots;
     let count = gap.places.len();
@@ -82,6 +83,7 @@ fn add_kept<D: BlockDev, H: BlockDev>(
     ensures err { OnErr result (OneFails D.state H.state data_dev.old hash_dev.old data_dev.new hash_dev.new) }
     ensures sure { BothNeverFail (D.state data_dev.old) (H.state hash_dev.old) → IsOk result }
     ensures asks { AsksPlace gap.now place D.state H.state data_dev.old hash_dev.old data_dev.new hash_dev.new }
+    ensures counted { CountsFailures D.state H.state data_dev.old hash_dev.old data_dev.new hash_dev.new }
 {
     if is_lost(gap.places, place) {
         return Ok(());
@@ -114,6 +116,7 @@ fn add_place<D: BlockDev, H: BlockDev>(
     ensures err { OnErr result (OneFails D.state H.state data_dev.old hash_dev.old data_dev.new hash_dev.new) }
     ensures sure { BothNeverFail (D.state data_dev.old) (H.state hash_dev.old) → IsOk result }
     ensures asks { AsksAt code.now round place D.state H.state data_dev.old hash_dev.old data_dev.new hash_dev.new }
+    ensures counted { CountsFailures D.state H.state data_dev.old hash_dev.old data_dev.new hash_dev.new }
 {
     let layout = code.layout;
     let index = place as u64 * layout.rounds() + round;

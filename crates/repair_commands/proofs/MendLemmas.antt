@@ -1,12 +1,21 @@
 -- Devices whose writes are put on their media.
-use Rattle.std.proofs.Common.{◌≡◌, Result, Ok, Err, ap}
+use Rattle.std.proofs.Common.{◌≡◌, ◌≤◌, Result, Ok, Err, ap, arith, inl, inr}
 use Rattle.std.specs.Prelude.{IsErrAnd, OnErr, OnOk}
-use Rattle.block_device.specs.Device.{Device, IsUnsynced, synced}
+use Rattle.block_device.specs.Device.{Device, HasFailed, IsUnsynced, synced}
 
 -- a sync leaves the image as it is, whether it ends well or not
 pub sync-image : {T E : Type 0} (a b : Device) (r : Result T E) → OnOk r (b ≡ synced a) → OnErr r (IsUnsynced a b) → b.image ≡ a.image
 sync-image a b (Ok x) done fails = ap (λ (d : Device). d.image) done
 sync-image a b (Err e) done fails = ap (λ (d : Device). d.image) fails.moved
+
+-- and takes no failure back
+unsynced-more : (a b : Device) → IsUnsynced a b → HasFailed a b → a.failures ≤ b.failures
+unsynced-more a b un (inl less) = omega (arith, less)
+unsynced-more a b un (inr most) = omega (arith, most, ap (λ (d : Device). d.failures) un.moved)
+
+pub sync-more : {T E : Type 0} (a b : Device) (r : Result T E) → OnOk r (b ≡ synced a) → OnErr r (IsUnsynced a b) → a.failures ≤ b.failures
+sync-more a b (Ok x) done fails = omega (arith, ap (λ (d : Device). d.failures) done)
+sync-more a b (Err e) done fails = unsynced-more a b fails fails.failed
 
 -- what is said of a fault that is handed on
 pub on_err-from : {T E : Type 0} (r : Result T E) (P : E → Type 0) (Q : Type 0) → IsErrAnd r P → Q → OnErr r Q

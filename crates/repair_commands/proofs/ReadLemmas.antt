@@ -1,14 +1,13 @@
 -- What is said behind a reading of the hash device is said of it before.
-use Rattle.std.proofs.Common.{◌⊎◌, ◌≤◌, ◌<◌, ℕ, Bool, List, [], ◌∷◌, Option, None, refl, ap, ◌∙◌, subst, inl, inr}
+use Rattle.std.proofs.Common.{◌⊎◌, ◌≤◌, ◌<◌, ℕ, Bool, List, [], ◌∷◌, Option, None, refl, ap, ◌∙◌, subst, arith, inl, inr}
 use Rattle.block_device.specs.Device.{Device}
-use Rattle.tree_path.proofs.lemmas.DeviceLemmas.{failed-then, only_read-none, only_read-then, steady-then}
+use Rattle.tree_path.proofs.lemmas.DeviceLemmas.{failed-then, only_read-then, steady-then}
 use Rattle.tree_repair.specs.declared.fault.RepairFault.{RepairFault}
 use Rattle.tree_repair.specs.declared.fault.RepairFault.TheVariants.{Image, Write}
 use Rattle.tree_repair.specs.declared.repair.Plan.{Plan}
 use Rattle.tree_repair.specs.Repairs.{IsNoImageCause, IsUnrepairedBy, Repairs, job_of}
 use Rattle.tree_repair.specs.Runs.{Job, VisitsAll, Visit}
-use Rattle.tree_repair.specs.Sources.{AreEachRead}
-use Rattle.tree_repair.specs.Worlds.{IsWorldRead, RepairWorld, repair_world}
+use Rattle.tree_repair.specs.Worlds.{IsHashReadAlone, IsWorldRead, RepairWorld, repair_world}
 use Rattle.tree_survey.specs.Causes.{AreCut, AreImages}
 use Rattle.verity_format.specs.declared.verifying.VerifyFault.TheVariants.{Super, TooSmall, Device as DeviceFailed, NoMemory}
 use Rattle.verity_format.specs.Blocks.{IsFullRead, IsOnlyRead, block_at}
@@ -17,12 +16,17 @@ use Rattle.verity_format.specs.Superblock.{SuperRecord, shape_of}
 use Rattle.verity_format.specs.Verifying.{IsFirstSector, IsReadFrom}
 use Rattle.repair_commands.specs.Mends.{HalfMends, IsUnsyncedCause, MendsWhole}
 
-each-none : (ds : List Device) → AreEachRead ds ds
-each-none ds = record { count = refl; each = λ j inside d. only_read-none _ }
-
 -- two devices of which one was read, and the copies
-pub world-read : (d h h' : Device) (cs es : List Device) → IsOnlyRead h h' → IsWorldRead (repair_world d h cs es) (repair_world d h' cs es)
-world-read d h h' cs es read = record { data_read = only_read-none d; hash_read = read; data_copies_read = each-none cs; hash_copies_read = each-none es }
+pub hash-alone : (d h h' : Device) (cs es : List Device) → IsOnlyRead h h' → IsHashReadAlone (repair_world d h cs es) (repair_world d h' cs es)
+hash-alone d h h' cs es read = record { data_is = refl; read = read; data_copies_are = refl; hash_copies_are = refl }
+
+alone-behind : {d h h' : Device} {cs es : List Device} (w' : RepairWorld) → IsOnlyRead h h' → IsHashReadAlone (repair_world d h' cs es) w' → IsHashReadAlone (repair_world d h cs es) w'
+alone-behind w' read behind = record {
+  data_is = behind.data_is;
+  read = only_read-then read behind.read;
+  data_copies_are = behind.data_copies_are;
+  hash_copies_are = behind.hash_copies_are;
+}
 
 sector-behind : {h h' : Device} (sector : List ℕ) → IsOnlyRead h h' → IsFirstSector h' sector → IsFirstSector h sector
 sector-behind sector read first steady = first (steady-then read.same steady) ∙ ap (λ (image : List (List ℕ)). block_at image 512 0) (read.image steady)
@@ -41,37 +45,39 @@ images-behind s read images = record {
 cut-behind : {d h h' : Device} → IsOnlyRead h h' → AreCut d h' → AreCut d h
 cut-behind read cut = record { s = cut.s; sector = cut.sector; from = from-behind cut.sector cut.s read cut.from; past = rw read.same.size at cut.past }
 
-read-behind : {d h h' : Device} {cs es : List Device} (w' : RepairWorld) → IsOnlyRead h h' → IsWorldRead (repair_world d h' cs es) w' → IsWorldRead (repair_world d h cs es) w'
-read-behind w' read behind = record {
+read-behind : {d h h' : Device} {cs es : List Device} (w' : RepairWorld) → IsFullRead h 1 h' → IsWorldRead (repair_world d h' cs es) w' → IsWorldRead (repair_world d h cs es) w'
+read-behind w' full behind = record {
   data_read = behind.data_read;
-  hash_read = only_read-then read behind.hash_read;
+  hash_read = only_read-then full.read behind.hash_read;
+  data_more = behind.data_more;
+  hash_more = omega (arith, full.failures, behind.hash_more);
   data_copies_read = behind.data_copies_read;
   hash_copies_read = behind.hash_copies_read;
 }
 
-runs-behind : (d h h' : Device) (cs es : List Device) (j : Job) (visits : List Visit) (w' : RepairWorld) → IsOnlyRead h h' → VisitsAll j visits (repair_world d h' cs es) w' → VisitsAll j visits (repair_world d h cs es) w'
-runs-behind d h h' cs es j [] w' read runs = read-behind w' read runs
-runs-behind d h h' cs es j (v ∷ more) w' read (a, (b, (behind, rest))) = (a, (b, (read-behind a read behind, rest)))
+runs-behind : (d h h' : Device) (cs es : List Device) (j : Job) (visits : List Visit) (w' : RepairWorld) → IsFullRead h 1 h' → VisitsAll j visits (repair_world d h' cs es) w' → VisitsAll j visits (repair_world d h cs es) w'
+runs-behind d h h' cs es j [] w' full runs = read-behind w' full runs
+runs-behind d h h' cs es j (v ∷ more) w' full (a, (b, (behind, rest))) = (a, (b, (read-behind a full behind, rest)))
 
-repairs-behind : {d h h' : Device} {cs es : List Device} (plan : Plan) (parity : Bool) (w' : RepairWorld) (old new : Option (List ℕ)) (fault : Option RepairFault) → IsOnlyRead h h'
+repairs-behind : {d h h' : Device} {cs es : List Device} (plan : Plan) (parity : Bool) (w' : RepairWorld) (old new : Option (List ℕ)) (fault : Option RepairFault) → IsFullRead h 1 h'
     → Repairs plan parity (repair_world d h' cs es) w' old new fault → Repairs plan parity (repair_world d h cs es) w' old new fault
-repairs-behind {d} {h} {h'} {cs} {es} plan parity w' old new fault read repairs = record {
+repairs-behind {d} {h} {h'} {cs} {es} plan parity w' old new fault full repairs = record {
   s = repairs.s;
-  images = images-behind repairs.s read repairs.images;
+  images = images-behind repairs.s full.read repairs.images;
   run = record {
     visits = repairs.run.visits;
-    runs = runs-behind d h h' cs es (job_of repairs.s plan parity) repairs.run.visits w' read repairs.run.runs;
+    runs = runs-behind d h h' cs es (job_of repairs.s plan parity) repairs.run.visits w' full repairs.run.runs;
     done = repairs.run.done;
     printed = repairs.run.printed;
     cause = repairs.run.cause;
   };
 }
 
-pub mends-behind : {d h h' : Device} {cs es : List Device} (plan : Plan) (parity : Bool) (w' : RepairWorld) (old new : Option (List ℕ)) → IsOnlyRead h h'
+pub mends-behind : {d h h' : Device} {cs es : List Device} (plan : Plan) (parity : Bool) (w' : RepairWorld) (old new : Option (List ℕ)) → IsFullRead h 1 h'
     → MendsWhole plan parity (repair_world d h' cs es) w' old new → MendsWhole plan parity (repair_world d h cs es) w' old new
-mends-behind plan parity w' old new read mends = record {
+mends-behind plan parity w' old new full mends = record {
   mid = mends.mid;
-  repair = repairs-behind plan parity mends.mid old new None read mends.repair;
+  repair = repairs-behind plan parity mends.mid old new None full mends.repair;
   kept = mends.kept;
   data_copies_are = mends.data_copies_are;
   hash_copies_are = mends.hash_copies_are;
@@ -89,14 +95,14 @@ cause-behind d h h' h'' Write full never = absurd never
 
 unrepaired-behind : (plan : Plan) (parity : Bool) (d h h' : Device) (cs es : List Device) (w' : RepairWorld) (old new : Option (List ℕ)) (fault : RepairFault) → IsFullRead h 1 h'
     → IsUnrepairedBy plan parity (repair_world d h' cs es) w' old new fault → IsUnrepairedBy plan parity (repair_world d h cs es) w' old new fault
-unrepaired-behind plan parity d h h' cs es w' old new fault full (inl (behind, cause)) = inl (read-behind w' full.read behind, cause-behind d h h' w'.hash_dev fault full cause)
-unrepaired-behind plan parity d h h' cs es w' old new fault full (inr repairs) = inr (repairs-behind plan parity w' old new _ full.read repairs)
+unrepaired-behind plan parity d h h' cs es w' old new fault full (inl (behind, cause)) = inl (alone-behind w' full.read behind, cause-behind d h h' w'.hash_dev fault full cause)
+unrepaired-behind plan parity d h h' cs es w' old new fault full (inr repairs) = inr (repairs-behind plan parity w' old new _ full repairs)
 
 half-run : (plan : Plan) (parity : Bool) (d h h' : Device) (cs es : List Device) (w' after : RepairWorld) (old new : Option (List ℕ)) (fault : RepairFault) → IsFullRead h 1 h'
     → (IsUnrepairedBy plan parity (repair_world d h' cs es) w' old new fault ⊎ (Repairs plan parity (repair_world d h' cs es) w' old new None × IsUnsyncedCause plan.write w' after fault))
     → (IsUnrepairedBy plan parity (repair_world d h cs es) w' old new fault ⊎ (Repairs plan parity (repair_world d h cs es) w' old new None × IsUnsyncedCause plan.write w' after fault))
 half-run plan parity d h h' cs es w' after old new fault full (inl ended) = inl (unrepaired-behind plan parity d h h' cs es w' old new fault full ended)
-half-run plan parity d h h' cs es w' after old new fault full (inr (repairs, failed)) = inr (repairs-behind plan parity w' old new _ full.read repairs, failed)
+half-run plan parity d h h' cs es w' after old new fault full (inr (repairs, failed)) = inr (repairs-behind plan parity w' old new _ full repairs, failed)
 
 pub half-behind : (plan : Plan) (parity : Bool) (d h h' : Device) (cs es : List Device) (w' : RepairWorld) (old new : Option (List ℕ)) (fault : RepairFault) → IsFullRead h 1 h'
     → HalfMends plan parity (repair_world d h' cs es) w' old new fault → HalfMends plan parity (repair_world d h cs es) w' old new fault

@@ -12,7 +12,7 @@ use Rattle.tree_commands.specs.declared.fault.TreeFault.TheVariants.{Open}
 use Rattle.tree_repair.specs.declared.fault.RepairFault.{RepairFault}
 use Rattle.tree_repair.specs.declared.outcome.Outcome.{Outcome}
 use Rattle.tree_repair.specs.declared.repair.Plan.{Plan}
-use Rattle.tree_repair.specs.Worlds.{IsWorldRead, RepairWorld, repair_world}
+use Rattle.tree_repair.specs.Worlds.{IsHashReadAlone, RepairWorld, repair_world}
 use Rattle.repair_commands.specs.declared.fault.ParityRepairFault.{ParityRepairFault}
 use Rattle.repair_commands.specs.declared.fault.ParityRepairFault.TheVariants.{Tree}
 use Rattle.repair_commands.specs.declared.opening.Opened.{Opened}
@@ -41,10 +41,10 @@ pub record EndsHalf (plan : Plan) (w w' : RepairWorld) (old new : Option (List �
   pub half : HalfMends plan true w w' old new cause
   pub is : fault ≡ Tree (ending_fault cause)
 
--- the parity isn't laid out: all was only read, and nothing printed
+-- the parity isn't laid out: the hash device alone was asked, and only read, and nothing printed
 pub record IsUnlaidEnd (parity_dev : Device) (roots : ℕ) (w w' : RepairWorld) (old new : Option (List ℕ)) (fault : ParityRepairFault) : Type 0 where
   pub unlaid : IsUnlaid w.data_dev w.hash_dev parity_dev roots w'.hash_dev fault
-  pub read : IsWorldRead w w'
+  pub read : IsHashReadAlone w w'
   pub quiet : new ≡ old
 
 abbrev pub HalfMendsByParity : Plan → Device → ℕ → RepairWorld → RepairWorld → Option (List ℕ) → Option (List ℕ) → ParityRepairFault → Type 0

@@ -1,5 +1,5 @@
 -- What a repair of two devices did, up to their media.
-use Rattle.std.specs.Prelude.{◌≡◌, ◌⊎◌, ℕ, Bool, true, false, IsTrue, List, Option, None}
+use Rattle.std.specs.Prelude.{◌≡◌, ◌≤◌, ◌⊎◌, ℕ, Bool, true, false, IsTrue, List, Option, None}
 use Rattle.block_device.specs.Device.{Device, HasFailed}
 use Rattle.counted_io.specs.Counted.{CountedRecord}
 use Rattle.fec_area.specs.declared.layout.Layout.{Layout}
@@ -14,10 +14,12 @@ use Rattle.tree_repair.specs.Repairs.{IsUnrepairedBy, LooksAtAll, Repairs, Seeks
 use Rattle.tree_repair.specs.Worlds.{RepairWorld}
 use Rattle.verity_format.specs.declared.verifying.VerifyFault.TheVariants.{Device as DeviceFailed}
 
--- both hold what they held
+-- both hold what they held, and neither takes a failure back
 pub record KeepsBothImages (data_dev hash_dev data_dev' hash_dev' : Device) : Type 0 where
   pub data_image : data_dev'.image ≡ data_dev.image
   pub hash_image : hash_dev'.image ≡ hash_dev.image
+  pub data_more : data_dev.failures ≤ data_dev'.failures
+  pub hash_more : hash_dev.failures ≤ hash_dev'.failures
 
 -- where anything may be written, all of it is on their media
 pub record IsOnMedium (write : Bool) (data_dev hash_dev : Device) : Type 0 where

@@ -47,6 +47,7 @@ fn sync_one<D: SyncDev>(device: &mut D, write: bool) -> Result<(), DeviceFault>
     ensures kept { (D.state device.new).image ≡ (D.state device.old).image }
     ensures ok { OnOk result (IsTrue write → (D.state device.new).dirty ≡ false) }
     ensures err { OnErr result (IsTrue write × HasFailed (D.state device.old) (D.state device.new)) }
+    ensures counted { (D.state device.old).failures ≤ (D.state device.new).failures }
 {
     if !write {
         return Ok(());

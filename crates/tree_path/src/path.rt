@@ -104,6 +104,7 @@ impl TreePath {
         ensures fault { OnErr result (IsUnloaded (steps self.old self.new (H.state device.old) (H.state device.new) index level)) }
         ensures sure { IsTrue (H.state device.old).never_fails → IsOk result }
         ensures asked { HasReadAtMost (H.state device.old) (self.old.shape.hash_block / 512) (H.state device.new) }
+        ensures counted { (H.state device.old).failures ≤ (H.state device.new).failures }
     {
         let place = self
             .shape
@@ -129,6 +130,7 @@ impl TreePath {
         ensures kept { OnErr result (IsKeptAbove (steps self.old self.new (H.state device.old) (H.state device.new) index from)) }
         ensures sure { IsTrue (H.state device.old).never_fails → IsOk result }
         ensures asked { HasReadAtMost (H.state device.old) ((from - to) * (self.old.shape.hash_block / 512)) (H.state device.new) }
+        ensures counted { (H.state device.old).failures ≤ (H.state device.new).failures }
     {
         let mut level = from;
         'levels: while level > to {

@@ -1,5 +1,5 @@
 //! Blocks read from a device, and memory for them.
-ghost use Rattle.std.specs.Prelude.{◌≡◌, ◌/◌, IsTrue, IsOk, OnOk, OnErr, IfOk, All, length, replicate};
+ghost use Rattle.std.specs.Prelude.{◌≡◌, ◌≤◌, ◌/◌, IsTrue, IsOk, OnOk, OnErr, IfOk, All, length, replicate};
 ghost use Rattle.verity_format.specs.Blocks.{IsBlockRead, IsOnlyRead};
 ghost use Rattle.verity_format.specs.Premises.{IsBlockOn};
 ghost use Rattle.tree_path.specs.Steps.{HasFailedOnce, HasReadAtMost};
@@ -44,6 +44,7 @@ pub(crate) fn read_block<D: BlockDev>(
     ensures fault { OnErr result (HasFailedOnce (D.state device.old) (D.state device.new)) }
     ensures sure { IsTrue (D.state device.old).never_fails → IsOk result }
     ensures asked { HasReadAtMost (D.state device.old) (length block.old / 512) (D.state device.new) }
+    ensures counted { (D.state device.old).failures ≤ (D.state device.new).failures }
 {
     let sectors = (block.len() / 512) as u64;
     device.read(index * sectors, block)?;

@@ -26,7 +26,7 @@ pub made-data : (s : ShapeRecord) → IsShape s → (h k : ℕ) → h ≡ 0 → 
 made-data s valid zero k none inside w d' read asked =
     leaves-more (made_over s 0 (left_of s 0 k)) (made_over s 0 (left_of s 0 (k + 1)))
     (leaves-read (s.data_block / 512) 0 w (repair_world d' w.hash_dev w.data_copies w.hash_copies)
-    (record { devices = record { data_read = read; hash_read = only_read-none w.hash_dev }; data_copies_are = refl; hash_copies_are = refl }) asked (omega arith))
+    (record { data_read = read; hash_read = only_read-none w.hash_dev }) refl refl asked (omega arith))
     (record { data_reads = omega (arith, next-here s valid 0 k inside); hash_reads = omega arith; data_once = omega arith; hash_once = omega arith })
 made-data s valid (suc l) k none inside w d' read asked = absurd (omega (arith, none))
 
@@ -36,7 +36,7 @@ made-hash s valid zero l k some inside w d' read asked = absurd (omega (arith, s
 made-hash s valid (suc m) l k some inside w d' read asked =
     leaves-more (made_over s (suc m) (left_of s (suc m) k)) (made_over s (suc m) (left_of s (suc m) (k + 1)))
     (leaves-read 0 (s.hash_block / 512) w (repair_world w.data_dev d' w.data_copies w.hash_copies)
-    (record { devices = record { data_read = only_read-none w.data_dev; hash_read = read }; data_copies_are = refl; hash_copies_are = refl }) (omega arith) asked)
+    (record { data_read = only_read-none w.data_dev; hash_read = read }) refl refl (omega arith) asked)
     (record { data_reads = omega arith; hash_reads = omega (arith, next-here s valid (suc m) k inside); data_once = omega arith; hash_once = omega arith })
 
 -- ---- blocks that are read to make one

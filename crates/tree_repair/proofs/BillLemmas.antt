@@ -6,12 +6,13 @@ use Rattle.std.proofs.lemmas.List.{get_or-map, get_or-set_same, get_or-set_other
 use Rattle.block_device.specs.Device.{Device}
 use Rattle.std.specs.Prelude.{IfSome, OnOk, Option, None, Some}
 use Rattle.tree_shape.specs.Shape.{ShapeRecord, levels}
+use Rattle.verity_format.specs.Blocks.{AreOnlyRead}
 use Rattle.verity_format.specs.Image.{data_sectors}
 use Rattle.tree_path.specs.Steps.{HasReadAtMost}
 use Rattle.tree_repair.specs.Bills.{AreEachLeft, Bill, IsAskedOnce, LeavesWorld, nothing_due, pass_over, piece_of, reading}
 use Rattle.tree_repair.specs.Bounds.{AreReadAtMost, HasWrittenAtMost, IsOnePass, area_block_sectors}
 use Rattle.tree_repair.specs.Mending.{IsAllowedPut}
-use Rattle.tree_repair.specs.Worlds.{AreBothRead, RepairWorld, repair_world}
+use Rattle.tree_repair.specs.Worlds.{RepairWorld, repair_world}
 
 -- ---- one device
 
@@ -135,14 +136,15 @@ pub leaves-end : {a b : Bill} {w x : RepairWorld} → LeavesWorld a b w x → Le
 leaves-end {a} {b} {w} {x} p = leaves-more a nothing_due p (record { data_reads = omega arith; hash_reads = omega arith; data_once = omega arith; hash_once = omega arith })
 
 -- data device and hash device were read, and no copy
-pub leaves-read : (d t : ℕ) (w x : RepairWorld) → AreBothRead w x → HasReadAtMost w.data_dev d x.data_dev → HasReadAtMost w.hash_dev t x.hash_dev → LeavesWorld (reading d t) nothing_due w x
-leaves-read d t w x read one two = record {
+pub leaves-read : (d t : ℕ) (w x : RepairWorld) → AreOnlyRead w.data_dev w.hash_dev x.data_dev x.hash_dev → x.data_copies ≡ w.data_copies → x.hash_copies ≡ w.hash_copies
+    → HasReadAtMost w.data_dev d x.data_dev → HasReadAtMost w.hash_dev t x.hash_dev → LeavesWorld (reading d t) nothing_due w x
+leaves-read d t w x read data_are hash_are one two = record {
   data_reads = omega (arith, one);
   hash_reads = omega (arith, two);
-  data_writes = omega (arith, read.devices.data_read.writes);
-  hash_writes = omega (arith, read.devices.hash_read.writes);
-  data_copies = left-same 0 0 w.data_copies x.data_copies read.data_copies_are (omega arith);
-  hash_copies = left-same 0 0 w.hash_copies x.hash_copies read.hash_copies_are (omega arith);
+  data_writes = omega (arith, read.data_read.writes);
+  hash_writes = omega (arith, read.hash_read.writes);
+  data_copies = left-same 0 0 w.data_copies x.data_copies data_are (omega arith);
+  hash_copies = left-same 0 0 w.hash_copies x.hash_copies hash_are (omega arith);
 }
 
 -- a block of the data device was looked at

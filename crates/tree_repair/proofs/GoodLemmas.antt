@@ -94,7 +94,7 @@ good-runs j p w i (b ∷ more) ways are =
               inside = here.0;
               p = p;
               way = here.1;
-              mended_as = record { read = only_read-none w.data_dev; copies_read = each-none w.data_copies; there = are.0 };
+              mended_as = record { read = only_read-none w.data_dev; more = omega arith; copies_read = each-none w.data_copies; there = are.0 };
               made_of = tt;
               other_stays = refl;
               copies_are = refl;

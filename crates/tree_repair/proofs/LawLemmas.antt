@@ -55,7 +55,7 @@ path-digest p i h c leads few at good =
     meets p i h c.content leads d c.path (good.path ∙ sym all) (omega (arith, all)) hangs
 
 -- a chain's block has the digest to which a way leads
-way-digest : (t : Tree) (p : PathRecord) (i h : ℕ) (c : ChainRecord) → IsWay t i h p → IsChain t i c → (digest t.salt (block_of_height t c h) ≡ digest_on p i h) ⊎ Collide t.salt
+pub way-digest : (t : Tree) (p : PathRecord) (i h : ℕ) (c : ChainRecord) → IsWay t i h p → IsChain t i c → (digest t.salt (block_of_height t c h) ≡ digest_on p i h) ⊎ Collide t.salt
 way-digest t p i h c way chain =
     let good : IsGood p.shape p.salt p.root c =
     subst (λ (x : List ℕ). IsGood p.shape p.salt x c) (sym way.is.root_is)

@@ -7,6 +7,7 @@ mod ApartLemmas
 mod AskedLemmas
 mod BillLemmas
 mod CountLemmas
+mod ExcuseLemmas
 mod HeightLemmas
 mod LookLemmas
 mod MakeLemmas

@@ -79,11 +79,13 @@ read-then : (d h d1 h1 d2 h2 : Device) → AreOnlyRead d h d1 h1 → AreOnlyRead
 read-then d h d1 h1 d2 h2 p q = record { data_read = only_read-then p.data_read q.data_read; hash_read = only_read-then p.hash_read q.hash_read }
 
 pub both-none : (a : RepairWorld) → AreBothRead a a
-both-none a = record { devices = read-none a.data_dev a.hash_dev; data_copies_are = refl; hash_copies_are = refl }
+both-none a = record { devices = read-none a.data_dev a.hash_dev; data_more = omega arith; hash_more = omega arith; data_copies_are = refl; hash_copies_are = refl }
 
 pub both-then : (a b c : RepairWorld) → AreBothRead a b → AreBothRead b c → AreBothRead a c
 both-then a b c p q = record {
   devices = read-then a.data_dev a.hash_dev b.data_dev b.hash_dev c.data_dev c.hash_dev p.devices q.devices;
+  data_more = omega (arith, p.data_more, q.data_more);
+  hash_more = omega (arith, p.hash_more, q.hash_more);
   data_copies_are = q.data_copies_are ∙ p.data_copies_are;
   hash_copies_are = q.hash_copies_are ∙ p.hash_copies_are;
 }

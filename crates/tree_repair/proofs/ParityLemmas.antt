@@ -125,11 +125,11 @@ module _ (j : Job) (p : PathRecord) (h i : ℕ) (bytes : List ℕ) (d d' e : Dev
 
   data-or : (back : Bool) → h ≡ 0 → IsPutOr d (sector_at j.tree.shape h i) (wanted j.tree.salt (digest_on p i h) (size_at j.tree.shape h / 512)) j.write bytes d' back → IsPlaced j h i bytes (repair_world d e cs es) (repair_world d' e cs es) back
   data-or true none put = data-visit true none put
-  data-or false none put = (record { data_read = put.0; hash_read = only_read-none e; data_copies_read = each-none cs; hash_copies_read = each-none es }, good-data none put.1)
+  data-or false none put = (record { data_read = put.0.0; hash_read = only_read-none e; data_more = put.0.1; hash_more = omega arith; data_copies_read = each-none cs; hash_copies_read = each-none es }, good-data none put.1)
 
   hash-or : (l : ℕ) (back : Bool) → h ≡ suc l → IsPutOr d (sector_at j.tree.shape h i) (wanted j.tree.salt (digest_on p i h) (size_at j.tree.shape h / 512)) j.write bytes d' back → IsPlaced j h i bytes (repair_world e d es cs) (repair_world e d' es cs) back
   hash-or l true some put = hash-visit l true some put
-  hash-or l false some put = (record { data_read = only_read-none e; hash_read = put.0; data_copies_read = each-none es; hash_copies_read = each-none cs }, good-hash l some put.1)
+  hash-or l false some put = (record { data_read = only_read-none e; hash_read = put.0.0; data_more = omega arith; hash_more = put.0.1; data_copies_read = each-none es; hash_copies_read = each-none cs }, good-hash l some put.1)
 
   pub data-placed : {E : Type 0} (r : Result Bool E) → h ≡ 0 → IfOk r (IsPutOr d (sector_at j.tree.shape h i) (wanted j.tree.salt (digest_on p i h) (size_at j.tree.shape h / 512)) j.write bytes d')
       → IfOk r (IsPlaced j h i bytes (repair_world d e cs es) (repair_world d' e cs es))

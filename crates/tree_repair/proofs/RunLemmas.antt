@@ -1,5 +1,5 @@
 -- Runs over blocks, one behind the other.
-use Rattle.std.proofs.Common.{◌≡◌, ℕ, zero, suc, Bool, true, false, IsTrue, List, [], ◌∷◌, ◌++◌, Option, None, Some, Result, Ok, Err, refl, sym, ap, ◌∙◌, subst, arith}
+use Rattle.std.proofs.Common.{◌≡◌, ◌≤◌, ℕ, zero, suc, Bool, true, false, IsTrue, List, [], ◌∷◌, ◌++◌, Option, None, Some, Result, Ok, Err, refl, sym, ap, ◌∙◌, subst, arith}
 use Rattle.std.specs.Prelude.{All, IfSome, IsErrAnd}
 use Rattle.std.specs.List.{flat_map}
 use Rattle.std.specs.Io.KnownBytes.{Appends}
@@ -25,12 +25,14 @@ use Rattle.tree_repair.specs.Worlds.{IsWorldRead, RepairWorld, repair_world}
 use Rattle.tree_repair.proofs.SourceLemmas.{each-none, each-then}
 
 pub world-none : (w : RepairWorld) → IsWorldRead w w
-world-none w = record { data_read = only_read-none w.data_dev; hash_read = only_read-none w.hash_dev; data_copies_read = each-none w.data_copies; hash_copies_read = each-none w.hash_copies }
+world-none w = record { data_read = only_read-none w.data_dev; hash_read = only_read-none w.hash_dev; data_more = omega arith; hash_more = omega arith; data_copies_read = each-none w.data_copies; hash_copies_read = each-none w.hash_copies }
 
 pub world-then : (a b c : RepairWorld) → IsWorldRead a b → IsWorldRead b c → IsWorldRead a c
 world-then a b c p q = record {
   data_read = only_read-then p.data_read q.data_read;
   hash_read = only_read-then p.hash_read q.hash_read;
+  data_more = omega (arith, p.data_more, q.data_more);
+  hash_more = omega (arith, p.hash_more, q.hash_more);
   data_copies_read = each-then a.data_copies b.data_copies c.data_copies p.data_copies_read q.data_copies_read;
   hash_copies_read = each-then a.hash_copies b.hash_copies c.hash_copies p.hash_copies_read q.hash_copies_read;
 }
@@ -143,17 +145,17 @@ other-same : (h : ℕ) (m : Mended) (old new : Device) → OtherStays h m old ne
 other-same zero m old new stays = is-same old new stays
 other-same (suc l) mended.Good old new stays = is-same old new stays
 other-same (suc l) (mended.Copy k) old new stays = is-same old new stays
-other-same (suc l) mended.Remade old new stays = stays.same
+other-same (suc l) mended.Remade old new stays = stays.0.same
 other-same (suc l) mended.Parity old new stays = is-same old new stays
-other-same (suc l) mended.Lost old new stays = stays.same
+other-same (suc l) mended.Lost old new stays = stays.0.same
 
 pub other-image : (h : ℕ) (m : Mended) (old new : Device) → OtherStays h m old new → IsTrue old.steady → new.image ≡ old.image
 other-image zero m old new stays steady = ap (λ (x : Device). x.image) stays
 other-image (suc l) mended.Good old new stays steady = ap (λ (x : Device). x.image) stays
 other-image (suc l) (mended.Copy k) old new stays steady = ap (λ (x : Device). x.image) stays
-other-image (suc l) mended.Remade old new stays steady = stays.image steady
+other-image (suc l) mended.Remade old new stays steady = stays.0.image steady
 other-image (suc l) mended.Parity old new stays steady = ap (λ (x : Device). x.image) stays
-other-image (suc l) mended.Lost old new stays steady = stays.image steady
+other-image (suc l) mended.Lost old new stays steady = stays.0.image steady
 
 pub record AreSame (a b : RepairWorld) : Type 0 where
   pub data_same : IsSameDevice a.data_dev b.data_dev
@@ -195,12 +197,12 @@ pub can-read : {j : Job} {a b : RepairWorld} → IsWorldRead a b → CanRun j a 
 can-read {j} {a} {b} read can = can-same j a b (read-same a b read) can
 
 -- the hash device alone was read
-pub tree-read : (w : RepairWorld) (d : Device) → IsOnlyRead w.hash_dev d → IsWorldRead w (repair_world w.data_dev d w.data_copies w.hash_copies)
-tree-read w d read = record { data_read = only_read-none w.data_dev; hash_read = read; data_copies_read = each-none w.data_copies; hash_copies_read = each-none w.hash_copies }
+pub tree-read : (w : RepairWorld) (d : Device) → IsOnlyRead w.hash_dev d → w.hash_dev.failures ≤ d.failures → IsWorldRead w (repair_world w.data_dev d w.data_copies w.hash_copies)
+tree-read w d read more = record { data_read = only_read-none w.data_dev; hash_read = read; data_more = omega arith; hash_more = more; data_copies_read = each-none w.data_copies; hash_copies_read = each-none w.hash_copies }
 
 -- the data device alone was
-pub data-read : (w : RepairWorld) (d : Device) → IsOnlyRead w.data_dev d → IsWorldRead w (repair_world d w.hash_dev w.data_copies w.hash_copies)
-data-read w d read = record { data_read = read; hash_read = only_read-none w.hash_dev; data_copies_read = each-none w.data_copies; hash_copies_read = each-none w.hash_copies }
+pub data-read : (w : RepairWorld) (d : Device) → IsOnlyRead w.data_dev d → w.data_dev.failures ≤ d.failures → IsWorldRead w (repair_world d w.hash_dev w.data_copies w.hash_copies)
+data-read w d read more = record { data_read = read; hash_read = only_read-none w.hash_dev; data_more = more; hash_more = omega arith; data_copies_read = each-none w.data_copies; hash_copies_read = each-none w.hash_copies }
 
 -- covered blocks still lie on the devices
 laid-same : (l : Layout) (a b : RepairWorld) → AreSame a b → IsLaidOn l a.data_dev a.hash_dev → IsLaidOn l b.data_dev b.hash_dev

@@ -1,5 +1,5 @@
 -- A look at a block is a visit of the image.
-use Rattle.std.proofs.Common.{◌≡◌, ◌<◌, ◌+◌, ◌*◌, ◌/◌, ℕ, suc, [], ◌-◌, length, add-one, sym, subst, refl, ◌∙◌, true, false, Bool, List, Result, Ok, Err}
+use Rattle.std.proofs.Common.{◌≡◌, ◌<◌, ◌≤◌, ◌+◌, ◌*◌, ◌/◌, ℕ, suc, [], ◌-◌, length, add-one, ap, arith, sym, subst, refl, ◌∙◌, true, false, Bool, List, Result, Ok, Err}
 use Rattle.std.specs.Prelude.{IfOk, OnErr}
 use Rattle.block_device.specs.Device.{Device, IsSameDevice}
 use Rattle.tree_shape.specs.Digests.{digest}
@@ -73,19 +73,24 @@ module _ (j : Job) (p : PathRecord) (l i : ℕ) (a m b : RepairWorld) where
     before : AreOnlyRead a.data_dev a.hash_dev m.data_dev m.hash_dev
     before = record { data_read = subst (IsOnlyRead a.data_dev) (sym kept.device_is) (only_read-none a.data_dev); hash_read = only_read-then found.read found.beneath_read }
 
+    data-more : a.data_dev.failures ≤ b.data_dev.failures
+    data-more = omega (arith, ap (λ (d : Device). d.failures) kept.device_is, beneath.data_more)
+
     -- it can't be made
     pub lost-seen : IsNowhereBeneath j.tree.shape j.tree.salt m.data_dev m.hash_dev l i (digest_on p i (l + 1)) → IsHashSeen j p l i a b [] true mended.Lost
     lost-seen none = record {
       looked = record {
         seen = found.seen;
         read = found.read;
+        more = found.more;
         bad = found.bad;
         copies_read = subst (AreEachRead a.hash_copies) (sym beneath.hash_copies_are) found.copies_read;
         none = found.none;
         beneath_read = only_read-then found.beneath_read beneath.devices.hash_read;
+        beneath_more = omega (arith, found.beneath_more, beneath.hash_more);
       };
       made_of = λ from low. unlike-before j.tree.shape j.tree.salt a.data_dev a.hash_dev m.data_dev m.hash_dev before from (l + 1 - from) (ancestor j.tree.shape (l + 1) i) (digest_on p i (l + 1)) (none from low);
-      data_stays = only_read-then before.data_read beneath.devices.data_read;
+      data_stays = (only_read-then before.data_read beneath.devices.data_read, data-more);
       copies_are = beneath.data_copies_are ∙ kept.copies_are;
     }
 
@@ -97,11 +102,13 @@ module _ (j : Job) (p : PathRecord) (l i : ℕ) (a m b : RepairWorld) where
       looked = record {
         seen = found.seen;
         read = found.read;
+        more = found.more;
         bad = found.bad;
         copies_read = subst (AreEachRead a.hash_copies) (sym (put.hash_copies_are ∙ beneath.hash_copies_are)) found.copies_read;
         none = found.none;
         between = b.hash_dev;
         beneath_read = only_read-then found.beneath_read beneath.devices.hash_read;
+        beneath_more = omega (arith, found.beneath_more, beneath.hash_more);
         good = good;
         put = subst (λ (n : ℕ). IsAllowedPut j.write b.hash_dev (position j.tree.shape l (ancestor j.tree.shape (l + 1) i) * (j.tree.shape.hash_block / 512)) (n / 512) bytes done c.hash_dev) long put.put;
       };
@@ -110,6 +117,6 @@ module _ (j : Job) (p : PathRecord) (l i : ℕ) (a m b : RepairWorld) where
         beneath = made.beneath;
         stand = over-before j.tree.shape j.tree.salt a.data_dev a.hash_dev m.data_dev m.hash_dev before made.from (l + 1 - made.from) (ancestor j.tree.shape (l + 1) i) bytes made.stand;
       };
-      data_stays = subst (IsOnlyRead a.data_dev) (sym put.keeps.device_is) (only_read-then before.data_read beneath.devices.data_read);
+      data_stays = subst (λ (d : Device). IsOnlyRead a.data_dev d × (a.data_dev.failures ≤ d.failures)) (sym put.keeps.device_is) (only_read-then before.data_read beneath.devices.data_read, data-more);
       copies_are = put.keeps.copies_are ∙ beneath.data_copies_are ∙ kept.copies_are;
     }

@@ -6,13 +6,12 @@ use Rattle.block_device.specs.Device.{Device}
 use Rattle.counted_io.specs.Counted.{CountedRecord}
 use Rattle.tree_shape.specs.Shape.{ShapeRecord, area_blocks, levels, blocks_sectors}
 use Rattle.tree_path.specs.Steps.{HasReadAtMost}
-use Rattle.verity_format.specs.Blocks.{IsOnlyRead}
 use Rattle.verity_format.specs.Image.{data_sectors}
 use Rattle.verity_format.specs.Superblock.{shape_of}
 use Rattle.tree_repair.specs.declared.repair.Plan.{Plan}
 use Rattle.tree_repair.specs.declared.fault.RepairFault.{RepairFault}
 use Rattle.tree_repair.specs.Repairs.{IsNoImageCause, Repairs}
-use Rattle.tree_repair.specs.Worlds.{RepairWorld}
+use Rattle.tree_repair.specs.Worlds.{IsHashReadAlone, RepairWorld}
 
 -- ---- devices
 
@@ -46,13 +45,6 @@ pub record IsOnePass (s : ShapeRecord) (w w' : RepairWorld) : Type 0 where
 pub record RepairsInOnePass (plan : Plan) (w w' : RepairWorld) (old new : Option (List ℕ)) (fault : Option RepairFault) : Type 0 where
   pub repairs : Repairs plan false w w' old new fault
   pub within : IsOnePass (shape_of repairs.s) w w'
-
--- the hash device alone was asked, and only read
-pub record IsHashReadAlone (w w' : RepairWorld) : Type 0 where
-  pub data_is : w'.data_dev ≡ w.data_dev
-  pub read : IsOnlyRead w.hash_dev w'.hash_dev
-  pub data_copies_are : w'.data_copies ≡ w.data_copies
-  pub hash_copies_are : w'.hash_copies ≡ w.hash_copies
 
 -- so, whether to the end or not; or there was nothing to be gone over
 abbrev pub IsRepairWithin : {W T : Type 0} → (W → Option (List ℕ)) → Plan → RepairWorld → RepairWorld → CountedRecord W → CountedRecord W → Result T RepairFault → Type 0

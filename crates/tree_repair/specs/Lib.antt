@@ -7,6 +7,7 @@ pub mod Runs
 pub mod Jobs
 pub mod Grounds
 pub mod Visits
+pub mod Excuses
 pub mod Repairs
 pub mod Bounds
 pub mod Bills

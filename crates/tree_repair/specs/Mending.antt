@@ -1,5 +1,6 @@
--- What comes of a block that is looked at: it is good, or it isn't and was found elsewhere, or it is lost.
-use Rattle.std.specs.Prelude.{◌≡◌, ℕ, ◌*◌, ◌/◌, Bool, true, false, IsTrue, List, length}
+-- What comes of a block that is looked at: it is good, or it isn't and was found elsewhere, or it is lost. Where its device is
+-- read no failure is taken back, so each that is counted stays.
+use Rattle.std.specs.Prelude.{◌≡◌, ◌≤◌, ℕ, ◌*◌, ◌/◌, Bool, true, false, IsTrue, List, length}
 use Rattle.block_device.specs.Device.{Device, IsWritten, sectors_of, spliced}
 use Rattle.tree_shape.specs.Digests.{digest}
 use Rattle.verity_format.specs.Blocks.{IsOnlyRead}
@@ -38,6 +39,7 @@ IsPutAt write old first bytes done new = IsAllowedPut write old first (length by
 -- it is good: nothing is written
 pub record IsFoundGood (l : Look) (bytes : List ℕ) : Type 0 where
   pub read : IsOnlyRead l.old l.new
+  pub more : l.old.failures ≤ l.new.failures
   pub copies_read : AreEachRead l.copies l.copies'
   pub there : IsThere l.old l.first l.w bytes
 
@@ -45,6 +47,7 @@ pub record IsFoundGood (l : Look) (bytes : List ℕ) : Type 0 where
 pub record IsFoundInCopy (l : Look) (k : ℕ) (bytes : List ℕ) (done : Bool) : Type 0 where
   pub between : Device
   pub read : IsOnlyRead l.old between
+  pub more : l.old.failures ≤ between.failures
   pub bad : IsBad l.old l.first l.w between
   pub copies_read : AreEachRead l.copies l.copies'
   pub copy : AreIn l.copies l.copy_first l.w k bytes
@@ -56,11 +59,13 @@ pub record IsFoundInCopy (l : Look) (k : ℕ) (bytes : List ℕ) (done : Bool) :
 pub record IsFoundBeneath (l : Look) (bytes : List ℕ) (done : Bool) : Type 0 where
   pub seen : Device
   pub read : IsOnlyRead l.old seen
+  pub more : l.old.failures ≤ seen.failures
   pub bad : IsBad l.old l.first l.w seen
   pub copies_read : AreEachRead l.copies l.copies'
   pub none : AreNotIn l.copies l.copy_first l.w (length l.copies)
   pub between : Device
   pub beneath_read : IsOnlyRead seen between
+  pub beneath_more : seen.failures ≤ between.failures
   pub good : digest l.w.salt bytes ≡ l.w.digest_is
   pub put : IsAllowedPut l.write between l.first l.w.sectors bytes done l.new
 
@@ -68,6 +73,7 @@ pub record IsFoundBeneath (l : Look) (bytes : List ℕ) (done : Bool) : Type 0 w
 pub record IsBlockReplaced (old : Device) (first : ℕ) (w : Wanted) (write : Bool) (bytes : List ℕ) (done : Bool) (new : Device) : Type 0 where
   pub between : Device
   pub read : IsOnlyRead old between
+  pub more : old.failures ≤ between.failures
   pub bad : IsBad old first w between
   pub good : digest w.salt bytes ≡ w.digest_is
   pub put : IsAllowedPut write between first w.sectors bytes done new
@@ -81,10 +87,12 @@ pub record IsFoundByParity (l : Look) (bytes : List ℕ) (done : Bool) : Type 0 
 pub record IsFoundNowhere (l : Look) : Type 0 where
   pub seen : Device
   pub read : IsOnlyRead l.old seen
+  pub more : l.old.failures ≤ seen.failures
   pub bad : IsBad l.old l.first l.w seen
   pub copies_read : AreEachRead l.copies l.copies'
   pub none : AreNotIn l.copies l.copy_first l.w (length l.copies)
   pub beneath_read : IsOnlyRead seen l.new
+  pub beneath_more : seen.failures ≤ l.new.failures
 
 abbrev pub IsMended : Look → List ℕ → Bool → Mended → Type 0
 IsMended l bytes done mended.Good = IsFoundGood l bytes

@@ -44,7 +44,7 @@ end_at s (suc l) = tree_sectors s
 -- a block was put where it wasn't good, or is good and was only read
 abbrev pub IsPutOr : Device → ℕ → Wanted → Bool → List ℕ → Device → Bool → Type 0
 IsPutOr old first w write bytes new true = IsBlockReplaced old first w write bytes true new
-IsPutOr old first w write bytes new false = IsOnlyRead old new × ((read : List ℕ) × IsThere old first w read)
+IsPutOr old first w write bytes new false = (IsOnlyRead old new × (old.failures ≤ new.failures)) × ((read : List ℕ) × IsThere old first w read)
 
 -- a block of an image is good
 pub record IsGoodNow (j : Job) (h i : ℕ) (w : RepairWorld) : Type 0 where

@@ -18,10 +18,10 @@ use Rattle.tree_repair.specs.declared.mending.Mended.TheVariants as mended
 use Rattle.tree_repair.specs.declared.place.Row.{Row}
 use Rattle.tree_repair.specs.declared.parity.Came.{Came}
 use Rattle.tree_repair.specs.declared.repair.Plan.{Plan}
-use Rattle.tree_repair.specs.Bounds.{AreReadAtMost, HasWrittenAtMost, IsHashReadAlone, area_block_sectors}
+use Rattle.tree_repair.specs.Bounds.{AreReadAtMost, HasWrittenAtMost, area_block_sectors}
 use Rattle.tree_repair.specs.Repairs.{IsNoImageCause, Repairs}
 use Rattle.tree_repair.specs.Runs.{HasRun, Job, Visit, size_at}
-use Rattle.tree_repair.specs.Worlds.{RepairWorld}
+use Rattle.tree_repair.specs.Worlds.{IsHashReadAlone, RepairWorld}
 
 -- ---- what is asked
 

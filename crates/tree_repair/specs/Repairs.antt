@@ -13,7 +13,7 @@ use Rattle.tree_repair.specs.declared.repair.Plan.{Plan}
 use Rattle.tree_repair.specs.Coverage.{IsLookedAt}
 use Rattle.tree_repair.specs.Passes.{EndsInPass}
 use Rattle.tree_repair.specs.Runs.{HasRun, Job}
-use Rattle.tree_repair.specs.Worlds.{IsWorldRead, RepairWorld}
+use Rattle.tree_repair.specs.Worlds.{IsHashReadAlone, RepairWorld}
 
 -- that of the tree of a superblock under the plan's root, with parity or without
 abbrev pub job_of : SuperRecord → Plan → Bool → Job
@@ -66,9 +66,9 @@ abbrev pub IsNoImageCause : Device → Device → Device → RepairFault → Typ
 IsNoImageCause data_dev hash_dev hash_dev' (Image fault) = IsSuperblockCause data_dev hash_dev hash_dev' (survey.Image fault)
 IsNoImageCause data_dev hash_dev hash_dev' Write = ⊥
 
--- so, and the devices were only read; or the blocks were gone over, up to that fault, which has its cause
+-- so, and the hash device alone was asked, and only read; or the blocks were gone over, up to that fault, which has its cause
 abbrev pub IsUnrepairedBy : Plan → Bool → RepairWorld → RepairWorld → Option (List ℕ) → Option (List ℕ) → RepairFault → Type 0
-IsUnrepairedBy plan parity w w' old new fault = (IsWorldRead w w' × IsNoImageCause w.data_dev w.hash_dev w'.hash_dev fault) ⊎ Repairs plan parity w w' old new (Some fault)
+IsUnrepairedBy plan parity w w' old new fault = (IsHashReadAlone w w' × IsNoImageCause w.data_dev w.hash_dev w'.hash_dev fault) ⊎ Repairs plan parity w w' old new (Some fault)
 
 abbrev pub IsUnrepaired : {W : Type 0} → (W → Option (List ℕ)) → Plan → RepairWorld → RepairWorld → CountedRecord W → CountedRecord W → RepairFault → Type 0
 IsUnrepaired contents plan w w' old new fault = IsUnrepairedBy plan false w w' (contents old.inner) (contents new.inner) fault

@@ -92,9 +92,9 @@ abbrev pub OtherStays : ℕ → Mended → Device → Device → Type 0
 OtherStays zero m old new = new ≡ old
 OtherStays (suc l) mended.Good old new = new ≡ old
 OtherStays (suc l) (mended.Copy k) old new = new ≡ old
-OtherStays (suc l) mended.Remade old new = IsOnlyRead old new
+OtherStays (suc l) mended.Remade old new = IsOnlyRead old new × (old.failures ≤ new.failures)
 OtherStays (suc l) mended.Parity old new = new ≡ old
-OtherStays (suc l) mended.Lost old new = IsOnlyRead old new
+OtherStays (suc l) mended.Lost old new = IsOnlyRead old new × (old.failures ≤ new.failures)
 
 -- A hash block that was made again is made of the blocks beneath it, and one that is lost can't be. A data block isn't made.
 -- Only where there is parity a block was brought back by it.

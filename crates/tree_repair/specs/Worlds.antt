@@ -1,5 +1,5 @@
 -- The devices of a repair.
-use Rattle.std.specs.Prelude.{◌≡◌, List}
+use Rattle.std.specs.Prelude.{◌≡◌, ◌≤◌, List}
 use Rattle.block_device.specs.Device.{Device}
 use Rattle.verity_format.specs.Blocks.{AreOnlyRead, IsOnlyRead}
 use Rattle.tree_repair.specs.Sources.{AreEachRead}
@@ -14,15 +14,26 @@ pub record RepairWorld : Type 0 where
 abbrev pub repair_world : Device → Device → List Device → List Device → RepairWorld
 repair_world data_dev hash_dev data_copies hash_copies = record { data_dev = data_dev; hash_dev = hash_dev; data_copies = data_copies; hash_copies = hash_copies }
 
--- all devices were only read
+-- all devices were only read, and neither the data device nor the hash device takes a failure back
 pub record IsWorldRead (w w' : RepairWorld) : Type 0 where
   pub data_read : IsOnlyRead w.data_dev w'.data_dev
   pub hash_read : IsOnlyRead w.hash_dev w'.hash_dev
+  pub data_more : w.data_dev.failures ≤ w'.data_dev.failures
+  pub hash_more : w.hash_dev.failures ≤ w'.hash_dev.failures
   pub data_copies_read : AreEachRead w.data_copies w'.data_copies
   pub hash_copies_read : AreEachRead w.hash_copies w'.hash_copies
 
--- data and hash device were only read, and no copy was asked
+-- the hash device alone was asked, and only read
+pub record IsHashReadAlone (w w' : RepairWorld) : Type 0 where
+  pub data_is : w'.data_dev ≡ w.data_dev
+  pub read : IsOnlyRead w.hash_dev w'.hash_dev
+  pub data_copies_are : w'.data_copies ≡ w.data_copies
+  pub hash_copies_are : w'.hash_copies ≡ w.hash_copies
+
+-- data and hash device were only read, failures are counted, and no copy was asked
 pub record AreBothRead (w w' : RepairWorld) : Type 0 where
   pub devices : AreOnlyRead w.data_dev w.hash_dev w'.data_dev w'.hash_dev
+  pub data_more : w.data_dev.failures ≤ w'.data_dev.failures
+  pub hash_more : w.hash_dev.failures ≤ w'.hash_dev.failures
   pub data_copies_are : w'.data_copies ≡ w.data_copies
   pub hash_copies_are : w'.hash_copies ≡ w.hash_copies

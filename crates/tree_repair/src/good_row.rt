@@ -58,6 +58,7 @@ fn are_good<D: BlockDev>(
     ensures read { IsOnlyRead (D.state data_dev.old) (D.state data_dev.new) }
     ensures good { IsTrue result → AreGoodFrom (job repair.now) path.now (D.state data_dev.old) row.first (row.end - row.first) }
     ensures asked { HasReadAtMost (D.state data_dev.old) ((row.end - row.first) * (repair.now.shape.data_block / 512)) (D.state data_dev.new) }
+    ensures counted { (D.state data_dev.old).failures ≤ (D.state data_dev.new).failures }
 {
     let mut index = row.first;
     'pieces: while index < row.end {
@@ -88,6 +89,7 @@ fn good_piece<D: BlockDev>(
     ensures few { IfSome result (λ count. first + count ≤ end) }
     ensures good { IfSome result (AreGoodFrom (job repair.now) path.now (D.state data_dev.old) first) }
     ensures asked { HasReadAtMost (D.state data_dev.old) (piece_of (end - first) result * (repair.now.shape.data_block / 512)) (D.state data_dev.new) }
+    ensures counted { (D.state data_dev.old).failures ≤ (D.state data_dev.new).failures }
 {
     let size = repair.shape.data_block() as usize;
     let count = (end - first).min((ROOM / size) as u64);
@@ -117,6 +119,7 @@ fn read_run<D: BlockDev>(
     ensures read { IsOnlyRead (D.state device.old) (D.state device.new) }
     ensures good { IsTrue result → IsRunRead (D.state device.old) salt.now size first digests.new (D.state device.new) }
     ensures asked { HasReadAtMost (D.state device.old) (length digests.old * (size / 512)) (D.state device.new) }
+    ensures counted { (D.state device.old).failures ≤ (D.state device.new).failures }
 {
     match device.read(first * (size / 512) as u64, run) {
         Ok(()) => {

@@ -1,5 +1,6 @@
 //! Laws of repairs: each function's contract is the law, and its call gives it.
 ghost use Rattle.tree_repair.specs.Beyond.{WhatStaysLostIsBeyondParity};
+ghost use Rattle.tree_repair.specs.Excuses.{BlocksArePassedByForCause, BlocksAreTouchedForCause, GoodBlocksAreLeftAlone, IntactBlocksAreLeftAlone, UnreadBlocksAreCounted};
 ghost use Rattle.tree_repair.specs.Laws.{MendedBlocksAreFormatted, MendedBlocksAreGood, NoHashBlockIsLost, OtherSectorsStay};
 ghost use Rattle.tree_repair.specs.Standing.{LeftGoodBlocksAreFormatted, LeftGoodBlocksStand, LeftGoodWaysStand, RepairsWriteAll};
 
@@ -27,6 +28,35 @@ pub fn no_hash_block_is_lost()
 /// A sector that is in no block that was mended is as it was.
 pub fn other_sectors_stay()
     ensures { OtherSectorsStay }
+{}
+
+/// Of a run at most as many blocks are taken for bad because they couldn't be read as their device counts failures from its beginning
+/// to its end, unless its counter comes to its end.
+pub fn unread_blocks_are_counted()
+    ensures { UnreadBlocksAreCounted }
+{}
+
+/// Each other block of a run was good and left alone, or wasn't good when its turn came.
+pub fn blocks_are_touched_for_cause()
+    ensures { BlocksAreTouchedForCause }
+{}
+
+/// So a block that stands as all data whose tree has this root say is left alone, unless it couldn't be read just then, or two
+/// different inputs have one digest.
+pub fn intact_blocks_are_left_alone()
+    ensures { IntactBlocksAreLeftAlone }
+{
+    formed_chains_are_good()
+}
+
+/// And a block whose device counts no failure in the run is touched only if it wasn't good when its turn came.
+pub fn good_blocks_are_left_alone()
+    ensures { GoodBlocksAreLeftAlone }
+{}
+
+/// If the hash device counts none, a block is passed by only where a hash block above it wasn't good.
+pub fn blocks_are_passed_by_for_cause()
+    ensures { BlocksArePassedByForCause }
 {}
 
 /// A repair that ended well, over steady devices that may be written, has written all that it visited.

@@ -146,6 +146,7 @@ fn way_on<H: BlockDev>(
     ensures read { IsOnlyRead (H.state device.old) (H.state device.new) }
     ensures way { IfOk result (IsWayOr (job repair.now).tree index height (H.state device.old) (H.state device.new)) }
     ensures asked { HasReadAtMost (H.state device.old) ((levels repair.now.shape - height) * (repair.now.shape.hash_block / 512)) (H.state device.new) }
+    ensures counted { (H.state device.old).failures ≤ (H.state device.new).failures }
 {
     let mut path = TreePath::new(repair.alloc, repair.shape, repair.salt, repair.root)?;
     let top = path.levels();

@@ -206,6 +206,7 @@ fn read_data<D: BlockDev>(shape: &Shape, number: u64, data_dev: &mut D, block: &
     ensures stands { IsTrue result → IsBlockOf (D.state data_dev.old) shape.now.data_block number block.new }
     ensures sure { IsTrue (D.state data_dev.old).never_fails → IsTrue result }
     ensures asked { HasReadAtMost (D.state data_dev.old) (shape.now.data_block / 512) (D.state data_dev.new) }
+    ensures counted { (D.state data_dev.old).failures ≤ (D.state data_dev.new).failures }
 {
     let size = block.len();
     let first = number * (size / 512) as u64;
@@ -229,6 +230,7 @@ fn read_hash<H: BlockDev>(
     ensures stands { IsTrue result → IsBlockOf (H.state hash_dev.old) shape.now.hash_block (position shape.now level number) block.new }
     ensures sure { IsTrue (H.state hash_dev.old).never_fails → IsTrue result }
     ensures asked { HasReadAtMost (H.state hash_dev.old) (shape.now.hash_block / 512) (H.state hash_dev.new) }
+    ensures counted { (H.state hash_dev.old).failures ≤ (H.state hash_dev.new).failures }
 {
     let size = block.len();
     let place = shape.position(level, number);

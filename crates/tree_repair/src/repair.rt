@@ -6,7 +6,7 @@ ghost use Rattle.verity_format.specs.Superblock.{shape_of};
 ghost use Rattle.tree_survey.specs.Causes.{AreImages};
 ghost use Rattle.tree_path.specs.Steps.{HasReadAtMost};
 ghost use Rattle.tree_repair.specs.Bills.{LeavesWorld, nothing_due, pass_over, reading};
-ghost use Rattle.tree_repair.specs.Bounds.{IsHashReadAlone, IsRepairWithin};
+ghost use Rattle.tree_repair.specs.Bounds.{IsRepairWithin};
 ghost use Rattle.tree_repair.specs.Coverage.{IsFromUp};
 ghost use Rattle.tree_repair.specs.Jobs.{job};
 ghost use Rattle.tree_repair.specs.ParityBounds.{LeavesNoted, image_blocks};
@@ -14,7 +14,7 @@ ghost use Rattle.tree_repair.specs.Outcomes.{IsOutcomeOf, StandsFrom};
 ghost use Rattle.tree_repair.specs.Passes.{Notes};
 ghost use Rattle.tree_repair.specs.Repairs.{IsAllowed, IsGoneOver, IsNoImageCause, IsRepair, IsUnrepaired, job_of};
 ghost use Rattle.tree_repair.specs.Runs.{CanRun, IsWriterCause};
-ghost use Rattle.tree_repair.specs.Worlds.{IsWorldRead};
+ghost use Rattle.tree_repair.specs.Worlds.{IsHashReadAlone, IsWorldRead};
 
 use crate::bad::BadBlocks;
 use crate::fault::RepairFault;
@@ -87,7 +87,7 @@ pub(crate) fn repair_of(alloc: Global, superblock: &Superblock, plan: &Plan, par
 pub(crate) fn superblock_of<D: BlockDev, H: BlockDev, C: BlockDev>(
     image: &mut DamagedImage<D, H, C>,
 ) -> Result<Superblock, RepairFault>
-    ensures read { IsWorldRead image.old image.new }
+    ensures read { OnOk result (IsWorldRead image.old image.new) }
     ensures ok { IfOk result (AreImages image.old.data_dev image.old.hash_dev) }
     ensures err { IfErr result (IsNoImageCause image.old.data_dev image.old.hash_dev image.new.hash_dev) }
     ensures asked { OnOk result (LeavesWorld (reading 0 1) nothing_due image.old image.new) }
@@ -105,6 +105,7 @@ fn superblock_on<D: BlockDev, H: BlockDev>(
     ensures ok { IfOk result (AreImages (D.state data_dev.now) (H.state hash_dev.old)) }
     ensures err { IfErr result (IsNoImageCause (D.state data_dev.now) (H.state hash_dev.old) (H.state hash_dev.new)) }
     ensures asked { OnOk result (HasReadAtMost (H.state hash_dev.old) 1 (H.state hash_dev.new)) }
+    ensures counted { OnOk result ((H.state hash_dev.old).failures ≤ (H.state hash_dev.new).failures) }
 {
     let superblock = read_superblock(hash_dev)?;
     let _reads = count_of_reads(hash_dev);

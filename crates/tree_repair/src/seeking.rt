@@ -1,5 +1,5 @@
 //! The bytes of a block, sought by their digest.
-ghost use Rattle.std.specs.Prelude.{◌≡◌, ◌/◌, ◌%◌, ◌+◌, ◌<◌, ◌^◌, false, IfNone, IfSome, IsTrue, length, map};
+ghost use Rattle.std.specs.Prelude.{◌≡◌, ◌≤◌, ◌/◌, ◌%◌, ◌+◌, ◌<◌, ◌^◌, false, IfNone, IfSome, IsTrue, length, map};
 ghost use Rattle.std.specs.Str.{bytes_eq};
 ghost use Rattle.block_device.specs.Device.{IsInside};
 ghost use Rattle.verity_format.specs.Blocks.{IsOnlyRead};
@@ -24,6 +24,7 @@ pub(crate) fn is_there<B: BlockDev>(
     ensures bad { result ≡ false → IsBad (B.state device.old) first (due salt.now digest.now block.old) (B.state device.new) }
     ensures sure { result ≡ false → IsWithout (B.state device.old) first (due salt.now digest.now block.old) }
     ensures asked { HasReadAtMost (B.state device.old) (length block.old / 512) (B.state device.new) }
+    ensures counted { (B.state device.old).failures ≤ (B.state device.new).failures }
 {
     match device.read(first, block) {
         Ok(()) => is_same(&salt.digest(block), digest),

@@ -6,7 +6,7 @@ use Rattle.fec_area.specs.Asking.{kept_at, sectors_on_data, sectors_on_hash, sum
 use Rattle.fec_area.specs.Layouts.{codeword}
 use Rattle.fec_area.specs.Rounds.{AreProductsAdded}
 use Rattle.fec_area.proofs.AskingLemmas.{asked-all, both-some, places-more, places-none}
-use Rattle.fec_area.proofs.CallLemmas.{read-none, read-then, unfailed-none, unfailed-then, one_failed-then, laid-then, never-then, image-then}
+use Rattle.fec_area.proofs.CallLemmas.{counted-behind, counted-unfailed, read-none, read-then, unfailed-none, unfailed-then, one_failed-then, laid-then, never-then, image-then}
 use Rattle.fec_area.proofs.PlaceLemmas.{place-fits, products-added}
 use Rattle.fec_area.proofs.RoundLemmas.{AreSummed, column-more, message-more, summed-none, summed-restored}
 use Rattle.fec_area.proofs.SumLemmas.{sum-le}
@@ -143,3 +143,9 @@ pub returns-in_err-add_kept-clause-sure : goal.returns-in_err-add_kept-clause-su
 returns-in_err-add_kept-clause-sure g c never =
     let p = err_from_is_err_and c.from_residual.result c.from_residual.ensures.1 in
     rw p.1 (c.in_err-add_kept.ensures.sure (never-then c.loop-place.invariant.read never))
+
+pub returns-in_err-add_kept-clause-counted : goal.returns-in_err-add_kept-clause-counted
+returns-in_err-add_kept-clause-counted g c = counted-behind c.loop-place.invariant.unfailed c.add_kept.ensures.counted
+
+pub returns-clause-counted : goal.returns-clause-counted
+returns-clause-counted g c = counted-unfailed c.loop-place.invariant.unfailed

@@ -5,7 +5,7 @@ use Rattle.repair_commands.specs.declared.fault.ParityRepairFault.TheVariants.{T
 use Rattle.repair_commands.specs.ByParity.{HalfMendsByParity, MendsByParity}
 use Rattle.repair_commands.specs.Commands.{ending_fault}
 use Rattle.repair_commands.proofs.EndingLemmas.{err-from}
-use Rattle.repair_commands.proofs.ReadLemmas.{half-behind, mends-behind, world-read}
+use Rattle.repair_commands.proofs.ReadLemmas.{half-behind, hash-alone, mends-behind}
 use Rattle.repair_commands.proofs.by_parity.mend_laid_out.Goals as goal
 
 pub mend_with_parity-requires-clause-allowed : goal.mend_with_parity-requires-clause-allowed
@@ -21,7 +21,7 @@ returns-in_err-layout-clause-err g c =
     let old = g.W.Write.contents c.args.writer.now.inner in
     err-from c.from_residual.result _ c.in_err-layout.field-0.0 c.from_residual.ensures.1
     (subst (λ (w : RepairWorld). HalfMendsByParity c.args.plan (g.P.BlockDev.state c.args.parity.now.device) c.args.parity.now.roots w (repair_world a.data_dev h' a.data_copies a.hash_copies) old old c.in_err-layout.field-0.0) c.image.view_is
-    (inl (record { unlaid = c.in_err-layout.ensures.err; read = world-read a.data_dev a.hash_dev h' a.data_copies a.hash_copies c.lay_out.ensures.read; quiet = refl })))
+    (inl (record { unlaid = c.in_err-layout.ensures.err; read = hash-alone a.data_dev a.hash_dev h' a.data_copies a.hash_copies c.lay_out.ensures.read; quiet = refl })))
 
 pub returns-in_err-mend_with_parity-clause-err : goal.returns-in_err-mend_with_parity-clause-err
 returns-in_err-mend_with_parity-clause-err g c =
@@ -48,7 +48,7 @@ returns-clause-ok g c =
       layout = c.in_ok-layout.layout;
       read_dev = g.H.BlockDev.state c.lay_out.new.hash_dev;
       lays = c.in_ok-layout.ensures.ok;
-      mends = mends-behind c.args.plan _ _ _ _ c.lay_out.ensures.read c.in_ok-mend_with_parity.ensures.ok.mends;
+      mends = mends-behind c.args.plan _ _ _ _ c.in_ok-layout.ensures.ok.read c.in_ok-mend_with_parity.ensures.ok.mends;
       parity_dev' = g.P.BlockDev.state c.mend_with_parity.new.parity_dev;
       passes = c.in_ok-mend_with_parity.ensures.ok;
     })

@@ -1,4 +1,4 @@
-use Rattle.std.proofs.Common.{refl, inl, inr, map, false, subst, sym, None}
+use Rattle.std.proofs.Common.{refl, arith, inl, inr, map, false, subst, sym, None}
 use Rattle.tree_repair.specs.declared.fault.RepairFault.TheVariants.{Image}
 use Rattle.tree_repair.specs.Bounds.{RepairsInOnePass}
 use Rattle.tree_repair.specs.Outcomes.{IsOutcomeOf}
@@ -11,7 +11,7 @@ use Rattle.repair_commands.proofs.mending.mend.Goals as goal
 pub returns-in_err-outcome-clause-err : goal.returns-in_err-outcome-clause-err
 returns-in_err-outcome-clause-err g c =
     err-from c.from_residual.result _ c.in_err-outcome.field-0.0 c.from_residual.ensures.1
-    (record { mid = c.repair_image.new.image; run = inl c.in_err-outcome.ensures.err; kept = record { data_image = refl; hash_image = refl }; data_copies_are = refl; hash_copies_are = refl })
+    (record { mid = c.repair_image.new.image; run = inl c.in_err-outcome.ensures.err; kept = record { data_image = refl; hash_image = refl; data_more = omega arith; hash_more = omega arith }; data_copies_are = refl; hash_copies_are = refl })
 
 pub returns-in_err-sync_both-clause-err : goal.returns-in_err-sync_both-clause-err
 returns-in_err-sync_both-clause-err g c =

@@ -10,6 +10,7 @@ use Rattle.tree_repair.proofs.good_row.are_good.Goals as goal
 pub pieces-init : goal.pieces-init
 pieces-init g c = record {
   read = only_read-none (g.D.BlockDev.state c.args.data_dev.now);
+  counted = omega arith;
   low = omega arith;
   most = omega arith;
   asked = omega arith;
@@ -27,6 +28,7 @@ pieces-preserved g c =
     let here : at ≡ first + (at - first) = omega (arith, c.pieces.invariant.low) in
     record {
       read = only_read-then c.pieces.invariant.read c.good_piece.ensures.read;
+      counted = omega (arith, c.pieces.invariant.counted, c.good_piece.ensures.counted);
       low = omega (arith, c.pieces.invariant.low);
       most = omega (arith, c.pieces.invariant.low, c.in-Some.ensures.few);
       asked =

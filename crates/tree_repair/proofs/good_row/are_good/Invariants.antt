@@ -9,6 +9,7 @@ use Rattle.tree_repair.proofs.good_row.are_good.Given as goal
 abbrev pub invariant-pieces : goal.invariant-pieces
 invariant-pieces g l = record {
   read : IsOnlyRead (g.D.BlockDev.state l.fn.data_dev) (g.D.BlockDev.state l.data_dev);
+  counted : (g.D.BlockDev.state l.fn.data_dev).failures ≤ (g.D.BlockDev.state l.data_dev).failures;
   low : l.fn.row.first ≤ l.index;
   most : l.index - l.fn.row.first ≤ l.fn.row.end - l.fn.row.first;
   asked : HasReadAtMost (g.D.BlockDev.state l.fn.data_dev) ((l.index - l.fn.row.first) * (l.fn.repair.shape.data_block / 512)) (g.D.BlockDev.state l.data_dev);

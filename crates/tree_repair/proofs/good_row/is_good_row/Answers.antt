@@ -21,7 +21,7 @@ returns-clause-read g c =
     let i = c.image.inside in
     let a = repair_world (g.D.BlockDev.state i.data) (g.H.BlockDev.state i.hash) (map g.C.BlockDev.state i.data_copies.items) (map g.C.BlockDev.state i.hash_copies.items) in
     let d' = g.D.BlockDev.state c.are_good.new.data_dev in
-    subst (λ (w : RepairWorld). IsWorldRead w (repair_world d' a.hash_dev a.data_copies a.hash_copies)) c.image.view_is (data-read a d' c.are_good.ensures.read)
+    subst (λ (w : RepairWorld). IsWorldRead w (repair_world d' a.hash_dev a.data_copies a.hash_copies)) c.image.view_is (data-read a d' c.are_good.ensures.read c.are_good.ensures.counted)
 
 pub returns-clause-good : goal.returns-clause-good
 returns-clause-good g c = λ ok. record {
@@ -45,4 +45,4 @@ returns-clause-asked g c =
     (subst (λ (h : ℕ). LeavesWorld (reading (data_over s h n) 0) nothing_due a b) (sym none)
     (subst (λ (k : ℕ). LeavesWorld (reading k 0) nothing_due a b) (sym (data-all s c.requires.valid n))
     (leaves-read (n * (s.data_block / 512)) 0 a b
-    (record { devices = record { data_read = c.are_good.ensures.read; hash_read = only_read-none a.hash_dev }; data_copies_are = refl; hash_copies_are = refl }) c.are_good.ensures.asked (omega arith))))
+    (record { data_read = c.are_good.ensures.read; hash_read = only_read-none a.hash_dev }) refl refl c.are_good.ensures.asked (omega arith))))

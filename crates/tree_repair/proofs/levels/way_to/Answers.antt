@@ -19,7 +19,7 @@ returns-clause-read g c =
     let i = c.image.inside in
     let a = repair_world (g.D.BlockDev.state i.data) (g.H.BlockDev.state i.hash) (map g.C.BlockDev.state i.data_copies.items) (map g.C.BlockDev.state i.hash_copies.items) in
     let h' = g.H.BlockDev.state c.way_on.new.device in
-    subst (λ (w : RepairWorld). IsWorldRead w (repair_world a.data_dev h' a.data_copies a.hash_copies)) c.image.view_is (tree-read a h' c.way_on.ensures.read)
+    subst (λ (w : RepairWorld). IsWorldRead w (repair_world a.data_dev h' a.data_copies a.hash_copies)) c.image.view_is (tree-read a h' c.way_on.ensures.read c.way_on.ensures.counted)
 
 pub returns-clause-way : goal.returns-clause-way
 returns-clause-way g c =
@@ -33,4 +33,4 @@ returns-clause-asked g c =
     let a = repair_world (g.D.BlockDev.state i.data) (g.H.BlockDev.state i.hash) (map g.C.BlockDev.state i.data_copies.items) (map g.C.BlockDev.state i.hash_copies.items) in
     let b = repair_world a.data_dev (g.H.BlockDev.state c.way_on.new.device) a.data_copies a.hash_copies in
     subst (λ (w : RepairWorld). LeavesWorld (reading 0 n) nothing_due w b) c.image.view_is
-    (leaves-read 0 n a b (record { devices = record { data_read = only_read-none a.data_dev; hash_read = c.way_on.ensures.read }; data_copies_are = refl; hash_copies_are = refl }) (omega arith) c.way_on.ensures.asked)
+    (leaves-read 0 n a b (record { data_read = only_read-none a.data_dev; hash_read = c.way_on.ensures.read }) refl refl (omega arith) c.way_on.ensures.asked)

@@ -17,7 +17,7 @@ put-requires-clause-inside g c =
 
 pub returns-then-is_there-clause-ok : goal.returns-then-is_there-clause-ok
 returns-then-is_there-clause-ok g c =
-    (c.is_there.new.block, record { read = c.is_there.ensures.read; copies_read = each-none (map g.C.BlockDev.state c.args.copies.now.items); there = c.is_there.ensures.good c.if-is_there.true })
+    (c.is_there.new.block, record { read = c.is_there.ensures.read; more = c.is_there.ensures.counted; copies_read = each-none (map g.C.BlockDev.state c.args.copies.now.items); there = c.is_there.ensures.good c.if-is_there.true })
 
 pub returns-in-None-clause-ok : goal.returns-in-None-clause-ok
 returns-in-None-clause-ok g c =
@@ -28,9 +28,11 @@ returns-in-None-clause-ok g c =
       record {
         seen = g.B.BlockDev.state c.is_there.new.device;
         read = c.is_there.ensures.read;
+        more = c.is_there.ensures.counted;
         bad = c.is_there.ensures.bad c.if-is_there.false;
         copies_read = c.seek.ensures.read;
         beneath_read = only_read-none (g.B.BlockDev.state c.is_there.new.device);
+        beneath_more = omega arith;
         none = subst (λ (n : ℕ). AreInNone cs s.copy_first (wanted c.args.salt.now s.digest n)) long c.in-None.ensures.none;
       },
     )
@@ -47,6 +49,7 @@ returns-in_ok-put-in-Some-clause-ok g c =
       record {
         between = between;
         read = c.is_there.ensures.read;
+        more = c.is_there.ensures.counted;
         bad = c.is_there.ensures.bad c.if-is_there.false;
         copies_read = c.seek.ensures.read;
         copy = subst (λ (n : ℕ). AreIn cs s.copy_first (wanted c.args.salt.now s.digest n) c.in-Some.number bytes) long c.in-Some.ensures.found;
@@ -70,6 +73,7 @@ returns-in_err-put-in-Some-clause-err g c =
         record {
           between = between;
           read = c.is_there.ensures.read;
+          more = c.is_there.ensures.counted;
           bad = c.is_there.ensures.bad c.if-is_there.false;
           copies_read = c.seek.ensures.read;
           copy = subst (λ (n : ℕ). AreIn cs s.copy_first (wanted c.args.salt.now s.digest n) c.in-Some.number bytes) long c.in-Some.ensures.found;

@@ -15,12 +15,13 @@ put-requires-clause-inside g c = record {
 }
 
 pub returns-then-is_there-clause-ok : goal.returns-then-is_there-clause-ok
-returns-then-is_there-clause-ok g c = (c.is_there.ensures.read, (c.is_there.new.block, rw c.requires.size at (c.is_there.ensures.good c.if-is_there.true)))
+returns-then-is_there-clause-ok g c = ((c.is_there.ensures.read, c.is_there.ensures.counted), (c.is_there.new.block, rw c.requires.size at (c.is_there.ensures.good c.if-is_there.true)))
 
 pub returns-clause-ok : goal.returns-clause-ok
 returns-clause-ok g c = record {
   between = g.B.BlockDev.state c.is_there.new.device;
   read = c.is_there.ensures.read;
+  more = c.is_there.ensures.counted;
   bad = rw c.requires.size at (c.is_there.ensures.bad c.if-is_there.false);
   good = c.requires.good;
   put = c.in_ok-put.ensures;
@@ -34,6 +35,7 @@ returns-in_err-put-clause-err g c =
     on_err-from c.from_residual.result _ _ c.from_residual.ensures.1 (record {
       between = g.B.BlockDev.state c.is_there.new.device;
       read = c.is_there.ensures.read;
+      more = c.is_there.ensures.counted;
       bad = rw c.requires.size at (c.is_there.ensures.bad c.if-is_there.false);
       good = c.requires.good;
       put = c.in_err-put.ensures;

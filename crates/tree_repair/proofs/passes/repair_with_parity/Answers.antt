@@ -14,18 +14,18 @@ returns-in_err-superblock-clause-parity g c = only_read-none (g.P.BlockDev.state
 
 pub returns-in_err-superblock-clause-err : goal.returns-in_err-superblock-clause-err
 returns-in_err-superblock-clause-err g c =
-    err-from c.from_residual.result _ c.in_err-superblock.field-0.0 c.from_residual.ensures.1 (inl (c.superblock_of.ensures.read, c.in_err-superblock.ensures.err))
+    err-from c.from_residual.result _ c.in_err-superblock.field-0.0 c.from_residual.ensures.1 (inl (c.superblock_of.ensures.alone, c.in_err-superblock.ensures.err))
 
 pub run_passes-requires-clause-asked : goal.run_passes-requires-clause-asked
 run_passes-requires-clause-asked g c = ap (λ (j : Job). j.parity) c.repair_of-repair.ensures.job
 
 pub run_passes-requires-clause-can : goal.run_passes-requires-clause-can
 run_passes-requires-clause-can g c =
-    can-begin c.in_ok-superblock.superblock c.args.plan true (job c.repair_of-repair.result) c.args.image.now c.superblock_of.new.image c.repair_of-repair.ensures.job c.superblock_of.ensures.read
+    can-begin c.in_ok-superblock.superblock c.args.plan true (job c.repair_of-repair.result) c.args.image.now c.superblock_of.new.image c.repair_of-repair.ensures.job c.in_ok-superblock.ensures.read
     c.in_ok-superblock.ensures.ok c.repair_of-repair.ensures.valid c.requires.allowed c.requires.first
 
 pub run_passes-requires-clause-laid : goal.run_passes-requires-clause-laid
-run_passes-requires-clause-laid g c = laid-read c.superblock_of.ensures.read c.requires.laid
+run_passes-requires-clause-laid g c = laid-read c.in_ok-superblock.ensures.read c.requires.laid
 
 pub returns-in_err-all-clause-parity : goal.returns-in_err-all-clause-parity
 returns-in_err-all-clause-parity g c = c.run_passes.ensures.parity
@@ -35,13 +35,13 @@ returns-clause-parity g c = c.run_passes.ensures.parity
 
 pub returns-in_err-all-clause-err : goal.returns-in_err-all-clause-err
 returns-in_err-all-clause-err g c =
-    whole-err c.in_ok-superblock.superblock c.args.plan true (job c.repair_of-repair.result) c.args.image.now c.superblock_of.new.image c.repair_of-repair.ensures.job c.superblock_of.ensures.read
+    whole-err c.in_ok-superblock.superblock c.args.plan true (job c.repair_of-repair.result) c.args.image.now c.superblock_of.new.image c.repair_of-repair.ensures.job c.in_ok-superblock.ensures.read
     c.in_ok-superblock.ensures.ok c.run_passes.new.image (g.W.Write.contents c.args.writer.now.inner) (g.W.Write.contents c.run_passes.new.writer.inner) c.from_residual-in_err-all.result
     (ended-from c.from_residual-in_err-all.result c.from_residual-in_err-all.ensures.1 c.in_err-all.ensures.run)
 
 pub returns-clause-ok : goal.returns-clause-ok
 returns-clause-ok g c =
-    repairs-of c.in_ok-superblock.superblock c.args.plan true (job c.repair_of-repair.result) c.args.image.now c.superblock_of.new.image c.repair_of-repair.ensures.job c.superblock_of.ensures.read
+    repairs-of c.in_ok-superblock.superblock c.args.plan true (job c.repair_of-repair.result) c.args.image.now c.superblock_of.new.image c.repair_of-repair.ensures.job c.in_ok-superblock.ensures.read
     c.in_ok-superblock.ensures.ok c.run_passes.new.image (g.W.Write.contents c.args.writer.now.inner) (g.W.Write.contents c.run_passes.new.writer.inner) None c.in_ok-all.ensures.run
 
 pub returns-in_err-superblock-clause-within : goal.returns-in_err-superblock-clause-within
@@ -49,22 +49,22 @@ returns-in_err-superblock-clause-within g c = inl (is_err-from c.from_residual.r
 
 pub returns-in_err-all-clause-within : goal.returns-in_err-all-clause-within
 returns-in_err-all-clause-within g c =
-    inr (repairs-passes c.in_ok-superblock.superblock c.args.plan (job c.repair_of-repair.result) c.repair_of-repair.ensures.job c.superblock_of.ensures.read c.in_ok-superblock.ensures.ok c.in_ok-superblock.ensures.asked
+    inr (repairs-passes c.in_ok-superblock.superblock c.args.plan (job c.repair_of-repair.result) c.repair_of-repair.ensures.job c.in_ok-superblock.ensures.read c.in_ok-superblock.ensures.ok c.in_ok-superblock.ensures.asked
     (runs-from c.from_residual-in_err-all.result c.from_residual-in_err-all.ensures.1 c.in_err-all.ensures.within))
 
 pub returns-clause-within : goal.returns-clause-within
 returns-clause-within g c =
-    inr (repairs-passes c.in_ok-superblock.superblock c.args.plan (job c.repair_of-repair.result) c.repair_of-repair.ensures.job c.superblock_of.ensures.read c.in_ok-superblock.ensures.ok c.in_ok-superblock.ensures.asked c.in_ok-all.ensures.within)
+    inr (repairs-passes c.in_ok-superblock.superblock c.args.plan (job c.repair_of-repair.result) c.repair_of-repair.ensures.job c.in_ok-superblock.ensures.read c.in_ok-superblock.ensures.ok c.in_ok-superblock.ensures.asked c.in_ok-all.ensures.within)
 
 pub returns-clause-whole : goal.returns-clause-whole
 returns-clause-whole g c =
     let w = c.args.image.now in
     let y = c.run_passes.new.image in
     subst (IsParityOutcome c.args.plan w y) (sym c.outcome_of.ensures)
-    (parity-outcome c.in_ok-superblock.superblock c.args.plan (job c.repair_of-repair.result) w c.superblock_of.new.image y c.repair_of-repair.ensures.job c.superblock_of.ensures.read c.in_ok-superblock.ensures.ok
+    (parity-outcome c.in_ok-superblock.superblock c.args.plan (job c.repair_of-repair.result) w c.superblock_of.new.image y c.repair_of-repair.ensures.job c.in_ok-superblock.ensures.read c.in_ok-superblock.ensures.ok
     c.in_ok-all.all c.blocks-blocks.result c.blocks-blocks.ensures.value c.in_ok-all.ensures.whole)
 
 pub returns-clause-sought : goal.returns-clause-sought
 returns-clause-sought g c =
     ends-of c.in_ok-superblock.superblock c.args.plan (job c.repair_of-repair.result) c.args.layout.now c.args.image.now c.superblock_of.new.image c.run_passes.new.image
-    (g.P.BlockDev.state c.args.parity_dev.now) (g.P.BlockDev.state c.run_passes.new.parity_dev) c.repair_of-repair.ensures.job c.superblock_of.ensures.read c.in_ok-superblock.ensures.ok c.repair_of-repair.ensures.valid c.in_ok-all.ensures.asks
+    (g.P.BlockDev.state c.args.parity_dev.now) (g.P.BlockDev.state c.run_passes.new.parity_dev) c.repair_of-repair.ensures.job c.in_ok-superblock.ensures.read c.in_ok-superblock.ensures.ok c.repair_of-repair.ensures.valid c.in_ok-all.ensures.asks

@@ -37,7 +37,7 @@ returns-then-height-eq0-clause-read g c =
     let a = repair_world (g.D.BlockDev.state i.data) (g.H.BlockDev.state i.hash) (map g.C.BlockDev.state i.data_copies.items) (map g.C.BlockDev.state i.hash_copies.items) in
     let b = repair_world (g.D.BlockDev.state c.read_data.new.data_dev) a.hash_dev a.data_copies a.hash_copies in
     subst (λ (w : RepairWorld). AreBothRead w b) c.image.view_is
-    (record { devices = record { data_read = c.read_data.ensures.read; hash_read = only_read-none a.hash_dev }; data_copies_are = refl; hash_copies_are = refl })
+    (record { devices = record { data_read = c.read_data.ensures.read; hash_read = only_read-none a.hash_dev }; data_more = c.read_data.ensures.counted; hash_more = omega arith; data_copies_are = refl; hash_copies_are = refl })
 
 pub returns-then-height-eq0-clause-stands : goal.returns-then-height-eq0-clause-stands
 returns-then-height-eq0-clause-stands g c =
@@ -54,7 +54,7 @@ returns-clause-read g c =
     let a = repair_world (g.D.BlockDev.state i.data) (g.H.BlockDev.state i.hash) (map g.C.BlockDev.state i.data_copies.items) (map g.C.BlockDev.state i.hash_copies.items) in
     let b = repair_world a.data_dev (g.H.BlockDev.state c.read_hash.new.hash_dev) a.data_copies a.hash_copies in
     subst (λ (w : RepairWorld). AreBothRead w b) c.image.view_is
-    (record { devices = record { data_read = only_read-none a.data_dev; hash_read = c.read_hash.ensures.read }; data_copies_are = refl; hash_copies_are = refl })
+    (record { devices = record { data_read = only_read-none a.data_dev; hash_read = c.read_hash.ensures.read }; data_more = omega arith; hash_more = c.read_hash.ensures.counted; data_copies_are = refl; hash_copies_are = refl })
 
 pub returns-clause-stands : goal.returns-clause-stands
 returns-clause-stands g c =
