@@ -1,5 +1,6 @@
 mod BeyondLemmas
 mod FormedLemmas
+mod FormerLemmas
 mod GoodLemmas
 mod LawLemmas
 mod ApartLemmas
@@ -26,3 +27,4 @@ mod StayLemmas
 mod TryLemmas
 mod VisitLemmas
 mod WayLemmas
+mod WithinParityLemmas

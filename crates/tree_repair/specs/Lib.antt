@@ -20,3 +20,4 @@ pub mod Passes
 pub mod Standing
 pub mod Outcomes
 pub mod Beyond
+pub mod WithinParity

@@ -2,6 +2,7 @@
 ghost use Rattle.tree_repair.specs.Beyond.{WhatStaysLostIsBeyondParity};
 ghost use Rattle.tree_repair.specs.Laws.{MendedBlocksAreFormatted, MendedBlocksAreGood, NoHashBlockIsLost, OtherSectorsStay};
 ghost use Rattle.tree_repair.specs.Standing.{LeftGoodBlocksAreFormatted, LeftGoodBlocksStand, LeftGoodWaysStand, RepairsWriteAll};
+ghost use Rattle.tree_repair.specs.WithinParity.{LostBlocksWithinParityComeBack};
 
 use hash_tree::laws::formed_chains_are_good;
 
@@ -56,3 +57,12 @@ pub fn left_good_ways_stand()
 pub fn what_stays_lost_is_beyond_parity()
     ensures { WhatStaysLostIsBeyondParity }
 {}
+
+/// With the parity of the formatted image, on steady devices that never fail, each block of the tree was good or found when the last
+/// pass came to it, or came back by parity, or a hash block above it isn't good, or parity doesn't cover it, or of its round more
+/// blocks are lost than the code has roots, or one is damaged that the pass doesn't know; or two different inputs have one digest.
+pub fn lost_blocks_within_parity_come_back()
+    ensures { LostBlocksWithinParityComeBack }
+{
+    formed_chains_are_good()
+}
