@@ -23,8 +23,10 @@ use Rattle.tree_survey.specs.Laws.{AreContents, IsChain}
 use Rattle.tree_survey.specs.Surveys.{Tree, IsWay}
 use Rattle.tree_repair.specs.Laws.{block_of_height, chain_block_below}
 use Rattle.tree_repair.specs.Parity.{IsCoveredAt}
-use Rattle.tree_repair.specs.Runs.{size_at}
+use Rattle.tree_repair.specs.Runs.{Job, size_at}
+use Rattle.tree_repair.specs.Standing.{StandsGood, standing_bytes}
 use Rattle.tree_repair.specs.WithinParity.{FormerImage, IsFormerOf}
+use Rattle.tree_repair.specs.Worlds.{RepairWorld}
 use Rattle.tree_repair.proofs.FormedLemmas.{below-path}
 use Rattle.tree_repair.proofs.LawLemmas.{formed-chain, way-good}
 
@@ -177,3 +179,25 @@ module _ (t : Tree) (valid : IsShape t.shape) (f : FormerImage) (former : IsForm
           | inl good ↦ inl (ap (digest t.salt) (former-at l h i k at) ∙ good)
           | inr clash ↦ inr clash
         ]
+
+-- ---- blocks of the tree
+
+-- the block of that height above data block i
+abbrev pub former_bytes : ShapeRecord → FormerImage → ℕ → ℕ → List ℕ
+former_bytes s f zero i = block_at f.data_image s.data_block i
+former_bytes s f (suc l) i = block_at f.hash_image s.hash_block (position s l (ancestor s (l + 1) i))
+
+module _ (form : FormedChainsAreGood) (j : Job) (valid : IsShape j.tree.shape) (f : FormerImage) (former : IsFormerOf j.tree f) where
+  former-formed : (h i : ℕ) → h ≤ levels j.tree.shape → i < j.tree.shape.blocks → former_bytes j.tree.shape f h i ≡ block_of_height j.tree (formed j.tree.shape j.tree.salt (data_blocks_of j.tree valid f former) i) h
+  former-formed zero i high inside = former-data j.tree valid f former i inside
+  former-formed (suc l) i high inside = former-hash j.tree valid f former l i (omega (arith, high)) inside
+
+  -- where one stands good it is that of the image, or two blocks collide
+  pub former-stands : (h i : ℕ) (w : RepairWorld) → i < j.tree.shape.blocks → StandsGood j h i w → (standing_bytes j h i w ≡ former_bytes j.tree.shape f h i) ⊎ Collide j.tree.salt
+  former-stands h i w inside stands =
+      let contents : List (List ℕ) = data_blocks_of j.tree valid f former in
+      elim (way-good j.tree stands.p i h (standing_bytes j h i w) (formed j.tree.shape j.tree.salt contents i) stands.way
+      (formed-chain form j.tree contents (are-contents j.tree valid f former) i inside) stands.good) [
+        | inr clash ↦ inr clash
+        | inl is ↦ inl (is ∙ sym (former-formed h i stands.way.few inside))
+      ]

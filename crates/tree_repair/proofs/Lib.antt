@@ -10,6 +10,8 @@ mod CountLemmas
 mod HeightLemmas
 mod LookLemmas
 mod MakeLemmas
+mod NoneLostLemmas
+mod NumberLemmas
 mod OutcomeLemmas
 mod OverLemmas
 mod ParityLemmas
@@ -18,11 +20,14 @@ mod ParityPassLemmas
 mod PassLemmas
 mod PieceLemmas
 mod PutLemmas
+mod RecordedLemmas
 mod RepairLemmas
 mod RowLemmas
 mod RunLemmas
+mod SoughtLemmas
 mod SourceLemmas
 mod StandLemmas
+mod StayFormedLemmas
 mod StayLemmas
 mod TryLemmas
 mod VisitLemmas

@@ -1,35 +1,46 @@
 -- What is lost behind the last pass is past what parity can bring back.
-use Rattle.std.proofs.Common.{◌≡◌, ◌<◌, ◌%◌, ◌&&◌, ℕ, zero, suc, true, not, nat_lt, IsTrue, List, [], ◌∷◌, sym, ap, ◌∙◌, subst, arith, inl, inr, ◌⊎◌}
+use Rattle.std.proofs.Common.{◌≡◌, ◌≤◌, ◌<◌, ◌+◌, ◌%◌, ◌&&◌, ℕ, zero, suc, true, false, not, nat_lt, Bool, IsTrue, List, [], ◌∷◌, ◌++◌, sym, ap, ◌∙◌, subst, arith, inl, inr, ◌⊎◌}
 use Rattle.std.specs.Prelude.{◌==◌}
+use Rattle.std.specs.List.{flat_map}
 use Rattle.std.proofs.lemmas.Bool.{and_parts, cases_Bool, cases_eq, cases_lt, false≢true, ltb-true}
 use Rattle.block_device.specs.Device.{Device}
 use Rattle.fec_area.specs.declared.layout.Layout.{Layout}
+use Rattle.fec_area.specs.declared.restoring.RestoreFault.TheVariants.{TooManyLost, TooSmall, Device as DeviceFailed, NoMemory}
 use Rattle.fec_area.specs.Layouts.{IsProtected, code_rounds, covered, covered_blocks}
 use Rattle.fec_area.specs.Restoring.{IsAmong, is_beside, round_of}
 use Rattle.fec_area.proofs.RestoringLemmas.{round-below}
 use Rattle.hash_tree.specs.Laws.{FormedChainsAreGood}
 use Rattle.tree_shape.specs.Digests.{digest}
-use Rattle.tree_shape.specs.Shape.{IsShape}
+use Rattle.tree_shape.specs.Shape.{ShapeRecord, IsShape, levels}
 use Rattle.tree_path.specs.Laws.{Collide}
 use Rattle.tree_path.specs.Path.{PathRecord, digest_on}
 use Rattle.tree_path.proofs.lemmas.ChainLemmas.{same-or}
-use Rattle.tree_path.proofs.lemmas.DeviceLemmas.{steady-then}
+use Rattle.tree_path.proofs.lemmas.DeviceLemmas.{only_read-none, steady-then}
 use Rattle.tree_survey.specs.Surveys.{IsWay}
 use Rattle.verity_format.specs.Blocks.{IsOnlyRead}
-use Rattle.tree_repair.specs.Beyond.{IsOutcome, IsRoundBeyond, IsSettled}
+use Rattle.verity_format.specs.Superblock.{shape_of}
+use Rattle.tree_repair.specs.declared.bad.BadBlock.{BadBlock}
+use Rattle.tree_repair.specs.declared.repair.Plan.{Plan}
+use Rattle.tree_repair.specs.Beyond.{IsUnderBad}
+use Rattle.tree_repair.specs.Coverage.{IsPassedBy}
 use Rattle.tree_repair.specs.Parity.{IsCoveredAt}
+use Rattle.tree_repair.specs.Passes.{IsPass, bad_of}
 use Rattle.tree_repair.specs.Repairs.{job_of}
-use Rattle.tree_repair.specs.Runs.{Job, Visit, VisitsAll}
-use Rattle.tree_repair.specs.Tries.{IsMadeOther, Trial, trial}
-use Rattle.tree_repair.specs.WithinParity.{FormerImage, IsFormerOf, IsHiddenBeside, IsOutcomeOf, IsParityKept, IsRoundPast, IsSettledWithin, LostBlocksWithinParityComeBack}
-use Rattle.tree_repair.specs.Worlds.{RepairWorld}
-use Rattle.tree_repair.proofs.BeyondLemmas.{stays-lost}
+use Rattle.tree_repair.specs.Runs.{Job, Visit, VisitsAll, size_at}
+use Rattle.tree_repair.specs.Tries.{IsBlockUnmade, IsCutOff, IsMadeOther, IsOffPlace, IsSoughtAt, IsTriedBehind, IsVain, Trial, trial}
+use Rattle.tree_repair.specs.WithinParity.{FormerImage, HasTreeSizes, IsDamaged, IsFormerOf, IsOutcomeOf, IsParityKept, IsRoundPast, IsSettledWithin, IsSoughtWithin, IsSureRepair, IsUnreached, LostBlocksWithinParityComeBack, Stage, stage}
+use Rattle.tree_repair.specs.Worlds.{IsWorldRead, RepairWorld}
+use Rattle.tree_repair.proofs.ApartLemmas.{above-same}
 use Rattle.tree_repair.proofs.FormerLemmas.{former-digest, former-whole}
-use Rattle.tree_repair.proofs.RunLemmas.{AreSame, runs-same}
+use Rattle.tree_repair.proofs.RecordedLemmas.{IsRecordedIn, formed-on, recorded-beside, recorded-known, visited-formed, visited-or}
+use Rattle.tree_repair.proofs.RunLemmas.{runs-same, runs-then}
+use Rattle.tree_repair.proofs.SoughtLemmas.{IsTriedIn, all-run, recorded-tried}
+use Rattle.tree_repair.proofs.StandLemmas.{IsReady, image-ready}
+use Rattle.tree_repair.proofs.StayFormedLemmas.{IsSure, runs-ready-sure, sure-same}
 
 -- ---- a damaged block that isn't known, if there is one
 
-beside-inside : (l : Layout) (k n : ℕ) → IsTrue (is_beside l k n) → n < covered_blocks l
+pub beside-inside : (l : Layout) (k n : ℕ) → IsTrue (is_beside l k n) → n < covered_blocks l
 beside-inside l k n beside =
     let front = nat_lt n (covered_blocks l) in
     let round = n % code_rounds l == round_of l k in
@@ -49,6 +60,13 @@ among-or (x ∷ xs) n = elim (cases_eq x n) [
     no xs n x not none (zero, (low, is)) = not is
     no xs n x not none (suc k, (low, is)) = none (k, (omega (arith, low), is))
 
+-- one in the round of covered block k
+pub record IsUnknownBeside (f : FormerImage) (t : Trial) (k : ℕ) : Type 0 where
+  pub n : ℕ
+  pub beside : IsTrue (is_beside t.layout k n)
+  pub unknown : IsAmong t.lost n → ⊥
+  pub damaged : IsDamaged t.layout f t.w n
+
 module _ (f : FormerImage) (t : Trial) (k : ℕ) where
   abbrev now : ℕ → List ℕ
   now n = covered t.layout t.w.data_dev.image t.w.hash_dev.image n
@@ -60,7 +78,7 @@ module _ (f : FormerImage) (t : Trial) (k : ℕ) where
   abbrev AreAsBefore : ℕ → Type 0
   AreAsBefore m = (n : ℕ) → n < m → IsTrue (is_beside t.layout k n) → (IsAmong t.lost n → ⊥) → now n ≡ formerly n
 
-  one-or : (n : ℕ) → (IsTrue (is_beside t.layout k n) → (IsAmong t.lost n → ⊥) → now n ≡ formerly n) ⊎ IsHiddenBeside f t k
+  one-or : (n : ℕ) → (IsTrue (is_beside t.layout k n) → (IsAmong t.lost n → ⊥) → now n ≡ formerly n) ⊎ IsUnknownBeside f t k
   one-or n = elim (same-or (now n) (formerly n)) [
     | inl same ↦ inl (λ beside unknown. same)
     | inr other ↦ elim (among-or t.lost n) [
@@ -72,7 +90,7 @@ module _ (f : FormerImage) (t : Trial) (k : ℕ) where
     ]
   ]
 
-  all-or : (m : ℕ) → AreAsBefore m ⊎ IsHiddenBeside f t k
+  all-or : (m : ℕ) → AreAsBefore m ⊎ IsUnknownBeside f t k
   all-or zero = inl (λ n low. absurd (omega (arith, low)))
   all-or (suc m) = elim (all-or m) [
     | inr hidden ↦ inr hidden
@@ -87,75 +105,204 @@ module _ (f : FormerImage) (t : Trial) (k : ℕ) where
     ]
   ]
 
--- ---- other bytes than the lost block
+-- ---- what the devices are at each moment of a run
 
-module _ (form : FormedChainsAreGood) (j : Job) (valid : IsShape j.tree.shape) (f : FormerImage) (former : IsFormerOf j.tree f) where
-  module _ (p : PathRecord) (h i k : ℕ) (t : Trial) (kept : IsParityKept t.layout f t.w t.parity_dev) (at : IsCoveredAt j.tree.shape t.layout h i k) (way : IsWay j.tree i h p) where
-    -- are made only where a damaged block isn't known, or two inputs have one digest
-    other-hidden : IsMadeOther j.tree.salt (digest_on p i h) t k → IsHiddenBeside f t k ⊎ Collide j.tree.salt
-    other-hidden made =
-        elim (all-or f t k (covered_blocks t.layout)) [
-          | inr hidden ↦ inl hidden
-          | inl same ↦
-              let bytes_are : made.bytes ≡ covered t.layout f.data_image f.hash_image k =
-              made.made kept.data_steady kept.hash_steady kept.parity_steady f.data_image f.hash_image (record {
-                whole = former-whole j.tree valid f former form t.layout h i k at;
-                stands = kept.stands (round_of t.layout k) (round-below t.layout k kept.layout at.inside);
-                same = λ n beside unknown. same n (beside-inside t.layout k n beside) beside unknown;
-              }) in
-              elim (former-digest j.tree valid f former form t.layout h i k at p way) [
-                | inr clash ↦ inr clash
-                | inl good ↦ absurd (made.other (ap (digest j.tree.salt) bytes_are ∙ good))
-              ]
+pub record HoldsParity (s : ShapeRecord) (l : Layout) (f : FormerImage) (w : RepairWorld) (p : Device) : Type 0 where
+  pub sure : IsSure w
+  pub ready : IsReady s w
+  pub kept : IsParityKept l f p
+  pub parity_sure : IsTrue p.never_fails
+
+pub holds-later : (j : Job) → IsShape j.tree.shape → (l : Layout) (f : FormerImage) (vs : List Visit) (a b : RepairWorld) (p q : Device) → VisitsAll j vs a b → IsOnlyRead p q → HoldsParity j.tree.shape l f a p → HoldsParity j.tree.shape l f b q
+holds-later j valid l f vs a b p q runs read holds = record {
+  sure = sure-same a b (runs-same j vs a b runs) holds.sure;
+  ready = runs-ready-sure j valid vs a b runs holds.sure holds.ready;
+  kept = record {
+    layout = holds.kept.layout;
+    steady = steady-then read.same holds.kept.steady;
+    stands = subst (IsProtected l f.data_image f.hash_image) (sym (read.image holds.kept.steady)) holds.kept.stands;
+  };
+  parity_sure = read.same.never_fails holds.parity_sure;
+}
+
+pub holds-first : (plan : Plan) (l : Layout) (f : FormerImage) (w w' : RepairWorld) (p p' : Device) (r : IsSureRepair plan l f w w' p p') → HoldsParity (shape_of r.seeks.s) l f w p
+holds-first plan l f w w' p p' r = record {
+  sure = record { data_sure = r.sure.0; hash_sure = r.sure.1 };
+  ready = image-ready (shape_of r.seeks.s) w (record { valid = r.seeks.valid; steady = r.steady; data_fits = r.seeks.images.data_fits; tree_fits = r.seeks.images.tree_fits });
+  kept = r.parity;
+  parity_sure = r.sure.2;
+}
+
+-- ---- a pass
+
+module _ (form : FormedChainsAreGood) (j : Job) (valid : IsShape j.tree.shape) (f : FormerImage) (former : IsFormerOf j.tree f) (l : Layout) (fits : HasTreeSizes j.tree.shape l) where
+  size-is : (h : ℕ) → l.block ≡ size_at j.tree.shape h
+  size-is zero = fits.data_size
+  size-is (suc g) = fits.hash_size
+
+  -- other bytes than the lost block's are made only where a damaged block isn't known, or two inputs have one digest
+  other-unknown : (t : Trial) (p : PathRecord) (h i k : ℕ) → HoldsParity j.tree.shape t.layout f t.w t.parity_dev → IsCoveredAt j.tree.shape t.layout h i k → IsWay j.tree i h p → IsMadeOther j.tree.salt (digest_on p i h) t k
+      → IsUnknownBeside f t k ⊎ Collide j.tree.salt
+  other-unknown t p h i k holds at way made =
+      elim (all-or f t k (covered_blocks t.layout)) [
+        | inr unknown ↦ inl unknown
+        | inl same ↦
+            let bytes_are : made.bytes ≡ covered t.layout f.data_image f.hash_image k =
+            made.made holds.ready.data_ready.steady holds.ready.hash_ready.steady holds.kept.steady f.data_image f.hash_image (record {
+              whole = former-whole j.tree valid f former form t.layout h i k at;
+              stands = holds.kept.stands (round_of t.layout k) (round-below t.layout k holds.kept.layout at.inside);
+              same = λ n beside unknown. same n (beside-inside t.layout k n beside) beside unknown;
+            }) in
+            elim (former-digest j.tree valid f former form t.layout h i k at p way) [
+              | inr clash ↦ inr clash
+              | inl good ↦ absurd (made.other (ap (digest j.tree.salt) bytes_are ∙ good))
+            ]
+      ]
+
+  module _ (w w' : RepairWorld) (p p' : Device) (again : Bool) (pass : IsPass j l w w' p p' again) (holds : HoldsParity j.tree.shape l f w p) where
+    abbrev recorded : List BadBlock
+    recorded = flat_map (bad_of j) pass.visits
+
+    abbrev lost : List ℕ
+    lost = pass.sought.lost
+
+    abbrev st : Stage
+    st = stage w pass.behind w'
+
+    holds-behind : HoldsParity j.tree.shape l f pass.behind p
+    holds-behind = holds-later j valid l f pass.visits w pass.behind p p pass.runs (only_read-none p) holds
+
+    -- a hash block above it wasn't good when its turn came
+    passed-by : (h i : ℕ) → IsPassedBy j h i pass.visits w pass.behind → IsUnderBad j h i w w'
+    passed-by h i by =
+        let us = all-run j l lost recorded pass.behind w' p p' pass.hash_came pass.sought.sought in
+        elim by.cut [
+          | inl failed ↦ absurd (failed.1 ((runs-same j by.earlier w by.a by.before).hash_same.never_fails holds.sure.hash_sure))
+          | inr cut ↦ record {
+            beside = by.beside;
+            same = by.same;
+            a = by.a;
+            b = by.b;
+            part = record { earlier = by.earlier; later = by.later ++ us.0; before = by.before; behind = runs-then j by.later us.0 by.b pass.behind w' by.behind us.1 };
+            cut = cut;
+          }
         ]
 
-    round-past : IsRoundBeyond j p h i t k → IsRoundPast f t k ⊎ Collide j.tree.salt
-    round-past (inl many) = inl (inl many)
-    round-past (inr (inl short)) = inl (inr (inl short))
-    round-past (inr (inr made)) = elim (other-hidden made) [
-      | inl hidden ↦ inl (inr (inr hidden))
-      | inr clash ↦ inr clash
-    ]
+    -- to a block that is damaged later, and doesn't count as lost, the pass didn't come
+    unreached : (vs : List Visit) (a : RepairWorld) (n : ℕ) → VisitsAll j vs pass.behind a → (IsAmong lost n → ⊥) → IsDamaged l f a n → IsUnreached j l n st
+    unreached vs a n runs unknown damaged h i at =
+        elim (pass.looked h i at.place.high at.place.inside) [
+          | inr by ↦ inl (passed-by h i by)
+          | inl seen ↦ elim (visited-formed form j valid f former l fits h i n at pass.visits w pass.behind pass.runs holds.sure holds.ready seen) [
+            | inl known ↦ absurd (unknown (recorded-known j.tree.shape valid l holds.kept.layout h i n at known.0 recorded lost pass.sought.are known.1))
+            | inr is ↦ elim (formed-on form j valid f former l fits h i n at vs pass.behind a runs holds-behind.sure holds-behind.ready is) [
+              | inl now ↦ absurd (damaged now)
+              | inr clash ↦ inr clash
+            ]
+          ]
+        ]
 
-  outcome-of : (h i : ℕ) (t : Trial) → IsParityKept t.layout f t.w t.parity_dev → IsOutcome j h i t → IsOutcomeOf j h i f t ⊎ Collide j.tree.salt
-  outcome-of h i t kept (inl back) = inl (inl back)
-  outcome-of h i t kept (inr (inl good)) = inl (inr (inl good))
-  outcome-of h i t kept (inr (inr (inl cut))) = inl (inr (inr (inl cut)))
-  outcome-of h i t kept (inr (inr (inr beyond))) = elim beyond.vain [
-    | inl off ↦ inl (inr (inr (inr (record { p = beyond.p; way = beyond.way; vain = inl off }))))
-    | inr lost ↦ elim (round-past beyond.p h i lost.0 t kept lost.1.0 beyond.way lost.1.1) [
-      | inl past ↦ inl (inr (inr (inr (record { p = beyond.p; way = beyond.way; vain = inr (lost.0, (lost.1.0, past)) }))))
-      | inr clash ↦ inr clash
-    ]
-  ]
+    -- ---- a block that is sought
 
-  -- ---- a pass
+    module _ (h i : ℕ) (at_in : IsRecordedIn j.tree.shape h i false recorded) (high : h ≤ levels j.tree.shape) (x : IsTriedIn j l lost h i pass.behind w' p) where
+      module _ (a : RepairWorld) (read : IsWorldRead x.a a) where
+        abbrev tr : Trial
+        tr = trial l lost a x.b x.q x.q'
 
-  kept-later : (l : Layout) (vs : List Visit) (a b : RepairWorld) (p q : Device) → VisitsAll j vs a b → IsOnlyRead p q → IsParityKept l f a p → IsParityKept l f b q
-  kept-later l vs a b p q runs read kept =
-      let same : AreSame a b = runs-same j vs a b runs in
-      record {
-        layout = kept.layout;
-        data_steady = steady-then same.data_same kept.data_steady;
-        hash_steady = steady-then same.hash_same kept.hash_steady;
-        parity_steady = steady-then read.same kept.parity_steady;
-        stands = subst (IsProtected l f.data_image f.hash_image) (sym (read.image kept.parity_steady)) kept.stands;
+        runs-to : VisitsAll j (x.earlier ++ []) pass.behind a
+        runs-to = runs-then j x.earlier [] pass.behind x.a a x.before read
+
+        holds-then : HoldsParity j.tree.shape l f a x.q
+        holds-then = holds-later j valid l f (x.earlier ++ []) pass.behind a p x.q runs-to x.parity_read holds-behind
+
+        within : IsOutcomeOf j f st tr h x.beside → IsSoughtWithin j l lost f st p h i
+        within outcome = record {
+          beside = x.beside;
+          same = x.same;
+          a = a;
+          b = x.b;
+          q = x.q;
+          q' = x.q';
+          part = record { earlier = x.earlier ++ []; later = x.later; before = runs-to; behind = x.behind };
+          parity_read = x.parity_read;
+          outcome = outcome;
+        }
+
+        -- why parity doesn't bring it back
+        known-at : (k : ℕ) → IsCoveredAt j.tree.shape l h x.beside k → IsAmong lost k
+        known-at k at =
+            recorded-known j.tree.shape valid l holds.kept.layout h x.beside k at false recorded lost pass.sought.are (recorded-beside j.tree.shape h i x.beside false recorded x.same at_in)
+
+        unmade-past : (k : ℕ) → IsCoveredAt j.tree.shape l h x.beside k → IsBlockUnmade tr k → IsRoundPast j f st tr h x.beside
+        unmade-past k at (TooManyLost count, (of, (is, many, unasked))) = record { k = k; at = at; known = known-at k at; past = inl (rw (sym is) many) }
+        unmade-past k at (TooSmall needed, (of, (is, small, unasked))) = record { k = k; at = at; known = known-at k at; past = inr (inl (rw (sym is) small)) }
+        unmade-past k at (DeviceFailed, (of, failed)) = absurd (of (holds-then.sure.data_sure, holds-then.sure.hash_sure, holds-then.parity_sure))
+        unmade-past k at (NoMemory, (of, unasked)) = absurd of
+
+        hidden-past : (k : ℕ) → IsCoveredAt j.tree.shape l h x.beside k → IsUnknownBeside f tr k → IsRoundPast j f st tr h x.beside
+        hidden-past k at u = record {
+          k = k;
+          at = at;
+          known = known-at k at;
+          past = inr (inr (record { n = u.n; beside = u.beside; unknown = u.unknown; damaged = u.damaged; unreached = unreached (x.earlier ++ []) a u.n runs-to u.unknown u.damaged }));
+        }
+
+        vain-past : (way_path : PathRecord) → IsWay j.tree x.beside h way_path → IsVain j way_path h x.beside tr → (IsOffPlace j.tree.shape l h x.beside ⊎ IsRoundPast j f st tr h x.beside) ⊎ Collide j.tree.salt
+        vain-past way_path way (inl (inl size)) = absurd (size (size-is h))
+        vain-past way_path way (inl (inr off)) = inl (inl off)
+        vain-past way_path way (inr (k, (at, inl unmade))) = inl (inr (unmade-past k at unmade))
+        vain-past way_path way (inr (k, (at, inr other))) = elim (other-unknown tr way_path h x.beside k holds-then at way other) [
+          | inl unknown ↦ inl (inr (hidden-past k at unknown))
+          | inr clash ↦ inr clash
+        ]
+
+      tried-within : (back : Bool) → IsTriedBehind j h x.beside (trial l lost x.a x.b x.q x.q') back → IsSoughtWithin j l lost f st p h i ⊎ Collide j.tree.salt
+      tried-within true behind = inl (within behind.between behind.read (inl behind.tried.0))
+      tried-within false behind = elim behind.tried.1 [
+        | inr good ↦ inl (within behind.between behind.read (inr (inl (behind.tried.0.image, good))))
+        | inl along ↦ elim (vain-past behind.between behind.read along.p along.way along.vain) [
+          | inl vain ↦ inl (within behind.between behind.read (inr (inr (record { p = along.p; way = along.way; vain = vain }))))
+          | inr clash ↦ inr clash
+        ]
+      ]
+
+      -- a hash block above it wasn't good
+      cut-under : IsCutOff j.tree x.beside h x.a.hash_dev → IsUnderBad j h i w w'
+      cut-under cut = record {
+        beside = x.beside;
+        same = above-same j.tree.shape valid h i x.beside x.same (h + 1) (omega arith);
+        a = x.a;
+        b = x.b;
+        part = record { earlier = pass.visits ++ x.earlier; later = x.later; before = runs-then j pass.visits x.earlier w pass.behind x.a pass.runs x.before; behind = x.behind };
+        cut = cut;
       }
 
-  settled-within : (l : Layout) (lost : List ℕ) (visits : List Visit) (h i : ℕ) (w w' : RepairWorld) (p : Device) → IsParityKept l f w p → IsSettled j l lost visits h i w w' p
-      → IsSettledWithin j l lost visits h i f w w' p ⊎ Collide j.tree.salt
-  settled-within l lost visits h i w w' p kept (inl had) = inl (inl had)
-  settled-within l lost visits h i w w' p kept (inr (inl under)) = inl (inr (inl under))
-  settled-within l lost visits h i w w' p kept (inr (inr sought)) =
-      elim (outcome-of h sought.beside (trial l lost sought.a sought.b sought.q sought.q') (kept-later l sought.part.earlier w sought.a p sought.q sought.part.before sought.parity_read kept) sought.outcome) [
-        | inl outcome ↦ inl (inr (inr (record { sought = sought; outcome = outcome })))
+      sought-within : (back : Bool) → IsSoughtAt j h x.beside (trial l lost x.a x.b x.q x.q') false back → (IsUnderBad j h i w w' ⊎ IsSoughtWithin j l lost f st p h i) ⊎ Collide j.tree.salt
+      sought-within back (inl (none, (left, inl off))) = absurd (off (record { valid = valid; inside = x.inside; high = high }))
+      sought-within back (inl (none, (left, inr (inl failed)))) = absurd (failed.1 ((runs-same j x.earlier pass.behind x.a x.before).hash_same.never_fails holds-behind.sure.hash_sure))
+      sought-within back (inl (none, (left, inr (inr cut)))) = inl (inl (cut-under cut))
+      sought-within back (inr behind) = elim (tried-within back behind) [
+        | inl came ↦ inl (inr came)
         | inr clash ↦ inr clash
       ]
 
+    pub settled-within : (h i : ℕ) → h ≤ levels j.tree.shape → i < j.tree.shape.blocks → IsSettledWithin j l lost pass.visits f st p h i ⊎ Collide j.tree.salt
+    settled-within h i high inside = elim (pass.looked h i high inside) [
+      | inr by ↦ inl (inr (inl (passed-by h i by)))
+      | inl seen ↦ elim (visited-or j h i pass.visits w pass.behind pass.runs seen) [
+        | inl had ↦ inl (inl had)
+        | inr at_in ↦
+            let x = recorded-tried j l lost h i recorded pass.behind w' p p' pass.hash_came pass.sought.sought at_in in
+            elim (sought-within h i at_in high x x.back x.sought) [
+              | inl settled ↦ inl (inr settled)
+              | inr clash ↦ inr clash
+            ]
+      ]
+    ]
+
 pub within-parity : FormedChainsAreGood → LostBlocksWithinParityComeBack
-within-parity form plan l w w' p p' seeks sure f former kept h i high inside =
-    let j : Job = job_of seeks.s plan true in
-    let passes = seeks.ends.passes in
-    settled-within form j seeks.valid f former l passes.pass.sought.lost passes.pass.visits h i passes.last w' passes.last_parity
-    (kept-later form j seeks.valid f former l passes.earlier w passes.last p passes.last_parity passes.before passes.parity_read kept)
-    (stays-lost plan l w w' p p' seeks sure h i high inside)
+within-parity form plan l f w w' p p' r h i high inside =
+    let j : Job = job_of r.seeks.s plan true in
+    let passes = r.seeks.ends.passes in
+    settled-within form j r.seeks.valid f r.former l r.sizes passes.last w' passes.last_parity p' r.seeks.ends.again passes.pass
+    (holds-later j r.seeks.valid l f passes.earlier w passes.last p passes.last_parity passes.before passes.parity_read (holds-first plan l f w w' p p' r)) h i high inside

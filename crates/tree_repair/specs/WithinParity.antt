@@ -1,24 +1,25 @@
 -- That lost blocks come back by parity, at most as many of a round as the code has roots.
-use Rattle.std.specs.Prelude.{◌≡◌, ◌≢◌, ◌⊎◌, ℕ, ◌<◌, ◌≤◌, true, IsTrue, List, length, All}
+use Rattle.std.specs.Prelude.{◌≡◌, ◌⊎◌, ℕ, ◌<◌, ◌≤◌, true, IsTrue, List, length, All}
 use Rattle.block_device.specs.Device.{Device, IsSector}
 use Rattle.fec_area.specs.declared.layout.Layout.{Layout}
-use Rattle.fec_area.specs.Layouts.{IsLayout, IsProtected, covered, parity_sectors}
+use Rattle.fec_area.specs.Layouts.{IsLayout, IsProtected, covered, covered_blocks, parity_sectors}
 use Rattle.fec_area.specs.Restoring.{IsAmong, is_beside, lost_count}
-use Rattle.fec_area.specs.Rounds.{AllNeverFail}
-use Rattle.tree_shape.specs.Shape.{area_blocks, levels}
+use Rattle.fec_area.specs.Rounds.{AllNeverFail, BothNeverFail}
+use Rattle.tree_shape.specs.Shape.{ShapeRecord, ancestor, area_blocks, levels}
 use Rattle.tree_path.specs.Laws.{Collide}
 use Rattle.tree_path.specs.Path.{PathRecord}
 use Rattle.tree_survey.specs.Surveys.{Tree, IsWay}
-use Rattle.verity_format.specs.Blocks.{blocks_at}
+use Rattle.verity_format.specs.Blocks.{IsOnlyRead, blocks_at}
 use Rattle.verity_format.specs.Image.{area_over, data_sectors, root_over}
 use Rattle.verity_format.specs.Superblock.{shape_of}
 use Rattle.tree_repair.specs.declared.repair.Plan.{Plan}
-use Rattle.tree_repair.specs.Beyond.{IsHadIn, IsSoughtIn, IsUnderBad}
+use Rattle.tree_repair.specs.Beyond.{IsHadIn, IsPart, IsUnderBad}
 use Rattle.tree_repair.specs.Parity.{IsCoveredAt}
 use Rattle.tree_repair.specs.Repairs.{SeeksByParity, job_of}
-use Rattle.tree_repair.specs.Runs.{Job, Visit}
-use Rattle.tree_repair.specs.Tries.{IsBroughtBack, IsCutOff, IsGoodBehind, IsUncovered, Trial, trial}
-use Rattle.tree_repair.specs.Worlds.{RepairWorld}
+use Rattle.tree_repair.specs.Runs.{Job, Visit, VisitsAll}
+use Rattle.tree_repair.specs.Standing.{IsSteadyImage, IsWorldSteady}
+use Rattle.tree_repair.specs.Tries.{IsBroughtBack, IsGoodBehind, IsOffPlace, Trial, trial}
+use Rattle.tree_repair.specs.Worlds.{IsWorldRead, RepairWorld}
 
 -- ---- the image as it was formatted
 
@@ -27,66 +28,125 @@ pub record FormerImage : Type 0 where
   pub data_image : List (List ℕ)
   pub hash_image : List (List ℕ)
 
--- Its data have this root, and on its hash device stand the hash blocks of the tree over them.
+-- Its data have the tree's root, and on its hash device stand the hash blocks of the tree over them.
 pub record IsFormerOf (t : Tree) (f : FormerImage) : Type 0 where
   pub sectors : All IsSector f.data_image
   pub data_fits : data_sectors t.shape ≤ length f.data_image
   pub root_is : t.root ≡ root_over t.shape t.salt f.data_image
   pub tree_is : blocks_at f.hash_image t.shape.hash_block t.shape.start (area_blocks t.shape) ≡ area_over t.shape t.salt f.data_image
 
--- The data device and the hash device are steady, and so is that of the parity, on which the image's parity stands.
-pub record IsParityKept (l : Layout) (f : FormerImage) (w : RepairWorld) (p : Device) : Type 0 where
+-- covered blocks have the size of the tree's own
+pub record HasTreeSizes (s : ShapeRecord) (l : Layout) : Type 0 where
+  pub data_size : l.block ≡ s.data_block
+  pub hash_size : l.block ≡ s.hash_block
+
+-- on a steady device stands the image's parity
+pub record IsParityKept (l : Layout) (f : FormerImage) (p : Device) : Type 0 where
   pub layout : IsLayout l
-  pub data_steady : IsTrue w.data_dev.steady
-  pub hash_steady : IsTrue w.hash_dev.steady
-  pub parity_steady : IsTrue p.steady
+  pub steady : IsTrue p.steady
   pub stands : IsProtected l f.data_image f.hash_image p.image
+
+-- covered block n is as it was, or is damaged
+abbrev pub IsAsFormed : Layout → FormerImage → RepairWorld → ℕ → Type 0
+IsAsFormed l f w n = covered l w.data_dev.image w.hash_dev.image n ≡ covered l f.data_image f.hash_image n
+
+abbrev pub IsDamaged : Layout → FormerImage → RepairWorld → ℕ → Type 0
+IsDamaged l f w n = IsAsFormed l f w n → ⊥
+
+-- On steady devices that never fail a covered block that is as it was stays so, or two different inputs have one digest.
+abbrev pub FormattedBlocksStay : Type 0
+FormattedBlocksStay =
+    (j : Job) → (f : FormerImage) → IsFormerOf j.tree f → (l : Layout) → HasTreeSizes j.tree.shape l → (visits : List Visit) → (w w' : RepairWorld) → VisitsAll j visits w w'
+    → IsSteadyImage j.tree.shape w → BothNeverFail w.data_dev w.hash_dev → (n : ℕ) → IsAsFormed l f w n → IsAsFormed l f w' n ⊎ Collide j.tree.salt
 
 -- ---- why a block doesn't come back
 
--- covered block n as it stands is another one than it was
-abbrev pub IsDamaged : Layout → FormerImage → RepairWorld → ℕ → Type 0
-IsDamaged l f w n = covered l w.data_dev.image w.hash_dev.image n ≢ covered l f.data_image f.hash_image n
+-- the devices before a pass, behind its visits, and behind all of it
+pub record Stage : Type 0 where
+  pub before : RepairWorld
+  pub visited : RepairWorld
+  pub after : RepairWorld
 
--- another block of the round of covered block k is damaged, and doesn't count as lost
-pub record IsHiddenBeside (f : FormerImage) (t : Trial) (k : ℕ) : Type 0 where
+abbrev pub stage : RepairWorld → RepairWorld → RepairWorld → Stage
+stage before visited after = record { before = before; visited = visited; after = after }
+
+-- If covered block n is one of the tree, a hash block above it wasn't good in the pass (or two different inputs have one digest).
+abbrev pub IsUnreached : Job → Layout → ℕ → Stage → Type 0
+IsUnreached j l n s = (h i : ℕ) → IsCoveredAt j.tree.shape l h i n → IsUnderBad j h i s.before s.after ⊎ Collide j.tree.salt
+
+-- Another block of the round of covered block k is damaged and doesn't count as lost: the pass didn't come to it.
+pub record IsHiddenBeside (j : Job) (f : FormerImage) (s : Stage) (t : Trial) (k : ℕ) : Type 0 where
   pub n : ℕ
   pub beside : IsTrue (is_beside t.layout k n)
   pub unknown : IsAmong t.lost n → ⊥
   pub damaged : IsDamaged t.layout f t.w n
+  pub unreached : IsUnreached j t.layout n s
 
--- Covered block k can't be made again: with it more blocks of its round are lost than the code has roots, or there is less
--- parity than the code needs, or another block of its round is damaged and isn't known as lost.
-abbrev pub IsRoundPast : FormerImage → Trial → ℕ → Type 0
-IsRoundPast f t k = (t.layout.roots < lost_count t.layout t.lost k) ⊎ ((t.parity_dev.size < parity_sectors t.layout) ⊎ IsHiddenBeside f t k)
+-- A block's number counts as lost, but it can't be made again: with it more blocks of its round are lost than the code has roots, or
+-- there is less parity than the code needs, or another block of its round is damaged, and the pass doesn't know it.
+pub record IsRoundPast (j : Job) (f : FormerImage) (s : Stage) (t : Trial) (h i : ℕ) : Type 0 where
+  pub k : ℕ
+  pub at : IsCoveredAt j.tree.shape t.layout h i k
+  pub known : IsAmong t.lost k
+  pub past : (t.layout.roots < lost_count t.layout t.lost k) ⊎ ((t.parity_dev.size < parity_sectors t.layout) ⊎ IsHiddenBeside j f s t k)
 
 -- good hash blocks lead to a block, and parity doesn't cover it, or can't make it again
-pub record IsPastParity (j : Job) (h i : ℕ) (f : FormerImage) (t : Trial) : Type 0 where
+pub record IsPastParity (j : Job) (f : FormerImage) (s : Stage) (t : Trial) (h i : ℕ) : Type 0 where
   pub p : PathRecord
   pub way : IsWay j.tree i h p
-  pub vain : IsUncovered j.tree.shape t.layout h i ⊎ ((k : ℕ) × (IsCoveredAt j.tree.shape t.layout h i k × IsRoundPast f t k))
+  pub vain : IsOffPlace j.tree.shape t.layout h i ⊎ IsRoundPast j f s t h i
 
--- what comes of a block that is sought: it comes back, or stands there by now, or a hash block above it isn't good, or parity
--- can't bring it back
-abbrev pub IsOutcomeOf : Job → ℕ → ℕ → FormerImage → Trial → Type 0
-IsOutcomeOf j h i f t = IsBroughtBack j h i t.w t.w' ⊎ (IsGoodBehind j h i t.w ⊎ (IsCutOff j.tree i h t.w.hash_dev ⊎ IsPastParity j h i f t))
+-- What comes of a block that is sought: it comes back, or stands there by now, and nothing is written, or parity can't bring it back.
+abbrev pub IsOutcomeOf : Job → FormerImage → Stage → Trial → ℕ → ℕ → Type 0
+IsOutcomeOf j f s t h i = IsBroughtBack j h i t.w t.w' ⊎ ((IsWorldRead t.w t.w' × IsGoodBehind j h i t.w) ⊎ IsPastParity j f s t h i)
 
--- it was sought, and that came of it
-pub record IsSoughtWithin (j : Job) (l : Layout) (lost : List ℕ) (h i : ℕ) (f : FormerImage) (w w' : RepairWorld) (p : Device) : Type 0 where
-  pub sought : IsSoughtIn j l lost h i w w' p
-  pub outcome : IsOutcomeOf j h sought.beside f (trial l lost sought.a sought.b sought.q sought.q')
+-- It was sought behind a pass's visits, where these covered blocks count as lost. Beside is the data block beneath it by which it was.
+pub record IsSoughtWithin (j : Job) (l : Layout) (lost : List ℕ) (f : FormerImage) (s : Stage) (p : Device) (h i : ℕ) : Type 0 where
+  pub beside : ℕ
+  pub same : ancestor j.tree.shape h beside ≡ ancestor j.tree.shape h i
+  pub a : RepairWorld
+  pub b : RepairWorld
+  pub q : Device
+  pub q' : Device
+  pub part : IsPart j s.visited a b s.after
+  pub parity_read : IsOnlyRead p q
+  pub outcome : IsOutcomeOf j f s (trial l lost a b q q') h beside
 
--- ---- the law
+-- ---- the laws
 
 -- what came of a block in a pass with these visits
-abbrev pub IsSettledWithin : Job → Layout → List ℕ → List Visit → ℕ → ℕ → FormerImage → RepairWorld → RepairWorld → Device → Type 0
-IsSettledWithin j l lost visits h i f w w' p = IsHadIn j.tree.shape h i visits ⊎ (IsUnderBad j h i w w' ⊎ IsSoughtWithin j l lost h i f w w' p)
+abbrev pub IsSettledWithin : Job → Layout → List ℕ → List Visit → FormerImage → Stage → Device → ℕ → ℕ → Type 0
+IsSettledWithin j l lost visits f s p h i = IsHadIn j.tree.shape h i visits ⊎ (IsUnderBad j h i s.before s.after ⊎ IsSoughtWithin j l lost f s p h i)
 
--- Over steady devices that never fail, with the parity of the formatted image, each block of the tree was good or found when the last
--- pass came to it, or came back by parity, or a hash block above it isn't good, or parity doesn't cover it, or its round has more lost
--- blocks than the code has roots, or one that is damaged unknown to the pass; or two different inputs have one digest.
+-- a repair over steady devices that never fail, by the parity of the formatted image
+pub record IsSureRepair (plan : Plan) (l : Layout) (f : FormerImage) (w w' : RepairWorld) (p p' : Device) : Type 0 where
+  pub seeks : SeeksByParity plan l w w' p p'
+  pub sure : AllNeverFail w.data_dev w.hash_dev p
+  pub steady : IsWorldSteady w
+  pub former : IsFormerOf (job_of seeks.s plan true).tree f
+  pub sizes : HasTreeSizes (shape_of seeks.s) l
+  pub parity : IsParityKept l f p
+
+-- In it each block of the tree was good or found when the last pass came to it, or came back by parity, or a hash block above it isn't
+-- good, or parity doesn't cover it, or its round has more lost blocks than the code has roots, or a damaged one to which the pass
+-- didn't come; or two different inputs have one digest.
 abbrev pub LostBlocksWithinParityComeBack : Type 0
 LostBlocksWithinParityComeBack =
-    (plan : Plan) → (l : Layout) → (w w' : RepairWorld) → (p p' : Device) → (seeks : SeeksByParity plan l w w' p p') → AllNeverFail w.data_dev w.hash_dev p
-    → (f : FormerImage) → IsFormerOf (job_of seeks.s plan true).tree f → IsParityKept l f w p → (h i : ℕ) → h ≤ levels (shape_of seeks.s) → i < (shape_of seeks.s).blocks
-    → let passes = seeks.ends.passes in IsSettledWithin (job_of seeks.s plan true) l passes.pass.sought.lost passes.pass.visits h i f passes.last w' passes.last_parity ⊎ Collide seeks.s.salt
+    (plan : Plan) → (l : Layout) → (f : FormerImage) → (w w' : RepairWorld) → (p p' : Device) → (r : IsSureRepair plan l f w w' p p') → (h i : ℕ) → h ≤ levels (shape_of r.seeks.s) → i < (shape_of r.seeks.s).blocks
+    → let passes = r.seeks.ends.passes in
+    IsSettledWithin (job_of r.seeks.s plan true) l passes.pass.sought.lost passes.pass.visits f (stage passes.last passes.pass.behind w') passes.last_parity h i ⊎ Collide r.seeks.s.salt
+
+-- There is as much parity as the code needs, of no round more blocks count as lost than it has roots, and each damaged block counts as
+-- lost.
+pub record IsWithinParity (l : Layout) (f : FormerImage) (lost : List ℕ) (w : RepairWorld) (p : Device) : Type 0 where
+  pub room : parity_sectors l ≤ p.size
+  pub few : (k : ℕ) → IsAmong lost k → lost_count l lost k ≤ l.roots
+  pub known : (n : ℕ) → n < covered_blocks l → IsDamaged l f w n → IsAmong lost n
+
+-- Where that is so behind the last pass's visits, and blocks may be written, each covered block of the tree is as it was formatted
+-- behind the run, or a hash block above it isn't good, or two different inputs have one digest.
+abbrev pub NoBlockStaysLostWithinParity : Type 0
+NoBlockStaysLostWithinParity =
+    (plan : Plan) → IsTrue plan.write → (l : Layout) → (f : FormerImage) → (w w' : RepairWorld) → (p p' : Device) → (r : IsSureRepair plan l f w w' p p')
+    → let passes = r.seeks.ends.passes in IsWithinParity l f passes.pass.sought.lost passes.pass.behind p
+    → (h i k : ℕ) → IsCoveredAt (shape_of r.seeks.s) l h i k → IsAsFormed l f w' k ⊎ (IsUnderBad (job_of r.seeks.s plan true) h i passes.last w' ⊎ Collide r.seeks.s.salt)

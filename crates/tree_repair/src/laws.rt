@@ -2,7 +2,7 @@
 ghost use Rattle.tree_repair.specs.Beyond.{WhatStaysLostIsBeyondParity};
 ghost use Rattle.tree_repair.specs.Laws.{MendedBlocksAreFormatted, MendedBlocksAreGood, NoHashBlockIsLost, OtherSectorsStay};
 ghost use Rattle.tree_repair.specs.Standing.{LeftGoodBlocksAreFormatted, LeftGoodBlocksStand, LeftGoodWaysStand, RepairsWriteAll};
-ghost use Rattle.tree_repair.specs.WithinParity.{LostBlocksWithinParityComeBack};
+ghost use Rattle.tree_repair.specs.WithinParity.{FormattedBlocksStay, LostBlocksWithinParityComeBack, NoBlockStaysLostWithinParity};
 
 use hash_tree::laws::formed_chains_are_good;
 
@@ -63,6 +63,21 @@ pub fn what_stays_lost_is_beyond_parity()
 /// blocks are lost than the code has roots, or one is damaged that the pass doesn't know; or two different inputs have one digest.
 pub fn lost_blocks_within_parity_come_back()
     ensures { LostBlocksWithinParityComeBack }
+{
+    formed_chains_are_good()
+}
+
+/// A covered block that is as it was formatted stays so in a run, or two different inputs have one digest.
+pub fn formatted_blocks_stay()
+    ensures { FormattedBlocksStay }
+{
+    formed_chains_are_good()
+}
+
+/// Where the last pass knows each block that is damaged then, and of no round more than the code has roots, each covered block of the
+/// tree is as it was formatted behind the run, or a hash block above it isn't good, or two different inputs have one digest.
+pub fn no_block_stays_lost_within_parity()
+    ensures { NoBlockStaysLostWithinParity }
 {
     formed_chains_are_good()
 }
