@@ -1,6 +1,7 @@
 mod BeyondLemmas
 mod FormedLemmas
 mod FormerLemmas
+mod FreshLemmas
 mod GoodLemmas
 mod LawLemmas
 mod ApartLemmas

@@ -1,6 +1,6 @@
 -- That lost blocks come back by parity, at most as many of a round as the code has roots.
 use Rattle.std.specs.Prelude.{◌≡◌, ◌⊎◌, ℕ, ◌<◌, ◌≤◌, true, IsTrue, List, length, All}
-use Rattle.block_device.specs.Device.{Device, IsSector}
+use Rattle.block_device.specs.Device.{Device, IsSector, IsWhole}
 use Rattle.fec_area.specs.declared.layout.Layout.{Layout}
 use Rattle.fec_area.specs.Layouts.{IsLayout, IsProtected, covered, covered_blocks, parity_sectors}
 use Rattle.fec_area.specs.Restoring.{IsAmong, is_beside, lost_count}
@@ -10,8 +10,9 @@ use Rattle.tree_path.specs.Laws.{Collide}
 use Rattle.tree_path.specs.Path.{PathRecord}
 use Rattle.tree_survey.specs.Surveys.{Tree, IsWay}
 use Rattle.verity_format.specs.Blocks.{IsOnlyRead, blocks_at}
+use Rattle.verity_format.specs.Formatting.{IsFormatted}
 use Rattle.verity_format.specs.Image.{area_over, data_sectors, root_over}
-use Rattle.verity_format.specs.Superblock.{shape_of}
+use Rattle.verity_format.specs.Superblock.{SuperRecord, IsSuperblock, shape_of}
 use Rattle.tree_repair.specs.declared.repair.Plan.{Plan}
 use Rattle.tree_repair.specs.Beyond.{IsHadIn, IsPart, IsUnderBad}
 use Rattle.tree_repair.specs.Parity.{IsCoveredAt}
@@ -34,6 +35,16 @@ pub record IsFormerOf (t : Tree) (f : FormerImage) : Type 0 where
   pub data_fits : data_sectors t.shape ≤ length f.data_image
   pub root_is : t.root ≡ root_over t.shape t.salt f.data_image
   pub tree_is : blocks_at f.hash_image t.shape.hash_block t.shape.start (area_blocks t.shape) ≡ area_over t.shape t.salt f.data_image
+
+abbrev pub former_image : List (List ℕ) → List (List ℕ) → FormerImage
+former_image data_image hash_image = record { data_image = data_image; hash_image = hash_image }
+
+-- Formatting leaves one on whole, steady devices: the data device as it is, and the hash device as it stands behind the call.
+abbrev pub FormattedImagesAreFormer : Type 0
+FormattedImagesAreFormer =
+    (s : SuperRecord) → IsSuperblock s → (data_dev hash_dev data_dev' hash_dev' : Device) → IsWhole data_dev → IsWhole hash_dev → IsTrue data_dev.steady → IsTrue hash_dev.steady
+    → data_sectors (shape_of s) ≤ data_dev.size → (root : List ℕ) → IsFormatted s data_dev hash_dev data_dev' hash_dev' root
+    → IsFormerOf (record { shape = shape_of s; salt = s.salt; root = root }) (former_image data_dev.image hash_dev'.image)
 
 -- covered blocks have the size of the tree's own
 pub record HasTreeSizes (s : ShapeRecord) (l : Layout) : Type 0 where

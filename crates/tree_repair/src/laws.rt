@@ -2,7 +2,7 @@
 ghost use Rattle.tree_repair.specs.Beyond.{WhatStaysLostIsBeyondParity};
 ghost use Rattle.tree_repair.specs.Laws.{MendedBlocksAreFormatted, MendedBlocksAreGood, NoHashBlockIsLost, OtherSectorsStay};
 ghost use Rattle.tree_repair.specs.Standing.{LeftGoodBlocksAreFormatted, LeftGoodBlocksStand, LeftGoodWaysStand, RepairsWriteAll};
-ghost use Rattle.tree_repair.specs.WithinParity.{FormattedBlocksStay, LostBlocksWithinParityComeBack, NoBlockStaysLostWithinParity};
+ghost use Rattle.tree_repair.specs.WithinParity.{FormattedBlocksStay, FormattedImagesAreFormer, LostBlocksWithinParityComeBack, NoBlockStaysLostWithinParity};
 
 use hash_tree::laws::formed_chains_are_good;
 
@@ -81,3 +81,8 @@ pub fn no_block_stays_lost_within_parity()
 {
     formed_chains_are_good()
 }
+
+/// Formatting leaves an image as these laws suppose it.
+pub fn formatted_images_are_former()
+    ensures { FormattedImagesAreFormer }
+{}
