@@ -8,6 +8,7 @@ mod ApartLemmas
 mod AskedLemmas
 mod BillLemmas
 mod CountLemmas
+mod DataBackLemmas
 mod HeightLemmas
 mod LookLemmas
 mod MakeLemmas
@@ -31,6 +32,7 @@ mod StandLemmas
 mod StayFormedLemmas
 mod StayLemmas
 mod TryLemmas
+mod UnknownLemmas
 mod VisitLemmas
 mod WayLemmas
 mod WithinParityLemmas

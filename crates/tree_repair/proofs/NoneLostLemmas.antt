@@ -1,9 +1,10 @@
 -- Where the last pass knows each damaged block, and not too many of a round, none stays lost.
-use Rattle.std.proofs.Common.{◌≡◌, ◌<◌, ℕ, Bool, true, List, [], ◌∷◌, refl, sym, ap, ◌∙◌, arith, inl, inr, ◌⊎◌}
+use Rattle.std.proofs.Common.{◌≡◌, ◌≤◌, ◌<◌, ℕ, Bool, true, List, [], ◌∷◌, refl, sym, ap, ◌∙◌, arith, inl, inr, ◌⊎◌}
 use Rattle.std.specs.List.{flat_map}
 use Rattle.block_device.specs.Device.{Device}
 use Rattle.fec_area.specs.declared.layout.Layout.{Layout}
-use Rattle.fec_area.specs.Layouts.{covered, covered_blocks}
+use Rattle.fec_area.specs.Layouts.{covered, covered_blocks, parity_sectors}
+use Rattle.fec_area.specs.Restoring.{IsAmong, lost_count}
 use Rattle.hash_tree.specs.Laws.{FormedChainsAreGood}
 use Rattle.tree_shape.specs.Digests.{digest}
 use Rattle.tree_shape.specs.Shape.{IsShape, ancestor}
@@ -19,7 +20,7 @@ use Rattle.tree_repair.specs.Repairs.{job_of}
 use Rattle.tree_repair.specs.Runs.{Job, Visit, VisitsAll, visit}
 use Rattle.tree_repair.specs.Standing.{StandsGood}
 use Rattle.tree_repair.specs.Tries.{IsBroughtBack, IsGoodBehind, trial}
-use Rattle.tree_repair.specs.WithinParity.{FormerImage, HasTreeSizes, IsAsFormed, IsFormerOf, IsHiddenBeside, IsPastParity, IsSoughtWithin, IsWithinParity, NoBlockStaysLostWithinParity, Stage, stage}
+use Rattle.tree_repair.specs.WithinParity.{FormerImage, HasTreeSizes, IsAsFormed, IsDamaged, IsFormerOf, IsHiddenBeside, IsPastParity, IsSoughtWithin, NoBlockStaysLostWithinParity, Stage, stage}
 use Rattle.tree_repair.specs.Worlds.{IsWorldRead, RepairWorld}
 use Rattle.tree_repair.proofs.NumberLemmas.{off-not}
 use Rattle.tree_repair.proofs.RecordedLemmas.{beside-formed, formed-on, had-formed}
@@ -27,7 +28,8 @@ use Rattle.tree_repair.proofs.RunLemmas.{read-same, runs-one, runs-read, runs-sa
 use Rattle.tree_repair.proofs.SoughtLemmas.{all-run}
 use Rattle.tree_repair.proofs.StandLemmas.{IsReady}
 use Rattle.tree_repair.proofs.StayFormedLemmas.{IsSure, covered-same, own-steady, read-images, ready-same, runs-kept, runs-ready-sure, sure-same, visit-stands}
-use Rattle.tree_repair.proofs.WithinParityLemmas.{HoldsParity, beside-inside, holds-first, holds-later, settled-within}
+use Rattle.tree_repair.proofs.UnknownLemmas.{beside-inside}
+use Rattle.tree_repair.proofs.WithinParityLemmas.{HoldsParity, holds-first, holds-later, settled-within}
 
 -- the visit of a block that came back
 back-run : (j : Job) (h beside : ℕ) (a b : RepairWorld) → IsBroughtBack j h beside a b → (us : List Visit) × VisitsAll j us a b
@@ -60,7 +62,8 @@ module _ (form : FormedChainsAreGood) (j : Job) (valid : IsShape j.tree.shape) (
               ∙ sym (covered-same l a between k (read-images j.tree.shape a between good.read ready)) ∙ is)
         ]
 
-  module _ (w w' : RepairWorld) (p p' : Device) (again : Bool) (pass : IsPass j l w w' p p' again) (holds : HoldsParity j.tree.shape l f w p) (enough : IsWithinParity l f pass.sought.lost pass.behind p) where
+  module _ (w w' : RepairWorld) (p p' : Device) (again : Bool) (pass : IsPass j l w w' p p' again) (holds : HoldsParity j.tree.shape l f w p) (room : parity_sectors l ≤ p.size)
+      (few : (k : ℕ) → IsAmong pass.sought.lost k → lost_count l pass.sought.lost k ≤ l.roots) (known : (n : ℕ) → n < covered_blocks l → IsDamaged l f pass.behind n → IsAmong pass.sought.lost n ⊎ Collide j.tree.salt) where
     abbrev st : Stage
     st = stage w pass.behind w'
 
@@ -72,7 +75,10 @@ module _ (form : FormedChainsAreGood) (j : Job) (valid : IsShape j.tree.shape) (
     none-hidden vs a b q q' n runs hidden =
         let inside : hidden.n < covered_blocks l = beside-inside l n hidden.n hidden.beside in
         elim (same-or (covered l pass.behind.data_dev.image pass.behind.hash_dev.image hidden.n) (covered l f.data_image f.hash_image hidden.n)) [
-          | inr other ↦ absurd (hidden.unknown (enough.known hidden.n inside other))
+          | inr other ↦ elim (known hidden.n inside other) [
+            | inl there ↦ absurd (hidden.unknown there)
+            | inr clash ↦ clash
+          ]
           | inl same ↦ elim (runs-kept form j valid f former l fits vs pass.behind a runs holds-behind.sure holds-behind.ready hidden.n inside same) [
             | inl now ↦ absurd (hidden.damaged now)
             | inr clash ↦ clash
@@ -89,9 +95,9 @@ module _ (form : FormedChainsAreGood) (j : Job) (valid : IsShape j.tree.shape) (
       none-past vs m a b q q' same read runs past = elim past.vain [
         | inl off ↦ absurd (off-not j.tree.shape valid l holds.kept.layout h i m k same at off)
         | inr round ↦ elim round.past [
-          | inl many ↦ absurd (omega (arith, many, enough.few round.k round.known))
+          | inl many ↦ absurd (omega (arith, many, few round.k round.known))
           | inr rest ↦ elim rest [
-            | inl short ↦ absurd (omega (arith, short, enough.room, read.same.size))
+            | inl short ↦ absurd (omega (arith, short, room, read.same.size))
             | inr hidden ↦ none-hidden vs a b q q' round.k runs hidden
           ]
         ]
@@ -136,7 +142,6 @@ pub none-stays : FormedChainsAreGood → NoBlockStaysLostWithinParity
 none-stays form plan write l f w w' p p' r enough h i k at =
     let j : Job = job_of r.seeks.s plan true in
     let passes = r.seeks.ends.passes in
-    let enough_then : IsWithinParity l f passes.pass.sought.lost passes.pass.behind passes.last_parity =
-    record { room = omega (arith, enough.room, passes.parity_read.same.size); few = enough.few; known = enough.known } in
     pass-formed form j r.seeks.valid write f r.former l r.sizes passes.last w' passes.last_parity p' r.seeks.ends.again passes.pass
-    (holds-later j r.seeks.valid l f passes.earlier w passes.last p passes.last_parity passes.before passes.parity_read (holds-first plan l f w w' p p' r)) enough_then h i k at
+    (holds-later j r.seeks.valid l f passes.earlier w passes.last p passes.last_parity passes.before passes.parity_read (holds-first plan l f w w' p p' r))
+    (omega (arith, enough.room, passes.parity_read.same.size)) enough.few (λ n inside damaged. inl (enough.known n inside damaged)) h i k at

@@ -1,5 +1,5 @@
 -- That lost blocks come back by parity, at most as many of a round as the code has roots.
-use Rattle.std.specs.Prelude.{◌≡◌, ◌⊎◌, ℕ, ◌<◌, ◌≤◌, true, IsTrue, List, length, All}
+use Rattle.std.specs.Prelude.{◌≡◌, ◌⊎◌, ℕ, ◌+◌, ◌<◌, ◌≤◌, true, IsTrue, List, length, All}
 use Rattle.block_device.specs.Device.{Device, IsSector, IsWhole}
 use Rattle.fec_area.specs.declared.layout.Layout.{Layout}
 use Rattle.fec_area.specs.Layouts.{IsLayout, IsProtected, covered, covered_blocks, parity_sectors}
@@ -15,7 +15,7 @@ use Rattle.verity_format.specs.Image.{area_over, data_sectors, root_over}
 use Rattle.verity_format.specs.Superblock.{SuperRecord, IsSuperblock, shape_of}
 use Rattle.tree_repair.specs.declared.repair.Plan.{Plan}
 use Rattle.tree_repair.specs.Beyond.{IsHadIn, IsPart, IsUnderBad}
-use Rattle.tree_repair.specs.Parity.{IsCoveredAt}
+use Rattle.tree_repair.specs.Parity.{IsCoveredAt, IsPlace}
 use Rattle.tree_repair.specs.Repairs.{SeeksByParity, job_of}
 use Rattle.tree_repair.specs.Runs.{Job, Visit, VisitsAll}
 use Rattle.tree_repair.specs.Standing.{IsSteadyImage, IsWorldSteady}
@@ -161,3 +161,17 @@ NoBlockStaysLostWithinParity =
     (plan : Plan) → IsTrue plan.write → (l : Layout) → (f : FormerImage) → (w w' : RepairWorld) → (p p' : Device) → (r : IsSureRepair plan l f w w' p p')
     → let passes = r.seeks.ends.passes in IsWithinParity l f passes.pass.sought.lost passes.pass.behind p
     → (h i k : ℕ) → IsCoveredAt (shape_of r.seeks.s) l h i k → IsAsFormed l f w' k ⊎ (IsUnderBad (job_of r.seeks.s plan true) h i passes.last w' ⊎ Collide r.seeks.s.salt)
+
+-- Parity covers all hash blocks of the tree, and of the data device its data blocks alone, and no covered block of the hash device is
+-- damaged.
+pub record HasWholeTree (s : ShapeRecord) (l : Layout) (f : FormerImage) (w : RepairWorld) : Type 0 where
+  pub covers : (h i : ℕ) → IsPlace s (h + 1) i → (k : ℕ) × IsCoveredAt s l (h + 1) i k
+  pub data_blocks : l.data_blocks ≡ s.blocks
+  pub whole : (n : ℕ) → l.data_blocks ≤ n → IsAsFormed l f w n
+
+-- Where that is so before the run, and of no round more blocks count as lost in its last pass than the code has roots, each data block
+-- is as it was formatted behind the run, or two different inputs have one digest.
+abbrev pub DataUnderWholeTreeComeBack : Type 0
+DataUnderWholeTreeComeBack =
+    (plan : Plan) → IsTrue plan.write → (l : Layout) → (f : FormerImage) → (w w' : RepairWorld) → (p p' : Device) → (r : IsSureRepair plan l f w w' p p') → HasWholeTree (shape_of r.seeks.s) l f w → parity_sectors l ≤ p.size
+    → let lost = r.seeks.ends.passes.pass.sought.lost in ((k : ℕ) → IsAmong lost k → lost_count l lost k ≤ l.roots) → (i : ℕ) → i < l.data_blocks → IsAsFormed l f w' i ⊎ Collide r.seeks.s.salt

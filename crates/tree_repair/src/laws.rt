@@ -2,7 +2,7 @@
 ghost use Rattle.tree_repair.specs.Beyond.{WhatStaysLostIsBeyondParity};
 ghost use Rattle.tree_repair.specs.Laws.{MendedBlocksAreFormatted, MendedBlocksAreGood, NoHashBlockIsLost, OtherSectorsStay};
 ghost use Rattle.tree_repair.specs.Standing.{LeftGoodBlocksAreFormatted, LeftGoodBlocksStand, LeftGoodWaysStand, RepairsWriteAll};
-ghost use Rattle.tree_repair.specs.WithinParity.{FormattedBlocksStay, FormattedImagesAreFormer, LostBlocksWithinParityComeBack, NoBlockStaysLostWithinParity};
+ghost use Rattle.tree_repair.specs.WithinParity.{DataUnderWholeTreeComeBack, FormattedBlocksStay, FormattedImagesAreFormer, LostBlocksWithinParityComeBack, NoBlockStaysLostWithinParity};
 
 use hash_tree::laws::formed_chains_are_good;
 
@@ -86,3 +86,11 @@ pub fn no_block_stays_lost_within_parity()
 pub fn formatted_images_are_former()
     ensures { FormattedImagesAreFormer }
 {}
+
+/// Where no hash block is damaged, and the last pass counts no more blocks of a round as lost than the code has roots, each data block
+/// is as it was formatted behind the run, or two different inputs have one digest.
+pub fn data_under_a_whole_tree_come_back()
+    ensures { DataUnderWholeTreeComeBack }
+{
+    formed_chains_are_good()
+}
