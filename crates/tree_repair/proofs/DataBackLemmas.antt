@@ -63,7 +63,8 @@ module _ (form : FormedChainsAreGood) (j : Job) (valid : IsShape j.tree.shape) (
     hash-kept vs a n runs inside high = runs-kept form j valid f former l fits vs w a runs holds.sure holds.ready n inside (tree.whole n high)
 
     -- so no hash block above a data block is another one than it should be
-    cut-clash : (vs : List Visit) (a : RepairWorld) (h i beside : ℕ) → VisitsAll j vs w a → i < j.tree.shape.blocks → ancestor j.tree.shape (h + 1) beside ≡ ancestor j.tree.shape (h + 1) i → IsCutOff j.tree beside h a.hash_dev → Collide j.tree.salt
+    cut-clash : (vs : List Visit) (a : RepairWorld) (h i beside : ℕ) → VisitsAll j vs w a → i < j.tree.shape.blocks
+        → ancestor j.tree.shape (h + 1) beside ≡ ancestor j.tree.shape (h + 1) i → IsCutOff j.tree beside h a.hash_dev → Collide j.tree.salt
     cut-clash vs a h i beside runs inside same cut =
         let s : ShapeRecord = j.tree.shape in
         let g : ℕ = cut.l in
@@ -117,7 +118,8 @@ module _ (form : FormedChainsAreGood) (j : Job) (valid : IsShape j.tree.shape) (
           ]
         ]
 
-        pub data-formed : parity_sectors l ≤ q.size → ((k : ℕ) → IsAmong pass.sought.lost k → lost_count l pass.sought.lost k ≤ l.roots) → (i : ℕ) → i < l.data_blocks → IsAsFormed l f w' i ⊎ Collide j.tree.salt
+        pub data-formed : parity_sectors l ≤ q.size → ((k : ℕ) → IsAmong pass.sought.lost k → lost_count l pass.sought.lost k ≤ l.roots) → (i : ℕ) → i < l.data_blocks
+            → IsAsFormed l f w' i ⊎ Collide j.tree.salt
         data-formed room few i low =
             let of_tree : i < j.tree.shape.blocks = omega (arith, low, tree.data_blocks) in
             elim (pass-formed form j valid write f former l fits last w' q p' again pass holds-last room few all-known zero i i (data-at j.tree.shape valid l fits i of_tree low)) [

@@ -58,7 +58,8 @@ hangs-link s salt i e (b ∷ path) content hangs (suc d) h count =
     hangs-link s salt i (digest_in b (slot s (ancestor s (length path) i))) path content hangs.2 d h (omega (arith, count))
 
 -- each block has its size
-hangs-long : (s : ShapeRecord) (salt : List ℕ) (i : ℕ) (e : List ℕ) (path : List (List ℕ)) (content : List ℕ) → HangsFrom s salt i e path content → (d h : ℕ) → length path ≡ h + d → length (chain_block_below path content d) ≡ size_at s h
+hangs-long : (s : ShapeRecord) (salt : List ℕ) (i : ℕ) (e : List ℕ) (path : List (List ℕ)) (content : List ℕ) → HangsFrom s salt i e path content → (d h : ℕ) → length path ≡ h + d
+    → length (chain_block_below path content d) ≡ size_at s h
 hangs-long s salt i e [] content hangs d zero count = hangs.0
 hangs-long s salt i e [] content hangs d (suc h) count = absurd (omega (arith, count))
 hangs-long s salt i e (b ∷ path) content hangs zero zero count = absurd (omega (arith, count))
@@ -134,7 +135,8 @@ module _ (t : Tree) (valid : IsShape t.shape) (f : FormerImage) (former : IsForm
       ∙ get_or-map-range_with_len (block_at f.data_image t.shape.data_block) 0 t.shape.blocks i i [] inside (zero-add i))
 
   -- a hash block, by its place in the area
-  former-area : (l a : ℕ) → HasBlock t.shape l a → block_at f.hash_image t.shape.hash_block (position t.shape l a) ≡ get_or (level t.shape.hash_block t.salt (digests_of t.shape t.salt f.data_image) l) a []
+  former-area : (l a : ℕ) → HasBlock t.shape l a
+      → block_at f.hash_image t.shape.hash_block (position t.shape l a) ≡ get_or (level t.shape.hash_block t.salt (digests_of t.shape t.salt f.data_image) l) a []
   unfolding position
   former-area l a has =
       let s = t.shape in
@@ -188,7 +190,8 @@ former_bytes s f zero i = block_at f.data_image s.data_block i
 former_bytes s f (suc l) i = block_at f.hash_image s.hash_block (position s l (ancestor s (l + 1) i))
 
 module _ (form : FormedChainsAreGood) (j : Job) (valid : IsShape j.tree.shape) (f : FormerImage) (former : IsFormerOf j.tree f) where
-  former-formed : (h i : ℕ) → h ≤ levels j.tree.shape → i < j.tree.shape.blocks → former_bytes j.tree.shape f h i ≡ block_of_height j.tree (formed j.tree.shape j.tree.salt (data_blocks_of j.tree valid f former) i) h
+  former-formed : (h i : ℕ) → h ≤ levels j.tree.shape → i < j.tree.shape.blocks
+      → former_bytes j.tree.shape f h i ≡ block_of_height j.tree (formed j.tree.shape j.tree.salt (data_blocks_of j.tree valid f former) i) h
   former-formed zero i high inside = former-data j.tree valid f former i inside
   former-formed (suc l) i high inside = former-hash j.tree valid f former l i (omega (arith, high)) inside
 

@@ -40,7 +40,8 @@ back-run j h beside a b back =
 module _ (form : FormedChainsAreGood) (j : Job) (valid : IsShape j.tree.shape) (write : j.write ≡ true) (f : FormerImage) (former : IsFormerOf j.tree f) (l : Layout) (fits : HasTreeSizes j.tree.shape l) where
   module _ (h i k : ℕ) (at : IsCoveredAt j.tree.shape l h i k) where
     -- a block that came back is as it was
-    back-formed : (beside : ℕ) (a b : RepairWorld) → ancestor j.tree.shape h beside ≡ ancestor j.tree.shape h i → IsBroughtBack j h beside a b → IsSure a → IsReady j.tree.shape a → IsAsFormed l f b k ⊎ Collide j.tree.salt
+    back-formed : (beside : ℕ) (a b : RepairWorld) → ancestor j.tree.shape h beside ≡ ancestor j.tree.shape h i → IsBroughtBack j h beside a b → IsSure a → IsReady j.tree.shape a
+        → IsAsFormed l f b k ⊎ Collide j.tree.salt
     back-formed beside a b same back sure ready =
         let v : Visit = visit h beside mended.Parity back.bytes true in
         let sure_then : IsSure back.between = sure-same a back.between (read-same a back.between back.read) sure in
@@ -49,7 +50,8 @@ module _ (form : FormedChainsAreGood) (j : Job) (valid : IsShape j.tree.shape) (
         beside-formed form j valid f former l fits b h i h beside k at refl same (visit-stands j valid v back.between b back.visited sure_then ready_then write refl tt)
 
     -- so is one that stands there by now
-    by-now-formed : (beside : ℕ) (a b : RepairWorld) → ancestor j.tree.shape h beside ≡ ancestor j.tree.shape h i → IsWorldRead a b → IsGoodBehind j h beside a → IsReady j.tree.shape a → IsAsFormed l f b k ⊎ Collide j.tree.salt
+    by-now-formed : (beside : ℕ) (a b : RepairWorld) → ancestor j.tree.shape h beside ≡ ancestor j.tree.shape h i → IsWorldRead a b → IsGoodBehind j h beside a
+        → IsReady j.tree.shape a → IsAsFormed l f b k ⊎ Collide j.tree.salt
     by-now-formed beside a b same read good ready =
         let between : RepairWorld = good.between in
         let steady = own-steady j.tree.shape h between (ready-same j.tree.shape a between (read-same a between good.read) (read-images j.tree.shape a between good.read ready) ready) in

@@ -56,7 +56,8 @@ recorded-beside s h i m found (b ∷ more) same (inl at) = inl (record { found_i
 recorded-beside s h i m found (b ∷ more) same (inr there) = inr (recorded-beside s h i m found more same there)
 
 -- what is recorded of a visit
-recorded-here : (s : ShapeRecord) (h i : ℕ) (place : Place) (found : Bool) (o : Option Bool) (more : List BadBlock) → o ≡ Some found → place.index < s.blocks → place.height ≡ h → ancestor s h place.index ≡ ancestor s h i
+recorded-here : (s : ShapeRecord) (h i : ℕ) (place : Place) (found : Bool) (o : Option Bool) (more : List BadBlock) → o ≡ Some found → place.index < s.blocks → place.height ≡ h
+    → ancestor s h place.index ≡ ancestor s h i
     → IsRecordedIn s h i found (bad_blocks place o ++ more)
 recorded-here s h i place found o more is inside height same =
     subst (λ (x : Option Bool). IsRecordedIn s h i found (bad_blocks place x ++ more)) (sym is) (inl (record { found_is = refl; inside = inside; height_is = height; same = same }))
@@ -81,7 +82,8 @@ module _ (s : ShapeRecord) (valid : IsShape s) (l : Layout) (laid : IsLayout l) 
 -- ---- a visit of a block
 
 -- had it, or it is recorded as found nowhere
-had-or : (j : Job) (h i : ℕ) (height index : ℕ) (m : Mended) (bytes : List ℕ) (done : Bool) (more : List BadBlock) → index < j.tree.shape.blocks → IsVisitAt j.tree.shape h i (visit height index m bytes done)
+had-or : (j : Job) (h i : ℕ) (height index : ℕ) (m : Mended) (bytes : List ℕ) (done : Bool) (more : List BadBlock) → index < j.tree.shape.blocks
+    → IsVisitAt j.tree.shape h i (visit height index m bytes done)
     → IsHad m ⊎ IsRecordedIn j.tree.shape h i false (bad_of j (visit height index m bytes done) ++ more)
 had-or j h i height index mended.Good bytes done more inside at = inl tt
 had-or j h i height index (mended.Copy k) bytes done more inside at = inl tt
@@ -89,7 +91,8 @@ had-or j h i height index mended.Remade bytes done more inside at = inl tt
 had-or j h i height index mended.Parity bytes done more inside at = inl tt
 had-or j h i height index mended.Lost bytes done more inside at = inr (inl (record { found_is = refl; inside = inside; height_is = at.height_is; same = at.same }))
 
-pub visited-or : (j : Job) (h i : ℕ) (vs : List Visit) (w w' : RepairWorld) → VisitsAll j vs w w' → IsVisitedIn j.tree.shape h i vs → IsHadIn j.tree.shape h i vs ⊎ IsRecordedIn j.tree.shape h i false (flat_map (bad_of j) vs)
+pub visited-or : (j : Job) (h i : ℕ) (vs : List Visit) (w w' : RepairWorld) → VisitsAll j vs w w' → IsVisitedIn j.tree.shape h i vs
+    → IsHadIn j.tree.shape h i vs ⊎ IsRecordedIn j.tree.shape h i false (flat_map (bad_of j) vs)
 visited-or j h i [] w w' runs at = absurd at
 visited-or j h i (v ∷ more) w w' (a, (b, (read, (here, rest)))) (inl at) =
     elim (had-or j h i v.height v.index v.mended v.bytes v.done (flat_map (bad_of j) more) here.inside at) [
@@ -131,14 +134,16 @@ module _ (j : Job) (valid : IsShape j.tree.shape) where
             ∙ ap (digest j.tree.salt) (sym (found.there.stand steady)) ∙ found.there.good;
       }
 
-  found-stands : (h i : ℕ) (m : Mended) (bytes : List ℕ) (done : Bool) (a b : RepairWorld) → IsVisited j (visit h i m bytes done) a b → IsSure a → IsReady j.tree.shape a → IsBlockFound m → IsNotLost m → found_of false m ≡ Some true
+  found-stands : (h i : ℕ) (m : Mended) (bytes : List ℕ) (done : Bool) (a b : RepairWorld) → IsVisited j (visit h i m bytes done) a b → IsSure a → IsReady j.tree.shape a
+      → IsBlockFound m → IsNotLost m → found_of false m ≡ Some true
       → StandsGood j h i b ⊎ IsTold j.write m
   found-stands h i m bytes done a b here sure ready found kept unwritten = elim (cases_Bool j.write) [
     | inl write ↦ inl (visit-stands j valid (visit h i m bytes done) a b here sure ready write (look-done (look_at j here.p h i a b) bytes done m here.mended_as (own-sure h a sure) found) kept)
     | inr not ↦ inr (true, ap (λ (w : Bool). found_of w m) not ∙ unwritten)
   ]
 
-  stands-or : (h i : ℕ) (m : Mended) (bytes : List ℕ) (done : Bool) (a b : RepairWorld) → IsVisited j (visit h i m bytes done) a b → IsSure a → IsReady j.tree.shape a → StandsGood j h i b ⊎ IsTold j.write m
+  stands-or : (h i : ℕ) (m : Mended) (bytes : List ℕ) (done : Bool) (a b : RepairWorld) → IsVisited j (visit h i m bytes done) a b → IsSure a → IsReady j.tree.shape a
+      → StandsGood j h i b ⊎ IsTold j.write m
   stands-or h i mended.Good bytes done a b here sure ready = inl (good-stands h i bytes done a b here ready)
   stands-or h i (mended.Copy k) bytes done a b here sure ready = found-stands h i (mended.Copy k) bytes done a b here sure ready tt tt refl
   stands-or h i mended.Remade bytes done a b here sure ready = found-stands h i mended.Remade bytes done a b here sure ready tt tt refl
@@ -168,7 +173,8 @@ module _ (form : FormedChainsAreGood) (j : Job) (valid : IsShape j.tree.shape) (
         ]
 
     -- by another data block beneath
-    pub beside-formed : (h i g m k : ℕ) → IsCoveredAt j.tree.shape l h i k → g ≡ h → ancestor j.tree.shape h m ≡ ancestor j.tree.shape h i → StandsGood j g m w → IsAsFormed l f w k ⊎ Collide j.tree.salt
+    pub beside-formed : (h i g m k : ℕ) → IsCoveredAt j.tree.shape l h i k → g ≡ h → ancestor j.tree.shape h m ≡ ancestor j.tree.shape h i → StandsGood j g m w
+        → IsAsFormed l f w k ⊎ Collide j.tree.salt
     beside-formed h i g m k at height same stands = stands-formed h i k at (stands-beside j valid h i m w same (subst (λ (n : ℕ). StandsGood j n m w) height stands))
 
   module _ (h i k : ℕ) (at : IsCoveredAt j.tree.shape l h i k) where
@@ -197,7 +203,8 @@ module _ (form : FormedChainsAreGood) (j : Job) (valid : IsShape j.tree.shape) (
         ]
 
     -- and one that was had where blocks may be written is as it was formatted
-    pub had-formed : j.write ≡ true → (vs : List Visit) (w w' : RepairWorld) → VisitsAll j vs w w' → IsSure w → IsReady j.tree.shape w → IsHadIn j.tree.shape h i vs → IsAsFormed l f w' k ⊎ Collide j.tree.salt
+    pub had-formed : j.write ≡ true → (vs : List Visit) (w w' : RepairWorld) → VisitsAll j vs w w' → IsSure w → IsReady j.tree.shape w → IsHadIn j.tree.shape h i vs
+        → IsAsFormed l f w' k ⊎ Collide j.tree.salt
     had-formed write [] w w' runs sure ready there = absurd there
     had-formed write (v ∷ more) w w' (a, (b, (read, (here, rest)))) sure ready there =
         let sure_a : IsSure a = sure-same w a (read-same w a read) sure in

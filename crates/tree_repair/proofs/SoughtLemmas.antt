@@ -27,7 +27,8 @@ sought-run j h i t true back (not, left) = (([], left.image), left.parity)
 sought-run j h i t false back (inl (not, (left, reach))) = (([], left.image), left.parity)
 sought-run j h i t false back (inr behind) = tried-run j h i t back behind
 
-pub all-run : (j : Job) (l : Layout) (lost : List ℕ) (bs : List BadBlock) (w w' : RepairWorld) (p p' : Device) (hash_came : Bool) → AreSought j l lost bs w w' p p' hash_came → (us : List Visit) × VisitsAll j us w w'
+pub all-run : (j : Job) (l : Layout) (lost : List ℕ) (bs : List BadBlock) (w w' : RepairWorld) (p p' : Device) (hash_came : Bool) → AreSought j l lost bs w w' p p' hash_came
+    → (us : List Visit) × VisitsAll j us w w'
 all-run j l lost [] w w' p p' hash_came (same, none) = ([], subst (IsWorldRead w) (sym same) (world-none w))
 all-run j l lost (b ∷ more) w w' p p' hash_came (a, (q, (back, (rest, (is, (here, are)))))) =
     let first = (sought-run j b.place.height b.place.index (trial l lost w a p q) b.found back here).0 in
@@ -53,7 +54,8 @@ pub record IsTriedIn (j : Job) (l : Layout) (lost : List ℕ) (h i : ℕ) (w w' 
   pub back : Bool
   pub sought : IsSoughtAt j h beside (trial l lost a b q q') false back
 
-here-tried : (j : Job) (l : Layout) (lost : List ℕ) (h i : ℕ) (b : BadBlock) (w a w' : RepairWorld) (p q : Device) (back : Bool) (later : List Visit) → IsRecordedAt j.tree.shape h i false b → IsSought j b (trial l lost w a p q) back
+here-tried : (j : Job) (l : Layout) (lost : List ℕ) (h i : ℕ) (b : BadBlock) (w a w' : RepairWorld) (p q : Device) (back : Bool) (later : List Visit)
+    → IsRecordedAt j.tree.shape h i false b → IsSought j b (trial l lost w a p q) back
     → VisitsAll j later a w' → IsTriedIn j l lost h i w w' p
 here-tried j l lost h i b w a w' p q back later at here behind = record {
   beside = b.place.index;
@@ -73,7 +75,8 @@ here-tried j l lost h i b w a w' p q back later at here behind = record {
       (subst (λ (n : ℕ). IsSoughtAt j n b.place.index (trial l lost w a p q) b.found back) at.height_is here);
 }
 
-later-tried : (j : Job) (l : Layout) (lost : List ℕ) (h i : ℕ) (vs : List Visit) (w a w' : RepairWorld) (p q : Device) → VisitsAll j vs w a → IsOnlyRead p q → IsTriedIn j l lost h i a w' q → IsTriedIn j l lost h i w w' p
+later-tried : (j : Job) (l : Layout) (lost : List ℕ) (h i : ℕ) (vs : List Visit) (w a w' : RepairWorld) (p q : Device) → VisitsAll j vs w a → IsOnlyRead p q
+    → IsTriedIn j l lost h i a w' q → IsTriedIn j l lost h i w w' p
 later-tried j l lost h i vs w a w' p q before read x = record {
   beside = x.beside;
   inside = x.inside;
@@ -91,7 +94,8 @@ later-tried j l lost h i vs w a w' p q before read x = record {
   sought = x.sought;
 }
 
-pub recorded-tried : (j : Job) (l : Layout) (lost : List ℕ) (h i : ℕ) (bs : List BadBlock) (w w' : RepairWorld) (p p' : Device) (hash_came : Bool) → AreSought j l lost bs w w' p p' hash_came → IsRecordedIn j.tree.shape h i false bs
+pub recorded-tried : (j : Job) (l : Layout) (lost : List ℕ) (h i : ℕ) (bs : List BadBlock) (w w' : RepairWorld) (p p' : Device) (hash_came : Bool)
+    → AreSought j l lost bs w w' p p' hash_came → IsRecordedIn j.tree.shape h i false bs
     → IsTriedIn j l lost h i w w' p
 recorded-tried j l lost h i [] w w' p p' hash_came are at = absurd at
 recorded-tried j l lost h i (b ∷ more) w w' p p' hash_came (a, (q, (back, (rest, (is, (here, are)))))) (inl at) =

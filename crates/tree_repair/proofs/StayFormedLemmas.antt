@@ -213,20 +213,23 @@ module _ (form : FormedChainsAreGood) (j : Job) (valid : IsShape j.tree.shape) (
       | inr high ↦ hash-kept n high inside was
     ]
 
-  written-kept : (h i : ℕ) (m : Mended) (bytes : List ℕ) (done : Bool) (a b : RepairWorld) → IsVisited j (visit h i m bytes done) a b → IsReady j.tree.shape a → StandsGood j h i b → (n : ℕ) → n < covered_blocks l
+  written-kept : (h i : ℕ) (m : Mended) (bytes : List ℕ) (done : Bool) (a b : RepairWorld) → IsVisited j (visit h i m bytes done) a b → IsReady j.tree.shape a → StandsGood j h i b
+      → (n : ℕ) → n < covered_blocks l
       → now a n ≡ formerly n → (now b n ≡ formerly n) ⊎ Collide j.tree.salt
   written-kept zero i m bytes done a b here ready stands = data-visit-kept i m bytes done a b here ready stands
   written-kept (suc g) i m bytes done a b here ready stands = hash-visit-kept g i m bytes done a b here ready stands
 
   -- ---- one visit, and many
 
-  visit-kept : (v : Visit) (a b : RepairWorld) → IsVisited j v a b → IsSure a → IsReady j.tree.shape a → (n : ℕ) → n < covered_blocks l → now a n ≡ formerly n → (now b n ≡ formerly n) ⊎ Collide j.tree.salt
+  visit-kept : (v : Visit) (a b : RepairWorld) → IsVisited j v a b → IsSure a → IsReady j.tree.shape a → (n : ℕ) → n < covered_blocks l → now a n ≡ formerly n
+      → (now b n ≡ formerly n) ⊎ Collide j.tree.salt
   visit-kept v a b here sure ready n inside was = elim (visit-sure j valid v a b here sure ready) [
     | inl same ↦ inl (covered-same l a b n same ∙ was)
     | inr wrote ↦ written-kept v.height v.index v.mended v.bytes v.done a b here ready (visit-stands j valid v a b here sure ready wrote.0 wrote.1.0 wrote.1.1) n inside was
   ]
 
-  pub runs-kept : (vs : List Visit) (a b : RepairWorld) → VisitsAll j vs a b → IsSure a → IsReady j.tree.shape a → (n : ℕ) → n < covered_blocks l → now a n ≡ formerly n → (now b n ≡ formerly n) ⊎ Collide j.tree.salt
+  pub runs-kept : (vs : List Visit) (a b : RepairWorld) → VisitsAll j vs a b → IsSure a → IsReady j.tree.shape a → (n : ℕ) → n < covered_blocks l → now a n ≡ formerly n
+      → (now b n ≡ formerly n) ⊎ Collide j.tree.salt
   runs-kept [] a b read sure ready n inside was = inl (covered-same l a b n (read-images j.tree.shape a b read ready) ∙ was)
   runs-kept (v ∷ more) a b (x, (y, (read, (here, rest)))) sure ready n inside was =
       let same : HaveSameImages a x = read-images j.tree.shape a x read ready in

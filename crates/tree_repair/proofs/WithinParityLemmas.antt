@@ -44,7 +44,8 @@ pub record HoldsParity (s : ShapeRecord) (l : Layout) (f : FormerImage) (w : Rep
   pub kept : IsParityKept l f p
   pub parity_sure : IsTrue p.never_fails
 
-pub holds-later : (j : Job) → IsShape j.tree.shape → (l : Layout) (f : FormerImage) (vs : List Visit) (a b : RepairWorld) (p q : Device) → VisitsAll j vs a b → IsOnlyRead p q → HoldsParity j.tree.shape l f a p → HoldsParity j.tree.shape l f b q
+pub holds-later : (j : Job) → IsShape j.tree.shape → (l : Layout) (f : FormerImage) (vs : List Visit) (a b : RepairWorld) (p q : Device) → VisitsAll j vs a b → IsOnlyRead p q
+    → HoldsParity j.tree.shape l f a p → HoldsParity j.tree.shape l f b q
 holds-later j valid l f vs a b p q runs read holds = record {
   sure = sure-same a b (runs-same j vs a b runs) holds.sure;
   ready = runs-ready-sure j valid vs a b runs holds.sure holds.ready;
@@ -72,7 +73,8 @@ module _ (form : FormedChainsAreGood) (j : Job) (valid : IsShape j.tree.shape) (
   size-is (suc g) = fits.hash_size
 
   -- other bytes than the lost block's are made only where a damaged block isn't known, or two inputs have one digest
-  other-unknown : (t : Trial) (p : PathRecord) (h i k : ℕ) → HoldsParity j.tree.shape t.layout f t.w t.parity_dev → IsCoveredAt j.tree.shape t.layout h i k → IsWay j.tree i h p → IsMadeOther j.tree.salt (digest_on p i h) t k
+  other-unknown : (t : Trial) (p : PathRecord) (h i k : ℕ) → HoldsParity j.tree.shape t.layout f t.w t.parity_dev → IsCoveredAt j.tree.shape t.layout h i k → IsWay j.tree i h p
+      → IsMadeOther j.tree.salt (digest_on p i h) t k
       → IsUnknownBeside f t k ⊎ Collide j.tree.salt
   other-unknown t p h i k holds at way made =
       elim (all-or f t k (covered_blocks t.layout)) [
@@ -178,7 +180,8 @@ module _ (form : FormedChainsAreGood) (j : Job) (valid : IsShape j.tree.shape) (
           past = inr (inr (record { n = u.n; beside = u.beside; unknown = u.unknown; damaged = u.damaged; unreached = unreached (x.earlier ++ []) a u.n runs-to u.unknown u.damaged }));
         }
 
-        vain-past : (way_path : PathRecord) → IsWay j.tree x.beside h way_path → IsVain j way_path h x.beside tr → (IsOffPlace j.tree.shape l h x.beside ⊎ IsRoundPast j f st tr h x.beside) ⊎ Collide j.tree.salt
+        vain-past : (way_path : PathRecord) → IsWay j.tree x.beside h way_path → IsVain j way_path h x.beside tr
+            → (IsOffPlace j.tree.shape l h x.beside ⊎ IsRoundPast j f st tr h x.beside) ⊎ Collide j.tree.salt
         vain-past way_path way (inl (inl size)) = absurd (size (size-is h))
         vain-past way_path way (inl (inr off)) = inl (inl off)
         vain-past way_path way (inr (k, (at, inl unmade))) = inl (inr (unmade-past k at unmade))

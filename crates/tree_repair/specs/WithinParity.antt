@@ -143,7 +143,8 @@ pub record IsSureRepair (plan : Plan) (l : Layout) (f : FormerImage) (w w' : Rep
 -- didn't come; or two different inputs have one digest.
 abbrev pub LostBlocksWithinParityComeBack : Type 0
 LostBlocksWithinParityComeBack =
-    (plan : Plan) → (l : Layout) → (f : FormerImage) → (w w' : RepairWorld) → (p p' : Device) → (r : IsSureRepair plan l f w w' p p') → (h i : ℕ) → h ≤ levels (shape_of r.seeks.s) → i < (shape_of r.seeks.s).blocks
+    (plan : Plan) → (l : Layout) → (f : FormerImage) → (w w' : RepairWorld) → (p p' : Device) → (r : IsSureRepair plan l f w w' p p') → (h i : ℕ) → h ≤ levels (shape_of r.seeks.s)
+    → i < (shape_of r.seeks.s).blocks
     → let passes = r.seeks.ends.passes in
     IsSettledWithin (job_of r.seeks.s plan true) l passes.pass.sought.lost passes.pass.visits f (stage passes.last passes.pass.behind w') passes.last_parity h i ⊎ Collide r.seeks.s.salt
 
@@ -173,5 +174,6 @@ pub record HasWholeTree (s : ShapeRecord) (l : Layout) (f : FormerImage) (w : Re
 -- is as it was formatted behind the run, or two different inputs have one digest.
 abbrev pub DataUnderWholeTreeComeBack : Type 0
 DataUnderWholeTreeComeBack =
-    (plan : Plan) → IsTrue plan.write → (l : Layout) → (f : FormerImage) → (w w' : RepairWorld) → (p p' : Device) → (r : IsSureRepair plan l f w w' p p') → HasWholeTree (shape_of r.seeks.s) l f w → parity_sectors l ≤ p.size
+    (plan : Plan) → IsTrue plan.write → (l : Layout) → (f : FormerImage) → (w w' : RepairWorld) → (p p' : Device) → (r : IsSureRepair plan l f w w' p p')
+    → HasWholeTree (shape_of r.seeks.s) l f w → parity_sectors l ≤ p.size
     → let lost = r.seeks.ends.passes.pass.sought.lost in ((k : ℕ) → IsAmong lost k → lost_count l lost k ≤ l.roots) → (i : ℕ) → i < l.data_blocks → IsAsFormed l f w' i ⊎ Collide r.seeks.s.salt
