@@ -139,8 +139,8 @@ pub record IsSureRepair (plan : Plan) (l : Layout) (f : FormerImage) (w w' : Rep
   pub parity : IsParityKept l f p
 
 -- In it each block of the tree was good or found when the last pass came to it, or came back by parity, or a hash block above it isn't
--- good, or parity doesn't cover it, or its round has more lost blocks than the code has roots, or a damaged one to which the pass
--- didn't come; or two different inputs have one digest.
+-- good, or parity doesn't cover it, or there is too little parity, or its round has more lost blocks than the code has roots, or a
+-- damaged one to which the pass didn't come; or two different inputs have one digest.
 abbrev pub LostBlocksWithinParityComeBack : Type 0
 LostBlocksWithinParityComeBack =
     (plan : Plan) → (l : Layout) → (f : FormerImage) → (w w' : RepairWorld) → (p p' : Device) → (r : IsSureRepair plan l f w w' p p') → (h i : ℕ) → h ≤ levels (shape_of r.seeks.s)

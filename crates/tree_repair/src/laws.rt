@@ -59,8 +59,9 @@ pub fn what_stays_lost_is_beyond_parity()
 {}
 
 /// With the parity of the formatted image, on steady devices that never fail, each block of the tree was good or found when the last
-/// pass came to it, or came back by parity, or a hash block above it isn't good, or parity doesn't cover it, or of its round more
-/// blocks are lost than the code has roots, or one is damaged that the pass doesn't know; or two different inputs have one digest.
+/// pass came to it, or came back by parity, or a hash block above it isn't good, or parity doesn't cover it, or there is too little of
+/// it, or of its round more blocks are lost than the code has roots, or one is damaged to which the pass didn't come; or two different
+/// inputs have one digest.
 pub fn lost_blocks_within_parity_come_back()
     ensures { LostBlocksWithinParityComeBack }
 {
