@@ -21,3 +21,4 @@ pub mod Passes
 pub mod Standing
 pub mod Outcomes
 pub mod Beyond
+pub mod WithinParity

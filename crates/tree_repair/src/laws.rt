@@ -3,6 +3,7 @@ ghost use Rattle.tree_repair.specs.Beyond.{WhatStaysLostIsBeyondParity};
 ghost use Rattle.tree_repair.specs.Excuses.{BlocksArePassedByForCause, BlocksAreTouchedForCause, GoodBlocksAreLeftAlone, IntactBlocksAreLeftAlone, UnreadBlocksAreCounted};
 ghost use Rattle.tree_repair.specs.Laws.{MendedBlocksAreFormatted, MendedBlocksAreGood, NoHashBlockIsLost, OtherSectorsStay};
 ghost use Rattle.tree_repair.specs.Standing.{LeftGoodBlocksAreFormatted, LeftGoodBlocksStand, LeftGoodWaysStand, RepairsWriteAll};
+ghost use Rattle.tree_repair.specs.WithinParity.{DataUnderWholeTreeComeBack, FormattedBlocksStay, FormattedImagesAreFormer, LostBlocksWithinParityComeBack, NoBlockStaysLostWithinParity};
 
 use hash_tree::laws::formed_chains_are_good;
 
@@ -86,3 +87,41 @@ pub fn left_good_ways_stand()
 pub fn what_stays_lost_is_beyond_parity()
     ensures { WhatStaysLostIsBeyondParity }
 {}
+
+/// With the parity of the formatted image, on steady devices that never fail, each block of the tree was good or found when the last
+/// pass came to it, or came back by parity, or a hash block above it isn't good, or parity doesn't cover it, or there is too little of
+/// it, or of its round more blocks are lost than the code has roots, or one is damaged to which the pass didn't come; or two different
+/// inputs have one digest.
+pub fn lost_blocks_within_parity_come_back()
+    ensures { LostBlocksWithinParityComeBack }
+{
+    formed_chains_are_good()
+}
+
+/// A covered block that is as it was formatted stays so in a run, or two different inputs have one digest.
+pub fn formatted_blocks_stay()
+    ensures { FormattedBlocksStay }
+{
+    formed_chains_are_good()
+}
+
+/// Where the last pass knows each block that is damaged then, and of no round more than the code has roots, each covered block of the
+/// tree is as it was formatted behind the run, or a hash block above it isn't good, or two different inputs have one digest.
+pub fn no_block_stays_lost_within_parity()
+    ensures { NoBlockStaysLostWithinParity }
+{
+    formed_chains_are_good()
+}
+
+/// Formatting leaves an image as these laws suppose it.
+pub fn formatted_images_are_former()
+    ensures { FormattedImagesAreFormer }
+{}
+
+/// Where no hash block is damaged, and the last pass counts no more blocks of a round as lost than the code has roots, each data block
+/// is as it was formatted behind the run, or two different inputs have one digest.
+pub fn data_under_a_whole_tree_come_back()
+    ensures { DataUnderWholeTreeComeBack }
+{
+    formed_chains_are_good()
+}

@@ -1,0 +1,149 @@
+-- Where the last pass knows each damaged block, and not too many of a round, none stays lost.
+use Rattle.std.proofs.Common.{◌≡◌, ◌≤◌, ◌<◌, ℕ, Bool, true, List, [], ◌∷◌, refl, sym, ap, ◌∙◌, arith, inl, inr, ◌⊎◌}
+use Rattle.std.specs.List.{flat_map}
+use Rattle.block_device.specs.Device.{Device}
+use Rattle.fec_area.specs.declared.layout.Layout.{Layout}
+use Rattle.fec_area.specs.Layouts.{covered, covered_blocks, parity_sectors}
+use Rattle.fec_area.specs.Restoring.{IsAmong, lost_count}
+use Rattle.hash_tree.specs.Laws.{FormedChainsAreGood}
+use Rattle.tree_shape.specs.Digests.{digest}
+use Rattle.tree_shape.specs.Shape.{IsShape, ancestor}
+use Rattle.tree_path.specs.Laws.{Collide}
+use Rattle.tree_path.proofs.lemmas.ChainLemmas.{same-or}
+use Rattle.tree_path.proofs.lemmas.DeviceLemmas.{only_read-none}
+use Rattle.verity_format.specs.Blocks.{IsOnlyRead}
+use Rattle.tree_repair.specs.declared.mending.Mended.TheVariants as mended
+use Rattle.tree_repair.specs.Beyond.{IsUnderBad}
+use Rattle.tree_repair.specs.Parity.{IsCoveredAt, IsGoodNow}
+use Rattle.tree_repair.specs.Passes.{IsPass, bad_of}
+use Rattle.tree_repair.specs.Repairs.{job_of}
+use Rattle.tree_repair.specs.Runs.{Job, Visit, VisitsAll, visit}
+use Rattle.tree_repair.specs.Standing.{StandsGood}
+use Rattle.tree_repair.specs.Tries.{IsBroughtBack, IsGoodBehind, trial}
+use Rattle.tree_repair.specs.WithinParity.{FormerImage, HasTreeSizes, IsAsFormed, IsDamaged, IsFormerOf, IsHiddenBeside, IsPastParity, IsSoughtWithin, NoBlockStaysLostWithinParity, Stage, stage}
+use Rattle.tree_repair.specs.Worlds.{IsWorldRead, RepairWorld}
+use Rattle.tree_repair.proofs.NumberLemmas.{off-not}
+use Rattle.tree_repair.proofs.RecordedLemmas.{beside-formed, formed-on, had-formed}
+use Rattle.tree_repair.proofs.RunLemmas.{read-same, runs-one, runs-read, runs-same}
+use Rattle.tree_repair.proofs.SoughtLemmas.{all-run}
+use Rattle.tree_repair.proofs.StandLemmas.{IsReady}
+use Rattle.tree_repair.proofs.StayFormedLemmas.{IsSure, covered-same, own-steady, read-images, ready-same, runs-kept, runs-ready-sure, sure-same, visit-stands}
+use Rattle.tree_repair.proofs.UnknownLemmas.{beside-inside}
+use Rattle.tree_repair.proofs.WithinParityLemmas.{HoldsParity, holds-first, holds-later, settled-within}
+
+-- the visit of a block that came back
+back-run : (j : Job) (h beside : ℕ) (a b : RepairWorld) → IsBroughtBack j h beside a b → (us : List Visit) × VisitsAll j us a b
+back-run j h beside a b back =
+    let v : Visit = visit h beside mended.Parity back.bytes true in
+    (v ∷ [], runs-read j (v ∷ []) a back.between b back.read (runs-one j v back.between b back.visited))
+
+module _ (form : FormedChainsAreGood) (j : Job) (valid : IsShape j.tree.shape) (write : j.write ≡ true) (f : FormerImage) (former : IsFormerOf j.tree f) (l : Layout) (fits : HasTreeSizes j.tree.shape l) where
+  module _ (h i k : ℕ) (at : IsCoveredAt j.tree.shape l h i k) where
+    -- a block that came back is as it was
+    back-formed : (beside : ℕ) (a b : RepairWorld) → ancestor j.tree.shape h beside ≡ ancestor j.tree.shape h i → IsBroughtBack j h beside a b → IsSure a → IsReady j.tree.shape a
+        → IsAsFormed l f b k ⊎ Collide j.tree.salt
+    back-formed beside a b same back sure ready =
+        let v : Visit = visit h beside mended.Parity back.bytes true in
+        let sure_then : IsSure back.between = sure-same a back.between (read-same a back.between back.read) sure in
+        let ready_then : IsReady j.tree.shape back.between =
+        ready-same j.tree.shape a back.between (read-same a back.between back.read) (read-images j.tree.shape a back.between back.read ready) ready in
+        beside-formed form j valid f former l fits b h i h beside k at refl same (visit-stands j valid v back.between b back.visited sure_then ready_then write refl tt)
+
+    -- so is one that stands there by now
+    by-now-formed : (beside : ℕ) (a b : RepairWorld) → ancestor j.tree.shape h beside ≡ ancestor j.tree.shape h i → IsWorldRead a b → IsGoodBehind j h beside a
+        → IsReady j.tree.shape a → IsAsFormed l f b k ⊎ Collide j.tree.salt
+    by-now-formed beside a b same read good ready =
+        let between : RepairWorld = good.between in
+        let steady = own-steady j.tree.shape h between (ready-same j.tree.shape a between (read-same a between good.read) (read-images j.tree.shape a between good.read ready) ready) in
+        let now : IsGoodNow j h beside between = good.good in
+        let stands : StandsGood j h beside between = record { p = now.p; way = now.way; good = ap (digest j.tree.salt) (sym (now.there.stand steady)) ∙ now.there.good } in
+        elim (beside-formed form j valid f former l fits between h i h beside k at refl same stands) [
+          | inr clash ↦ inr clash
+          | inl is ↦ inl (
+              covered-same l a b k (read-images j.tree.shape a b read ready)
+              ∙ sym (covered-same l a between k (read-images j.tree.shape a between good.read ready)) ∙ is)
+        ]
+
+  module _ (w w' : RepairWorld) (p p' : Device) (again : Bool) (pass : IsPass j l w w' p p' again) (holds : HoldsParity j.tree.shape l f w p) (room : parity_sectors l ≤ p.size)
+      (few : (k : ℕ) → IsAmong pass.sought.lost k → lost_count l pass.sought.lost k ≤ l.roots) (known : (n : ℕ) → n < covered_blocks l → IsDamaged l f pass.behind n → IsAmong pass.sought.lost n ⊎ Collide j.tree.salt) where
+    abbrev st : Stage
+    st = stage w pass.behind w'
+
+    holds-behind : HoldsParity j.tree.shape l f pass.behind p
+    holds-behind = holds-later j valid l f pass.visits w pass.behind p p pass.runs (only_read-none p) holds
+
+    -- a damaged block that isn't known was damaged already when parity was asked for the first block
+    none-hidden : (vs : List Visit) (a b : RepairWorld) (q q' : Device) (n : ℕ) → VisitsAll j vs pass.behind a → IsHiddenBeside j f st (trial l pass.sought.lost a b q q') n → Collide j.tree.salt
+    none-hidden vs a b q q' n runs hidden =
+        let inside : hidden.n < covered_blocks l = beside-inside l n hidden.n hidden.beside in
+        elim (same-or (covered l pass.behind.data_dev.image pass.behind.hash_dev.image hidden.n) (covered l f.data_image f.hash_image hidden.n)) [
+          | inr other ↦ elim (known hidden.n inside other) [
+            | inl there ↦ absurd (hidden.unknown there)
+            | inr clash ↦ clash
+          ]
+          | inl same ↦ elim (runs-kept form j valid f former l fits vs pass.behind a runs holds-behind.sure holds-behind.ready hidden.n inside same) [
+            | inl now ↦ absurd (hidden.damaged now)
+            | inr clash ↦ clash
+          ]
+        ]
+
+    module _ (h i k : ℕ) (at : IsCoveredAt j.tree.shape l h i k) where
+      to-end : (vs : List Visit) (a : RepairWorld) → VisitsAll j vs a w' → IsSure a → IsReady j.tree.shape a → IsAsFormed l f a k ⊎ Collide j.tree.salt → IsAsFormed l f w' k ⊎ Collide j.tree.salt
+      to-end vs a runs sure ready is = formed-on form j valid f former l fits h i k at vs a w' runs sure ready is
+
+      -- parity has it
+      none-past : (vs : List Visit) (m : ℕ) (a b : RepairWorld) (q q' : Device) → ancestor j.tree.shape h m ≡ ancestor j.tree.shape h i → IsOnlyRead p q → VisitsAll j vs pass.behind a
+          → IsPastParity j f st (trial l pass.sought.lost a b q q') h m → Collide j.tree.salt
+      none-past vs m a b q q' same read runs past = elim past.vain [
+        | inl off ↦ absurd (off-not j.tree.shape valid l holds.kept.layout h i m k same at off)
+        | inr round ↦ elim round.past [
+          | inl many ↦ absurd (omega (arith, many, few round.k round.known))
+          | inr rest ↦ elim rest [
+            | inl short ↦ absurd (omega (arith, short, room, read.same.size))
+            | inr hidden ↦ none-hidden vs a b q q' round.k runs hidden
+          ]
+        ]
+      ]
+
+      sought-formed : IsSoughtWithin j l pass.sought.lost f st p h i → IsAsFormed l f w' k ⊎ Collide j.tree.salt
+      sought-formed x =
+          let holds_a : HoldsParity j.tree.shape l f x.a x.q = holds-later j valid l f x.part.earlier pass.behind x.a p x.q x.part.before x.parity_read holds-behind in
+          elim x.outcome [
+            | inl back ↦
+                let run = back-run j h x.beside x.a x.b back in
+                to-end x.part.later x.b x.part.behind (sure-same x.a x.b (runs-same j run.0 x.a x.b run.1) holds_a.sure) (runs-ready-sure j valid run.0 x.a x.b run.1 holds_a.sure holds_a.ready)
+                (back-formed h i k at x.beside x.a x.b x.same back holds_a.sure holds_a.ready)
+            | inr rest ↦ elim rest [
+              | inl by_now ↦
+                  to-end x.part.later x.b x.part.behind (sure-same x.a x.b (read-same x.a x.b by_now.0) holds_a.sure)
+                  (ready-same j.tree.shape x.a x.b (read-same x.a x.b by_now.0) (read-images j.tree.shape x.a x.b by_now.0 holds_a.ready) holds_a.ready)
+                  (by-now-formed h i k at x.beside x.a x.b x.same by_now.0 by_now.1 holds_a.ready)
+              | inr past ↦ inr (none-past x.part.earlier x.beside x.a x.b x.q x.q' x.same x.parity_read x.part.before past)
+            ]
+          ]
+
+      pub pass-formed : IsAsFormed l f w' k ⊎ (IsUnderBad j h i w w' ⊎ Collide j.tree.salt)
+      pass-formed = elim (settled-within form j valid f former l fits w w' p p' again pass holds h i at.place.high at.place.inside) [
+        | inr clash ↦ inr (inr clash)
+        | inl settled ↦ elim settled [
+          | inl had ↦
+              let us = all-run j l pass.sought.lost (flat_map (bad_of j) pass.visits) pass.behind w' p p' pass.hash_came pass.sought.sought in
+              ending (to-end us.0 pass.behind us.1 holds-behind.sure holds-behind.ready (had-formed form j valid f former l fits h i k at write pass.visits w pass.behind pass.runs holds.sure holds.ready had))
+          | inr rest ↦ elim rest [
+            | inl under ↦ inr (inl under)
+            | inr sought ↦ ending (sought-formed sought)
+          ]
+        ]
+      ]
+        where
+          ending : IsAsFormed l f w' k ⊎ Collide j.tree.salt → IsAsFormed l f w' k ⊎ (IsUnderBad j h i w w' ⊎ Collide j.tree.salt)
+          ending (inl is) = inl is
+          ending (inr clash) = inr (inr clash)
+
+pub none-stays : FormedChainsAreGood → NoBlockStaysLostWithinParity
+none-stays form plan write l f w w' p p' r enough h i k at =
+    let j : Job = job_of r.seeks.s plan true in
+    let passes = r.seeks.ends.passes in
+    pass-formed form j r.seeks.valid write f r.former l r.sizes passes.last w' passes.last_parity p' r.seeks.ends.again passes.pass
+    (holds-later j r.seeks.valid l f passes.earlier w passes.last p passes.last_parity passes.before passes.parity_read (holds-first plan l f w w' p p' r))
+    (omega (arith, enough.room, passes.parity_read.same.size)) enough.few (λ n inside damaged. inl (enough.known n inside damaged)) h i k at

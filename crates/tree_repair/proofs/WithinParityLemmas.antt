@@ -1,0 +1,242 @@
+-- What is lost behind the last pass is past what parity can bring back.
+use Rattle.std.proofs.Common.{◌≡◌, ◌≤◌, ◌<◌, ◌+◌, ℕ, zero, suc, true, false, Bool, IsTrue, List, [], ◌++◌, sym, ap, ◌∙◌, subst, arith, inl, inr, ◌⊎◌}
+use Rattle.std.specs.List.{flat_map}
+use Rattle.block_device.specs.Device.{Device}
+use Rattle.fec_area.specs.declared.layout.Layout.{Layout}
+use Rattle.fec_area.specs.declared.restoring.RestoreFault.TheVariants.{TooManyLost, TooSmall, Device as DeviceFailed, NoMemory}
+use Rattle.fec_area.specs.Layouts.{IsProtected, covered, covered_blocks}
+use Rattle.fec_area.specs.Restoring.{IsAmong, round_of}
+use Rattle.fec_area.proofs.RestoringLemmas.{round-below}
+use Rattle.hash_tree.specs.Laws.{FormedChainsAreGood}
+use Rattle.tree_shape.specs.Digests.{digest}
+use Rattle.tree_shape.specs.Shape.{ShapeRecord, IsShape, levels}
+use Rattle.tree_path.specs.Laws.{Collide}
+use Rattle.tree_path.specs.Path.{PathRecord, digest_on}
+use Rattle.tree_path.proofs.lemmas.DeviceLemmas.{only_read-none, steady-then}
+use Rattle.tree_survey.specs.Surveys.{IsWay}
+use Rattle.verity_format.specs.Blocks.{IsOnlyRead}
+use Rattle.verity_format.specs.Superblock.{shape_of}
+use Rattle.tree_repair.specs.declared.bad.BadBlock.{BadBlock}
+use Rattle.tree_repair.specs.declared.repair.Plan.{Plan}
+use Rattle.tree_repair.specs.Beyond.{IsUnderBad}
+use Rattle.tree_repair.specs.Coverage.{IsPassedBy}
+use Rattle.tree_repair.specs.Parity.{IsCoveredAt}
+use Rattle.tree_repair.specs.Passes.{IsPass, bad_of}
+use Rattle.tree_repair.specs.Repairs.{job_of}
+use Rattle.tree_repair.specs.Runs.{Job, Visit, VisitsAll, size_at}
+use Rattle.tree_repair.specs.Tries.{IsBlockUnmade, IsCutOff, IsMadeOther, IsOffPlace, IsSoughtAt, IsTriedBehind, IsVain, Trial, trial}
+use Rattle.tree_repair.specs.WithinParity.{FormerImage, HasTreeSizes, IsDamaged, IsFormerOf, IsOutcomeOf, IsParityKept, IsRoundPast, IsSettledWithin, IsSoughtWithin, IsSureRepair, IsUnreached, LostBlocksWithinParityComeBack, Stage, stage}
+use Rattle.tree_repair.specs.Worlds.{IsWorldRead, RepairWorld}
+use Rattle.tree_repair.proofs.ApartLemmas.{above-same}
+use Rattle.tree_repair.proofs.FormerLemmas.{former-digest, former-whole}
+use Rattle.tree_repair.proofs.RecordedLemmas.{IsRecordedIn, formed-on, recorded-beside, recorded-known, visited-formed, visited-or}
+use Rattle.tree_repair.proofs.RunLemmas.{runs-same, runs-then}
+use Rattle.tree_repair.proofs.SoughtLemmas.{IsTriedIn, all-run, recorded-tried}
+use Rattle.tree_repair.proofs.StandLemmas.{IsReady, image-ready}
+use Rattle.tree_repair.proofs.StayFormedLemmas.{IsSure, runs-ready-sure, sure-same}
+use Rattle.tree_repair.proofs.UnknownLemmas.{IsUnknownBeside, all-or, beside-inside}
+
+-- ---- what the devices are at each moment of a run
+
+pub record HoldsParity (s : ShapeRecord) (l : Layout) (f : FormerImage) (w : RepairWorld) (p : Device) : Type 0 where
+  pub sure : IsSure w
+  pub ready : IsReady s w
+  pub kept : IsParityKept l f p
+  pub parity_sure : IsTrue p.never_fails
+
+pub holds-later : (j : Job) → IsShape j.tree.shape → (l : Layout) (f : FormerImage) (vs : List Visit) (a b : RepairWorld) (p q : Device) → VisitsAll j vs a b → IsOnlyRead p q
+    → HoldsParity j.tree.shape l f a p → HoldsParity j.tree.shape l f b q
+holds-later j valid l f vs a b p q runs read holds = record {
+  sure = sure-same a b (runs-same j vs a b runs) holds.sure;
+  ready = runs-ready-sure j valid vs a b runs holds.sure holds.ready;
+  kept = record {
+    layout = holds.kept.layout;
+    steady = steady-then read.same holds.kept.steady;
+    stands = subst (IsProtected l f.data_image f.hash_image) (sym (read.image holds.kept.steady)) holds.kept.stands;
+  };
+  parity_sure = read.same.never_fails holds.parity_sure;
+}
+
+pub holds-first : (plan : Plan) (l : Layout) (f : FormerImage) (w w' : RepairWorld) (p p' : Device) (r : IsSureRepair plan l f w w' p p') → HoldsParity (shape_of r.seeks.s) l f w p
+holds-first plan l f w w' p p' r = record {
+  sure = record { data_sure = r.sure.0; hash_sure = r.sure.1 };
+  ready = image-ready (shape_of r.seeks.s) w (record { valid = r.seeks.valid; steady = r.steady; data_fits = r.seeks.images.data_fits; tree_fits = r.seeks.images.tree_fits });
+  kept = r.parity;
+  parity_sure = r.sure.2;
+}
+
+-- ---- a pass
+
+module _ (form : FormedChainsAreGood) (j : Job) (valid : IsShape j.tree.shape) (f : FormerImage) (former : IsFormerOf j.tree f) (l : Layout) (fits : HasTreeSizes j.tree.shape l) where
+  size-is : (h : ℕ) → l.block ≡ size_at j.tree.shape h
+  size-is zero = fits.data_size
+  size-is (suc g) = fits.hash_size
+
+  -- other bytes than the lost block's are made only where a damaged block isn't known, or two inputs have one digest
+  other-unknown : (t : Trial) (p : PathRecord) (h i k : ℕ) → HoldsParity j.tree.shape t.layout f t.w t.parity_dev → IsCoveredAt j.tree.shape t.layout h i k → IsWay j.tree i h p
+      → IsMadeOther j.tree.salt (digest_on p i h) t k
+      → IsUnknownBeside f t k ⊎ Collide j.tree.salt
+  other-unknown t p h i k holds at way made =
+      elim (all-or f t k (covered_blocks t.layout)) [
+        | inr unknown ↦ inl unknown
+        | inl same ↦
+            let bytes_are : made.bytes ≡ covered t.layout f.data_image f.hash_image k =
+            made.made holds.ready.data_ready.steady holds.ready.hash_ready.steady holds.kept.steady f.data_image f.hash_image (record {
+              whole = former-whole j.tree valid f former form t.layout h i k at;
+              stands = holds.kept.stands (round_of t.layout k) (round-below t.layout k holds.kept.layout at.inside);
+              same = λ n beside unknown. same n (beside-inside t.layout k n beside) beside unknown;
+            }) in
+            elim (former-digest j.tree valid f former form t.layout h i k at p way) [
+              | inr clash ↦ inr clash
+              | inl good ↦ absurd (made.other (ap (digest j.tree.salt) bytes_are ∙ good))
+            ]
+      ]
+
+  module _ (w w' : RepairWorld) (p p' : Device) (again : Bool) (pass : IsPass j l w w' p p' again) (holds : HoldsParity j.tree.shape l f w p) where
+    abbrev recorded : List BadBlock
+    recorded = flat_map (bad_of j) pass.visits
+
+    abbrev lost : List ℕ
+    lost = pass.sought.lost
+
+    abbrev st : Stage
+    st = stage w pass.behind w'
+
+    holds-behind : HoldsParity j.tree.shape l f pass.behind p
+    holds-behind = holds-later j valid l f pass.visits w pass.behind p p pass.runs (only_read-none p) holds
+
+    -- a hash block above it wasn't good when its turn came
+    passed-by : (h i : ℕ) → IsPassedBy j h i pass.visits w pass.behind → IsUnderBad j h i w w'
+    passed-by h i by =
+        let us = all-run j l lost recorded pass.behind w' p p' pass.hash_came pass.sought.sought in
+        elim by.cut [
+          | inl failed ↦ absurd (failed.1 ((runs-same j by.earlier w by.a by.before).hash_same.never_fails holds.sure.hash_sure))
+          | inr cut ↦ record {
+            beside = by.beside;
+            same = by.same;
+            a = by.a;
+            b = by.b;
+            part = record { earlier = by.earlier; later = by.later ++ us.0; before = by.before; behind = runs-then j by.later us.0 by.b pass.behind w' by.behind us.1 };
+            cut = cut;
+          }
+        ]
+
+    -- to a block that is damaged later, and doesn't count as lost, the pass didn't come
+    pub unreached : (vs : List Visit) (a : RepairWorld) (n : ℕ) → VisitsAll j vs pass.behind a → (IsAmong lost n → ⊥) → IsDamaged l f a n → IsUnreached j l n st
+    unreached vs a n runs unknown damaged h i at =
+        elim (pass.looked h i at.place.high at.place.inside) [
+          | inr by ↦ inl (passed-by h i by)
+          | inl seen ↦ elim (visited-formed form j valid f former l fits h i n at pass.visits w pass.behind pass.runs holds.sure holds.ready seen) [
+            | inl known ↦ absurd (unknown (recorded-known j.tree.shape valid l holds.kept.layout h i n at known.0 recorded lost pass.sought.are known.1))
+            | inr is ↦ elim (formed-on form j valid f former l fits h i n at vs pass.behind a runs holds-behind.sure holds-behind.ready is) [
+              | inl now ↦ absurd (damaged now)
+              | inr clash ↦ inr clash
+            ]
+          ]
+        ]
+
+    -- ---- a block that is sought
+
+    module _ (h i : ℕ) (at_in : IsRecordedIn j.tree.shape h i false recorded) (high : h ≤ levels j.tree.shape) (x : IsTriedIn j l lost h i pass.behind w' p) where
+      module _ (a : RepairWorld) (read : IsWorldRead x.a a) where
+        abbrev tr : Trial
+        tr = trial l lost a x.b x.q x.q'
+
+        runs-to : VisitsAll j (x.earlier ++ []) pass.behind a
+        runs-to = runs-then j x.earlier [] pass.behind x.a a x.before read
+
+        holds-then : HoldsParity j.tree.shape l f a x.q
+        holds-then = holds-later j valid l f (x.earlier ++ []) pass.behind a p x.q runs-to x.parity_read holds-behind
+
+        within : IsOutcomeOf j f st tr h x.beside → IsSoughtWithin j l lost f st p h i
+        within outcome = record {
+          beside = x.beside;
+          same = x.same;
+          a = a;
+          b = x.b;
+          q = x.q;
+          q' = x.q';
+          part = record { earlier = x.earlier ++ []; later = x.later; before = runs-to; behind = x.behind };
+          parity_read = x.parity_read;
+          outcome = outcome;
+        }
+
+        -- why parity doesn't bring it back
+        known-at : (k : ℕ) → IsCoveredAt j.tree.shape l h x.beside k → IsAmong lost k
+        known-at k at =
+            recorded-known j.tree.shape valid l holds.kept.layout h x.beside k at false recorded lost pass.sought.are (recorded-beside j.tree.shape h i x.beside false recorded x.same at_in)
+
+        unmade-past : (k : ℕ) → IsCoveredAt j.tree.shape l h x.beside k → IsBlockUnmade tr k → IsRoundPast j f st tr h x.beside
+        unmade-past k at (TooManyLost count, (of, (is, many, unasked))) = record { k = k; at = at; known = known-at k at; past = inl (rw (sym is) many) }
+        unmade-past k at (TooSmall needed, (of, (is, small, unasked))) = record { k = k; at = at; known = known-at k at; past = inr (inl (rw (sym is) small)) }
+        unmade-past k at (DeviceFailed, (of, failed)) = absurd (of (holds-then.sure.data_sure, holds-then.sure.hash_sure, holds-then.parity_sure))
+        unmade-past k at (NoMemory, (of, unasked)) = absurd of
+
+        hidden-past : (k : ℕ) → IsCoveredAt j.tree.shape l h x.beside k → IsUnknownBeside f tr k → IsRoundPast j f st tr h x.beside
+        hidden-past k at u = record {
+          k = k;
+          at = at;
+          known = known-at k at;
+          past = inr (inr (record { n = u.n; beside = u.beside; unknown = u.unknown; damaged = u.damaged; unreached = unreached (x.earlier ++ []) a u.n runs-to u.unknown u.damaged }));
+        }
+
+        vain-past : (way_path : PathRecord) → IsWay j.tree x.beside h way_path → IsVain j way_path h x.beside tr
+            → (IsOffPlace j.tree.shape l h x.beside ⊎ IsRoundPast j f st tr h x.beside) ⊎ Collide j.tree.salt
+        vain-past way_path way (inl (inl size)) = absurd (size (size-is h))
+        vain-past way_path way (inl (inr off)) = inl (inl off)
+        vain-past way_path way (inr (k, (at, inl unmade))) = inl (inr (unmade-past k at unmade))
+        vain-past way_path way (inr (k, (at, inr other))) = elim (other-unknown tr way_path h x.beside k holds-then at way other) [
+          | inl unknown ↦ inl (inr (hidden-past k at unknown))
+          | inr clash ↦ inr clash
+        ]
+
+      tried-within : (back : Bool) → IsTriedBehind j h x.beside (trial l lost x.a x.b x.q x.q') back → IsSoughtWithin j l lost f st p h i ⊎ Collide j.tree.salt
+      tried-within true behind = inl (within behind.between behind.read (inl behind.tried.0))
+      tried-within false behind = elim behind.tried.1 [
+        | inr good ↦ inl (within behind.between behind.read (inr (inl (behind.tried.0.image, good))))
+        | inl along ↦ elim (vain-past behind.between behind.read along.p along.way along.vain) [
+          | inl vain ↦ inl (within behind.between behind.read (inr (inr (record { p = along.p; way = along.way; vain = vain }))))
+          | inr clash ↦ inr clash
+        ]
+      ]
+
+      -- a hash block above it wasn't good
+      cut-under : IsCutOff j.tree x.beside h x.a.hash_dev → IsUnderBad j h i w w'
+      cut-under cut = record {
+        beside = x.beside;
+        same = above-same j.tree.shape valid h i x.beside x.same (h + 1) (omega arith);
+        a = x.a;
+        b = x.b;
+        part = record { earlier = pass.visits ++ x.earlier; later = x.later; before = runs-then j pass.visits x.earlier w pass.behind x.a pass.runs x.before; behind = x.behind };
+        cut = cut;
+      }
+
+      sought-within : (back : Bool) → IsSoughtAt j h x.beside (trial l lost x.a x.b x.q x.q') false back → (IsUnderBad j h i w w' ⊎ IsSoughtWithin j l lost f st p h i) ⊎ Collide j.tree.salt
+      sought-within back (inl (none, (left, inl off))) = absurd (off (record { valid = valid; inside = x.inside; high = high }))
+      sought-within back (inl (none, (left, inr (inl failed)))) = absurd (failed.1 ((runs-same j x.earlier pass.behind x.a x.before).hash_same.never_fails holds-behind.sure.hash_sure))
+      sought-within back (inl (none, (left, inr (inr cut)))) = inl (inl (cut-under cut))
+      sought-within back (inr behind) = elim (tried-within back behind) [
+        | inl came ↦ inl (inr came)
+        | inr clash ↦ inr clash
+      ]
+
+    pub settled-within : (h i : ℕ) → h ≤ levels j.tree.shape → i < j.tree.shape.blocks → IsSettledWithin j l lost pass.visits f st p h i ⊎ Collide j.tree.salt
+    settled-within h i high inside = elim (pass.looked h i high inside) [
+      | inr by ↦ inl (inr (inl (passed-by h i by)))
+      | inl seen ↦ elim (visited-or j h i pass.visits w pass.behind pass.runs seen) [
+        | inl had ↦ inl (inl had)
+        | inr at_in ↦
+            let x = recorded-tried j l lost h i recorded pass.behind w' p p' pass.hash_came pass.sought.sought at_in in
+            elim (sought-within h i at_in high x x.back x.sought) [
+              | inl settled ↦ inl (inr settled)
+              | inr clash ↦ inr clash
+            ]
+      ]
+    ]
+
+pub within-parity : FormedChainsAreGood → LostBlocksWithinParityComeBack
+within-parity form plan l f w w' p p' r h i high inside =
+    let j : Job = job_of r.seeks.s plan true in
+    let passes = r.seeks.ends.passes in
+    settled-within form j r.seeks.valid f r.former l r.sizes passes.last w' passes.last_parity p' r.seeks.ends.again passes.pass
+    (holds-later j r.seeks.valid l f passes.earlier w passes.last p passes.last_parity passes.before passes.parity_read (holds-first plan l f w w' p p' r)) h i high inside

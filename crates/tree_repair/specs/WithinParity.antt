@@ -1,0 +1,179 @@
+-- That lost blocks come back by parity, at most as many of a round as the code has roots.
+use Rattle.std.specs.Prelude.{◌≡◌, ◌⊎◌, ℕ, ◌+◌, ◌<◌, ◌≤◌, true, IsTrue, List, length, All}
+use Rattle.block_device.specs.Device.{Device, IsSector, IsWhole}
+use Rattle.fec_area.specs.declared.layout.Layout.{Layout}
+use Rattle.fec_area.specs.Layouts.{IsLayout, IsProtected, covered, covered_blocks, parity_sectors}
+use Rattle.fec_area.specs.Restoring.{IsAmong, is_beside, lost_count}
+use Rattle.fec_area.specs.Rounds.{AllNeverFail, BothNeverFail}
+use Rattle.tree_shape.specs.Shape.{ShapeRecord, ancestor, area_blocks, levels}
+use Rattle.tree_path.specs.Laws.{Collide}
+use Rattle.tree_path.specs.Path.{PathRecord}
+use Rattle.tree_survey.specs.Surveys.{Tree, IsWay}
+use Rattle.verity_format.specs.Blocks.{IsOnlyRead, blocks_at}
+use Rattle.verity_format.specs.Formatting.{IsFormatted}
+use Rattle.verity_format.specs.Image.{area_over, data_sectors, root_over}
+use Rattle.verity_format.specs.Superblock.{SuperRecord, IsSuperblock, shape_of}
+use Rattle.tree_repair.specs.declared.repair.Plan.{Plan}
+use Rattle.tree_repair.specs.Beyond.{IsHadIn, IsPart, IsUnderBad}
+use Rattle.tree_repair.specs.Parity.{IsCoveredAt, IsPlace}
+use Rattle.tree_repair.specs.Repairs.{SeeksByParity, job_of}
+use Rattle.tree_repair.specs.Runs.{Job, Visit, VisitsAll}
+use Rattle.tree_repair.specs.Standing.{IsSteadyImage, IsWorldSteady}
+use Rattle.tree_repair.specs.Tries.{IsBroughtBack, IsGoodBehind, IsOffPlace, Trial, trial}
+use Rattle.tree_repair.specs.Worlds.{IsWorldRead, RepairWorld}
+
+-- ---- the image as it was formatted
+
+-- the sectors of its data device and of its hash device
+pub record FormerImage : Type 0 where
+  pub data_image : List (List ℕ)
+  pub hash_image : List (List ℕ)
+
+-- Its data have the tree's root, and on its hash device stand the hash blocks of the tree over them.
+pub record IsFormerOf (t : Tree) (f : FormerImage) : Type 0 where
+  pub sectors : All IsSector f.data_image
+  pub data_fits : data_sectors t.shape ≤ length f.data_image
+  pub root_is : t.root ≡ root_over t.shape t.salt f.data_image
+  pub tree_is : blocks_at f.hash_image t.shape.hash_block t.shape.start (area_blocks t.shape) ≡ area_over t.shape t.salt f.data_image
+
+abbrev pub former_image : List (List ℕ) → List (List ℕ) → FormerImage
+former_image data_image hash_image = record { data_image = data_image; hash_image = hash_image }
+
+-- Formatting leaves one on whole, steady devices: the data device as it is, and the hash device as it stands behind the call.
+abbrev pub FormattedImagesAreFormer : Type 0
+FormattedImagesAreFormer =
+    (s : SuperRecord) → IsSuperblock s → (data_dev hash_dev data_dev' hash_dev' : Device) → IsWhole data_dev → IsWhole hash_dev → IsTrue data_dev.steady → IsTrue hash_dev.steady
+    → data_sectors (shape_of s) ≤ data_dev.size → (root : List ℕ) → IsFormatted s data_dev hash_dev data_dev' hash_dev' root
+    → IsFormerOf (record { shape = shape_of s; salt = s.salt; root = root }) (former_image data_dev.image hash_dev'.image)
+
+-- covered blocks have the size of the tree's own
+pub record HasTreeSizes (s : ShapeRecord) (l : Layout) : Type 0 where
+  pub data_size : l.block ≡ s.data_block
+  pub hash_size : l.block ≡ s.hash_block
+
+-- on a steady device stands the image's parity
+pub record IsParityKept (l : Layout) (f : FormerImage) (p : Device) : Type 0 where
+  pub layout : IsLayout l
+  pub steady : IsTrue p.steady
+  pub stands : IsProtected l f.data_image f.hash_image p.image
+
+-- covered block n is as it was, or is damaged
+abbrev pub IsAsFormed : Layout → FormerImage → RepairWorld → ℕ → Type 0
+IsAsFormed l f w n = covered l w.data_dev.image w.hash_dev.image n ≡ covered l f.data_image f.hash_image n
+
+abbrev pub IsDamaged : Layout → FormerImage → RepairWorld → ℕ → Type 0
+IsDamaged l f w n = IsAsFormed l f w n → ⊥
+
+-- On steady devices that never fail a covered block that is as it was stays so, or two different inputs have one digest.
+abbrev pub FormattedBlocksStay : Type 0
+FormattedBlocksStay =
+    (j : Job) → (f : FormerImage) → IsFormerOf j.tree f → (l : Layout) → HasTreeSizes j.tree.shape l → (visits : List Visit) → (w w' : RepairWorld) → VisitsAll j visits w w'
+    → IsSteadyImage j.tree.shape w → BothNeverFail w.data_dev w.hash_dev → (n : ℕ) → IsAsFormed l f w n → IsAsFormed l f w' n ⊎ Collide j.tree.salt
+
+-- ---- why a block doesn't come back
+
+-- the devices before a pass, behind its visits, and behind all of it
+pub record Stage : Type 0 where
+  pub before : RepairWorld
+  pub visited : RepairWorld
+  pub after : RepairWorld
+
+abbrev pub stage : RepairWorld → RepairWorld → RepairWorld → Stage
+stage before visited after = record { before = before; visited = visited; after = after }
+
+-- If covered block n is one of the tree, a hash block above it wasn't good in the pass (or two different inputs have one digest).
+abbrev pub IsUnreached : Job → Layout → ℕ → Stage → Type 0
+IsUnreached j l n s = (h i : ℕ) → IsCoveredAt j.tree.shape l h i n → IsUnderBad j h i s.before s.after ⊎ Collide j.tree.salt
+
+-- Another block of the round of covered block k is damaged and doesn't count as lost: the pass didn't come to it.
+pub record IsHiddenBeside (j : Job) (f : FormerImage) (s : Stage) (t : Trial) (k : ℕ) : Type 0 where
+  pub n : ℕ
+  pub beside : IsTrue (is_beside t.layout k n)
+  pub unknown : IsAmong t.lost n → ⊥
+  pub damaged : IsDamaged t.layout f t.w n
+  pub unreached : IsUnreached j t.layout n s
+
+-- A block's number counts as lost, but it can't be made again: with it more blocks of its round are lost than the code has roots, or
+-- there is less parity than the code needs, or another block of its round is damaged, and the pass doesn't know it.
+pub record IsRoundPast (j : Job) (f : FormerImage) (s : Stage) (t : Trial) (h i : ℕ) : Type 0 where
+  pub k : ℕ
+  pub at : IsCoveredAt j.tree.shape t.layout h i k
+  pub known : IsAmong t.lost k
+  pub past : (t.layout.roots < lost_count t.layout t.lost k) ⊎ ((t.parity_dev.size < parity_sectors t.layout) ⊎ IsHiddenBeside j f s t k)
+
+-- good hash blocks lead to a block, and parity doesn't cover it, or can't make it again
+pub record IsPastParity (j : Job) (f : FormerImage) (s : Stage) (t : Trial) (h i : ℕ) : Type 0 where
+  pub p : PathRecord
+  pub way : IsWay j.tree i h p
+  pub vain : IsOffPlace j.tree.shape t.layout h i ⊎ IsRoundPast j f s t h i
+
+-- What comes of a block that is sought: it comes back, or stands there by now, and nothing is written, or parity can't bring it back.
+abbrev pub IsOutcomeOf : Job → FormerImage → Stage → Trial → ℕ → ℕ → Type 0
+IsOutcomeOf j f s t h i = IsBroughtBack j h i t.w t.w' ⊎ ((IsWorldRead t.w t.w' × IsGoodBehind j h i t.w) ⊎ IsPastParity j f s t h i)
+
+-- It was sought behind a pass's visits, where these covered blocks count as lost. Beside is the data block beneath it by which it was.
+pub record IsSoughtWithin (j : Job) (l : Layout) (lost : List ℕ) (f : FormerImage) (s : Stage) (p : Device) (h i : ℕ) : Type 0 where
+  pub beside : ℕ
+  pub same : ancestor j.tree.shape h beside ≡ ancestor j.tree.shape h i
+  pub a : RepairWorld
+  pub b : RepairWorld
+  pub q : Device
+  pub q' : Device
+  pub part : IsPart j s.visited a b s.after
+  pub parity_read : IsOnlyRead p q
+  pub outcome : IsOutcomeOf j f s (trial l lost a b q q') h beside
+
+-- ---- the laws
+
+-- what came of a block in a pass with these visits
+abbrev pub IsSettledWithin : Job → Layout → List ℕ → List Visit → FormerImage → Stage → Device → ℕ → ℕ → Type 0
+IsSettledWithin j l lost visits f s p h i = IsHadIn j.tree.shape h i visits ⊎ (IsUnderBad j h i s.before s.after ⊎ IsSoughtWithin j l lost f s p h i)
+
+-- a repair over steady devices that never fail, by the parity of the formatted image
+pub record IsSureRepair (plan : Plan) (l : Layout) (f : FormerImage) (w w' : RepairWorld) (p p' : Device) : Type 0 where
+  pub seeks : SeeksByParity plan l w w' p p'
+  pub sure : AllNeverFail w.data_dev w.hash_dev p
+  pub steady : IsWorldSteady w
+  pub former : IsFormerOf (job_of seeks.s plan true).tree f
+  pub sizes : HasTreeSizes (shape_of seeks.s) l
+  pub parity : IsParityKept l f p
+
+-- In it each block of the tree was good or found when the last pass came to it, or came back by parity, or a hash block above it isn't
+-- good, or parity doesn't cover it, or there is too little parity, or its round has more lost blocks than the code has roots, or a
+-- damaged one to which the pass didn't come; or two different inputs have one digest.
+abbrev pub LostBlocksWithinParityComeBack : Type 0
+LostBlocksWithinParityComeBack =
+    (plan : Plan) → (l : Layout) → (f : FormerImage) → (w w' : RepairWorld) → (p p' : Device) → (r : IsSureRepair plan l f w w' p p') → (h i : ℕ) → h ≤ levels (shape_of r.seeks.s)
+    → i < (shape_of r.seeks.s).blocks
+    → let passes = r.seeks.ends.passes in
+    IsSettledWithin (job_of r.seeks.s plan true) l passes.pass.sought.lost passes.pass.visits f (stage passes.last passes.pass.behind w') passes.last_parity h i ⊎ Collide r.seeks.s.salt
+
+-- There is as much parity as the code needs, of no round more blocks count as lost than it has roots, and each damaged block counts as
+-- lost.
+pub record IsWithinParity (l : Layout) (f : FormerImage) (lost : List ℕ) (w : RepairWorld) (p : Device) : Type 0 where
+  pub room : parity_sectors l ≤ p.size
+  pub few : (k : ℕ) → IsAmong lost k → lost_count l lost k ≤ l.roots
+  pub known : (n : ℕ) → n < covered_blocks l → IsDamaged l f w n → IsAmong lost n
+
+-- Where that is so behind the last pass's visits, and blocks may be written, each covered block of the tree is as it was formatted
+-- behind the run, or a hash block above it isn't good, or two different inputs have one digest.
+abbrev pub NoBlockStaysLostWithinParity : Type 0
+NoBlockStaysLostWithinParity =
+    (plan : Plan) → IsTrue plan.write → (l : Layout) → (f : FormerImage) → (w w' : RepairWorld) → (p p' : Device) → (r : IsSureRepair plan l f w w' p p')
+    → let passes = r.seeks.ends.passes in IsWithinParity l f passes.pass.sought.lost passes.pass.behind p
+    → (h i k : ℕ) → IsCoveredAt (shape_of r.seeks.s) l h i k → IsAsFormed l f w' k ⊎ (IsUnderBad (job_of r.seeks.s plan true) h i passes.last w' ⊎ Collide r.seeks.s.salt)
+
+-- Parity covers all hash blocks of the tree, and of the data device its data blocks alone, and no covered block of the hash device is
+-- damaged.
+pub record HasWholeTree (s : ShapeRecord) (l : Layout) (f : FormerImage) (w : RepairWorld) : Type 0 where
+  pub covers : (h i : ℕ) → IsPlace s (h + 1) i → (k : ℕ) × IsCoveredAt s l (h + 1) i k
+  pub data_blocks : l.data_blocks ≡ s.blocks
+  pub whole : (n : ℕ) → l.data_blocks ≤ n → IsAsFormed l f w n
+
+-- Where that is so before the run, and of no round more blocks count as lost in its last pass than the code has roots, each data block
+-- is as it was formatted behind the run, or two different inputs have one digest.
+abbrev pub DataUnderWholeTreeComeBack : Type 0
+DataUnderWholeTreeComeBack =
+    (plan : Plan) → IsTrue plan.write → (l : Layout) → (f : FormerImage) → (w w' : RepairWorld) → (p p' : Device) → (r : IsSureRepair plan l f w w' p p')
+    → HasWholeTree (shape_of r.seeks.s) l f w → parity_sectors l ≤ p.size
+    → let lost = r.seeks.ends.passes.pass.sought.lost in ((k : ℕ) → IsAmong lost k → lost_count l lost k ≤ l.roots) → (i : ℕ) → i < l.data_blocks → IsAsFormed l f w' i ⊎ Collide r.seeks.s.salt
