@@ -123,14 +123,7 @@ fn mend_laid_out<'a, D: SyncDev, H: SyncDev, C: BlockDev, P: BlockDev, W: Write>
     ensures err { IfErr result (IsHalfByParity W.contents plan (P.state parity.old.device) parity.old.roots image.old image.new writer.old writer.new) }
 {
     let layout = lay_out(&image.data, &mut image.hash, parity)?;
-    Ok(mend_with_parity(
-        alloc,
-        image,
-        &layout,
-        &mut parity.device,
-        plan,
-        writer,
-    )?)
+    Ok(mend_with_parity(alloc, image, &layout, &mut parity.device, plan, writer)?)
 }
 
 // Repairs both by copies and parity, and has what was written put on their media.

@@ -1,6 +1,6 @@
 -- What `diff` and `verify --all` print as JSON objects.
-use Rattle.std.specs.Prelude.{ℕ, List, codes}
-use Rattle.serde_json.specs.Data.{Data, Members, array, boolean, number, object, unsigned, member, no_members}
+use Rattle.std.specs.Prelude.{List, codes}
+use Rattle.serde_json.specs.Data.{Data, array, boolean, number, object, unsigned, member, no_members}
 use Rattle.serde_json.specs.View.{items_of}
 use Rattle.tree_runs.specs.declared.line.Line.{Line}
 use Rattle.tree_runs.specs.Lines.{says_more}

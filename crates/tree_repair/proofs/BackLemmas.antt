@@ -1,5 +1,5 @@
 -- Blocks that came back by parity, and an image that is all good by then.
-use Rattle.std.proofs.Common.{◌≡◌, ◌≤◌, ◌<◌, ◌+◌, ℕ, Bool, true, false, IsTrue, List, [], ◌∷◌, ◌++◌, All, Option, None, Some, take, get_or, length, refl, sym, ap, ◌∙◌, subst, arith, inl, inr, ◌⊎◌, ◌&&◌}
+use Rattle.std.proofs.Common.{◌≡◌, ◌<◌, ◌+◌, ℕ, Bool, true, false, IsTrue, List, [], ◌∷◌, ◌++◌, All, Option, None, Some, take, get_or, length, refl, sym, ap, ◌∙◌, subst, arith, inl, inr, ◌⊎◌, ◌&&◌}
 use Rattle.std.specs.Prelude.{not}
 use Rattle.std.specs.List.{flat_map}
 use Rattle.std.proofs.lemmas.Bool.{and_parts, false≢true}
@@ -8,22 +8,20 @@ use Rattle.std.proofs.lemmas.List.Elements.{All-append, All-cons, All-head, All-
 use Rattle.std.proofs.lemmas.Option.{none-some}
 use Rattle.block_device.specs.Device.{Device}
 use Rattle.fec_area.specs.declared.layout.Layout.{Layout}
-use Rattle.tree_shape.specs.Shape.{ShapeRecord, ancestor, levels}
+use Rattle.tree_shape.specs.Shape.{ShapeRecord, ancestor}
 use Rattle.tree_survey.specs.Causes.{AreImages}
 use Rattle.verity_format.specs.Superblock.{SuperRecord, shape_of}
 use Rattle.tree_repair.specs.declared.bad.BadBlock.{BadBlock}
 use Rattle.tree_repair.specs.declared.bad.BadBlocks.{BadBlocks}
-use Rattle.tree_repair.specs.declared.fault.RepairFault.{RepairFault}
 use Rattle.tree_repair.specs.declared.mending.Mended.{Mended}
 use Rattle.tree_repair.specs.declared.mending.Mended.TheVariants as mended
-use Rattle.tree_repair.specs.declared.outcome.Outcome.{Outcome}
 use Rattle.tree_repair.specs.declared.repair.Plan.{Plan}
 use Rattle.tree_repair.specs.Coverage.{IsFromUp, IsVisitAt, IsVisitedIn}
-use Rattle.tree_repair.specs.Noting.{bad_blocks, found_of, pass_outcome, unless}
+use Rattle.tree_repair.specs.Noting.{bad_blocks, found_of, pass_outcome}
 use Rattle.tree_repair.specs.Outcomes.{IsAllGood, IsGoodThenIn, IsParityOutcome}
 use Rattle.tree_repair.specs.Passes.{AreBack, HasNoted, IsBackIn, IsGoodThen, bad_of}
 use Rattle.tree_repair.specs.Repairs.{job_of}
-use Rattle.tree_repair.specs.Runs.{HasRun, IsDone, Job, VisitsAll, Visit, visit}
+use Rattle.tree_repair.specs.Runs.{HasRun, IsDone, Job, Visit, visit}
 use Rattle.tree_repair.specs.Tries.{IsSought, IsSoughtAt, trial}
 use Rattle.tree_repair.specs.Worlds.{IsWorldRead, RepairWorld}
 use Rattle.tree_repair.proofs.RunLemmas.{runs-then, world-none, world-then}

@@ -14,7 +14,6 @@ use Rattle.tree_survey.specs.Surveys.{IsWay}
 use Rattle.verity_format.specs.Blocks.{IsOnlyRead}
 use Rattle.verity_format.specs.Superblock.{SuperRecord}
 use Rattle.tree_repair.specs.declared.bad.BadBlocks.{BadBlocks}
-use Rattle.tree_repair.specs.declared.fault.RepairFault.{RepairFault}
 use Rattle.tree_repair.specs.declared.repair.Plan.{Plan}
 use Rattle.tree_repair.specs.Coverage.{IsFromTo, IsFromUp, IsLookedAt, IsPassedBy, IsVisitedIn}
 use Rattle.tree_repair.specs.Outcomes.{IsExcused, IsLostIn, IsSureImage, LeavesWhole, StandsFrom}

@@ -65,11 +65,13 @@ noted-then {j} {Due} {First} {Next} {w} {x} {y} {old} {now} {new} {a} {b} {c} {f
       (before.0, All-append (IsGoodThen j) p.run.visits q.run.visits before.1 behind.1);
   passed = λ end clean.
       let behind = q.passed end clean in
-      let before = p.passed refl behind.0 in
-      (before.0, λ h i due. elim (either h i due) [
-        | inl at ↦ in-left j.tree.shape h i p.run.visits q.run.visits (before.1 h i at)
-        | inr at ↦ in-right j.tree.shape h i p.run.visits q.run.visits (behind.1 h i at)
-      ]);
+      let before = p.passed refl behind.0 in (
+        before.0,
+        λ h i due. elim (either h i due) [
+          | inl at ↦ in-left j.tree.shape h i p.run.visits q.run.visits (before.1 h i at)
+          | inr at ↦ in-right j.tree.shape h i p.run.visits q.run.visits (behind.1 h i at)
+        ],
+      );
 }
 
 pub noted-behind : {j : Job} {Due : ℕ → ℕ → Type 0} {w x y : RepairWorld} {old new : Option (List ℕ)} {a b : BadBlocks} {fault : Option RepairFault} → IsWorldRead w x → HasNoted j Due x y old new a b fault → HasNoted j Due w y old new a b fault

@@ -19,20 +19,20 @@ use Rattle.tree_repair.specs.declared.mending.Mended.TheVariants as mended
 use Rattle.tree_repair.specs.declared.outcome.Outcome.{Outcome}
 use Rattle.tree_repair.specs.declared.outcome.Outcome.TheVariants.{Partly, Whole}
 use Rattle.tree_repair.specs.declared.repair.Plan.{Plan}
-use Rattle.tree_repair.specs.Coverage.{IsFromUp, IsVisitAt, IsVisitedIn}
+use Rattle.tree_repair.specs.Coverage.{IsFromUp, IsVisitedIn}
 use Rattle.tree_repair.specs.Mending.{IsAllowedPut, IsMended, Look}
 use Rattle.tree_repair.specs.Noting.{found_of, pass_outcome}
 use Rattle.tree_repair.specs.Outcomes.{IsGoodThenIn, IsOutcomeOf, LeavesAllGood, StandsFrom}
 use Rattle.tree_repair.specs.Passes.{HasNoted, IsGoodThen}
 use Rattle.tree_repair.specs.Repairs.{job_of}
-use Rattle.tree_repair.specs.Runs.{IsDone, IsVisited, Job, OtherStays, VisitsAll, Visit, look_at, other, own, sector_at, size_at}
-use Rattle.tree_repair.specs.Standing.{IsLeftGoodIn, IsNotLost, IsSteadyImage, IsWorldSteady, StandsGood, standing_bytes}
+use Rattle.tree_repair.specs.Runs.{IsDone, IsVisited, Job, VisitsAll, Visit, look_at, other, own, sector_at, size_at}
+use Rattle.tree_repair.specs.Standing.{IsLeftGoodIn, IsNotLost, IsSteadyImage, StandsGood}
 use Rattle.tree_repair.specs.Worlds.{IsWorldRead, RepairWorld}
 use Rattle.tree_repair.proofs.OutcomeLemmas.{whole-of}
 use Rattle.tree_repair.proofs.PutLemmas.{lost-image}
 use Rattle.tree_repair.proofs.RunLemmas.{AreSame, are-then, other-image, read-same, runs-read, visited-same}
 use Rattle.tree_repair.proofs.StandLemmas.{image-ready, runs-stand, stands-as, stands-beside}
-use Rattle.tree_repair.proofs.WayLemmas.{each-or, way-stands}
+use Rattle.tree_repair.proofs.WayLemmas.{way-stands}
 
 -- ---- which visits they are
 

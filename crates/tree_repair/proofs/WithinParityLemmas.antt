@@ -25,7 +25,7 @@ use Rattle.tree_repair.specs.Passes.{IsPass, bad_of}
 use Rattle.tree_repair.specs.Repairs.{job_of}
 use Rattle.tree_repair.specs.Runs.{Job, Visit, VisitsAll, size_at}
 use Rattle.tree_repair.specs.Tries.{IsBlockUnmade, IsCutOff, IsMadeOther, IsOffPlace, IsSoughtAt, IsTriedBehind, IsVain, Trial, trial}
-use Rattle.tree_repair.specs.WithinParity.{FormerImage, HasTreeSizes, IsDamaged, IsFormerOf, IsOutcomeOf, IsParityKept, IsRoundPast, IsSettledWithin, IsSoughtWithin, IsSureRepair, IsUnreached, LostBlocksWithinParityComeBack, Stage, stage}
+use Rattle.tree_repair.specs.WithinParity.{FormerImage, HasTreeSizes, IsDamaged, IsFormerOf, IsTrialSettled, IsParityKept, IsRoundPast, IsSettledWithin, IsSoughtWithin, IsSureRepair, IsUnreached, LostBlocksWithinParityComeBack, Stage, stage}
 use Rattle.tree_repair.specs.Worlds.{IsWorldRead, RepairWorld}
 use Rattle.tree_repair.proofs.ApartLemmas.{above-same}
 use Rattle.tree_repair.proofs.FormerLemmas.{former-digest, former-whole}
@@ -148,7 +148,7 @@ module _ (form : FormedChainsAreGood) (j : Job) (valid : IsShape j.tree.shape) (
         holds-then : HoldsParity j.tree.shape l f a x.q
         holds-then = holds-later j valid l f (x.earlier ++ []) pass.behind a p x.q runs-to x.parity_read holds-behind
 
-        within : IsOutcomeOf j f st tr h x.beside → IsSoughtWithin j l lost f st p h i
+        within : IsTrialSettled j f st tr h x.beside → IsSoughtWithin j l lost f st p h i
         within outcome = record {
           beside = x.beside;
           same = x.same;

@@ -11,7 +11,7 @@ use Rattle.tree_repair.specs.declared.outcome.Outcome.TheVariants.{Partly, Whole
 use Rattle.tree_repair.specs.declared.repair.Plan.{Plan}
 use Rattle.tree_repair.specs.Coverage.{IsFromUp, IsVisitAt}
 use Rattle.tree_repair.specs.Noting.{found_of}
-use Rattle.tree_repair.specs.Repairs.{Repairs, job_of}
+use Rattle.tree_repair.specs.Repairs.{job_of}
 use Rattle.tree_repair.specs.Runs.{IsDone, Job, VisitsAll, Visit}
 use Rattle.tree_repair.specs.Standing.{IsSteadyImage, IsWorldSteady, StandsGood}
 use Rattle.tree_repair.specs.Worlds.{RepairWorld}

@@ -108,8 +108,8 @@ pub record IsPastParity (j : Job) (f : FormerImage) (s : Stage) (t : Trial) (h i
   pub vain : IsOffPlace j.tree.shape t.layout h i ⊎ IsRoundPast j f s t h i
 
 -- What comes of a block that is sought: it comes back, or stands there by now, and nothing is written, or parity can't bring it back.
-abbrev pub IsOutcomeOf : Job → FormerImage → Stage → Trial → ℕ → ℕ → Type 0
-IsOutcomeOf j f s t h i = IsBroughtBack j h i t.w t.w' ⊎ ((IsWorldRead t.w t.w' × IsGoodBehind j h i t.w) ⊎ IsPastParity j f s t h i)
+abbrev pub IsTrialSettled : Job → FormerImage → Stage → Trial → ℕ → ℕ → Type 0
+IsTrialSettled j f s t h i = IsBroughtBack j h i t.w t.w' ⊎ ((IsWorldRead t.w t.w' × IsGoodBehind j h i t.w) ⊎ IsPastParity j f s t h i)
 
 -- It was sought behind a pass's visits, where these covered blocks count as lost. Beside is the data block beneath it by which it was.
 pub record IsSoughtWithin (j : Job) (l : Layout) (lost : List ℕ) (f : FormerImage) (s : Stage) (p : Device) (h i : ℕ) : Type 0 where
@@ -121,7 +121,7 @@ pub record IsSoughtWithin (j : Job) (l : Layout) (lost : List ℕ) (f : FormerIm
   pub q' : Device
   pub part : IsPart j s.visited a b s.after
   pub parity_read : IsOnlyRead p q
-  pub outcome : IsOutcomeOf j f s (trial l lost a b q q') h beside
+  pub outcome : IsTrialSettled j f s (trial l lost a b q q') h beside
 
 -- ---- the laws
 

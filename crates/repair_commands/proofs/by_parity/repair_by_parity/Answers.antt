@@ -37,7 +37,7 @@ returns-in_err-say_rest-clause-err g c =
     (inr (inr (inr (record {
       mended = c.mend_opened.new.images;
       between = g.W.Write.contents c.mend_opened.new.writer.inner;
-  outcome = c.in_ok-outcome.outcome;
+      outcome = c.in_ok-outcome.outcome;
       mends = record {
         ready = c.open_parity.new.images;
         opened = c.in_ok-opened.opened;

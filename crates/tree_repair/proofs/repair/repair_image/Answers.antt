@@ -1,15 +1,13 @@
-use Rattle.std.proofs.Common.{ap, inl, inr, false, subst, sym, ◌≡◌, ◌+◌, ℕ, Option, None}
+use Rattle.std.proofs.Common.{ap, inl, inr, false, subst, sym, None}
 use Rattle.std.specs.Result.{result_err}
 use Rattle.tree_shape.specs.Shape.{ShapeRecord}
 use Rattle.verity_format.specs.Superblock.{shape_of}
-use Rattle.tree_repair.specs.declared.outcome.Outcome.{Outcome}
 use Rattle.tree_repair.specs.Bills.{LeavesWorld, nothing_due, pass_over}
 use Rattle.tree_repair.specs.Outcomes.{IsOutcomeOf}
 use Rattle.tree_repair.specs.Runs.{Job}
 use Rattle.tree_repair.proofs.BillLemmas.{one-pass}
 use Rattle.tree_repair.specs.Jobs.{job}
 use Rattle.tree_repair.proofs.RepairLemmas.{can-begin, err-from, is_err-from, looks-of, repairs-of, whole-err}
-use Rattle.tree_repair.proofs.OutcomeLemmas.{whole-of}
 use Rattle.tree_repair.proofs.RunLemmas.{ended-from}
 use Rattle.tree_repair.proofs.WholeLemmas.{outcome-of}
 use Rattle.tree_repair.proofs.repair.repair_image.Goals as goal
