@@ -19,6 +19,7 @@ pub mod Noting
 pub mod Coverage
 pub mod Passes
 pub mod Standing
+pub mod Failures
 pub mod Outcomes
 pub mod Beyond
 pub mod WithinParity
