@@ -16,6 +16,7 @@ mod LookLemmas
 mod MakeLemmas
 mod NoneLostLemmas
 mod NumberLemmas
+mod OnceLemmas
 mod OutcomeLemmas
 mod OverLemmas
 mod ParityLemmas
