@@ -10,7 +10,9 @@ mod AskedLemmas
 mod BillLemmas
 mod CountLemmas
 mod ExcuseLemmas
+mod DamagedLemmas
 mod DataBackLemmas
+mod DistinctLemmas
 mod HeightLemmas
 mod LookLemmas
 mod MakeLemmas
