@@ -54,7 +54,8 @@ record IsCoveredFirst (s : ShapeRecord) (l : Layout) (place : Place) (o : Option
   more : AreCovered s l bs rest
 
 module _ (s : ShapeRecord) (l : Layout) where
-  covered-step : (place : Place) (o : Option Bool) (bs : List BadBlock) (lost : List ℕ) → AreCovered s l (bad_blocks place o ++ bs) lost → AreCovered s l bs lost ⊎ IsCoveredFirst s l place o bs lost
+  covered-step : (place : Place) (o : Option Bool) (bs : List BadBlock) (lost : List ℕ) → AreCovered s l (bad_blocks place o ++ bs) lost
+      → AreCovered s l bs lost ⊎ IsCoveredFirst s l place o bs lost
   covered-step place None bs lost are = inl are
   covered-step place (Some found) bs lost (inl (k, (rest, (is, (at, more))))) = inr (record { k = k; rest = rest; are = is; found = found; told = refl; at = at; more = more })
   covered-step place (Some found) bs lost (inr (off, more)) = inl more
@@ -144,8 +145,8 @@ module _ (form : FormedChainsAreGood) (j : Job) (valid : IsShape j.tree.shape) (
       sym (at.is.bytes w.data_dev.image w.hash_dev.image ∙ ap (λ (n : ℕ). block_at w.hash_dev.image n (position j.tree.shape g (ancestor j.tree.shape (g + 1) i))) at.size)
 
   -- a block that is as it was formatted isn't lost
-  lost-other : (v : Visit) (a b : RepairWorld) → IsVisited j v a b → v.mended ≡ mended.Lost → IsSure a → IsReady j.tree.shape a → (k : ℕ) → IsCoveredAt j.tree.shape l v.height v.index k
-      → IsAsFormed l f a k → Collide j.tree.salt
+  lost-other : (v : Visit) (a b : RepairWorld) → IsVisited j v a b → v.mended ≡ mended.Lost → IsSure a → IsReady j.tree.shape a → (k : ℕ)
+      → IsCoveredAt j.tree.shape l v.height v.index k → IsAsFormed l f a k → Collide j.tree.salt
   lost-other v a b here lost sure ready k at is =
       let nowhere : IsFoundNowhere (look_at j here.p v.height v.index a b) =
       subst (λ (m : Mended). IsMended (look_at j here.p v.height v.index a b) v.bytes v.done m) lost here.mended_as in

@@ -72,7 +72,8 @@ count-but p x a (suc n) is from below =
 
 -- Of numbers that differ, each of which passes a test below n where it passes another, at most as many pass that one as pass the test
 -- below n.
-pub count-different : (q p : ℕ → Bool) (xs : List ℕ) (n : ℕ) → AreDifferent xs → ((x : ℕ) → IsAmong xs x → q x ≡ true → (p x ≡ true) × (x < n)) → count_by q xs ≤ count_by p (range_with_len 0 n)
+pub count-different : (q p : ℕ → Bool) (xs : List ℕ) (n : ℕ) → AreDifferent xs → ((x : ℕ) → IsAmong xs x → q x ≡ true → (p x ≡ true) × (x < n))
+    → count_by q xs ≤ count_by p (range_with_len 0 n)
 count-different q p [] n different passes = omega arith
 count-different q p (x ∷ xs) n different passes = elim (cases_Bool (q x)) [
   | inr fail ↦

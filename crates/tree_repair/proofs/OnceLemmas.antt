@@ -60,8 +60,8 @@ module _ (s : ShapeRecord) where
       }
 
   -- one part behind the other
-  pub once-then : (Due First Next : ℕ → ℕ → Type 0) → AreParts s Due First Next → (vs us : List Visit) → AreVisitsDue s First vs → AreVisitsDue s Next us → AreVisitedOnce s vs → AreVisitedOnce s us
-      → AreVisitedOnce s (vs ++ us)
+  pub once-then : (Due First Next : ℕ → ℕ → Type 0) → AreParts s Due First Next → (vs us : List Visit) → AreVisitsDue s First vs → AreVisitsDue s Next us
+      → AreVisitedOnce s vs → AreVisitedOnce s us → AreVisitedOnce s (vs ++ us)
   once-then Due First Next parts [] us first next before behind = behind
   once-then Due First Next parts (v ∷ more) us first next before behind = (
     λ at. elim (in-or v.height v.index more us at) [
