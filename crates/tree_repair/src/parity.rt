@@ -7,14 +7,13 @@ ghost use Rattle.tree_shape.specs.Shape.{levels};
 ghost use Rattle.tree_survey.specs.Surveys.{IsWay};
 ghost use Rattle.verity_format.specs.Blocks.{IsOnlyRead};
 ghost use Rattle.tree_repair.specs.Jobs.{AreGoodAt, job};
-ghost use Rattle.tree_repair.specs.Mending.{IsBlockReplaced};
-ghost use Rattle.tree_repair.specs.ParityBounds.{IsAskedAlone, IsAskedWithin, IsMadeWithin, IsReplacedOnce, TellsBack, TellsCame, along_bill, parity_bill, put_bill, round_bill, sought_among, tries_of};
+ghost use Rattle.tree_repair.specs.ParityBounds.{IsAskedAlone, IsReplacedOnce, TellsCame, along_bill, put_bill, round_bill};
 ghost use Rattle.tree_repair.specs.Passes.{AreBack};
-ghost use Rattle.tree_repair.specs.Parity.{FailsToPlace, IsBack, IsNotBack, IsPlace, IsPlaced, IsPutOr, end_at};
+ghost use Rattle.tree_repair.specs.Parity.{FailsToPlace, IsBack, IsPlace, IsPlaced, end_at};
 ghost use Rattle.tree_repair.specs.Runs.{CanRun, IsWriterCause, Ran, sector_at, size_at};
-ghost use Rattle.tree_repair.specs.Sources.{due};
-ghost use Rattle.tree_repair.specs.Tries.{AreCovered, HasSought, IsCoveredOr, IsMadeOrVain, IsSought, IsTried, is_hash_back, listed_number, trial};
+ghost use Rattle.tree_repair.specs.Tries.{AreCovered, IsCoveredOr, is_hash_back, listed_number};
 ghost use Rattle.tree_repair.specs.Worlds.{IsWorldRead};
+ghost use Rattle.tree_repair.specs.Searching.{AsksWithin, FailsToReplace, LacksBlock, Makes, MakesWithin, PutsWhereBad, SeeksBlock, SeeksEach, SeeksWithin, TellsPlace, TriesPlace, TriesWithin};
 
 use crate::bad::BadBlock;
 use crate::fault::RepairFault;
@@ -53,18 +52,18 @@ pub(crate) fn restore_bad<D: BlockDev, H: BlockDev, C: BlockDev, P: BlockDev, W:
     layout: &Layout,
     blocks: &[BadBlock],
     image: &mut DamagedImage<D, H, C>,
-    parity_dev: &mut P,
+    parity: &mut P,
     writer: &mut Counted<W>,
 ) -> Result<Came, RepairFault>
     requires asked { IsTrue repair.now.parity }
     requires can { CanRun (job repair.now) image.old }
     requires laid { IsLaidOn layout.now image.old.data_dev image.old.hash_dev }
-    ensures parity { IsOnlyRead (P.state parity_dev.old) (P.state parity_dev.new) }
+    ensures parity { IsOnlyRead (P.state parity.old) (P.state parity.new) }
     ensures run { Ran W.contents (job repair.now) image.old image.new writer.old writer.new result }
     ensures told { IfErr result (IsWriterCause writer.new) }
-    ensures sought { IfOk result (λ came. HasSought (job repair.now) layout.now blocks.now image.old image.new (P.state parity_dev.old) (P.state parity_dev.new) came.tree) }
+    ensures sought { SeeksEach P.state repair.now layout.now blocks.now image.old image.new parity.old parity.new result }
     ensures back { IfOk result (λ came. IsTrue came.all → AreBack (job repair.now) blocks.now image.old image.new) }
-    ensures within { IsAskedWithin (parity_bill repair.now.shape layout.now 0 0 (sought_among blocks.now)) image.old image.new (P.state parity_dev.old) (P.state parity_dev.new) }
+    ensures within { SeeksWithin P.state repair.now layout.now blocks.now image.old image.new parity.old parity.new }
     ensures came { TellsCame W.contents (job repair.now) image.old image.new writer.old writer.new result }
 {
     let lost = covered_of(repair, layout, blocks)?;
@@ -75,7 +74,7 @@ pub(crate) fn restore_bad<D: BlockDev, H: BlockDev, C: BlockDev, P: BlockDev, W:
     let mut tree = false;
     let mut all = true;
     'each: for bad in blocks {
-        let back = restore_block_at(repair, &losses, bad, image, parity_dev, writer)?;
+        let back = restore_block_at(repair, &losses, bad, image, parity, writer)?;
         tree = is_in_tree(tree, back, bad);
         all = are_both(all, back);
     }
@@ -157,18 +156,18 @@ fn restore_block_at<D: BlockDev, H: BlockDev, C: BlockDev, P: BlockDev, W: Write
     losses: &Losses,
     bad: &BadBlock,
     image: &mut DamagedImage<D, H, C>,
-    parity_dev: &mut P,
+    parity: &mut P,
     writer: &mut Counted<W>,
 ) -> Result<bool, RepairFault>
     requires asked { IsTrue repair.now.parity }
     requires can { CanRun (job repair.now) image.old }
     requires laid { IsLaidOn losses.now.layout image.old.data_dev image.old.hash_dev }
-    ensures parity { IsOnlyRead (P.state parity_dev.old) (P.state parity_dev.new) }
+    ensures parity { IsOnlyRead (P.state parity.old) (P.state parity.new) }
     ensures run { Ran W.contents (job repair.now) image.old image.new writer.old writer.new result }
     ensures told { IfErr result (IsWriterCause writer.new) }
-    ensures sought { IfOk result (IsSought (job repair.now) bad.now (trial losses.now.layout losses.now.lost.items image.old image.new (P.state parity_dev.old) (P.state parity_dev.new))) }
-    ensures within { IsAskedWithin (parity_bill repair.now.shape losses.now.layout 0 0 (tries_of bad.now.found)) image.old image.new (P.state parity_dev.old) (P.state parity_dev.new) }
-    ensures came { TellsBack W.contents (job repair.now) bad.now.place.height image.old image.new writer.old writer.new result }
+    ensures sought { SeeksBlock P.state repair.now losses.now bad.now image.old image.new parity.old parity.new result }
+    ensures within { TriesWithin P.state repair.now losses.now bad.now image.old image.new parity.old parity.new }
+    ensures came { TellsPlace W.contents repair.now bad.now.place image.old image.new writer.old writer.new result }
 {
     if bad.found {
         return Ok(false);
@@ -180,7 +179,7 @@ fn restore_block_at<D: BlockDev, H: BlockDev, C: BlockDev, P: BlockDev, W: Write
     let found = way_to(repair, image, place.index, place.height)?;
     match found {
         None => Ok(false),
-        Some(path) => restore_along(&path, repair, losses, place, image, parity_dev, writer),
+        Some(path) => restore_along(&path, repair, losses, place, image, parity, writer),
     }
 }
 
@@ -191,7 +190,7 @@ fn restore_along<D: BlockDev, H: BlockDev, C: BlockDev, P: BlockDev, W: Write>(
     losses: &Losses,
     place: Place,
     image: &mut DamagedImage<D, H, C>,
-    parity_dev: &mut P,
+    parity: &mut P,
     writer: &mut Counted<W>,
 ) -> Result<bool, RepairFault>
     requires asked { IsTrue repair.now.parity }
@@ -199,19 +198,19 @@ fn restore_along<D: BlockDev, H: BlockDev, C: BlockDev, P: BlockDev, W: Write>(
     requires laid { IsLaidOn losses.now.layout image.old.data_dev image.old.hash_dev }
     requires place { IsPlace repair.now.shape place.height place.index }
     requires way { IsWay (job repair.now).tree place.index place.height path.now }
-    ensures parity { IsOnlyRead (P.state parity_dev.old) (P.state parity_dev.new) }
+    ensures parity { IsOnlyRead (P.state parity.old) (P.state parity.new) }
     ensures run { Ran W.contents (job repair.now) image.old image.new writer.old writer.new result }
     ensures told { IfErr result (IsWriterCause writer.new) }
-    ensures tried { IfOk result (IsTried (job repair.now) place.height place.index (trial losses.now.layout losses.now.lost.items image.old image.new (P.state parity_dev.old) (P.state parity_dev.new))) }
-    ensures within { IsAskedWithin (along_bill losses.now.layout) image.old image.new (P.state parity_dev.old) (P.state parity_dev.new) }
-    ensures came { TellsBack W.contents (job repair.now) place.height image.old image.new writer.old writer.new result }
+    ensures tried { TriesPlace P.state repair.now losses.now place image.old image.new parity.old parity.new result }
+    ensures within { AsksWithin P.state (along_bill losses.now.layout) image.old image.new parity.old parity.new }
+    ensures came { TellsPlace W.contents repair.now place image.old image.new writer.old writer.new result }
 {
     let size = block_size(&repair.shape, place.height);
     let mut made = zeros(repair.alloc, size)?;
     let mut read = zeros(repair.alloc, size)?;
     let bytes = made.as_mut_slice();
     let block = read.as_mut_slice();
-    let back = make_again(path, repair, losses, place, image, parity_dev, bytes)?;
+    let back = make_again(path, repair, losses, place, image, parity, bytes)?;
     if !back {
         return Ok(false);
     }
@@ -225,23 +224,23 @@ fn make_again<D: BlockDev, H: BlockDev, C: BlockDev, P: BlockDev>(
     losses: &Losses,
     place: Place,
     image: &mut DamagedImage<D, H, C>,
-    parity_dev: &mut P,
+    parity: &mut P,
     bytes: &mut [u8],
 ) -> Result<bool, AllocError>
     requires laid { IsLaidOn losses.now.layout image.old.data_dev image.old.hash_dev }
     requires way { IsWay (job repair.now).tree place.index place.height path.now }
     requires size { length bytes.old ≡ size_at repair.now.shape place.height }
     ensures read { IsWorldRead image.old image.new }
-    ensures parity { IsOnlyRead (P.state parity_dev.old) (P.state parity_dev.new) }
+    ensures parity { IsOnlyRead (P.state parity.old) (P.state parity.new) }
     ensures good { IfOk result (λ made. IsTrue made → AreGoodAt repair.now path.now place bytes.new) }
-    ensures vain { IfOk result (IsMadeOrVain (job repair.now) path.now place.height place.index (trial losses.now.layout losses.now.lost.items image.old image.new (P.state parity_dev.old) (P.state parity_dev.new))) }
-    ensures within { IsMadeWithin repair.now.shape losses.now.layout place.height image.old image.new (P.state parity_dev.old) (P.state parity_dev.new) result }
+    ensures vain { Makes P.state repair.now losses.now path.now place image.old image.new parity.old parity.new result }
+    ensures within { MakesWithin P.state repair.now losses.now place image.old image.new parity.old parity.new result }
 {
     let index = match covered_at(repair, &losses.layout, place) {
         None => return Ok(false),
         Some(index) => index,
     };
-    let back = restore(repair.alloc, losses, index, image, parity_dev, bytes)?;
+    let back = restore(repair.alloc, losses, index, image, parity, bytes)?;
     if !back {
         return Ok(false);
     }
@@ -255,17 +254,17 @@ fn restore<D: BlockDev, H: BlockDev, C: BlockDev, P: BlockDev>(
     losses: &Losses,
     index: u64,
     image: &mut DamagedImage<D, H, C>,
-    parity_dev: &mut P,
+    parity: &mut P,
     bytes: &mut [u8],
 ) -> Result<bool, AllocError>
     requires laid { IsLaidOn losses.now.layout image.old.data_dev image.old.hash_dev }
     requires index { index < covered_blocks losses.now.layout }
     requires size { length bytes.old ≡ losses.now.layout.block }
     ensures read { IsWorldRead image.old image.new }
-    ensures parity { IsOnlyRead (P.state parity_dev.old) (P.state parity_dev.new) }
-    ensures bytes { IfOk result (IsBack losses.now image.old (P.state parity_dev.old) index bytes.new) }
-    ensures none { IfOk result (IsNotBack losses.now index image.old image.new (P.state parity_dev.old) (P.state parity_dev.new)) }
-    ensures within { IsAskedWithin (round_bill losses.now.layout) image.old image.new (P.state parity_dev.old) (P.state parity_dev.new) }
+    ensures parity { IsOnlyRead (P.state parity.old) (P.state parity.new) }
+    ensures bytes { IfOk result (IsBack losses.now image.old (P.state parity.old) index bytes.new) }
+    ensures none { IfOk result (LacksBlock P.state losses.now index image.old image.new parity.old parity.new) }
+    ensures within { AsksWithin P.state (round_bill losses.now.layout) image.old image.new parity.old parity.new }
 {
     let Losses { layout, lost } = losses;
     let sought = LostBlock {
@@ -278,7 +277,7 @@ fn restore<D: BlockDev, H: BlockDev, C: BlockDev, P: BlockDev>(
         &sought,
         &mut image.data,
         &mut image.hash,
-        parity_dev,
+        parity,
         bytes,
     ) {
         Ok(()) => Ok(true),
@@ -310,7 +309,7 @@ fn put_restored<D: BlockDev, H: BlockDev, C: BlockDev, W: Write>(
     ensures told { IfErr result (IsWriterCause writer.new) }
     ensures placed { IfOk result (IsPlaced (job repair.now) place.height place.index bytes.now image.old image.new) }
     ensures within { IsAskedAlone (put_bill (size_at repair.now.shape place.height / 512)) image.old image.new }
-    ensures came { TellsBack W.contents (job repair.now) place.height image.old image.new writer.old writer.new result }
+    ensures came { TellsPlace W.contents repair.now place image.old image.new writer.old writer.new result }
 {
     let back = put_block(path, repair, place, image, bytes, block)?;
     if !back {
@@ -382,8 +381,8 @@ fn replace<B: BlockDev>(
     requires size { length block.old ≡ length bytes.now }
     requires good { digest salt.now bytes.now ≡ expected.now }
     requires allowed { IsTrue write → IsTrue (B.state device.old).may_write }
-    ensures ok { IfOk result (IsPutOr (B.state device.old) first (due salt.now expected.now bytes.now) write bytes.now (B.state device.new)) }
-    ensures err { OnErr result (IsBlockReplaced (B.state device.old) first (due salt.now expected.now bytes.now) write bytes.now false (B.state device.new)) }
+    ensures ok { PutsWhereBad B.state device.old device.new first salt.now expected.now write bytes.now result }
+    ensures err { FailsToReplace B.state device.old device.new first salt.now expected.now write bytes.now result }
     ensures within { IsReplacedOnce (length bytes.now / 512) (B.state device.old) (B.state device.new) }
 {
     if is_there(device, first, salt, expected, block) {

@@ -1,0 +1,89 @@
+-- What functions that seek blocks by parity say of what they are lent: the image and the parity before and behind, of which
+-- `state` tells the device.
+use Rattle.std.specs.Prelude.{ℕ, Bool, false, IfOk, List, OnErr, OnOk, Option, Result}
+use Rattle.block_device.specs.Device.{Device}
+use Rattle.counted_io.specs.Counted.{CountedRecord}
+use Rattle.fec_area.specs.declared.layout.Layout.{Layout}
+use Rattle.tree_path.specs.Path.{PathRecord}
+use Rattle.tree_repair.specs.declared.bad.BadBlock.{BadBlock}
+use Rattle.tree_repair.specs.declared.fault.RepairFault.{RepairFault}
+use Rattle.tree_repair.specs.declared.parity.Came.{Came}
+use Rattle.tree_repair.specs.declared.parity.Losses.{Losses}
+use Rattle.tree_repair.specs.declared.place.Place.{Place}
+use Rattle.tree_repair.specs.declared.place.Repair.{Repair}
+use Rattle.tree_repair.specs.Jobs.{job}
+use Rattle.tree_repair.specs.Mending.{IsBlockReplaced}
+use Rattle.tree_repair.specs.Parity.{IsNotBack, IsPutOr}
+use Rattle.tree_repair.specs.ParityBounds.{IsAskedWithin, IsMadeWithin, ParityBill, TellsBack, parity_bill, sought_among, tries_of}
+use Rattle.tree_repair.specs.Passes.{EndsInPass, IsPass}
+use Rattle.tree_repair.specs.Sources.{due}
+use Rattle.tree_repair.specs.Tries.{HasSought, IsMadeOrVain, IsSought, IsTried, Trial, trial}
+use Rattle.tree_repair.specs.Worlds.{RepairWorld}
+
+-- ---- how often devices are asked
+
+-- they were asked no more than that
+abbrev pub AsksWithin : {P : Type 0} → (P → Device) → ParityBill → RepairWorld → RepairWorld → P → P → Type 0
+AsksWithin state b w w' old new = IsAskedWithin b w w' (state old) (state new)
+
+-- no more than one block that was found nowhere takes
+abbrev pub TriesWithin : {P : Type 0} → (P → Device) → Repair → Losses → BadBlock → RepairWorld → RepairWorld → P → P → Type 0
+TriesWithin state r l bad w w' old new = IsAskedWithin (parity_bill r.shape l.layout 0 0 (tries_of bad.found)) w w' (state old) (state new)
+
+-- no more than those of them do that were found nowhere
+abbrev pub SeeksWithin : {P : Type 0} → (P → Device) → Repair → Layout → List BadBlock → RepairWorld → RepairWorld → P → P → Type 0
+SeeksWithin state r l blocks w w' old new = IsAskedWithin (parity_bill r.shape l 0 0 (sought_among blocks)) w w' (state old) (state new)
+
+-- no more than a block takes that is made again; if it was made, it has the size of those that are covered
+abbrev pub MakesWithin : {P E : Type 0} → (P → Device) → Repair → Losses → Place → RepairWorld → RepairWorld → P → P → Result Bool E → Type 0
+MakesWithin state r l place w w' old new result = IsMadeWithin r.shape l.layout place.height w w' (state old) (state new) result
+
+-- ---- blocks
+
+-- a covered block is made again, or that has a cause
+abbrev pub LacksBlock : {P : Type 0} → (P → Device) → Losses → ℕ → RepairWorld → RepairWorld → P → P → Bool → Type 0
+LacksBlock state l index w w' old new back = IsNotBack l index w w' (state old) (state new) back
+
+-- how a block is tried, by what is lent before and behind
+abbrev pub trial_by : {P : Type 0} → (P → Device) → Losses → RepairWorld → RepairWorld → P → P → Trial
+trial_by state l w w' old new = trial l.layout l.lost.items w w' (state old) (state new)
+
+-- a block to which the path leads is made again, or parity hasn't it
+abbrev pub Makes : {P E : Type 0} → (P → Device) → Repair → Losses → PathRecord → Place → RepairWorld → RepairWorld → P → P → Result Bool E → Type 0
+Makes state r l path place w w' old new result = IfOk result (IsMadeOrVain (job r) path place.height place.index (trial_by state l w w' old new))
+
+-- a block to which good hash blocks lead is sought by parity
+abbrev pub TriesPlace : {P E : Type 0} → (P → Device) → Repair → Losses → Place → RepairWorld → RepairWorld → P → P → Result Bool E → Type 0
+TriesPlace state r l place w w' old new result = IfOk result (IsTried (job r) place.height place.index (trial_by state l w w' old new))
+
+-- a block that isn't good is, if it was found nowhere
+abbrev pub SeeksBlock : {P E : Type 0} → (P → Device) → Repair → Losses → BadBlock → RepairWorld → RepairWorld → P → P → Result Bool E → Type 0
+SeeksBlock state r l bad w w' old new result = IfOk result (IsSought (job r) bad (trial_by state l w w' old new))
+
+-- each of some that aren't good is, where all of them count as lost
+abbrev pub SeeksEach : {P E : Type 0} → (P → Device) → Repair → Layout → List BadBlock → RepairWorld → RepairWorld → P → P → Result Came E → Type 0
+SeeksEach state r l blocks w w' old new result = IfOk result (λ came. HasSought (job r) l blocks w w' (state old) (state new) came.tree)
+
+-- it is told whether the block of a place came back
+abbrev pub TellsPlace : {W : Type 0} → (W → Option (List ℕ)) → Repair → Place → RepairWorld → RepairWorld → CountedRecord W → CountedRecord W → Result Bool RepairFault → Type 0
+TellsPlace contents r place w w' old new result = TellsBack contents (job r) place.height w w' old new result
+
+-- ---- a block that is put where it isn't good
+
+-- these bytes are, where they should have that digest; or good ones stand there
+abbrev pub PutsWhereBad : {B E : Type 0} → (B → Device) → B → B → ℕ → List ℕ → List ℕ → Bool → List ℕ → Result Bool E → Type 0
+PutsWhereBad state old new first salt digest_is write bytes result = IfOk result (IsPutOr (state old) first (due salt digest_is bytes) write bytes (state new))
+
+-- or good ones don't stand there, and they can't be written
+abbrev pub FailsToReplace : {B T E : Type 0} → (B → Device) → B → B → ℕ → List ℕ → List ℕ → Bool → List ℕ → Result T E → Type 0
+FailsToReplace state old new first salt digest_is write bytes result = OnErr result (IsBlockReplaced (state old) first (due salt digest_is bytes) write bytes false (state new))
+
+-- ---- passes
+
+-- one is made, and it is told whether a further one is due
+abbrev pub MakesPass : {P E : Type 0} → (P → Device) → Repair → Layout → RepairWorld → RepairWorld → P → P → Result Came E → Type 0
+MakesPass state r l w w' old new result = IfOk result (λ came. IsPass (job r) l w w' (state old) (state new) came.tree)
+
+-- as many are made as are due
+abbrev pub EndsPasses : {P T E : Type 0} → (P → Device) → Repair → Layout → RepairWorld → RepairWorld → P → P → Result T E → Type 0
+EndsPasses state r l w w' old new result = OnOk result (EndsInPass (job r) l w w' (state old) (state new))
