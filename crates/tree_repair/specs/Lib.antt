@@ -19,6 +19,7 @@ pub mod Searching
 pub mod Noting
 pub mod Coverage
 pub mod Passes
+pub mod Notes
 pub mod Standing
 pub mod Outcomes
 pub mod Beyond

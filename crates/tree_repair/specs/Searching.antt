@@ -49,8 +49,8 @@ abbrev pub trial_by : {P : Type 0} → (P → Device) → Losses → RepairWorld
 trial_by state l w w' old new = trial l.layout l.lost.items w w' (state old) (state new)
 
 -- a block to which the path leads is made again, or parity hasn't it
-abbrev pub Makes : {P E : Type 0} → (P → Device) → Repair → Losses → PathRecord → Place → RepairWorld → RepairWorld → P → P → Result Bool E → Type 0
-Makes state r l path place w w' old new result = IfOk result (IsMadeOrVain (job r) path place.height place.index (trial_by state l w w' old new))
+abbrev pub Renews : {P E : Type 0} → (P → Device) → Repair → Losses → PathRecord → Place → RepairWorld → RepairWorld → P → P → Result Bool E → Type 0
+Renews state r l path place w w' old new result = IfOk result (IsMadeOrVain (job r) path place.height place.index (trial_by state l w w' old new))
 
 -- a block to which good hash blocks lead is sought by parity
 abbrev pub TriesPlace : {P E : Type 0} → (P → Device) → Repair → Losses → Place → RepairWorld → RepairWorld → P → P → Result Bool E → Type 0

@@ -1,9 +1,9 @@
 //! A block that is looked at, and written where it isn't good and was found elsewhere.
-ghost use Rattle.std.specs.Prelude.{◌≡◌, ◌/◌, ◌+◌, ◌<◌, ◌^◌, ℕ, List, true, IfOk, IsTrue, OnErr, OnOk, is_ok, length, map};
+ghost use Rattle.std.specs.Prelude.{◌/◌, ◌+◌, ◌<◌, ◌^◌, IfOk, IsTrue, is_ok, length};
 ghost use Rattle.block_device.specs.Device.{IsInside};
-ghost use Rattle.tree_repair.specs.Bills.{IsAskedOnce};
-ghost use Rattle.tree_repair.specs.Mending.{IsMended, IsNotRemade, IsPutAt, IsUnmended};
-ghost use Rattle.tree_repair.specs.Looks.{look};
+ghost use Rattle.tree_repair.specs.Bills.{AsksOnce};
+ghost use Rattle.tree_repair.specs.Mending.{IsNotRemade, IsPutAt};
+ghost use Rattle.tree_repair.specs.Looks.{FailsToMend, MendsBlock};
 
 use crate::seeking::{is_there, seek};
 use block_device::{BlockDev, DeviceFault};
@@ -44,10 +44,10 @@ pub(crate) fn mend<B: BlockDev, C: BlockDev>(
     requires inside { IsInside (B.state device.old) sought.now.first (length block.old) }
     requires small { sought.now.copy_first + length block.old / 512 < 2 ^ 64 }
     requires allowed { IsTrue write → IsTrue (B.state device.old).may_write }
-    ensures ok { IfOk result (λ m. (bytes : List ℕ) × IsMended (look sought.now salt.now (length block.old / 512) write (B.state device.old) (B.state device.new) (map C.state copies.old.items) (map C.state copies.new.items)) bytes true m) }
+    ensures ok { MendsBlock B.state C.state sought.now salt.now write block.old device.old device.new copies.old copies.new result }
     ensures plain { IfOk result IsNotRemade }
-    ensures err { OnErr result (IsUnmended (look sought.now salt.now (length block.old / 512) write (B.state device.old) (B.state device.new) (map C.state copies.old.items) (map C.state copies.new.items))) }
-    ensures asked { IsAskedOnce (length block.old / 512) (B.state device.old) (B.state device.new) (map C.state copies.old.items) (map C.state copies.new.items) }
+    ensures err { FailsToMend B.state C.state sought.now salt.now write block.old device.old device.new copies.old copies.new result }
+    ensures asked { AsksOnce B.state C.state block.old device.old device.new copies.old copies.new }
 {
     let Sought {
         first,

@@ -13,7 +13,7 @@ ghost use Rattle.tree_repair.specs.Parity.{FailsToPlace, IsBack, IsPlace, IsPlac
 ghost use Rattle.tree_repair.specs.Runs.{CanRun, IsWriterCause, Ran, sector_at, size_at};
 ghost use Rattle.tree_repair.specs.Tries.{AreCovered, IsCoveredOr, is_hash_back, listed_number};
 ghost use Rattle.tree_repair.specs.Worlds.{IsWorldRead};
-ghost use Rattle.tree_repair.specs.Searching.{AsksWithin, FailsToReplace, LacksBlock, Makes, MakesWithin, PutsWhereBad, SeeksBlock, SeeksEach, SeeksWithin, TellsPlace, TriesPlace, TriesWithin};
+ghost use Rattle.tree_repair.specs.Searching.{AsksWithin, FailsToReplace, LacksBlock, MakesWithin, PutsWhereBad, Renews, SeeksBlock, SeeksEach, SeeksWithin, TellsPlace, TriesPlace, TriesWithin};
 
 use crate::bad::BadBlock;
 use crate::fault::RepairFault;
@@ -233,7 +233,7 @@ fn make_again<D: BlockDev, H: BlockDev, C: BlockDev, P: BlockDev>(
     ensures read { IsWorldRead image.old image.new }
     ensures parity { IsOnlyRead (P.state parity.old) (P.state parity.new) }
     ensures good { IfOk result (λ made. IsTrue made → AreGoodAt repair.now path.now place bytes.new) }
-    ensures vain { Makes P.state repair.now losses.now path.now place image.old image.new parity.old parity.new result }
+    ensures vain { Renews P.state repair.now losses.now path.now place image.old image.new parity.old parity.new result }
     ensures within { MakesWithin P.state repair.now losses.now place image.old image.new parity.old parity.new result }
 {
     let index = match covered_at(repair, &losses.layout, place) {

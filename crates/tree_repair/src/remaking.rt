@@ -7,10 +7,10 @@ ghost use Rattle.verity_format.specs.Image.{data_sectors, tree_sectors};
 ghost use Rattle.tree_path.specs.Path.{digest_on};
 ghost use Rattle.tree_path.specs.Steps.{HasReadAtMost};
 ghost use Rattle.tree_survey.specs.Surveys.{IsWay};
-ghost use Rattle.tree_repair.specs.Bills.{LeavesBeneath, LeavesBlock, made_over};
+ghost use Rattle.tree_repair.specs.Bills.{LeavesBeneath, LeavesBlock, LeavesMade, made_over};
 ghost use Rattle.tree_repair.specs.Grounds.{IsMadeIn, IsNowhereIn, IsOverIn, IsUnlikeIn, made_in, stands_in};
 ghost use Rattle.tree_repair.specs.Jobs.{job};
-ghost use Rattle.tree_repair.specs.Remaking.{HaveBlocks, IsBlockOf, IsSure, count_in};
+ghost use Rattle.tree_repair.specs.Remaking.{HaveBlocks, IsBlockOf, IsHashBlockOf, IsSure, count_in};
 ghost use Rattle.tree_repair.specs.Runs.{size_at};
 ghost use Rattle.tree_repair.specs.Worlds.{AreBothRead};
 
@@ -90,7 +90,7 @@ fn is_made<D: BlockDev, H: BlockDev, C: BlockDev>(
     ensures good { IsTrue result → digest repair.now.salt block.new ≡ expected.now }
     ensures stand { IsTrue result → IsOverIn image.old (made_in repair.now image.old making) block.new }
     ensures none { result ≡ false → IsUnlikeIn repair.now image.old expected.now (made_in repair.now image.old making) }
-    ensures asked { LeavesBlock (made_over repair.now.shape making.from) repair.now.shape (making.from + making.steps) making.number image.old image.new }
+    ensures asked { LeavesMade repair.now.shape making image.old image.new }
 {
     if !make(repair, making, image, block, memory) {
         return false;
@@ -114,7 +114,7 @@ fn make<D: BlockDev, H: BlockDev, C: BlockDev>(
     ensures read { AreBothRead image.old image.new }
     ensures made { IsTrue result → IsOverIn image.old (made_in repair.now image.old making) block.new }
     ensures sure { IsSure image.old.data_dev image.old.hash_dev result }
-    ensures asked { LeavesBlock (made_over repair.now.shape making.from) repair.now.shape (making.from + making.steps) making.number image.old image.new }
+    ensures asked { LeavesMade repair.now.shape making image.old image.new }
 {
     let Making {
         from,
@@ -227,7 +227,7 @@ fn read_hash<H: BlockDev>(
     requires inside { number < level_blocks shape.now level }
     requires size { length block.old ≡ shape.now.hash_block }
     ensures read { IsOnlyRead (H.state hash_dev.old) (H.state hash_dev.new) }
-    ensures stands { IsTrue result → IsBlockOf (H.state hash_dev.old) shape.now.hash_block (position shape.now level number) block.new }
+    ensures stands { IsTrue result → IsHashBlockOf (H.state hash_dev.old) shape.now level number block.new }
     ensures sure { IsTrue (H.state hash_dev.old).never_fails → IsTrue result }
     ensures asked { HasReadAtMost (H.state hash_dev.old) (shape.now.hash_block / 512) (H.state hash_dev.new) }
     ensures counted { (H.state hash_dev.old).failures ≤ (H.state hash_dev.new).failures }

@@ -5,7 +5,7 @@ ghost use Rattle.tree_shape.specs.Shape.{IsShape, levels};
 ghost use Rattle.verity_format.specs.Image.{tree_sectors};
 ghost use Rattle.tree_path.specs.Path.{digest_on};
 ghost use Rattle.tree_survey.specs.Surveys.{IsWay};
-ghost use Rattle.tree_repair.specs.Bills.{IsAskedOnce, LeavesHashVisit, LeavesVisit};
+ghost use Rattle.tree_repair.specs.Bills.{AsksHashOnce, LeavesHashVisit, LeavesVisit};
 ghost use Rattle.tree_repair.specs.Jobs.{job};
 ghost use Rattle.tree_repair.specs.Looks.{tree_look};
 ghost use Rattle.tree_repair.specs.Mending.{IsNotRemade, IsUnmended};
@@ -130,7 +130,7 @@ fn mend_hash<D: BlockDev, H: BlockDev, C: BlockDev>(
     ensures plain { IfOk result IsNotRemade }
     ensures err { OnErr result (IsUnmended (tree_look sought.now repair.now block.old image.old image.new)) }
     ensures kept { KeepsData image.old image.new }
-    ensures asked { IsAskedOnce (length block.old / 512) image.old.hash_dev image.new.hash_dev image.old.hash_copies image.new.hash_copies }
+    ensures asked { AsksHashOnce block.old image.old image.new }
 {
     let copies = &mut image.hash_copies;
     mend(
