@@ -4,16 +4,15 @@ ghost use Rattle.block_device.specs.Device.{IsInside};
 ghost use Rattle.fec_area.specs.Layouts.{IsLaidOn, IsLayout, covered_blocks};
 ghost use Rattle.tree_shape.specs.Digests.{digest};
 ghost use Rattle.tree_shape.specs.Shape.{levels};
-ghost use Rattle.tree_survey.specs.Surveys.{IsWay};
 ghost use Rattle.verity_format.specs.Blocks.{IsOnlyRead};
-ghost use Rattle.tree_repair.specs.Jobs.{AreGoodAt, job};
+ghost use Rattle.tree_repair.specs.Jobs.{job};
 ghost use Rattle.tree_repair.specs.ParityBounds.{IsAskedAlone, IsReplacedOnce, TellsCame, along_bill, put_bill, round_bill};
 ghost use Rattle.tree_repair.specs.Passes.{AreBack};
-ghost use Rattle.tree_repair.specs.Parity.{FailsToPlace, IsBack, IsPlace, IsPlaced, end_at};
+ghost use Rattle.tree_repair.specs.Parity.{IsBack, IsPlace, end_at};
 ghost use Rattle.tree_repair.specs.Runs.{CanRun, IsWriterCause, Ran, sector_at, size_at};
 ghost use Rattle.tree_repair.specs.Tries.{AreCovered, IsCoveredOr, is_hash_back, listed_number};
 ghost use Rattle.tree_repair.specs.Worlds.{IsWorldRead};
-ghost use Rattle.tree_repair.specs.Searching.{AsksWithin, FailsToReplace, LacksBlock, MakesWithin, PutsWhereBad, Renews, SeeksBlock, SeeksEach, SeeksWithin, TellsPlace, TriesPlace, TriesWithin};
+ghost use Rattle.tree_repair.specs.Searching.{AreGoodFor, AsksWithin, FailsToPutMissing, FailsToReplace, IsReached, IsInTree, IsMissingPut, LacksBlock, MakesMissing, MakesWithin, PutsWhereBad, SeeksBlock, SeeksEach, SeeksWithin, TellsPlace, TellsMissing, TriesMissing, TriesWithin, missing_size};
 
 use crate::bad::BadBlock;
 use crate::fault::RepairFault;
@@ -29,7 +28,7 @@ use fec_area::{Layout, LostBlock, RestoreFault, restore_block};
 use std::alloc::{AllocError, Global};
 use std::io::Write;
 use tree_path::TreePath;
-use tree_shape::{Digest, Salt};
+use tree_shape::Digest;
 
 /// Whether a hash block came back by parity, and whether all is good by then.
 #[derive(Clone, Copy)]
@@ -43,6 +42,14 @@ pub(crate) struct Came {
 struct Losses {
     layout: Layout,
     lost: Vec<u64>,
+}
+
+/// A lost block of what is repaired, and the path of the good hash blocks that lead to it.
+#[derive(Clone, Copy)]
+struct Missing<'a> {
+    path: &'a TreePath,
+    repair: &'a Repair,
+    place: Place,
 }
 
 /// Goes over the blocks that were found nowhere, from the root down, and brings back those that parity has. Tells whether
@@ -179,63 +186,69 @@ fn restore_block_at<D: BlockDev, H: BlockDev, C: BlockDev, P: BlockDev, W: Write
     let found = way_to(repair, image, place.index, place.height)?;
     match found {
         None => Ok(false),
-        Some(path) => restore_along(&path, repair, losses, place, image, parity, writer),
+        Some(path) => {
+            let missing = Missing {
+                path: &path,
+                repair,
+                place,
+            };
+            restore_missing(&missing, losses, image, parity, writer)
+        }
     }
 }
 
-// Brings a block back to which the path leads.
-fn restore_along<D: BlockDev, H: BlockDev, C: BlockDev, P: BlockDev, W: Write>(
-    path: &TreePath,
-    repair: &Repair,
+// Brings a block back to which good hash blocks lead.
+fn restore_missing<D: BlockDev, H: BlockDev, C: BlockDev, P: BlockDev, W: Write>(
+    missing: &Missing<'_>,
     losses: &Losses,
-    place: Place,
     image: &mut DamagedImage<D, H, C>,
     parity: &mut P,
     writer: &mut Counted<W>,
 ) -> Result<bool, RepairFault>
-    requires asked { IsTrue repair.now.parity }
-    requires can { CanRun (job repair.now) image.old }
+    requires asked { IsTrue missing.now.repair.now.parity }
+    requires can { CanRun (job missing.now.repair.now) image.old }
     requires laid { IsLaidOn losses.now.layout image.old.data_dev image.old.hash_dev }
-    requires place { IsPlace repair.now.shape place.height place.index }
-    requires way { IsWay (job repair.now).tree place.index place.height path.now }
+    requires place { IsInTree missing.now }
+    requires way { IsReached missing.now }
     ensures parity { IsOnlyRead (P.state parity.old) (P.state parity.new) }
-    ensures run { Ran W.contents (job repair.now) image.old image.new writer.old writer.new result }
+    ensures run { Ran W.contents (job missing.now.repair.now) image.old image.new writer.old writer.new result }
     ensures told { IfErr result (IsWriterCause writer.new) }
-    ensures tried { TriesPlace P.state repair.now losses.now place image.old image.new parity.old parity.new result }
+    ensures tried { TriesMissing P.state missing.now losses.now image.old image.new parity.old parity.new result }
     ensures within { AsksWithin P.state (along_bill losses.now.layout) image.old image.new parity.old parity.new }
-    ensures came { TellsPlace W.contents repair.now place image.old image.new writer.old writer.new result }
+    ensures came { TellsMissing W.contents missing.now image.old image.new writer.old writer.new result }
 {
-    let size = block_size(&repair.shape, place.height);
+    let repair = missing.repair;
+    let size = block_size(&repair.shape, missing.place.height);
     let mut made = zeros(repair.alloc, size)?;
     let mut read = zeros(repair.alloc, size)?;
     let bytes = made.as_mut_slice();
     let block = read.as_mut_slice();
-    let back = make_again(path, repair, losses, place, image, parity, bytes)?;
+    let back = make_again(missing, losses, image, parity, bytes)?;
     if !back {
         return Ok(false);
     }
-    put_restored(path, repair, place, image, bytes, block, writer)
+    put_restored(missing, image, bytes, block, writer)
 }
 
 // Makes a block again by parity, and tells whether it has the digest to which the path leads.
 fn make_again<D: BlockDev, H: BlockDev, C: BlockDev, P: BlockDev>(
-    path: &TreePath,
-    repair: &Repair,
+    missing: &Missing<'_>,
     losses: &Losses,
-    place: Place,
     image: &mut DamagedImage<D, H, C>,
     parity: &mut P,
     bytes: &mut [u8],
 ) -> Result<bool, AllocError>
     requires laid { IsLaidOn losses.now.layout image.old.data_dev image.old.hash_dev }
-    requires way { IsWay (job repair.now).tree place.index place.height path.now }
-    requires size { length bytes.old ≡ size_at repair.now.shape place.height }
+    requires way { IsReached missing.now }
+    requires size { length bytes.old ≡ missing_size missing.now }
     ensures read { IsWorldRead image.old image.new }
     ensures parity { IsOnlyRead (P.state parity.old) (P.state parity.new) }
-    ensures good { IfOk result (λ made. IsTrue made → AreGoodAt repair.now path.now place bytes.new) }
-    ensures vain { Renews P.state repair.now losses.now path.now place image.old image.new parity.old parity.new result }
-    ensures within { MakesWithin P.state repair.now losses.now place image.old image.new parity.old parity.new result }
+    ensures good { IfOk result (λ made. IsTrue made → AreGoodFor missing.now bytes.new) }
+    ensures vain { MakesMissing P.state missing.now losses.now image.old image.new parity.old parity.new result }
+    ensures within { MakesWithin P.state missing.now losses.now image.old image.new parity.old parity.new result }
 {
+    let repair = missing.repair;
+    let place = missing.place;
     let index = match covered_at(repair, &losses.layout, place) {
         None => return Ok(false),
         Some(index) => index,
@@ -244,7 +257,7 @@ fn make_again<D: BlockDev, H: BlockDev, C: BlockDev, P: BlockDev>(
     if !back {
         return Ok(false);
     }
-    let expected = path.digest_at(place.height, place.index);
+    let expected = missing.path.digest_at(place.height, place.index);
     Ok(is_same(&repair.salt.digest(bytes), &expected))
 }
 
@@ -290,65 +303,59 @@ fn restore<D: BlockDev, H: BlockDev, C: BlockDev, P: BlockDev>(
 
 // Puts the bytes of a block where it stands, and prints its line.
 fn put_restored<D: BlockDev, H: BlockDev, C: BlockDev, W: Write>(
-    path: &TreePath,
-    repair: &Repair,
-    place: Place,
+    missing: &Missing<'_>,
     image: &mut DamagedImage<D, H, C>,
     bytes: &[u8],
     block: &mut [u8],
     writer: &mut Counted<W>,
 ) -> Result<bool, RepairFault>
-    requires asked { IsTrue repair.now.parity }
-    requires can { CanRun (job repair.now) image.old }
-    requires place { IsPlace repair.now.shape place.height place.index }
-    requires way { IsWay (job repair.now).tree place.index place.height path.now }
-    requires good { AreGoodAt repair.now path.now place bytes.now }
-    requires bytes { length bytes.now ≡ size_at repair.now.shape place.height }
-    requires size { length block.old ≡ size_at repair.now.shape place.height }
-    ensures run { Ran W.contents (job repair.now) image.old image.new writer.old writer.new result }
+    requires asked { IsTrue missing.now.repair.now.parity }
+    requires can { CanRun (job missing.now.repair.now) image.old }
+    requires place { IsInTree missing.now }
+    requires way { IsReached missing.now }
+    requires good { AreGoodFor missing.now bytes.now }
+    requires bytes { length bytes.now ≡ missing_size missing.now }
+    requires size { length block.old ≡ missing_size missing.now }
+    ensures run { Ran W.contents (job missing.now.repair.now) image.old image.new writer.old writer.new result }
     ensures told { IfErr result (IsWriterCause writer.new) }
-    ensures placed { IfOk result (IsPlaced (job repair.now) place.height place.index bytes.now image.old image.new) }
-    ensures within { IsAskedAlone (put_bill (size_at repair.now.shape place.height / 512)) image.old image.new }
-    ensures came { TellsPlace W.contents repair.now place image.old image.new writer.old writer.new result }
+    ensures placed { IfOk result (IsMissingPut missing.now bytes.now image.old image.new) }
+    ensures within { IsAskedAlone (put_bill (missing_size missing.now / 512)) image.old image.new }
+    ensures came { TellsMissing W.contents missing.now image.old image.new writer.old writer.new result }
 {
-    let back = put_block(path, repair, place, image, bytes, block)?;
+    let back = put_block(missing, image, bytes, block)?;
     if !back {
         return Ok(false);
     }
-    say_mended(writer, repair, place, Mended::Parity)?;
+    say_mended(writer, missing.repair, missing.place, Mended::Parity)?;
     Ok(true)
 }
 
 // Puts the bytes of a block where it stands, if it isn't good there.
 fn put_block<D: BlockDev, H: BlockDev, C: BlockDev>(
-    path: &TreePath,
-    repair: &Repair,
-    place: Place,
+    missing: &Missing<'_>,
     image: &mut DamagedImage<D, H, C>,
     bytes: &[u8],
     block: &mut [u8],
 ) -> Result<bool, DeviceFault>
-    requires asked { IsTrue repair.now.parity }
-    requires can { CanRun (job repair.now) image.old }
-    requires place { IsPlace repair.now.shape place.height place.index }
-    requires way { IsWay (job repair.now).tree place.index place.height path.now }
-    requires good { AreGoodAt repair.now path.now place bytes.now }
-    requires bytes { length bytes.now ≡ size_at repair.now.shape place.height }
-    requires size { length block.old ≡ size_at repair.now.shape place.height }
-    ensures ok { IfOk result (IsPlaced (job repair.now) place.height place.index bytes.now image.old image.new) }
-    ensures err { OnErr result (FailsToPlace (job repair.now) place.height place.index bytes.now image.old image.new) }
-    ensures within { IsAskedAlone (put_bill (size_at repair.now.shape place.height / 512)) image.old image.new }
+    requires asked { IsTrue missing.now.repair.now.parity }
+    requires can { CanRun (job missing.now.repair.now) image.old }
+    requires place { IsInTree missing.now }
+    requires way { IsReached missing.now }
+    requires good { AreGoodFor missing.now bytes.now }
+    requires bytes { length bytes.now ≡ missing_size missing.now }
+    requires size { length block.old ≡ missing_size missing.now }
+    ensures ok { IfOk result (IsMissingPut missing.now bytes.now image.old image.new) }
+    ensures err { OnErr result (FailsToPutMissing missing.now bytes.now image.old image.new) }
+    ensures within { IsAskedAlone (put_bill (missing_size missing.now / 512)) image.old image.new }
 {
-    let Place { height, index } = place;
-    let first = first_sector(repair, place);
-    let digest = path.digest_at(height, index);
-    let salt = &repair.salt;
+    let repair = missing.repair;
+    let Place { height, index } = missing.place;
+    let first = first_sector(repair, missing.place);
+    let digest = missing.path.digest_at(height, index);
     if height == 0 {
-        let device = &mut image.data;
-        return replace(device, first, salt, &digest, bytes, block, repair.write);
+        return replace(&mut image.data, first, repair, &digest, bytes, block);
     }
-    let device = &mut image.hash;
-    replace(device, first, salt, &digest, bytes, block, repair.write)
+    replace(&mut image.hash, first, repair, &digest, bytes, block)
 }
 
 // The first sector of a block on its device.
@@ -371,23 +378,22 @@ fn first_sector(repair: &Repair, place: Place) -> u64
 fn replace<B: BlockDev>(
     device: &mut B,
     first: u64,
-    salt: &Salt,
+    repair: &Repair,
     expected: &Digest,
     bytes: &[u8],
     block: &mut [u8],
-    write: bool,
 ) -> Result<bool, DeviceFault>
     requires inside { IsInside (B.state device.old) first (length bytes.now) }
     requires size { length block.old ≡ length bytes.now }
-    requires good { digest salt.now bytes.now ≡ expected.now }
-    requires allowed { IsTrue write → IsTrue (B.state device.old).may_write }
-    ensures ok { PutsWhereBad B.state device.old device.new first salt.now expected.now write bytes.now result }
-    ensures err { FailsToReplace B.state device.old device.new first salt.now expected.now write bytes.now result }
+    requires good { digest repair.now.salt bytes.now ≡ expected.now }
+    requires allowed { IsTrue repair.now.write → IsTrue (B.state device.old).may_write }
+    ensures ok { PutsWhereBad B.state device.old device.new first repair.now expected.now bytes.now result }
+    ensures err { FailsToReplace B.state device.old device.new first repair.now expected.now bytes.now result }
     ensures within { IsReplacedOnce (length bytes.now / 512) (B.state device.old) (B.state device.new) }
 {
-    if is_there(device, first, salt, expected, block) {
+    if is_there(device, first, &repair.salt, expected, block) {
         return Ok(false);
     }
-    put(device, first, bytes, write)?;
+    put(device, first, bytes, repair.write)?;
     Ok(true)
 }

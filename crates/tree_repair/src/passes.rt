@@ -5,10 +5,10 @@ ghost use Rattle.verity_format.specs.Blocks.{IsOnlyRead};
 ghost use Rattle.tree_repair.specs.Jobs.{job};
 ghost use Rattle.tree_repair.specs.Noting.{pass_outcome};
 ghost use Rattle.tree_repair.specs.Outcomes.{IsAllGood, IsParityOutcome};
-ghost use Rattle.tree_repair.specs.ParityBounds.{IsParityWithin, RunsInAll, RunsInOne};
+ghost use Rattle.tree_repair.specs.ParityBounds.{IsParityWithin};
 ghost use Rattle.tree_repair.specs.Repairs.{IsAllowed, IsParityRepair, IsParityUnrepaired, IsSoughtByParity};
 ghost use Rattle.tree_repair.specs.Runs.{CanRun, IsWriterCause, Ran};
-ghost use Rattle.tree_repair.specs.Searching.{EndsPasses, MakesPass};
+ghost use Rattle.tree_repair.specs.Searching.{EndsPasses, MakesPass, RunsPass, RunsPasses};
 
 use crate::bad::BadBlocks;
 use crate::fault::RepairFault;
@@ -80,7 +80,7 @@ fn run_passes<D: BlockDev, H: BlockDev, C: BlockDev, P: BlockDev, W: Write>(
     ensures told { IfErr result (IsWriterCause writer.new) }
     ensures asks { EndsPasses P.state repair.now layout.now image.old image.new parity.old parity.new result }
     ensures whole { IfOk result (λ all. IsTrue all → IsAllGood (job repair.now) image.old image.new) }
-    ensures within { RunsInAll W.contents (job repair.now) layout.now image.old image.new (P.state parity.old) (P.state parity.new) writer.old writer.new result }
+    ensures within { RunsPasses W.contents P.state repair.now layout.now image.old image.new parity.old parity.new writer.old writer.new result }
 {
     let mut left = layout.hash_blocks;
     let mut came = run_pass(repair, layout, image, parity, writer)?;
@@ -108,7 +108,7 @@ fn run_pass<D: BlockDev, H: BlockDev, C: BlockDev, P: BlockDev, W: Write>(
     ensures told { IfErr result (IsWriterCause writer.new) }
     ensures pass { MakesPass P.state repair.now layout.now image.old image.new parity.old parity.new result }
     ensures whole { IfOk result (λ came. IsTrue came.all → IsAllGood (job repair.now) image.old image.new) }
-    ensures within { RunsInOne W.contents (job repair.now) layout.now image.old image.new (P.state parity.old) (P.state parity.new) writer.old writer.new result }
+    ensures within { RunsPass W.contents P.state repair.now layout.now image.old image.new parity.old parity.new writer.old writer.new result }
 {
     let mut bad = BadBlocks::new(repair.alloc, true);
     repair_heights(repair, image, &mut bad, writer)?;

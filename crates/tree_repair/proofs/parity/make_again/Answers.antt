@@ -32,9 +32,9 @@ returns-then-not-back-clause-vain g c = λ place. inr (c.in-Some.index, (c.in-So
 
 pub returns-clause-vain : goal.returns-clause-vain
 returns-clause-vain g c =
-    made-or (job c.args.repair.now) c.args.path.now c.args.place.height c.args.place.index
+    made-or (job c.args.missing.now.repair.now) c.args.missing.now.path.now c.args.missing.now.place.height c.args.missing.now.place.index
     (trial c.args.losses.now.layout c.args.losses.now.lost.items c.args.image.now c.restore.new.image (g.P.BlockDev.state c.args.parity.now) (g.P.BlockDev.state c.restore.new.parity))
-    c.in-Some.index c.restore.new.bytes c.is_same.result c.in-Some.ensures (c.in_ok-back.ensures.bytes c.if-not-back.false) (c.is_same.ensures ∙ ap (λ (x : List ℕ). bytes_eq x c.digest_at-expected.result) c.digest.ensures ∙ ap (bytes_eq (digest c.args.repair.now.salt c.restore.new.bytes)) c.digest_at-expected.ensures)
+    c.in-Some.index c.restore.new.bytes c.is_same.result c.in-Some.ensures (c.in_ok-back.ensures.bytes c.if-not-back.false) (c.is_same.ensures ∙ ap (λ (x : List ℕ). bytes_eq x c.digest_at-expected.result) c.digest.ensures ∙ ap (bytes_eq (digest c.args.missing.now.repair.now.salt c.restore.new.bytes)) c.digest_at-expected.ensures)
 
 pub returns-in-None-clause-within : goal.returns-in-None-clause-within
 returns-in-None-clause-within g c = (asked-none (round_bill c.args.losses.now.layout) c.args.image.now (g.P.BlockDev.state c.args.parity.now), λ yes. absurd (false≢true yes))

@@ -39,23 +39,23 @@ returns-in-None-clause-parity g c = only_read-none (g.P.BlockDev.state c.args.pa
 pub returns-in-None-clause-run : goal.returns-in-None-clause-run
 returns-in-None-clause-run g c = has-read c.way_to.ensures.read
 
-pub restore_along-requires-clause-can : goal.restore_along-requires-clause-can
-restore_along-requires-clause-can g c = can-read c.way_to.ensures.read c.requires.can
+pub restore_missing-requires-clause-can : goal.restore_missing-requires-clause-can
+restore_missing-requires-clause-can g c = can-read c.way_to.ensures.read c.requires.can
 
-pub restore_along-requires-clause-laid : goal.restore_along-requires-clause-laid
-restore_along-requires-clause-laid g c = laid-read c.way_to.ensures.read c.requires.laid
+pub restore_missing-requires-clause-laid : goal.restore_missing-requires-clause-laid
+restore_missing-requires-clause-laid g c = laid-read c.way_to.ensures.read c.requires.laid
 
-pub restore_along-requires-clause-place : goal.restore_along-requires-clause-place
-restore_along-requires-clause-place g c = c.is_place.ensures.some c.if-not-is_place.false
+pub restore_missing-requires-clause-place : goal.restore_missing-requires-clause-place
+restore_missing-requires-clause-place g c = c.is_place.ensures.some c.if-not-is_place.false
 
-pub restore_along-requires-clause-way : goal.restore_along-requires-clause-way
-restore_along-requires-clause-way g c = rw c.in-Some.is at c.in_ok-found.ensures.way
+pub restore_missing-requires-clause-way : goal.restore_missing-requires-clause-way
+restore_missing-requires-clause-way g c = rw c.in-Some.is at c.in_ok-found.ensures.way
 
 pub returns-in-Some-clause-parity : goal.returns-in-Some-clause-parity
-returns-in-Some-clause-parity g c = c.restore_along.ensures.parity
+returns-in-Some-clause-parity g c = c.restore_missing.ensures.parity
 
 pub returns-in-Some-clause-run : goal.returns-in-Some-clause-run
-returns-in-Some-clause-run g c = has-behind c.way_to.ensures.read c.restore_along.ensures.run
+returns-in-Some-clause-run g c = has-behind c.way_to.ensures.read c.restore_missing.ensures.run
 
 pub returns-then-bad-clause-sought : goal.returns-then-bad-clause-sought
 returns-then-bad-clause-sought g c =
@@ -77,8 +77,8 @@ returns-in-None-clause-sought g c =
 
 pub returns-in-Some-clause-sought : goal.returns-in-Some-clause-sought
 returns-in-Some-clause-sought g c =
-    sought-behind (job c.args.repair.now) c.args.bad.now.place.height c.args.bad.now.place.index c.args.bad.now.found c.args.losses.now.layout c.args.losses.now.lost.items c.args.image.now c.way_to.new.image c.restore_along.new.image
-    (g.P.BlockDev.state c.args.parity.now) (g.P.BlockDev.state c.restore_along.new.parity) c.restore_along.result c.way_to.ensures.read c.if-bad.false c.restore_along.ensures.tried
+    sought-behind (job c.args.repair.now) c.args.bad.now.place.height c.args.bad.now.place.index c.args.bad.now.found c.args.losses.now.layout c.args.losses.now.lost.items c.args.image.now c.way_to.new.image c.restore_missing.new.image
+    (g.P.BlockDev.state c.args.parity.now) (g.P.BlockDev.state c.restore_missing.new.parity) c.restore_missing.result c.way_to.ensures.read c.if-bad.false c.restore_missing.ensures.tried
 
 pub returns-then-bad-clause-within : goal.returns-then-bad-clause-within
 returns-then-bad-clause-within g c = asked-none (parity_bill c.args.repair.now.shape c.args.losses.now.layout 0 0 (tries_of c.args.bad.now.found)) c.args.image.now (g.P.BlockDev.state c.args.parity.now)
@@ -100,8 +100,8 @@ returns-in-None-clause-within g c =
 
 pub returns-in-Some-clause-within : goal.returns-in-Some-clause-within
 returns-in-Some-clause-within g c =
-    subst (λ (found : Bool). IsAskedWithin (parity_bill c.args.repair.now.shape c.args.losses.now.layout 0 0 (tries_of found)) c.args.image.now c.restore_along.new.image (g.P.BlockDev.state c.args.parity.now) (g.P.BlockDev.state c.restore_along.new.parity)) (sym c.if-bad.false)
-    (work-along c.args.repair.now.shape c.args.losses.now.layout c.args.bad.now.place.height c.way_to.ensures.asked c.restore_along.ensures.within)
+    subst (λ (found : Bool). IsAskedWithin (parity_bill c.args.repair.now.shape c.args.losses.now.layout 0 0 (tries_of found)) c.args.image.now c.restore_missing.new.image (g.P.BlockDev.state c.args.parity.now) (g.P.BlockDev.state c.restore_missing.new.parity)) (sym c.if-bad.false)
+    (work-along c.args.repair.now.shape c.args.losses.now.layout c.args.bad.now.place.height c.way_to.ensures.asked c.restore_missing.ensures.within)
 
 pub returns-then-bad-clause-came : goal.returns-then-bad-clause-came
 returns-then-bad-clause-came g c = tells-none c.args.bad.now.place.height has-none
@@ -116,4 +116,4 @@ pub returns-in-None-clause-came : goal.returns-in-None-clause-came
 returns-in-None-clause-came g c = tells-none c.args.bad.now.place.height (has-read c.way_to.ensures.read)
 
 pub returns-in-Some-clause-came : goal.returns-in-Some-clause-came
-returns-in-Some-clause-came g c = tells-behind c.way_to.ensures.read c.restore_along.ensures.came
+returns-in-Some-clause-came g c = tells-behind c.way_to.ensures.read c.restore_missing.ensures.came
