@@ -5,9 +5,10 @@ ghost use Rattle.tree_repair.specs.Bills.{AsksOnce};
 ghost use Rattle.tree_repair.specs.Mending.{IsNotRemade, IsPutAt};
 ghost use Rattle.tree_repair.specs.Looks.{FailsToMend, MendsBlock};
 
+use crate::place::Repair;
 use crate::seeking::{is_there, seek};
 use block_device::{BlockDev, DeviceFault};
-use tree_shape::{Digest, Salt};
+use tree_shape::Digest;
 
 /// What came of a block.
 #[derive(Clone, Copy, Debug, PartialEq, Eq)]
@@ -24,9 +25,10 @@ pub enum Mended {
     Lost,
 }
 
-/// The first sector of a block on its device and on a copy, and its digest.
+/// A block of what is repaired: its first sector on its device and on a copy, and its digest.
 #[derive(Clone, Copy)]
-pub(crate) struct Sought {
+pub(crate) struct Sought<'a> {
+    pub(crate) repair: &'a Repair,
     pub(crate) first: u64,
     pub(crate) copy_first: u64,
     pub(crate) digest: Digest,
@@ -36,31 +38,31 @@ pub(crate) struct Sought {
 pub(crate) fn mend<B: BlockDev, C: BlockDev>(
     device: &mut B,
     copies: &mut Vec<C>,
-    sought: &Sought,
-    salt: &Salt,
+    sought: &Sought<'_>,
     block: &mut [u8],
-    write: bool,
 ) -> Result<Mended, DeviceFault>
     requires inside { IsInside (B.state device.old) sought.now.first (length block.old) }
     requires small { sought.now.copy_first + length block.old / 512 < 2 ^ 64 }
-    requires allowed { IsTrue write → IsTrue (B.state device.old).may_write }
-    ensures ok { MendsBlock B.state C.state sought.now salt.now write block.old device.old device.new copies.old copies.new result }
+    requires allowed { IsTrue sought.now.repair.now.write → IsTrue (B.state device.old).may_write }
+    ensures ok { MendsBlock B.state C.state sought.now block.old device.old device.new copies.old copies.new result }
     ensures plain { IfOk result IsNotRemade }
-    ensures err { FailsToMend B.state C.state sought.now salt.now write block.old device.old device.new copies.old copies.new result }
+    ensures err { FailsToMend B.state C.state sought.now block.old device.old device.new copies.old copies.new result }
     ensures asked { AsksOnce B.state C.state block.old device.old device.new copies.old copies.new }
 {
     let Sought {
+        repair,
         first,
         copy_first,
         digest,
     } = *sought;
+    let salt = &repair.salt;
     if is_there(device, first, salt, &digest, block) {
         return Ok(Mended::Good);
     }
     match seek(copies, copy_first, salt, &digest, block) {
         None => Ok(Mended::Lost),
         Some(number) => {
-            put(device, first, block, write)?;
+            put(device, first, block, repair.write)?;
             Ok(Mended::Copy(number))
         }
     }

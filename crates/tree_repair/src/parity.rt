@@ -12,7 +12,7 @@ ghost use Rattle.tree_repair.specs.Parity.{IsBack, IsPlace, end_at};
 ghost use Rattle.tree_repair.specs.Runs.{CanRun, IsWriterCause, Ran, sector_at, size_at};
 ghost use Rattle.tree_repair.specs.Tries.{AreCovered, IsCoveredOr, is_hash_back, listed_number};
 ghost use Rattle.tree_repair.specs.Worlds.{IsWorldRead};
-ghost use Rattle.tree_repair.specs.Searching.{AreGoodFor, AsksWithin, FailsToPutMissing, FailsToReplace, IsReached, IsInTree, IsMissingPut, LacksBlock, MakesMissing, MakesWithin, PutsWhereBad, SeeksBlock, SeeksEach, SeeksWithin, TellsPlace, TellsMissing, TriesMissing, TriesWithin, missing_size};
+ghost use Rattle.tree_repair.specs.Searching.{AreGoodFor, AsksWithin, FailsToPutMissing, FailsToReplace, IsInTree, IsMissingPut, IsReached, LacksBlock, MakesMissing, MakesWithin, PutsWhereBad, SeeksBlock, SeeksEach, SeeksWithin, TellsMissing, TellsPlace, TriesMissing, TriesWithin, missing_size};
 
 use crate::bad::BadBlock;
 use crate::fault::RepairFault;

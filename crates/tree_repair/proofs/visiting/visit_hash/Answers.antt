@@ -22,18 +22,21 @@ mend_hash-requires-clause-small g c =
     let s = c.hash_sought-sought.ensures in
     rw c.requires.size (omega (arith, s.inside, s.copy, c.requires.can.valid.tree_fits, c.requires.can.copy_small))
 
+pub mend_hash-requires-clause-allowed : goal.mend_hash-requires-clause-allowed
+mend_hash-requires-clause-allowed g c = rw c.hash_sought-sought.ensures.repair c.requires.can.hash_writable
+
 pub returns-in_err-mend_hash-clause-err : goal.returns-in_err-mend_hash-clause-err
 returns-in_err-mend_hash-clause-err g c =
     let s = c.hash_sought-sought.ensures in
     let kept = c.mend_hash.ensures.kept in
-    let u = rw (s.copy, s.first, s.digest, c.requires.size) at c.in_err-mend_hash.ensures.err in
+    let u = rw (s.repair, s.copy, s.first, s.digest, c.requires.size) at c.in_err-mend_hash.ensures.err in
     on_err-from c.from_residual.result _ _ c.from_residual.ensures.1
     (mended.Copy u.0, (u.1.0, (tt, record { looked = u.1.1; made_of = tt; data_stays = kept.device_is; copies_are = kept.copies_are })))
 
 pub returns-then-not-remake-clause-ok : goal.returns-then-not-remake-clause-ok
 returns-then-not-remake-clause-ok g c =
     let s = c.hash_sought-sought.ensures in
-    let f = rw (c.in-Lost.is, s.copy, s.first, s.digest, c.requires.size) at c.in_ok-mend_hash.ensures.ok in (
+    let f = rw (c.in-Lost.is, s.repair, s.copy, s.first, s.digest, c.requires.size) at c.in_ok-mend_hash.ensures.ok in (
       [],
       lost-seen (job c.args.repair.now) c.args.path.now c.args.level c.args.index c.args.image.now c.mend_hash.new.image c.remake.new.image c.mend_hash.ensures.kept f.1 c.remake.ensures.read
           (c.remake.ensures.none c.if-not-remake.true),
@@ -42,7 +45,7 @@ returns-then-not-remake-clause-ok g c =
 pub put_hash-requires-clause-inside : goal.put_hash-requires-clause-inside
 put_hash-requires-clause-inside g c =
     let s = c.hash_sought-sought.ensures in
-    let f = rw (c.in-Lost.is, s.copy, s.first, s.digest, c.requires.size) at c.in_ok-mend_hash.ensures.ok in
+    let f = rw (c.in-Lost.is, s.repair, s.copy, s.first, s.digest, c.requires.size) at c.in_ok-mend_hash.ensures.ok in
     let long : length c.remake.new.block ≡ c.args.repair.now.shape.hash_block = c.remake.auto.block ∙ c.mend_hash.auto.block ∙ c.requires.size in
     let block = block-size c.args.repair.now.shape.hash_block c.requires.can.valid.hash_size in
     let same = hash-same (job c.args.repair.now) c.args.path.now c.args.level c.args.index c.args.image.now c.mend_hash.new.image c.remake.new.image f.1 c.remake.ensures.read in
@@ -51,14 +54,14 @@ put_hash-requires-clause-inside g c =
 pub put_hash-requires-clause-allowed : goal.put_hash-requires-clause-allowed
 put_hash-requires-clause-allowed g c =
     let s = c.hash_sought-sought.ensures in
-    let f = rw (c.in-Lost.is, s.copy, s.first, s.digest, c.requires.size) at c.in_ok-mend_hash.ensures.ok in
+    let f = rw (c.in-Lost.is, s.repair, s.copy, s.first, s.digest, c.requires.size) at c.in_ok-mend_hash.ensures.ok in
     let same = hash-same (job c.args.repair.now) c.args.path.now c.args.level c.args.index c.args.image.now c.mend_hash.new.image c.remake.new.image f.1 c.remake.ensures.read in
     λ write. subst IsTrue (sym same.may_write) (c.requires.can.hash_writable write)
 
 pub returns-in_err-put_hash-in-Lost-clause-err : goal.returns-in_err-put_hash-in-Lost-clause-err
 returns-in_err-put_hash-in-Lost-clause-err g c =
     let s = c.hash_sought-sought.ensures in
-    let f = rw (c.in-Lost.is, s.copy, s.first, s.digest, c.requires.size) at c.in_ok-mend_hash.ensures.ok in
+    let f = rw (c.in-Lost.is, s.repair, s.copy, s.first, s.digest, c.requires.size) at c.in_ok-mend_hash.ensures.ok in
     let long : length c.remake.new.block ≡ c.args.repair.now.shape.hash_block = c.remake.auto.block ∙ c.mend_hash.auto.block ∙ c.requires.size in
     on_err-from c.from_residual-in_err-put_hash-in-Lost.result _ _ c.from_residual-in_err-put_hash-in-Lost.ensures.1 (
       mended.Remade,
@@ -75,7 +78,7 @@ returns-in_err-put_hash-in-Lost-clause-err g c =
 pub returns-in_ok-put_hash-in-Lost-clause-ok : goal.returns-in_ok-put_hash-in-Lost-clause-ok
 returns-in_ok-put_hash-in-Lost-clause-ok g c =
     let s = c.hash_sought-sought.ensures in
-    let f = rw (c.in-Lost.is, s.copy, s.first, s.digest, c.requires.size) at c.in_ok-mend_hash.ensures.ok in
+    let f = rw (c.in-Lost.is, s.repair, s.copy, s.first, s.digest, c.requires.size) at c.in_ok-mend_hash.ensures.ok in
     let long : length c.remake.new.block ≡ c.args.repair.now.shape.hash_block = c.remake.auto.block ∙ c.mend_hash.auto.block ∙ c.requires.size in (
       c.remake.new.block,
       remade-seen (job c.args.repair.now) c.args.path.now c.args.level c.args.index c.args.image.now c.mend_hash.new.image c.remake.new.image c.mend_hash.ensures.kept f.1 c.remake.ensures.read
@@ -106,7 +109,7 @@ pub returns-then-not-remake-clause-asked : goal.returns-then-not-remake-clause-a
 returns-then-not-remake-clause-asked g c =
     let s = c.hash_sought-sought.ensures in
     let shape = c.args.repair.now.shape in
-    let f = rw (c.in-Lost.is, s.copy, s.first, s.digest, c.requires.size) at c.in_ok-mend_hash.ensures.ok in
+    let f = rw (c.in-Lost.is, s.repair, s.copy, s.first, s.digest, c.requires.size) at c.in_ok-mend_hash.ensures.ok in
     let a = c.args.image.now in
     let m = c.mend_hash.new.image in
     let unwritten = nowhere-unwritten (hash_look (job c.args.repair.now) c.args.path.now c.args.level c.args.index a.hash_dev m.hash_dev a.hash_copies m.hash_copies) f.1 in
@@ -116,7 +119,7 @@ pub returns-in_err-put_hash-in-Lost-clause-asked : goal.returns-in_err-put_hash-
 returns-in_err-put_hash-in-Lost-clause-asked g c =
     let s = c.hash_sought-sought.ensures in
     let shape = c.args.repair.now.shape in
-    let f = rw (c.in-Lost.is, s.copy, s.first, s.digest, c.requires.size) at c.in_ok-mend_hash.ensures.ok in
+    let f = rw (c.in-Lost.is, s.repair, s.copy, s.first, s.digest, c.requires.size) at c.in_ok-mend_hash.ensures.ok in
     let a = c.args.image.now in
     let m = c.mend_hash.new.image in
     let unwritten = nowhere-unwritten (hash_look (job c.args.repair.now) c.args.path.now c.args.level c.args.index a.hash_dev m.hash_dev a.hash_copies m.hash_copies) f.1 in
@@ -128,7 +131,7 @@ pub returns-in_ok-put_hash-in-Lost-clause-asked : goal.returns-in_ok-put_hash-in
 returns-in_ok-put_hash-in-Lost-clause-asked g c =
     let s = c.hash_sought-sought.ensures in
     let shape = c.args.repair.now.shape in
-    let f = rw (c.in-Lost.is, s.copy, s.first, s.digest, c.requires.size) at c.in_ok-mend_hash.ensures.ok in
+    let f = rw (c.in-Lost.is, s.repair, s.copy, s.first, s.digest, c.requires.size) at c.in_ok-mend_hash.ensures.ok in
     let a = c.args.image.now in
     let m = c.mend_hash.new.image in
     let unwritten = nowhere-unwritten (hash_look (job c.args.repair.now) c.args.path.now c.args.level c.args.index a.hash_dev m.hash_dev a.hash_copies m.hash_copies) f.1 in
