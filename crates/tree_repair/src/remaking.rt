@@ -4,50 +4,45 @@ ghost use Rattle.tree_shape.specs.Digests.{digest};
 ghost use Rattle.tree_shape.specs.Shape.{IsShape, level_blocks, levels, per_block, position};
 ghost use Rattle.verity_format.specs.Blocks.{IsOnlyRead};
 ghost use Rattle.verity_format.specs.Image.{data_sectors, tree_sectors};
-ghost use Rattle.tree_path.specs.Path.{digest_on};
 ghost use Rattle.tree_path.specs.Steps.{HasReadAtMost};
-ghost use Rattle.tree_survey.specs.Surveys.{IsWay};
 ghost use Rattle.tree_repair.specs.Bills.{LeavesBeneath, LeavesBlock, LeavesMade, made_over};
 ghost use Rattle.tree_repair.specs.Grounds.{IsMadeIn, IsNowhereIn, IsOverIn, IsUnlikeIn, made_in, stands_in};
-ghost use Rattle.tree_repair.specs.Jobs.{job};
 ghost use Rattle.tree_repair.specs.Remaking.{HaveBlocks, IsBlockOf, IsHashBlockOf, IsSure, count_in};
 ghost use Rattle.tree_repair.specs.Runs.{size_at};
 ghost use Rattle.tree_repair.specs.Worlds.{AreBothRead};
 
 use crate::image::DamagedImage;
+use crate::mending::Sought;
 use crate::place::{Repair, block_size, count_at};
 use crate::seeking::is_same;
 use block_device::BlockDev;
-use tree_path::TreePath;
 use tree_shape::{Digest, Shape};
 
 /// Makes the hash block of a level again that stands on the way to a data block, from the blocks of the height just beneath
-/// it, else from those of the next one, down to the data. Tells whether one that was made has the digest to which the path
-/// leads; it is in `block` then. Where a block of a height can't be read, none is made from that height. `memory` has 4,096
+/// it, else from those of the next one, down to the data. Tells whether one that was made has the digest that is sought; it is
+/// in `block` then. Where a block of a height can't be read, none is made from that height. `memory` has 4,096
 /// bytes for each height beneath.
 pub(crate) fn remake<D: BlockDev, H: BlockDev, C: BlockDev>(
-    path: &TreePath,
-    repair: &Repair,
+    sought: &Sought<'_>,
     level: u32,
     index: u64,
     image: &mut DamagedImage<D, H, C>,
     block: &mut [u8],
     memory: &mut [u8],
 ) -> bool
-    requires have { HaveBlocks repair.now.shape image.old.data_dev image.old.hash_dev }
-    requires inside { index < repair.now.shape.blocks }
-    requires level { level < levels repair.now.shape }
-    requires way { IsWay (job repair.now).tree index (level + 1) path.now }
-    requires size { length block.old ≡ repair.now.shape.hash_block }
+    requires have { HaveBlocks sought.now.repair.now.shape image.old.data_dev image.old.hash_dev }
+    requires inside { index < sought.now.repair.now.shape.blocks }
+    requires level { level < levels sought.now.repair.now.shape }
+    requires size { length block.old ≡ sought.now.repair.now.shape.hash_block }
     requires room { 4096 * (level + 1) ≤ length memory.old }
     ensures read { AreBothRead image.old image.new }
-    ensures good { IsTrue result → digest repair.now.salt block.new ≡ digest_on path.now index (level + 1) }
-    ensures made { IsTrue result → IsMadeIn repair.now image.old level index block.new }
-    ensures none { result ≡ false → IsNowhereIn repair.now image.old level index (digest_on path.now index (level + 1)) }
-    ensures asked { LeavesBeneath repair.now.shape level index image.old image.new }
+    ensures good { IsTrue result → digest sought.now.repair.now.salt block.new ≡ sought.now.digest }
+    ensures made { IsTrue result → IsMadeIn sought.now.repair.now image.old level index block.new }
+    ensures none { result ≡ false → IsNowhereIn sought.now.repair.now image.old level index sought.now.digest }
+    ensures asked { LeavesBeneath sought.now.repair.now.shape level index image.old image.new }
 {
+    let repair = sought.repair;
     let number = repair.shape.block_on_path(level, index);
-    let digest = path.digest_at(level + 1, index);
     let mut from = level + 1;
     'heights: while from > 0 {
         from -= 1;
@@ -57,7 +52,7 @@ pub(crate) fn remake<D: BlockDev, H: BlockDev, C: BlockDev>(
             steps,
             number,
         };
-        if is_made(repair, making, &digest, image, block, memory) {
+        if is_made(repair, making, &sought.digest, image, block, memory) {
             return true;
         }
     }

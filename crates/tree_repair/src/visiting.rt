@@ -101,7 +101,7 @@ fn visit_hash<D: BlockDev, H: BlockDev, C: BlockDev>(
         Mended::Remade => Ok(Mended::Remade),
         Mended::Parity => Ok(Mended::Parity),
         Mended::Lost => {
-            if !remake(path, repair, level, index, image, block, memory) {
+            if !remake(&sought, level, index, image, block, memory) {
                 return Ok(Mended::Lost);
             }
             put_hash(repair, sought.first, image, block)?;

@@ -39,7 +39,7 @@ returns-then-not-remake-clause-ok g c =
     let f = rw (c.in-Lost.is, s.repair, s.copy, s.first, s.digest, c.requires.size) at c.in_ok-mend_hash.ensures.ok in (
       [],
       lost-seen (job c.args.repair.now) c.args.path.now c.args.level c.args.index c.args.image.now c.mend_hash.new.image c.remake.new.image c.mend_hash.ensures.kept f.1 c.remake.ensures.read
-          (c.remake.ensures.none c.if-not-remake.true),
+          (rw (s.repair, s.digest) at (c.remake.ensures.none c.if-not-remake.true)),
     )
 
 pub put_hash-requires-clause-inside : goal.put_hash-requires-clause-inside
@@ -70,7 +70,7 @@ returns-in_err-put_hash-in-Lost-clause-err g c =
         (
           tt,
           remade-seen (job c.args.repair.now) c.args.path.now c.args.level c.args.index c.args.image.now c.mend_hash.new.image c.remake.new.image c.mend_hash.ensures.kept f.1 c.remake.ensures.read
-              c.remake.new.block false c.put_hash.new.image (c.remake.ensures.good c.if-not-remake.false) (c.remake.ensures.made c.if-not-remake.false) long (rw s.first at c.in_err-put_hash-in-Lost.ensures),
+              c.remake.new.block false c.put_hash.new.image (rw (s.repair, s.digest) at (c.remake.ensures.good c.if-not-remake.false)) (rw s.repair at (c.remake.ensures.made c.if-not-remake.false)) long (rw s.first at c.in_err-put_hash-in-Lost.ensures),
         ),
       ),
     )
@@ -82,7 +82,7 @@ returns-in_ok-put_hash-in-Lost-clause-ok g c =
     let long : length c.remake.new.block ≡ c.args.repair.now.shape.hash_block = c.remake.auto.block ∙ c.mend_hash.auto.block ∙ c.requires.size in (
       c.remake.new.block,
       remade-seen (job c.args.repair.now) c.args.path.now c.args.level c.args.index c.args.image.now c.mend_hash.new.image c.remake.new.image c.mend_hash.ensures.kept f.1 c.remake.ensures.read
-          c.remake.new.block true c.put_hash.new.image (c.remake.ensures.good c.if-not-remake.false) (c.remake.ensures.made c.if-not-remake.false) long (rw s.first at c.in_ok-put_hash-in-Lost.ensures),
+          c.remake.new.block true c.put_hash.new.image (rw (s.repair, s.digest) at (c.remake.ensures.good c.if-not-remake.false)) (rw s.repair at (c.remake.ensures.made c.if-not-remake.false)) long (rw s.first at c.in_ok-put_hash-in-Lost.ensures),
     )
 
 pub returns-in_err-mend_hash-clause-asked : goal.returns-in_err-mend_hash-clause-asked
@@ -113,7 +113,7 @@ returns-then-not-remake-clause-asked g c =
     let a = c.args.image.now in
     let m = c.mend_hash.new.image in
     let unwritten = nowhere-unwritten (hash_look (job c.args.repair.now) c.args.path.now c.args.level c.args.index a.hash_dev m.hash_dev a.hash_copies m.hash_copies) f.1 in
-    visit-lost shape c.requires.can.valid c.args.level c.args.index c.requires.inside a m c.remake.new.image c.mend_hash.ensures.kept (rw c.requires.size at c.mend_hash.ensures.asked) unwritten c.remake.ensures.read c.remake.ensures.asked
+    visit-lost shape c.requires.can.valid c.args.level c.args.index c.requires.inside a m c.remake.new.image c.mend_hash.ensures.kept (rw c.requires.size at c.mend_hash.ensures.asked) unwritten c.remake.ensures.read (rw s.repair at c.remake.ensures.asked)
 
 pub returns-in_err-put_hash-in-Lost-clause-asked : goal.returns-in_err-put_hash-in-Lost-clause-asked
 returns-in_err-put_hash-in-Lost-clause-asked g c =
@@ -124,7 +124,7 @@ returns-in_err-put_hash-in-Lost-clause-asked g c =
     let m = c.mend_hash.new.image in
     let unwritten = nowhere-unwritten (hash_look (job c.args.repair.now) c.args.path.now c.args.level c.args.index a.hash_dev m.hash_dev a.hash_copies m.hash_copies) f.1 in
     let long : length c.remake.new.block ≡ c.args.repair.now.shape.hash_block = c.remake.auto.block ∙ c.mend_hash.auto.block ∙ c.requires.size in
-    visit-made shape c.requires.can.valid c.args.level c.args.index c.requires.inside a m c.remake.new.image c.mend_hash.ensures.kept (rw c.requires.size at c.mend_hash.ensures.asked) unwritten c.remake.ensures.read c.remake.ensures.asked
+    visit-made shape c.requires.can.valid c.args.level c.args.index c.requires.inside a m c.remake.new.image c.mend_hash.ensures.kept (rw c.requires.size at c.mend_hash.ensures.asked) unwritten c.remake.ensures.read (rw s.repair at c.remake.ensures.asked)
     c.args.repair.now.write false _ c.remake.new.block c.put_hash.new.image long c.in_err-put_hash-in-Lost.ensures
 
 pub returns-in_ok-put_hash-in-Lost-clause-asked : goal.returns-in_ok-put_hash-in-Lost-clause-asked
@@ -136,5 +136,5 @@ returns-in_ok-put_hash-in-Lost-clause-asked g c =
     let m = c.mend_hash.new.image in
     let unwritten = nowhere-unwritten (hash_look (job c.args.repair.now) c.args.path.now c.args.level c.args.index a.hash_dev m.hash_dev a.hash_copies m.hash_copies) f.1 in
     let long : length c.remake.new.block ≡ c.args.repair.now.shape.hash_block = c.remake.auto.block ∙ c.mend_hash.auto.block ∙ c.requires.size in
-    visit-made shape c.requires.can.valid c.args.level c.args.index c.requires.inside a m c.remake.new.image c.mend_hash.ensures.kept (rw c.requires.size at c.mend_hash.ensures.asked) unwritten c.remake.ensures.read c.remake.ensures.asked
+    visit-made shape c.requires.can.valid c.args.level c.args.index c.requires.inside a m c.remake.new.image c.mend_hash.ensures.kept (rw c.requires.size at c.mend_hash.ensures.asked) unwritten c.remake.ensures.read (rw s.repair at c.remake.ensures.asked)
     c.args.repair.now.write true _ c.remake.new.block c.put_hash.new.image long c.in_ok-put_hash-in-Lost.ensures
