@@ -38,11 +38,11 @@ SeeksWithin state r l blocks w w' old new = IsAskedWithin (parity_bill r.shape l
 
 -- no more than a block takes that is made again; if it was made, it has the size of those that are covered
 abbrev pub MakesWithin : {P E : Type 0} → (P → Device) → Missing → Losses → RepairWorld → RepairWorld → P → P → Result Bool E → Type 0
-MakesWithin state t l w w' old new result = IsMadeWithin t.repair.now.shape l.layout t.place.height w w' (state old) (state new) result
+MakesWithin state m l w w' old new result = IsMadeWithin m.repair.now.shape l.layout m.place.height w w' (state old) (state new) result
 
 -- ---- blocks
 
--- a covered block is made again, or that has a cause
+-- where a covered block isn't made again, that has a cause
 abbrev pub LacksBlock : {P : Type 0} → (P → Device) → Losses → ℕ → RepairWorld → RepairWorld → P → P → Bool → Type 0
 LacksBlock state l index w w' old new back = IsNotBack l index w w' (state old) (state new) back
 
@@ -66,39 +66,39 @@ TellsPlace contents r place w w' old new result = TellsBack contents (job r) pla
 
 -- the tree has it
 abbrev pub IsInTree : Missing → Type 0
-IsInTree t = IsPlace t.repair.now.shape t.place.height t.place.index
+IsInTree m = IsPlace m.repair.now.shape m.place.height m.place.index
 
 -- the path leads to it
 abbrev pub IsReached : Missing → Type 0
-IsReached t = IsWay (job t.repair.now).tree t.place.index t.place.height t.path.now
+IsReached m = IsWay (job m.repair.now).tree m.place.index m.place.height m.path.now
 
 -- how many bytes it has
 abbrev pub missing_size : Missing → ℕ
-missing_size t = size_at t.repair.now.shape t.place.height
+missing_size m = size_at m.repair.now.shape m.place.height
 
 -- these are its bytes, by their digest
 abbrev pub AreGoodFor : Missing → List ℕ → Type 0
-AreGoodFor t bytes = AreGoodAt t.repair.now t.path.now t.place bytes
+AreGoodFor m bytes = AreGoodAt m.repair.now m.path.now m.place bytes
 
 -- it is made again, or parity hasn't it
 abbrev pub MakesMissing : {P E : Type 0} → (P → Device) → Missing → Losses → RepairWorld → RepairWorld → P → P → Result Bool E → Type 0
-MakesMissing state t l w w' old new result = IfOk result (IsMadeOrVain (job t.repair.now) t.path.now t.place.height t.place.index (trial_by state l w w' old new))
+MakesMissing state m l w w' old new result = IfOk result (IsMadeOrVain (job m.repair.now) m.path.now m.place.height m.place.index (trial_by state l w w' old new))
 
 -- its bytes are put where it isn't good
 abbrev pub IsMissingPut : Missing → List ℕ → RepairWorld → RepairWorld → Bool → Type 0
-IsMissingPut t bytes w w' put = IsPlaced (job t.repair.now) t.place.height t.place.index bytes w w' put
+IsMissingPut m bytes w w' put = IsPlaced (job m.repair.now) m.place.height m.place.index bytes w w' put
 
 -- or they can't be
 abbrev pub FailsToPutMissing : Missing → List ℕ → RepairWorld → RepairWorld → Type 0
-FailsToPutMissing t bytes w w' = FailsToPlace (job t.repair.now) t.place.height t.place.index bytes w w'
+FailsToPutMissing m bytes w w' = FailsToPlace (job m.repair.now) m.place.height m.place.index bytes w w'
 
 -- it is sought by parity
 abbrev pub TriesMissing : {P E : Type 0} → (P → Device) → Missing → Losses → RepairWorld → RepairWorld → P → P → Result Bool E → Type 0
-TriesMissing state t l w w' old new result = IfOk result (IsTried (job t.repair.now) t.place.height t.place.index (trial_by state l w w' old new))
+TriesMissing state m l w w' old new result = IfOk result (IsTried (job m.repair.now) m.place.height m.place.index (trial_by state l w w' old new))
 
 -- it is told whether it came back
 abbrev pub TellsMissing : {W : Type 0} → (W → Option (List ℕ)) → Missing → RepairWorld → RepairWorld → CountedRecord W → CountedRecord W → Result Bool RepairFault → Type 0
-TellsMissing contents t w w' old new result = TellsPlace contents t.repair.now t.place w w' old new result
+TellsMissing contents m w w' old new result = TellsPlace contents m.repair.now m.place w w' old new result
 
 -- ---- a block that is put where it isn't good
 
