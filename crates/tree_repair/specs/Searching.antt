@@ -9,9 +9,9 @@ use Rattle.tree_repair.specs.declared.bad.BadBlock.{BadBlock}
 use Rattle.tree_repair.specs.declared.fault.RepairFault.{RepairFault}
 use Rattle.tree_repair.specs.declared.parity.Came.{Came}
 use Rattle.tree_repair.specs.declared.parity.Losses.{Losses}
-use Rattle.tree_repair.specs.declared.parity.Missing.{Missing}
 use Rattle.tree_repair.specs.declared.place.Place.{Place}
 use Rattle.tree_repair.specs.declared.place.Repair.{Repair}
+use Rattle.tree_repair.specs.declared.putting.Missing.{Missing}
 use Rattle.tree_repair.specs.Jobs.{AreGoodAt, job}
 use Rattle.tree_repair.specs.Mending.{IsBlockReplaced}
 use Rattle.tree_repair.specs.Parity.{FailsToPlace, IsNotBack, IsPlace, IsPlaced, IsPutOr}

@@ -2,7 +2,7 @@ use Rattle.std.proofs.Common.{arith, ◌/◌, ℕ, ap, length, true, false}
 use Rattle.tree_repair.proofs.ParityLemmas.{if_ok-from}
 use Rattle.tree_repair.proofs.SourceLemmas.{on_err-from}
 use Rattle.tree_repair.proofs.BillLemmas.{put-once}
-use Rattle.tree_repair.proofs.parity.replace.Goals as goal
+use Rattle.tree_repair.proofs.putting.replace.Goals as goal
 
 pub is_there-requires : goal.is_there-requires
 is_there-requires g c = rw c.requires.size c.requires.inside

@@ -8,7 +8,7 @@ use Rattle.tree_repair.specs.Worlds.{RepairWorld, repair_world}
 use Rattle.tree_repair.proofs.ParityLemmas.{data-placed, data-unplaced, hash-placed, hash-unplaced, inside-place}
 use Rattle.tree_repair.specs.ParityBounds.{IsAskedAlone, put_bill}
 use Rattle.tree_repair.proofs.ParityBillLemmas.{asked-data, asked-hash}
-use Rattle.tree_repair.proofs.parity.put_block.Goals as goal
+use Rattle.tree_repair.proofs.putting.put_block.Goals as goal
 
 pub digest_at-digest-requires : goal.digest_at-digest-requires
 digest_at-digest-requires g c = omega (arith, c.requires.way.few, ap levels c.requires.way.is.shape_is)

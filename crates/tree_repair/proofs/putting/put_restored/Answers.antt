@@ -1,7 +1,7 @@
 use Rattle.std.proofs.Common.{refl}
 use Rattle.tree_repair.proofs.RunLemmas.{ended-from, ends-unsaid, ends-unwritten, has-one, has-read}
 use Rattle.tree_repair.proofs.ParityPassLemmas.{tells-from, tells-none, tells-one}
-use Rattle.tree_repair.proofs.parity.put_restored.Goals as goal
+use Rattle.tree_repair.proofs.putting.put_restored.Goals as goal
 
 pub returns-in_err-back-clause-run : goal.returns-in_err-back-clause-run
 returns-in_err-back-clause-run g c = ended-from c.from_residual.result c.from_residual.ensures.1 (ends-unwritten c.in_err-back.ensures.err tt refl)
