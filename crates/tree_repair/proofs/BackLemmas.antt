@@ -1,6 +1,5 @@
 -- Blocks that came back by parity, and an image that is all good by then.
 use Rattle.std.proofs.Common.{◌≡◌, ◌<◌, ◌+◌, ℕ, Bool, true, false, IsTrue, List, [], ◌∷◌, ◌++◌, All, Option, None, Some, take, get_or, length, refl, sym, ap, ◌∙◌, subst, arith, inl, inr, ◌⊎◌, ◌&&◌}
-use Rattle.std.specs.Prelude.{not}
 use Rattle.std.specs.List.{flat_map}
 use Rattle.std.proofs.lemmas.Bool.{and_parts, false≢true}
 use Rattle.std.proofs.lemmas.List.{take_more}
@@ -25,7 +24,7 @@ use Rattle.tree_repair.specs.Runs.{HasRun, IsDone, Job, Visit, visit}
 use Rattle.tree_repair.specs.Tries.{IsSought, IsSoughtAt, trial}
 use Rattle.tree_repair.specs.Worlds.{IsWorldRead, RepairWorld}
 use Rattle.tree_repair.proofs.RunLemmas.{runs-then, world-none, world-then}
-use Rattle.tree_repair.proofs.WholeLemmas.{all-good-of, bool-or, good-in-right}
+use Rattle.tree_repair.proofs.WholeLemmas.{AreUnfailedSince, all-good-of, bool-or, good-in-right, outcome-by}
 
 -- ---- one after another
 
@@ -153,11 +152,11 @@ all-good-behind {j} {w} {x} {y} run all = record {
 -- ---- the whole
 
 module _ (s : SuperRecord) (plan : Plan) (j : Job) (w x y : RepairWorld) (same : j ≡ job_of s plan true) (read : IsWorldRead w x) (images : AreImages w.data_dev w.hash_dev s) where
-  outcome-job : (all : Bool) → (IsTrue all → IsAllGood (job_of s plan true) x y) → IsParityOutcome plan w y (pass_outcome (not all) (shape_of s).blocks)
-  outcome-job true good = (let g = good refl in all-good-of s plan true w x y g.visits read images g.runs g.done g.each)
-  outcome-job false good = tt
+  parity-job : (all sure : Bool) → (IsTrue all → IsAllGood (job_of s plan true) x y) → (IsTrue sure → AreUnfailedSince w y) → IsParityOutcome plan w y (pass_outcome (all && sure) (shape_of s).blocks)
+  parity-job all sure good unfailed = outcome-by all sure (shape_of s).blocks (IsParityOutcome plan w y)
+      (λ is known. (let g = good is in all-good-of s plan true w x y g.visits read images g.runs g.done g.each (unfailed known))) tt
 
-  pub parity-outcome : (all : Bool) (n : ℕ) → n ≡ j.tree.shape.blocks → (IsTrue all → IsAllGood j x y) → IsParityOutcome plan w y (pass_outcome (not all) n)
-  parity-outcome all n count good =
-      subst (λ (m : ℕ). IsParityOutcome plan w y (pass_outcome (not all) m)) (sym (count ∙ ap (λ (k : Job). k.tree.shape.blocks) same))
-      (outcome-job all (λ writes. subst (λ (k : Job). IsAllGood k x y) same (good writes)))
+  pub parity-outcome : (all sure : Bool) (n : ℕ) → n ≡ j.tree.shape.blocks → (IsTrue all → IsAllGood j x y) → (IsTrue sure → AreUnfailedSince w y) → IsParityOutcome plan w y (pass_outcome (all && sure) n)
+  parity-outcome all sure n count good unfailed =
+      subst (λ (m : ℕ). IsParityOutcome plan w y (pass_outcome (all && sure) m)) (sym (count ∙ ap (λ (k : Job). k.tree.shape.blocks) same))
+      (parity-job all sure (λ is. subst (λ (k : Job). IsAllGood k x y) same (good is)) unfailed)

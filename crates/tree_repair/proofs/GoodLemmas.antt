@@ -9,7 +9,8 @@ use Rattle.std.proofs.lemmas.List.{append-nil, length-append, length-map}
 use Rattle.std.proofs.lemmas.List.Elements.{All-cons, All-nil}
 use Rattle.block_device.specs.Device.{Device}
 use Rattle.tree_shape.specs.Digests.{digest}
-use Rattle.tree_shape.specs.Shape.{ShapeRecord, ancestor}
+use Rattle.tree_shape.specs.Shape.{ShapeRecord, IsShape, ancestor}
+use Rattle.tree_shape.proofs.lemmas.ShapeFactLemmas.{ancestor-none}
 use Rattle.tree_path.specs.Path.{PathRecord, digest_on}
 use Rattle.tree_path.proofs.lemmas.DeviceLemmas.{only_read-none}
 use Rattle.tree_survey.specs.Pieces.{IsRunRead}
@@ -19,10 +20,11 @@ use Rattle.tree_repair.specs.declared.bad.BadBlock.{BadBlock}
 use Rattle.tree_repair.specs.declared.bad.BadBlocks.{BadBlocks}
 use Rattle.tree_repair.specs.declared.mending.Mended.TheVariants as mended
 use Rattle.tree_repair.specs.declared.place.Row.{Row}
-use Rattle.tree_repair.specs.Coverage.{AreDigestsOn, AreGoodFrom, AreThere, IsGoodRow, IsOfRow, IsVisitedIn}
+use Rattle.tree_repair.specs.Coverage.{AreDigestsOn, AreGoodFrom, AreThere, AreVisitedOnce, AreVisitsDue, IsDueAt, IsGoodRow, IsOfRow, IsVisitedIn}
 use Rattle.tree_repair.specs.Passes.{HasNoted, IsGoodThen, bad_of}
 use Rattle.tree_repair.specs.Runs.{IsDone, Job, VisitsAll, Visit, visit_line, visit}
 use Rattle.tree_repair.specs.Worlds.{IsWorldRead, RepairWorld}
+use Rattle.tree_repair.proofs.OnceLemmas.{due-at, due-none}
 use Rattle.tree_repair.proofs.RunLemmas.{runs-then, world-none}
 use Rattle.tree_repair.proofs.SourceLemmas.{each-none, there-before}
 
@@ -128,10 +130,26 @@ good-in s i (b ∷ more) k from below = elim (cases_eq k i) [
   | inr other ↦ inr (good-in s (i + 1) more k (omega (arith, from, other)) (omega (arith, below)))
 ]
 
+-- they are of these blocks, and of none twice
+good-from : (s : ShapeRecord) → IsShape s → (i : ℕ) (cs : List (List ℕ)) (k : ℕ) → IsVisitedIn s 0 k (good_visits i cs) → i ≤ k
+good-from s valid i [] k at = absurd at
+good-from s valid i (b ∷ more) k (inl here) = omega (arith, sym (ancestor-none s valid i) ∙ here.same ∙ ancestor-none s valid k)
+good-from s valid i (b ∷ more) k (inr there) = omega (arith, good-from s valid (i + 1) more k there)
+
+good-once : (s : ShapeRecord) → IsShape s → (i : ℕ) (cs : List (List ℕ)) → AreVisitedOnce s (good_visits i cs)
+good-once s valid i [] = tt
+good-once s valid i (b ∷ more) = (λ at. omega (arith, good-from s valid (i + 1) more i at), good-once s valid (i + 1) more)
+
+good-due : (s : ShapeRecord) (Due : ℕ → ℕ → Type 0) (i : ℕ) (cs : List (List ℕ)) → ((k : ℕ) → i ≤ k → k < i + length cs → Due 0 k) → AreVisitsDue s Due (good_visits i cs)
+good-due s Due i [] of = due-none s Due
+good-due s Due i (b ∷ more) of =
+    All-cons (λ (v : Visit). IsDueAt s Due v.height v.index) (visit 0 i mended.Good b true) (good_visits (i + 1) more) (due-at s Due 0 i (of i (omega arith) (omega arith)))
+    (good-due s Due (i + 1) more (λ k from below. of k (omega (arith, from)) (omega (arith, below))))
+
 -- so a row that was seen to be good is a run over its blocks
-pub noted-good : {j : Job} {w w' : RepairWorld} {old : Option (List ℕ)} {a : BadBlocks} (p : PathRecord) (row : Row) → IsWorldRead w w' → IsGoodRow j p row w.data_dev
+pub noted-good : {j : Job} {w w' : RepairWorld} {old : Option (List ℕ)} {a : BadBlocks} (p : PathRecord) (row : Row) → IsShape j.tree.shape → IsWorldRead w w' → IsGoodRow j p row w.data_dev
     → ((k : ℕ) → row.first ≤ k → k < row.end → (k < j.tree.shape.blocks) × IsWay j.tree k row.height p) → HasNoted j (IsOfRow row) w w' old old a a None
-noted-good {j} {w} {w'} {old} {a} p row read good ways =
+noted-good {j} {w} {w'} {old} {a} p row valid read good ways =
     let cs = good.good.contents in
     let vs = good_visits row.first cs in
     let end : (k : ℕ) → row.first ≤ k → k < row.end → k < row.first + length cs = λ k from below. omega (arith, from, below, good.good.count) in
@@ -152,6 +170,8 @@ noted-good {j} {w} {w'} {old} {a} p row read good ways =
       asked = refl;
       noted = λ ok on. sym (append-nil a.blocks.items) ∙ ap (λ (l : List BadBlock). a.blocks.items ++ l) (sym (good-noted j row.first cs));
       looked = λ ok h i due. inl (visited h i due);
+      only = λ ok. good-due j.tree.shape (IsOfRow row) row.first cs (λ k from below. (good.height_is, (from, omega (arith, below, good.good.count))));
+      once = λ ok. good-once j.tree.shape valid row.first cs;
       any = λ ok clean. (clean, good-then j row.first cs);
       passed = λ ok clean. (clean, visited);
     }

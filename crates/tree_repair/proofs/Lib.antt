@@ -10,12 +10,15 @@ mod AskedLemmas
 mod BillLemmas
 mod CountLemmas
 mod ExcuseLemmas
+mod DamagedLemmas
 mod DataBackLemmas
+mod DistinctLemmas
 mod HeightLemmas
 mod LookLemmas
 mod MakeLemmas
 mod NoneLostLemmas
 mod NumberLemmas
+mod OnceLemmas
 mod OutcomeLemmas
 mod OverLemmas
 mod ParityLemmas

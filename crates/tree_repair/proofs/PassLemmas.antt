@@ -1,6 +1,6 @@
 -- Runs of which the blocks that aren't good are noted.
 use Rattle.std.proofs.Common.{◌≡◌, ℕ, true, false, IsTrue, List, [], ◌++◌, Option, None, Some, Result, Ok, Err, refl, sym, ap, ◌∙◌, subst, arith, inl, inr, ◌&&◌, zero, suc, Bool}
-use Rattle.std.specs.Prelude.{◌⊎◌, IsErrAnd}
+use Rattle.std.specs.Prelude.{IsErrAnd}
 use Rattle.std.specs.List.{flat_map}
 use Rattle.std.specs.Io.KnownBytes.{Appends}
 use Rattle.std.specs.Result.{result_err}
@@ -15,13 +15,14 @@ use Rattle.fec_area.specs.declared.layout.Layout.{Layout}
 use Rattle.tree_repair.specs.declared.bad.BadBlock.{BadBlock}
 use Rattle.tree_repair.specs.declared.bad.BadBlocks.{BadBlocks}
 use Rattle.tree_repair.specs.declared.fault.RepairFault.{RepairFault}
-use Rattle.tree_repair.specs.Coverage.{IsFromUp, IsLookedAt, IsVisitAt}
+use Rattle.tree_repair.specs.Coverage.{IsDueAt, IsFromUp, IsLookedAt, IsVisitAt}
 use Rattle.tree_repair.specs.Noting.{IsGoodBefore, found_of, passed_some}
 use Rattle.tree_repair.specs.Passes.{AreDuePasses, ArePasses, EndsInPass, HasNoted, IsGoodThen, IsPass, bad_of}
 use Rattle.tree_repair.specs.Runs.{HasRun, IsVisited, Job, Visit, visit_line}
 use Rattle.tree_repair.specs.Tries.{HasSought}
 use Rattle.tree_repair.specs.Worlds.{IsWorldRead, RepairWorld}
 use Rattle.tree_repair.proofs.LookLemmas.{in-left, in-right, looked-behind, looked-left, looked-right}
+use Rattle.tree_repair.proofs.OnceLemmas.{AreParts, all-due, due-at, due-none, due-one, once-one, once-then}
 use Rattle.tree_repair.proofs.RunLemmas.{has-behind, has-none, has-one, has-read, has-then, runs-read, world-none, world-then}
 
 pub noted-none : {j : Job} {Due : ℕ → ℕ → Type 0} {w : RepairWorld} {old : Option (List ℕ)} {a : BadBlocks} → ((h i : ℕ) → Due h i → ⊥) → HasNoted j Due w w old old a a None
@@ -30,6 +31,8 @@ noted-none {j} {Due} {w} {old} {a} none = record {
   asked = refl;
   noted = λ end on. sym (append-nil a.blocks.items);
   looked = λ end h i due. absurd (none h i due);
+  only = λ end. due-none j.tree.shape Due;
+  once = λ end. tt;
   any = λ end clean. (clean, All-nil (IsGoodThen j));
   passed = λ end clean. (clean, λ h i due. absurd (none h i due));
 }
@@ -41,13 +44,15 @@ noted-read {j} {Due} {w} {w'} {old} {a} {b} same read looked = subst (λ (x : Ba
   asked = refl;
   noted = λ end on. sym (append-nil a.blocks.items);
   looked = λ end. looked;
+  only = λ end. due-none j.tree.shape Due;
+  once = λ end. tt;
   any = λ end clean. (clean, All-nil (IsGoodThen j));
   passed = λ end clean. absurd (true≢false clean);
 })
 
 pub noted-then : {j : Job} {Due First Next : ℕ → ℕ → Type 0} {w x y : RepairWorld} {old now new : Option (List ℕ)} {a b c : BadBlocks} {fault : Option RepairFault} → HasNoted j First w x old now a b None → HasNoted j Next x y now new b c fault
-    → ((h i : ℕ) → Due h i → First h i ⊎ Next h i) → HasNoted j Due w y old new a c fault
-noted-then {j} {Due} {First} {Next} {w} {x} {y} {old} {now} {new} {a} {b} {c} {fault} p q either = record {
+    → AreParts j.tree.shape Due First Next → HasNoted j Due w y old new a c fault
+noted-then {j} {Due} {First} {Next} {w} {x} {y} {old} {now} {new} {a} {b} {c} {fault} p q parts = record {
   run = has-then p.run q.run;
   asked = q.asked ∙ p.asked;
   noted = λ end on.
@@ -55,10 +60,13 @@ noted-then {j} {Due} {First} {Next} {w} {x} {y} {old} {now} {new} {a} {b} {c} {f
       ∙ ap (λ (l : List BadBlock). l ++ flat_map (bad_of j) q.run.visits) (p.noted refl on)
       ∙ append_assoc a.blocks.items (flat_map (bad_of j) p.run.visits) (flat_map (bad_of j) q.run.visits)
       ∙ ap (λ (l : List BadBlock). a.blocks.items ++ l) (sym (flat_map-append (bad_of j) p.run.visits q.run.visits));
-  looked = λ end h i due. elim (either h i due) [
+  looked = λ end h i due. elim (parts.either h i due) [
     | inl at ↦ looked-left j h i p.run.visits q.run.visits w x y (p.looked refl h i at) q.run.runs
     | inr at ↦ looked-right j h i p.run.visits q.run.visits w x y p.run.runs (q.looked end h i at)
   ];
+  only = λ end. All-append (λ (v : Visit). IsDueAt j.tree.shape Due v.height v.index) p.run.visits q.run.visits
+      (all-due j.tree.shape First Due p.run.visits parts.first (p.only refl)) (all-due j.tree.shape Next Due q.run.visits parts.next (q.only end));
+  once = λ end. once-then j.tree.shape Due First Next parts p.run.visits q.run.visits (p.only refl) (q.only end) (p.once refl) (q.once end);
   any = λ end clean.
       let behind = q.any end clean in
       let before = p.any refl behind.0 in
@@ -67,7 +75,7 @@ noted-then {j} {Due} {First} {Next} {w} {x} {y} {old} {now} {new} {a} {b} {c} {f
       let behind = q.passed end clean in
       let before = p.passed refl behind.0 in (
         before.0,
-        λ h i due. elim (either h i due) [
+        λ h i due. elim (parts.either h i due) [
           | inl at ↦ in-left j.tree.shape h i p.run.visits q.run.visits (before.1 h i at)
           | inr at ↦ in-right j.tree.shape h i p.run.visits q.run.visits (behind.1 h i at)
         ],
@@ -80,31 +88,38 @@ noted-behind {j} {Due} {w} {x} {y} read p = record {
   asked = p.asked;
   noted = p.noted;
   looked = λ end h i due. looked-behind j h i p.run.visits w x y read (p.looked end h i due);
+  only = p.only;
+  once = p.once;
   any = p.any;
   passed = p.passed;
 }
 
 pub noted-one : {j : Job} {v : Visit} {w w' : RepairWorld} {old new : Option (List ℕ)} {a b : BadBlocks} (Due : ℕ → ℕ → Type 0) → IsVisited j v w w' → v.done ≡ true → Appends old new (visit_line j v) → b.asked ≡ a.asked
     → (IsTrue a.asked → b.blocks.items ≡ a.blocks.items ++ bad_of j v) → (b.any ≡ false → IsGoodBefore a (found_of j.write v.mended)) → b.passed ≡ a.passed → ((h i : ℕ) → Due h i → IsVisitAt j.tree.shape h i v)
-    → HasNoted j Due w w' old new a b None
-noted-one {j} {v} {w} {w'} {old} {new} {a} {b} Due here done told same noted any by at = record {
+    → Due v.height v.index → HasNoted j Due w w' old new a b None
+noted-one {j} {v} {w} {w'} {old} {new} {a} {b} Due here done told same noted any by at is = record {
   run = has-one here done told;
   asked = same;
   noted = λ end on. noted on ∙ ap (λ (l : List BadBlock). a.blocks.items ++ l) (sym (append-nil (bad_of j v)));
   looked = λ end h i due. inl (inl (at h i due));
+  only = λ end. due-one j.tree.shape Due v is;
+  once = λ end. once-one j.tree.shape v;
   any = λ end clean. (let is = any clean in (is.0, All-cons (IsGoodThen j) v [] is.1 (All-nil (IsGoodThen j))));
   passed = λ end clean. (sym by ∙ clean, λ h i due. inl (at h i due));
 }
 
--- for fewer blocks
-pub noted-fewer : {j : Job} {Due More : ℕ → ℕ → Type 0} {w w' : RepairWorld} {old new : Option (List ℕ)} {a b : BadBlocks} {fault : Option RepairFault} → HasNoted j More w w' old new a b fault → ((h i : ℕ) → Due h i → More h i) → HasNoted j Due w w' old new a b fault
-noted-fewer p fewer = record {
+-- for the same blocks, said otherwise
+pub noted-same : {j : Job} {Due More : ℕ → ℕ → Type 0} {w w' : RepairWorld} {old new : Option (List ℕ)} {a b : BadBlocks} {fault : Option RepairFault} → HasNoted j More w w' old new a b fault → ((h i : ℕ) → Due h i → More h i)
+    → ((h i : ℕ) → More h i → Due h i) → HasNoted j Due w w' old new a b fault
+noted-same {j} {Due} {More} p there back = record {
   run = p.run;
   asked = p.asked;
   noted = p.noted;
-  looked = λ end h i due. p.looked end h i (fewer h i due);
+  looked = λ end h i due. p.looked end h i (there h i due);
+  only = λ end. all-due j.tree.shape More Due p.run.visits (λ h i more. due-at j.tree.shape Due h i (back h i more)) (p.only end);
+  once = p.once;
   any = p.any;
-  passed = λ end clean. (let all = p.passed end clean in (all.0, λ h i due. all.1 h i (fewer h i due)));
+  passed = λ end clean. (let all = p.passed end clean in (all.0, λ h i due. all.1 h i (there h i due)));
 }
 
 -- one that didn't come to its end
@@ -114,6 +129,8 @@ noted-not run same = record {
   asked = same;
   noted = λ end. absurd (true≢false end);
   looked = λ end. absurd (true≢false end);
+  only = λ end. absurd (true≢false end);
+  once = λ end. absurd (true≢false end);
   any = λ end. absurd (true≢false end);
   passed = λ end. absurd (true≢false end);
 }
@@ -138,6 +155,7 @@ pass-of {j} {l} {w} {x} {y} {old} {new} {a} {b} {p} {p'} {hash_came} blocks agai
   runs = noted.run.runs;
   done = noted.run.done refl;
   looked = λ h i high inside. noted.looked refl h i (omega arith, (high, inside));
+  once = noted.once refl;
   hash_came = hash_came;
   sought = subst (λ (l' : List BadBlock). HasSought j l l' x y p p' hash_came) (are ∙ noted.noted refl on ∙ ap (λ (l' : List BadBlock). l' ++ flat_map (bad_of j) noted.run.visits) none) sought;
   again_is = is;

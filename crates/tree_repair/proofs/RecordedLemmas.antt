@@ -26,6 +26,7 @@ use Rattle.tree_repair.specs.Standing.{IsNotLost, StandsGood}
 use Rattle.tree_repair.specs.Tries.{AreCovered, IsUncovered}
 use Rattle.tree_repair.specs.WithinParity.{FormerImage, HasTreeSizes, IsAsFormed, IsFormerOf}
 use Rattle.tree_repair.specs.Worlds.{RepairWorld}
+use Rattle.tree_repair.proofs.DistinctLemmas.{among-more}
 use Rattle.tree_repair.proofs.FormerLemmas.{former-stands}
 use Rattle.tree_repair.proofs.NumberLemmas.{covered-not, covered-one}
 use Rattle.tree_repair.proofs.RunLemmas.{read-same, visited-same}
@@ -62,9 +63,6 @@ recorded-here : (s : ShapeRecord) (h i : ℕ) (place : Place) (found : Bool) (o 
 recorded-here s h i place found o more is inside height same =
     subst (λ (x : Option Bool). IsRecordedIn s h i found (bad_blocks place x ++ more)) (sym is) (inl (record { found_is = refl; inside = inside; height_is = height; same = same }))
 
-among-later : (n : ℕ) (xs : List ℕ) (k : ℕ) → IsAmong xs k → IsAmong (n ∷ xs) k
-among-later n xs k (m, (low, is)) = (suc m, (omega (arith, low), is))
-
 -- the number of a block that is recorded counts as lost
 module _ (s : ShapeRecord) (valid : IsShape s) (l : Layout) (laid : IsLayout l) (h i k : ℕ) (at : IsCoveredAt s l h i k) where
   pub recorded-known : (found : Bool) (bs : List BadBlock) (lost : List ℕ) → AreCovered s l bs lost → IsRecordedIn s h i found bs → IsAmong lost k
@@ -76,7 +74,7 @@ module _ (s : ShapeRecord) (valid : IsShape s) (l : Layout) (laid : IsLayout l) 
       let place : IsPlace s b.place.height b.place.index = record { valid = valid; inside = there.inside; high = omega (arith, at.place.high, there.height_is) } in
       absurd (covered-not s valid l laid h i b.place.index k there.same at (subst (λ (x : ℕ). IsUncovered s l x b.place.index) there.height_is (off place)))
   recorded-known found (b ∷ more) lost (inl (n, (rest, (is, (here, are))))) (inr there) =
-      subst (λ (xs : List ℕ). IsAmong xs k) (sym is) (among-later n rest k (recorded-known found more rest are there))
+      subst (λ (xs : List ℕ). IsAmong xs k) (sym is) (among-more n rest k (recorded-known found more rest are there))
   recorded-known found (b ∷ more) lost (inr (off, are)) (inr there) = recorded-known found more lost are there
 
 -- ---- a visit of a block

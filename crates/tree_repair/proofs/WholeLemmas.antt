@@ -1,8 +1,8 @@
 -- Where all blocks were visited, and each was good behind its visit, all stand good behind the run.
 use Rattle.std.proofs.Common.{◌≡◌, ◌≤◌, ◌<◌, ◌/◌, ℕ, zero, suc, Bool, true, false, IsTrue, List, [], ◌∷◌, ◌++◌, All, Option, None, refl, sym, ap, ◌∙◌, subst, arith, inl, inr, ◌⊎◌}
-use Rattle.std.specs.Prelude.{◌||◌}
+use Rattle.std.specs.Prelude.{◌||◌, ◌&&◌, not}
 use Rattle.std.specs.List.{concat}
-use Rattle.std.proofs.lemmas.Bool.{true≢false}
+use Rattle.std.proofs.lemmas.Bool.{false≢true, true≢false}
 use Rattle.std.proofs.lemmas.List.Elements.{All-head, All-tail}
 use Rattle.std.proofs.lemmas.Option.{none-some}
 use Rattle.block_device.specs.Device.{Device, run_of}
@@ -16,10 +16,13 @@ use Rattle.verity_format.specs.Superblock.{SuperRecord, shape_of}
 use Rattle.tree_repair.specs.declared.bad.BadBlocks.{BadBlocks}
 use Rattle.tree_repair.specs.declared.mending.Mended.{Mended}
 use Rattle.tree_repair.specs.declared.mending.Mended.TheVariants as mended
+use Rattle.tree_repair.specs.declared.outcome.Failures.{Failures}
 use Rattle.tree_repair.specs.declared.outcome.Outcome.{Outcome}
 use Rattle.tree_repair.specs.declared.outcome.Outcome.TheVariants.{Partly, Whole}
 use Rattle.tree_repair.specs.declared.repair.Plan.{Plan}
 use Rattle.tree_repair.specs.Coverage.{IsFromUp, IsVisitedIn}
+use Rattle.tree_repair.specs.Excuses.{HasCountedNone}
+use Rattle.tree_repair.specs.Failures.{AreUncounted}
 use Rattle.tree_repair.specs.Mending.{IsAllowedPut, IsMended, Look}
 use Rattle.tree_repair.specs.Noting.{found_of, pass_outcome}
 use Rattle.tree_repair.specs.Outcomes.{IsGoodThenIn, IsOutcomeOf, LeavesAllGood, StandsFrom}
@@ -170,10 +173,21 @@ module _ (j : Job) (vs : List Visit) (w w' : RepairWorld) (runs : VisitsAll j vs
   all-stored : (i : ℕ) → i < j.tree.shape.blocks → ((h : ℕ) → h ≤ levels j.tree.shape → IsGoodThenIn j.write j.tree.shape h i vs) → IsContentStoredAs j.tree w'.data_dev.image w'.hash_dev.image i None ⊎ Collide j.tree.salt
   all-stored i inside each = way-stands j i w' (λ h few. all-stand h i inside (each h few))
 
+-- no call of either device failed
+pub record AreUnfailedSince (w w' : RepairWorld) : Type 0 where
+  pub data_none : HasCountedNone w.data_dev w'.data_dev
+  pub hash_none : HasCountedNone w.hash_dev w'.hash_dev
+
+pub unfailed-since : (before : Failures) (w w' : RepairWorld) → before.data ≡ w.data_dev.failures → before.hash ≡ w.hash_dev.failures → AreUncounted before w' → AreUnfailedSince w w'
+unfailed-since before w w' first second none = record {
+  data_none = record { none = omega (arith, none.data_same, first); below = none.data_below };
+  hash_none = record { none = omega (arith, none.hash_same, second); below = none.hash_below };
+}
+
 -- behind the reading of the superblock
 pub all-good-of : (s : SuperRecord) (plan : Plan) (parity : Bool) (w b w' : RepairWorld) (vs : List Visit) → IsWorldRead w b → AreImages w.data_dev w.hash_dev s → VisitsAll (job_of s plan parity) vs b w' → All IsDone vs
-    → ((h i : ℕ) → h ≤ levels (shape_of s) → i < (shape_of s).blocks → IsGoodThenIn plan.write (shape_of s) h i vs) → LeavesAllGood plan parity w w' (shape_of s).blocks
-all-good-of s plan parity w b w' vs read images runs done each =
+    → ((h i : ℕ) → h ≤ levels (shape_of s) → i < (shape_of s).blocks → IsGoodThenIn plan.write (shape_of s) h i vs) → AreUnfailedSince w w' → LeavesAllGood plan parity w w' (shape_of s).blocks
+all-good-of s plan parity w b w' vs read images runs done each unfailed =
     let j : Job = job_of s plan parity in
     let all : VisitsAll j vs w w' = runs-read j vs w b w' read runs in
     record {
@@ -184,6 +198,8 @@ all-good-of s plan parity w b w' vs read images runs done each =
       runs = all;
       done = done;
       each = each;
+      data_unfailed = unfailed.data_none;
+      hash_unfailed = unfailed.hash_none;
       good = λ steady i inside.
           all-stored j vs w w' all done (record { valid = images.from.carried.valid.shape; steady = steady; data_fits = images.data_fits; tree_fits = images.tree_fits }) i inside
           (λ h few. each h i few inside);
@@ -191,23 +207,30 @@ all-good-of s plan parity w b w' vs read images runs done each =
 
 -- ---- what is known behind a pass
 
-outcome-by : (some by : Bool) (n : ℕ) (P : Outcome → Type 0) → (some ≡ false → by ≡ false → P (Whole n)) → P Partly → P (pass_outcome (some || by) n)
-outcome-by true by n P all partly = partly
-outcome-by false true n P all partly = partly
-outcome-by false false n P all partly = all refl refl
+pub outcome-by : (good sure : Bool) (n : ℕ) (P : Outcome → Type 0) → (IsTrue good → IsTrue sure → P (Whole n)) → P Partly → P (pass_outcome (good && sure) n)
+outcome-by true true n P all partly = all refl refl
+outcome-by true false n P all partly = partly
+outcome-by false sure n P all partly = partly
+
+none-of : (some by : Bool) → IsTrue (not (some || by)) → (some ≡ false) × (by ≡ false)
+none-of true by none = absurd (false≢true none)
+none-of false true none = absurd (false≢true none)
+none-of false false none = (refl, refl)
 
 module _ (s : SuperRecord) (plan : Plan) (j : Job) (w x y : RepairWorld) (same : j ≡ job_of s plan false) (read : IsWorldRead w x) (images : AreImages w.data_dev w.hash_dev s) where
   -- all that was due was visited, and is good
-  all-good-noted : {old new : Option (List ℕ)} {a b : BadBlocks} → HasNoted (job_of s plan false) (IsFromUp (shape_of s) 0) x y old new a b None → b.any ≡ false → b.passed ≡ false → LeavesAllGood plan false w y (shape_of s).blocks
-  all-good-noted notes none by =
+  all-good-noted : {old new : Option (List ℕ)} {a b : BadBlocks} → HasNoted (job_of s plan false) (IsFromUp (shape_of s) 0) x y old new a b None → (b.any ≡ false) × (b.passed ≡ false) → AreUnfailedSince w y → LeavesAllGood plan false w y (shape_of s).blocks
+  all-good-noted notes none unfailed =
       all-good-of s plan false w x y notes.run.visits read images notes.run.runs (notes.run.done refl)
-      (λ h i few inside. good-in-all (job_of s plan false) h i notes.run.visits (notes.any refl none).1 ((notes.passed refl by).1 h i (omega arith, (few, inside))))
+      (λ h i few inside. good-in-all (job_of s plan false) h i notes.run.visits (notes.any refl none.0).1 ((notes.passed refl none.1).1 h i (omega arith, (few, inside)))) unfailed
 
-  outcome-job : {old new : Option (List ℕ)} {a : BadBlocks} (b : BadBlocks) → HasNoted (job_of s plan false) (IsFromUp (shape_of s) 0) x y old new a b None → StandsFrom (job_of s plan false) 0 x y
-      → IsOutcomeOf plan w y (pass_outcome (b.any || b.passed) (shape_of s).blocks)
-  outcome-job b notes stands = outcome-by b.any b.passed (shape_of s).blocks (IsOutcomeOf plan w y) (all-good-noted notes) (whole-of s plan w x y read images stands)
+  outcome-job : {old new : Option (List ℕ)} {a b : BadBlocks} (good sure : Bool) → HasNoted (job_of s plan false) (IsFromUp (shape_of s) 0) x y old new a b None → StandsFrom (job_of s plan false) 0 x y
+      → good ≡ not (b.any || b.passed) → (IsTrue sure → AreUnfailedSince w y) → IsOutcomeOf plan w y (pass_outcome (good && sure) (shape_of s).blocks)
+  outcome-job {old} {new} {a} {b} good sure notes stands is unfailed =
+      outcome-by good sure (shape_of s).blocks (IsOutcomeOf plan w y) (λ all known. all-good-noted notes (none-of b.any b.passed (subst IsTrue is all)) (unfailed known)) (whole-of s plan w x y read images stands)
 
-  pub outcome-of : {old new : Option (List ℕ)} {a : BadBlocks} (b : BadBlocks) (n : ℕ) → n ≡ j.tree.shape.blocks → HasNoted j (IsFromUp j.tree.shape 0) x y old new a b None → StandsFrom j 0 x y → IsOutcomeOf plan w y (pass_outcome (b.any || b.passed) n)
-  outcome-of {old} {new} {a} b n count notes stands =
-      subst (λ (m : ℕ). IsOutcomeOf plan w y (pass_outcome (b.any || b.passed) m)) (sym (count ∙ ap (λ (k : Job). k.tree.shape.blocks) same))
-      (outcome-job b (subst (λ (k : Job). HasNoted k (IsFromUp k.tree.shape 0) x y old new a b None) same notes) (subst (λ (k : Job). StandsFrom k 0 x y) same stands))
+  pub outcome-of : {old new : Option (List ℕ)} {a b : BadBlocks} (good sure : Bool) (n : ℕ) → n ≡ j.tree.shape.blocks → HasNoted j (IsFromUp j.tree.shape 0) x y old new a b None → StandsFrom j 0 x y
+      → good ≡ not (b.any || b.passed) → (IsTrue sure → AreUnfailedSince w y) → IsOutcomeOf plan w y (pass_outcome (good && sure) n)
+  outcome-of {old} {new} {a} {b} good sure n count notes stands is unfailed =
+      subst (λ (m : ℕ). IsOutcomeOf plan w y (pass_outcome (good && sure) m)) (sym (count ∙ ap (λ (k : Job). k.tree.shape.blocks) same))
+      (outcome-job good sure (subst (λ (k : Job). HasNoted k (IsFromUp k.tree.shape 0) x y old new a b None) same notes) (subst (λ (k : Job). StandsFrom k 0 x y) same stands) is unfailed)

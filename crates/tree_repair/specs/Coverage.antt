@@ -1,5 +1,5 @@
 -- Which blocks of an image a run looks at.
-use Rattle.std.specs.Prelude.{◌≡◌, ◌⊎◌, ℕ, ◌+◌, ◌-◌, ◌*◌, ◌/◌, ◌<◌, ◌≤◌, List, [], ◌∷◌, ◌++◌, length}
+use Rattle.std.specs.Prelude.{◌≡◌, ◌⊎◌, ℕ, ◌+◌, ◌-◌, ◌*◌, ◌/◌, ◌<◌, ◌≤◌, List, [], ◌∷◌, ◌++◌, length, All}
 use Rattle.std.specs.List.{slice_index_or}
 use Rattle.block_device.specs.Device.{Device}
 use Rattle.tree_shape.specs.Shape.{ShapeRecord, ancestor, levels}
@@ -88,3 +88,20 @@ IsOfRowBefore row end h i = IsOfRow row h i × (i < end)
 -- those from some height up
 abbrev pub IsFromUp : ShapeRecord → ℕ → ℕ → ℕ → Type 0
 IsFromUp s low h i = (low ≤ h) × ((h ≤ levels s) × (i < s.blocks))
+
+-- ---- blocks that are visited once
+
+-- the block of that height above data block i is due, by a data block beneath it
+pub record IsDueAt (s : ShapeRecord) (Due : ℕ → ℕ → Type 0) (h i : ℕ) : Type 0 where
+  pub beside : ℕ
+  pub due : Due h beside
+  pub same : ancestor s h i ≡ ancestor s h beside
+
+-- each of these visits is of a block that is due
+abbrev pub AreVisitsDue : ShapeRecord → (ℕ → ℕ → Type 0) → List Visit → Type 0
+AreVisitsDue s Due visits = All (λ (v : Visit). IsDueAt s Due v.height v.index) visits
+
+-- no two of them are of one block
+abbrev pub AreVisitedOnce : ShapeRecord → List Visit → Type 0
+AreVisitedOnce s [] = Unit {0}
+AreVisitedOnce s (v ∷ more) = (IsVisitedIn s v.height v.index more → ⊥) × AreVisitedOnce s more

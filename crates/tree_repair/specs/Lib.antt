@@ -21,6 +21,7 @@ pub mod Coverage
 pub mod Passes
 pub mod Notes
 pub mod Standing
+pub mod Failures
 pub mod Outcomes
 pub mod Beyond
 pub mod WithinParity

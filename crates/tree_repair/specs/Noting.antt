@@ -37,7 +37,7 @@ IsGoodBefore old found = (old.any ≡ false) × (found ≡ None)
 abbrev pub passed_some : BadBlocks → BadBlocks
 passed_some bad = record bad { passed = true }
 
--- what is known behind a pass of so many data blocks, where some block isn't good or was passed by, and where none is or was
+-- what is known of an image of so many data blocks, where all of it is known to be good, and where not
 abbrev pub pass_outcome : Bool → ℕ → Outcome
-pass_outcome true blocks = Partly
-pass_outcome false blocks = Whole blocks
+pass_outcome true blocks = Whole blocks
+pass_outcome false blocks = Partly

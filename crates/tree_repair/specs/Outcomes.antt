@@ -10,6 +10,7 @@ use Rattle.tree_repair.specs.declared.outcome.Outcome.{Outcome}
 use Rattle.tree_repair.specs.declared.outcome.Outcome.TheVariants.{Partly, Whole}
 use Rattle.tree_repair.specs.declared.repair.Plan.{Plan}
 use Rattle.tree_repair.specs.Coverage.{IsFromUp, IsVisitAt}
+use Rattle.tree_repair.specs.Excuses.{HasCountedNone}
 use Rattle.tree_repair.specs.Noting.{found_of}
 use Rattle.tree_repair.specs.Repairs.{job_of}
 use Rattle.tree_repair.specs.Runs.{IsDone, Job, VisitsAll, Visit}
@@ -71,8 +72,8 @@ pub record IsAllGood (j : Job) (w w' : RepairWorld) : Type 0 where
   pub done : All IsDone visits
   pub each : (h i : ℕ) → h ≤ levels j.tree.shape → i < j.tree.shape.blocks → IsGoodThenIn j.write j.tree.shape h i visits
 
--- So many data blocks, and all hash blocks above them, were visited, whatever the devices did, and each was good behind its visit.
--- On steady devices each data block is good at the end, as are all hash blocks above it, or two different inputs have one digest.
+-- So many data blocks, and all hash blocks above them, were visited, and each was good behind its visit; no call of the image's devices
+-- failed. On steady devices each data block is good at the end, as are all hash blocks above it, or two different inputs have one digest.
 pub record LeavesAllGood (plan : Plan) (parity : Bool) (w w' : RepairWorld) (count : ℕ) : Type 0 where
   pub s : SuperRecord
   pub images : AreImages w.data_dev w.hash_dev s
@@ -81,6 +82,8 @@ pub record LeavesAllGood (plan : Plan) (parity : Bool) (w w' : RepairWorld) (cou
   pub runs : VisitsAll (job_of s plan parity) visits w w'
   pub done : All IsDone visits
   pub each : (h i : ℕ) → h ≤ levels (shape_of s) → i < count → IsGoodThenIn plan.write (shape_of s) h i visits
+  pub data_unfailed : HasCountedNone w.data_dev w'.data_dev
+  pub hash_unfailed : HasCountedNone w.hash_dev w'.hash_dev
   pub good : IsWorldSteady w → (i : ℕ) → i < count → IsContentStoredAs (job_of s plan parity).tree w'.data_dev.image w'.hash_dev.image i None ⊎ Collide s.salt
 
 -- of a repair by copies

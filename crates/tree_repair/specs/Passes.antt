@@ -11,7 +11,7 @@ use Rattle.tree_repair.specs.declared.bad.BadBlock.{BadBlock}
 use Rattle.tree_repair.specs.declared.bad.BadBlocks.{BadBlocks}
 use Rattle.tree_repair.specs.declared.fault.RepairFault.{RepairFault}
 use Rattle.tree_repair.specs.declared.mending.Mended.TheVariants as mended
-use Rattle.tree_repair.specs.Coverage.{IsLookedAt, IsVisitAt, IsVisitedIn}
+use Rattle.tree_repair.specs.Coverage.{AreVisitedOnce, AreVisitsDue, IsLookedAt, IsVisitAt, IsVisitedIn}
 use Rattle.tree_repair.specs.Noting.{bad_blocks, found_of}
 use Rattle.tree_repair.specs.Runs.{HasRun, IsDone, Job, VisitsAll, Visit}
 use Rattle.tree_repair.specs.Tries.{HasSought}
@@ -25,13 +25,16 @@ bad_of j v = bad_blocks (record { height = v.height; index = v.index }) (found_o
 abbrev pub IsGoodThen : Job → Visit → Type 0
 IsGoodThen j v = found_of j.write v.mended ≡ None
 
--- A run of which the blocks were noted that aren't good behind it, where that is asked. It looked at each block that was due. If it
--- knows of none that isn't good, all that it visited are; if of none that was passed by, it visited all that were due.
+-- A run of which the blocks were noted that aren't good behind it, where that is asked. It looked at each block that was due, and
+-- visited no other one, and none twice. If it knows of none that isn't good, all that it visited are; if of none that was passed by,
+-- it visited all that were due.
 pub record HasNoted (j : Job) (Due : ℕ → ℕ → Type 0) (w w' : RepairWorld) (old new : Option (List ℕ)) (a b : BadBlocks) (fault : Option RepairFault) : Type 0 where
   pub run : HasRun j w w' old new fault
   pub asked : b.asked ≡ a.asked
   pub noted : IsNone fault → IsTrue a.asked → b.blocks.items ≡ a.blocks.items ++ flat_map (bad_of j) run.visits
   pub looked : IsNone fault → (h i : ℕ) → Due h i → IsLookedAt j h i run.visits w w'
+  pub only : IsNone fault → AreVisitsDue j.tree.shape Due run.visits
+  pub once : IsNone fault → AreVisitedOnce j.tree.shape run.visits
   pub any : IsNone fault → b.any ≡ false → (a.any ≡ false) × All (IsGoodThen j) run.visits
   pub passed : IsNone fault → b.passed ≡ false → (a.passed ≡ false) × ((h i : ℕ) → Due h i → IsVisitedIn j.tree.shape h i run.visits)
 
@@ -55,14 +58,15 @@ pub record AreBack (j : Job) (blocks : List BadBlock) (w w' : RepairWorld) : Typ
 
 -- ---- passes
 
--- All blocks were gone over, from the top down, and each that was lost was then sought by parity, where all that aren't good
--- count as lost; no write failed. It is due again where a hash block came back, and was written.
+-- All blocks were gone over, from the top down, none of them twice, and each that was lost was then sought by parity, where all that
+-- aren't good count as lost; no write failed. It is due again where a hash block came back, and was written.
 pub record IsPass (j : Job) (l : Layout) (w w' : RepairWorld) (p p' : Device) (again : Bool) : Type 0 where
   pub visits : List Visit
   pub behind : RepairWorld
   pub runs : VisitsAll j visits w behind
   pub done : All IsDone visits
   pub looked : (h i : ℕ) → h ≤ levels j.tree.shape → i < j.tree.shape.blocks → IsLookedAt j h i visits w behind
+  pub once : AreVisitedOnce j.tree.shape visits
   pub hash_came : Bool
   pub sought : HasSought j l (flat_map (bad_of j) visits) behind w' p p' hash_came
   pub again_is : again ≡ (hash_came && j.write)

@@ -1,9 +1,11 @@
 -- That lost blocks come back by parity, at most as many of a round as the code has roots.
-use Rattle.std.specs.Prelude.{◌≡◌, ◌⊎◌, ℕ, ◌+◌, ◌<◌, ◌≤◌, true, IsTrue, List, length, All}
+use Rattle.std.specs.Prelude.{◌≡◌, ◌⊎◌, ◌==◌, ◌&&◌, ℕ, ◌+◌, ◌<◌, ◌≤◌, Bool, true, not, IsTrue, List, length, All, count_by}
+use Rattle.std.specs.List.{range_with_len}
+use Rattle.std.specs.Str.{bytes_eq}
 use Rattle.block_device.specs.Device.{Device, IsSector, IsWhole}
 use Rattle.fec_area.specs.declared.layout.Layout.{Layout}
-use Rattle.fec_area.specs.Layouts.{IsLayout, IsProtected, covered, covered_blocks, parity_sectors}
-use Rattle.fec_area.specs.Restoring.{IsAmong, is_beside, lost_count}
+use Rattle.fec_area.specs.Layouts.{IsLayout, IsProtected, code_rounds, covered, covered_blocks, parity_sectors}
+use Rattle.fec_area.specs.Restoring.{IsAmong, is_beside, lost_count, round_of}
 use Rattle.fec_area.specs.Rounds.{AllNeverFail, BothNeverFail}
 use Rattle.tree_shape.specs.Shape.{ShapeRecord, ancestor, area_blocks, levels}
 use Rattle.tree_path.specs.Laws.{Collide}
@@ -177,3 +179,18 @@ DataUnderWholeTreeComeBack =
     (plan : Plan) → IsTrue plan.write → (l : Layout) → (f : FormerImage) → (w w' : RepairWorld) → (p p' : Device) → (r : IsSureRepair plan l f w w' p p')
     → HasWholeTree (shape_of r.seeks.s) l f w → parity_sectors l ≤ p.size
     → let lost = r.seeks.ends.passes.pass.sought.lost in ((k : ℕ) → IsAmong lost k → lost_count l lost k ≤ l.roots) → (i : ℕ) → i < l.data_blocks → IsAsFormed l f w' i ⊎ Collide r.seeks.s.salt
+
+-- covered block n is damaged, as a test; and how many of a round are
+abbrev pub is_damaged : Layout → FormerImage → RepairWorld → ℕ → Bool
+is_damaged l f w n = not (bytes_eq (covered l w.data_dev.image w.hash_dev.image n) (covered l f.data_image f.hash_image n))
+
+abbrev pub damaged_count : Layout → FormerImage → RepairWorld → ℕ → ℕ
+damaged_count l f w round = count_by (λ n. (round_of l n == round) && is_damaged l f w n) (range_with_len 0 (covered_blocks l))
+
+-- Where a tree is whole before the run, and of no round more covered blocks are damaged then than the code has roots, each data block is
+-- as it was formatted behind the run, or two different inputs have one digest.
+abbrev pub DamagedBlocksWithinParityComeBack : Type 0
+DamagedBlocksWithinParityComeBack =
+    (plan : Plan) → IsTrue plan.write → (l : Layout) → (f : FormerImage) → (w w' : RepairWorld) → (p p' : Device) → (r : IsSureRepair plan l f w w' p p')
+    → HasWholeTree (shape_of r.seeks.s) l f w → parity_sectors l ≤ p.size
+    → ((round : ℕ) → round < code_rounds l → damaged_count l f w round ≤ l.roots) → (i : ℕ) → i < l.data_blocks → IsAsFormed l f w' i ⊎ Collide r.seeks.s.salt

@@ -1,9 +1,8 @@
 //! Blocks that aren't good where they stand.
-ghost use Rattle.std.specs.Prelude.{◌≡◌, ◌≤◌, ◌+◌, ◌||◌, ◌++◌, ◌∷◌, true, false, [], IsTrue, OnOk, length};
-ghost use Rattle.tree_repair.specs.Noting.{IsGoodBefore, IsNoted, found_of, pass_outcome, passed_some, unless};
+ghost use Rattle.std.specs.Prelude.{◌≡◌, ◌≤◌, ◌+◌, ◌||◌, not, ◌++◌, ◌∷◌, true, false, [], IsTrue, OnOk, length};
+ghost use Rattle.tree_repair.specs.Noting.{IsGoodBefore, IsNoted, found_of, passed_some, unless};
 
 use crate::mending::Mended;
-use crate::outcome::Outcome;
 use crate::place::Place;
 use std::alloc::{AllocError, Global};
 
@@ -91,14 +90,11 @@ impl BadBlocks {
         write || !self.any
     }
 
-    /// What is known of an image of so many data blocks behind a pass.
-    pub(crate) fn outcome(&self, blocks: u64) -> Outcome
-        ensures { result ≡ pass_outcome (self.now.any || self.now.passed) blocks }
+    /// Whether no block is known that isn't good, and none was passed by.
+    pub(crate) fn is_none(&self) -> bool
+        ensures { result ≡ not (self.now.any || self.now.passed) }
     {
-        if self.any || self.passed {
-            return Outcome::Partly;
-        }
-        Outcome::Whole(blocks)
+        !(self.any || self.passed)
     }
 
     /// Those that were noted.

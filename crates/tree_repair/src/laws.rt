@@ -3,7 +3,7 @@ ghost use Rattle.tree_repair.specs.Beyond.{WhatStaysLostIsBeyondParity};
 ghost use Rattle.tree_repair.specs.Excuses.{BlocksArePassedByForCause, BlocksAreTouchedForCause, GoodBlocksAreLeftAlone, IntactBlocksAreLeftAlone, UnreadBlocksAreCounted};
 ghost use Rattle.tree_repair.specs.Laws.{MendedBlocksAreFormatted, MendedBlocksAreGood, NoHashBlockIsLost, OtherSectorsStay};
 ghost use Rattle.tree_repair.specs.Standing.{LeftGoodBlocksAreFormatted, LeftGoodBlocksStand, LeftGoodWaysStand, RepairsWriteAll};
-ghost use Rattle.tree_repair.specs.WithinParity.{DataUnderWholeTreeComeBack, FormattedBlocksStay, FormattedImagesAreFormer, LostBlocksWithinParityComeBack, NoBlockStaysLostWithinParity};
+ghost use Rattle.tree_repair.specs.WithinParity.{DamagedBlocksWithinParityComeBack, DataUnderWholeTreeComeBack, FormattedBlocksStay, FormattedImagesAreFormer, LostBlocksWithinParityComeBack, NoBlockStaysLostWithinParity};
 
 use hash_tree::laws::formed_chains_are_good;
 
@@ -122,6 +122,14 @@ pub fn formatted_images_are_former()
 /// is as it was formatted behind the run, or two different inputs have one digest.
 pub fn data_under_a_whole_tree_come_back()
     ensures { DataUnderWholeTreeComeBack }
+{
+    formed_chains_are_good()
+}
+
+/// Where no hash block is damaged before the run, and of no round more covered blocks are damaged than the code has roots, each data
+/// block is as it was formatted behind the run, or two different inputs have one digest.
+pub fn damaged_blocks_within_parity_come_back()
+    ensures { DamagedBlocksWithinParityComeBack }
 {
     formed_chains_are_good()
 }

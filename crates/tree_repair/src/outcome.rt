@@ -1,10 +1,63 @@
 //! What is known of an image behind a repair.
+ghost use Rattle.std.specs.Prelude.{◌≡◌, ◌&&◌, IsTrue};
+ghost use Rattle.tree_repair.specs.Failures.{AreUncounted};
+ghost use Rattle.tree_repair.specs.Noting.{pass_outcome};
+
+use crate::image::DamagedImage;
+use block_device::BlockDev;
 
 /// What is known of an image behind a repair that came to its end.
 #[derive(Clone, Copy, Debug, PartialEq, Eq)]
 pub enum Outcome {
-    /// Each block of the tree was looked at, and is good: so many data blocks, and all hash blocks above them.
+    /// Each block of the tree was looked at, and is good: so many data blocks, and all hash blocks above them. No call of the
+    /// image's devices failed.
     Whole(u64),
-    /// Some aren't good, or weren't looked at.
+    /// Some blocks aren't good, or weren't looked at, or a call failed.
     Partly,
+}
+
+/// How many calls of an image's data device and of its hash device have failed.
+#[derive(Clone, Copy)]
+pub(crate) struct Failures {
+    data: u64,
+    hash: u64,
+}
+
+impl Failures {
+    /// So many by now.
+    pub(crate) fn of<D: BlockDev, H: BlockDev, C: BlockDev>(
+        image: &DamagedImage<D, H, C>,
+    ) -> Failures
+        ensures data { result.data ≡ image.now.data_dev.failures }
+        ensures hash { result.hash ≡ image.now.hash_dev.failures }
+    {
+        Failures {
+            data: image.data.failures(),
+            hash: image.hash.failures(),
+        }
+    }
+
+    /// Whether it is known that none has failed since.
+    pub(crate) fn are_all<D: BlockDev, H: BlockDev, C: BlockDev>(
+        self,
+        image: &DamagedImage<D, H, C>,
+    ) -> bool
+        ensures { IsTrue result → AreUncounted self image.now }
+    {
+        let now = Failures::of(image);
+        if now.data != self.data || now.hash != self.hash {
+            return false;
+        }
+        now.data < u64::MAX && now.hash < u64::MAX
+    }
+}
+
+/// The whole image of so many data blocks is good where its blocks are, and no call failed.
+pub(crate) fn outcome_of(good: bool, sure: bool, blocks: u64) -> Outcome
+    ensures { result ≡ pass_outcome (good && sure) blocks }
+{
+    if good && sure {
+        return Outcome::Whole(blocks);
+    }
+    Outcome::Partly
 }

@@ -1,9 +1,8 @@
 //! An image, repaired in passes by its parity too.
-ghost use Rattle.std.specs.Prelude.{◌≡◌, ◌≤◌, ◌^◌, not, IfErr, IfOk, IsTrue, OnOk};
+ghost use Rattle.std.specs.Prelude.{◌≤◌, ◌^◌, IfErr, IfOk, IsTrue, OnOk};
 ghost use Rattle.fec_area.specs.Layouts.{IsLaidOn};
 ghost use Rattle.verity_format.specs.Blocks.{IsOnlyRead};
 ghost use Rattle.tree_repair.specs.Jobs.{job};
-ghost use Rattle.tree_repair.specs.Noting.{pass_outcome};
 ghost use Rattle.tree_repair.specs.Outcomes.{IsAllGood, IsParityOutcome};
 ghost use Rattle.tree_repair.specs.ParityBounds.{IsParityWithin};
 ghost use Rattle.tree_repair.specs.Repairs.{IsAllowed, IsParityRepair, IsParityUnrepaired, IsSoughtByParity};
@@ -13,7 +12,7 @@ ghost use Rattle.tree_repair.specs.Searching.{EndsPasses, MakesPass, RunsPass, R
 use crate::bad::BadBlocks;
 use crate::fault::RepairFault;
 use crate::image::DamagedImage;
-use crate::outcome::Outcome;
+use crate::outcome::{Failures, Outcome, outcome_of};
 use crate::parity::{Came, restore_bad};
 use crate::place::Repair;
 use crate::repair::{Plan, repair_heights, repair_of, superblock_of};
@@ -25,7 +24,8 @@ use std::io::Write;
 
 /// As `repair_image`, and each block that no other source has is sought by the parity of its round, where all blocks that
 /// the pass has found bad count as lost. Behind a pass in which a hash block came back by parity the image is gone over
-/// anew, if anything may be written. It tells whether all of the image is good by then.
+/// anew, if anything may be written. It tells whether all of the image is
+/// known to be good by then.
 ///
 /// It keeps 32 bytes for each block that isn't good.
 pub fn repair_with_parity<D: BlockDev, H: BlockDev, C: BlockDev, P: BlockDev, W: Write>(
@@ -47,20 +47,13 @@ pub fn repair_with_parity<D: BlockDev, H: BlockDev, C: BlockDev, P: BlockDev, W:
     ensures whole { IfOk result (IsParityOutcome plan image.old image.new) }
     ensures sought { OnOk result (IsSoughtByParity P.state plan layout.now image.old image.new parity_dev.old parity_dev.new) }
 {
+    let before = Failures::of(image);
     let superblock = superblock_of(image)?;
     let repair = repair_of(alloc, &superblock, &plan, true);
     let all = run_passes(&repair, layout, image, parity_dev, writer)?;
     let blocks = repair.shape.blocks();
-    Ok(outcome_of(all, blocks))
-}
-
-fn outcome_of(all: bool, blocks: u64) -> Outcome
-    ensures { result ≡ pass_outcome (not all) blocks }
-{
-    if all {
-        return Outcome::Whole(blocks);
-    }
-    Outcome::Partly
+    let sure = before.are_all(image);
+    Ok(outcome_of(all, sure, blocks))
 }
 
 // Goes over the image until no hash block comes back by parity. Each further pass follows one in which one did, so there

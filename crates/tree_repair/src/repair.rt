@@ -19,7 +19,7 @@ use crate::bad::BadBlocks;
 use crate::fault::RepairFault;
 use crate::image::DamagedImage;
 use crate::levels::{repair_height, zeros};
-use crate::outcome::Outcome;
+use crate::outcome::{Failures, Outcome, outcome_of};
 use crate::place::{ROOM, Repair};
 use block_device::BlockDev;
 use counted_io::Counted;
@@ -40,7 +40,8 @@ pub struct Plan {
 /// sought in the copies; a hash block that none has is made again from the blocks beneath it. What has its digest is written,
 /// if anything may be written. A line is printed for each such block.
 ///
-/// It tells whether all of the image is good by then: what was seen or written once isn't read again for that.
+/// It tells whether all of the image is known to be good by then. What was seen or written once isn't read again for that; where a
+/// call of the image's devices failed, it isn't known, since a sector that couldn't be read may fail again.
 pub fn repair_image<D: BlockDev, H: BlockDev, C: BlockDev, W: Write>(
     alloc: Global,
     image: &mut DamagedImage<D, H, C>,
@@ -56,12 +57,15 @@ pub fn repair_image<D: BlockDev, H: BlockDev, C: BlockDev, W: Write>(
     ensures looked { OnOk result (IsGoneOver W.contents plan image.old image.new writer.old writer.new) }
     ensures whole { IfOk result (IsOutcomeOf plan image.old image.new) }
 {
+    let before = Failures::of(image);
     let superblock = superblock_of(image)?;
     let repair = repair_of(alloc, &superblock, &plan, false);
     let mut bad = BadBlocks::new(alloc, false);
     repair_heights(&repair, image, &mut bad, writer)?;
     let blocks = repair.shape.blocks();
-    Ok(bad.outcome(blocks))
+    let good = bad.is_none();
+    let sure = before.are_all(image);
+    Ok(outcome_of(good, sure, blocks))
 }
 
 /// What is repaired by a plan, with parity or without.

@@ -10,7 +10,8 @@ use Rattle.tree_repair.proofs.CountLemmas.{count-fewer, count-next}
 use Rattle.tree_repair.proofs.HeightLemmas.{next-left, row-left, visit-at, visits-fewer}
 use Rattle.tree_repair.specs.Jobs.{job}
 use Rattle.tree_repair.proofs.RowLemmas.{way-along}
-use Rattle.tree_repair.proofs.PassLemmas.{noted-ends, noted-fewer, noted-from, noted-none, noted-then}
+use Rattle.tree_repair.proofs.OnceLemmas.{parts-places}
+use Rattle.tree_repair.proofs.PassLemmas.{noted-ends, noted-from, noted-none, noted-same, noted-then}
 use Rattle.tree_repair.proofs.RunLemmas.{can-later}
 use Rattle.tree_repair.proofs.levels.repair_blocks.Goals as goal
 
@@ -50,6 +51,8 @@ places-preserved g c =
       few = omega (arith, c.places.invariant.few, c.in_ok-repair_block.ensures.few, count-next s c.requires.can.valid row.height (s.blocks - c.places.index) (omega (arith, c.places-test.true, c.requires.row.inside)), ap (blocks_over s row.height) (next-left s c.requires.can.valid row c.requires.row c.places.index));
       enough = omega (arith, next-left s c.requires.can.valid row c.requires.row c.places.index, row-left s c.requires.can.valid row c.requires.row c.places.index (c.places.invariant.begins c.places-test.true) c.places-test.true);
       run = noted-then c.places.invariant.run c.in_ok-repair_block.ensures.notes
+          (parts-places s c.requires.can.valid row c.places.index (c.places.index + row.step) c.places.invariant.from c.places-test.true (omega (arith, c.requires.row.steps))
+          (c.places.invariant.begins c.places-test.true)
           (λ h i due.
           elim (cases_lt i c.places.index) [
             | inl before ↦ inl (due.0, before)
@@ -58,14 +61,14 @@ places-preserved g c =
               subst (λ (n : ℕ). ancestor s n c.places.index ≡ ancestor s n i) due.0.0
                   (same-above s row.height c.places.index i c.requires.can.valid (c.places.invariant.begins c.places-test.true) behind (omega (arith, due.1, c.requires.row.step_is))),
             )
-          ]);
+          ]));
     }
 
 pub returns-in_err-repair_block-clause-notes : goal.returns-in_err-repair_block-clause-notes
 returns-in_err-repair_block-clause-notes g c = noted-from c.from_residual.result c.from_residual.ensures.1 (noted-ends c.places.invariant.run c.in_err-repair_block.ensures.notes)
 
 pub returns-clause-notes : goal.returns-clause-notes
-returns-clause-notes g c = noted-fewer c.places.invariant.run (λ h i due. (due, omega (arith, due.1.1, c.places-test.false)))
+returns-clause-notes g c = noted-same c.places.invariant.run (λ h i due. (due, omega (arith, due.1.1, c.places-test.false))) (λ h i due. due.0)
 
 pub returns-in_err-repair_block-clause-asked : goal.returns-in_err-repair_block-clause-asked
 returns-in_err-repair_block-clause-asked g c =

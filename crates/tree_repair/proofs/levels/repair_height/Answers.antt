@@ -1,6 +1,5 @@
-use Rattle.std.proofs.Common.{◌≡◌, ◌+◌, ◌-◌, ◌^◌, ◌∙◌, ℕ, sym, subst, ap, arith, inl, inr, min}
+use Rattle.std.proofs.Common.{◌≡◌, ◌+◌, ◌-◌, ◌^◌, ◌∙◌, ℕ, sym, subst, ap, arith, min}
 use Rattle.std.proofs.Math.Nat.{zero-mod}
-use Rattle.std.proofs.lemmas.Bool.{cases_lt}
 use Rattle.tree_shape.specs.Shape.{per_block}
 use Rattle.tree_shape.proofs.lemmas.ShapeFaultLemmas.{blocks-le}
 use Rattle.tree_shape.proofs.lemmas.ShapeLemmas.{pow_pos}
@@ -9,7 +8,8 @@ use Rattle.tree_repair.specs.ParityBounds.{blocks_over}
 use Rattle.tree_repair.proofs.BillLemmas.{leaves-end, leaves-none, leaves-then}
 use Rattle.tree_repair.proofs.HeightLemmas.{rows-next}
 use Rattle.tree_repair.proofs.RowLemmas.{per_block-some, row-next}
-use Rattle.tree_repair.proofs.PassLemmas.{noted-ends, noted-fewer, noted-from, noted-none, noted-then}
+use Rattle.tree_repair.proofs.OnceLemmas.{parts-rows}
+use Rattle.tree_repair.proofs.PassLemmas.{noted-ends, noted-from, noted-none, noted-same, noted-then}
 use Rattle.tree_repair.proofs.RunLemmas.{can-later}
 use Rattle.tree_repair.proofs.levels.repair_height.Goals as goal
 
@@ -20,7 +20,7 @@ pub span-step-requires : goal.span-step-requires
 span-step-requires g c = omega (arith, c.blocks-blocks.ensures.value, (blocks-le c.args.repair.now.shape c.requires.can.valid).0)
 
 pub rows-init : goal.rows-init
-rows-init g c = record { begins = λ some. zero-mod (per_block c.args.repair.now.shape ^ (c.args.height + 1)); asked = (let s = c.args.repair.now.shape in let all : s.blocks ≡ s.blocks - 0 = omega arith in subst (λ (n : ℕ). LeavesWorld (height_over s c.args.height s.blocks) (height_over s c.args.height n) c.args.image.now c.args.image.now) all (leaves-none (height_over s c.args.height s.blocks) c.args.image.now)); few = (let s = c.args.repair.now.shape in let all : s.blocks - 0 ≡ s.blocks = omega arith in omega (arith, ap (blocks_over s c.args.height) all)); run = noted-none (λ h i due. omega (arith, due.1.1)) }
+rows-init g c = record { begins = λ some. zero-mod (per_block c.args.repair.now.shape ^ (c.args.height + 1)); inside = omega arith; asked = (let s = c.args.repair.now.shape in let all : s.blocks ≡ s.blocks - 0 = omega arith in subst (λ (n : ℕ). LeavesWorld (height_over s c.args.height s.blocks) (height_over s c.args.height n) c.args.image.now c.args.image.now) all (leaves-none (height_over s c.args.height s.blocks) c.args.image.now)); few = (let s = c.args.repair.now.shape in let all : s.blocks - 0 ≡ s.blocks = omega arith in omega (arith, ap (blocks_over s c.args.height) all)); run = noted-none (λ h i due. omega (arith, due.1.1)) }
 
 pub repair_row-requires-clause-can : goal.repair_row-requires-clause-can
 repair_row-requires-clause-can g c = can-later c.rows.invariant.run.run c.requires.can
@@ -50,6 +50,7 @@ pub rows-preserved : goal.rows-preserved
 rows-preserved g c = record {
   begins = λ less. row-next (per_block c.args.repair.now.shape) c.args.height c.rows.first c.span-width.result c.blocks-blocks.result c.min-end.result
       (c.rows.invariant.begins (omega (arith, c.rows-test.true, c.blocks-blocks.ensures.value))) c.span-width.ensures c.min-end.ensures (omega (arith, less, c.blocks-blocks.ensures.value));
+  inside = omega (arith, c.min-end.ensures, c.blocks-blocks.ensures.value);
   asked =
       let s = c.args.repair.now.shape in
       let next : s.blocks - c.rows.first - per_block s ^ (c.args.height + 1) ≡ s.blocks - c.min-end.result =
@@ -61,11 +62,8 @@ rows-preserved g c = record {
       sym (rows-next s.blocks c.rows.first c.span-width.result (per_block s ^ (c.args.height + 1)) c.min-end.result (c.span-width.ensures ∙ ap (min (per_block s ^ (c.args.height + 1))) c.blocks-blocks.ensures.value) (c.min-end.ensures ∙ ap (min (c.rows.first + c.span-width.result)) c.blocks-blocks.ensures.value)) in
       omega (arith, c.rows.invariant.few, c.in_ok-repair_row.ensures.few, ap (blocks_over s c.args.height) next);
   run = noted-then c.rows.invariant.run c.in_ok-repair_row.ensures.notes
-      (λ h i due.
-      elim (cases_lt i c.rows.first) [
-        | inl before ↦ inl (due.0, (due.1.0, before))
-        | inr behind ↦ inr (due.0, (behind, due.1.1))
-      ]);
+      (parts-rows c.args.repair.now.shape c.requires.can.valid c.args.height c.rows.first c.min-end.result (c.rows.invariant.begins (omega (arith, c.rows-test.true, c.blocks-blocks.ensures.value)))
+      (omega (arith, c.rows-test.true, c.min-end.ensures)));
 }
 
 pub rows-smaller : goal.rows-smaller
@@ -78,7 +76,8 @@ pub returns-in_err-repair_row-clause-notes : goal.returns-in_err-repair_row-clau
 returns-in_err-repair_row-clause-notes g c = noted-from c.from_residual.result c.from_residual.ensures.1 (noted-ends c.rows.invariant.run c.in_err-repair_row.ensures.notes)
 
 pub returns-clause-notes : goal.returns-clause-notes
-returns-clause-notes g c = noted-fewer c.rows.invariant.run (λ h i due. (due.0, (due.1.0, omega (arith, due.1.1, c.rows-test.false, c.blocks-blocks.ensures.value))))
+returns-clause-notes g c = noted-same c.rows.invariant.run (λ h i due. (due.0, (due.1.0, omega (arith, due.1.1, c.rows-test.false, c.blocks-blocks.ensures.value))))
+    (λ h i due. (due.0, (due.1.0, omega (arith, due.1.1, c.rows.invariant.inside))))
 
 pub returns-in_err-repair_row-clause-asked : goal.returns-in_err-repair_row-clause-asked
 returns-in_err-repair_row-clause-asked g c = leaves-end (leaves-then c.rows.invariant.asked c.repair_row.ensures.asked)

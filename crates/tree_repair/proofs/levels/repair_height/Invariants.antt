@@ -1,4 +1,4 @@
-use Rattle.std.proofs.Common.{◌≡◌, ◌<◌, ◌-◌, ◌+◌, ◌%◌, ◌^◌, None}
+use Rattle.std.proofs.Common.{◌≡◌, ◌<◌, ◌≤◌, ◌-◌, ◌+◌, ◌%◌, ◌^◌, None}
 use Rattle.tree_shape.specs.Shape.{per_block}
 use Rattle.tree_repair.specs.Bills.{LeavesWorld, height_over}
 use Rattle.tree_repair.specs.Coverage.{IsFromTo}
@@ -10,6 +10,7 @@ use Rattle.tree_repair.proofs.levels.repair_height.Given as goal
 abbrev pub invariant-rows : goal.invariant-rows
 invariant-rows g l = record {
   begins : l.first < l.fn.repair.shape.blocks → l.first % per_block l.fn.repair.shape ^ (l.fn.height + 1) ≡ 0;
+  inside : l.first ≤ l.fn.repair.shape.blocks;
   asked : LeavesWorld (height_over l.fn.repair.shape l.fn.height l.fn.repair.shape.blocks) (height_over l.fn.repair.shape l.fn.height (l.fn.repair.shape.blocks - l.first)) l.fn.image l.image;
   few : LeavesNoted (blocks_over l.fn.repair.shape l.fn.height l.fn.repair.shape.blocks) (blocks_over l.fn.repair.shape l.fn.height (l.fn.repair.shape.blocks - l.first)) l.fn.bad l.bad;
   run : HasNoted (job l.fn.repair) (IsFromTo l.fn.height 0 l.first) l.fn.image l.image (g.W.Write.contents l.fn.writer.inner) (g.W.Write.contents l.writer.inner) l.fn.bad l.bad None;

@@ -10,7 +10,7 @@ use Rattle.tree_repair.proofs.levels.repair_unless_good.Goals as goal
 
 pub returns-then-is_good_row-clause-notes : goal.returns-then-is_good_row-clause-notes
 returns-then-is_good_row-clause-notes g c =
-    noted-good c.args.path.now c.args.row c.is_good_row.ensures.read (c.is_good_row.ensures.good c.if-is_good_row.true)
+    noted-good c.args.path.now c.args.row c.requires.can.valid c.is_good_row.ensures.read (c.is_good_row.ensures.good c.if-is_good_row.true)
     (λ k from below. (
       omega (arith, below, c.requires.row.inside),
       way-along (job c.args.repair.now).tree c.requires.can.valid c.args.row.first k c.args.row.height c.args.path.now c.requires.row.begins from (omega (arith, below, c.requires.row.few)) c.requires.way,

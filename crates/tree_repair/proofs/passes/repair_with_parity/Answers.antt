@@ -7,6 +7,7 @@ use Rattle.tree_repair.proofs.BackLemmas.{parity-outcome}
 use Rattle.tree_repair.proofs.RepairLemmas.{can-begin, ends-of, err-from, is_err-from, repairs-of, whole-err}
 use Rattle.tree_repair.proofs.RunLemmas.{ended-from, laid-read}
 use Rattle.tree_repair.proofs.ParityPassLemmas.{repairs-passes, runs-from}
+use Rattle.tree_repair.proofs.WholeLemmas.{unfailed-since}
 use Rattle.tree_repair.proofs.passes.repair_with_parity.Goals as goal
 
 pub returns-in_err-superblock-clause-parity : goal.returns-in_err-superblock-clause-parity
@@ -62,7 +63,8 @@ returns-clause-whole g c =
     let y = c.run_passes.new.image in
     subst (IsParityOutcome c.args.plan w y) (sym c.outcome_of.ensures)
     (parity-outcome c.in_ok-superblock.superblock c.args.plan (job c.repair_of-repair.result) w c.superblock_of.new.image y c.repair_of-repair.ensures.job c.in_ok-superblock.ensures.read c.in_ok-superblock.ensures.ok
-    c.in_ok-all.all c.blocks-blocks.result c.blocks-blocks.ensures.value c.in_ok-all.ensures.whole)
+    c.in_ok-all.all c.are_all-sure.result c.blocks-blocks.result c.blocks-blocks.ensures.value c.in_ok-all.ensures.whole
+    (λ known. unfailed-since c.of-before.result w y c.of-before.ensures.data c.of-before.ensures.hash (c.are_all-sure.ensures known)))
 
 pub returns-clause-sought : goal.returns-clause-sought
 returns-clause-sought g c =

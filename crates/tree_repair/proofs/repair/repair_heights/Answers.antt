@@ -1,5 +1,4 @@
-use Rattle.std.proofs.Common.{◌≡◌, ◌+◌, ◌-◌, ℕ, sym, subst, List, length, ap, refl, ◌∙◌, arith, inl, inr}
-use Rattle.std.proofs.lemmas.Bool.{cases_lt}
+use Rattle.std.proofs.Common.{◌≡◌, ◌+◌, ◌-◌, ℕ, sym, subst, List, length, ap, refl, ◌∙◌, arith}
 use Rattle.std.proofs.lemmas.List.{length-replicate}
 use Rattle.tree_shape.proofs.lemmas.ShapeFactLemmas.{levels-few}
 use Rattle.tree_shape.specs.Shape.{levels}
@@ -10,7 +9,8 @@ use Rattle.tree_repair.proofs.HeightLemmas.{heights-next, heights-pass, heights_
 use Rattle.tree_repair.specs.Jobs.{job}
 use Rattle.tree_repair.specs.Outcomes.{StandsFrom}
 use Rattle.tree_repair.proofs.OutcomeLemmas.{on_ok-from, stands-next, stands-none}
-use Rattle.tree_repair.proofs.PassLemmas.{noted-ends, noted-fewer, noted-from, noted-none, noted-not, noted-then}
+use Rattle.tree_repair.proofs.OnceLemmas.{parts-heights}
+use Rattle.tree_repair.proofs.PassLemmas.{noted-ends, noted-from, noted-none, noted-not, noted-same, noted-then}
 use Rattle.tree_repair.proofs.RunLemmas.{can-later, ends-read, world-none}
 use Rattle.tree_repair.proofs.repair.repair_heights.Goals as goal
 
@@ -51,11 +51,7 @@ heights-preserved g c = record {
   asked = heights-next c.args.repair.now.shape c.heights.height (c.heights.height - 1) (omega (arith, c.heights-test.true)) c.args.image.now c.heights.image c.repair_height.new.image c.heights.invariant.asked c.repair_height.ensures.asked;
   few = omega (arith, c.heights.invariant.few, c.in_ok-repair_height.ensures.few, count-down c.args.repair.now.shape c.heights.height (c.heights.height - 1) (omega (arith, c.heights-test.true)));
   run = noted-then c.heights.invariant.run c.in_ok-repair_height.ensures.notes
-      (λ h i due.
-      elim (cases_lt h c.heights.height) [
-        | inl below ↦ inr (omega (arith, below, due.0, c.heights-test.true), (omega arith, due.1.1))
-        | inr above ↦ inl (above, due.1)
-      ]);
+      (parts-heights c.args.repair.now.shape c.heights.height (c.heights.height - 1) (omega (arith, c.heights-test.true)) (omega (arith, c.heights.invariant.low, c.heights-test.true)));
   whole = stands-next c.heights.height (c.heights.height - 1) (omega (arith, c.heights-test.true)) c.heights.invariant.whole c.in_ok-repair_height.ensures.notes;
 }
 
@@ -64,7 +60,7 @@ returns-in_err-repair_height-clause-notes g c =
     noted-from c.from_residual-in_err-repair_height.result c.from_residual-in_err-repair_height.ensures.1 (noted-ends c.heights.invariant.run c.in_err-repair_height.ensures.notes)
 
 pub returns-clause-notes : goal.returns-clause-notes
-returns-clause-notes g c = noted-fewer c.heights.invariant.run (λ h i due. (omega (arith, c.heights-test.false), due.1))
+returns-clause-notes g c = noted-same c.heights.invariant.run (λ h i due. (omega (arith, c.heights-test.false), due.1)) (λ h i due. (omega arith, due.1))
 
 pub returns-in_err-room-clause-asked : goal.returns-in_err-room-clause-asked
 returns-in_err-room-clause-asked g c = leaves-end (leaves-none (pass_over c.args.repair.now.shape) c.args.image.now)

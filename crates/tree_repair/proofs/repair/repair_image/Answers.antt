@@ -9,7 +9,7 @@ use Rattle.tree_repair.proofs.BillLemmas.{one-pass}
 use Rattle.tree_repair.specs.Jobs.{job}
 use Rattle.tree_repair.proofs.RepairLemmas.{can-begin, err-from, is_err-from, looks-of, repairs-of, whole-err}
 use Rattle.tree_repair.proofs.RunLemmas.{ended-from}
-use Rattle.tree_repair.proofs.WholeLemmas.{outcome-of}
+use Rattle.tree_repair.proofs.WholeLemmas.{outcome-of, unfailed-since}
 use Rattle.tree_repair.proofs.repair.repair_image.Goals as goal
 
 pub repair_heights-requires : goal.repair_heights-requires
@@ -68,6 +68,7 @@ returns-clause-whole g c =
     let w = c.args.image.now in
     let x = c.superblock_of.new.image in
     let y = c.repair_heights.new.image in
-    subst (IsOutcomeOf c.args.plan w y) (sym c.outcome.ensures)
-    (outcome-of s c.args.plan (job c.repair_of-repair.result) w x y c.repair_of-repair.ensures.job c.in_ok-superblock.ensures.read c.in_ok-superblock.ensures.ok c.repair_heights.new.bad c.blocks-blocks.result
-    c.blocks-blocks.ensures.value c.in_ok-repair_heights.ensures.notes c.in_ok-repair_heights.ensures.whole)
+    subst (IsOutcomeOf c.args.plan w y) (sym c.outcome_of.ensures)
+    (outcome-of s c.args.plan (job c.repair_of-repair.result) w x y c.repair_of-repair.ensures.job c.in_ok-superblock.ensures.read c.in_ok-superblock.ensures.ok c.is_none-good.result c.are_all-sure.result
+    c.blocks-blocks.result c.blocks-blocks.ensures.value c.in_ok-repair_heights.ensures.notes c.in_ok-repair_heights.ensures.whole c.is_none-good.ensures
+    (λ known. unfailed-since c.of-before.result w y c.of-before.ensures.data c.of-before.ensures.hash (c.are_all-sure.ensures known)))
