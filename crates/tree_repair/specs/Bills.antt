@@ -1,10 +1,11 @@
 -- What the steps of a pass over an image ask of its devices: what may still be asked before a step, and behind it.
-use Rattle.std.specs.Prelude.{◌≡◌, ℕ, zero, suc, ◌+◌, ◌-◌, ◌*◌, ◌/◌, ◌^◌, ◌<◌, ◌≤◌, List, length, Option, None, Some}
+use Rattle.std.specs.Prelude.{◌≡◌, ℕ, zero, suc, ◌+◌, ◌-◌, ◌*◌, ◌/◌, ◌^◌, ◌<◌, ◌≤◌, List, length, map, Option, None, Some, Vec}
 use Rattle.std.specs.Int.{div_ceil}
 use Rattle.std.specs.List.{slice_index_or}
 use Rattle.block_device.specs.Device.{Device}
 use Rattle.tree_shape.specs.Shape.{ShapeRecord, ancestor, levels, per_block}
 use Rattle.tree_repair.specs.declared.place.Row.{Row}
+use Rattle.tree_repair.specs.declared.remaking.Making.{Making}
 use Rattle.tree_path.specs.Steps.{HasReadAtMost}
 use Rattle.tree_repair.specs.Bounds.{AreReadAtMost, HasWrittenAtMost, area_block_sectors}
 use Rattle.tree_repair.specs.Runs.{size_at}
@@ -30,6 +31,14 @@ pub record IsAskedOnce (n : ℕ) (old new : Device) (copies copies' : List Devic
   pub reads : HasReadAtMost old n new
   pub writes : HasWrittenAtMost old n new
   pub copies_read : AreReadAtMost copies n copies'
+
+-- the same by a device and copies that are lent, and by the block's bytes
+abbrev pub AsksOnce : {B C Z : Type 0} → (B → Device) → (C → Device) → List ℕ → B → B → Vec C Z → Vec C Z → Type 0
+AsksOnce state copy_state block old new copies copies' = IsAskedOnce (length block / 512) (state old) (state new) (map copy_state copies.items) (map copy_state copies'.items)
+
+-- the same of the hash device of an image, and its copies
+abbrev pub AsksHashOnce : List ℕ → RepairWorld → RepairWorld → Type 0
+AsksHashOnce block w w' = IsAskedOnce (length block / 512) w.hash_dev w'.hash_dev w.hash_copies w'.hash_copies
 
 -- of each of some devices a sectors could be read before, and b of them still can
 pub record AreEachLeft (a b : ℕ) (old new : List Device) : Type 0 where
@@ -85,6 +94,22 @@ rows_over s h n = record (visits_over s h n) { data_reads = sectors_over s zero 
 abbrev pub height_over : ShapeRecord → ℕ → ℕ → Bill
 height_over s h n = record (rows_over s h n) { hash_reads = hash_up_to s h n + sectors_over s (suc h) n * (levels s - h) }
 
+-- a visit of each block of a height
+abbrev pub LeavesHeight : ShapeRecord → ℕ → RepairWorld → RepairWorld → Type 0
+LeavesHeight s h w w' = LeavesWorld (height_over s h s.blocks) nothing_due w w'
+
+-- the sectors of the hash blocks on the way to a block of a height
+abbrev pub way_sectors : ShapeRecord → ℕ → ℕ
+way_sectors s h = (levels s - h) * (s.hash_block / 512)
+
+-- a row of data is read
+abbrev pub row_reads : ShapeRecord → Row → Bill
+row_reads s row = reading (data_over s row.height (row.end - row.first)) 0
+
+-- so many data blocks are, of a device that is lent
+abbrev pub ReadsData : {D : Type 0} → (D → Device) → ShapeRecord → ℕ → D → D → Type 0
+ReadsData state s n old new = HasReadAtMost (state old) (n * (s.data_block / 512)) (state new)
+
 -- a pass over all heights
 abbrev pub pass_over : ShapeRecord → Bill
 pass_over s = record { data_reads = (levels s + 2) * data_sectors s; hash_reads = 2 * levels s * area_block_sectors s; data_once = data_sectors s; hash_once = area_block_sectors s }
@@ -103,6 +128,10 @@ left_of s h k = s.blocks - k * per_block s ^ h
 -- what is due for blocks of a height was asked for block k
 abbrev pub LeavesBlock : (ℕ → Bill) → ShapeRecord → ℕ → ℕ → RepairWorld → RepairWorld → Type 0
 LeavesBlock due s h k w w' = LeavesWorld (due (left_of s h k)) (due (left_of s h (k + 1))) w w'
+
+-- the same of a block that is made of those of a height
+abbrev pub LeavesMade : ShapeRecord → Making → RepairWorld → RepairWorld → Type 0
+LeavesMade s m w w' = LeavesBlock (made_over s m.from) s (m.from + m.steps) m.number w w'
 
 -- the same of the block above data block i
 abbrev pub LeavesVisit : ShapeRecord → ℕ → ℕ → RepairWorld → RepairWorld → Type 0

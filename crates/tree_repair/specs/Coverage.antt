@@ -26,6 +26,10 @@ pub record AreGoodFrom (j : Job) (p : PathRecord) (d : Device) (i n : ℕ) : Typ
   pub count : length contents ≡ n
   pub are : AreThere j p d i contents
 
+-- those of a row
+abbrev pub AreGoodInRow : Job → PathRecord → Row → Device → Type 0
+AreGoodInRow j p row d = AreGoodFrom j p d row.first (row.end - row.first)
+
 -- all of a row
 pub record IsGoodRow (j : Job) (p : PathRecord) (row : Row) (d : Device) : Type 0 where
   pub height_is : row.height ≡ 0

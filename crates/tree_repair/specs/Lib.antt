@@ -15,9 +15,11 @@ pub mod ParityBounds
 pub mod Laws
 pub mod Parity
 pub mod Tries
+pub mod Searching
 pub mod Noting
 pub mod Coverage
 pub mod Passes
+pub mod Notes
 pub mod Standing
 pub mod Failures
 pub mod Outcomes

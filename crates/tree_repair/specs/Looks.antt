@@ -1,24 +1,36 @@
 -- A look at a block that is sought.
-use Rattle.std.specs.Prelude.{ℕ, ◌/◌, Bool, List, length}
+use Rattle.std.specs.Prelude.{ℕ, ◌/◌, true, IfOk, List, OnErr, Result, Vec, length, map}
 use Rattle.block_device.specs.Device.{Device}
+use Rattle.tree_repair.specs.declared.mending.Mended.{Mended}
 use Rattle.tree_repair.specs.declared.mending.Sought.{Sought}
-use Rattle.tree_repair.specs.declared.place.Repair.{Repair}
-use Rattle.tree_repair.specs.Mending.{Look}
+use Rattle.tree_repair.specs.Mending.{IsMended, IsUnmended, Look}
 use Rattle.tree_repair.specs.Sources.{wanted}
 use Rattle.tree_repair.specs.Worlds.{RepairWorld}
 
-abbrev pub look : Sought → List ℕ → ℕ → Bool → Device → Device → List Device → List Device → Look
-look s salt sectors write old new copies copies' = record {
+abbrev pub look : Sought → ℕ → Device → Device → List Device → List Device → Look
+look s sectors old new copies copies' = record {
   old = old;
   new = new;
   copies = copies;
   copies' = copies';
   first = s.first;
   copy_first = s.copy_first;
-  w = wanted salt s.digest sectors;
-  write = write;
+  w = wanted s.repair.now.salt s.digest sectors;
+  write = s.repair.now.write;
 }
 
 -- the same of a hash block of an image
-abbrev pub tree_look : Sought → Repair → List ℕ → RepairWorld → RepairWorld → Look
-tree_look s r block w w' = look s r.salt (length block / 512) r.write w.hash_dev w'.hash_dev w.hash_copies w'.hash_copies
+abbrev pub tree_look : Sought → List ℕ → RepairWorld → RepairWorld → Look
+tree_look s block w w' = look s (length block / 512) w.hash_dev w'.hash_dev w.hash_copies w'.hash_copies
+
+-- the same by a device and copies that are lent, of which the states tell the devices, and by the block's bytes
+abbrev pub look_by : {B C Z : Type 0} → (B → Device) → (C → Device) → Sought → List ℕ → B → B → Vec C Z → Vec C Z → Look
+look_by state copy_state s block old new copies copies' = look s (length block / 512) (state old) (state new) (map copy_state copies.items) (map copy_state copies'.items)
+
+-- what came of the block is told
+abbrev pub MendsBlock : {B C Z E : Type 0} → (B → Device) → (C → Device) → Sought → List ℕ → B → B → Vec C Z → Vec C Z → Result Mended E → Type 0
+MendsBlock state copy_state s block old new copies copies' result = IfOk result (λ m. (bytes : List ℕ) × IsMended (look_by state copy_state s block old new copies copies') bytes true m)
+
+-- or it was found in a copy, but can't be written
+abbrev pub FailsToMend : {B C Z T E : Type 0} → (B → Device) → (C → Device) → Sought → List ℕ → B → B → Vec C Z → Vec C Z → Result T E → Type 0
+FailsToMend state copy_state s block old new copies copies' result = OnErr result (IsUnmended (look_by state copy_state s block old new copies copies'))

@@ -133,6 +133,10 @@ LeavesNoted a b old new = length new.blocks.items + b ≤ length old.blocks.item
 abbrev pub blocks_over : ShapeRecord → ℕ → ℕ → ℕ
 blocks_over s h n = div_ceil n (per_block s ^ h)
 
+-- at most those of a height are
+abbrev pub NotesInHeight : ShapeRecord → ℕ → BadBlocks → BadBlocks → Type 0
+NotesInHeight s h old new = LeavesNoted (blocks_over s h s.blocks) 0 old new
+
 -- at most those of a row are
 abbrev pub NotesInRow : ShapeRecord → Row → BadBlocks → BadBlocks → Type 0
 NotesInRow s row old new = LeavesNoted (blocks_over s row.height (s.blocks - row.first)) (blocks_over s row.height (s.blocks - row.first - per_block s ^ (row.height + 1))) old new

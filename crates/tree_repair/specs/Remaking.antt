@@ -59,6 +59,10 @@ pub record HaveBlocks (s : ShapeRecord) (data_dev hash_dev : Device) : Type 0 wh
 abbrev pub IsBlockOf : Device → ℕ → ℕ → List ℕ → Type 0
 IsBlockOf device size n bytes = IsTrue device.steady → bytes ≡ block_at device.image size n
 
+-- those of a hash block of a level
+abbrev pub IsHashBlockOf : Device → ShapeRecord → ℕ → ℕ → List ℕ → Type 0
+IsHashBlockOf device s l n bytes = IsBlockOf device s.hash_block (position s l n) bytes
+
 -- over steady devices these are the bytes
 abbrev pub IsOver : Device → Device → List ℕ → List ℕ → Type 0
 IsOver data_dev hash_dev bytes_are bytes = IsTrue data_dev.steady → IsTrue hash_dev.steady → bytes ≡ bytes_are

@@ -1,5 +1,5 @@
 -- Where the bytes of a block are sought, and what a read of them tells.
-use Rattle.std.specs.Prelude.{◌≡◌, ◌≢◌, ◌⊎◌, ℕ, ◌+◌, ◌-◌, ◌/◌, ◌<◌, ◌≤◌, IsTrue, List, length}
+use Rattle.std.specs.Prelude.{◌≡◌, ◌≢◌, ◌⊎◌, ℕ, ◌+◌, ◌-◌, ◌/◌, ◌<◌, ◌≤◌, IsTrue, List, length, map}
 use Rattle.std.specs.List.{concat, slice_index_or}
 use Rattle.block_device.specs.Device.{Device, run_of}
 use Rattle.tree_shape.specs.Digests.{digest}
@@ -60,3 +60,17 @@ AreNotIn copies first w k = (j : ℕ) → j < k → (d : Device) → IsWithout (
 -- none at all has them
 abbrev pub AreInNone : List Device → ℕ → Wanted → Type 0
 AreInNone copies first w = AreNotIn copies first w (length copies)
+
+-- ---- as it is at hand: what is lent, of which `state` tells the devices
+
+-- the bytes weren't read there
+abbrev pub FindsBad : {B : Type 0} → (B → Device) → B → B → ℕ → Wanted → Type 0
+FindsBad state old new first w = IsBad (state old) first w (state new)
+
+-- copy n has them
+abbrev pub HasCopy : {C : Type 0} → (C → Device) → List C → ℕ → Wanted → List ℕ → ℕ → Type 0
+HasCopy state copies first w bytes n = AreIn (map state copies) first w n bytes
+
+-- none of the copies has
+abbrev pub HasNoCopy : {C : Type 0} → (C → Device) → List C → ℕ → Wanted → Type 0
+HasNoCopy state copies first w = AreNotIn (map state copies) first w (length copies)

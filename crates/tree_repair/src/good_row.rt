@@ -1,12 +1,12 @@
 //! Rows of data blocks that are good, seen at once.
-ghost use Rattle.std.specs.Prelude.{◌≡◌, ◌≤◌, ◌<◌, ◌+◌, ◌-◌, ◌*◌, ◌/◌, ◌^◌, IfSome, IsTrue, length};
+ghost use Rattle.std.specs.Prelude.{◌≤◌, ◌<◌, ◌+◌, ◌-◌, ◌*◌, ◌/◌, ◌^◌, IfSome, IsTrue, length};
 ghost use Rattle.tree_shape.specs.Shape.{IsShape};
 ghost use Rattle.tree_survey.specs.Pieces.{LieOnDevice, IsRunRead};
 ghost use Rattle.verity_format.specs.Blocks.{IsOnlyRead};
 ghost use Rattle.verity_format.specs.Image.{data_sectors};
 ghost use Rattle.tree_path.specs.Steps.{HasReadAtMost};
-ghost use Rattle.tree_repair.specs.Bills.{LeavesWorld, data_over, nothing_due, piece_of, reading};
-ghost use Rattle.tree_repair.specs.Coverage.{AreDigestsOn, AreGoodFrom, IsGoodRow};
+ghost use Rattle.tree_repair.specs.Bills.{LeavesWorld, ReadsData, nothing_due, piece_of, row_reads};
+ghost use Rattle.tree_repair.specs.Coverage.{AreDigestsOn, AreGoodFrom, AreGoodInRow, IsGoodRow};
 ghost use Rattle.tree_repair.specs.Jobs.{job};
 ghost use Rattle.tree_repair.specs.Worlds.{IsWorldRead};
 
@@ -35,7 +35,7 @@ pub(crate) fn is_good_row<D: BlockDev, H: BlockDev, C: BlockDev>(
     requires room { 65536 ≤ length memory.old }
     ensures read { IsWorldRead image.old image.new }
     ensures good { IsTrue result → IsGoodRow (job repair.now) path.now row image.old.data_dev }
-    ensures asked { LeavesWorld (reading (data_over repair.now.shape row.height (row.end - row.first)) 0) nothing_due image.old image.new }
+    ensures asked { LeavesWorld (row_reads repair.now.shape row) nothing_due image.old image.new }
 {
     if row.height > 0 {
         return false;
@@ -56,8 +56,8 @@ fn are_good<D: BlockDev>(
     requires fits { data_sectors repair.now.shape ≤ (D.state data_dev.old).size }
     requires room { 65536 ≤ length memory.old }
     ensures read { IsOnlyRead (D.state data_dev.old) (D.state data_dev.new) }
-    ensures good { IsTrue result → AreGoodFrom (job repair.now) path.now (D.state data_dev.old) row.first (row.end - row.first) }
-    ensures asked { HasReadAtMost (D.state data_dev.old) ((row.end - row.first) * (repair.now.shape.data_block / 512)) (D.state data_dev.new) }
+    ensures good { IsTrue result → AreGoodInRow (job repair.now) path.now row (D.state data_dev.old) }
+    ensures asked { ReadsData D.state repair.now.shape (row.end - row.first) data_dev.old data_dev.new }
     ensures counted { (D.state data_dev.old).failures ≤ (D.state data_dev.new).failures }
 {
     let mut index = row.first;
@@ -88,7 +88,7 @@ fn good_piece<D: BlockDev>(
     ensures some { IfSome result (λ count. 0 < count) }
     ensures few { IfSome result (λ count. first + count ≤ end) }
     ensures good { IfSome result (AreGoodFrom (job repair.now) path.now (D.state data_dev.old) first) }
-    ensures asked { HasReadAtMost (D.state data_dev.old) (piece_of (end - first) result * (repair.now.shape.data_block / 512)) (D.state data_dev.new) }
+    ensures asked { ReadsData D.state repair.now.shape (piece_of (end - first) result) data_dev.old data_dev.new }
     ensures counted { (D.state data_dev.old).failures ≤ (D.state data_dev.new).failures }
 {
     let size = repair.shape.data_block() as usize;

@@ -1,13 +1,12 @@
 //! The blocks of a height, gone over row by row.
-ghost use Rattle.std.specs.Prelude.{◌≡◌, ◌<◌, ◌≤◌, ◌+◌, ◌-◌, ◌*◌, ◌/◌, IfOk, OnOk, length, replicate, IfErr};
+ghost use Rattle.std.specs.Prelude.{◌≡◌, ◌<◌, ◌≤◌, IfOk, OnOk, length, replicate, IfErr};
 ghost use Rattle.tree_shape.specs.Shape.{levels};
 ghost use Rattle.tree_survey.specs.Surveys.{IsWay};
 ghost use Rattle.tree_path.specs.Steps.{HasReadAtMost};
-ghost use Rattle.tree_repair.specs.Bills.{LeavesWorld, LeavesRow, LeavesVisit, height_over, nothing_due, reading, rows_over, visits_over};
-ghost use Rattle.tree_repair.specs.Coverage.{IsBlockAt, IsFromTo, IsOfRow};
+ghost use Rattle.tree_repair.specs.Bills.{LeavesWorld, LeavesHeight, LeavesRow, LeavesVisit, height_over, nothing_due, reading, rows_over, visits_over, way_sectors};
 ghost use Rattle.tree_repair.specs.Jobs.{IsRow, job};
-ghost use Rattle.tree_repair.specs.ParityBounds.{LeavesNoted, NotesInRow, blocks_over};
-ghost use Rattle.tree_repair.specs.Passes.{Notes};
+ghost use Rattle.tree_repair.specs.ParityBounds.{LeavesNoted, NotesInHeight, NotesInRow};
+ghost use Rattle.tree_repair.specs.Notes.{NotesAt, NotesHeight, NotesRow};
 ghost use Rattle.tree_repair.specs.Runs.{CanRun, IsWriterCause};
 ghost use Rattle.tree_repair.specs.Tries.{IsWayOr};
 ghost use Rattle.tree_repair.specs.Worlds.{IsWorldRead};
@@ -40,10 +39,10 @@ pub(crate) fn repair_height<D: BlockDev, H: BlockDev, C: BlockDev, W: Write>(
     requires height { height ≤ levels repair.now.shape }
     requires few { height ≤ 14 }
     requires room { 65536 ≤ length memory.old }
-    ensures notes { Notes W.contents (job repair.now) (IsFromTo height 0 repair.now.shape.blocks) image.old image.new bad.old bad.new writer.old writer.new result }
+    ensures notes { NotesHeight W.contents repair.now height image.old image.new bad.old bad.new writer.old writer.new result }
     ensures told { IfErr result (IsWriterCause writer.new) }
-    ensures asked { LeavesWorld (height_over repair.now.shape height repair.now.shape.blocks) nothing_due image.old image.new }
-    ensures few { OnOk result (LeavesNoted (blocks_over repair.now.shape height repair.now.shape.blocks) 0 bad.old bad.new) }
+    ensures asked { LeavesHeight repair.now.shape height image.old image.new }
+    ensures few { OnOk result (NotesInHeight repair.now.shape height bad.old bad.new) }
 {
     let blocks = repair.shape.blocks();
     let width = span(&repair.shape, height + 1, blocks);
@@ -76,7 +75,7 @@ fn repair_row<D: BlockDev, H: BlockDev, C: BlockDev, W: Write>(
     requires row { IsRow repair.now.shape row }
     requires some { row.first < repair.now.shape.blocks }
     requires room { 65536 ≤ length memory.old }
-    ensures notes { Notes W.contents (job repair.now) (IsOfRow row) image.old image.new bad.old bad.new writer.old writer.new result }
+    ensures notes { NotesRow W.contents repair.now row image.old image.new bad.old bad.new writer.old writer.new result }
     ensures told { IfErr result (IsWriterCause writer.new) }
     ensures asked { LeavesRow height_over repair.now.shape row image.old image.new }
     ensures few { OnOk result (NotesInRow repair.now.shape row bad.old bad.new) }
@@ -105,7 +104,7 @@ fn repair_unless_good<D: BlockDev, H: BlockDev, C: BlockDev, W: Write>(
     requires row { IsRow repair.now.shape row }
     requires way { IsWay (job repair.now).tree row.first row.height path.now }
     requires room { 65536 ≤ length memory.old }
-    ensures notes { Notes W.contents (job repair.now) (IsOfRow row) image.old image.new bad.old bad.new writer.old writer.new result }
+    ensures notes { NotesRow W.contents repair.now row image.old image.new bad.old bad.new writer.old writer.new result }
     ensures told { IfErr result (IsWriterCause writer.new) }
     ensures asked { LeavesRow rows_over repair.now.shape row image.old image.new }
     ensures few { OnOk result (NotesInRow repair.now.shape row bad.old bad.new) }
@@ -128,7 +127,7 @@ pub(crate) fn way_to<D: BlockDev, H: BlockDev, C: BlockDev>(
     requires fits { tree_sectors repair.now.shape ≤ image.old.hash_dev.size }
     ensures read { IsWorldRead image.old image.new }
     ensures way { IfOk result (IsWayOr (job repair.now).tree index height image.old.hash_dev image.new.hash_dev) }
-    ensures asked { LeavesWorld (reading 0 ((levels repair.now.shape - height) * (repair.now.shape.hash_block / 512))) nothing_due image.old image.new }
+    ensures asked { LeavesWorld (reading 0 (way_sectors repair.now.shape height)) nothing_due image.old image.new }
 {
     way_on(repair, &mut image.hash, index, height)
 }
@@ -145,7 +144,7 @@ fn way_on<H: BlockDev>(
     requires fits { tree_sectors repair.now.shape ≤ (H.state device.old).size }
     ensures read { IsOnlyRead (H.state device.old) (H.state device.new) }
     ensures way { IfOk result (IsWayOr (job repair.now).tree index height (H.state device.old) (H.state device.new)) }
-    ensures asked { HasReadAtMost (H.state device.old) ((levels repair.now.shape - height) * (repair.now.shape.hash_block / 512)) (H.state device.new) }
+    ensures asked { HasReadAtMost (H.state device.old) (way_sectors repair.now.shape height) (H.state device.new) }
     ensures counted { (H.state device.old).failures ≤ (H.state device.new).failures }
 {
     let mut path = TreePath::new(repair.alloc, repair.shape, repair.salt, repair.root)?;
@@ -178,7 +177,7 @@ fn repair_blocks<D: BlockDev, H: BlockDev, C: BlockDev, W: Write>(
     requires row { IsRow repair.now.shape row }
     requires way { IsWay (job repair.now).tree row.first row.height path.now }
     requires room { 65536 ≤ length memory.old }
-    ensures notes { Notes W.contents (job repair.now) (IsOfRow row) image.old image.new bad.old bad.new writer.old writer.new result }
+    ensures notes { NotesRow W.contents repair.now row image.old image.new bad.old bad.new writer.old writer.new result }
     ensures told { IfErr result (IsWriterCause writer.new) }
     ensures asked { LeavesRow visits_over repair.now.shape row image.old image.new }
     ensures few { OnOk result (NotesInRow repair.now.shape row bad.old bad.new) }
@@ -212,7 +211,7 @@ fn repair_block<D: BlockDev, H: BlockDev, C: BlockDev, W: Write>(
     requires inside { place.index < repair.now.shape.blocks }
     requires way { IsWay (job repair.now).tree place.index place.height path.now }
     requires room { 65536 ≤ length memory.old }
-    ensures notes { Notes W.contents (job repair.now) (IsBlockAt repair.now.shape place) image.old image.new bad.old bad.new writer.old writer.new result }
+    ensures notes { NotesAt W.contents repair.now place image.old image.new bad.old bad.new writer.old writer.new result }
     ensures told { IfErr result (IsWriterCause writer.new) }
     ensures asked { LeavesVisit repair.now.shape place.height place.index image.old image.new }
     ensures few { OnOk result (LeavesNoted 1 0 bad.old bad.new) }

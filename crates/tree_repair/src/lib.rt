@@ -14,6 +14,7 @@ mod outcome;
 mod parity;
 mod passes;
 mod place;
+mod putting;
 mod remaking;
 mod repair;
 mod saying;

@@ -1,13 +1,14 @@
 //! A block that is looked at, and written where it isn't good and was found elsewhere.
-ghost use Rattle.std.specs.Prelude.{◌≡◌, ◌/◌, ◌+◌, ◌<◌, ◌^◌, ℕ, List, true, IfOk, IsTrue, OnErr, OnOk, is_ok, length, map};
+ghost use Rattle.std.specs.Prelude.{◌/◌, ◌+◌, ◌<◌, ◌^◌, IfOk, IsTrue, is_ok, length};
 ghost use Rattle.block_device.specs.Device.{IsInside};
-ghost use Rattle.tree_repair.specs.Bills.{IsAskedOnce};
-ghost use Rattle.tree_repair.specs.Mending.{IsMended, IsNotRemade, IsPutAt, IsUnmended};
-ghost use Rattle.tree_repair.specs.Looks.{look};
+ghost use Rattle.tree_repair.specs.Bills.{AsksOnce};
+ghost use Rattle.tree_repair.specs.Mending.{IsNotRemade, IsPutAt};
+ghost use Rattle.tree_repair.specs.Looks.{FailsToMend, MendsBlock};
 
+use crate::place::Repair;
 use crate::seeking::{is_there, seek};
 use block_device::{BlockDev, DeviceFault};
-use tree_shape::{Digest, Salt};
+use tree_shape::Digest;
 
 /// What came of a block.
 #[derive(Clone, Copy, Debug, PartialEq, Eq)]
@@ -24,9 +25,10 @@ pub enum Mended {
     Lost,
 }
 
-/// The first sector of a block on its device and on a copy, and its digest.
+/// A block of what is repaired: its first sector on its device and on a copy, and its digest.
 #[derive(Clone, Copy)]
-pub(crate) struct Sought {
+pub(crate) struct Sought<'a> {
+    pub(crate) repair: &'a Repair,
     pub(crate) first: u64,
     pub(crate) copy_first: u64,
     pub(crate) digest: Digest,
@@ -36,31 +38,31 @@ pub(crate) struct Sought {
 pub(crate) fn mend<B: BlockDev, C: BlockDev>(
     device: &mut B,
     copies: &mut Vec<C>,
-    sought: &Sought,
-    salt: &Salt,
+    sought: &Sought<'_>,
     block: &mut [u8],
-    write: bool,
 ) -> Result<Mended, DeviceFault>
     requires inside { IsInside (B.state device.old) sought.now.first (length block.old) }
     requires small { sought.now.copy_first + length block.old / 512 < 2 ^ 64 }
-    requires allowed { IsTrue write → IsTrue (B.state device.old).may_write }
-    ensures ok { IfOk result (λ m. (bytes : List ℕ) × IsMended (look sought.now salt.now (length block.old / 512) write (B.state device.old) (B.state device.new) (map C.state copies.old.items) (map C.state copies.new.items)) bytes true m) }
+    requires allowed { IsTrue sought.now.repair.now.write → IsTrue (B.state device.old).may_write }
+    ensures ok { MendsBlock B.state C.state sought.now block.old device.old device.new copies.old copies.new result }
     ensures plain { IfOk result IsNotRemade }
-    ensures err { OnErr result (IsUnmended (look sought.now salt.now (length block.old / 512) write (B.state device.old) (B.state device.new) (map C.state copies.old.items) (map C.state copies.new.items))) }
-    ensures asked { IsAskedOnce (length block.old / 512) (B.state device.old) (B.state device.new) (map C.state copies.old.items) (map C.state copies.new.items) }
+    ensures err { FailsToMend B.state C.state sought.now block.old device.old device.new copies.old copies.new result }
+    ensures asked { AsksOnce B.state C.state block.old device.old device.new copies.old copies.new }
 {
     let Sought {
+        repair,
         first,
         copy_first,
         digest,
     } = *sought;
+    let salt = &repair.salt;
     if is_there(device, first, salt, &digest, block) {
         return Ok(Mended::Good);
     }
     match seek(copies, copy_first, salt, &digest, block) {
         None => Ok(Mended::Lost),
         Some(number) => {
-            put(device, first, block, write)?;
+            put(device, first, block, repair.write)?;
             Ok(Mended::Copy(number))
         }
     }

@@ -1,36 +1,30 @@
 //! Blocks brought back by parity.
-ghost use Rattle.std.specs.Prelude.{◌≡◌, ◌<◌, ◌≤◌, ◌+◌, ◌/◌, ◌++◌, ◌&&◌, ◌||◌, false, IfOk, IsTrue, OnErr, OnOk, length, IfErr};
-ghost use Rattle.block_device.specs.Device.{IsInside};
+ghost use Rattle.std.specs.Prelude.{◌≡◌, ◌<◌, ◌+◌, ◌++◌, ◌&&◌, ◌||◌, false, IfOk, IsTrue, OnOk, length, IfErr};
 ghost use Rattle.fec_area.specs.Layouts.{IsLaidOn, IsLayout, covered_blocks};
 ghost use Rattle.tree_shape.specs.Digests.{digest};
 ghost use Rattle.tree_shape.specs.Shape.{levels};
-ghost use Rattle.tree_survey.specs.Surveys.{IsWay};
 ghost use Rattle.verity_format.specs.Blocks.{IsOnlyRead};
-ghost use Rattle.tree_repair.specs.Jobs.{AreGoodAt, job};
-ghost use Rattle.tree_repair.specs.Mending.{IsBlockReplaced};
-ghost use Rattle.tree_repair.specs.ParityBounds.{IsAskedAlone, IsAskedWithin, IsMadeWithin, IsReplacedOnce, TellsBack, TellsCame, along_bill, parity_bill, put_bill, round_bill, sought_among, tries_of};
+ghost use Rattle.tree_repair.specs.Jobs.{job};
+ghost use Rattle.tree_repair.specs.ParityBounds.{TellsCame, along_bill, round_bill};
 ghost use Rattle.tree_repair.specs.Passes.{AreBack};
-ghost use Rattle.tree_repair.specs.Parity.{FailsToPlace, IsBack, IsNotBack, IsPlace, IsPlaced, IsPutOr, end_at};
-ghost use Rattle.tree_repair.specs.Runs.{CanRun, IsWriterCause, Ran, sector_at, size_at};
-ghost use Rattle.tree_repair.specs.Sources.{due};
-ghost use Rattle.tree_repair.specs.Tries.{AreCovered, HasSought, IsCoveredOr, IsMadeOrVain, IsSought, IsTried, is_hash_back, listed_number, trial};
+ghost use Rattle.tree_repair.specs.Parity.{IsBack, IsPlace};
+ghost use Rattle.tree_repair.specs.Runs.{CanRun, IsWriterCause, Ran};
+ghost use Rattle.tree_repair.specs.Tries.{AreCovered, IsCoveredOr, is_hash_back, listed_number};
 ghost use Rattle.tree_repair.specs.Worlds.{IsWorldRead};
+ghost use Rattle.tree_repair.specs.Searching.{AreGoodFor, AsksWithin, IsInTree, IsReached, LacksBlock, MakesMissing, MakesWithin, SeeksBlock, SeeksEach, SeeksWithin, TellsMissing, TellsPlace, TriesMissing, TriesWithin, missing_size};
 
 use crate::bad::BadBlock;
 use crate::fault::RepairFault;
 use crate::image::DamagedImage;
 use crate::levels::{way_to, zeros};
-use crate::mending::{Mended, put};
 use crate::place::{Place, Repair, block_size};
-use crate::saying::say_mended;
-use crate::seeking::{is_same, is_there};
-use block_device::{BlockDev, DeviceFault};
+use crate::putting::{Missing, put_restored};
+use crate::seeking::is_same;
+use block_device::BlockDev;
 use counted_io::Counted;
 use fec_area::{Layout, LostBlock, RestoreFault, restore_block};
 use std::alloc::{AllocError, Global};
 use std::io::Write;
-use tree_path::TreePath;
-use tree_shape::{Digest, Salt};
 
 /// Whether a hash block came back by parity, and whether all is good by then.
 #[derive(Clone, Copy)]
@@ -53,18 +47,18 @@ pub(crate) fn restore_bad<D: BlockDev, H: BlockDev, C: BlockDev, P: BlockDev, W:
     layout: &Layout,
     blocks: &[BadBlock],
     image: &mut DamagedImage<D, H, C>,
-    parity_dev: &mut P,
+    parity: &mut P,
     writer: &mut Counted<W>,
 ) -> Result<Came, RepairFault>
     requires asked { IsTrue repair.now.parity }
     requires can { CanRun (job repair.now) image.old }
     requires laid { IsLaidOn layout.now image.old.data_dev image.old.hash_dev }
-    ensures parity { IsOnlyRead (P.state parity_dev.old) (P.state parity_dev.new) }
+    ensures parity { IsOnlyRead (P.state parity.old) (P.state parity.new) }
     ensures run { Ran W.contents (job repair.now) image.old image.new writer.old writer.new result }
     ensures told { IfErr result (IsWriterCause writer.new) }
-    ensures sought { IfOk result (λ came. HasSought (job repair.now) layout.now blocks.now image.old image.new (P.state parity_dev.old) (P.state parity_dev.new) came.tree) }
+    ensures sought { SeeksEach P.state repair.now layout.now blocks.now image.old image.new parity.old parity.new result }
     ensures back { IfOk result (λ came. IsTrue came.all → AreBack (job repair.now) blocks.now image.old image.new) }
-    ensures within { IsAskedWithin (parity_bill repair.now.shape layout.now 0 0 (sought_among blocks.now)) image.old image.new (P.state parity_dev.old) (P.state parity_dev.new) }
+    ensures within { SeeksWithin P.state repair.now layout.now blocks.now image.old image.new parity.old parity.new }
     ensures came { TellsCame W.contents (job repair.now) image.old image.new writer.old writer.new result }
 {
     let lost = covered_of(repair, layout, blocks)?;
@@ -75,7 +69,7 @@ pub(crate) fn restore_bad<D: BlockDev, H: BlockDev, C: BlockDev, P: BlockDev, W:
     let mut tree = false;
     let mut all = true;
     'each: for bad in blocks {
-        let back = restore_block_at(repair, &losses, bad, image, parity_dev, writer)?;
+        let back = restore_block_at(repair, &losses, bad, image, parity, writer)?;
         tree = is_in_tree(tree, back, bad);
         all = are_both(all, back);
     }
@@ -157,18 +151,18 @@ fn restore_block_at<D: BlockDev, H: BlockDev, C: BlockDev, P: BlockDev, W: Write
     losses: &Losses,
     bad: &BadBlock,
     image: &mut DamagedImage<D, H, C>,
-    parity_dev: &mut P,
+    parity: &mut P,
     writer: &mut Counted<W>,
 ) -> Result<bool, RepairFault>
     requires asked { IsTrue repair.now.parity }
     requires can { CanRun (job repair.now) image.old }
     requires laid { IsLaidOn losses.now.layout image.old.data_dev image.old.hash_dev }
-    ensures parity { IsOnlyRead (P.state parity_dev.old) (P.state parity_dev.new) }
+    ensures parity { IsOnlyRead (P.state parity.old) (P.state parity.new) }
     ensures run { Ran W.contents (job repair.now) image.old image.new writer.old writer.new result }
     ensures told { IfErr result (IsWriterCause writer.new) }
-    ensures sought { IfOk result (IsSought (job repair.now) bad.now (trial losses.now.layout losses.now.lost.items image.old image.new (P.state parity_dev.old) (P.state parity_dev.new))) }
-    ensures within { IsAskedWithin (parity_bill repair.now.shape losses.now.layout 0 0 (tries_of bad.now.found)) image.old image.new (P.state parity_dev.old) (P.state parity_dev.new) }
-    ensures came { TellsBack W.contents (job repair.now) bad.now.place.height image.old image.new writer.old writer.new result }
+    ensures sought { SeeksBlock P.state repair.now losses.now bad.now image.old image.new parity.old parity.new result }
+    ensures within { TriesWithin P.state repair.now losses.now bad.now image.old image.new parity.old parity.new }
+    ensures came { TellsPlace W.contents repair.now bad.now.place image.old image.new writer.old writer.new result }
 {
     if bad.found {
         return Ok(false);
@@ -180,72 +174,78 @@ fn restore_block_at<D: BlockDev, H: BlockDev, C: BlockDev, P: BlockDev, W: Write
     let found = way_to(repair, image, place.index, place.height)?;
     match found {
         None => Ok(false),
-        Some(path) => restore_along(&path, repair, losses, place, image, parity_dev, writer),
+        Some(path) => {
+            let missing = Missing {
+                path: &path,
+                repair,
+                place,
+            };
+            restore_missing(&missing, losses, image, parity, writer)
+        }
     }
 }
 
-// Brings a block back to which the path leads.
-fn restore_along<D: BlockDev, H: BlockDev, C: BlockDev, P: BlockDev, W: Write>(
-    path: &TreePath,
-    repair: &Repair,
+// Brings a block back to which good hash blocks lead.
+fn restore_missing<D: BlockDev, H: BlockDev, C: BlockDev, P: BlockDev, W: Write>(
+    missing: &Missing<'_>,
     losses: &Losses,
-    place: Place,
     image: &mut DamagedImage<D, H, C>,
-    parity_dev: &mut P,
+    parity: &mut P,
     writer: &mut Counted<W>,
 ) -> Result<bool, RepairFault>
-    requires asked { IsTrue repair.now.parity }
-    requires can { CanRun (job repair.now) image.old }
+    requires asked { IsTrue missing.now.repair.now.parity }
+    requires can { CanRun (job missing.now.repair.now) image.old }
     requires laid { IsLaidOn losses.now.layout image.old.data_dev image.old.hash_dev }
-    requires place { IsPlace repair.now.shape place.height place.index }
-    requires way { IsWay (job repair.now).tree place.index place.height path.now }
-    ensures parity { IsOnlyRead (P.state parity_dev.old) (P.state parity_dev.new) }
-    ensures run { Ran W.contents (job repair.now) image.old image.new writer.old writer.new result }
+    requires place { IsInTree missing.now }
+    requires way { IsReached missing.now }
+    ensures parity { IsOnlyRead (P.state parity.old) (P.state parity.new) }
+    ensures run { Ran W.contents (job missing.now.repair.now) image.old image.new writer.old writer.new result }
     ensures told { IfErr result (IsWriterCause writer.new) }
-    ensures tried { IfOk result (IsTried (job repair.now) place.height place.index (trial losses.now.layout losses.now.lost.items image.old image.new (P.state parity_dev.old) (P.state parity_dev.new))) }
-    ensures within { IsAskedWithin (along_bill losses.now.layout) image.old image.new (P.state parity_dev.old) (P.state parity_dev.new) }
-    ensures came { TellsBack W.contents (job repair.now) place.height image.old image.new writer.old writer.new result }
+    ensures tried { TriesMissing P.state missing.now losses.now image.old image.new parity.old parity.new result }
+    ensures within { AsksWithin P.state (along_bill losses.now.layout) image.old image.new parity.old parity.new }
+    ensures came { TellsMissing W.contents missing.now image.old image.new writer.old writer.new result }
 {
-    let size = block_size(&repair.shape, place.height);
+    let repair = missing.repair;
+    let size = block_size(&repair.shape, missing.place.height);
     let mut made = zeros(repair.alloc, size)?;
     let mut read = zeros(repair.alloc, size)?;
     let bytes = made.as_mut_slice();
     let block = read.as_mut_slice();
-    let back = make_again(path, repair, losses, place, image, parity_dev, bytes)?;
+    let back = make_again(missing, losses, image, parity, bytes)?;
     if !back {
         return Ok(false);
     }
-    put_restored(path, repair, place, image, bytes, block, writer)
+    put_restored(missing, image, bytes, block, writer)
 }
 
 // Makes a block again by parity, and tells whether it has the digest to which the path leads.
 fn make_again<D: BlockDev, H: BlockDev, C: BlockDev, P: BlockDev>(
-    path: &TreePath,
-    repair: &Repair,
+    missing: &Missing<'_>,
     losses: &Losses,
-    place: Place,
     image: &mut DamagedImage<D, H, C>,
-    parity_dev: &mut P,
+    parity: &mut P,
     bytes: &mut [u8],
 ) -> Result<bool, AllocError>
     requires laid { IsLaidOn losses.now.layout image.old.data_dev image.old.hash_dev }
-    requires way { IsWay (job repair.now).tree place.index place.height path.now }
-    requires size { length bytes.old ≡ size_at repair.now.shape place.height }
+    requires way { IsReached missing.now }
+    requires size { length bytes.old ≡ missing_size missing.now }
     ensures read { IsWorldRead image.old image.new }
-    ensures parity { IsOnlyRead (P.state parity_dev.old) (P.state parity_dev.new) }
-    ensures good { IfOk result (λ made. IsTrue made → AreGoodAt repair.now path.now place bytes.new) }
-    ensures vain { IfOk result (IsMadeOrVain (job repair.now) path.now place.height place.index (trial losses.now.layout losses.now.lost.items image.old image.new (P.state parity_dev.old) (P.state parity_dev.new))) }
-    ensures within { IsMadeWithin repair.now.shape losses.now.layout place.height image.old image.new (P.state parity_dev.old) (P.state parity_dev.new) result }
+    ensures parity { IsOnlyRead (P.state parity.old) (P.state parity.new) }
+    ensures good { IfOk result (λ made. IsTrue made → AreGoodFor missing.now bytes.new) }
+    ensures vain { MakesMissing P.state missing.now losses.now image.old image.new parity.old parity.new result }
+    ensures within { MakesWithin P.state missing.now losses.now image.old image.new parity.old parity.new result }
 {
+    let repair = missing.repair;
+    let place = missing.place;
     let index = match covered_at(repair, &losses.layout, place) {
         None => return Ok(false),
         Some(index) => index,
     };
-    let back = restore(repair.alloc, losses, index, image, parity_dev, bytes)?;
+    let back = restore(repair.alloc, losses, index, image, parity, bytes)?;
     if !back {
         return Ok(false);
     }
-    let expected = path.digest_at(place.height, place.index);
+    let expected = missing.path.digest_at(place.height, place.index);
     Ok(is_same(&repair.salt.digest(bytes), &expected))
 }
 
@@ -255,17 +255,17 @@ fn restore<D: BlockDev, H: BlockDev, C: BlockDev, P: BlockDev>(
     losses: &Losses,
     index: u64,
     image: &mut DamagedImage<D, H, C>,
-    parity_dev: &mut P,
+    parity: &mut P,
     bytes: &mut [u8],
 ) -> Result<bool, AllocError>
     requires laid { IsLaidOn losses.now.layout image.old.data_dev image.old.hash_dev }
     requires index { index < covered_blocks losses.now.layout }
     requires size { length bytes.old ≡ losses.now.layout.block }
     ensures read { IsWorldRead image.old image.new }
-    ensures parity { IsOnlyRead (P.state parity_dev.old) (P.state parity_dev.new) }
-    ensures bytes { IfOk result (IsBack losses.now image.old (P.state parity_dev.old) index bytes.new) }
-    ensures none { IfOk result (IsNotBack losses.now index image.old image.new (P.state parity_dev.old) (P.state parity_dev.new)) }
-    ensures within { IsAskedWithin (round_bill losses.now.layout) image.old image.new (P.state parity_dev.old) (P.state parity_dev.new) }
+    ensures parity { IsOnlyRead (P.state parity.old) (P.state parity.new) }
+    ensures bytes { IfOk result (IsBack losses.now image.old (P.state parity.old) index bytes.new) }
+    ensures none { IfOk result (LacksBlock P.state losses.now index image.old image.new parity.old parity.new) }
+    ensures within { AsksWithin P.state (round_bill losses.now.layout) image.old image.new parity.old parity.new }
 {
     let Losses { layout, lost } = losses;
     let sought = LostBlock {
@@ -278,7 +278,7 @@ fn restore<D: BlockDev, H: BlockDev, C: BlockDev, P: BlockDev>(
         &sought,
         &mut image.data,
         &mut image.hash,
-        parity_dev,
+        parity,
         bytes,
     ) {
         Ok(()) => Ok(true),
@@ -287,108 +287,4 @@ fn restore<D: BlockDev, H: BlockDev, C: BlockDev, P: BlockDev>(
         Err(RestoreFault::TooSmall { needed: _ }) => Ok(false),
         Err(RestoreFault::Device) => Ok(false),
     }
-}
-
-// Puts the bytes of a block where it stands, and prints its line.
-fn put_restored<D: BlockDev, H: BlockDev, C: BlockDev, W: Write>(
-    path: &TreePath,
-    repair: &Repair,
-    place: Place,
-    image: &mut DamagedImage<D, H, C>,
-    bytes: &[u8],
-    block: &mut [u8],
-    writer: &mut Counted<W>,
-) -> Result<bool, RepairFault>
-    requires asked { IsTrue repair.now.parity }
-    requires can { CanRun (job repair.now) image.old }
-    requires place { IsPlace repair.now.shape place.height place.index }
-    requires way { IsWay (job repair.now).tree place.index place.height path.now }
-    requires good { AreGoodAt repair.now path.now place bytes.now }
-    requires bytes { length bytes.now ≡ size_at repair.now.shape place.height }
-    requires size { length block.old ≡ size_at repair.now.shape place.height }
-    ensures run { Ran W.contents (job repair.now) image.old image.new writer.old writer.new result }
-    ensures told { IfErr result (IsWriterCause writer.new) }
-    ensures placed { IfOk result (IsPlaced (job repair.now) place.height place.index bytes.now image.old image.new) }
-    ensures within { IsAskedAlone (put_bill (size_at repair.now.shape place.height / 512)) image.old image.new }
-    ensures came { TellsBack W.contents (job repair.now) place.height image.old image.new writer.old writer.new result }
-{
-    let back = put_block(path, repair, place, image, bytes, block)?;
-    if !back {
-        return Ok(false);
-    }
-    say_mended(writer, repair, place, Mended::Parity)?;
-    Ok(true)
-}
-
-// Puts the bytes of a block where it stands, if it isn't good there.
-fn put_block<D: BlockDev, H: BlockDev, C: BlockDev>(
-    path: &TreePath,
-    repair: &Repair,
-    place: Place,
-    image: &mut DamagedImage<D, H, C>,
-    bytes: &[u8],
-    block: &mut [u8],
-) -> Result<bool, DeviceFault>
-    requires asked { IsTrue repair.now.parity }
-    requires can { CanRun (job repair.now) image.old }
-    requires place { IsPlace repair.now.shape place.height place.index }
-    requires way { IsWay (job repair.now).tree place.index place.height path.now }
-    requires good { AreGoodAt repair.now path.now place bytes.now }
-    requires bytes { length bytes.now ≡ size_at repair.now.shape place.height }
-    requires size { length block.old ≡ size_at repair.now.shape place.height }
-    ensures ok { IfOk result (IsPlaced (job repair.now) place.height place.index bytes.now image.old image.new) }
-    ensures err { OnErr result (FailsToPlace (job repair.now) place.height place.index bytes.now image.old image.new) }
-    ensures within { IsAskedAlone (put_bill (size_at repair.now.shape place.height / 512)) image.old image.new }
-{
-    let Place { height, index } = place;
-    let first = first_sector(repair, place);
-    let digest = path.digest_at(height, index);
-    let salt = &repair.salt;
-    if height == 0 {
-        let device = &mut image.data;
-        return replace(device, first, salt, &digest, bytes, block, repair.write);
-    }
-    let device = &mut image.hash;
-    replace(device, first, salt, &digest, bytes, block, repair.write)
-}
-
-// The first sector of a block on its device.
-fn first_sector(repair: &Repair, place: Place) -> u64
-    requires { IsPlace repair.now.shape place.height place.index }
-    ensures value { result ≡ sector_at repair.now.shape place.height place.index }
-    ensures inside { result + size_at repair.now.shape place.height / 512 ≤ end_at repair.now.shape place.height }
-{
-    let Place { height, index } = place;
-    let sectors = (block_size(&repair.shape, height) / 512) as u64;
-    if height == 0 {
-        return index * sectors;
-    }
-    let level = height - 1;
-    let number = repair.shape.block_on_path(level, index);
-    repair.shape.position(level, number) * sectors
-}
-
-// Reads a block of which good bytes are at hand. Where it hasn't its digest they are written, if they may be.
-fn replace<B: BlockDev>(
-    device: &mut B,
-    first: u64,
-    salt: &Salt,
-    expected: &Digest,
-    bytes: &[u8],
-    block: &mut [u8],
-    write: bool,
-) -> Result<bool, DeviceFault>
-    requires inside { IsInside (B.state device.old) first (length bytes.now) }
-    requires size { length block.old ≡ length bytes.now }
-    requires good { digest salt.now bytes.now ≡ expected.now }
-    requires allowed { IsTrue write → IsTrue (B.state device.old).may_write }
-    ensures ok { IfOk result (IsPutOr (B.state device.old) first (due salt.now expected.now bytes.now) write bytes.now (B.state device.new)) }
-    ensures err { OnErr result (IsBlockReplaced (B.state device.old) first (due salt.now expected.now bytes.now) write bytes.now false (B.state device.new)) }
-    ensures within { IsReplacedOnce (length bytes.now / 512) (B.state device.old) (B.state device.new) }
-{
-    if is_there(device, first, salt, expected, block) {
-        return Ok(false);
-    }
-    put(device, first, bytes, write)?;
-    Ok(true)
 }

@@ -4,10 +4,10 @@ ghost use Rattle.fec_area.specs.Layouts.{IsLaidOn};
 ghost use Rattle.verity_format.specs.Blocks.{IsOnlyRead};
 ghost use Rattle.tree_repair.specs.Jobs.{job};
 ghost use Rattle.tree_repair.specs.Outcomes.{IsAllGood, IsParityOutcome};
-ghost use Rattle.tree_repair.specs.ParityBounds.{IsParityWithin, RunsInAll, RunsInOne};
-ghost use Rattle.tree_repair.specs.Passes.{EndsInPass, IsPass};
+ghost use Rattle.tree_repair.specs.ParityBounds.{IsParityWithin};
 ghost use Rattle.tree_repair.specs.Repairs.{IsAllowed, IsParityRepair, IsParityUnrepaired, IsSoughtByParity};
 ghost use Rattle.tree_repair.specs.Runs.{CanRun, IsWriterCause, Ran};
+ghost use Rattle.tree_repair.specs.Searching.{EndsPasses, MakesPass, RunsPass, RunsPasses};
 
 use crate::bad::BadBlocks;
 use crate::fault::RepairFault;
@@ -62,24 +62,24 @@ fn run_passes<D: BlockDev, H: BlockDev, C: BlockDev, P: BlockDev, W: Write>(
     repair: &Repair,
     layout: &Layout,
     image: &mut DamagedImage<D, H, C>,
-    parity_dev: &mut P,
+    parity: &mut P,
     writer: &mut Counted<W>,
 ) -> Result<bool, RepairFault>
     requires asked { IsTrue repair.now.parity }
     requires can { CanRun (job repair.now) image.old }
     requires laid { IsLaidOn layout.now image.old.data_dev image.old.hash_dev }
-    ensures parity { IsOnlyRead (P.state parity_dev.old) (P.state parity_dev.new) }
+    ensures parity { IsOnlyRead (P.state parity.old) (P.state parity.new) }
     ensures run { Ran W.contents (job repair.now) image.old image.new writer.old writer.new result }
     ensures told { IfErr result (IsWriterCause writer.new) }
-    ensures asks { OnOk result (EndsInPass (job repair.now) layout.now image.old image.new (P.state parity_dev.old) (P.state parity_dev.new)) }
+    ensures asks { EndsPasses P.state repair.now layout.now image.old image.new parity.old parity.new result }
     ensures whole { IfOk result (λ all. IsTrue all → IsAllGood (job repair.now) image.old image.new) }
-    ensures within { RunsInAll W.contents (job repair.now) layout.now image.old image.new (P.state parity_dev.old) (P.state parity_dev.new) writer.old writer.new result }
+    ensures within { RunsPasses W.contents P.state repair.now layout.now image.old image.new parity.old parity.new writer.old writer.new result }
 {
     let mut left = layout.hash_blocks;
-    let mut came = run_pass(repair, layout, image, parity_dev, writer)?;
+    let mut came = run_pass(repair, layout, image, parity, writer)?;
     'passes: while came.tree && left > 0 {
         left -= 1;
-        came = run_pass(repair, layout, image, parity_dev, writer)?;
+        came = run_pass(repair, layout, image, parity, writer)?;
     }
     Ok(came.all)
 }
@@ -90,22 +90,22 @@ fn run_pass<D: BlockDev, H: BlockDev, C: BlockDev, P: BlockDev, W: Write>(
     repair: &Repair,
     layout: &Layout,
     image: &mut DamagedImage<D, H, C>,
-    parity_dev: &mut P,
+    parity: &mut P,
     writer: &mut Counted<W>,
 ) -> Result<Came, RepairFault>
     requires asked { IsTrue repair.now.parity }
     requires can { CanRun (job repair.now) image.old }
     requires laid { IsLaidOn layout.now image.old.data_dev image.old.hash_dev }
-    ensures parity { IsOnlyRead (P.state parity_dev.old) (P.state parity_dev.new) }
+    ensures parity { IsOnlyRead (P.state parity.old) (P.state parity.new) }
     ensures run { Ran W.contents (job repair.now) image.old image.new writer.old writer.new result }
     ensures told { IfErr result (IsWriterCause writer.new) }
-    ensures pass { IfOk result (λ came. IsPass (job repair.now) layout.now image.old image.new (P.state parity_dev.old) (P.state parity_dev.new) came.tree) }
+    ensures pass { MakesPass P.state repair.now layout.now image.old image.new parity.old parity.new result }
     ensures whole { IfOk result (λ came. IsTrue came.all → IsAllGood (job repair.now) image.old image.new) }
-    ensures within { RunsInOne W.contents (job repair.now) layout.now image.old image.new (P.state parity_dev.old) (P.state parity_dev.new) writer.old writer.new result }
+    ensures within { RunsPass W.contents P.state repair.now layout.now image.old image.new parity.old parity.new writer.old writer.new result }
 {
     let mut bad = BadBlocks::new(repair.alloc, true);
     repair_heights(repair, image, &mut bad, writer)?;
-    let came = restore_bad(repair, layout, bad.noted(), image, parity_dev, writer)?;
+    let came = restore_bad(repair, layout, bad.noted(), image, parity, writer)?;
     let tree = came.tree;
     let all = bad.is_whole(came.all, repair.write);
     Ok(Came {

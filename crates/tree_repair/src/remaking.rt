@@ -4,50 +4,45 @@ ghost use Rattle.tree_shape.specs.Digests.{digest};
 ghost use Rattle.tree_shape.specs.Shape.{IsShape, level_blocks, levels, per_block, position};
 ghost use Rattle.verity_format.specs.Blocks.{IsOnlyRead};
 ghost use Rattle.verity_format.specs.Image.{data_sectors, tree_sectors};
-ghost use Rattle.tree_path.specs.Path.{digest_on};
 ghost use Rattle.tree_path.specs.Steps.{HasReadAtMost};
-ghost use Rattle.tree_survey.specs.Surveys.{IsWay};
-ghost use Rattle.tree_repair.specs.Bills.{LeavesBeneath, LeavesBlock, made_over};
+ghost use Rattle.tree_repair.specs.Bills.{LeavesBeneath, LeavesBlock, LeavesMade, made_over};
 ghost use Rattle.tree_repair.specs.Grounds.{IsMadeIn, IsNowhereIn, IsOverIn, IsUnlikeIn, made_in, stands_in};
-ghost use Rattle.tree_repair.specs.Jobs.{job};
-ghost use Rattle.tree_repair.specs.Remaking.{HaveBlocks, IsBlockOf, IsSure, count_in};
+ghost use Rattle.tree_repair.specs.Remaking.{HaveBlocks, IsBlockOf, IsHashBlockOf, IsSure, count_in};
 ghost use Rattle.tree_repair.specs.Runs.{size_at};
 ghost use Rattle.tree_repair.specs.Worlds.{AreBothRead};
 
 use crate::image::DamagedImage;
+use crate::mending::Sought;
 use crate::place::{Repair, block_size, count_at};
 use crate::seeking::is_same;
 use block_device::BlockDev;
-use tree_path::TreePath;
 use tree_shape::{Digest, Shape};
 
 /// Makes the hash block of a level again that stands on the way to a data block, from the blocks of the height just beneath
-/// it, else from those of the next one, down to the data. Tells whether one that was made has the digest to which the path
-/// leads; it is in `block` then. Where a block of a height can't be read, none is made from that height. `memory` has 4,096
+/// it, else from those of the next one, down to the data. Tells whether one that was made has the digest that is sought; it is
+/// in `block` then. Where a block of a height can't be read, none is made from that height. `memory` has 4,096
 /// bytes for each height beneath.
 pub(crate) fn remake<D: BlockDev, H: BlockDev, C: BlockDev>(
-    path: &TreePath,
-    repair: &Repair,
+    sought: &Sought<'_>,
     level: u32,
     index: u64,
     image: &mut DamagedImage<D, H, C>,
     block: &mut [u8],
     memory: &mut [u8],
 ) -> bool
-    requires have { HaveBlocks repair.now.shape image.old.data_dev image.old.hash_dev }
-    requires inside { index < repair.now.shape.blocks }
-    requires level { level < levels repair.now.shape }
-    requires way { IsWay (job repair.now).tree index (level + 1) path.now }
-    requires size { length block.old ≡ repair.now.shape.hash_block }
+    requires have { HaveBlocks sought.now.repair.now.shape image.old.data_dev image.old.hash_dev }
+    requires inside { index < sought.now.repair.now.shape.blocks }
+    requires level { level < levels sought.now.repair.now.shape }
+    requires size { length block.old ≡ sought.now.repair.now.shape.hash_block }
     requires room { 4096 * (level + 1) ≤ length memory.old }
     ensures read { AreBothRead image.old image.new }
-    ensures good { IsTrue result → digest repair.now.salt block.new ≡ digest_on path.now index (level + 1) }
-    ensures made { IsTrue result → IsMadeIn repair.now image.old level index block.new }
-    ensures none { result ≡ false → IsNowhereIn repair.now image.old level index (digest_on path.now index (level + 1)) }
-    ensures asked { LeavesBeneath repair.now.shape level index image.old image.new }
+    ensures good { IsTrue result → digest sought.now.repair.now.salt block.new ≡ sought.now.digest }
+    ensures made { IsTrue result → IsMadeIn sought.now.repair.now image.old level index block.new }
+    ensures none { result ≡ false → IsNowhereIn sought.now.repair.now image.old level index sought.now.digest }
+    ensures asked { LeavesBeneath sought.now.repair.now.shape level index image.old image.new }
 {
+    let repair = sought.repair;
     let number = repair.shape.block_on_path(level, index);
-    let digest = path.digest_at(level + 1, index);
     let mut from = level + 1;
     'heights: while from > 0 {
         from -= 1;
@@ -57,7 +52,7 @@ pub(crate) fn remake<D: BlockDev, H: BlockDev, C: BlockDev>(
             steps,
             number,
         };
-        if is_made(repair, making, &digest, image, block, memory) {
+        if is_made(repair, making, &sought.digest, image, block, memory) {
             return true;
         }
     }
@@ -90,7 +85,7 @@ fn is_made<D: BlockDev, H: BlockDev, C: BlockDev>(
     ensures good { IsTrue result → digest repair.now.salt block.new ≡ expected.now }
     ensures stand { IsTrue result → IsOverIn image.old (made_in repair.now image.old making) block.new }
     ensures none { result ≡ false → IsUnlikeIn repair.now image.old expected.now (made_in repair.now image.old making) }
-    ensures asked { LeavesBlock (made_over repair.now.shape making.from) repair.now.shape (making.from + making.steps) making.number image.old image.new }
+    ensures asked { LeavesMade repair.now.shape making image.old image.new }
 {
     if !make(repair, making, image, block, memory) {
         return false;
@@ -114,7 +109,7 @@ fn make<D: BlockDev, H: BlockDev, C: BlockDev>(
     ensures read { AreBothRead image.old image.new }
     ensures made { IsTrue result → IsOverIn image.old (made_in repair.now image.old making) block.new }
     ensures sure { IsSure image.old.data_dev image.old.hash_dev result }
-    ensures asked { LeavesBlock (made_over repair.now.shape making.from) repair.now.shape (making.from + making.steps) making.number image.old image.new }
+    ensures asked { LeavesMade repair.now.shape making image.old image.new }
 {
     let Making {
         from,
@@ -227,7 +222,7 @@ fn read_hash<H: BlockDev>(
     requires inside { number < level_blocks shape.now level }
     requires size { length block.old ≡ shape.now.hash_block }
     ensures read { IsOnlyRead (H.state hash_dev.old) (H.state hash_dev.new) }
-    ensures stands { IsTrue result → IsBlockOf (H.state hash_dev.old) shape.now.hash_block (position shape.now level number) block.new }
+    ensures stands { IsTrue result → IsHashBlockOf (H.state hash_dev.old) shape.now level number block.new }
     ensures sure { IsTrue (H.state hash_dev.old).never_fails → IsTrue result }
     ensures asked { HasReadAtMost (H.state hash_dev.old) (shape.now.hash_block / 512) (H.state hash_dev.new) }
     ensures counted { (H.state hash_dev.old).failures ≤ (H.state hash_dev.new).failures }

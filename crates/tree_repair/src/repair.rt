@@ -7,11 +7,10 @@ ghost use Rattle.tree_survey.specs.Causes.{AreImages};
 ghost use Rattle.tree_path.specs.Steps.{HasReadAtMost};
 ghost use Rattle.tree_repair.specs.Bills.{LeavesWorld, nothing_due, pass_over, reading};
 ghost use Rattle.tree_repair.specs.Bounds.{IsRepairWithin};
-ghost use Rattle.tree_repair.specs.Coverage.{IsFromUp};
 ghost use Rattle.tree_repair.specs.Jobs.{job};
 ghost use Rattle.tree_repair.specs.ParityBounds.{LeavesNoted, image_blocks};
 ghost use Rattle.tree_repair.specs.Outcomes.{IsOutcomeOf, StandsFrom};
-ghost use Rattle.tree_repair.specs.Passes.{Notes};
+ghost use Rattle.tree_repair.specs.Notes.{NotesAll};
 ghost use Rattle.tree_repair.specs.Repairs.{IsAllowed, IsGoneOver, IsNoImageCause, IsRepair, IsUnrepaired, job_of};
 ghost use Rattle.tree_repair.specs.Runs.{CanRun, IsWriterCause};
 ghost use Rattle.tree_repair.specs.Worlds.{IsHashReadAlone, IsWorldRead};
@@ -139,7 +138,7 @@ pub(crate) fn repair_heights<D: BlockDev, H: BlockDev, C: BlockDev, W: Write>(
     writer: &mut Counted<W>,
 ) -> Result<(), RepairFault>
     requires { CanRun (job repair.now) image.old }
-    ensures notes { Notes W.contents (job repair.now) (IsFromUp repair.now.shape 0) image.old image.new bad.old bad.new writer.old writer.new result }
+    ensures notes { NotesAll W.contents repair.now image.old image.new bad.old bad.new writer.old writer.new result }
     ensures told { IfErr result (IsWriterCause writer.new) }
     ensures asked { LeavesWorld (pass_over repair.now.shape) nothing_due image.old image.new }
     ensures few { OnOk result (LeavesNoted (image_blocks repair.now.shape) 0 bad.old bad.new) }

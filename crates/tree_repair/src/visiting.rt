@@ -5,7 +5,7 @@ ghost use Rattle.tree_shape.specs.Shape.{IsShape, levels};
 ghost use Rattle.verity_format.specs.Image.{tree_sectors};
 ghost use Rattle.tree_path.specs.Path.{digest_on};
 ghost use Rattle.tree_survey.specs.Surveys.{IsWay};
-ghost use Rattle.tree_repair.specs.Bills.{IsAskedOnce, LeavesHashVisit, LeavesVisit};
+ghost use Rattle.tree_repair.specs.Bills.{AsksHashOnce, LeavesHashVisit, LeavesVisit};
 ghost use Rattle.tree_repair.specs.Jobs.{job};
 ghost use Rattle.tree_repair.specs.Looks.{tree_look};
 ghost use Rattle.tree_repair.specs.Mending.{IsNotRemade, IsUnmended};
@@ -64,19 +64,13 @@ fn visit_data<D: BlockDev, H: BlockDev, C: BlockDev>(
     let first = index * (size / 512) as u64;
     let digest = path.digest_at(0, index);
     let sought = Sought {
+        repair,
         first,
         copy_first: first,
         digest,
     };
     let copies = &mut image.data_copies;
-    mend(
-        &mut image.data,
-        copies,
-        &sought,
-        &repair.salt,
-        block,
-        repair.write,
-    )
+    mend(&mut image.data, copies, &sought, block)
 }
 
 // A hash block of that level; `memory` has room for a block of each height beneath it.
@@ -101,13 +95,13 @@ fn visit_hash<D: BlockDev, H: BlockDev, C: BlockDev>(
 {
     let size = block.len();
     let sought = hash_sought(path, repair, level, index, size);
-    match mend_hash(repair, &sought, image, block)? {
+    match mend_hash(&sought, image, block)? {
         Mended::Good => Ok(Mended::Good),
         Mended::Copy(number) => Ok(Mended::Copy(number)),
         Mended::Remade => Ok(Mended::Remade),
         Mended::Parity => Ok(Mended::Parity),
         Mended::Lost => {
-            if !remake(path, repair, level, index, image, block, memory) {
+            if !remake(&sought, level, index, image, block, memory) {
                 return Ok(Mended::Lost);
             }
             put_hash(repair, sought.first, image, block)?;
@@ -118,29 +112,21 @@ fn visit_hash<D: BlockDev, H: BlockDev, C: BlockDev>(
 
 // Reads a hash block. Where it hasn't its digest it is sought in the copies, and written if it may be.
 fn mend_hash<D: BlockDev, H: BlockDev, C: BlockDev>(
-    repair: &Repair,
-    sought: &Sought,
+    sought: &Sought<'_>,
     image: &mut DamagedImage<D, H, C>,
     block: &mut [u8],
 ) -> Result<Mended, DeviceFault>
     requires inside { IsInside image.old.hash_dev sought.now.first (length block.old) }
     requires small { sought.now.copy_first + length block.old / 512 < 2 ^ 64 }
-    requires allowed { IsTrue repair.now.write → IsTrue image.old.hash_dev.may_write }
-    ensures ok { IfOk result (IsLooked (tree_look sought.now repair.now block.old image.old image.new)) }
+    requires allowed { IsTrue sought.now.repair.now.write → IsTrue image.old.hash_dev.may_write }
+    ensures ok { IfOk result (IsLooked (tree_look sought.now block.old image.old image.new)) }
     ensures plain { IfOk result IsNotRemade }
-    ensures err { OnErr result (IsUnmended (tree_look sought.now repair.now block.old image.old image.new)) }
+    ensures err { OnErr result (IsUnmended (tree_look sought.now block.old image.old image.new)) }
     ensures kept { KeepsData image.old image.new }
-    ensures asked { IsAskedOnce (length block.old / 512) image.old.hash_dev image.new.hash_dev image.old.hash_copies image.new.hash_copies }
+    ensures asked { AsksHashOnce block.old image.old image.new }
 {
     let copies = &mut image.hash_copies;
-    mend(
-        &mut image.hash,
-        copies,
-        sought,
-        &repair.salt,
-        block,
-        repair.write,
-    )
+    mend(&mut image.hash, copies, sought, block)
 }
 
 // Writes a hash block, if it may be written.
@@ -158,7 +144,13 @@ fn put_hash<D: BlockDev, H: BlockDev, C: BlockDev>(
 }
 
 // Where a hash block of that level is sought, and by which digest.
-fn hash_sought(path: &TreePath, repair: &Repair, level: u32, index: u64, size: usize) -> Sought
+fn hash_sought<'a>(
+    path: &TreePath,
+    repair: &'a Repair,
+    level: u32,
+    index: u64,
+    size: usize,
+) -> Sought<'a>
     requires valid { IsShape repair.now.shape }
     requires inside { index < repair.now.shape.blocks }
     requires level { level < levels repair.now.shape }
@@ -166,6 +158,7 @@ fn hash_sought(path: &TreePath, repair: &Repair, level: u32, index: u64, size: u
     requires way { IsWay (job repair.now).tree index (level + 1) path.now }
     requires size { size ≡ repair.now.shape.hash_block }
     requires copy { repair.now.copy_first ≤ 2 ^ 55 }
+    ensures repair { result.repair.now ≡ repair.now }
     ensures first { result.first ≡ hash_sector repair.now.shape level index }
     ensures inside { result.first + repair.now.shape.hash_block / 512 ≤ tree_sectors repair.now.shape }
     ensures copy { result.copy_first ≡ repair.now.copy_first + result.first }
@@ -177,6 +170,7 @@ fn hash_sought(path: &TreePath, repair: &Repair, level: u32, index: u64, size: u
     let copy_first = repair.copy_first + first;
     let digest = path.digest_at(level + 1, index);
     Sought {
+        repair,
         first,
         copy_first,
         digest,

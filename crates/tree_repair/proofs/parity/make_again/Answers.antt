@@ -16,7 +16,7 @@ pub returns-in-None-clause-read : goal.returns-in-None-clause-read
 returns-in-None-clause-read g c = world-none c.args.image.now
 
 pub returns-in-None-clause-parity : goal.returns-in-None-clause-parity
-returns-in-None-clause-parity g c = only_read-none (g.P.BlockDev.state c.args.parity_dev.now)
+returns-in-None-clause-parity g c = only_read-none (g.P.BlockDev.state c.args.parity.now)
 
 pub restore-requires-clause-index : goal.restore-requires-clause-index
 restore-requires-clause-index g c = c.in-Some.ensures.inside
@@ -32,12 +32,12 @@ returns-then-not-back-clause-vain g c = λ place. inr (c.in-Some.index, (c.in-So
 
 pub returns-clause-vain : goal.returns-clause-vain
 returns-clause-vain g c =
-    made-or (job c.args.repair.now) c.args.path.now c.args.place.height c.args.place.index
-    (trial c.args.losses.now.layout c.args.losses.now.lost.items c.args.image.now c.restore.new.image (g.P.BlockDev.state c.args.parity_dev.now) (g.P.BlockDev.state c.restore.new.parity_dev))
-    c.in-Some.index c.restore.new.bytes c.is_same.result c.in-Some.ensures (c.in_ok-back.ensures.bytes c.if-not-back.false) (c.is_same.ensures ∙ ap (λ (x : List ℕ). bytes_eq x c.digest_at-expected.result) c.digest.ensures ∙ ap (bytes_eq (digest c.args.repair.now.salt c.restore.new.bytes)) c.digest_at-expected.ensures)
+    made-or (job c.args.missing.now.repair.now) c.args.missing.now.path.now c.args.missing.now.place.height c.args.missing.now.place.index
+    (trial c.args.losses.now.layout c.args.losses.now.lost.items c.args.image.now c.restore.new.image (g.P.BlockDev.state c.args.parity.now) (g.P.BlockDev.state c.restore.new.parity))
+    c.in-Some.index c.restore.new.bytes c.is_same.result c.in-Some.ensures (c.in_ok-back.ensures.bytes c.if-not-back.false) (c.is_same.ensures ∙ ap (λ (x : List ℕ). bytes_eq x c.digest_at-expected.result) c.digest.ensures ∙ ap (bytes_eq (digest c.args.missing.now.repair.now.salt c.restore.new.bytes)) c.digest_at-expected.ensures)
 
 pub returns-in-None-clause-within : goal.returns-in-None-clause-within
-returns-in-None-clause-within g c = (asked-none (round_bill c.args.losses.now.layout) c.args.image.now (g.P.BlockDev.state c.args.parity_dev.now), λ yes. absurd (false≢true yes))
+returns-in-None-clause-within g c = (asked-none (round_bill c.args.losses.now.layout) c.args.image.now (g.P.BlockDev.state c.args.parity.now), λ yes. absurd (false≢true yes))
 
 pub returns-in_err-back-clause-within : goal.returns-in_err-back-clause-within
 returns-in_err-back-clause-within g c = (c.restore.ensures.within, if_ok-from c.from_residual.result _ _ c.from_residual.ensures.1)

@@ -16,7 +16,7 @@ returns-clause-within g c =
     let a = repair_world (g.D.BlockDev.state i.data) (g.H.BlockDev.state i.hash) (map g.C.BlockDev.state i.data_copies.items) (map g.C.BlockDev.state i.hash_copies.items) in
     let d' = g.D.BlockDev.state c.restore_block.new.data_dev in
     let h' = g.H.BlockDev.state c.restore_block.new.hash_dev in
-    let p = g.P.BlockDev.state c.args.parity_dev.now in
+    let p = g.P.BlockDev.state c.args.parity.now in
     let p' = g.P.BlockDev.state c.restore_block.new.parity_dev in
     subst (λ (w : RepairWorld). IsAskedWithin (round_bill l.layout) w (repair_world d' h' a.data_copies a.hash_copies) p p') c.image.view_is
     (asked-round l.layout c.requires.laid.layout c.deref.result.now c.args.index (is_ok c.restore_block.result) a d' h' p p' c.restore_block.ensures.read c.restore_block.ensures.parity c.restore_block.ensures.asks)

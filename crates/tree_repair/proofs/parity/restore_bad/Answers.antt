@@ -13,13 +13,13 @@ use Rattle.tree_repair.proofs.ParityPassLemmas.{tells-came, tells-none, tells-th
 use Rattle.tree_repair.proofs.parity.restore_bad.Goals as goal
 
 pub returns-in_err-lost-clause-parity : goal.returns-in_err-lost-clause-parity
-returns-in_err-lost-clause-parity g c = only_read-none (g.P.BlockDev.state c.args.parity_dev.now)
+returns-in_err-lost-clause-parity g c = only_read-none (g.P.BlockDev.state c.args.parity.now)
 
 pub returns-in_err-lost-clause-run : goal.returns-in_err-lost-clause-run
 returns-in_err-lost-clause-run g c = ended-from c.from_residual.result c.from_residual.ensures.1 (ends-read (world-none c.args.image.now))
 
 pub each-init : goal.each-init
-each-init g c = record { back = λ yes. back-none (job c.args.repair.now) c.args.image.now; came = tells-none 1 has-none; within = asked-none _ c.args.image.now (g.P.BlockDev.state c.args.parity_dev.now); sought = (refl, (refl, refl)); parity = only_read-none (g.P.BlockDev.state c.args.parity_dev.now); run = has-none }
+each-init g c = record { back = λ yes. back-none (job c.args.repair.now) c.args.image.now; came = tells-none 1 has-none; within = asked-none _ c.args.image.now (g.P.BlockDev.state c.args.parity.now); sought = (refl, (refl, refl)); parity = only_read-none (g.P.BlockDev.state c.args.parity.now); run = has-none }
 
 pub restore_block_at-requires-clause-can : goal.restore_block_at-requires-clause-can
 restore_block_at-requires-clause-can g c = can-later c.each.invariant.run c.requires.can
@@ -30,12 +30,12 @@ restore_block_at-requires-clause-laid g c = laid-later c.each.invariant.run c.re
 pub each-preserved : goal.each-preserved
 each-preserved g c = record {
   sought = subst (λ (tree : Bool). AreSought (job c.args.repair.now) c.args.layout.now c.in_ok-lost.lost.items (take (c.each.bad-index + 1) c.args.blocks.now) c.args.image.now c.restore_block_at.new.image
-      (g.P.BlockDev.state c.args.parity_dev.now) (g.P.BlockDev.state c.restore_block_at.new.parity_dev) tree)
+      (g.P.BlockDev.state c.args.parity.now) (g.P.BlockDev.state c.restore_block_at.new.parity) tree)
       (sym c.is_in_tree-tree.ensures)
       (sought-next (job c.args.repair.now) c.args.layout.now c.in_ok-lost.lost.items c.args.blocks.now c.each.bad-index _ c.args.image.now c.each.image c.restore_block_at.new.image
-      (g.P.BlockDev.state c.args.parity_dev.now) (g.P.BlockDev.state c.each.parity_dev) (g.P.BlockDev.state c.restore_block_at.new.parity_dev) c.each.tree c.in_ok-back.back c.each-test.true c.each.invariant.sought c.in_ok-back.ensures.sought);
+      (g.P.BlockDev.state c.args.parity.now) (g.P.BlockDev.state c.each.parity) (g.P.BlockDev.state c.restore_block_at.new.parity) c.each.tree c.in_ok-back.back c.each-test.true c.each.invariant.sought c.in_ok-back.ensures.sought);
   back = back-next (job c.args.repair.now) c.args.layout.now c.in_ok-lost.lost.items c.args.blocks.now c.each.bad-index _ c.args.image.now c.each.image c.restore_block_at.new.image
-      (g.P.BlockDev.state c.each.parity_dev) (g.P.BlockDev.state c.restore_block_at.new.parity_dev) c.each.all c.in_ok-back.back c.are_both-all.result c.each-test.true c.are_both-all.ensures c.each.invariant.back c.in_ok-back.ensures.sought;
+      (g.P.BlockDev.state c.each.parity) (g.P.BlockDev.state c.restore_block_at.new.parity) c.each.all c.in_ok-back.back c.are_both-all.result c.each-test.true c.are_both-all.ensures c.each.invariant.back c.in_ok-back.ensures.sought;
   came = tells-then c.each.tree c.in_ok-back.back c.is_in_tree-tree.result c.is_in_tree-tree.ensures c.each.invariant.came c.in_ok-back.ensures.came;
   within = work-next c.args.repair.now.shape c.args.layout.now c.args.blocks.now c.each.bad-index _ c.each-test.true c.each.invariant.within c.restore_block_at.ensures.within;
   parity = only_read-then c.each.invariant.parity c.restore_block_at.ensures.parity;
@@ -58,7 +58,7 @@ pub returns-clause-sought : goal.returns-clause-sought
 returns-clause-sought g c = record {
   lost = c.in_ok-lost.lost.items;
   are = c.in_ok-lost.ensures;
-  sought = subst (λ xs. AreSought (job c.args.repair.now) c.args.layout.now c.in_ok-lost.lost.items xs c.args.image.now c.each.image (g.P.BlockDev.state c.args.parity_dev.now) (g.P.BlockDev.state c.each.parity_dev) c.each.tree)
+  sought = subst (λ xs. AreSought (job c.args.repair.now) c.args.layout.now c.in_ok-lost.lost.items xs c.args.image.now c.each.image (g.P.BlockDev.state c.args.parity.now) (g.P.BlockDev.state c.each.parity) c.each.tree)
       (take_all c.each.bad-index c.args.blocks.now c.each-test.false) c.each.invariant.sought;
 }
 
@@ -66,14 +66,14 @@ pub returns-clause-back : goal.returns-clause-back
 returns-clause-back g c = λ yes. subst (λ xs. AreBack (job c.args.repair.now) xs c.args.image.now c.each.image) (take_all c.each.bad-index c.args.blocks.now c.each-test.false) (c.each.invariant.back yes)
 
 pub returns-in_err-lost-clause-within : goal.returns-in_err-lost-clause-within
-returns-in_err-lost-clause-within g c = asked-none (parity_bill c.args.repair.now.shape c.args.layout.now 0 0 (sought_among c.args.blocks.now)) c.args.image.now (g.P.BlockDev.state c.args.parity_dev.now)
+returns-in_err-lost-clause-within g c = asked-none (parity_bill c.args.repair.now.shape c.args.layout.now 0 0 (sought_among c.args.blocks.now)) c.args.image.now (g.P.BlockDev.state c.args.parity.now)
 
 pub returns-in_err-back-clause-within : goal.returns-in_err-back-clause-within
 returns-in_err-back-clause-within g c = work-last c.args.repair.now.shape c.args.layout.now c.args.blocks.now c.each.bad-index _ c.each-test.true c.each.invariant.within c.restore_block_at.ensures.within
 
 pub returns-clause-within : goal.returns-clause-within
 returns-clause-within g c =
-    subst (λ xs. IsAskedWithin (parity_bill c.args.repair.now.shape c.args.layout.now 0 0 (sought_among xs)) c.args.image.now c.each.image (g.P.BlockDev.state c.args.parity_dev.now) (g.P.BlockDev.state c.each.parity_dev))
+    subst (λ xs. IsAskedWithin (parity_bill c.args.repair.now.shape c.args.layout.now 0 0 (sought_among xs)) c.args.image.now c.each.image (g.P.BlockDev.state c.args.parity.now) (g.P.BlockDev.state c.each.parity))
     (take_all c.each.bad-index c.args.blocks.now c.each-test.false) c.each.invariant.within
 
 pub returns-in_err-lost-clause-came : goal.returns-in_err-lost-clause-came

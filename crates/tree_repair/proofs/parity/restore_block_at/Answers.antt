@@ -10,13 +10,13 @@ use Rattle.tree_repair.proofs.ParityPassLemmas.{tells-behind, tells-from, tells-
 use Rattle.tree_repair.proofs.parity.restore_block_at.Goals as goal
 
 pub returns-then-bad-clause-parity : goal.returns-then-bad-clause-parity
-returns-then-bad-clause-parity g c = only_read-none (g.P.BlockDev.state c.args.parity_dev.now)
+returns-then-bad-clause-parity g c = only_read-none (g.P.BlockDev.state c.args.parity.now)
 
 pub returns-then-bad-clause-run : goal.returns-then-bad-clause-run
 returns-then-bad-clause-run g c = has-none
 
 pub returns-then-not-is_place-clause-parity : goal.returns-then-not-is_place-clause-parity
-returns-then-not-is_place-clause-parity g c = only_read-none (g.P.BlockDev.state c.args.parity_dev.now)
+returns-then-not-is_place-clause-parity g c = only_read-none (g.P.BlockDev.state c.args.parity.now)
 
 pub returns-then-not-is_place-clause-run : goal.returns-then-not-is_place-clause-run
 returns-then-not-is_place-clause-run g c = has-none
@@ -28,80 +28,80 @@ pub way_to-requires-clause-height : goal.way_to-requires-clause-height
 way_to-requires-clause-height g c = (c.is_place.ensures.some c.if-not-is_place.false).high
 
 pub returns-in_err-found-clause-parity : goal.returns-in_err-found-clause-parity
-returns-in_err-found-clause-parity g c = only_read-none (g.P.BlockDev.state c.args.parity_dev.now)
+returns-in_err-found-clause-parity g c = only_read-none (g.P.BlockDev.state c.args.parity.now)
 
 pub returns-in_err-found-clause-run : goal.returns-in_err-found-clause-run
 returns-in_err-found-clause-run g c = ended-from c.from_residual.result c.from_residual.ensures.1 (ends-read c.way_to.ensures.read)
 
 pub returns-in-None-clause-parity : goal.returns-in-None-clause-parity
-returns-in-None-clause-parity g c = only_read-none (g.P.BlockDev.state c.args.parity_dev.now)
+returns-in-None-clause-parity g c = only_read-none (g.P.BlockDev.state c.args.parity.now)
 
 pub returns-in-None-clause-run : goal.returns-in-None-clause-run
 returns-in-None-clause-run g c = has-read c.way_to.ensures.read
 
-pub restore_along-requires-clause-can : goal.restore_along-requires-clause-can
-restore_along-requires-clause-can g c = can-read c.way_to.ensures.read c.requires.can
+pub restore_missing-requires-clause-can : goal.restore_missing-requires-clause-can
+restore_missing-requires-clause-can g c = can-read c.way_to.ensures.read c.requires.can
 
-pub restore_along-requires-clause-laid : goal.restore_along-requires-clause-laid
-restore_along-requires-clause-laid g c = laid-read c.way_to.ensures.read c.requires.laid
+pub restore_missing-requires-clause-laid : goal.restore_missing-requires-clause-laid
+restore_missing-requires-clause-laid g c = laid-read c.way_to.ensures.read c.requires.laid
 
-pub restore_along-requires-clause-place : goal.restore_along-requires-clause-place
-restore_along-requires-clause-place g c = c.is_place.ensures.some c.if-not-is_place.false
+pub restore_missing-requires-clause-place : goal.restore_missing-requires-clause-place
+restore_missing-requires-clause-place g c = c.is_place.ensures.some c.if-not-is_place.false
 
-pub restore_along-requires-clause-way : goal.restore_along-requires-clause-way
-restore_along-requires-clause-way g c = rw c.in-Some.is at c.in_ok-found.ensures.way
+pub restore_missing-requires-clause-way : goal.restore_missing-requires-clause-way
+restore_missing-requires-clause-way g c = rw c.in-Some.is at c.in_ok-found.ensures.way
 
 pub returns-in-Some-clause-parity : goal.returns-in-Some-clause-parity
-returns-in-Some-clause-parity g c = c.restore_along.ensures.parity
+returns-in-Some-clause-parity g c = c.restore_missing.ensures.parity
 
 pub returns-in-Some-clause-run : goal.returns-in-Some-clause-run
-returns-in-Some-clause-run g c = has-behind c.way_to.ensures.read c.restore_along.ensures.run
+returns-in-Some-clause-run g c = has-behind c.way_to.ensures.read c.restore_missing.ensures.run
 
 pub returns-then-bad-clause-sought : goal.returns-then-bad-clause-sought
 returns-then-bad-clause-sought g c =
     subst (λ (found : Bool). IsSoughtAt (job c.args.repair.now) c.args.bad.now.place.height c.args.bad.now.place.index
-    (trial c.args.losses.now.layout c.args.losses.now.lost.items c.args.image.now c.args.image.now (g.P.BlockDev.state c.args.parity_dev.now) (g.P.BlockDev.state c.args.parity_dev.now)) found false) (sym c.if-bad.true)
-    (refl, record { image = world-none c.args.image.now; parity = only_read-none (g.P.BlockDev.state c.args.parity_dev.now) })
+    (trial c.args.losses.now.layout c.args.losses.now.lost.items c.args.image.now c.args.image.now (g.P.BlockDev.state c.args.parity.now) (g.P.BlockDev.state c.args.parity.now)) found false) (sym c.if-bad.true)
+    (refl, record { image = world-none c.args.image.now; parity = only_read-none (g.P.BlockDev.state c.args.parity.now) })
 
 pub returns-then-not-is_place-clause-sought : goal.returns-then-not-is_place-clause-sought
 returns-then-not-is_place-clause-sought g c =
     subst (λ (found : Bool). IsSoughtAt (job c.args.repair.now) c.args.bad.now.place.height c.args.bad.now.place.index
-    (trial c.args.losses.now.layout c.args.losses.now.lost.items c.args.image.now c.args.image.now (g.P.BlockDev.state c.args.parity_dev.now) (g.P.BlockDev.state c.args.parity_dev.now)) found false) (sym c.if-bad.false)
-    (inl (refl, (record { image = world-none c.args.image.now; parity = only_read-none (g.P.BlockDev.state c.args.parity_dev.now) }, inl (c.is_place.ensures.none c.if-not-is_place.true))))
+    (trial c.args.losses.now.layout c.args.losses.now.lost.items c.args.image.now c.args.image.now (g.P.BlockDev.state c.args.parity.now) (g.P.BlockDev.state c.args.parity.now)) found false) (sym c.if-bad.false)
+    (inl (refl, (record { image = world-none c.args.image.now; parity = only_read-none (g.P.BlockDev.state c.args.parity.now) }, inl (c.is_place.ensures.none c.if-not-is_place.true))))
 
 pub returns-in-None-clause-sought : goal.returns-in-None-clause-sought
 returns-in-None-clause-sought g c =
     subst (λ (found : Bool). IsSoughtAt (job c.args.repair.now) c.args.bad.now.place.height c.args.bad.now.place.index
-    (trial c.args.losses.now.layout c.args.losses.now.lost.items c.args.image.now c.way_to.new.image (g.P.BlockDev.state c.args.parity_dev.now) (g.P.BlockDev.state c.args.parity_dev.now)) found false) (sym c.if-bad.false)
-    (inl (refl, (record { image = c.way_to.ensures.read; parity = only_read-none (g.P.BlockDev.state c.args.parity_dev.now) }, inr (rw c.in-None.is at c.in_ok-found.ensures.way))))
+    (trial c.args.losses.now.layout c.args.losses.now.lost.items c.args.image.now c.way_to.new.image (g.P.BlockDev.state c.args.parity.now) (g.P.BlockDev.state c.args.parity.now)) found false) (sym c.if-bad.false)
+    (inl (refl, (record { image = c.way_to.ensures.read; parity = only_read-none (g.P.BlockDev.state c.args.parity.now) }, inr (rw c.in-None.is at c.in_ok-found.ensures.way))))
 
 pub returns-in-Some-clause-sought : goal.returns-in-Some-clause-sought
 returns-in-Some-clause-sought g c =
-    sought-behind (job c.args.repair.now) c.args.bad.now.place.height c.args.bad.now.place.index c.args.bad.now.found c.args.losses.now.layout c.args.losses.now.lost.items c.args.image.now c.way_to.new.image c.restore_along.new.image
-    (g.P.BlockDev.state c.args.parity_dev.now) (g.P.BlockDev.state c.restore_along.new.parity_dev) c.restore_along.result c.way_to.ensures.read c.if-bad.false c.restore_along.ensures.tried
+    sought-behind (job c.args.repair.now) c.args.bad.now.place.height c.args.bad.now.place.index c.args.bad.now.found c.args.losses.now.layout c.args.losses.now.lost.items c.args.image.now c.way_to.new.image c.restore_missing.new.image
+    (g.P.BlockDev.state c.args.parity.now) (g.P.BlockDev.state c.restore_missing.new.parity) c.restore_missing.result c.way_to.ensures.read c.if-bad.false c.restore_missing.ensures.tried
 
 pub returns-then-bad-clause-within : goal.returns-then-bad-clause-within
-returns-then-bad-clause-within g c = asked-none (parity_bill c.args.repair.now.shape c.args.losses.now.layout 0 0 (tries_of c.args.bad.now.found)) c.args.image.now (g.P.BlockDev.state c.args.parity_dev.now)
+returns-then-bad-clause-within g c = asked-none (parity_bill c.args.repair.now.shape c.args.losses.now.layout 0 0 (tries_of c.args.bad.now.found)) c.args.image.now (g.P.BlockDev.state c.args.parity.now)
 
 pub returns-then-not-is_place-clause-within : goal.returns-then-not-is_place-clause-within
-returns-then-not-is_place-clause-within g c = asked-none (parity_bill c.args.repair.now.shape c.args.losses.now.layout 0 0 (tries_of c.args.bad.now.found)) c.args.image.now (g.P.BlockDev.state c.args.parity_dev.now)
+returns-then-not-is_place-clause-within g c = asked-none (parity_bill c.args.repair.now.shape c.args.losses.now.layout 0 0 (tries_of c.args.bad.now.found)) c.args.image.now (g.P.BlockDev.state c.args.parity.now)
 
 pub returns-in_err-found-clause-within : goal.returns-in_err-found-clause-within
 returns-in_err-found-clause-within g c =
-    let p = g.P.BlockDev.state c.args.parity_dev.now in
+    let p = g.P.BlockDev.state c.args.parity.now in
     subst (λ (found : Bool). IsAskedWithin (parity_bill c.args.repair.now.shape c.args.losses.now.layout 0 0 (tries_of found)) c.args.image.now c.way_to.new.image p p) (sym c.if-bad.false)
     (work-way c.args.repair.now.shape c.args.losses.now.layout c.args.bad.now.place.height c.way_to.ensures.asked p)
 
 pub returns-in-None-clause-within : goal.returns-in-None-clause-within
 returns-in-None-clause-within g c =
-    let p = g.P.BlockDev.state c.args.parity_dev.now in
+    let p = g.P.BlockDev.state c.args.parity.now in
     subst (λ (found : Bool). IsAskedWithin (parity_bill c.args.repair.now.shape c.args.losses.now.layout 0 0 (tries_of found)) c.args.image.now c.way_to.new.image p p) (sym c.if-bad.false)
     (work-way c.args.repair.now.shape c.args.losses.now.layout c.args.bad.now.place.height c.way_to.ensures.asked p)
 
 pub returns-in-Some-clause-within : goal.returns-in-Some-clause-within
 returns-in-Some-clause-within g c =
-    subst (λ (found : Bool). IsAskedWithin (parity_bill c.args.repair.now.shape c.args.losses.now.layout 0 0 (tries_of found)) c.args.image.now c.restore_along.new.image (g.P.BlockDev.state c.args.parity_dev.now) (g.P.BlockDev.state c.restore_along.new.parity_dev)) (sym c.if-bad.false)
-    (work-along c.args.repair.now.shape c.args.losses.now.layout c.args.bad.now.place.height c.way_to.ensures.asked c.restore_along.ensures.within)
+    subst (λ (found : Bool). IsAskedWithin (parity_bill c.args.repair.now.shape c.args.losses.now.layout 0 0 (tries_of found)) c.args.image.now c.restore_missing.new.image (g.P.BlockDev.state c.args.parity.now) (g.P.BlockDev.state c.restore_missing.new.parity)) (sym c.if-bad.false)
+    (work-along c.args.repair.now.shape c.args.losses.now.layout c.args.bad.now.place.height c.way_to.ensures.asked c.restore_missing.ensures.within)
 
 pub returns-then-bad-clause-came : goal.returns-then-bad-clause-came
 returns-then-bad-clause-came g c = tells-none c.args.bad.now.place.height has-none
@@ -116,4 +116,4 @@ pub returns-in-None-clause-came : goal.returns-in-None-clause-came
 returns-in-None-clause-came g c = tells-none c.args.bad.now.place.height (has-read c.way_to.ensures.read)
 
 pub returns-in-Some-clause-came : goal.returns-in-Some-clause-came
-returns-in-Some-clause-came g c = tells-behind c.way_to.ensures.read c.restore_along.ensures.came
+returns-in-Some-clause-came g c = tells-behind c.way_to.ensures.read c.restore_missing.ensures.came

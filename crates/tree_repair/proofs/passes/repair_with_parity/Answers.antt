@@ -69,4 +69,4 @@ returns-clause-whole g c =
 pub returns-clause-sought : goal.returns-clause-sought
 returns-clause-sought g c =
     ends-of c.in_ok-superblock.superblock c.args.plan (job c.repair_of-repair.result) c.args.layout.now c.args.image.now c.superblock_of.new.image c.run_passes.new.image
-    (g.P.BlockDev.state c.args.parity_dev.now) (g.P.BlockDev.state c.run_passes.new.parity_dev) c.repair_of-repair.ensures.job c.in_ok-superblock.ensures.read c.in_ok-superblock.ensures.ok c.repair_of-repair.ensures.valid c.in_ok-all.ensures.asks
+    (g.P.BlockDev.state c.args.parity_dev.now) (g.P.BlockDev.state c.run_passes.new.parity) c.repair_of-repair.ensures.job c.in_ok-superblock.ensures.read c.in_ok-superblock.ensures.ok c.repair_of-repair.ensures.valid c.in_ok-all.ensures.asks

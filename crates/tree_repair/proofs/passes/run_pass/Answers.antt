@@ -9,7 +9,7 @@ use Rattle.tree_repair.proofs.passes.run_pass.Goals as goal
 use Rattle.tree_repair.proofs.passes.run_pass.Goals.{then-tree, else-tree}
 
 pub returns-in_err-repair_heights-clause-parity : goal.returns-in_err-repair_heights-clause-parity
-returns-in_err-repair_heights-clause-parity g c = only_read-none (g.P.BlockDev.state c.args.parity_dev.now)
+returns-in_err-repair_heights-clause-parity g c = only_read-none (g.P.BlockDev.state c.args.parity.now)
 
 pub returns-in_err-repair_heights-clause-run : goal.returns-in_err-repair_heights-clause-run
 returns-in_err-repair_heights-clause-run g c = ended-from c.from_residual.result c.from_residual.ensures.1 c.in_err-repair_heights.ensures.notes.run

@@ -16,7 +16,7 @@ pub returns-in_err-came-clause-run : goal.returns-in_err-came-clause-run
 returns-in_err-came-clause-run g c = ended-from c.from_residual.result c.from_residual.ensures.1 c.in_err-came.ensures.run
 
 pub passes-init : goal.passes-init
-passes-init g c = record { whole = c.in_ok-came.ensures.whole; within = runs-more 1 (1 + c.args.layout.now.hash_blocks - c.args.layout.now.hash_blocks) (omega arith) c.in_ok-came.ensures.within; parity = c.run_pass.ensures.parity; run = c.in_ok-came.ensures.run; passes = subst (λ (n : ℕ). ArePasses (job c.args.repair.now) c.args.layout.now n c.args.image.now c.run_pass.new.image (g.P.BlockDev.state c.args.parity_dev.now) (g.P.BlockDev.state c.run_pass.new.parity_dev) c.in_ok-came.came.tree) (omega arith) (passes-first c.in_ok-came.ensures.pass); few = omega arith }
+passes-init g c = record { whole = c.in_ok-came.ensures.whole; within = runs-more 1 (1 + c.args.layout.now.hash_blocks - c.args.layout.now.hash_blocks) (omega arith) c.in_ok-came.ensures.within; parity = c.run_pass.ensures.parity; run = c.in_ok-came.ensures.run; passes = subst (λ (n : ℕ). ArePasses (job c.args.repair.now) c.args.layout.now n c.args.image.now c.run_pass.new.image (g.P.BlockDev.state c.args.parity.now) (g.P.BlockDev.state c.run_pass.new.parity) c.in_ok-came.came.tree) (omega arith) (passes-first c.in_ok-came.ensures.pass); few = omega arith }
 
 pub run_pass-requires-in-passes-clause-can : goal.run_pass-requires-in-passes-clause-can
 run_pass-requires-in-passes-clause-can g c = can-later c.passes.invariant.run c.requires.can
@@ -32,7 +32,7 @@ passes-preserved g c = record {
       runs-then (1 + n - c.passes.left) (1 + n - (c.passes.left - 1)) (omega (arith, c.passes.invariant.few, c.if-left-gt0.true)) c.passes-test.true c.passes.invariant.within c.in_ok-came-2.ensures.within;
   parity = only_read-then c.passes.invariant.parity c.run_pass-in-passes.ensures.parity;
   run = has-then c.passes.invariant.run c.in_ok-came-2.ensures.run;
-  passes = subst (λ (n : ℕ). ArePasses (job c.args.repair.now) c.args.layout.now n c.args.image.now c.run_pass-in-passes.new.image (g.P.BlockDev.state c.args.parity_dev.now) (g.P.BlockDev.state c.run_pass-in-passes.new.parity_dev) c.in_ok-came-2.came.tree)
+  passes = subst (λ (n : ℕ). ArePasses (job c.args.repair.now) c.args.layout.now n c.args.image.now c.run_pass-in-passes.new.image (g.P.BlockDev.state c.args.parity.now) (g.P.BlockDev.state c.run_pass-in-passes.new.parity) c.in_ok-came-2.came.tree)
       (omega (arith, c.passes.invariant.few, c.if-left-gt0.true)) (passes-next c.passes.invariant.run c.passes.invariant.parity c.passes.invariant.passes c.passes-test.true c.in_ok-came-2.ensures.pass);
   few = omega (arith, c.passes.invariant.few);
 }

@@ -10,10 +10,10 @@ use Rattle.tree_repair.proofs.passes.run_passes.Given as goal
 -- the passes so far
 abbrev pub invariant-passes : goal.invariant-passes
 invariant-passes g l = record {
-  parity : IsOnlyRead (g.P.BlockDev.state l.fn.parity_dev) (g.P.BlockDev.state l.parity_dev);
-  within : RunsInPasses (job l.fn.repair) l.fn.layout (1 + l.fn.layout.hash_blocks - l.left) l.fn.image l.image (g.P.BlockDev.state l.fn.parity_dev) (g.P.BlockDev.state l.parity_dev) (g.W.Write.contents l.fn.writer.inner) (g.W.Write.contents l.writer.inner) None l.came.tree;
+  parity : IsOnlyRead (g.P.BlockDev.state l.fn.parity) (g.P.BlockDev.state l.parity);
+  within : RunsInPasses (job l.fn.repair) l.fn.layout (1 + l.fn.layout.hash_blocks - l.left) l.fn.image l.image (g.P.BlockDev.state l.fn.parity) (g.P.BlockDev.state l.parity) (g.W.Write.contents l.fn.writer.inner) (g.W.Write.contents l.writer.inner) None l.came.tree;
   run : HasRun (job l.fn.repair) l.fn.image l.image (g.W.Write.contents l.fn.writer.inner) (g.W.Write.contents l.writer.inner) None;
-  passes : ArePasses (job l.fn.repair) l.fn.layout (l.fn.layout.hash_blocks - l.left) l.fn.image l.image (g.P.BlockDev.state l.fn.parity_dev) (g.P.BlockDev.state l.parity_dev) l.came.tree;
+  passes : ArePasses (job l.fn.repair) l.fn.layout (l.fn.layout.hash_blocks - l.left) l.fn.image l.image (g.P.BlockDev.state l.fn.parity) (g.P.BlockDev.state l.parity) l.came.tree;
   whole : IsTrue l.came.all → IsAllGood (job l.fn.repair) l.fn.image l.image;
   few : l.left ≤ l.fn.layout.hash_blocks;
 }

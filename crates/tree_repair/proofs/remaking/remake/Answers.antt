@@ -2,7 +2,6 @@ use Rattle.std.proofs.Common.{◌≡◌, ◌+◌, ◌-◌, ℕ, suc, inl, inr, a
 use Rattle.std.proofs.lemmas.Bool.{cases_lt}
 use Rattle.tree_shape.specs.Shape.{ancestor}
 use Rattle.tree_shape.proofs.lemmas.ShapeFactLemmas.{levels-few}
-use Rattle.tree_path.specs.Path.{digest_on}
 use Rattle.tree_repair.specs.Bills.{LeavesWorld}
 use Rattle.tree_repair.specs.Remaking.{IsUnlike, count_in, ground, made_on}
 use Rattle.tree_repair.specs.Runs.{size_at}
@@ -11,41 +10,38 @@ use Rattle.tree_repair.proofs.BillLemmas.{leaves-none}
 use Rattle.tree_repair.proofs.MakeLemmas.{both-none, both-then, unlike-before}
 use Rattle.tree_repair.proofs.remaking.remake.Goals as goal
 
-pub overflow_add-level : goal.overflow_add-level
-overflow_add-level g c = omega (arith, c.requires.level, levels-few c.args.repair.now.shape c.requires.have.valid)
-
 pub overflow_add-from : goal.overflow_add-from
-overflow_add-from g c = omega (arith, c.requires.level, levels-few c.args.repair.now.shape c.requires.have.valid)
+overflow_add-from g c = omega (arith, c.requires.level, levels-few c.args.sought.now.repair.now.shape c.requires.have.valid)
 
 pub overflow_add-steps : goal.overflow_add-steps
-overflow_add-steps g c = omega (arith, c.requires.level, levels-few c.args.repair.now.shape c.requires.have.valid)
+overflow_add-steps g c = omega (arith, c.requires.level, levels-few c.args.sought.now.repair.now.shape c.requires.have.valid)
 
 pub returns-then-is_made-clause-asked : goal.returns-then-is_made-clause-asked
 returns-then-is_made-clause-asked g c =
-    let s = c.args.repair.now.shape in
+    let s = c.args.sought.now.repair.now.shape in
     tried-all s c.requires.have.valid c.args.level c.args.index c.args.image.now c.is_made.new.image
     (tried-at s c.args.level c.args.index (c.heights.from - 1) c.heights.from (c.args.level + 1 - (c.heights.from - 1)) c.block_on_path-number.result (omega (arith, c.heights-test.true)) (omega (arith, c.heights.invariant.high)) c.block_on_path-number.ensures.value
     c.args.image.now c.heights.image c.is_made.new.image c.heights.invariant.asked c.is_made.ensures.asked)
 
 pub returns-clause-asked : goal.returns-clause-asked
-returns-clause-asked g c = tried-all c.args.repair.now.shape c.requires.have.valid c.args.level c.args.index c.args.image.now c.heights.image c.heights.invariant.asked
+returns-clause-asked g c = tried-all c.args.sought.now.repair.now.shape c.requires.have.valid c.args.level c.args.index c.args.image.now c.heights.image c.heights.invariant.asked
 
 pub is_made-requires-clause-inside : goal.is_made-requires-clause-inside
 is_made-requires-clause-inside g c =
     let high : c.heights.from - 1 + (c.args.level + 1 - (c.heights.from - 1)) ≡ suc c.args.level = omega (arith, c.heights.invariant.high) in
-    omega (arith, c.block_on_path-number.ensures.inside, ap (count_in c.args.repair.now.shape) high)
+    omega (arith, c.block_on_path-number.ensures.inside, ap (count_in c.args.sought.now.repair.now.shape) high)
 
 pub is_made-requires-clause-size : goal.is_made-requires-clause-size
 is_made-requires-clause-size g c =
     let high : c.heights.from - 1 + (c.args.level + 1 - (c.heights.from - 1)) ≡ suc c.args.level = omega (arith, c.heights.invariant.high) in
-    omega (arith, c.heights.auto.block, c.requires.size, ap (size_at c.args.repair.now.shape) high)
+    omega (arith, c.heights.auto.block, c.requires.size, ap (size_at c.args.sought.now.repair.now.shape) high)
 
 pub returns-then-is_made-clause-read : goal.returns-then-is_made-clause-read
 returns-then-is_made-clause-read g c = both-then c.args.image.now c.heights.image c.is_made.new.image c.heights.invariant.read c.is_made.ensures.read
 
 pub heights-init : goal.heights-init
 heights-init g c =
-    let s = c.args.repair.now.shape in
+    let s = c.args.sought.now.repair.now.shape in
     let number = ancestor s (suc c.args.level) c.args.index in
     let due = untried_of s (suc c.args.level) number in
     record {
@@ -57,15 +53,15 @@ heights-init g c =
 
 pub heights-preserved : goal.heights-preserved
 heights-preserved g c =
-    let s = c.args.repair.now.shape in
-    let salt = c.args.repair.now.salt in
+    let s = c.args.sought.now.repair.now.shape in
+    let salt = c.args.sought.now.repair.now.salt in
     let d = c.args.image.now.data_dev in
     let h = c.args.image.now.hash_dev in
     let d1 = c.heights.image.data_dev in
     let h1 = c.heights.image.hash_dev in
     let from : ℕ = c.heights.from - 1 in
     let level = c.args.level in
-    let unlike = rw (c.digest_at-digest.ensures, c.block_on_path-number.ensures.value) at c.is_made.ensures.none c.if-is_made.false in
+    let unlike = rw c.block_on_path-number.ensures.value at c.is_made.ensures.none c.if-is_made.false in
     record {
       high = omega (arith, c.heights.invariant.high);
       read = both-then c.args.image.now c.heights.image c.is_made.new.image c.heights.invariant.read c.is_made.ensures.read;
@@ -74,8 +70,8 @@ heights-preserved g c =
       none = λ k low high. elim (cases_lt k c.heights.from) [
         | inl new ↦
             let here : k ≡ from = omega (arith, low, new) in
-            subst (λ (m : ℕ). IsUnlike salt d h (digest_on c.args.path.now c.args.index (level + 1)) (made_on (ground s salt d h m) level c.args.index)) (sym here)
-            (unlike-before s salt d h d1 h1 c.heights.invariant.read.devices from (level + 1 - from) (ancestor s (level + 1) c.args.index) (digest_on c.args.path.now c.args.index (level + 1)) unlike)
+            subst (λ (m : ℕ). IsUnlike salt d h c.args.sought.now.digest (made_on (ground s salt d h m) level c.args.index)) (sym here)
+            (unlike-before s salt d h d1 h1 c.heights.invariant.read.devices from (level + 1 - from) (ancestor s (level + 1) c.args.index) c.args.sought.now.digest unlike)
         | inr old ↦ c.heights.invariant.none k old high
       ];
     }

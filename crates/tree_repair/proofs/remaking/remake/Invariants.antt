@@ -1,6 +1,5 @@
 use Rattle.std.proofs.Common.{◌≤◌, ◌+◌, ℕ, suc}
 use Rattle.tree_shape.specs.Shape.{ancestor}
-use Rattle.tree_path.specs.Path.{digest_on}
 use Rattle.tree_repair.specs.Bills.{LeavesWorld}
 use Rattle.tree_repair.proofs.AskedLemmas.{untried_of}
 use Rattle.tree_repair.specs.Remaking.{IsUnlike, ground, made_on}
@@ -12,11 +11,11 @@ abbrev pub invariant-heights : goal.invariant-heights
 invariant-heights g l = record {
   high : l.from ≤ l.fn.level + 1;
   read : AreBothRead l.fn.image l.image;
-  asked : LeavesWorld (untried_of l.fn.repair.shape (suc l.fn.level) (ancestor l.fn.repair.shape (suc l.fn.level) l.fn.index) (suc l.fn.level))
-      (untried_of l.fn.repair.shape (suc l.fn.level) (ancestor l.fn.repair.shape (suc l.fn.level) l.fn.index) l.from) l.fn.image l.image;
+  asked : LeavesWorld (untried_of l.fn.sought.repair.now.shape (suc l.fn.level) (ancestor l.fn.sought.repair.now.shape (suc l.fn.level) l.fn.index) (suc l.fn.level))
+      (untried_of l.fn.sought.repair.now.shape (suc l.fn.level) (ancestor l.fn.sought.repair.now.shape (suc l.fn.level) l.fn.index) l.from) l.fn.image l.image;
   none : (k : ℕ) → l.from ≤ k → k ≤ l.fn.level
-      → IsUnlike l.fn.repair.salt l.fn.image.data_dev l.fn.image.hash_dev (digest_on l.fn.path l.fn.index (l.fn.level + 1))
-      (made_on (ground l.fn.repair.shape l.fn.repair.salt l.fn.image.data_dev l.fn.image.hash_dev k) l.fn.level l.fn.index);
+      → IsUnlike l.fn.sought.repair.now.salt l.fn.image.data_dev l.fn.image.hash_dev l.fn.sought.digest
+      (made_on (ground l.fn.sought.repair.now.shape l.fn.sought.repair.now.salt l.fn.image.data_dev l.fn.image.hash_dev k) l.fn.level l.fn.index);
 }
 
 abbrev pub decreases-heights : goal.decreases-heights

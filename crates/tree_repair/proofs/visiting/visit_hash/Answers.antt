@@ -22,27 +22,30 @@ mend_hash-requires-clause-small g c =
     let s = c.hash_sought-sought.ensures in
     rw c.requires.size (omega (arith, s.inside, s.copy, c.requires.can.valid.tree_fits, c.requires.can.copy_small))
 
+pub mend_hash-requires-clause-allowed : goal.mend_hash-requires-clause-allowed
+mend_hash-requires-clause-allowed g c = rw c.hash_sought-sought.ensures.repair c.requires.can.hash_writable
+
 pub returns-in_err-mend_hash-clause-err : goal.returns-in_err-mend_hash-clause-err
 returns-in_err-mend_hash-clause-err g c =
     let s = c.hash_sought-sought.ensures in
     let kept = c.mend_hash.ensures.kept in
-    let u = rw (s.copy, s.first, s.digest, c.requires.size) at c.in_err-mend_hash.ensures.err in
+    let u = rw (s.repair, s.copy, s.first, s.digest, c.requires.size) at c.in_err-mend_hash.ensures.err in
     on_err-from c.from_residual.result _ _ c.from_residual.ensures.1
     (mended.Copy u.0, (u.1.0, (tt, record { looked = u.1.1; made_of = tt; data_stays = kept.device_is; copies_are = kept.copies_are })))
 
 pub returns-then-not-remake-clause-ok : goal.returns-then-not-remake-clause-ok
 returns-then-not-remake-clause-ok g c =
     let s = c.hash_sought-sought.ensures in
-    let f = rw (c.in-Lost.is, s.copy, s.first, s.digest, c.requires.size) at c.in_ok-mend_hash.ensures.ok in (
+    let f = rw (c.in-Lost.is, s.repair, s.copy, s.first, s.digest, c.requires.size) at c.in_ok-mend_hash.ensures.ok in (
       [],
       lost-seen (job c.args.repair.now) c.args.path.now c.args.level c.args.index c.args.image.now c.mend_hash.new.image c.remake.new.image c.mend_hash.ensures.kept f.1 c.remake.ensures.read
-          (c.remake.ensures.none c.if-not-remake.true),
+          (rw (s.repair, s.digest) at (c.remake.ensures.none c.if-not-remake.true)),
     )
 
 pub put_hash-requires-clause-inside : goal.put_hash-requires-clause-inside
 put_hash-requires-clause-inside g c =
     let s = c.hash_sought-sought.ensures in
-    let f = rw (c.in-Lost.is, s.copy, s.first, s.digest, c.requires.size) at c.in_ok-mend_hash.ensures.ok in
+    let f = rw (c.in-Lost.is, s.repair, s.copy, s.first, s.digest, c.requires.size) at c.in_ok-mend_hash.ensures.ok in
     let long : length c.remake.new.block ≡ c.args.repair.now.shape.hash_block = c.remake.auto.block ∙ c.mend_hash.auto.block ∙ c.requires.size in
     let block = block-size c.args.repair.now.shape.hash_block c.requires.can.valid.hash_size in
     let same = hash-same (job c.args.repair.now) c.args.path.now c.args.level c.args.index c.args.image.now c.mend_hash.new.image c.remake.new.image f.1 c.remake.ensures.read in
@@ -51,14 +54,14 @@ put_hash-requires-clause-inside g c =
 pub put_hash-requires-clause-allowed : goal.put_hash-requires-clause-allowed
 put_hash-requires-clause-allowed g c =
     let s = c.hash_sought-sought.ensures in
-    let f = rw (c.in-Lost.is, s.copy, s.first, s.digest, c.requires.size) at c.in_ok-mend_hash.ensures.ok in
+    let f = rw (c.in-Lost.is, s.repair, s.copy, s.first, s.digest, c.requires.size) at c.in_ok-mend_hash.ensures.ok in
     let same = hash-same (job c.args.repair.now) c.args.path.now c.args.level c.args.index c.args.image.now c.mend_hash.new.image c.remake.new.image f.1 c.remake.ensures.read in
     λ write. subst IsTrue (sym same.may_write) (c.requires.can.hash_writable write)
 
 pub returns-in_err-put_hash-in-Lost-clause-err : goal.returns-in_err-put_hash-in-Lost-clause-err
 returns-in_err-put_hash-in-Lost-clause-err g c =
     let s = c.hash_sought-sought.ensures in
-    let f = rw (c.in-Lost.is, s.copy, s.first, s.digest, c.requires.size) at c.in_ok-mend_hash.ensures.ok in
+    let f = rw (c.in-Lost.is, s.repair, s.copy, s.first, s.digest, c.requires.size) at c.in_ok-mend_hash.ensures.ok in
     let long : length c.remake.new.block ≡ c.args.repair.now.shape.hash_block = c.remake.auto.block ∙ c.mend_hash.auto.block ∙ c.requires.size in
     on_err-from c.from_residual-in_err-put_hash-in-Lost.result _ _ c.from_residual-in_err-put_hash-in-Lost.ensures.1 (
       mended.Remade,
@@ -67,7 +70,7 @@ returns-in_err-put_hash-in-Lost-clause-err g c =
         (
           tt,
           remade-seen (job c.args.repair.now) c.args.path.now c.args.level c.args.index c.args.image.now c.mend_hash.new.image c.remake.new.image c.mend_hash.ensures.kept f.1 c.remake.ensures.read
-              c.remake.new.block false c.put_hash.new.image (c.remake.ensures.good c.if-not-remake.false) (c.remake.ensures.made c.if-not-remake.false) long (rw s.first at c.in_err-put_hash-in-Lost.ensures),
+              c.remake.new.block false c.put_hash.new.image (rw (s.repair, s.digest) at (c.remake.ensures.good c.if-not-remake.false)) (rw s.repair at (c.remake.ensures.made c.if-not-remake.false)) long (rw s.first at c.in_err-put_hash-in-Lost.ensures),
         ),
       ),
     )
@@ -75,11 +78,11 @@ returns-in_err-put_hash-in-Lost-clause-err g c =
 pub returns-in_ok-put_hash-in-Lost-clause-ok : goal.returns-in_ok-put_hash-in-Lost-clause-ok
 returns-in_ok-put_hash-in-Lost-clause-ok g c =
     let s = c.hash_sought-sought.ensures in
-    let f = rw (c.in-Lost.is, s.copy, s.first, s.digest, c.requires.size) at c.in_ok-mend_hash.ensures.ok in
+    let f = rw (c.in-Lost.is, s.repair, s.copy, s.first, s.digest, c.requires.size) at c.in_ok-mend_hash.ensures.ok in
     let long : length c.remake.new.block ≡ c.args.repair.now.shape.hash_block = c.remake.auto.block ∙ c.mend_hash.auto.block ∙ c.requires.size in (
       c.remake.new.block,
       remade-seen (job c.args.repair.now) c.args.path.now c.args.level c.args.index c.args.image.now c.mend_hash.new.image c.remake.new.image c.mend_hash.ensures.kept f.1 c.remake.ensures.read
-          c.remake.new.block true c.put_hash.new.image (c.remake.ensures.good c.if-not-remake.false) (c.remake.ensures.made c.if-not-remake.false) long (rw s.first at c.in_ok-put_hash-in-Lost.ensures),
+          c.remake.new.block true c.put_hash.new.image (rw (s.repair, s.digest) at (c.remake.ensures.good c.if-not-remake.false)) (rw s.repair at (c.remake.ensures.made c.if-not-remake.false)) long (rw s.first at c.in_ok-put_hash-in-Lost.ensures),
     )
 
 pub returns-in_err-mend_hash-clause-asked : goal.returns-in_err-mend_hash-clause-asked
@@ -106,32 +109,32 @@ pub returns-then-not-remake-clause-asked : goal.returns-then-not-remake-clause-a
 returns-then-not-remake-clause-asked g c =
     let s = c.hash_sought-sought.ensures in
     let shape = c.args.repair.now.shape in
-    let f = rw (c.in-Lost.is, s.copy, s.first, s.digest, c.requires.size) at c.in_ok-mend_hash.ensures.ok in
+    let f = rw (c.in-Lost.is, s.repair, s.copy, s.first, s.digest, c.requires.size) at c.in_ok-mend_hash.ensures.ok in
     let a = c.args.image.now in
     let m = c.mend_hash.new.image in
     let unwritten = nowhere-unwritten (hash_look (job c.args.repair.now) c.args.path.now c.args.level c.args.index a.hash_dev m.hash_dev a.hash_copies m.hash_copies) f.1 in
-    visit-lost shape c.requires.can.valid c.args.level c.args.index c.requires.inside a m c.remake.new.image c.mend_hash.ensures.kept (rw c.requires.size at c.mend_hash.ensures.asked) unwritten c.remake.ensures.read c.remake.ensures.asked
+    visit-lost shape c.requires.can.valid c.args.level c.args.index c.requires.inside a m c.remake.new.image c.mend_hash.ensures.kept (rw c.requires.size at c.mend_hash.ensures.asked) unwritten c.remake.ensures.read (rw s.repair at c.remake.ensures.asked)
 
 pub returns-in_err-put_hash-in-Lost-clause-asked : goal.returns-in_err-put_hash-in-Lost-clause-asked
 returns-in_err-put_hash-in-Lost-clause-asked g c =
     let s = c.hash_sought-sought.ensures in
     let shape = c.args.repair.now.shape in
-    let f = rw (c.in-Lost.is, s.copy, s.first, s.digest, c.requires.size) at c.in_ok-mend_hash.ensures.ok in
+    let f = rw (c.in-Lost.is, s.repair, s.copy, s.first, s.digest, c.requires.size) at c.in_ok-mend_hash.ensures.ok in
     let a = c.args.image.now in
     let m = c.mend_hash.new.image in
     let unwritten = nowhere-unwritten (hash_look (job c.args.repair.now) c.args.path.now c.args.level c.args.index a.hash_dev m.hash_dev a.hash_copies m.hash_copies) f.1 in
     let long : length c.remake.new.block ≡ c.args.repair.now.shape.hash_block = c.remake.auto.block ∙ c.mend_hash.auto.block ∙ c.requires.size in
-    visit-made shape c.requires.can.valid c.args.level c.args.index c.requires.inside a m c.remake.new.image c.mend_hash.ensures.kept (rw c.requires.size at c.mend_hash.ensures.asked) unwritten c.remake.ensures.read c.remake.ensures.asked
+    visit-made shape c.requires.can.valid c.args.level c.args.index c.requires.inside a m c.remake.new.image c.mend_hash.ensures.kept (rw c.requires.size at c.mend_hash.ensures.asked) unwritten c.remake.ensures.read (rw s.repair at c.remake.ensures.asked)
     c.args.repair.now.write false _ c.remake.new.block c.put_hash.new.image long c.in_err-put_hash-in-Lost.ensures
 
 pub returns-in_ok-put_hash-in-Lost-clause-asked : goal.returns-in_ok-put_hash-in-Lost-clause-asked
 returns-in_ok-put_hash-in-Lost-clause-asked g c =
     let s = c.hash_sought-sought.ensures in
     let shape = c.args.repair.now.shape in
-    let f = rw (c.in-Lost.is, s.copy, s.first, s.digest, c.requires.size) at c.in_ok-mend_hash.ensures.ok in
+    let f = rw (c.in-Lost.is, s.repair, s.copy, s.first, s.digest, c.requires.size) at c.in_ok-mend_hash.ensures.ok in
     let a = c.args.image.now in
     let m = c.mend_hash.new.image in
     let unwritten = nowhere-unwritten (hash_look (job c.args.repair.now) c.args.path.now c.args.level c.args.index a.hash_dev m.hash_dev a.hash_copies m.hash_copies) f.1 in
     let long : length c.remake.new.block ≡ c.args.repair.now.shape.hash_block = c.remake.auto.block ∙ c.mend_hash.auto.block ∙ c.requires.size in
-    visit-made shape c.requires.can.valid c.args.level c.args.index c.requires.inside a m c.remake.new.image c.mend_hash.ensures.kept (rw c.requires.size at c.mend_hash.ensures.asked) unwritten c.remake.ensures.read c.remake.ensures.asked
+    visit-made shape c.requires.can.valid c.args.level c.args.index c.requires.inside a m c.remake.new.image c.mend_hash.ensures.kept (rw c.requires.size at c.mend_hash.ensures.asked) unwritten c.remake.ensures.read (rw s.repair at c.remake.ensures.asked)
     c.args.repair.now.write true _ c.remake.new.block c.put_hash.new.image long c.in_ok-put_hash-in-Lost.ensures

@@ -2,7 +2,7 @@ use Rattle.std.proofs.Common.{arith, ◌/◌, ℕ, ap, length, true, false}
 use Rattle.tree_repair.proofs.ParityLemmas.{if_ok-from}
 use Rattle.tree_repair.proofs.SourceLemmas.{on_err-from}
 use Rattle.tree_repair.proofs.BillLemmas.{put-once}
-use Rattle.tree_repair.proofs.parity.replace.Goals as goal
+use Rattle.tree_repair.proofs.putting.replace.Goals as goal
 
 pub is_there-requires : goal.is_there-requires
 is_there-requires g c = rw c.requires.size c.requires.inside
@@ -46,10 +46,10 @@ returns-then-is_there-clause-within g c = record { reads = omega (arith, c.is_th
 
 pub returns-clause-within : goal.returns-clause-within
 returns-clause-within g c =
-    let once = put-once c.args.write (g.B.BlockDev.state c.is_there.new.device) c.args.first (length c.args.bytes.now / 512) c.args.bytes.now true (g.B.BlockDev.state c.put.new.device) c.in_ok-put.ensures in
+    let once = put-once c.args.repair.now.write (g.B.BlockDev.state c.is_there.new.device) c.args.first (length c.args.bytes.now / 512) c.args.bytes.now true (g.B.BlockDev.state c.put.new.device) c.in_ok-put.ensures in
     record { reads = omega (arith, c.is_there.ensures.asked, ap (λ (n : ℕ). n / 512) c.requires.size, once.reads); writes = omega (arith, c.is_there.ensures.read.writes, once.writes) }
 
 pub returns-in_err-put-clause-within : goal.returns-in_err-put-clause-within
 returns-in_err-put-clause-within g c =
-    let once = put-once c.args.write (g.B.BlockDev.state c.is_there.new.device) c.args.first (length c.args.bytes.now / 512) c.args.bytes.now false (g.B.BlockDev.state c.put.new.device) c.in_err-put.ensures in
+    let once = put-once c.args.repair.now.write (g.B.BlockDev.state c.is_there.new.device) c.args.first (length c.args.bytes.now / 512) c.args.bytes.now false (g.B.BlockDev.state c.put.new.device) c.in_err-put.ensures in
     record { reads = omega (arith, c.is_there.ensures.asked, ap (λ (n : ℕ). n / 512) c.requires.size, once.reads); writes = omega (arith, c.is_there.ensures.read.writes, once.writes) }

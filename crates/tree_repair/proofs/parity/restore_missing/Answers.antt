@@ -8,16 +8,16 @@ use Rattle.tree_repair.specs.ParityBounds.{along_bill}
 use Rattle.tree_repair.specs.Runs.{size_at}
 use Rattle.tree_repair.proofs.ParityBillLemmas.{asked-along, asked-none, asked-round_alone}
 use Rattle.tree_repair.proofs.ParityPassLemmas.{tells-behind, tells-from, tells-none}
-use Rattle.tree_repair.proofs.parity.restore_along.Goals as goal
+use Rattle.tree_repair.proofs.parity.restore_missing.Goals as goal
 
 pub returns-in_err-made-clause-parity : goal.returns-in_err-made-clause-parity
-returns-in_err-made-clause-parity g c = only_read-none (g.P.BlockDev.state c.args.parity_dev.now)
+returns-in_err-made-clause-parity g c = only_read-none (g.P.BlockDev.state c.args.parity.now)
 
 pub returns-in_err-made-clause-run : goal.returns-in_err-made-clause-run
 returns-in_err-made-clause-run g c = ended-from c.from_residual.result c.from_residual.ensures.1 (ends-read (world-none c.args.image.now))
 
 pub returns-in_err-read-clause-parity : goal.returns-in_err-read-clause-parity
-returns-in_err-read-clause-parity g c = only_read-none (g.P.BlockDev.state c.args.parity_dev.now)
+returns-in_err-read-clause-parity g c = only_read-none (g.P.BlockDev.state c.args.parity.now)
 
 pub returns-in_err-read-clause-run : goal.returns-in_err-read-clause-run
 returns-in_err-read-clause-run g c = ended-from c.from_residual-in_err-read.result c.from_residual-in_err-read.ensures.1 (ends-read (world-none c.args.image.now))
@@ -59,18 +59,18 @@ pub returns-clause-run : goal.returns-clause-run
 returns-clause-run g c = has-behind c.make_again.ensures.read c.put_restored.ensures.run
 
 pub returns-then-not-back-clause-tried : goal.returns-then-not-back-clause-tried
-returns-then-not-back-clause-tried g c = (record { image = c.make_again.ensures.read; parity = c.make_again.ensures.parity }, inl (record { p = c.args.path.now; way = c.requires.way; vain = (rw c.if-not-back.true at c.in_ok-back.ensures.vain) c.requires.place }))
+returns-then-not-back-clause-tried g c = (record { image = c.make_again.ensures.read; parity = c.make_again.ensures.parity }, inl (record { p = c.args.missing.now.path.now; way = c.requires.way; vain = (rw c.if-not-back.true at c.in_ok-back.ensures.vain) c.requires.place }))
 
 pub returns-clause-tried : goal.returns-clause-tried
 returns-clause-tried g c =
-    tried-placed (job c.args.repair.now) c.args.place.height c.args.place.index c.args.losses.now.layout c.args.losses.now.lost.items c.args.image.now c.make_again.new.image c.put_restored.new.image
-    (g.P.BlockDev.state c.args.parity_dev.now) (g.P.BlockDev.state c.make_again.new.parity_dev) c.make_again.new.bytes c.put_restored.result c.make_again.ensures.read c.make_again.ensures.parity c.put_restored.ensures.placed
+    tried-placed (job c.args.missing.now.repair.now) c.args.missing.now.place.height c.args.missing.now.place.index c.args.losses.now.layout c.args.losses.now.lost.items c.args.image.now c.make_again.new.image c.put_restored.new.image
+    (g.P.BlockDev.state c.args.parity.now) (g.P.BlockDev.state c.make_again.new.parity) c.make_again.new.bytes c.put_restored.result c.make_again.ensures.read c.make_again.ensures.parity c.put_restored.ensures.placed
 
 pub returns-in_err-made-clause-within : goal.returns-in_err-made-clause-within
-returns-in_err-made-clause-within g c = asked-none (along_bill c.args.losses.now.layout) c.args.image.now (g.P.BlockDev.state c.args.parity_dev.now)
+returns-in_err-made-clause-within g c = asked-none (along_bill c.args.losses.now.layout) c.args.image.now (g.P.BlockDev.state c.args.parity.now)
 
 pub returns-in_err-read-clause-within : goal.returns-in_err-read-clause-within
-returns-in_err-read-clause-within g c = asked-none (along_bill c.args.losses.now.layout) c.args.image.now (g.P.BlockDev.state c.args.parity_dev.now)
+returns-in_err-read-clause-within g c = asked-none (along_bill c.args.losses.now.layout) c.args.image.now (g.P.BlockDev.state c.args.parity.now)
 
 pub returns-in_err-back-clause-within : goal.returns-in_err-back-clause-within
 returns-in_err-back-clause-within g c = asked-round_alone c.args.losses.now.layout c.requires.laid.layout c.make_again.ensures.within.0
@@ -80,20 +80,20 @@ returns-then-not-back-clause-within g c = asked-round_alone c.args.losses.now.la
 
 pub returns-clause-within : goal.returns-clause-within
 returns-clause-within g c =
-    asked-along c.args.losses.now.layout c.requires.laid.layout (size_at c.args.repair.now.shape c.args.place.height) (c.in_ok-back.ensures.within.1 c.if-not-back.false)
-    c.make_again.ensures.within.0 (c.put_restored.ensures.within (g.P.BlockDev.state c.make_again.new.parity_dev))
+    asked-along c.args.losses.now.layout c.requires.laid.layout (size_at c.args.missing.now.repair.now.shape c.args.missing.now.place.height) (c.in_ok-back.ensures.within.1 c.if-not-back.false)
+    c.make_again.ensures.within.0 (c.put_restored.ensures.within (g.P.BlockDev.state c.make_again.new.parity))
 
 pub returns-in_err-made-clause-came : goal.returns-in_err-made-clause-came
-returns-in_err-made-clause-came g c = tells-from c.args.place.height c.from_residual.result c.from_residual.ensures.1 (ends-read (world-none c.args.image.now))
+returns-in_err-made-clause-came g c = tells-from c.args.missing.now.place.height c.from_residual.result c.from_residual.ensures.1 (ends-read (world-none c.args.image.now))
 
 pub returns-in_err-read-clause-came : goal.returns-in_err-read-clause-came
-returns-in_err-read-clause-came g c = tells-from c.args.place.height c.from_residual-in_err-read.result c.from_residual-in_err-read.ensures.1 (ends-read (world-none c.args.image.now))
+returns-in_err-read-clause-came g c = tells-from c.args.missing.now.place.height c.from_residual-in_err-read.result c.from_residual-in_err-read.ensures.1 (ends-read (world-none c.args.image.now))
 
 pub returns-in_err-back-clause-came : goal.returns-in_err-back-clause-came
-returns-in_err-back-clause-came g c = tells-from c.args.place.height c.from_residual-in_err-back.result c.from_residual-in_err-back.ensures.1 (ends-read c.make_again.ensures.read)
+returns-in_err-back-clause-came g c = tells-from c.args.missing.now.place.height c.from_residual-in_err-back.result c.from_residual-in_err-back.ensures.1 (ends-read c.make_again.ensures.read)
 
 pub returns-then-not-back-clause-came : goal.returns-then-not-back-clause-came
-returns-then-not-back-clause-came g c = tells-none c.args.place.height (has-read c.make_again.ensures.read)
+returns-then-not-back-clause-came g c = tells-none c.args.missing.now.place.height (has-read c.make_again.ensures.read)
 
 pub returns-clause-came : goal.returns-clause-came
 returns-clause-came g c = tells-behind c.make_again.ensures.read c.put_restored.ensures.came

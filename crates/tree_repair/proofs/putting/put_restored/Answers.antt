@@ -1,7 +1,7 @@
 use Rattle.std.proofs.Common.{refl}
 use Rattle.tree_repair.proofs.RunLemmas.{ended-from, ends-unsaid, ends-unwritten, has-one, has-read}
 use Rattle.tree_repair.proofs.ParityPassLemmas.{tells-from, tells-none, tells-one}
-use Rattle.tree_repair.proofs.parity.put_restored.Goals as goal
+use Rattle.tree_repair.proofs.putting.put_restored.Goals as goal
 
 pub returns-in_err-back-clause-run : goal.returns-in_err-back-clause-run
 returns-in_err-back-clause-run g c = ended-from c.from_residual.result c.from_residual.ensures.1 (ends-unwritten c.in_err-back.ensures.err tt refl)
@@ -38,14 +38,14 @@ pub returns-clause-within : goal.returns-clause-within
 returns-clause-within g c = c.put_block.ensures.within
 
 pub returns-in_err-back-clause-came : goal.returns-in_err-back-clause-came
-returns-in_err-back-clause-came g c = tells-from c.args.place.height c.from_residual.result c.from_residual.ensures.1 (ends-unwritten c.in_err-back.ensures.err tt refl)
+returns-in_err-back-clause-came g c = tells-from c.args.missing.now.place.height c.from_residual.result c.from_residual.ensures.1 (ends-unwritten c.in_err-back.ensures.err tt refl)
 
 pub returns-then-not-back-clause-came : goal.returns-then-not-back-clause-came
-returns-then-not-back-clause-came g c = tells-none c.args.place.height (has-read (rw c.if-not-back.true at c.in_ok-back.ensures.ok).0)
+returns-then-not-back-clause-came g c = tells-none c.args.missing.now.place.height (has-read (rw c.if-not-back.true at c.in_ok-back.ensures.ok).0)
 
 pub returns-in_err-say_mended-clause-came : goal.returns-in_err-say_mended-clause-came
 returns-in_err-say_mended-clause-came g c =
-    tells-from c.args.place.height c.from_residual-in_err-say_mended.result c.from_residual-in_err-say_mended.ensures.1 (ends-unsaid (rw c.if-not-back.false at c.in_ok-back.ensures.ok) refl)
+    tells-from c.args.missing.now.place.height c.from_residual-in_err-say_mended.result c.from_residual-in_err-say_mended.ensures.1 (ends-unsaid (rw c.if-not-back.false at c.in_ok-back.ensures.ok) refl)
 
 pub returns-clause-came : goal.returns-clause-came
-returns-clause-came g c = tells-one c.args.place.height c.args.place.index c.args.bytes.now (rw c.if-not-back.false at c.in_ok-back.ensures.ok) c.in_ok-say_mended.ensures.ok
+returns-clause-came g c = tells-one c.args.missing.now.place.height c.args.missing.now.place.index c.args.bytes.now (rw c.if-not-back.false at c.in_ok-back.ensures.ok) c.in_ok-say_mended.ensures.ok

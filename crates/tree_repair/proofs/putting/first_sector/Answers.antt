@@ -1,6 +1,6 @@
 use Rattle.std.proofs.Common.{◌≡◌, ◌-◌, suc, arith}
 use Rattle.tree_repair.proofs.ParityLemmas.{inside-data, inside-hash, sector-data, sector-hash}
-use Rattle.tree_repair.proofs.parity.first_sector.Goals as goal
+use Rattle.tree_repair.proofs.putting.first_sector.Goals as goal
 
 pub returns-then-height-eq0-clause-value : goal.returns-then-height-eq0-clause-value
 returns-then-height-eq0-clause-value c = sector-data c.args.repair.now.shape c.args.place.height c.args.place.index c.block_size.result c.if-height-eq0.true c.block_size.ensures

@@ -1,0 +1,126 @@
+//! Blocks that parity made again, put where they stand.
+ghost use Rattle.std.specs.Prelude.{◌≡◌, ◌<◌, ◌≤◌, ◌+◌, ◌/◌, false, IfOk, IsTrue, OnErr, length, IfErr};
+ghost use Rattle.block_device.specs.Device.{IsInside};
+ghost use Rattle.tree_shape.specs.Digests.{digest};
+ghost use Rattle.tree_repair.specs.Jobs.{job};
+ghost use Rattle.tree_repair.specs.ParityBounds.{IsAskedAlone, IsReplacedOnce, put_bill};
+ghost use Rattle.tree_repair.specs.Parity.{IsPlace, end_at};
+ghost use Rattle.tree_repair.specs.Runs.{CanRun, IsWriterCause, Ran, sector_at, size_at};
+ghost use Rattle.tree_repair.specs.Searching.{AreGoodFor, FailsToPutMissing, FailsToReplace, IsInTree, IsMissingPut, IsReached, PutsWhereBad, TellsMissing, missing_size};
+
+use crate::fault::RepairFault;
+use crate::image::DamagedImage;
+use crate::mending::{Mended, put};
+use crate::place::{Place, Repair, block_size};
+use crate::saying::say_mended;
+use crate::seeking::is_there;
+use block_device::{BlockDev, DeviceFault};
+use counted_io::Counted;
+use std::io::Write;
+use tree_path::TreePath;
+use tree_shape::Digest;
+
+/// A lost block of what is repaired, and the path of the good hash blocks that lead to it.
+#[derive(Clone, Copy)]
+pub(crate) struct Missing<'a> {
+    pub(crate) path: &'a TreePath,
+    pub(crate) repair: &'a Repair,
+    pub(crate) place: Place,
+}
+
+/// Puts the bytes of a block where it stands, and prints its line.
+pub(crate) fn put_restored<D: BlockDev, H: BlockDev, C: BlockDev, W: Write>(
+    missing: &Missing<'_>,
+    image: &mut DamagedImage<D, H, C>,
+    bytes: &[u8],
+    block: &mut [u8],
+    writer: &mut Counted<W>,
+) -> Result<bool, RepairFault>
+    requires asked { IsTrue missing.now.repair.now.parity }
+    requires can { CanRun (job missing.now.repair.now) image.old }
+    requires place { IsInTree missing.now }
+    requires way { IsReached missing.now }
+    requires good { AreGoodFor missing.now bytes.now }
+    requires bytes { length bytes.now ≡ missing_size missing.now }
+    requires size { length block.old ≡ missing_size missing.now }
+    ensures run { Ran W.contents (job missing.now.repair.now) image.old image.new writer.old writer.new result }
+    ensures told { IfErr result (IsWriterCause writer.new) }
+    ensures placed { IfOk result (IsMissingPut missing.now bytes.now image.old image.new) }
+    ensures within { IsAskedAlone (put_bill (missing_size missing.now / 512)) image.old image.new }
+    ensures came { TellsMissing W.contents missing.now image.old image.new writer.old writer.new result }
+{
+    let back = put_block(missing, image, bytes, block)?;
+    if !back {
+        return Ok(false);
+    }
+    say_mended(writer, missing.repair, missing.place, Mended::Parity)?;
+    Ok(true)
+}
+
+// Puts the bytes of a block where it stands, if it isn't good there.
+fn put_block<D: BlockDev, H: BlockDev, C: BlockDev>(
+    missing: &Missing<'_>,
+    image: &mut DamagedImage<D, H, C>,
+    bytes: &[u8],
+    block: &mut [u8],
+) -> Result<bool, DeviceFault>
+    requires asked { IsTrue missing.now.repair.now.parity }
+    requires can { CanRun (job missing.now.repair.now) image.old }
+    requires place { IsInTree missing.now }
+    requires way { IsReached missing.now }
+    requires good { AreGoodFor missing.now bytes.now }
+    requires bytes { length bytes.now ≡ missing_size missing.now }
+    requires size { length block.old ≡ missing_size missing.now }
+    ensures ok { IfOk result (IsMissingPut missing.now bytes.now image.old image.new) }
+    ensures err { OnErr result (FailsToPutMissing missing.now bytes.now image.old image.new) }
+    ensures within { IsAskedAlone (put_bill (missing_size missing.now / 512)) image.old image.new }
+{
+    let repair = missing.repair;
+    let Place { height, index } = missing.place;
+    let first = first_sector(repair, missing.place);
+    let digest = missing.path.digest_at(height, index);
+    if height == 0 {
+        return replace(&mut image.data, first, repair, &digest, bytes, block);
+    }
+    replace(&mut image.hash, first, repair, &digest, bytes, block)
+}
+
+// The first sector of a block on its device.
+fn first_sector(repair: &Repair, place: Place) -> u64
+    requires { IsPlace repair.now.shape place.height place.index }
+    ensures value { result ≡ sector_at repair.now.shape place.height place.index }
+    ensures inside { result + size_at repair.now.shape place.height / 512 ≤ end_at repair.now.shape place.height }
+{
+    let Place { height, index } = place;
+    let sectors = (block_size(&repair.shape, height) / 512) as u64;
+    if height == 0 {
+        return index * sectors;
+    }
+    let level = height - 1;
+    let number = repair.shape.block_on_path(level, index);
+    repair.shape.position(level, number) * sectors
+}
+
+// Reads a block of which good bytes are at hand. Where it hasn't its digest they are written, if they may be.
+fn replace<B: BlockDev>(
+    device: &mut B,
+    first: u64,
+    repair: &Repair,
+    expected: &Digest,
+    bytes: &[u8],
+    block: &mut [u8],
+) -> Result<bool, DeviceFault>
+    requires inside { IsInside (B.state device.old) first (length bytes.now) }
+    requires size { length block.old ≡ length bytes.now }
+    requires good { digest repair.now.salt bytes.now ≡ expected.now }
+    requires allowed { IsTrue repair.now.write → IsTrue (B.state device.old).may_write }
+    ensures ok { PutsWhereBad B.state device.old device.new first repair.now expected.now bytes.now result }
+    ensures err { FailsToReplace B.state device.old device.new first repair.now expected.now bytes.now result }
+    ensures within { IsReplacedOnce (length bytes.now / 512) (B.state device.old) (B.state device.new) }
+{
+    if is_there(device, first, &repair.salt, expected, block) {
+        return Ok(false);
+    }
+    put(device, first, bytes, repair.write)?;
+    Ok(true)
+}
