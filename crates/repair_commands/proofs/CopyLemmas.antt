@@ -5,7 +5,7 @@ use Rattle.block_device.specs.Device.{Device}
 use Rattle.image_files.specs.declared.file_use.FileUse.{FileUse}
 use Rattle.image_files.specs.Opener.{Opener, calls}
 use Rattle.tree_commands.specs.declared.fault.TreeFault.{TreeFault}
-use Rattle.repair_commands.specs.Copies.{AddsCopy, IsCopyUnopened, OpensImageCopy, OpensEachCopy, RefusesEach}
+use Rattle.repair_commands.specs.Copies.{IsCopyUnopened, OpensImageCopy, OpensEachCopy, RefusesEach}
 
 -- a list at one of its elements
 split : {X : Type 0} (f : X → List ℕ) (xs : List X) (i : ℕ) (d : X) → i < length xs → (rest : List (List ℕ)) × (map f xs ≡ map f (take i xs) ++ f (get_or xs i d) ∷ rest)
@@ -24,14 +24,14 @@ module _ {S D : Type 0} (o : Opener S D) (state : D → Device) (files : List Fi
   opens-last old between new (p ∷ ps) [] path device each last = absurd each
   opens-last old between new (p ∷ ps) (d ∷ ds) path device each last = (each.0, (each.1.0, opens-last each.0 between new ps ds path device each.1.1 last))
 
-  pub opens-next : {X : Type 0} (f : X → List ℕ) (old between new : S) (xs : List X) (i : ℕ) (x : X) (devices devices' : List D) → i < length xs
-      → OpensEachCopy (calls o state old between) files (map f (take i xs)) devices → AddsCopy (calls o state between new) files (f (get_or xs i x)) devices devices'
+  pub opens-next : {X : Type 0} (f : X → List ℕ) (old between new : S) (xs : List X) (i : ℕ) (x : X) (devices devices' : List D) (device : D) → i < length xs
+      → OpensEachCopy (calls o state old between) files (map f (take i xs)) devices → OpensImageCopy (calls o state between new) files (f (get_or xs i x)) device → devices' ≡ devices ++ device ∷ []
       → OpensEachCopy (calls o state old new) files (map f (take (i + 1) xs)) devices'
-  opens-next f old between new xs i x devices devices' inside before last =
+  opens-next f old between new xs i x devices devices' device inside before last more =
       let one : map f (take (i + 1) xs) ≡ map f (take i xs) ++ f (get_or xs i x) ∷ [] = ap (map f) (take_more xs i x inside) ∙ map-append f (take i xs) (get_or xs i x ∷ []) in
       subst (λ (ps : List (List ℕ)). OpensEachCopy (calls o state old new) files ps devices') (sym one)
-      (subst (λ (ds : List D). OpensEachCopy (calls o state old new) files (map f (take i xs) ++ f (get_or xs i x) ∷ []) ds) (sym last.more)
-      (opens-last old between new (map f (take i xs)) devices (f (get_or xs i x)) last.device before last.opened))
+      (subst (λ (ds : List D). OpensEachCopy (calls o state old new) files (map f (take i xs) ++ f (get_or xs i x) ∷ []) ds) (sym more)
+      (opens-last old between new (map f (take i xs)) devices (f (get_or xs i x)) device before last))
 
   -- one behind some that were opened is refused
   refuses-behind : (old between new : S) (first : List (List ℕ)) (devices : List D) (path : List ℕ) (rest : List (List ℕ)) (fault : TreeFault) → OpensEachCopy (calls o state old between) files first devices

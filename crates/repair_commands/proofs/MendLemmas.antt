@@ -1,7 +1,9 @@
 -- Devices whose writes are put on their media.
-use Rattle.std.proofs.Common.{◌≡◌, ◌≤◌, Result, Ok, Err, ap, arith, inl, inr}
-use Rattle.std.specs.Prelude.{IsErrAnd, OnErr, OnOk}
+use Rattle.std.proofs.Common.{◌≡◌, ◌≤◌, Result, Ok, Err, ap, arith, inl, inr, refl}
+use Rattle.std.specs.Prelude.{OnErr, OnOk}
 use Rattle.block_device.specs.Device.{Device, HasFailed, IsUnsynced, synced}
+use Rattle.tree_repair.specs.Worlds.{RepairWorld}
+use Rattle.repair_commands.specs.Mends.{KeepsBothImages}
 
 -- a sync leaves the image as it is, whether it ends well or not
 pub sync-image : {T E : Type 0} (a b : Device) (r : Result T E) → OnOk r (b ≡ synced a) → OnErr r (IsUnsynced a b) → b.image ≡ a.image
@@ -17,10 +19,9 @@ pub sync-more : {T E : Type 0} (a b : Device) (r : Result T E) → OnOk r (b ≡
 sync-more a b (Ok x) done fails = omega (arith, ap (λ (d : Device). d.failures) done)
 sync-more a b (Err e) done fails = unsynced-more a b fails fails.failed
 
--- what is said of a fault that is handed on
-pub on_err-from : {T E : Type 0} (r : Result T E) (P : E → Type 0) (Q : Type 0) → IsErrAnd r P → Q → OnErr r Q
-on_err-from (Ok x) P Q is holds = tt
-on_err-from (Err e) P Q is holds = holds
+-- what isn't synced stays as it is
+pub keeps-all : (w : RepairWorld) → KeepsBothImages w w
+keeps-all w = record { data_image = refl; hash_image = refl; data_more = omega arith; hash_more = omega arith; data_copies_are = refl; hash_copies_are = refl }
 
 pub on_err-weaker : {T E : Type 0} {P Q : Type 0} (r : Result T E) → (P → Q) → OnErr r P → OnErr r Q
 on_err-weaker (Ok x) weaker holds = tt

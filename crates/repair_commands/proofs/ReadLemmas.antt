@@ -79,8 +79,6 @@ mends-behind plan parity w' old new full mends = record {
   mid = mends.mid;
   repair = repairs-behind plan parity mends.mid old new None full mends.repair;
   kept = mends.kept;
-  data_copies_are = mends.data_copies_are;
-  hash_copies_are = mends.hash_copies_are;
   on_medium = mends.on_medium;
 }
 
@@ -110,6 +108,4 @@ half-behind plan parity d h h' cs es w' old new fault full half = record {
   mid = half.mid;
   run = half-run plan parity d h h' cs es half.mid w' old new fault full half.run;
   kept = half.kept;
-  data_copies_are = half.data_copies_are;
-  hash_copies_are = half.hash_copies_are;
 }

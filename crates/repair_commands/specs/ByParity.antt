@@ -3,10 +3,11 @@ use Rattle.std.specs.Prelude.{◌≡◌, ◌⊎◌, ℕ, Bool, true, List, Optio
 use Rattle.block_device.specs.Device.{Device}
 use Rattle.counted_io.specs.Counted.{CountedRecord}
 use Rattle.command_line.specs.declared.image_copies.ImageCopy.{ImageCopy}
-use Rattle.command_line.specs.FecFiles.{FecRecord}
+use Rattle.command_line.specs.declared.fec_file.FecFile.{FecFile}
+use Rattle.command_line.specs.FecFiles.{FecRecord, fec_record}
 use Rattle.fec_area.specs.declared.layout.Layout.{Layout}
 use Rattle.image_files.specs.declared.opening.UnopenedFile.{UnopenedFile}
-use Rattle.image_files.specs.Opener.{Calls}
+use Rattle.image_files.specs.Opener.{Calls, Opener, calls}
 use Rattle.tree_commands.specs.declared.fault.TreeFault.{TreeFault}
 use Rattle.tree_commands.specs.declared.fault.TreeFault.TheVariants.{Open}
 use Rattle.tree_repair.specs.declared.fault.RepairFault.{RepairFault}
@@ -20,7 +21,8 @@ use Rattle.repair_commands.specs.declared.parity.Parity.{Parity}
 use Rattle.repair_commands.specs.Commands.{GivesBackImages, ending_fault, plan_of, world_of}
 use Rattle.repair_commands.specs.Mends.{HalfMends, MendsInPasses, MendsWhole}
 use Rattle.repair_commands.specs.Openings.{FailsToOpenCopies, OpensAll}
-use Rattle.repair_commands.specs.Pairs.{Places}
+use Rattle.repair_commands.specs.declared.pair.RepairPlaces.{RepairPlaces}
+use Rattle.repair_commands.specs.Pairs.{Places, places_of}
 use Rattle.repair_commands.specs.Rest.{IsRestEnd, TellsRest}
 use Rattle.repair_commands.specs.Parity.{FailsToOpenParity, IsUnlaid, LaysOutParity, OpensParity}
 
@@ -50,12 +52,14 @@ pub record IsUnlaidEnd (parity_dev : Device) (roots : ℕ) (w w' : RepairWorld) 
 abbrev pub HalfMendsByParity : Plan → Device → ℕ → RepairWorld → RepairWorld → Option (List ℕ) → Option (List ℕ) → ParityRepairFault → Type 0
 HalfMendsByParity plan parity_dev roots w w' old new fault = IsUnlaidEnd parity_dev roots w w' old new fault ⊎ EndsHalf plan w w' old new fault
 
--- the same by a writer before and behind
-abbrev pub IsMendedByParity : {W : Type 0} → (W → Option (List ℕ)) → Plan → Device → ℕ → RepairWorld → RepairWorld → CountedRecord W → CountedRecord W → Outcome → Type 0
-IsMendedByParity contents plan parity_dev roots w w' old new outcome = MendsByParity plan parity_dev roots w w' (contents old.inner) (contents new.inner) outcome
+-- the same by the open parity, and a writer before and behind
+abbrev pub IsMendedByFec : {P W : Type 0} → (P → Device) → (W → Option (List ℕ)) → Plan → Parity P → RepairWorld → RepairWorld → CountedRecord W → CountedRecord W → Outcome → Type 0
+IsMendedByFec state contents plan parity w w' old new outcome =
+    MendsByParity plan (state parity.device) parity.roots w w' (contents old.inner) (contents new.inner) outcome
 
-abbrev pub IsHalfByParity : {W : Type 0} → (W → Option (List ℕ)) → Plan → Device → ℕ → RepairWorld → RepairWorld → CountedRecord W → CountedRecord W → ParityRepairFault → Type 0
-IsHalfByParity contents plan parity_dev roots w w' old new fault = HalfMendsByParity plan parity_dev roots w w' (contents old.inner) (contents new.inner) fault
+abbrev pub IsHalfByFec : {P W : Type 0} → (P → Device) → (W → Option (List ℕ)) → Plan → Parity P → RepairWorld → RepairWorld → CountedRecord W → CountedRecord W → ParityRepairFault → Type 0
+IsHalfByFec state contents plan parity w w' old new fault =
+    HalfMendsByParity plan (state parity.device) parity.roots w w' (contents old.inner) (contents new.inner) fault
 
 -- ---- of files
 
@@ -81,7 +85,7 @@ pub record HalfMendsOpenedByParity {S D : Type 0} (w : Calls S D) (p : Places) (
 pub record OpensAllWithParity {S D : Type 0} (w : Calls S D) (p : Places) (fec : FecRecord) (copies : List ImageCopy) (o : Opened D) (parity : Parity D) : Type 0 where
   pub between : S
   pub opens : OpensAll (record w { new = between }) p copies o
-  pub parity_opens : OpensParity (record w { old = between }) p o fec parity
+  pub parity_opens : OpensParity (record w { old = between }) p.write o fec parity
 
 -- all is open, was repaired and given back
 pub record MendsFilesByParity {S D : Type 0} (w : Calls S D) (p : Places) (fec : FecRecord) (copies : List ImageCopy) (root : List ℕ) (old new : Option (List ℕ)) (outcome : Outcome) : Type 0 where
@@ -114,7 +118,7 @@ pub record EndsWithoutParity {S D : Type 0} (w : Calls S D) (p : Places) (fec : 
   pub opened : Opened D
   pub file : UnopenedFile
   pub opens : OpensAll (record w { new = between }) p copies opened
-  pub fails : FailsToOpenParity (record w { old = between }) p opened fec file
+  pub fails : FailsToOpenParity (record w { old = between }) p.write opened fec file
   pub quiet : new ≡ old
   pub is : fault ≡ Tree (Open file)
 
@@ -140,3 +144,25 @@ abbrev pub IsParityRepairEnd : {S D : Type 0} → Calls S D → Places → FecRe
 IsParityRepairEnd w p fec copies root old new failed fault =
     EndsUnopenedByParity w p copies old new fault ⊎ (EndsWithoutParity w p fec copies old new fault
     ⊎ (EndsUnmendedByParity w p fec copies root old new fault ⊎ EndsBehindByParity w p fec copies root old new failed fault))
+
+-- ---- the same by what an opener does, a writer before and behind, and the words
+
+abbrev pub IsPairMendedByFec : {S D W : Type 0} → Opener S D → (D → Device) → S → S → RepairPlaces → Opened D → Parity D → List ℕ
+    → (W → Option (List ℕ)) → CountedRecord W → CountedRecord W → Outcome → Type 0
+IsPairMendedByFec relations state old new places o parity root contents before behind outcome =
+    MendsOpenedByParity (calls relations state old new) (places_of places) o parity root (contents before.inner) (contents behind.inner) outcome
+
+abbrev pub IsPairHalfMendedByFec : {S D W : Type 0} → Opener S D → (D → Device) → S → S → RepairPlaces → Opened D → Parity D → List ℕ
+    → (W → Option (List ℕ)) → CountedRecord W → CountedRecord W → ParityRepairFault → Type 0
+IsPairHalfMendedByFec relations state old new places o parity root contents before behind fault =
+    HalfMendsOpenedByParity (calls relations state old new) (places_of places) o parity root (contents before.inner) (contents behind.inner) fault
+
+abbrev pub AreRepairedByFec : {S D W : Type 0} → Opener S D → (D → Device) → S → S → RepairPlaces → FecFile → List ImageCopy → List ℕ
+    → (W → Option (List ℕ)) → CountedRecord W → CountedRecord W → Type 0
+AreRepairedByFec relations state old new places fec copies root contents before behind =
+    RepairsByParity (calls relations state old new) (places_of places) (fec_record fec) copies root (contents before.inner) (contents behind.inner)
+
+abbrev pub AreUnrepairedByFec : {S D W : Type 0} → Opener S D → (D → Device) → S → S → RepairPlaces → FecFile → List ImageCopy → List ℕ
+    → (W → Option (List ℕ)) → CountedRecord W → CountedRecord W → ParityRepairFault → Type 0
+AreUnrepairedByFec relations state old new places fec copies root contents before behind fault =
+    IsParityRepairEnd (calls relations state old new) (places_of places) (fec_record fec) copies root (contents before.inner) (contents behind.inner) behind.failed fault

@@ -1,7 +1,9 @@
 -- What `repair` did to files, and how it ended.
 use Rattle.std.specs.Prelude.{◌≡◌, ◌⊎◌, ℕ, Bool, true, false, List, Option, map}
+use Rattle.block_device.specs.Device.{Device}
+use Rattle.counted_io.specs.Counted.{CountedRecord}
 use Rattle.command_line.specs.declared.image_copies.ImageCopy.{ImageCopy}
-use Rattle.image_files.specs.Opener.{Calls}
+use Rattle.image_files.specs.Opener.{Calls, Opener, calls}
 use Rattle.tree_commands.specs.declared.fault.TreeFault.{TreeFault}
 use Rattle.tree_commands.specs.declared.fault.TreeFault.TheVariants as trees
 use Rattle.tree_survey.specs.declared.fault.SurveyFault.TheVariants as survey
@@ -14,7 +16,8 @@ use Rattle.repair_commands.specs.declared.opening.Opened.{Opened}
 use Rattle.repair_commands.specs.declared.pair.Parts.{Parts}
 use Rattle.repair_commands.specs.Mends.{HalfMends, MendsInOnePass}
 use Rattle.repair_commands.specs.Openings.{FailsToOpenCopies, OpensAll}
-use Rattle.repair_commands.specs.Pairs.{Places}
+use Rattle.repair_commands.specs.declared.pair.RepairPlaces.{RepairPlaces}
+use Rattle.repair_commands.specs.Pairs.{Places, places_of}
 use Rattle.repair_commands.specs.Rest.{IsRestEnd, TellsRest}
 
 abbrev pub plan_of : Places → List ℕ → Plan
@@ -105,3 +108,25 @@ pub record EndsBehind {S D : Type 0} (w : Calls S D) (p : Places) (copies : List
 -- it isn't repaired to the end, or is, and that comes behind
 abbrev pub IsRepairEnd : {S D : Type 0} → Calls S D → Places → List ImageCopy → List ℕ → Option (List ℕ) → Option (List ℕ) → Bool → TreeFault → Type 0
 IsRepairEnd w p copies root old new failed fault = IsMendingEnd w p copies root old new fault ⊎ EndsBehind w p copies root old new failed fault
+
+-- ---- the same by what an opener does, a writer before and behind, and the words
+
+abbrev pub GivesBackBoth : {S D : Type 0} → Opener S D → (D → Device) → S → S → RepairPlaces → Parts → D → D → Type 0
+GivesBackBoth relations state old new places parts data_dev hash_dev = GivesBackImages places.write (calls relations state old new) (places_of places) parts data_dev hash_dev
+
+abbrev pub IsPairMended : {S D W : Type 0} → Opener S D → (D → Device) → S → S → RepairPlaces → Opened D → List ℕ → (W → Option (List ℕ)) → CountedRecord W → CountedRecord W → Outcome → Type 0
+IsPairMended relations state old new places o root contents before behind outcome =
+    MendsOpened (calls relations state old new) (places_of places) o root (contents before.inner) (contents behind.inner) outcome
+
+abbrev pub IsPairHalfMended : {S D W : Type 0} → Opener S D → (D → Device) → S → S → RepairPlaces → Opened D → List ℕ → (W → Option (List ℕ)) → CountedRecord W → CountedRecord W → TreeFault → Type 0
+IsPairHalfMended relations state old new places o root contents before behind fault =
+    HalfMendsOpened (calls relations state old new) (places_of places) o root (contents before.inner) (contents behind.inner) fault
+
+abbrev pub AreRepaired : {S D W : Type 0} → Opener S D → (D → Device) → S → S → RepairPlaces → List ImageCopy → List ℕ → (W → Option (List ℕ)) → CountedRecord W → CountedRecord W → Type 0
+AreRepaired relations state old new places copies root contents before behind =
+    RepairsFiles (calls relations state old new) (places_of places) copies root (contents before.inner) (contents behind.inner)
+
+abbrev pub AreUnrepaired : {S D W : Type 0} → Opener S D → (D → Device) → S → S → RepairPlaces → List ImageCopy → List ℕ
+    → (W → Option (List ℕ)) → CountedRecord W → CountedRecord W → TreeFault → Type 0
+AreUnrepaired relations state old new places copies root contents before behind fault =
+    IsRepairEnd (calls relations state old new) (places_of places) copies root (contents before.inner) (contents behind.inner) behind.failed fault

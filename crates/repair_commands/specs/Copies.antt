@@ -1,10 +1,12 @@
 -- The copies in which blocks are sought, as they are opened.
-use Rattle.std.specs.Prelude.{◌≡◌, ◌⊎◌, ℕ, Bool, true, false, List, [], ◌∷◌, ◌++◌, Option}
+use Rattle.std.specs.Prelude.{◌≡◌, ◌⊎◌, ℕ, Bool, true, false, List, [], ◌∷◌, Option, Vec, map}
+use Rattle.std.specs.Global.{Global}
 use Rattle.block_device.specs.declared.file_id.FileId.{FileId}
+use Rattle.block_device.specs.Device.{Device}
 use Rattle.command_line.specs.declared.image_copies.ImageCopy.{ImageCopy}
 use Rattle.image_files.specs.Apart.{OpensApart, RefusesApart}
 use Rattle.image_files.specs.declared.file_use.FileUse.{FileUse}
-use Rattle.image_files.specs.Opener.{Calls}
+use Rattle.image_files.specs.Opener.{Calls, Opener, calls}
 use Rattle.tree_commands.specs.declared.fault.TreeFault.{TreeFault}
 use Rattle.tree_commands.specs.declared.fault.TreeFault.TheVariants.{Open, Survey}
 use Rattle.tree_survey.specs.declared.fault.SurveyFault.TheVariants.{Image}
@@ -19,12 +21,6 @@ path_in false copy = copy.data_path.now
 pub record OpensImageCopy {S D : Type 0} (w : Calls S D) (files : List FileUse) (path : List ℕ) (device : D) : Type 0 where
   pub id : Option FileId
   pub opened : OpensApart w files path false (record { device = device; id = id })
-
--- and it is the last one of a list then
-pub record AddsCopy {S D : Type 0} (w : Calls S D) (files : List FileUse) (path : List ℕ) (old new : List D) : Type 0 where
-  pub device : D
-  pub opened : OpensImageCopy w files path device
-  pub more : new ≡ old ++ device ∷ []
 
 -- it isn't opened, or memory ran out behind that
 abbrev pub IsCopyUnopened : {S D : Type 0} → Calls S D → List FileUse → List ℕ → TreeFault → Type 0
@@ -46,3 +42,11 @@ RefusesEach w files [] fault = ⊥
 RefusesEach {S} {D} w files (p ∷ ps) fault =
     IsCopyUnopened w files p fault
     ⊎ ((between : S) × ((d : D) × (OpensImageCopy (record w { new = between }) files p d × RefusesEach (record w { old = between }) files ps fault)))
+
+-- ---- the same by what an opener does, before and behind, of the hashes of copies, or of their data
+
+abbrev pub EachIsOpen : {S D : Type 0} → Opener S D → (D → Device) → S → S → List FileUse → Bool → List ImageCopy → Vec D Global → Type 0
+EachIsOpen relations state old new files hashes copies devices = OpensEachCopy (calls relations state old new) files (map (path_in hashes) copies) devices.items
+
+abbrev pub RefusesOne : {S D : Type 0} → Opener S D → (D → Device) → S → S → List FileUse → Bool → List ImageCopy → TreeFault → Type 0
+RefusesOne relations state old new files hashes copies fault = RefusesEach (calls relations state old new) files (map (path_in hashes) copies) fault

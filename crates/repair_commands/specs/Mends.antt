@@ -14,12 +14,14 @@ use Rattle.tree_repair.specs.Repairs.{IsUnrepairedBy, LooksAtAll, Repairs, Seeks
 use Rattle.tree_repair.specs.Worlds.{RepairWorld}
 use Rattle.verity_format.specs.declared.verifying.VerifyFault.TheVariants.{Device as DeviceFailed}
 
--- both hold what they held, and neither takes a failure back
-pub record KeepsBothImages (data_dev hash_dev data_dev' hash_dev' : Device) : Type 0 where
-  pub data_image : data_dev'.image ≡ data_dev.image
-  pub hash_image : hash_dev'.image ≡ hash_dev.image
-  pub data_more : data_dev.failures ≤ data_dev'.failures
-  pub hash_more : hash_dev.failures ≤ hash_dev'.failures
+-- both devices hold what they held, neither takes a failure back, and the copies stay
+pub record KeepsBothImages (w w' : RepairWorld) : Type 0 where
+  pub data_image : w'.data_dev.image ≡ w.data_dev.image
+  pub hash_image : w'.hash_dev.image ≡ w.hash_dev.image
+  pub data_more : w.data_dev.failures ≤ w'.data_dev.failures
+  pub hash_more : w.hash_dev.failures ≤ w'.hash_dev.failures
+  pub data_copies_are : w'.data_copies ≡ w.data_copies
+  pub hash_copies_are : w'.hash_copies ≡ w.hash_copies
 
 -- where anything may be written, all of it is on their media
 pub record IsOnMedium (write : Bool) (data_dev hash_dev : Device) : Type 0 where
@@ -30,9 +32,7 @@ pub record IsOnMedium (write : Bool) (data_dev hash_dev : Device) : Type 0 where
 pub record MendsWhole (plan : Plan) (parity : Bool) (w w' : RepairWorld) (old new : Option (List ℕ)) : Type 0 where
   pub mid : RepairWorld
   pub repair : Repairs plan parity w mid old new None
-  pub kept : KeepsBothImages mid.data_dev mid.hash_dev w'.data_dev w'.hash_dev
-  pub data_copies_are : w'.data_copies ≡ mid.data_copies
-  pub hash_copies_are : w'.hash_copies ≡ mid.hash_copies
+  pub kept : KeepsBothImages mid w'
   pub on_medium : IsOnMedium plan.write w'.data_dev w'.hash_dev
 
 -- So by copies and what is beneath hash blocks alone: each block was looked at, in one pass, and this is known of the image.
@@ -60,18 +60,12 @@ IsUnsyncedCause write w w' fault = (fault ≡ Image DeviceFailed) × HasFailedIn
 pub record HalfMends (plan : Plan) (parity : Bool) (w w' : RepairWorld) (old new : Option (List ℕ)) (fault : RepairFault) : Type 0 where
   pub mid : RepairWorld
   pub run : IsUnrepairedBy plan parity w mid old new fault ⊎ (Repairs plan parity w mid old new None × IsUnsyncedCause plan.write mid w' fault)
-  pub kept : KeepsBothImages mid.data_dev mid.hash_dev w'.data_dev w'.hash_dev
-  pub data_copies_are : w'.data_copies ≡ mid.data_copies
-  pub hash_copies_are : w'.hash_copies ≡ mid.hash_copies
+  pub kept : KeepsBothImages mid w'
 
 -- ---- the same by a writer before and behind
 
 abbrev pub IsMendedInOnePass : {W : Type 0} → (W → Option (List ℕ)) → Plan → RepairWorld → RepairWorld → CountedRecord W → CountedRecord W → Outcome → Type 0
 IsMendedInOnePass contents plan w w' old new outcome = MendsInOnePass plan w w' (contents old.inner) (contents new.inner) outcome
 
--- and by the parity device before and behind
-abbrev pub IsMendedInPasses : {P W : Type 0} → (P → Device) → (W → Option (List ℕ)) → Plan → Layout → RepairWorld → RepairWorld → P → P → CountedRecord W → CountedRecord W → Outcome → Type 0
-IsMendedInPasses state contents plan l w w' p p' old new outcome = MendsInPasses plan l (state p) (state p') w w' (contents old.inner) (contents new.inner) outcome
-
-abbrev pub IsMendedHalf : {W : Type 0} → (W → Option (List ℕ)) → Plan → Bool → RepairWorld → RepairWorld → CountedRecord W → CountedRecord W → RepairFault → Type 0
-IsMendedHalf contents plan parity w w' old new fault = HalfMends plan parity w w' (contents old.inner) (contents new.inner) fault
+abbrev pub IsMendedHalf : {W : Type 0} → (W → Option (List ℕ)) → Plan → RepairWorld → RepairWorld → CountedRecord W → CountedRecord W → RepairFault → Type 0
+IsMendedHalf contents plan w w' old new fault = HalfMends plan false w w' (contents old.inner) (contents new.inner) fault

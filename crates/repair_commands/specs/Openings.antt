@@ -1,17 +1,19 @@
 -- All that `repair` opens: the two parts that are repaired, and the copies.
 use Rattle.std.specs.Prelude.{◌≡◌, ◌⊎◌, true, false, List, map}
+use Rattle.block_device.specs.Device.{Device}
 use Rattle.command_line.specs.declared.image_copies.ImageCopy.{ImageCopy}
 use Rattle.image_files.specs.declared.file_use.FileUse.{FileUse}
 use Rattle.image_files.specs.declared.opening.UnopenedFile.{UnopenedFile}
-use Rattle.image_files.specs.Opener.{Calls}
+use Rattle.image_files.specs.Opener.{Calls, Opener, calls}
 use Rattle.tree_commands.specs.declared.fault.TreeFault.{TreeFault}
 use Rattle.tree_commands.specs.declared.fault.TreeFault.TheVariants.{Open}
 use Rattle.repair_commands.specs.Copies.{OpensEachCopy, RefusesEach, path_in}
-use Rattle.repair_commands.specs.Pairs.{FailsToMeasure, FailsToOpenPair, MeasuresBoth, OpensPair, Places, pair_uses}
+use Rattle.repair_commands.specs.Pairs.{FailsToMeasure, FailsToOpenPair, MeasuresBoth, OpensPair, Places, pair_uses, places_of}
 use Rattle.repair_commands.specs.declared.opening.Copies.{Copies}
 use Rattle.repair_commands.specs.declared.opening.Opened.{Opened}
 use Rattle.repair_commands.specs.declared.pair.Pair.{Pair}
 use Rattle.repair_commands.specs.declared.pair.Parts.{Parts}
+use Rattle.repair_commands.specs.declared.pair.RepairPlaces.{RepairPlaces}
 
 -- the data of all copies were opened, and then their hashes
 pub record OpensCopies {S D : Type 0} (w : Calls S D) (files : List FileUse) (copies : List ImageCopy) (opened : Copies D) : Type 0 where
@@ -41,7 +43,7 @@ pub record IsPairOpen {S D : Type 0} (w : Calls S D) (p : Places) (parts : Parts
 pub record OpensAll {S D : Type 0} (w : Calls S D) (p : Places) (copies : List ImageCopy) (o : Opened D) : Type 0 where
   pub between : S
   pub pair_open : IsPairOpen (record w { new = between }) p o.parts o.pair
-  pub copies_open : OpensCopies (record w { old = between }) (pair_uses p o.parts o.pair) copies o.copies
+  pub copies_open : OpensCopies (record w { old = between }) (pair_uses p.write o.parts o.pair) copies o.copies
 
 -- the files aren't measured
 pub record EndsUnmeasured {S D : Type 0} (w : Calls S D) (p : Places) (fault : TreeFault) : Type 0 where
@@ -62,8 +64,22 @@ pub record EndsUncopied {S D : Type 0} (w : Calls S D) (p : Places) (copies : Li
   pub parts : Parts
   pub pair : Pair D
   pub pair_open : IsPairOpen (record w { new = between }) p parts pair
-  pub refused : RefusesCopies (record w { old = between }) (pair_uses p parts pair) copies fault
+  pub refused : RefusesCopies (record w { old = between }) (pair_uses p.write parts pair) copies fault
 
 -- the first of them that is refused
 abbrev pub FailsToOpenCopies : {S D : Type 0} → Calls S D → Places → List ImageCopy → TreeFault → Type 0
 FailsToOpenCopies w p copies fault = EndsUnmeasured w p fault ⊎ (EndsUnpaired w p fault ⊎ EndsUncopied w p copies fault)
+
+-- ---- the same by what an opener does, before and behind, and the places of the words
+
+abbrev pub AreCopiesOpened : {S D : Type 0} → Opener S D → (D → Device) → S → S → List FileUse → List ImageCopy → Copies D → Type 0
+AreCopiesOpened relations state old new files copies opened = OpensCopies (calls relations state old new) files copies opened
+
+abbrev pub IsCopyRefused : {S D : Type 0} → Opener S D → (D → Device) → S → S → List FileUse → List ImageCopy → TreeFault → Type 0
+IsCopyRefused relations state old new files copies fault = RefusesCopies (calls relations state old new) files copies fault
+
+abbrev pub IsAllOpened : {S D : Type 0} → Opener S D → (D → Device) → S → S → RepairPlaces → List ImageCopy → Opened D → Type 0
+IsAllOpened relations state old new places copies opened = OpensAll (calls relations state old new) (places_of places) copies opened
+
+abbrev pub IsOneUnopened : {S D : Type 0} → Opener S D → (D → Device) → S → S → RepairPlaces → List ImageCopy → TreeFault → Type 0
+IsOneUnopened relations state old new places copies fault = FailsToOpenCopies (calls relations state old new) (places_of places) copies fault

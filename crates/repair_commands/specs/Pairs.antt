@@ -1,5 +1,6 @@
 -- Which parts of which files `repair` opens, in which order and with which rights.
 use Rattle.std.specs.Prelude.{◌≡◌, ◌⊎◌, ℕ, ◌-◌, ◌^◌, ◌&&◌, nat_lt, Bool, false, List, [], ◌∷◌, if◌then◌else◌}
+use Rattle.block_device.specs.Device.{Device}
 use Rattle.device_window.specs.declared.part.Part.{Part}
 use Rattle.device_window.specs.Parts.{part_before, part_behind}
 use Rattle.image_files.specs.declared.file_use.FileUse.{FileUse}
@@ -10,7 +11,7 @@ use Rattle.image_files.specs.declared.parts.UnopenedPart.TheVariants.{File, Outs
 use Rattle.image_files.specs.FileUses.{part_use}
 use Rattle.image_files.specs.OneFile.{is_one_file}
 use Rattle.image_files.specs.Opened.{Opens, Refuses}
-use Rattle.image_files.specs.Opener.{Calls}
+use Rattle.image_files.specs.Opener.{Calls, Opener, calls}
 use Rattle.image_files.specs.OpenParts.{OpensPart, RefusesPart}
 use Rattle.tree_commands.specs.declared.fault.TreeFault.{TreeFault}
 use Rattle.tree_commands.specs.declared.fault.TreeFault.TheVariants.{Open, Survey}
@@ -82,5 +83,19 @@ abbrev pub FailsToOpenPair : {S D : Type 0} → Calls S D → Places → Parts �
 FailsToOpenPair w p parts fault = IsPartEnd w [] p.data_path p.write parts.data_part fault ⊎ FailsAtHash w p parts fault
 
 -- how the two files are used then
-abbrev pub pair_uses : {D : Type 0} → Places → Parts → Pair D → List FileUse
-pair_uses p parts pair = part_use p.write parts.data_part pair.data_image ∷ part_use p.write parts.hash_part pair.hash_image ∷ []
+abbrev pub pair_uses : {D : Type 0} → Bool → Parts → Pair D → List FileUse
+pair_uses write parts pair = part_use write parts.data_part pair.data_image ∷ part_use write parts.hash_part pair.hash_image ∷ []
+
+-- ---- the same by what an opener does, before and behind, and the places of the words
+
+abbrev pub AreMeasured : {S D : Type 0} → Opener S D → (D → Device) → S → S → RepairPlaces → Parts → Type 0
+AreMeasured relations state old new places parts = MeasuresBoth (calls relations state old new) (places_of places) parts
+
+abbrev pub AreUnmeasured : {S D : Type 0} → Opener S D → (D → Device) → S → S → RepairPlaces → UnopenedFile → Type 0
+AreUnmeasured relations state old new places file = FailsToMeasure (calls relations state old new) (places_of places) file
+
+abbrev pub IsPairOpened : {S D : Type 0} → Opener S D → (D → Device) → S → S → RepairPlaces → Parts → Pair D → Type 0
+IsPairOpened relations state old new places parts pair = OpensPair (calls relations state old new) (places_of places) parts pair
+
+abbrev pub IsPairUnopened : {S D : Type 0} → Opener S D → (D → Device) → S → S → RepairPlaces → Parts → TreeFault → Type 0
+IsPairUnopened relations state old new places parts fault = FailsToOpenPair (calls relations state old new) (places_of places) parts fault

@@ -1,13 +1,14 @@
 -- The file of an image's parity, and how parity lies across the image, by its superblock.
-use Rattle.std.specs.Prelude.{◌≡◌, ◌≢◌, ℕ, ◌<◌, ◌≤◌, false, Option}
+use Rattle.std.specs.Prelude.{◌≡◌, ◌≢◌, ℕ, ◌<◌, ◌≤◌, Bool, false, Option}
 use Rattle.block_device.specs.declared.file_id.FileId.{FileId}
 use Rattle.block_device.specs.Device.{Device}
-use Rattle.command_line.specs.FecFiles.{FecRecord}
+use Rattle.command_line.specs.declared.fec_file.FecFile.{FecFile}
+use Rattle.command_line.specs.FecFiles.{FecRecord, fec_record}
 use Rattle.fec_area.specs.declared.layout.Layout.{Layout}
 use Rattle.fec_area.specs.Layouts.{IsLaidOn, IsLayoutOf, parity_sectors}
 use Rattle.image_files.specs.declared.opening.UnopenedFile.{UnopenedFile}
 use Rattle.image_files.specs.Apart.{OpensApart, RefusesApart}
-use Rattle.image_files.specs.Opener.{Calls}
+use Rattle.image_files.specs.Opener.{Calls, Opener, calls}
 use Rattle.tree_commands.specs.declared.fault.TreeFault.TheVariants as trees
 use Rattle.tree_survey.specs.declared.fault.SurveyFault.TheVariants as survey
 use Rattle.tree_survey.specs.Causes.{AreImages, IsImageCause}
@@ -18,16 +19,23 @@ use Rattle.repair_commands.specs.declared.fault.ParityRepairFault.{ParityRepairF
 use Rattle.repair_commands.specs.declared.fault.ParityRepairFault.TheVariants.{BlockSizes, TooSmall, Tree}
 use Rattle.repair_commands.specs.declared.opening.Opened.{Opened}
 use Rattle.repair_commands.specs.declared.parity.Parity.{Parity}
-use Rattle.repair_commands.specs.Pairs.{Places, pair_uses}
+use Rattle.repair_commands.specs.Pairs.{pair_uses}
 
 -- the parity's file was opened for reading; it is none of the two that are repaired, where these may be written
-pub record OpensParity {S D : Type 0} (w : Calls S D) (p : Places) (o : Opened D) (fec : FecRecord) (parity : Parity D) : Type 0 where
+pub record OpensParity {S D : Type 0} (w : Calls S D) (write : Bool) (o : Opened D) (fec : FecRecord) (parity : Parity D) : Type 0 where
   pub id : Option FileId
-  pub opened : OpensApart w (pair_uses p o.parts o.pair) fec.path false (record { device = parity.device; id = id })
+  pub opened : OpensApart w (pair_uses write o.parts o.pair) fec.path false (record { device = parity.device; id = id })
   pub roots_are : parity.roots ≡ fec.roots
 
-abbrev pub FailsToOpenParity : {S D : Type 0} → Calls S D → Places → Opened D → FecRecord → UnopenedFile → Type 0
-FailsToOpenParity w p o fec file = RefusesApart w (pair_uses p o.parts o.pair) fec.path false file
+abbrev pub FailsToOpenParity : {S D : Type 0} → Calls S D → Bool → Opened D → FecRecord → UnopenedFile → Type 0
+FailsToOpenParity w write o fec file = RefusesApart w (pair_uses write o.parts o.pair) fec.path false file
+
+-- the same by what an opener does, before and behind, and the words
+abbrev pub IsFecOpened : {S D : Type 0} → Opener S D → (D → Device) → S → S → Bool → Opened D → FecFile → Parity D → Type 0
+IsFecOpened relations state old new write o fec parity = OpensParity (calls relations state old new) write o (fec_record fec) parity
+
+abbrev pub IsFecUnopened : {S D : Type 0} → Opener S D → (D → Device) → S → S → Bool → Opened D → FecFile → UnopenedFile → Type 0
+IsFecUnopened relations state old new write o fec file = FailsToOpenParity (calls relations state old new) write o (fec_record fec) file
 
 -- ---- its layout
 
@@ -63,6 +71,15 @@ IsUnlaid data_dev hash_dev parity_dev roots hash_dev' (Tree (trees.Survey fault)
 IsUnlaid data_dev hash_dev parity_dev roots hash_dev' (Tree fault) = ⊥
 IsUnlaid data_dev hash_dev parity_dev roots hash_dev' BlockSizes = HaveOtherSizes data_dev hash_dev
 IsUnlaid data_dev hash_dev parity_dev roots hash_dev' (TooSmall needed) = IsParityShort data_dev hash_dev parity_dev roots needed
+
+-- the same by what devices of any kind are
+abbrev pub LaysAcross : {D H P : Type 0} → (D → Device) → (H → Device) → (P → Device) → D → H → Parity P → H → Layout → Type 0
+LaysAcross data_state hash_state parity_state data_dev hash_dev parity hash_dev' layout =
+    LaysOutParity (data_state data_dev) (hash_state hash_dev) (parity_state parity.device) parity.roots (hash_state hash_dev') layout
+
+abbrev pub IsUnlaidBy : {D H P : Type 0} → (D → Device) → (H → Device) → (P → Device) → D → H → Parity P → H → ParityRepairFault → Type 0
+IsUnlaidBy data_state hash_state parity_state data_dev hash_dev parity hash_dev' fault =
+    IsUnlaid (data_state data_dev) (hash_state hash_dev) (parity_state parity.device) parity.roots (hash_state hash_dev') fault
 
 -- a fault of the image
 abbrev pub unread : VerifyFault → ParityRepairFault

@@ -1,14 +1,17 @@
 -- What is told of an image behind its repair.
 use Rattle.std.specs.Prelude.{◌≡◌, ℕ, ◌%◌, ◌==◌, Bool, true, false, List, Option, None, Some, if◌then◌else◌}
 use Rattle.std.specs.Io.KnownBytes.{Appends}
-use Rattle.image_files.specs.Opener.{Calls}
+use Rattle.block_device.specs.Device.{Device}
+use Rattle.counted_io.specs.Counted.{CountedRecord}
+use Rattle.image_files.specs.Opener.{Calls, Opener, calls}
 use Rattle.tree_commands.specs.declared.fault.TreeFault.{TreeFault}
 use Rattle.tree_commands.specs.declared.fault.TreeFault.TheVariants.{Write}
 use Rattle.tree_commands.specs.Surveys.{IsSurveyFilesEnd, PrintsGood, SurveyedPlaces, survey_totals}
 use Rattle.tree_repair.specs.declared.outcome.Outcome.{Outcome}
 use Rattle.tree_repair.specs.declared.outcome.Outcome.TheVariants.{Partly, Whole}
 use Rattle.tree_survey.specs.declared.counts.Totals.{Totals}
-use Rattle.repair_commands.specs.Pairs.{Places}
+use Rattle.repair_commands.specs.declared.pair.RepairPlaces.{RepairPlaces}
+use Rattle.repair_commands.specs.Pairs.{Places, places_of}
 
 abbrev pub surveyed : Places → SurveyedPlaces
 surveyed p = record { paths = record { first_path = p.data_path; second_path = p.hash_path }; first = p.first }
@@ -39,3 +42,13 @@ TellsRest outcome w p root old new = TellsKnown (known_good outcome p.first) w p
 
 abbrev pub IsRestEnd : {S D : Type 0} → Outcome → Calls S D → Places → List ℕ → Option (List ℕ) → Option (List ℕ) → Bool → TreeFault → Type 0
 IsRestEnd outcome w p root old new failed fault = IsKnownEnd (known_good outcome p.first) w p root old new failed fault
+
+-- ---- the same by what an opener does, a writer before and behind, and the places of the words
+
+abbrev pub IsRestTold : {S D W : Type 0} → Outcome → Opener S D → (D → Device) → S → S → RepairPlaces → List ℕ → (W → Option (List ℕ)) → CountedRecord W → CountedRecord W → Type 0
+IsRestTold outcome relations state old new places root contents before behind =
+    TellsRest outcome (calls relations state old new) (places_of places) root (contents before.inner) (contents behind.inner)
+
+abbrev pub IsRestUntold : {S D W : Type 0} → Outcome → Opener S D → (D → Device) → S → S → RepairPlaces → List ℕ → (W → Option (List ℕ)) → CountedRecord W → CountedRecord W → TreeFault → Type 0
+IsRestUntold outcome relations state old new places root contents before behind fault =
+    IsRestEnd outcome (calls relations state old new) (places_of places) root (contents before.inner) (contents behind.inner) behind.failed fault

@@ -1,12 +1,8 @@
 //! `repair --fec FILE`: what no copy has is made again by the parity in a file.
-ghost use Rattle.std.specs.Prelude.{◌≤◌, ◌^◌, true, IfErr, IfOk, OnOk};
-ghost use Rattle.command_line.specs.FecFiles.{fec_record};
-ghost use Rattle.fec_area.specs.Layouts.{IsLaidOn};
-ghost use Rattle.image_files.specs.Opener.{IsFresh, calls};
+ghost use Rattle.std.specs.Prelude.{◌≤◌, ◌^◌, IfErr, IfOk, OnOk};
+ghost use Rattle.image_files.specs.Opener.{IsFresh};
 ghost use Rattle.tree_repair.specs.Repairs.{IsAllowed};
-ghost use Rattle.repair_commands.specs.ByParity.{HalfMendsOpenedByParity, IsHalfByParity, IsMendedByParity, IsParityRepairEnd, MendsOpenedByParity, RepairsByParity};
-ghost use Rattle.repair_commands.specs.Mends.{IsMendedHalf, IsMendedInPasses};
-ghost use Rattle.repair_commands.specs.Pairs.{places_of};
+ghost use Rattle.repair_commands.specs.ByParity.{AreRepairedByFec, AreUnrepairedByFec, IsHalfByFec, IsMendedByFec, IsPairHalfMendedByFec, IsPairMendedByFec};
 
 use crate::fault::ParityRepairFault;
 use crate::mending::sync_both;
@@ -18,12 +14,11 @@ use crate::rest::say_rest;
 use block_device::{BlockDev, SyncDev};
 use command_line::{FecFile, ImageCopy};
 use counted_io::Counted;
-use fec_area::Layout;
 use image_files::Images;
 use std::alloc::Global;
 use std::io::Write;
 use tree_commands::TreeFault;
-use tree_repair::{DamagedImage, Outcome, Plan, RepairFault, repair_with_parity};
+use tree_repair::{DamagedImage, Outcome, Plan, repair_with_parity};
 use tree_shape::Digest;
 use watched_device::Watchers;
 
@@ -42,11 +37,11 @@ pub fn repair_by_parity<'a, I: Images, S: Watchers, W: Write>(
     requires first { places.hash_first ≤ 2 ^ 55 }
     requires some { 2 ≤ fec.now.roots }
     requires few { fec.now.roots ≤ 24 }
-    ensures ok { OnOk result (RepairsByParity (calls I.relations I.Dev.state images.old images.new) (places_of places.entry) (fec_record fec.now) copies.now root.now (W.contents writer.old.inner) (W.contents writer.new.inner)) }
-    ensures err { IfErr result (IsParityRepairEnd (calls I.relations I.Dev.state images.old images.new) (places_of places.entry) (fec_record fec.now) copies.now root.now (W.contents writer.old.inner) (W.contents writer.new.inner) writer.new.failed) }
+    ensures ok { OnOk result (AreRepairedByFec I.relations I.Dev.state images.old images.new places.entry fec.now copies.now root.now W.contents writer.old writer.new) }
+    ensures err { IfErr result (AreUnrepairedByFec I.relations I.Dev.state images.old images.new places.entry fec.now copies.now root.now W.contents writer.old writer.new) }
 {
     let opened = open_all(alloc, images, places, copies)?;
-    let parity = match open_parity(images, places, &opened, fec) {
+    let parity = match open_parity(images, places.write, &opened, fec) {
         Ok(parity) => parity,
         Err(file) => return Err(ParityRepairFault::Tree(TreeFault::Open(file))),
     };
@@ -70,8 +65,8 @@ fn mend_opened<'a, I: Images, W: Write>(
     requires few { parity.roots ≤ 24 }
     requires data_fresh { IsFresh (I.Dev.state opened.pair.data_image.device) places.write }
     requires hash_fresh { IsFresh (I.Dev.state opened.pair.hash_image.device) places.write }
-    ensures ok { IfOk result (MendsOpenedByParity (calls I.relations I.Dev.state images.old images.new) (places_of places.entry) opened parity root.now (W.contents writer.old.inner) (W.contents writer.new.inner)) }
-    ensures err { IfErr result (HalfMendsOpenedByParity (calls I.relations I.Dev.state images.old images.new) (places_of places.entry) opened parity root.now (W.contents writer.old.inner) (W.contents writer.new.inner)) }
+    ensures ok { IfOk result (IsPairMendedByFec I.relations I.Dev.state images.old images.new places.entry opened parity root.now W.contents writer.old writer.new) }
+    ensures err { IfErr result (IsPairHalfMendedByFec I.relations I.Dev.state images.old images.new places.entry opened parity root.now W.contents writer.old writer.new) }
 {
     let Opened {
         parts,
@@ -84,7 +79,6 @@ fn mend_opened<'a, I: Images, W: Write>(
             hash_copies,
         },
     } = opened;
-    let mut parity_open = parity;
     let plan = Plan {
         root: *root,
         copy_first: places.hash_first,
@@ -96,7 +90,7 @@ fn mend_opened<'a, I: Images, W: Write>(
         data_copies,
         hash_copies,
     };
-    let ended = mend_laid_out(alloc, &mut image, &mut parity_open, plan, writer);
+    let ended = mend_laid_out(alloc, &mut image, parity, plan, writer);
     let DamagedImage {
         data,
         hash,
@@ -108,41 +102,24 @@ fn mend_opened<'a, I: Images, W: Write>(
 }
 
 // Lays the parity out, repairs both by it too, and has what was written put on their media.
-fn mend_laid_out<'a, D: SyncDev, H: SyncDev, C: BlockDev, P: BlockDev, W: Write>(
+fn mend_laid_out<'a, D: SyncDev, H: SyncDev, C: BlockDev, P: BlockDev + Drop, W: Write>(
     alloc: Global,
     image: &mut DamagedImage<D, H, C>,
-    parity: &mut Parity<P>,
+    parity: Parity<P>,
     plan: Plan,
     writer: &mut Counted<W>,
 ) -> Result<Outcome, ParityRepairFault<'a>>
     requires first { plan.copy_first ≤ 2 ^ 55 }
-    requires some { 2 ≤ parity.old.roots }
-    requires few { parity.old.roots ≤ 24 }
+    requires some { 2 ≤ parity.roots }
+    requires few { parity.roots ≤ 24 }
     requires allowed { IsAllowed plan.write image.old.data_dev image.old.hash_dev }
-    ensures ok { IfOk result (IsMendedByParity W.contents plan (P.state parity.old.device) parity.old.roots image.old image.new writer.old writer.new) }
-    ensures err { IfErr result (IsHalfByParity W.contents plan (P.state parity.old.device) parity.old.roots image.old image.new writer.old writer.new) }
-{
-    let layout = lay_out(&image.data, &mut image.hash, parity)?;
-    Ok(mend_with_parity(alloc, image, &layout, &mut parity.device, plan, writer)?)
-}
-
-// Repairs both by copies and parity, and has what was written put on their media.
-fn mend_with_parity<D: SyncDev, H: SyncDev, C: BlockDev, P: BlockDev, W: Write>(
-    alloc: Global,
-    image: &mut DamagedImage<D, H, C>,
-    layout: &Layout,
-    parity_dev: &mut P,
-    plan: Plan,
-    writer: &mut Counted<W>,
-) -> Result<Outcome, RepairFault>
-    requires first { plan.copy_first ≤ 2 ^ 55 }
-    requires allowed { IsAllowed plan.write image.old.data_dev image.old.hash_dev }
-    requires laid { IsLaidOn layout.now image.old.data_dev image.old.hash_dev }
-    ensures ok { IfOk result (IsMendedInPasses P.state W.contents plan layout.now image.old image.new parity_dev.old parity_dev.new writer.old writer.new) }
-    ensures err { IfErr result (IsMendedHalf W.contents plan true image.old image.new writer.old writer.new) }
+    ensures ok { IfOk result (IsMendedByFec P.state W.contents plan parity image.old image.new writer.old writer.new) }
+    ensures err { IfErr result (IsHalfByFec P.state W.contents plan parity image.old image.new writer.old writer.new) }
 {
     let write = plan.write;
-    let outcome = repair_with_parity(alloc, image, layout, parity_dev, plan, writer)?;
-    sync_both(&mut image.data, &mut image.hash, write)?;
+    let mut parity_open = parity;
+    let layout = lay_out(&image.data, &mut image.hash, &parity_open)?;
+    let outcome = repair_with_parity(alloc, image, &layout, &mut parity_open.device, plan, writer)?;
+    sync_both(image, write)?;
     Ok(outcome)
 }

@@ -2,7 +2,7 @@
 ghost use Rattle.std.specs.Prelude.{◌≡◌, ◌≤◌, ◌^◌, false, IfErr, IfOk, IsTrue, OnErr, OnOk};
 ghost use Rattle.block_device.specs.Device.{HasFailed};
 ghost use Rattle.tree_repair.specs.Repairs.{IsAllowed};
-ghost use Rattle.repair_commands.specs.Mends.{HasFailedInSync, IsMendedHalf, IsMendedInOnePass, IsOnMedium, KeepsBothImages};
+ghost use Rattle.repair_commands.specs.Mends.{IsMendedHalf, IsMendedInOnePass, IsOnMedium, IsUnsyncedCause, KeepsBothImages};
 
 use block_device::{BlockDev, DeviceFault, SyncDev};
 use counted_io::Counted;
@@ -20,26 +20,26 @@ pub(crate) fn mend<D: SyncDev, H: SyncDev, C: BlockDev, W: Write>(
     requires first { plan.copy_first ≤ 2 ^ 55 }
     requires allowed { IsAllowed plan.write image.old.data_dev image.old.hash_dev }
     ensures ok { IfOk result (IsMendedInOnePass W.contents plan image.old image.new writer.old writer.new) }
-    ensures err { IfErr result (IsMendedHalf W.contents plan false image.old image.new writer.old writer.new) }
+    ensures err { IfErr result (IsMendedHalf W.contents plan image.old image.new writer.old writer.new) }
 {
     let write = plan.write;
     let outcome = repair_image(alloc, image, plan, writer)?;
-    sync_both(&mut image.data, &mut image.hash, write)?;
+    sync_both(image, write)?;
     Ok(outcome)
 }
 
 /// Has what was written put on the media of both.
-pub(crate) fn sync_both<D: SyncDev, H: SyncDev>(
-    data_dev: &mut D,
-    hash_dev: &mut H,
+pub(crate) fn sync_both<D: SyncDev, H: SyncDev, C: BlockDev>(
+    image: &mut DamagedImage<D, H, C>,
     write: bool,
-) -> Result<(), DeviceFault>
-    ensures kept { KeepsBothImages (D.state data_dev.old) (H.state hash_dev.old) (D.state data_dev.new) (H.state hash_dev.new) }
-    ensures ok { OnOk result (IsOnMedium write (D.state data_dev.new) (H.state hash_dev.new)) }
-    ensures err { OnErr result (HasFailedInSync write (D.state data_dev.old) (H.state hash_dev.old) (D.state data_dev.new) (H.state hash_dev.new)) }
+) -> Result<(), RepairFault>
+    ensures kept { KeepsBothImages image.old image.new }
+    ensures ok { OnOk result (IsOnMedium write image.new.data_dev image.new.hash_dev) }
+    ensures err { IfErr result (IsUnsyncedCause write image.old image.new) }
 {
-    sync_one(data_dev, write)?;
-    sync_one(hash_dev, write)
+    sync_one(&mut image.data, write)?;
+    sync_one(&mut image.hash, write)?;
+    Ok(())
 }
 
 // Has what was written put on its medium, if anything was.

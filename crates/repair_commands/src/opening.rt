@@ -1,8 +1,8 @@
 //! All that a repair reads and writes, opened.
 ghost use Rattle.std.specs.Prelude.{◌≡◌, IfErr, IfOk};
-ghost use Rattle.image_files.specs.Opener.{IsFresh, calls};
-ghost use Rattle.repair_commands.specs.Openings.{FailsToOpenCopies, OpensAll, OpensCopies, RefusesCopies};
-ghost use Rattle.repair_commands.specs.Pairs.{places_of, pair_uses};
+ghost use Rattle.image_files.specs.Opener.{IsFresh};
+ghost use Rattle.repair_commands.specs.Openings.{AreCopiesOpened, IsAllOpened, IsCopyRefused, IsOneUnopened};
+ghost use Rattle.repair_commands.specs.Pairs.{pair_uses};
 
 use crate::copies::open_copies;
 use crate::pair::{Pair, Parts, RepairPlaces, measure, open_pair, part_use};
@@ -33,10 +33,10 @@ pub(crate) fn open_all<'a, I: Images>(
     places: RepairPlaces<'a>,
     copies: &[ImageCopy<'a>],
 ) -> Result<Opened<I::Dev>, TreeFault<'a>>
-    ensures ok { IfOk result (OpensAll (calls I.relations I.Dev.state images.old images.new) (places_of places.entry) copies.now) }
+    ensures ok { IfOk result (IsAllOpened I.relations I.Dev.state images.old images.new places.entry copies.now) }
     ensures data_fresh { IfOk result (λ o. IsFresh (I.Dev.state o.pair.data_image.device) places.entry.write) }
     ensures hash_fresh { IfOk result (λ o. IsFresh (I.Dev.state o.pair.hash_image.device) places.entry.write) }
-    ensures err { IfErr result (FailsToOpenCopies (calls I.relations I.Dev.state images.old images.new) (places_of places.entry) copies.now) }
+    ensures err { IfErr result (IsOneUnopened I.relations I.Dev.state images.old images.new places.entry copies.now) }
 {
     let write = places.write;
     let parts = measure(images, places)?;
@@ -62,8 +62,8 @@ fn open_both<'a, I: Images>(
     files: &[FileUse],
     copies: &[ImageCopy<'a>],
 ) -> Result<Copies<I::Dev>, TreeFault<'a>>
-    ensures ok { IfOk result (OpensCopies (calls I.relations I.Dev.state images.old images.new) files.now copies.now) }
-    ensures err { IfErr result (RefusesCopies (calls I.relations I.Dev.state images.old images.new) files.now copies.now) }
+    ensures ok { IfOk result (AreCopiesOpened I.relations I.Dev.state images.old images.new files.now copies.now) }
+    ensures err { IfErr result (IsCopyRefused I.relations I.Dev.state images.old images.new files.now copies.now) }
 {
     let data_copies = open_copies(alloc, images, files, copies, false)?;
     let hash_copies = open_copies(alloc, images, files, copies, true)?;

@@ -2,9 +2,8 @@
 ghost use Rattle.std.specs.Prelude.{◌≡◌, IfErr, IfOk};
 ghost use Rattle.device_window.specs.Parts.{part_before, part_behind};
 ghost use Rattle.image_files.specs.FileUses.{part_use};
-ghost use Rattle.image_files.specs.OpenParts.{OpensPart};
-ghost use Rattle.image_files.specs.Opener.{IsFresh, calls};
-ghost use Rattle.repair_commands.specs.Pairs.{FailsToMeasure, FailsToOpenPair, IsPartEnd, MeasuresBoth, OpensPair, pair_data_end, part_fault, places_of};
+ghost use Rattle.image_files.specs.Opener.{IsFresh};
+ghost use Rattle.repair_commands.specs.Pairs.{AreMeasured, AreUnmeasured, IsPairOpened, IsPairUnopened, pair_data_end, part_fault};
 
 use block_device::BlockDev;
 use device_window::Part;
@@ -45,8 +44,8 @@ pub(crate) fn measure<'a, I: Images>(
     images: &mut I,
     places: RepairPlaces<'a>,
 ) -> Result<Parts, UnopenedFile<'a>>
-    ensures ok { IfOk result (MeasuresBoth (calls I.relations I.Dev.state images.old images.new) (places_of places.entry)) }
-    ensures err { IfErr result (FailsToMeasure (calls I.relations I.Dev.state images.old images.new) (places_of places.entry)) }
+    ensures ok { IfOk result (AreMeasured I.relations I.Dev.state images.old images.new places.entry) }
+    ensures err { IfErr result (AreUnmeasured I.relations I.Dev.state images.old images.new places.entry) }
 {
     let data_image = open_image(images, places.data, false)?;
     let hash_image = open_image(images, places.hash, false)?;
@@ -84,10 +83,10 @@ pub(crate) fn open_pair<'a, I: Images>(
     places: RepairPlaces<'a>,
     parts: Parts,
 ) -> Result<Pair<I::Dev>, TreeFault<'a>>
-    ensures ok { IfOk result (OpensPair (calls I.relations I.Dev.state images.old images.new) (places_of places.entry) parts) }
+    ensures ok { IfOk result (IsPairOpened I.relations I.Dev.state images.old images.new places.entry parts) }
     ensures data_fresh { IfOk result (λ pair. IsFresh (I.Dev.state pair.data_image.device) places.entry.write) }
     ensures hash_fresh { IfOk result (λ pair. IsFresh (I.Dev.state pair.hash_image.device) places.entry.write) }
-    ensures err { IfErr result (FailsToOpenPair (calls I.relations I.Dev.state images.old images.new) (places_of places.entry) parts) }
+    ensures err { IfErr result (IsPairUnopened I.relations I.Dev.state images.old images.new places.entry parts) }
 {
     let RepairPlaces {
         data,
@@ -95,13 +94,18 @@ pub(crate) fn open_pair<'a, I: Images>(
         hash_first: _,
         write,
     } = places;
-    let data_image = open_apart_part(images, &[], data, write, parts.data_part)?;
+    let data_image = match open_part(images, &[], data, write, parts.data_part) {
+        Ok(image) => image,
+        Err(fault) => return Err(part_fault(fault)),
+    };
     let files = [part_use(&data_image, write, parts.data_part)];
-    let hash_image = open_apart_part(images, &files, hash, write, parts.hash_part)?;
-    Ok(Pair {
-        data_image,
-        hash_image,
-    })
+    match open_part(images, &files, hash, write, parts.hash_part) {
+        Ok(hash_image) => Ok(Pair {
+            data_image,
+            hash_image,
+        }),
+        Err(fault) => Err(part_fault(fault)),
+    }
 }
 
 /// How a part of a file is used that was opened with this right.
@@ -116,23 +120,6 @@ pub(crate) fn part_use<D>(image: &OpenImage<D>, writable: bool, part: Part) -> F
 }
 
 // A part that ends behind its file was measured of a longer one: the file is too small by now.
-fn open_apart_part<'a, I: Images>(
-    images: &mut I,
-    files: &[FileUse],
-    path: &'a str,
-    writable: bool,
-    part: Part,
-) -> Result<OpenImage<I::Dev>, TreeFault<'a>>
-    ensures ok { IfOk result (OpensPart (calls I.relations I.Dev.state images.old images.new) files.now path.now writable part) }
-    ensures fresh { IfOk result (λ image. IsFresh (I.Dev.state image.device) writable) }
-    ensures err { IfErr result (IsPartEnd (calls I.relations I.Dev.state images.old images.new) files.now path.now writable part) }
-{
-    match open_part(images, files, path, writable, part) {
-        Ok(image) => Ok(image),
-        Err(fault) => Err(part_fault(fault)),
-    }
-}
-
 fn part_fault(fault: UnopenedPart<'_>) -> TreeFault<'_>
     ensures { result ≡ part_fault fault.entry }
 {

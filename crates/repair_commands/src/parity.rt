@@ -1,14 +1,11 @@
 //! The parity of an image in a file, and how it lies across the image.
 ghost use Rattle.std.specs.Prelude.{◌≡◌, ◌≤◌, IfErr, IfOk};
-ghost use Rattle.command_line.specs.FecFiles.{fec_record};
-ghost use Rattle.image_files.specs.Opener.{calls};
 ghost use Rattle.verity_format.specs.Blocks.{IsOnlyRead};
-ghost use Rattle.repair_commands.specs.Pairs.{places_of};
-ghost use Rattle.repair_commands.specs.Parity.{FailsToOpenParity, IsUnlaid, LaysOutParity, OpensParity};
+ghost use Rattle.repair_commands.specs.Parity.{IsFecOpened, IsFecUnopened, IsUnlaidBy, LaysAcross};
 
 use crate::fault::ParityRepairFault;
 use crate::opening::Opened;
-use crate::pair::{RepairPlaces, part_use};
+use crate::pair::part_use;
 use block_device::BlockDev;
 use command_line::FecFile;
 use fec_area::Layout;
@@ -25,14 +22,13 @@ pub(crate) struct Parity<D> {
 /// Opens its file for reading, which is none of the two that are repaired, where anything may be written.
 pub(crate) fn open_parity<'a, I: Images>(
     images: &mut I,
-    places: RepairPlaces<'a>,
+    write: bool,
     opened: &Opened<I::Dev>,
     fec: &FecFile<'a>,
 ) -> Result<Parity<I::Dev>, UnopenedFile<'a>>
-    ensures ok { IfOk result (OpensParity (calls I.relations I.Dev.state images.old images.new) (places_of places.entry) opened.now (fec_record fec.now)) }
-    ensures err { IfErr result (FailsToOpenParity (calls I.relations I.Dev.state images.old images.new) (places_of places.entry) opened.now (fec_record fec.now)) }
+    ensures ok { IfOk result (IsFecOpened I.relations I.Dev.state images.old images.new write opened.now fec.now) }
+    ensures err { IfErr result (IsFecUnopened I.relations I.Dev.state images.old images.new write opened.now fec.now) }
 {
-    let write = places.write;
     let files = [
         part_use(&opened.pair.data_image, write, opened.parts.data_part),
         part_use(&opened.pair.hash_image, write, opened.parts.hash_part),
@@ -53,8 +49,8 @@ pub(crate) fn lay_out<'a, D: BlockDev, H: BlockDev, P: BlockDev>(
     requires some { 2 ≤ parity.now.roots }
     requires few { parity.now.roots ≤ 24 }
     ensures read { IsOnlyRead (H.state hash_dev.old) (H.state hash_dev.new) }
-    ensures ok { IfOk result (LaysOutParity (D.state data_dev.now) (H.state hash_dev.old) (P.state parity.now.device) parity.now.roots (H.state hash_dev.new)) }
-    ensures err { IfErr result (IsUnlaid (D.state data_dev.now) (H.state hash_dev.old) (P.state parity.now.device) parity.now.roots (H.state hash_dev.new)) }
+    ensures ok { IfOk result (LaysAcross D.state H.state P.state data_dev.now hash_dev.old parity.now hash_dev.new) }
+    ensures err { IfErr result (IsUnlaidBy D.state H.state P.state data_dev.now hash_dev.old parity.now hash_dev.new) }
 {
     let superblock = read_superblock(hash_dev)?;
     let shape = superblock.shape();

@@ -1,8 +1,7 @@
 //! The command `repair`: blocks that aren't good are sought in copies, and what is still lost is told.
 ghost use Rattle.std.specs.Prelude.{◌≡◌, ◌≤◌, ◌^◌, IfErr, IfOk, OnOk};
-ghost use Rattle.image_files.specs.Opener.{IsFresh, calls};
-ghost use Rattle.repair_commands.specs.Commands.{GivesBackImages, HalfMendsOpened, IsMendingEnd, IsRepairEnd, MendsFiles, MendsOpened, RepairsFiles, ending_fault};
-ghost use Rattle.repair_commands.specs.Pairs.{places_of};
+ghost use Rattle.image_files.specs.Opener.{IsFresh};
+ghost use Rattle.repair_commands.specs.Commands.{AreRepaired, AreUnrepaired, GivesBackBoth, IsPairHalfMended, IsPairMended, ending_fault};
 
 use crate::mending::mend;
 use crate::opening::{Copies, Opened, open_all};
@@ -31,28 +30,12 @@ pub fn repair_images<'a, I: Images, S: Watchers, W: Write>(
     writer: &mut Counted<W>,
 ) -> Result<(), TreeFault<'a>>
     requires { places.hash_first ≤ 2 ^ 55 }
-    ensures ok { OnOk result (RepairsFiles (calls I.relations I.Dev.state images.old images.new) (places_of places.entry) copies.now root.now (W.contents writer.old.inner) (W.contents writer.new.inner)) }
-    ensures err { IfErr result (IsRepairEnd (calls I.relations I.Dev.state images.old images.new) (places_of places.entry) copies.now root.now (W.contents writer.old.inner) (W.contents writer.new.inner) writer.new.failed) }
-{
-    let outcome = mend_images(alloc, images, places, copies, root, writer)?;
-    say_rest(alloc, images, watchers, places, outcome, root, writer)
-}
-
-// Opens the images and the copies, repairs, and gives the images back.
-fn mend_images<'a, I: Images, W: Write>(
-    alloc: Global,
-    images: &mut I,
-    places: RepairPlaces<'a>,
-    copies: &[ImageCopy<'a>],
-    root: &Digest,
-    writer: &mut Counted<W>,
-) -> Result<Outcome, TreeFault<'a>>
-    requires { places.hash_first ≤ 2 ^ 55 }
-    ensures ok { IfOk result (MendsFiles (calls I.relations I.Dev.state images.old images.new) (places_of places.entry) copies.now root.now (W.contents writer.old.inner) (W.contents writer.new.inner)) }
-    ensures err { IfErr result (IsMendingEnd (calls I.relations I.Dev.state images.old images.new) (places_of places.entry) copies.now root.now (W.contents writer.old.inner) (W.contents writer.new.inner)) }
+    ensures ok { OnOk result (AreRepaired I.relations I.Dev.state images.old images.new places.entry copies.now root.now W.contents writer.old writer.new) }
+    ensures err { IfErr result (AreUnrepaired I.relations I.Dev.state images.old images.new places.entry copies.now root.now W.contents writer.old writer.new) }
 {
     let opened = open_all(alloc, images, places, copies)?;
-    mend_opened(alloc, images, places, opened, root, writer)
+    let outcome = mend_opened(alloc, images, places, opened, root, writer)?;
+    say_rest(alloc, images, watchers, places, outcome, root, writer)
 }
 
 // Repairs what is open, and gives the images back, however that ends.
@@ -67,8 +50,8 @@ fn mend_opened<'a, I: Images, W: Write>(
     requires first { places.hash_first ≤ 2 ^ 55 }
     requires data_fresh { IsFresh (I.Dev.state opened.pair.data_image.device) places.write }
     requires hash_fresh { IsFresh (I.Dev.state opened.pair.hash_image.device) places.write }
-    ensures ok { IfOk result (MendsOpened (calls I.relations I.Dev.state images.old images.new) (places_of places.entry) opened root.now (W.contents writer.old.inner) (W.contents writer.new.inner)) }
-    ensures err { IfErr result (HalfMendsOpened (calls I.relations I.Dev.state images.old images.new) (places_of places.entry) opened root.now (W.contents writer.old.inner) (W.contents writer.new.inner)) }
+    ensures ok { IfOk result (IsPairMended I.relations I.Dev.state images.old images.new places.entry opened root.now W.contents writer.old writer.new) }
+    ensures err { IfErr result (IsPairHalfMended I.relations I.Dev.state images.old images.new places.entry opened root.now W.contents writer.old writer.new) }
 {
     let Opened {
         parts,
@@ -114,7 +97,7 @@ pub(crate) fn give_back<'a, I: Images>(
     data_dev: I::Dev,
     hash_dev: I::Dev,
 )
-    ensures { GivesBackImages places.entry.write (calls I.relations I.Dev.state images.old images.new) (places_of places.entry) parts data_dev hash_dev }
+    ensures { GivesBackBoth I.relations I.Dev.state images.old images.new places.entry parts data_dev hash_dev }
 {
     if !places.write {
         return;

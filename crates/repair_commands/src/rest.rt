@@ -1,10 +1,8 @@
 //! What is still lost behind a repair.
-ghost use Rattle.std.specs.Prelude.{◌≡◌, IfErr, None, OnOk};
+ghost use Rattle.std.specs.Prelude.{◌≡◌, IfErr, OnOk};
 ghost use Rattle.counted_io.specs.Counted.{Writes};
-ghost use Rattle.image_files.specs.Opener.{calls};
 ghost use Rattle.tree_commands.specs.Surveys.{survey_totals};
-ghost use Rattle.repair_commands.specs.Pairs.{places_of};
-ghost use Rattle.repair_commands.specs.Rest.{IsKnownEnd, IsRestEnd, TellsKnown, TellsRest, all_good_totals, known_good};
+ghost use Rattle.repair_commands.specs.Rest.{IsRestTold, IsRestUntold, all_good_totals, known_good};
 
 use crate::pair::RepairPlaces;
 use counted_io::{Counted, WriteFault};
@@ -30,12 +28,25 @@ pub(crate) fn say_rest<'a, I: Images, S: Watchers, W: Write>(
     root: &Digest,
     writer: &mut Counted<W>,
 ) -> Result<(), TreeFault<'a>>
-    ensures ok { OnOk result (TellsRest outcome (calls I.relations I.Dev.state images.old images.new) (places_of places.entry) root.now (W.contents writer.old.inner) (W.contents writer.new.inner)) }
-    ensures err { IfErr result (IsRestEnd outcome (calls I.relations I.Dev.state images.old images.new) (places_of places.entry) root.now (W.contents writer.old.inner) (W.contents writer.new.inner) writer.new.failed) }
+    ensures ok { OnOk result (IsRestTold outcome I.relations I.Dev.state images.old images.new places.entry root.now W.contents writer.old writer.new) }
+    ensures err { IfErr result (IsRestUntold outcome I.relations I.Dev.state images.old images.new places.entry root.now W.contents writer.old writer.new) }
 {
-    match known_good(outcome, places.hash_first) {
+    let RepairPlaces {
+        data,
+        hash,
+        hash_first,
+        write: _,
+    } = places;
+    let order = SurveyOrder {
+        data,
+        hash,
+        hash_first,
+        json: false,
+        progress: false,
+    };
+    match known_good(outcome, hash_first) {
         Some(count) => Ok(say_all_good(writer, count)?),
-        None => say_lost(alloc, images, watchers, places, root, writer),
+        None => survey_images(alloc, images, watchers, order, root, writer),
     }
 }
 
@@ -63,32 +74,4 @@ fn say_all_good<W: Write>(writer: &mut Counted<W>, count: u64) -> Result<(), Wri
         unknown: 0,
     };
     say_totals(writer, totals)
-}
-
-// Goes over the images, and prints what `verify --all` prints of them.
-fn say_lost<'a, I: Images, S: Watchers, W: Write>(
-    alloc: Global,
-    images: &mut I,
-    watchers: &S,
-    places: RepairPlaces<'a>,
-    root: &Digest,
-    writer: &mut Counted<W>,
-) -> Result<(), TreeFault<'a>>
-    ensures ok { OnOk result (TellsKnown None (calls I.relations I.Dev.state images.old images.new) (places_of places.entry) root.now (W.contents writer.old.inner) (W.contents writer.new.inner)) }
-    ensures err { IfErr result (IsKnownEnd None (calls I.relations I.Dev.state images.old images.new) (places_of places.entry) root.now (W.contents writer.old.inner) (W.contents writer.new.inner) writer.new.failed) }
-{
-    let RepairPlaces {
-        data,
-        hash,
-        hash_first,
-        write: _,
-    } = places;
-    let order = SurveyOrder {
-        data,
-        hash,
-        hash_first,
-        json: false,
-        progress: false,
-    };
-    survey_images(alloc, images, watchers, order, root, writer)
 }

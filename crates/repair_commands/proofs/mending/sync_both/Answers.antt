@@ -1,19 +1,24 @@
-use Rattle.std.proofs.Common.{refl, arith, inl, inr}
-use Rattle.std.proofs.lemmas.Result.{on_ok_weaker}
-use Rattle.repair_commands.proofs.MendLemmas.{on_err-from, on_err-weaker}
+use Rattle.std.proofs.Common.{refl, arith, inl, map, subst}
+use Rattle.tree_repair.specs.declared.fault.RepairFault.TheVariants.{Image}
+use Rattle.tree_repair.specs.Worlds.{RepairWorld, repair_world}
+use Rattle.verity_format.specs.declared.verifying.VerifyFault.TheVariants.{Device as DeviceFailed}
+use Rattle.repair_commands.specs.Mends.{IsUnsyncedCause, KeepsBothImages}
+use Rattle.repair_commands.proofs.EndingLemmas.{err-from}
 use Rattle.repair_commands.proofs.mending.sync_both.Goals as goal
 
 pub returns-in_err-sync_one-clause-kept : goal.returns-in_err-sync_one-clause-kept
-returns-in_err-sync_one-clause-kept g c = record { data_image = c.sync_one.ensures.kept; hash_image = refl; data_more = c.sync_one.ensures.counted; hash_more = omega arith }
-
-pub returns-clause-kept : goal.returns-clause-kept
-returns-clause-kept g c = record { data_image = c.sync_one.ensures.kept; hash_image = c.sync_one-2.ensures.kept; data_more = c.sync_one.ensures.counted; hash_more = c.sync_one-2.ensures.counted }
-
-pub returns-clause-ok : goal.returns-clause-ok
-returns-clause-ok g c = on_ok_weaker c.sync_one-2.result (λ hash_clean. record { data_clean = c.in_ok-sync_one.ensures.ok; hash_clean = hash_clean }) c.sync_one-2.ensures.ok
+returns-in_err-sync_one-clause-kept g c =
+    let i = c.image.inside in
+    let cs = map g.C.BlockDev.state i.data_copies.items in
+    let es = map g.C.BlockDev.state i.hash_copies.items in
+    subst (λ (w : RepairWorld). KeepsBothImages w (repair_world (g.D.BlockDev.state c.sync_one.new.device) (g.H.BlockDev.state i.hash) cs es)) c.image.view_is
+    (record { data_image = c.sync_one.ensures.kept; hash_image = refl; data_more = c.sync_one.ensures.counted; hash_more = omega arith; data_copies_are = refl; hash_copies_are = refl })
 
 pub returns-in_err-sync_one-clause-err : goal.returns-in_err-sync_one-clause-err
-returns-in_err-sync_one-clause-err g c = on_err-from c.from_residual.result _ _ c.from_residual.ensures.1 (c.in_err-sync_one.ensures.err.0, inl c.in_err-sync_one.ensures.err.1)
-
-pub returns-clause-err : goal.returns-clause-err
-returns-clause-err g c = on_err-weaker c.sync_one-2.result (λ fails. (fails.0, inr fails.1)) c.sync_one-2.ensures.err
+returns-in_err-sync_one-clause-err g c =
+    let i = c.image.inside in
+    let cs = map g.C.BlockDev.state i.data_copies.items in
+    let es = map g.C.BlockDev.state i.hash_copies.items in
+    err-from c.from_residual.result _ (Image DeviceFailed) c.from_residual.ensures.1
+    (subst (λ (w : RepairWorld). IsUnsyncedCause c.args.write w (repair_world (g.D.BlockDev.state c.sync_one.new.device) (g.H.BlockDev.state i.hash) cs es) (Image DeviceFailed)) c.image.view_is
+    (refl, (c.in_err-sync_one.ensures.err.0, inl c.in_err-sync_one.ensures.err.1)))

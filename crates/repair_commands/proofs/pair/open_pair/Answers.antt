@@ -1,15 +1,13 @@
-use Rattle.std.proofs.Common.{inr}
-use Rattle.repair_commands.proofs.EndingLemmas.{err-from}
+use Rattle.std.proofs.Common.{inl, inr}
 use Rattle.repair_commands.proofs.pair.open_pair.Goals as goal
 
-pub returns-in_err-hash_image-clause-err : goal.returns-in_err-hash_image-clause-err
-returns-in_err-hash_image-clause-err g c =
-    err-from c.from_residual-in_err-hash_image.result _ c.in_err-hash_image.field-0.0 c.from_residual-in_err-hash_image.ensures.1
-    (inr (record { between = c.open_apart_part.new.images; data_image = c.in_ok-data_image.data_image; data_opened = c.in_ok-data_image.ensures.ok; ends = rw c.part_use.ensures at c.in_err-hash_image.ensures.err }))
+pub returns-in-Err-clause-err : goal.returns-in-Err-clause-err
+returns-in-Err-clause-err g c = inl (record { cause = c.in-Err.fault; refused = c.in-Err.ensures.err; is = c.part_fault.ensures })
 
-pub returns-clause-ok : goal.returns-clause-ok
-returns-clause-ok g c = record {
-  between = c.open_apart_part.new.images;
-  data_opened = c.in_ok-data_image.ensures.ok;
-  hash_opened = rw c.part_use.ensures at c.in_ok-hash_image.ensures.ok;
-}
+pub returns-clause-err : goal.returns-clause-err
+returns-clause-err g c = inr (record {
+  between = c.open_part.new.images;
+  data_image = c.in-Ok.image;
+  data_opened = c.in-Ok.ensures.ok;
+  ends = record { cause = c.in-Err-open_part.fault; refused = rw c.part_use.ensures at c.in-Err-open_part.ensures.err; is = c.part_fault-in-Err-open_part.ensures };
+})
