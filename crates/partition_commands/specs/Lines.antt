@@ -6,6 +6,7 @@ use Rattle.counted_io.specs.Counted.{CountedRecord}
 use Rattle.uuid.specs.Text.{hyphenated_text, lower}
 use Rattle.partition_table.specs.declared.partition.Partition.{Partition}
 use Rattle.partition_table.specs.declared.read_fault.ReadFault.{ReadFault}
+use Rattle.partition_table.specs.declared.table.PartitionTable.{PartitionTable}
 use Rattle.partition_table.specs.declared.table.Source.{Source}
 use Rattle.partition_table.specs.declared.table.Source.TheVariants.{Both, Primary, Backup}
 use Rattle.partition_table.specs.FaultNames.{read_name, read_partition}
@@ -61,3 +62,7 @@ table_list partitions source = source_line source ++ partition_lines partitions
 -- that text was written
 abbrev pub SaysText : {W : Type 0} → (W → Option (List ℕ)) → CountedRecord W → CountedRecord W → List ℕ → Type 0
 SaysText contents writer writer' text = Appends (contents writer.inner) (contents writer'.inner) text
+
+-- which copies of the table are good, and its partitions
+abbrev pub SaysTable : {W : Type 0} → (W → Option (List ℕ)) → CountedRecord W → CountedRecord W → PartitionTable → Type 0
+SaysTable contents writer writer' table = SaysText contents writer writer' (table_list table.partitions.items table.source)

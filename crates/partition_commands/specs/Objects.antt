@@ -1,5 +1,5 @@
 -- A table as a JSON object.
-use Rattle.std.specs.Prelude.{ℕ, List, [], ◌∷◌, ◌++◌, map, codes, Option, Some, None}
+use Rattle.std.specs.Prelude.{ℕ, List, map, codes, Option, Some, None}
 use Rattle.uuid.specs.Text.{hyphenated_text, lower}
 use Rattle.serde_json.specs.Data.{Data, array, null, number, object, string, unsigned, member, no_members}
 use Rattle.serde_json.specs.View.{items_of}

@@ -3,7 +3,7 @@ ghost use Rattle.std.specs.Prelude.{IfErr, OnOk};
 ghost use Rattle.partition_commands.specs.Commands.{FailsToPrint, IsSayFault, IsLabelEnd, Prints, PrintsImage, PrintsStack, PrintsStackOf};
 ghost use Rattle.partition_commands.specs.Lines.{SaysText, table_list};
 ghost use Rattle.partition_commands.specs.Objects.{table_line};
-ghost use Rattle.partition_commands.specs.Stacks.{partition_entry, stack_text};
+ghost use Rattle.partition_commands.specs.Stacks.{SaysEntry, stack_text};
 
 use crate::entries::say_linear_entry;
 use crate::object::table_line;
@@ -132,7 +132,7 @@ fn say_partition_entry<'a, W: Write>(
     partitions: &[Partition],
     partition: &Partition,
 ) -> Result<(), PartitionsFault<'a>>
-    ensures ok { OnOk result (SaysText W.contents writer.old writer.new (partition_entry size partitions.now partition.now)) }
+    ensures ok { OnOk result (SaysEntry W.contents writer.old writer.new size partitions.now partition.now) }
     ensures err { IfErr result (IsSayFault writer.new.failed) }
 {
     let name = partition_name(alloc, partitions, partition)?;

@@ -2,7 +2,7 @@
 ghost use Rattle.std.specs.Prelude.{IfErr, OnOk};
 ghost use Rattle.partition_table.specs.Reads.{IsReadAtMost};
 ghost use Rattle.partition_table.specs.Tables.{table_reads};
-ghost use Rattle.partition_commands.specs.Lines.{SaysText, partition_lines, table_list};
+ghost use Rattle.partition_commands.specs.Lines.{SaysTable, SaysText, partition_lines};
 ghost use Rattle.partition_commands.specs.Prints.{IsPrintEnd, IsSayEnd, PrintsTableOf};
 
 use crate::PrintFault;
@@ -34,7 +34,7 @@ fn say_table<W: Write>(
     writer: &mut Counted<W>,
     table: &PartitionTable,
 ) -> Result<(), PrintFault>
-    ensures ok { OnOk result (SaysText W.contents writer.old writer.new (table_list table.now.partitions.items table.now.source)) }
+    ensures ok { OnOk result (SaysTable W.contents writer.old writer.new table.now) }
     ensures err { IfErr result (IsSayEnd writer.new.failed) }
 {
     say_source(writer, table.source)?;

@@ -4,7 +4,7 @@ ghost use Rattle.device_window.specs.Windows.{windowed};
 ghost use Rattle.verity_format.specs.Verifying.{IsReadFrom};
 ghost use Rattle.partition_commands.specs.Commands.{FailsToFindRoot, IsRootTextEnd, IsSayFault, IsPartSuperEnd, PrintsRootOf, SaysRoot};
 ghost use Rattle.partition_commands.specs.Lines.{SaysText};
-ghost use Rattle.partition_commands.specs.RootStacks.{root_entry, root_stack_text};
+ghost use Rattle.partition_commands.specs.RootStacks.{SaysRootStack, root_entry};
 
 use crate::entries::{say_entry, say_linear_entry};
 use crate::{ImagePartitions, PartitionRefusal, PartitionsFault, part_of};
@@ -76,7 +76,7 @@ fn say_root_stack<'a, W: Write>(
     superblock: &Superblock,
     root: &Digest,
 ) -> Result<(), PartitionsFault<'a>>
-    ensures ok { OnOk result (SaysText W.contents writer.old writer.new (root_stack_text size both.now superblock.now root.now)) }
+    ensures ok { OnOk result (SaysRootStack W.contents writer.old writer.new size both.now superblock.now root.now) }
     ensures err { IfErr result (IsSayFault writer.new.failed) }
 {
     say_linear_entry(writer, b"data", part_of(size, &both.data))?;

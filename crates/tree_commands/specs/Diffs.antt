@@ -97,18 +97,26 @@ IsDiffFilesEnd json w paths roots most old new failed fault = IsEitherUnopened w
 
 -- ---- as a call sees them: what a proof sees of devices, an opener or a writer, and these before and after
 
--- two devices and a writer
-abbrev pub compared : {D E W : Type 0} → (D → Device) → (E → Device) → D → E → D → E → (W → Option (List ℕ)) → CountedRecord W → CountedRecord W → DifferenceWorld
-compared first_state second_state first second first' second' contents writer writer' =
-    difference_world (first_state first) (second_state second) (first_state first') (second_state second') (contents writer.inner) (contents writer'.inner)
+-- the devices of two images before and after, and what was printed
+abbrev pub two_devices : {D : Type 0} → (D → Device) → TwoHashes D → TwoHashes D → Option (List ℕ) → Option (List ℕ) → DifferenceWorld
+two_devices state two two' old new = difference_world (state two.first.device) (state two.second.device) (state two'.first.device) (state two'.second.device) old new
 
 -- the same, where lines are kept in memory
-abbrev pub listed_diff : {D E : Type 0} → (D → Device) → (E → Device) → D → E → D → E → KeptLines → KeptLines → DifferenceWorld
-listed_diff first_state second_state first second first' second' kept kept' =
-    difference_world (first_state first) (second_state second) (first_state first') (second_state second') (Some (lines_text kept.lines.items)) (Some (lines_text kept'.lines.items))
+abbrev pub listed_diff : {D : Type 0} → (D → Device) → TwoHashes D → TwoHashes D → KeptLines → KeptLines → DifferenceWorld
+listed_diff state two two' kept kept' = two_devices state two two' (Some (lines_text kept.lines.items)) (Some (lines_text kept'.lines.items))
 
-abbrev pub FailsToListDiff : {D E : Type 0} → (D → Device) → (E → Device) → D → E → D → E → Roots → DifferenceFault → Type 0
-FailsToListDiff first_state second_state first second first' second' roots = IsTreesCause (first_state first) (second_state second) (first_state first') (second_state second') roots
+abbrev pub FailsToListDiff : {D : Type 0} → (D → Device) → TwoHashes D → TwoHashes D → Roots → DifferenceFault → Type 0
+FailsToListDiff state two two' roots = IsTreesCause (state two.first.device) (state two.second.device) (state two'.first.device) (state two'.second.device) roots
+
+-- two images that are open are the same, and that was printed
+abbrev pub FindsSame : {D W : Type 0} → Bool → (D → Device) → TwoHashes D → TwoHashes D → (W → Option (List ℕ)) → CountedRecord W → CountedRecord W → Roots → Option ℕ → Type 0
+FindsSame json state two two' contents writer writer' roots most =
+    SaysDifference json (two_devices state two two' (contents writer.inner) (contents writer'.inner)) roots most true
+
+-- they aren't, or that isn't known or printed
+abbrev pub FailsDiff : {D W : Type 0} → Bool → (D → Device) → TwoHashes D → TwoHashes D → (W → Option (List ℕ)) → CountedRecord W → CountedRecord W → Roots → Option ℕ → TreeFault → Type 0
+FailsDiff json state two two' contents writer writer' roots most =
+    IsDiffEnd json (two_devices state two two' (contents writer.inner) (contents writer'.inner)) roots most writer'.failed
 
 -- two images
 abbrev pub DiffsImages : {S D W : Type 0} → Opener S D → (D → Device) → S → S → (W → Option (List ℕ)) → CountedRecord W → CountedRecord W → HashPaths → Roots → Option ℕ → Bool → Type 0

@@ -4,3 +4,4 @@ pub mod Diffs
 pub mod FaultTexts
 pub mod Invocations
 pub mod Surveys
+pub mod Surveyed

@@ -30,6 +30,7 @@ use Rattle.tree_commands.specs.declared.survey.SurveyOrder.{SurveyOrder}
 use Rattle.tree_commands.specs.Diffs.{IsEitherUnopened}
 use Rattle.tree_commands.specs.Objects.{survey_json}
 use Rattle.tree_commands.specs.Openings.{BothPaths, OpensBoth}
+use Rattle.tree_commands.specs.Surveyed.{SurveyedDevices}
 
 -- `good N changed N unknown N`
 unfoldable pub survey_totals : Totals → List ℕ
@@ -156,27 +157,33 @@ IsSurveyFilesEnd json w places root old new failed fault = IsEitherUnopened w pl
 
 -- ---- as a call sees them, as in `Diffs`
 
--- two devices and a writer
-abbrev pub gone_over : {D H W : Type 0} → (D → Device) → (H → Device) → D → H → D → H → (W → Option (List ℕ)) → CountedRecord W → CountedRecord W → Pass
-gone_over data_state hash_state data_dev hash_dev data_dev' hash_dev' contents writer writer' =
-    pass (data_state data_dev) (hash_state hash_dev) (data_state data_dev') (hash_state hash_dev') (contents writer.inner) (contents writer'.inner)
+-- the two devices of an image, and what was printed
+abbrev pub gone_over : SurveyedDevices → SurveyedDevices → Option (List ℕ) → Option (List ℕ) → Pass
+gone_over image image' old new = pass image.data_dev image.hash_dev image'.data_dev image'.hash_dev old new
 
 -- the same, where lines are kept in memory
-abbrev pub listed_survey : {D H : Type 0} → (D → Device) → (H → Device) → D → H → D → H → KeptLines → KeptLines → Pass
-listed_survey data_state hash_state data_dev hash_dev data_dev' hash_dev' kept kept' =
-    pass (data_state data_dev) (hash_state hash_dev) (data_state data_dev') (hash_state hash_dev') (Some (lines_text kept.lines.items)) (Some (lines_text kept'.lines.items))
+abbrev pub listed_survey : SurveyedDevices → SurveyedDevices → KeptLines → KeptLines → Pass
+listed_survey image image' kept kept' = gone_over image image' (Some (lines_text kept.lines.items)) (Some (lines_text kept'.lines.items))
 
-abbrev pub FailsToListSurvey : {D H : Type 0} → (D → Device) → (H → Device) → D → H → D → H → SurveyFault → Type 0
-FailsToListSurvey data_state hash_state data_dev hash_dev data_dev' hash_dev' = IsKeptCause (data_state data_dev) (hash_state hash_dev) (data_state data_dev') (hash_state hash_dev')
+abbrev pub FailsToListSurvey : SurveyedDevices → SurveyedDevices → SurveyFault → Type 0
+FailsToListSurvey image image' = IsKeptCause image.data_dev image.hash_dev image'.data_dev image'.hash_dev
+
+-- all of the image is good, and that was printed
+abbrev pub FindsGood : {W : Type 0} → Bool → SurveyedDevices → SurveyedDevices → (W → Option (List ℕ)) → CountedRecord W → CountedRecord W → List ℕ → Type 0
+FindsGood json image image' contents writer writer' root = SaysFound json (gone_over image image' (contents writer.inner) (contents writer'.inner)) root true
+
+-- it isn't, or that isn't known or printed
+abbrev pub FailsSurvey : {W : Type 0} → Bool → SurveyedDevices → SurveyedDevices → (W → Option (List ℕ)) → CountedRecord W → CountedRecord W → List ℕ → TreeFault → Type 0
+FailsSurvey json image image' contents writer writer' root = IsSurveyEnd json (gone_over image image' (contents writer.inner) (contents writer'.inner)) root writer'.failed
 
 -- what lies before the data's end, and what lies behind a sector
-abbrev pub SurveysBehind : {D H W : Type 0} → (D → Device) → (H → Device) → D → H → (W → Option (List ℕ)) → CountedRecord W → CountedRecord W → Bounds → List ℕ → Bool → Type 0
-SurveysBehind data_state hash_state data_dev hash_dev contents writer writer' bounds root json =
-    SurveysPlaced json (data_state data_dev) (hash_state hash_dev) bounds.end bounds.first root (contents writer.inner) (contents writer'.inner)
+abbrev pub SurveysBehind : {W : Type 0} → SurveyedDevices → (W → Option (List ℕ)) → CountedRecord W → CountedRecord W → Bounds → List ℕ → Bool → Type 0
+SurveysBehind image contents writer writer' bounds root json =
+    SurveysPlaced json image.data_dev image.hash_dev bounds.end bounds.first root (contents writer.inner) (contents writer'.inner)
 
-abbrev pub FailsToSurveyBehind : {D H W : Type 0} → (D → Device) → (H → Device) → D → H → (W → Option (List ℕ)) → CountedRecord W → CountedRecord W → Bounds → List ℕ → Bool → TreeFault → Type 0
-FailsToSurveyBehind data_state hash_state data_dev hash_dev contents writer writer' bounds root json =
-    IsPlacedSurveyEnd json (data_state data_dev) (hash_state hash_dev) bounds.end bounds.first root (contents writer.inner) (contents writer'.inner) writer'.failed
+abbrev pub FailsToSurveyBehind : {W : Type 0} → SurveyedDevices → (W → Option (List ℕ)) → CountedRecord W → CountedRecord W → Bounds → List ℕ → Bool → TreeFault → Type 0
+FailsToSurveyBehind image contents writer writer' bounds root json =
+    IsPlacedSurveyEnd json image.data_dev image.hash_dev bounds.end bounds.first root (contents writer.inner) (contents writer'.inner) writer'.failed
 
 -- two images
 abbrev pub SurveysImages : {S D W : Type 0} → Opener S D → (D → Device) → S → S → (W → Option (List ℕ)) → CountedRecord W → CountedRecord W → SurveyOrder → List ℕ → Type 0

@@ -1,11 +1,11 @@
 //! The command `diff`: which data blocks of two images differ, by their hash trees.
 ghost use Rattle.std.specs.Prelude.{◌≡◌, true, false, OnOk, IfErr};
 ghost use Rattle.counted_io.specs.Counted.{Writes};
-ghost use Rattle.tree_commands.specs.Diffs.{DiffsImages, FailsToDiff, IsDiffEnd, SaysSame, SaysDifference, compared, is_unchanged, difference_totals};
+ghost use Rattle.tree_commands.specs.Diffs.{DiffsImages, FailsDiff, FailsToDiff, FindsSame, is_unchanged, difference_totals};
 
 use crate::diff_object::diff_object;
 use crate::fault::TreeFault;
-use crate::paths::{HashPaths, open_both};
+use crate::paths::{HashPaths, TwoHashes, open_both};
 use block_device::BlockDev;
 use counted_io::{Counted, WriteFault};
 use image_files::Images;
@@ -29,47 +29,39 @@ pub fn diff_images<'a, I: Images, W: Write>(
     ensures err { IfErr result (FailsToDiff I.relations I.Dev.state images.old images.new W.contents writer.old writer.new paths.entry roots most json) }
 {
     let mut two = open_both(images, paths)?;
-    diff(
-        alloc,
-        &mut two.first.device,
-        &mut two.second.device,
-        roots,
-        most,
-        json,
-        writer,
-    )
+    diff(alloc, &mut two, roots, most, json, writer)
 }
 
-// Compares the trees of the two devices.
-fn diff<'a, D: BlockDev, E: BlockDev, W: Write>(
+// Compares the trees of the two hash images.
+fn diff<'a, D: BlockDev, W: Write>(
     alloc: Global,
-    first: &mut D,
-    second: &mut E,
+    two: &mut TwoHashes<D>,
     roots: Roots,
     most: Option<u64>,
     json: bool,
     writer: &mut Counted<W>,
 ) -> Result<(), TreeFault<'a>>
-    ensures ok { OnOk result (SaysDifference json (compared D.state E.state first.old second.old first.new second.new W.contents writer.old writer.new) roots most true) }
-    ensures err { IfErr result (IsDiffEnd json (compared D.state E.state first.old second.old first.new second.new W.contents writer.old writer.new) roots most writer.new.failed) }
+    ensures ok { OnOk result (FindsSame json D.state two.old two.new W.contents writer.old writer.new roots most) }
+    ensures err { IfErr result (FailsDiff json D.state two.old two.new W.contents writer.old writer.new roots most) }
 {
     if json {
-        return diff_object(alloc, first, second, roots, most, writer);
+        return diff_object(alloc, two, roots, most, writer);
     }
-    diff_lines(alloc, first, second, roots, most, writer)
+    diff_lines(alloc, two, roots, most, writer)
 }
 
-fn diff_lines<'a, D: BlockDev, E: BlockDev, W: Write>(
+fn diff_lines<'a, D: BlockDev, W: Write>(
     alloc: Global,
-    first: &mut D,
-    second: &mut E,
+    two: &mut TwoHashes<D>,
     roots: Roots,
     most: Option<u64>,
     writer: &mut Counted<W>,
 ) -> Result<(), TreeFault<'a>>
-    ensures ok { OnOk result (SaysSame (compared D.state E.state first.old second.old first.new second.new W.contents writer.old writer.new) roots most true) }
-    ensures err { IfErr result (IsDiffEnd false (compared D.state E.state first.old second.old first.new second.new W.contents writer.old writer.new) roots most writer.new.failed) }
+    ensures ok { OnOk result (FindsSame false D.state two.old two.new W.contents writer.old writer.new roots most) }
+    ensures err { IfErr result (FailsDiff false D.state two.old two.new W.contents writer.old writer.new roots most) }
 {
+    let first = &mut two.first.device;
+    let second = &mut two.second.device;
     let totals = compare_trees(alloc, first, second, roots, most, writer)?;
     say_totals(writer, totals)?;
     if !is_unchanged(totals) {

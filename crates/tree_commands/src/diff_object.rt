@@ -4,11 +4,12 @@ ghost use Rattle.reply_json.specs.Lines.{json_line};
 ghost use Rattle.serde_json.specs.View.{view};
 ghost use Rattle.tree_difference.specs.declared.fault.DifferenceFault.TheVariants as difference_fault;
 ghost use Rattle.tree_difference.specs.Differences.{IsDifference};
-ghost use Rattle.tree_commands.specs.Diffs.{FailsToListDiff, IsDiffEnd, SaysSameObject, compared, listed_diff, unkept_difference};
+ghost use Rattle.tree_commands.specs.Diffs.{FailsDiff, FailsToListDiff, FindsSame, listed_diff, unkept_difference};
 ghost use Rattle.tree_commands.specs.Objects.{difference_json};
 
 use crate::diff::is_unchanged;
 use crate::fault::TreeFault;
+use crate::paths::TwoHashes;
 use block_device::BlockDev;
 use counted_io::Counted;
 use reply_json::line_of;
@@ -18,20 +19,19 @@ use std::io::Write;
 use tree_difference::{DifferenceFault, Roots, Totals, compare_trees};
 use tree_runs::{KeptLines, Line, runs_value, says_more};
 
-/// Compares the trees of the two devices, and prints an object at the end.
-pub(crate) fn diff_object<'a, D: BlockDev, E: BlockDev, W: Write>(
+/// Compares the trees of the two hash images, and prints an object at the end.
+pub(crate) fn diff_object<'a, D: BlockDev, W: Write>(
     alloc: Global,
-    first: &mut D,
-    second: &mut E,
+    two: &mut TwoHashes<D>,
     roots: Roots,
     most: Option<u64>,
     writer: &mut Counted<W>,
 ) -> Result<(), TreeFault<'a>>
-    ensures ok { OnOk result (SaysSameObject (compared D.state E.state first.old second.old first.new second.new W.contents writer.old writer.new) roots most true) }
-    ensures err { IfErr result (IsDiffEnd true (compared D.state E.state first.old second.old first.new second.new W.contents writer.old writer.new) roots most writer.new.failed) }
+    ensures ok { OnOk result (FindsSame true D.state two.old two.new W.contents writer.old writer.new roots most) }
+    ensures err { IfErr result (FailsDiff true D.state two.old two.new W.contents writer.old writer.new roots most) }
 {
     let mut kept = KeptLines::new(alloc);
-    let totals = keep_difference(alloc, first, second, roots, most, &mut kept)?;
+    let totals = keep_difference(alloc, two, roots, most, &mut kept)?;
     let line = difference_line(alloc, kept.lines.as_slice(), totals)?;
     writer.put(line.as_bytes())?;
     if !is_unchanged(totals) {
@@ -42,17 +42,18 @@ pub(crate) fn diff_object<'a, D: BlockDev, E: BlockDev, W: Write>(
 
 // Where a line isn't kept, memory ran out.
 #[tactic(auto, using(crate::proofs::KeptLemmas::trees_cause))]
-fn keep_difference<D: BlockDev, E: BlockDev>(
+fn keep_difference<D: BlockDev>(
     alloc: Global,
-    first: &mut D,
-    second: &mut E,
+    two: &mut TwoHashes<D>,
     roots: Roots,
     most: Option<u64>,
     kept: &mut KeptLines,
 ) -> Result<Totals, DifferenceFault>
-    ensures ok { IfOk result (IsDifference (listed_diff D.state E.state first.old second.old first.new second.new kept.old kept.new) roots most) }
-    ensures err { IfErr result (FailsToListDiff D.state E.state first.old second.old first.new second.new roots) }
+    ensures ok { IfOk result (IsDifference (listed_diff D.state two.old two.new kept.old kept.new) roots most) }
+    ensures err { IfErr result (FailsToListDiff D.state two.old two.new roots) }
 {
+    let first = &mut two.first.device;
+    let second = &mut two.second.device;
     match compare_trees(alloc, first, second, roots, most, kept) {
         Ok(totals) => Ok(totals),
         Err(fault) => Err(unkept(fault)),

@@ -1,7 +1,8 @@
 //! The command `verify --all`: which data blocks of an image are good, and which hash blocks aren't.
 ghost use Rattle.std.specs.Prelude.{◌≡◌, ◌&&◌, nat_lt, true, false, OnOk, IfErr};
 ghost use Rattle.counted_io.specs.Counted.{Writes};
-ghost use Rattle.tree_commands.specs.Surveys.{FailsToSurveyBehind, FailsToSurvey, IsSurveyEnd, SaysFound, SaysSurvey, SurveysBehind, SurveysImages, hashes_data_end, gone_over, begins_block, is_all_good, survey_totals};
+ghost use Rattle.tree_commands.specs.Surveyed.{opened_devices};
+ghost use Rattle.tree_commands.specs.Surveys.{FailsSurvey, FailsToSurveyBehind, FailsToSurvey, FindsGood, SurveysBehind, SurveysImages, hashes_data_end, begins_block, is_all_good, survey_totals};
 
 use crate::fault::TreeFault;
 use crate::paths::{HashPaths, TwoHashes, open_both};
@@ -12,7 +13,7 @@ use device_window::Window;
 use image_files::{Images, OpenImage, is_one_file};
 use std::alloc::Global;
 use std::io::Write;
-use std::marker::Brand;
+use std::marker::{Brand, Model};
 use tree_shape::Digest;
 use tree_survey::{Survey, Totals, survey_image};
 use verity_format::read_superblock;
@@ -28,6 +29,21 @@ pub struct SurveyOrder<'a> {
     pub hash_first: u64,
     pub json: bool,
     pub progress: bool,
+}
+
+/// The data device and the hash device of an image that is gone over.
+#[derive(Drop)]
+pub(crate) struct SurveyedImage<D: BlockDev, H: BlockDev> {
+    pub(crate) data: D,
+    pub(crate) hash: H,
+}
+
+impl<D: BlockDev, H: BlockDev> Model for SurveyedImage<D, H> {
+    ghost use Rattle.tree_commands.specs.Surveyed.{SurveyedDevices, surveyed_devices};
+
+    ghost Value = { SurveyedDevices };
+
+    ghost view = { λ i. surveyed_devices (D.state i.data) (H.state i.hash) };
 }
 
 // The sector where the data end, and the one where the hash image begins.
@@ -64,16 +80,9 @@ pub fn survey_images<'a, I: Images, S: Watchers, W: Write>(
     };
     let two = open_both(images, paths)?;
     let end = data_end(&two, first);
-    let (data_dev, hash_dev) = watch(two, watchers, progress, end);
-    survey_behind(
-        alloc,
-        data_dev,
-        hash_dev,
-        Bounds { end, first },
-        root,
-        json,
-        writer,
-    )
+    let image = watch(two, watchers, progress, end);
+    let bounds = Bounds { end, first };
+    survey_behind(alloc, image, bounds, root, json, writer)
 }
 
 // The data device, of whose reads someone is told, and the hash device.
@@ -82,9 +91,8 @@ fn watch<D: BlockDev + Drop, S: Watchers>(
     watchers: &S,
     progress: bool,
     end: u64,
-) -> (Watched<D, S::Watcher>, D)
-    ensures data { result.0.inner ≡ two.first.device }
-    ensures hash { result.1 ≡ two.second.device }
+) -> SurveyedImage<Watched<D, S::Watcher>, D>
+    ensures { result ≡ opened_devices D.state two }
 {
     let TwoHashes {
         first: OpenImage {
@@ -98,7 +106,10 @@ fn watch<D: BlockDev + Drop, S: Watchers>(
     } = two;
     let all = bytes_before(&data_dev, end);
     let watcher = watcher_of(watchers, progress);
-    (Watched::new(data_dev, watcher, all), hash_dev)
+    SurveyedImage {
+        data: Watched::new(data_dev, watcher, all),
+        hash: hash_dev,
+    }
 }
 
 // The sector where the data end: in one file before the hash image, else at the end of theirs.
@@ -124,55 +135,57 @@ fn is_aligned(first: u64, size: u32) -> bool
 // What lies before the data's end, and what lies behind that sector.
 fn survey_behind<'a, D: BlockDev + Drop, H: BlockDev + Drop, W: Write>(
     alloc: Global,
-    data_dev: D,
-    hash_dev: H,
+    image: SurveyedImage<D, H>,
     bounds: Bounds,
     root: &Digest,
     json: bool,
     writer: &mut Counted<W>,
 ) -> Result<(), TreeFault<'a>>
-    ensures ok { OnOk result (SurveysBehind D.state H.state data_dev hash_dev W.contents writer.old writer.new bounds root.now json) }
-    ensures err { IfErr result (FailsToSurveyBehind D.state H.state data_dev hash_dev W.contents writer.old writer.new bounds root.now json) }
+    ensures ok { OnOk result (SurveysBehind image W.contents writer.old writer.new bounds root.now json) }
+    ensures err { IfErr result (FailsToSurveyBehind image W.contents writer.old writer.new bounds root.now json) }
 {
-    let mut before = Window::<D, Brand>::before(data_dev, bounds.end);
-    let mut behind = Window::<H, Brand>::behind(hash_dev, bounds.first);
+    let SurveyedImage { data, hash } = image;
+    let before = Window::<D, Brand>::before(data, bounds.end);
+    let mut behind = Window::<H, Brand>::behind(hash, bounds.first);
     let superblock = read_superblock(&mut behind)?;
     if !is_aligned(bounds.first, superblock.hash_block()) {
         return Err(TreeFault::Unaligned);
     }
-    say_survey(alloc, &mut before, &mut behind, root, json, writer)
+    let mut placed = SurveyedImage {
+        data: before,
+        hash: behind,
+    };
+    say_survey(alloc, &mut placed, root, json, writer)
 }
 
 // Goes over the two devices, and prints what was found.
 fn say_survey<'a, D: BlockDev, H: BlockDev, W: Write>(
     alloc: Global,
-    data_dev: &mut D,
-    hash_dev: &mut H,
+    image: &mut SurveyedImage<D, H>,
     root: &Digest,
     json: bool,
     writer: &mut Counted<W>,
 ) -> Result<(), TreeFault<'a>>
-    ensures ok { OnOk result (SaysFound json (gone_over D.state H.state data_dev.old hash_dev.old data_dev.new hash_dev.new W.contents writer.old writer.new) root.now true) }
-    ensures err { IfErr result (IsSurveyEnd json (gone_over D.state H.state data_dev.old hash_dev.old data_dev.new hash_dev.new W.contents writer.old writer.new) root.now writer.new.failed) }
+    ensures ok { OnOk result (FindsGood json image.old image.new W.contents writer.old writer.new root.now) }
+    ensures err { IfErr result (FailsSurvey json image.old image.new W.contents writer.old writer.new root.now) }
 {
     if json {
-        return survey_object(alloc, data_dev, hash_dev, root, writer);
+        return survey_object(alloc, image, root, writer);
     }
-    survey_lines(alloc, data_dev, hash_dev, root, writer)
+    survey_lines(alloc, image, root, writer)
 }
 
 // A line each, and the totals.
 fn survey_lines<'a, D: BlockDev, H: BlockDev, W: Write>(
     alloc: Global,
-    data_dev: &mut D,
-    hash_dev: &mut H,
+    image: &mut SurveyedImage<D, H>,
     root: &Digest,
     writer: &mut Counted<W>,
 ) -> Result<(), TreeFault<'a>>
-    ensures ok { OnOk result (SaysSurvey (gone_over D.state H.state data_dev.old hash_dev.old data_dev.new hash_dev.new W.contents writer.old writer.new) root.now true) }
-    ensures err { IfErr result (IsSurveyEnd false (gone_over D.state H.state data_dev.old hash_dev.old data_dev.new hash_dev.new W.contents writer.old writer.new) root.now writer.new.failed) }
+    ensures ok { OnOk result (FindsGood false image.old image.new W.contents writer.old writer.new root.now) }
+    ensures err { IfErr result (FailsSurvey false image.old image.new W.contents writer.old writer.new root.now) }
 {
-    let found = survey_image(alloc, data_dev, hash_dev, root, writer)?;
+    let found = survey_image(alloc, &mut image.data, &mut image.hash, root, writer)?;
     say_totals(writer, found.totals)?;
     if !is_all_good(found) {
         return Err(TreeFault::Damaged);

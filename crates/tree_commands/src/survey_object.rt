@@ -7,10 +7,10 @@ ghost use Rattle.verity_format.specs.declared.verifying.VerifyFault.TheVariants 
 ghost use Rattle.tree_survey.specs.declared.fault.SurveyFault.TheVariants as survey_fault;
 ghost use Rattle.tree_survey.specs.Passes.{IsSurvey};
 ghost use Rattle.tree_commands.specs.Objects.{survey_json};
-ghost use Rattle.tree_commands.specs.Surveys.{FailsToListSurvey, IsSurveyEnd, SaysObject, gone_over, listed_survey, unkept_survey};
+ghost use Rattle.tree_commands.specs.Surveys.{FailsSurvey, FailsToListSurvey, FindsGood, listed_survey, unkept_survey};
 
 use crate::fault::TreeFault;
-use crate::survey::is_all_good;
+use crate::survey::{SurveyedImage, is_all_good};
 use block_device::BlockDev;
 use counted_io::Counted;
 use reply_json::line_of;
@@ -25,16 +25,15 @@ use verity_format::VerifyFault;
 /// Goes over the two devices, and prints an object at the end.
 pub(crate) fn survey_object<'a, D: BlockDev, H: BlockDev, W: Write>(
     alloc: Global,
-    data_dev: &mut D,
-    hash_dev: &mut H,
+    image: &mut SurveyedImage<D, H>,
     root: &Digest,
     writer: &mut Counted<W>,
 ) -> Result<(), TreeFault<'a>>
-    ensures ok { OnOk result (SaysObject (gone_over D.state H.state data_dev.old hash_dev.old data_dev.new hash_dev.new W.contents writer.old writer.new) root.now true) }
-    ensures err { IfErr result (IsSurveyEnd true (gone_over D.state H.state data_dev.old hash_dev.old data_dev.new hash_dev.new W.contents writer.old writer.new) root.now writer.new.failed) }
+    ensures ok { OnOk result (FindsGood true image.old image.new W.contents writer.old writer.new root.now) }
+    ensures err { IfErr result (FailsSurvey true image.old image.new W.contents writer.old writer.new root.now) }
 {
     let mut kept = KeptLines::new(alloc);
-    let found = keep_survey(alloc, data_dev, hash_dev, root, &mut kept)?;
+    let found = keep_survey(alloc, image, root, &mut kept)?;
     let line = survey_line(alloc, kept.lines.as_slice(), found.totals)?;
     writer.put(line.as_bytes())?;
     if !is_all_good(found) {
@@ -47,15 +46,14 @@ pub(crate) fn survey_object<'a, D: BlockDev, H: BlockDev, W: Write>(
 #[tactic(auto, using(crate::proofs::KeptLemmas::kept_cause))]
 fn keep_survey<D: BlockDev, H: BlockDev>(
     alloc: Global,
-    data_dev: &mut D,
-    hash_dev: &mut H,
+    image: &mut SurveyedImage<D, H>,
     root: &Digest,
     kept: &mut KeptLines,
 ) -> Result<Survey, SurveyFault>
-    ensures ok { IfOk result (IsSurvey (listed_survey D.state H.state data_dev.old hash_dev.old data_dev.new hash_dev.new kept.old kept.new) root.now) }
-    ensures err { IfErr result (FailsToListSurvey D.state H.state data_dev.old hash_dev.old data_dev.new hash_dev.new) }
+    ensures ok { IfOk result (IsSurvey (listed_survey image.old image.new kept.old kept.new) root.now) }
+    ensures err { IfErr result (FailsToListSurvey image.old image.new) }
 {
-    match survey_image(alloc, data_dev, hash_dev, root, kept) {
+    match survey_image(alloc, &mut image.data, &mut image.hash, root, kept) {
         Ok(found) => Ok(found),
         Err(fault) => Err(unkept(fault)),
     }

@@ -3,8 +3,6 @@ ghost use Rattle.std.specs.Prelude.{◌≡◌, ◌+◌, true, Err, IfErr, IfSome
 ghost use Rattle.image_commands.specs.declared.fault.ImageFault.TheVariants as image_fault;
 ghost use Rattle.image_commands.specs.Drawing.{drawing};
 ghost use Rattle.image_commands.specs.Endings.{IsQuiet};
-ghost use Rattle.image_commands.specs.PlacedFormats.{FailsToFormatAt, FormatsImagesAt};
-ghost use Rattle.image_commands.specs.TreeFormats.{FailsToPlaceTree, FormatsTree};
 ghost use Rattle.image_files.specs.Opener.{calls};
 ghost use Rattle.verity_format.specs.declared.formatting.FormatFault.TheVariants as format_fault;
 ghost use Rattle.verity_commands.specs.Growing.{GrowsFile, IsRoomFor, IsUngrown};
@@ -55,22 +53,6 @@ fn room_for(tried: &Result<(), ImageFault<'_>>, first: u64) -> Option<u64>
     first.checked_add(needed_by(tried)?)
 }
 
-// Formats the hash image as it is.
-fn try_format<'a, I: Images, G: Generators + Watchers, W: Write>(
-    alloc: Global,
-    images: &mut I,
-    generators: &mut G,
-    options: &ImageOptions,
-    watched: &WatchedPlaces<'a>,
-    writer: &mut Counted<W>,
-) -> Result<(), ImageFault<'a>>
-    ensures ok { OnOk result (FormatsImagesAt I.relations I.Dev.state images.old images.new G.gives G.Generator.stream generators.old generators.new W.contents writer.old writer.new options.now watched.now) }
-    ensures err { IfErr result (FailsToFormatAt I.relations I.Dev.state images.old images.new G.gives G.Generator.stream generators.old generators.new writer.new options.now watched.now) }
-    ensures quiet { IfErr result (λ fault. IsQuiet fault (W.contents writer.old.inner) (W.contents writer.new.inner)) }
-{
-    format_placed(alloc, images, generators, *options, *watched, writer)
-}
-
 /// Formats the hash image once its file has the sectors that are needed.
 pub fn format_growing<'a, I: Images, G: Generators + Watchers, W: Write>(
     alloc: Global,
@@ -90,28 +72,12 @@ pub fn format_growing<'a, I: Images, G: Generators + Watchers, W: Write>(
         hash_first,
     } = watched.places;
     make_room(images, hash, 0)?;
-    let tried = try_format(alloc, images, generators, options, watched, writer);
+    let tried = format_placed(alloc, images, generators, *options, *watched, writer);
     let Some(sectors) = room_for(&tried, hash_first) else {
         return tried;
     };
     make_room(images, hash, sectors)?;
-    try_format(alloc, images, generators, options, watched, writer)
-}
-
-// Makes the tree in a file as it is.
-fn try_tree<'a, I: Images, G: Generators + Watchers, W: Write>(
-    alloc: Global,
-    images: &mut I,
-    generators: &mut G,
-    options: &ImageOptions,
-    watched: &WatchedPlaces<'a>,
-    writer: &mut Counted<W>,
-) -> Result<(), ImageFault<'a>>
-    ensures ok { OnOk result (FormatsTree I.relations I.Dev.state images.old images.new G.gives G.Generator.stream generators.old generators.new W.contents writer.old writer.new options.now watched.now) }
-    ensures err { IfErr result (FailsToPlaceTree I.relations I.Dev.state images.old images.new G.gives G.Generator.stream generators.old generators.new writer.new options.now watched.now) }
-    ensures quiet { IfErr result (λ fault. IsQuiet fault (W.contents writer.old.inner) (W.contents writer.new.inner)) }
-{
-    format_tree(alloc, images, generators, *options, *watched, writer)
+    format_placed(alloc, images, generators, *options, *watched, writer)
 }
 
 /// Makes the tree without a superblock once its file has the sectors that are needed.
@@ -133,10 +99,10 @@ pub fn format_tree_growing<'a, I: Images, G: Generators + Watchers, W: Write>(
         hash_first,
     } = watched.places;
     make_room(images, hash, 0)?;
-    let tried = try_tree(alloc, images, generators, options, watched, writer);
+    let tried = format_tree(alloc, images, generators, *options, *watched, writer);
     let Some(sectors) = room_for(&tried, hash_first) else {
         return tried;
     };
     make_room(images, hash, sectors)?;
-    try_tree(alloc, images, generators, options, watched, writer)
+    format_tree(alloc, images, generators, *options, *watched, writer)
 }

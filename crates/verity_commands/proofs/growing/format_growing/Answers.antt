@@ -8,17 +8,17 @@ use Rattle.verity_commands.proofs.growing.format_growing.Goals as goal
 pub returns-clause-ok : goal.returns-clause-ok
 returns-clause-ok g c =
     let room = c.in-Some.ensures in
-    let vain = at-fault c.try_format-tried.result _ (Format (HashTooSmall room.needed)) room.ended c.try_format-tried.ensures.err in
-    let same : g.W.Write.contents c.try_format-tried.new.writer.inner ≡ g.W.Write.contents c.args.writer.now.inner =
-    at-fault c.try_format-tried.result _ (Format (HashTooSmall room.needed)) room.ended c.try_format-tried.ensures.quiet in
-    let printed = rw same at c.try_format.ensures.ok in
-    on_ok_weaker c.try_format.result
+    let vain = at-fault c.format_placed-tried.result _ (Format (HashTooSmall room.needed)) room.ended c.format_placed-tried.ensures.err in
+    let same : g.W.Write.contents c.format_placed-tried.new.writer.inner ≡ g.W.Write.contents c.args.writer.now.inner =
+    at-fault c.format_placed-tried.result _ (Format (HashTooSmall room.needed)) room.ended c.format_placed-tried.ensures.quiet in
+    let printed = rw same at c.format_placed.ensures.ok in
+    on_ok_weaker c.format_placed.result
     (λ done. inr (record {
-      tried = c.try_format-tried.new.images;
-      drawn = c.try_format-tried.new.generators;
+      tried = c.format_placed-tried.new.images;
+      drawn = c.format_placed-tried.new.generators;
       room = c.make_room-2.new.images;
       needed = room.needed;
-      vain = record { between = c.make_room.new.images; made = c.in_ok-make_room.ensures.ok; too_small = (c.try_format-tried.new.writer.failed, vain) };
+      vain = record { between = c.make_room.new.images; made = c.in_ok-make_room.ensures.ok; too_small = (c.format_placed-tried.new.writer.failed, vain) };
       grown = rw room.is at c.in_ok-make_room-2.ensures.ok;
       formats = done;
     })) printed
