@@ -3,8 +3,9 @@
 use Rattle.std.specs.Prelude.{ℕ, zero, suc, ◌+◌, ◌==◌, ◌&&◌, ◌||◌, not, nat_le, Bool, true, false, List, [], ◌++◌, length, take, drop, codes, Option, Some, None, if◌then◌else◌}
 use Rattle.std.specs.Str.{bytes_eq}
 use Rattle.nbd_protocol.specs.Numbers.{big_endian32, bytes32}
-use Rattle.nbd_protocol.specs.Exports.{ExportRecord, asked}
+use Rattle.nbd_protocol.specs.Exports.{ExportRecord, asked, export_records}
 use Rattle.nbd_options.specs.OptionReplies.{acknowledged, refused, reply_head}
+use Rattle.nbd_protocol.specs.declared.export.Export.{Export}
 use Rattle.nbd_protocol.specs.declared.phase.Terms.{Terms}
 use Rattle.nbd_options.specs.declared.option_reply.Refusal.TheVariants.{Invalid, Unknown}
 
@@ -84,11 +85,15 @@ abbrev pub contexts_at : Bool → ℕ → Option Bool → Option ℕ → List �
 contexts_at listing option None found = refused Invalid option
 contexts_at listing option (Some named) found = context_of listing option named found
 
+-- the same of the export and the queries in the data
+abbrev pub contexts_in : List ExportRecord → Bool → ℕ → List ℕ → List ℕ
+contexts_in es listing option content = contexts_at listing option (wants_context listing content) (asked es (string_in content))
+
 -- only a client that asked for structured replies may query
 abbrev pub contexts_reply : List ExportRecord → Terms → ℕ → List ℕ → List ℕ
 contexts_reply es terms option content =
     if not terms.structured then refused Invalid option
-    else contexts_at (option == list_context) option (wants_context (option == list_context) content) (asked es (string_in content))
+    else contexts_in es (option == list_context) option content
 
 -- the export of which a SET selects the context
 abbrev pub selected : Option Bool → Option ℕ → Option ℕ
@@ -96,9 +101,20 @@ selected (Some true) found = found
 selected (Some false) found = None
 selected None found = None
 
+abbrev pub selected_in : List ExportRecord → List ℕ → Option ℕ
+selected_in es content = selected (wants_context false content) (asked es (string_in content))
+
 -- that of the last SET, which replaces what an earlier one selected even where it fails
 abbrev pub status_after : List ExportRecord → Terms → ℕ → List ℕ → Option ℕ
 status_after es terms option content =
     if not (option == set_context) then terms.status
     else if not terms.structured then None
-    else selected (wants_context false content) (asked es (string_in content))
+    else selected_in es content
+
+-- ---- the replies, by the exports as a call has them
+
+abbrev pub contexts_by : List Export → Terms → ℕ → List ℕ → List ℕ
+contexts_by exports terms option content = contexts_reply (export_records exports) terms option content
+
+abbrev pub queries_by : List Export → Bool → ℕ → List ℕ → List ℕ
+queries_by exports listing option content = contexts_in (export_records exports) listing option content

@@ -3,8 +3,9 @@ use Rattle.std.specs.Prelude.{ℕ, ◌+◌, ◌*◌, ◌==◌, ◌&&◌, ◌||�
 use Rattle.nbd_protocol.specs.Numbers.{big_endian16, big_endian32, bytes16, bytes32, bytes64}
 use Rattle.nbd_options.specs.OptionReplies.{acknowledged, refused, reply_head}
 use Rattle.nbd_options.specs.Contexts.{contexts_reply, status_after, list_context, set_context}
-use Rattle.nbd_protocol.specs.Exports.{ExportRecord, asked, export_at, transmission_flags}
+use Rattle.nbd_protocol.specs.Exports.{ExportRecord, asked, export_at, export_record, export_records, transmission_flags}
 use Rattle.nbd_protocol.specs.Headers.{most_length}
+use Rattle.nbd_protocol.specs.declared.export.Export.{Export}
 use Rattle.nbd_protocol.specs.declared.phase.Terms.{Terms}
 use Rattle.nbd_protocol.specs.declared.phase.Phase.{Phase}
 use Rattle.nbd_protocol.specs.declared.phase.Phase.TheVariants.{Haggling, Serving, Over}
@@ -66,8 +67,12 @@ abbrev pub told_at : List ExportRecord → Terms → ℕ → Option ℕ → List
 told_at es terms option (Some place) wanted = told (export_at es place) terms option wanted
 told_at es terms option None wanted = refused Unknown option
 
+-- the same by the data of the option
+abbrev pub told_in : List ExportRecord → Terms → ℕ → List ℕ → List ℕ
+told_in es terms option content = told_at es terms option (asked es (name_in content)) (wanted_in content)
+
 unfoldable pub info_reply : List ExportRecord → Terms → ℕ → List ℕ → List ℕ
-info_reply es terms option content = if not (is_info content) then refused Invalid option else told_at es terms option (asked es (name_in content)) (wanted_in content)
+info_reply es terms option content = if not (is_info content) then refused Invalid option else told_in es terms option content
 
 -- the reply to LIST that names an export
 unfoldable pub server_reply : ExportRecord → List ℕ
@@ -147,3 +152,20 @@ phase_after es terms option content =
 -- EXPORT_NAME has no reply but the export's: another name is no such message
 abbrev pub names_export : List ExportRecord → ℕ → List ℕ → Bool
 names_export es option content = not (option == 1) || is_some (asked es content)
+
+-- ---- the replies, by the exports as a call has them
+
+abbrev pub told_by : Export → Terms → ℕ → List ℕ → List ℕ
+told_by export terms option wanted = told (export_record export) terms option wanted
+
+abbrev pub told_in_by : List Export → Terms → ℕ → List ℕ → List ℕ
+told_in_by exports terms option content = told_in (export_records exports) terms option content
+
+abbrev pub info_by : List Export → Terms → ℕ → List ℕ → List ℕ
+info_by exports terms option content = info_reply (export_records exports) terms option content
+
+abbrev pub fields_by : List Export → Terms → List ℕ → List ℕ
+fields_by exports terms name = fields_at (export_records exports) terms (asked (export_records exports) name)
+
+abbrev pub answer_by : List Export → Terms → ℕ → List ℕ → List ℕ
+answer_by exports terms option content = answer_to (export_records exports) terms option content

@@ -1,9 +1,9 @@
 //! Metadata contexts: what a client queries of them, and what it is told.
-ghost use Rattle.std.specs.Prelude.{◌≡◌, ◌≤◌, ◌||◌, false, length, true, IfSome};
+ghost use Rattle.std.specs.Prelude.{◌≡◌, ◌≤◌, ◌||◌, length, true, IfSome};
 ghost use Rattle.std.specs.Str.{bytes_eq};
 ghost use Rattle.counted_io.specs.Counted.{Writes};
-ghost use Rattle.nbd_options.specs.Contexts.{behind_string, context_name, context_namespace, context_number, context_of, contexts_at, contexts_reply, named_at_end, is_of_all, is_string, named_context, names_context, queried, selected, status_after, string_in, told_context, wanted_of, wants_context};
-ghost use Rattle.nbd_protocol.specs.Exports.{asked, export_records};
+ghost use Rattle.nbd_options.specs.Contexts.{behind_string, context_name, context_namespace, context_number, context_of, contexts_by, named_at_end, is_of_all, is_string, named_context, names_context, queried, queries_by, selected_in, status_after, string_in, told_context, wanted_of, wants_context};
+ghost use Rattle.nbd_protocol.specs.Exports.{export_records};
 
 use crate::option_reply::{Refusal, acknowledge, refuse, say_head};
 use counted_io::{Counted, WriteFault};
@@ -201,7 +201,7 @@ fn say_wanted<W: Write>(
     option: u32,
     content: &[u8],
 ) -> Result<(), WriteFault>
-    ensures { Writes W.contents writer.old writer.new (contexts_at listing option (wants_context listing content.now) (asked (export_records exports.now) (string_in content.now))) result }
+    ensures { Writes W.contents writer.old writer.new (queries_by exports.now listing option content.now) result }
 {
     match wants_context(listing, content) {
         None => refuse(writer, option, Refusal::Invalid),
@@ -220,7 +220,7 @@ pub(crate) fn say_contexts<W: Write>(
     option: u32,
     content: &[u8],
 ) -> Result<(), WriteFault>
-    ensures { Writes W.contents writer.old writer.new (contexts_reply (export_records exports.now) terms option content.now) result }
+    ensures { Writes W.contents writer.old writer.new (contexts_by exports.now terms option content.now) result }
 {
     if !terms.structured {
         return refuse(writer, option, Refusal::Invalid);
@@ -236,7 +236,7 @@ pub(crate) fn say_contexts<W: Write>(
 
 // The export of which a SET selects the context.
 fn selected(exports: &[Export<'_>], content: &[u8]) -> Option<usize>
-    ensures { result ≡ selected (wants_context false content.now) (asked (export_records exports.now) (string_in content.now)) }
+    ensures { result ≡ selected_in (export_records exports.now) content.now }
 {
     match wants_context(false, content) {
         None => None,

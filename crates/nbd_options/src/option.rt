@@ -1,8 +1,8 @@
 //! Options that a client haggles over.
 ghost use Rattle.std.specs.Prelude.{◌≡◌, true};
 ghost use Rattle.counted_io.specs.Counted.{Writes};
-ghost use Rattle.nbd_protocol.specs.Exports.{HaveShortNames, asked, export_records};
-ghost use Rattle.nbd_options.specs.Handshake.{answer_to, fields_at, info_reply, is_info, is_place, name_in, names_export, phase_after, serving_at, structured_reply, terms_after, terms_after_long, told_at, wanted_in};
+ghost use Rattle.nbd_protocol.specs.Exports.{HaveShortNames, export_records};
+ghost use Rattle.nbd_options.specs.Handshake.{answer_by, fields_by, info_by, is_info, is_place, name_in, names_export, phase_after, serving_at, structured_reply, terms_after, terms_after_long, told_in_by, wanted_in};
 
 use crate::contexts::{LIST_META_CONTEXT, SET_META_CONTEXT, say_contexts, status_after};
 use crate::option_reply::{LIST, Refusal, acknowledge, refuse, say_export, say_list, say_told};
@@ -64,7 +64,7 @@ fn say_info<W: Write>(
     option: u32,
     content: &[u8],
 ) -> Result<(), WriteFault>
-    ensures { Writes W.contents writer.old writer.new (info_reply (export_records exports.now) terms option content.now) result }
+    ensures { Writes W.contents writer.old writer.new (info_by exports.now terms option content.now) result }
 {
     if !is_info(content) {
         return refuse(writer, option, Refusal::Invalid);
@@ -81,7 +81,7 @@ fn say_asked<W: Write>(
     content: &[u8],
 ) -> Result<(), WriteFault>
     requires { is_info content.now ≡ true }
-    ensures { Writes W.contents writer.old writer.new (told_at (export_records exports.now) terms option (asked (export_records exports.now) (name_in content.now)) (wanted_in content.now)) result }
+    ensures { Writes W.contents writer.old writer.new (told_in_by exports.now terms option content.now) result }
 {
     match asked(exports, name_in(content)) {
         Some(place) => say_told(
@@ -102,7 +102,7 @@ fn say_named<W: Write>(
     terms: Terms,
     name: &[u8],
 ) -> Result<(), WriteFault>
-    ensures { Writes W.contents writer.old writer.new (fields_at (export_records exports.now) terms (asked (export_records exports.now) name.now)) result }
+    ensures { Writes W.contents writer.old writer.new (fields_by exports.now terms name.now) result }
 {
     match asked(exports, name) {
         Some(place) => say_export(writer, export_at(exports, place), terms),
@@ -137,7 +137,7 @@ pub fn say_answer<W: Write>(
     content: &[u8],
 ) -> Result<(), WriteFault>
     requires { HaveShortNames exports.now }
-    ensures { Writes W.contents writer.old writer.new (answer_to (export_records exports.now) terms option content.now) result }
+    ensures { Writes W.contents writer.old writer.new (answer_by exports.now terms option content.now) result }
 {
     match option {
         EXPORT_NAME => say_named(writer, exports, terms, content),

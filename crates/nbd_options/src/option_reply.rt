@@ -3,7 +3,7 @@ ghost use Rattle.std.specs.Prelude.{◌≡◌, flat_map};
 ghost use Rattle.counted_io.specs.Counted.{Writes};
 ghost use Rattle.nbd_protocol.specs.Exports.{HaveShortNames, HasShortName, export_record, export_records};
 ghost use Rattle.nbd_options.specs.OptionReplies.{acknowledged, refused, reply_head, reply_magic};
-ghost use Rattle.nbd_options.specs.Handshake.{export_fields, export_info, list_reply, many_zeros, name_field, server_reply, size_info, told, wanted_sizes, wants_sizes};
+ghost use Rattle.nbd_options.specs.Handshake.{export_fields, export_info, list_reply, many_zeros, name_field, server_reply, size_info, told_by, wanted_sizes, wants_sizes};
 
 use counted_io::{Counted, WriteFault};
 use nbd_protocol::{Export, MOST_LENGTH, Terms, put16, put32, put64};
@@ -143,7 +143,7 @@ pub(crate) fn say_told<W: Write>(
     option: u32,
     wanted: &[u8],
 ) -> Result<(), WriteFault>
-    ensures { Writes W.contents writer.old writer.new (told (export_record export.now) terms option wanted.now) result }
+    ensures { Writes W.contents writer.old writer.new (told_by export.now terms option wanted.now) result }
 {
     say_head(writer, option, INFO, 12)?;
     say_export_info(writer, export, terms)?;

@@ -1,7 +1,9 @@
 -- The devices of a stack, each as an export under its name.
-use Rattle.std.specs.Prelude.{◌≡◌, ◌⊎◌, ℕ, List, [], ◌∷◌, ◌++◌, map}
+use Rattle.std.specs.Prelude.{◌≡◌, ◌⊎◌, ℕ, List, Vec, [], ◌∷◌, ◌++◌, map}
+use Rattle.std.specs.Global.{Global}
 use Rattle.stack_rules.specs.Records.{Configuration, DeviceRecord}
-use Rattle.nbd_protocol.specs.Exports.{ExportRecord, HasNoExport, IsExport}
+use Rattle.nbd_protocol.specs.Exports.{ExportRecord, HasNoExport, IsExport, export_records}
+use Rattle.nbd_protocol.specs.declared.export.Export.{Export}
 
 -- these are the devices' names, in their order
 abbrev pub AreNames : List DeviceRecord → List (List ℕ) → Type 0
@@ -16,3 +18,11 @@ AddsExport c name es es' =
 pub data Offers (c : Configuration) : List (List ℕ) → List ExportRecord → Type 0 where
   offers_none : Offers c [] []
   offers_more : {names : List (List ℕ)} {es es' : List ExportRecord} (name : List ℕ) → Offers c names es → AddsExport c name es es' → Offers c (names ++ name ∷ []) es'
+
+-- ---- both of exports and names in memory
+
+abbrev pub AddsTo : Configuration → List ℕ → Vec Export Global → Vec Export Global → Type 0
+AddsTo c name old new = AddsExport c name (export_records old.items) (export_records new.items)
+
+abbrev pub OffersBy : Configuration → List (Vec ℕ Global) → Vec Export Global → Type 0
+OffersBy c names exports = Offers c (map (λ n. n.items) names) (export_records exports.items)

@@ -44,6 +44,10 @@ Fills old new bytes (Ok true) = Consumes old new bytes
 Fills old new bytes (Ok false) = Consumes old new [] × IsAtEnd new
 Fills old new bytes (Err fault) = (short : IsShort (length bytes) old new fault) × (fault ≡ Lost → 0 < length short.part)
 
+-- the same of a part of a buffer, from a reader
+abbrev pub FillsPart : {R : Type 0} → (R → Option (List ℕ)) → CountedRecord R → CountedRecord R → ℕ → ℕ → List ℕ → Result Bool ServiceFault → Type 0
+FillsPart remaining old new start count buffer result = Fills (remaining old.inner) (remaining new.inner) (take count (drop start buffer)) result
+
 -- n bytes were taken
 pub record Takes (n : ℕ) (old new : Option (List ℕ)) : Type 0 where
   pub bytes : List ℕ
@@ -69,6 +73,10 @@ pub record HavePlace (sectors start count : ℕ) : Type 0 where
 pub record TakesToPlace (found : Option (Vec ℕ Global)) (sectors start n : ℕ) (old new : Option (List ℕ)) : Type 0 where
   pub taken : TakesInto (option_map (λ v. take n (drop start v.items)) found) n old new
   pub room : IfSome found (λ v. length v.items ≡ 512 * sectors)
+
+-- n bytes were taken from a reader so
+abbrev pub TakesSectors : {R : Type 0} → (R → Option (List ℕ)) → CountedRecord R → CountedRecord R → ℕ → ℕ → ℕ → Option (Vec ℕ Global) → Type 0
+TakesSectors remaining old new sectors start n found = TakesToPlace found sectors start n (remaining old.inner) (remaining new.inner)
 
 -- what was taken and what was written are so
 pub record Spoken (old new : Streams) (Is : List ℕ → List ℕ → Type 0) : Type 0 where

@@ -1,7 +1,6 @@
 //! Takes bytes from a client.
-ghost use Rattle.std.specs.Prelude.{◌≡◌, ℕ, ◌<◌, ◌≤◌, ◌+◌, ◌*◌, ◌^◌, drop, length, take, OnOk, IfOk, IfErr};
-ghost use Rattle.nbd_protocol.specs.Streaming.{HavePlace};
-ghost use Rattle.nbd_protocol.specs.Streaming.{Fills, HasRead, IsShort, Takes, TakesToPlace, result_fault};
+ghost use Rattle.std.specs.Prelude.{◌≡◌, ℕ, ◌<◌, ◌≤◌, ◌+◌, ◌*◌, ◌^◌, length, OnOk, IfOk, IfErr};
+ghost use Rattle.nbd_protocol.specs.Streaming.{Fills, FillsPart, HasRead, HavePlace, IsShort, Takes, TakesSectors, result_fault};
 
 use crate::fault::ServiceFault;
 use counted_io::Counted;
@@ -64,7 +63,7 @@ pub fn fill_part<R: Read>(
 ) -> Result<bool, ServiceFault>
     requires some { 0 < count }
     requires inside { start + count ≤ length buffer.old }
-    ensures filled { Fills (R.remaining reader.old.inner) (R.remaining reader.new.inner) (take count (drop start buffer.new)) result }
+    ensures filled { FillsPart R.remaining reader.old reader.new start count buffer.new result }
     ensures reader { HasRead 1 reader.old reader.new (result_fault result) }
 {
     fill(reader, &mut buffer[start..start + count])
@@ -79,7 +78,7 @@ pub fn take_sectors<R: Read>(
     count: u32,
 ) -> Result<Option<Vec<u8>>, ServiceFault>
     requires { HavePlace sectors start count }
-    ensures ok { IfOk result (λ found. TakesToPlace found sectors start count (R.remaining reader.old.inner) (R.remaining reader.new.inner)) }
+    ensures ok { IfOk result (TakesSectors R.remaining reader.old reader.new sectors start count) }
     ensures err { IfErr result (IsShort count (R.remaining reader.old.inner) (R.remaining reader.new.inner)) }
     ensures reader { HasRead 0 reader.old reader.new (result_fault result) }
 {

@@ -1,7 +1,6 @@
 //! The devices of a stack, each as an export under its name.
 ghost use Rattle.std.specs.Prelude.{◌≡◌, map, IfOk, OnOk};
-ghost use Rattle.nbd_protocol.specs.Exports.{export_records};
-ghost use Rattle.nbd_protocol.specs.Offers.{AddsExport, AreNames, Offers};
+ghost use Rattle.nbd_protocol.specs.Offers.{AddsTo, AreNames, OffersBy};
 
 use crate::export::Export;
 use stack_config::Config;
@@ -20,7 +19,7 @@ pub fn names_of(alloc: Global, config: &Config) -> Result<Vec<Vec<u8>>, AllocErr
 
 // Adds the export of that name, if there is one.
 fn add<'a>(exports: &mut Vec<Export<'a>>, config: &Config, name: &'a [u8]) -> Result<(), AllocError>
-    ensures { OnOk result (AddsExport config.now name.now (export_records exports.old.items) (export_records exports.new.items)) }
+    ensures { OnOk result (AddsTo config.now name.now exports.old exports.new) }
 {
     match Export::of(config, name) {
         Some(export) => Ok(exports.push(export)?),
@@ -34,7 +33,7 @@ pub fn exports_of<'a>(
     config: &Config,
     names: &'a [Vec<u8>],
 ) -> Result<Vec<Export<'a>>, AllocError>
-    ensures { IfOk result (λ exports. Offers config.now (map (λ n. n.items) names.now) (export_records exports.items)) }
+    ensures { IfOk result (OffersBy config.now names.now) }
 {
     let mut exports = Vec::new(alloc);
     for name in names {

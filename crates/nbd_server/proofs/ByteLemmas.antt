@@ -58,7 +58,7 @@ module _ (offset len : ℕ) (bytes : List ℕ) (room : length bytes ≡ 512 * to
 -- ---- how a write ends
 
 pub ends-unread : (e : ExportRecord) (w mid w' : World) (offset len : ℕ) (before : List ℕ) (error : RequestError)
-    → ReadsExport e w (offset - offset % 512) (offset % 512) (Ok before) mid → ReadsExport e mid (offset + len) (room_behind offset len) (Err error) w' → FailsToReadEnds e w offset len error w'
+    → ReadsExport e w (offset - offset % 512) (offset % 512) (Ok before) mid → ReadsExport e mid (offset + len) (room_behind offset len) (Err error) w' → FailsToReadEnds e w offset len w' error
 ends-unread e w mid w' offset len before error p q = inr (before, mid, p, q)
 
 pub writes-ended : (e : ExportRecord) (w mid w' : World) (offset : ℕ) (bytes sectors : List ℕ) (result : Result Unit RequestError) → IsFramed e w offset bytes sectors mid
@@ -184,8 +184,8 @@ module _ (e : ExportRecord) (w mid w' : World) (offset len : ℕ) (some : 0 < le
   zeros-some : 0 < length {A = ℕ} (replicate len 0)
   zeros-some = omega (arith, length-replicate {A = ℕ} len 0, some)
 
-  pub zeros-unread : (error : RequestError) → FailsToReadEnds e w offset len error w' → WritesAny e w offset (replicate len 0) (Err error) w'
-  zeros-unread error p = some-written e w offset (replicate len 0) (Err error) w' zeros-some (inl (inl (subst (λ n. FailsToReadEnds e w offset n error w') (sym (length-replicate {A = ℕ} len 0)) p)))
+  pub zeros-unread : (error : RequestError) → FailsToReadEnds e w offset len w' error → WritesAny e w offset (replicate len 0) (Err error) w'
+  zeros-unread error p = some-written e w offset (replicate len 0) (Err error) w' zeros-some (inl (inl (subst (λ n. FailsToReadEnds e w offset n w' error) (sym (length-replicate {A = ℕ} len 0)) p)))
 
   pub zeros-written : (before behind : List ℕ) (result : Result Unit RequestError) → ReadsEnds e w offset len before behind mid → OnOk result (IsStored mid e.device (offset / 512) (before ++ (replicate len 0 ++ behind)) w')
       → IfErr result (λ error. FailsToZero mid e.device (offset / 512) (before ++ (replicate len 0 ++ behind)) error w') → WritesAny e w offset (replicate len 0) (no_bytes result) w'

@@ -33,7 +33,7 @@ ends-led e w mid w' offset length before behind p q =
 framed-led : (e : ExportRecord) (w : World) (offset : ℕ) (bytes sectors : List ℕ) (w' : World) → IsFramed e w offset bytes sectors w' → IsLed EachPart w w'
 framed-led e w offset bytes sectors w' p = ends-led e w p.ends.mid w' offset (length bytes) (Ok p.before) (Ok p.behind) p.ends.first p.ends.last
 
-unread-led : (e : ExportRecord) (w : World) (offset length : ℕ) (error : RequestError) (w' : World) → FailsToReadEnds e w offset length error w' → IsLed EachPart w w'
+unread-led : (e : ExportRecord) (w : World) (offset length : ℕ) (error : RequestError) (w' : World) → FailsToReadEnds e w offset length w' error → IsLed EachPart w w'
 unread-led e w offset length error w' (inl p) = read-led e w (offset - offset % 512) (offset % 512) (Err error) w' p
 unread-led e w offset length error w' (inr p) = ends-led e w p.1 w' offset length (Ok p.0) (Err error) p.2 p.3
 

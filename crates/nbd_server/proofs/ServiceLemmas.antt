@@ -214,7 +214,7 @@ framed-config e w offset bytes sectors w' p =
     read-config e p.ends.mid (offset + length bytes) (room_behind offset (length bytes)) (Ok p.behind) w' p.ends.last
     ∙ read-config e w (offset - offset % 512) (offset % 512) (Ok p.before) p.ends.mid p.ends.first
 
-ends-config : (e : ExportRecord) (w : World) (offset length : ℕ) (error : RequestError) (w' : World) → FailsToReadEnds e w offset length error w' → w'.stack.config ≡ w.stack.config
+ends-config : (e : ExportRecord) (w : World) (offset length : ℕ) (error : RequestError) (w' : World) → FailsToReadEnds e w offset length w' error → w'.stack.config ≡ w.stack.config
 ends-config e w offset length error w' (inl p) = read-config e w (offset - offset % 512) (offset % 512) (Err error) w' p
 ends-config e w offset length error w' (inr p) =
     read-config e p.1 (offset + length) (room_behind offset length) (Err error) w' p.3 ∙ read-config e w (offset - offset % 512) (offset % 512) (Ok p.0) p.1 p.2

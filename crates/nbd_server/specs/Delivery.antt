@@ -2,14 +2,17 @@
 -- reply types": OFFSET_DATA, OFFSET_HOLE and ERROR_OFFSET).
 use Rattle.std.specs.Prelude.{◌≡◌, ◌⊎◌, ◌<◌, ◌≤◌, ℕ, ◌+◌, ◌/◌, ◌%◌, ◌==◌, ◌&&◌, Bool, not, nat_lt, List, [], ◌++◌, Option, Some, None, Result, Ok, Err, if◌then◌else◌}
 use Rattle.std.specs.Io.KnownBytes.{Appends}
+use Rattle.counted_io.specs.Counted.{CountedRecord, WritesSome}
+use Rattle.counted_io.specs.declared.fault.WriteFault.{WriteFault}
 use Rattle.request_queue.specs.World.{World}
-use Rattle.nbd_protocol.specs.Exports.{ExportRecord}
+use Rattle.nbd_protocol.specs.Exports.{ExportRecord, export_record}
 use Rattle.nbd_protocol.specs.Headers.{command_of, is_chunked}
 use Rattle.nbd_protocol.specs.declared.header.Command.{Command}
 use Rattle.nbd_protocol.specs.declared.header.Command.TheVariants.{Read}
 use Rattle.nbd_protocol.specs.declared.header.Header.{Header}
 use Rattle.nbd_protocol.specs.declared.phase.Agreement.{Agreement}
 use Rattle.nbd_protocol.specs.declared.request_error.RequestError.{RequestError}
+use Rattle.nbd_protocol.specs.declared.export.Export.{Export}
 use Rattle.nbd_chunks.specs.Chunks.{error_at_chunk, hole_chunk}
 use Rattle.nbd_server.specs.Content.{TellsContent}
 use Rattle.nbd_server.specs.Status.{TouchZeros, touched}
@@ -94,6 +97,10 @@ abbrev pub AnswersPiece : ExportRecord → Delivery → Progress → World → W
 AnswersPiece e d p w w' old new (Some next) = (chunk : List ℕ) × GoesOnReplying e d p w chunk next w' × Appends old new chunk
 AnswersPiece e d p w w' old new None = (chunk : List ℕ) × IsLost e d p w chunk w' × Appends old new chunk
 
+-- the same of an export that is served to a writer
+abbrev pub WritesPiece : {W : Type 0} → (W → Option (List ℕ)) → CountedRecord W → CountedRecord W → Export → Delivery → Progress → World → World → Option Progress → Type 0
+WritesPiece contents old new export d p w w' next = AnswersPiece (export_record export) d p w w' (contents old.inner) (contents new.inner) next
+
 -- and of one in whose chunk the writer failed
 abbrev pub SendsPiece : ExportRecord → Delivery → Progress → World → World → Type 0
 SendsPiece e d p w w' = ((chunk : List ℕ) × (next : Progress) × GoesOnReplying e d p w chunk next w') ⊎ ((chunk : List ℕ) × IsLost e d p w chunk w')
@@ -127,6 +134,10 @@ pub record DeliversPart (e : ExportRecord) (d : Delivery) (w : World) (reply : L
 
 abbrev pub IsDelivered : ExportRecord → Delivery → World → List ℕ → World → Type 0
 IsDelivered e d w reply w' = DeliversAll e d w reply w' ⊎ DeliversPart e d w reply w'
+
+-- the reply was written
+abbrev pub WritesDelivery : {W : Type 0} → (W → Option (List ℕ)) → CountedRecord W → CountedRecord W → Export → Delivery → World → World → Result Unit WriteFault → Type 0
+WritesDelivery contents old new export d w w' result = WritesSome contents old new (λ reply. IsDelivered (export_record export) d w reply w') result
 
 -- the reply was begun: some pieces were read
 pub record IsBegun (e : ExportRecord) (d : Delivery) (w w' : World) : Type 0 where

@@ -7,7 +7,8 @@ use Rattle.nbd_protocol.specs.declared.export.Export.{Export}
 use Rattle.nbd_protocol.specs.declared.header.Command.{Command}
 use Rattle.nbd_protocol.specs.declared.header.Command.TheVariants.{Write}
 use Rattle.request_queue.specs.World.{World}
-use Rattle.nbd_server.specs.Transmission.{ReadsExport, room_behind}
+use Rattle.nbd_server.specs.Replies.{RequestOutcome}
+use Rattle.nbd_server.specs.Transmission.{ReadsExport, WritesExport, room_behind}
 use Rattle.nbd_server.specs.declared.delivery.Delivery.{Delivery}
 use Rattle.nbd_server.specs.declared.delivery.Progress.{Progress}
 use Rattle.nbd_server.specs.declared.zeros.Zeros.{Zeros}
@@ -61,6 +62,10 @@ pub record HaveEnds (z : Zeros) : Type 0 where
 -- bytes of the export were read, with the sectors that they touch, to the beginning of a buffer
 abbrev pub ReadsTo : ExportRecord → World → ℕ → ℕ → List ℕ → World → Type 0
 ReadsTo e w at count buffer w' = ReadsExport e w at count (Ok (take count (drop (at % 512) buffer))) w'
+
+-- bytes of the export were written, which stand at their place in a buffer of the sectors that they touch
+abbrev pub WritesFrom : ExportRecord → World → ℕ → ℕ → List ℕ → RequestOutcome → World → Type 0
+WritesFrom e w at count buffer outcome w' = WritesExport e w at (take count (drop (at % 512) buffer)) outcome w'
 
 -- what is left of a READ that is answered piece by piece
 pub record IsDeliveryRest (d : Delivery) (p : Progress) : Type 0 where

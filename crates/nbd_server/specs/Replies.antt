@@ -11,10 +11,14 @@ use Rattle.nbd_chunks.specs.Chunks.{data_chunk, error_chunk, none_chunk, status_
 abbrev pub RequestOutcome : Type 0
 RequestOutcome = Result (List ℕ) RequestError
 
+-- the beginning of a simple reply
+abbrev pub simple_head : ℕ → ℕ → List ℕ
+simple_head error cookie = bytes32 0x67446698 ++ (bytes32 error ++ bytes64 cookie)
+
 -- a simple reply, under the request's cookie
 abbrev pub simple_reply : ℕ → RequestOutcome → List ℕ
 simple_reply cookie (Ok content) = bytes32 0x67446698 ++ (bytes32 0 ++ (bytes64 cookie ++ content))
-simple_reply cookie (Err error) = bytes32 0x67446698 ++ (bytes32 (error_number error) ++ bytes64 cookie)
+simple_reply cookie (Err error) = simple_head (error_number error) cookie
 
 -- the bytes of a READ: one chunk, or none of data where there are none
 abbrev pub read_chunk : Header → List ℕ → List ℕ

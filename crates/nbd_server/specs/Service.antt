@@ -1,16 +1,18 @@
 -- The service of a client: its messages one after another, and what is replied to each.
-use Rattle.std.specs.Prelude.{◌≡◌, ◌≢◌, ◌⊎◌, ℕ, ◌<◌, ◌≤◌, nat_le, true, false, List, [], ◌++◌, length, take, codes, Option, Some, None, Result, Ok, Err}
+use Rattle.std.specs.Prelude.{◌≡◌, ◌≢◌, ◌⊎◌, ℕ, ◌<◌, ◌≤◌, nat_le, true, false, List, [], ◌++◌, length, take, codes, Bool, Option, Some, None, Result, Ok, Err}
 use Rattle.std.specs.Io.KnownBytes.{Appends, Consumes, IsAtEnd, Keeps}
 use Rattle.request_queue.specs.Parts.{EachPart}
 use Rattle.request_queue.specs.Runs.{IsLed}
 use Rattle.request_queue.specs.World.{World}
-use Rattle.counted_io.specs.Streams.{Streams}
+use Rattle.counted_io.specs.Counted.{CountedRecord}
+use Rattle.counted_io.specs.Streams.{Streams, streams}
 use Rattle.nbd_protocol.specs.Numbers.{big_endian32}
-use Rattle.nbd_protocol.specs.Exports.{ExportRecord, asked, export_at}
+use Rattle.nbd_protocol.specs.Exports.{ExportRecord, asked, export_at, export_records}
+use Rattle.nbd_protocol.specs.declared.export.Export.{Export}
 use Rattle.nbd_options.specs.Handshake.{greeting, answer_to, answer_to_long, phase_after, phase_after_long, names_export, most_data}
 use Rattle.nbd_protocol.specs.Headers.{header_of, payload_len, request_magic}
 use Rattle.nbd_server.specs.Causes.{Breaks}
-use Rattle.nbd_protocol.specs.Streaming.{Spoken}
+use Rattle.nbd_protocol.specs.Streaming.{Spoken, TakesInto, content_in}
 use Rattle.nbd_server.specs.Replies.{RequestOutcome, agreed_reply}
 use Rattle.nbd_server.specs.Transmission.{ServesRequest}
 use Rattle.nbd_server.specs.Delivery.{IsBegun, IsDelivered, delivery_of}
@@ -111,6 +113,18 @@ EndsReply Is Ends old new (Ok next) = (reply : List ℕ) × Is reply next × App
 EndsReply Is Ends old new (Err WriteFault) = (reply : List ℕ) × (next : Phase) × Is reply next
 EndsReply Is Ends old new (Err fault) = Keeps old new × Ends fault
 
+-- the same of an option of these exports' client, and of one whose data are too long
+abbrev pub EndsOption : {W : Type 0} → (W → Option (List ℕ)) → CountedRecord W → CountedRecord W → List Export → Terms → ℕ → List ℕ → Result Phase ServiceFault → Type 0
+EndsOption contents old new exports terms option content result =
+    EndsReply (IsAnswered (export_records exports) terms option content) (IsExportUnnamed (export_records exports) option content) (contents old.inner) (contents new.inner) result
+
+abbrev pub EndsLongOption : {W : Type 0} → (W → Option (List ℕ)) → CountedRecord W → CountedRecord W → Terms → ℕ → ℕ → Result Phase ServiceFault → Type 0
+EndsLongOption contents old new terms option count result = EndsReply (IsTooLong terms option count) (IsNameUnread option count) (contents old.inner) (contents new.inner) result
+
+-- the data of an option were taken to the front of a buffer, if they fit in
+abbrev pub TakesContent : {R : Type 0} → (R → Option (List ℕ)) → CountedRecord R → CountedRecord R → ℕ → List ℕ → Bool → Type 0
+TakesContent remaining old new count room fits = TakesInto (content_in fits count room) count (remaining old.inner) (remaining new.inner)
+
 -- a message was taken and done, and the writer failed in its reply
 pub record IsUnanswered (es : List ExportRecord) (phase : Phase) (w w' : World) (old new : Option (List ℕ)) : Type 0 where
   pub message : List ℕ
@@ -145,6 +159,11 @@ EndsMessage es phase w w' old new (Ok (Some next)) = Spoken old new (λ message 
 EndsMessage es phase w w' old new (Ok None) = Spoken old new (λ taken written. (taken ≡ []) × (written ≡ []) × (w' ≡ w)) × IsAtEnd new.input
 EndsMessage es phase w w' old new (Err WriteFault) = IsUnanswered es phase w w' old.input new.input ⊎ IsInterrupted es phase w w' old.input new.input
 EndsMessage es phase w w' old new (Err fault) = Spoken old new (λ taken written. (written ≡ []) × (w' ≡ w) × Breaks es phase taken new.input fault)
+
+-- how the message of the client's flags ends, whatever the exports, the world and what was written
+abbrev pub EndsFlags : {R : Type 0} → (R → Option (List ℕ)) → CountedRecord R → CountedRecord R → Result (Option Phase) ServiceFault → Type 0
+EndsFlags remaining old new result =
+    (es : List ExportRecord) (w : World) (written : Option (List ℕ)) → EndsMessage es Greeted w w (streams (remaining old.inner) written) (streams (remaining new.inner) written) result
 
 -- how the service ends after those messages: the client ended it or went away, or the fault has its cause in the rest
 abbrev pub EndsSo : List ExportRecord → Phase → List ℕ → Option (List ℕ) → Result Unit ServiceFault → Type 0

@@ -1,6 +1,7 @@
 -- Block status by the context base:allocation (in the protocol's document NBD_CMD_BLOCK_STATUS and
 -- NBD_REPLY_TYPE_BLOCK_STATUS).
-use Rattle.std.specs.Prelude.{◌≡◌, ◌<◌, ◌≤◌, ℕ, ◌+◌, ◌-◌, ◌/◌, ◌%◌, Bool, IsTrue, List, [], ◌++◌, length, take, drop, replicate, Ok, Err, if◌then◌else◌}
+use Rattle.std.specs.Prelude.{◌≡◌, ◌<◌, ◌≤◌, ℕ, ◌+◌, ◌-◌, ◌/◌, ◌%◌, Bool, IsTrue, List, Vec, [], ◌++◌, length, take, drop, replicate, Ok, Err, if◌then◌else◌}
+use Rattle.std.specs.Global.{Global}
 use Rattle.stack_rules.specs.Names.{mapped}
 use Rattle.stack_rules.specs.Records.{Configuration}
 use Rattle.stack_meaning.specs.Meaning.{said_at}
@@ -64,3 +65,11 @@ pub record HasStatus (Null : ℕ → ℕ → Type 0) (offset count : ℕ) (one :
   pub few : done ≤ count
   pub small : length told ≤ 8192
   pub single : IsTrue one → length told ≡ 8
+
+-- that of bytes whose lines alone were asked, as it was told
+abbrev pub IsStatusOfLines : Configuration → ExportRecord → ℕ → ℕ → Bool → Vec ℕ Global → Type 0
+IsStatusOfLines c e offset count one told = HasStatus (TouchZeros c e) offset count one told.items
+
+-- and that of bytes that were read
+abbrev pub IsStatusOfBytes : ℕ → List ℕ → Bool → Vec ℕ Global → Type 0
+IsStatusOfBytes first content one told = HasStatus (AreReadAsZeros first (Ok content)) first (length content) one told.items

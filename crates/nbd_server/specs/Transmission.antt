@@ -1,10 +1,12 @@
 -- The transmission phase: what a request is answered.
-use Rattle.std.specs.Prelude.{◌≡◌, ◌⊎◌, ◌≤◌, ℕ, ◌+◌, ◌-◌, ◌*◌, ◌/◌, ◌%◌, Bool, true, false, List, [], ◌∷◌, ◌++◌, length, take, drop, replicate, Result, Ok, Err, IfOk, Option}
+use Rattle.std.specs.Prelude.{◌≡◌, ◌⊎◌, ◌≤◌, ℕ, ◌+◌, ◌-◌, ◌*◌, ◌/◌, ◌%◌, Bool, true, false, List, Vec, [], ◌∷◌, ◌++◌, length, take, drop, replicate, Result, Ok, Err, IfOk, Option}
+use Rattle.std.specs.Global.{Global}
 use Rattle.std.specs.Io.KnownBytes.{Consumes}
+use Rattle.counted_io.specs.Counted.{CountedRecord}
 use Rattle.stack_meaning.specs.declared.fault.IoFault.{IoFault}
 use Rattle.request_queue.specs.Parts.{EachPart}
 use Rattle.request_queue.specs.World.{World, Step, sync}
-use Rattle.nbd_protocol.specs.Exports.{ExportRecord}
+use Rattle.nbd_protocol.specs.Exports.{ExportRecord, export_record}
 use Rattle.nbd_protocol.specs.Headers.{command_of, most_length, payload_len}
 use Rattle.nbd_protocol.specs.declared.phase.Agreement.{Agreement}
 use Rattle.nbd_server.specs.Replies.{RequestOutcome}
@@ -13,6 +15,10 @@ use Rattle.nbd_server.specs.Sectors.{IsFetched, FailsToFetch, IsStored, IsPartPu
 use Rattle.nbd_protocol.specs.declared.header.Header.{Header}
 use Rattle.nbd_protocol.specs.declared.header.Command.{Command}
 use Rattle.nbd_protocol.specs.declared.header.Command.TheVariants.{Read, Write, Zero, Hint, Flush, Status}
+use Rattle.nbd_protocol.specs.Streaming.{IsShort}
+use Rattle.nbd_protocol.specs.declared.export.Export.{Export}
+use Rattle.nbd_protocol.specs.declared.fault.ServiceFault.{ServiceFault}
+use Rattle.nbd_server.specs.declared.byte_range.Ends.{Ends}
 use Rattle.nbd_server.specs.declared.reply.Data.{Data}
 use Rattle.nbd_protocol.specs.declared.request_error.RequestError.{RequestError}
 use Rattle.nbd_protocol.specs.declared.request_error.RequestError.TheVariants.{NoMemory, InputOutput}
@@ -25,6 +31,10 @@ Stays w outcome w' = (outcome ≡ Ok []) × (w' ≡ w)
 abbrev pub ReadsExport : ExportRecord → World → ℕ → ℕ → RequestOutcome → World → Type 0
 ReadsExport e w offset length (Ok content) w' = (bytes : List ℕ) × IsFetched w e.device (offset / 512) (touched offset length) bytes w' × (content ≡ take length (drop (offset % 512) bytes))
 ReadsExport e w offset length (Err error) w' = FailsToFetch w e.device (offset / 512) (touched offset length) error w'
+
+-- they couldn't be read
+abbrev pub FailsToReadBytes : ExportRecord → World → ℕ → ℕ → World → RequestError → Type 0
+FailsToReadBytes e w offset length w' error = ReadsExport e w offset length (Err error) w'
 
 -- ---- writes
 
@@ -39,8 +49,8 @@ pub record ReadsEnds (e : ExportRecord) (w : World) (offset length : ℕ) (befor
   pub last : ReadsExport e mid (offset + length) (room_behind offset length) (Ok behind) w'
 
 -- one of the two couldn't be read
-abbrev pub FailsToReadEnds : ExportRecord → World → ℕ → ℕ → RequestError → World → Type 0
-FailsToReadEnds e w offset length error w' =
+abbrev pub FailsToReadEnds : ExportRecord → World → ℕ → ℕ → World → RequestError → Type 0
+FailsToReadEnds e w offset length w' error =
     ReadsExport e w (offset - offset % 512) (offset % 512) (Err error) w'
     ⊎ ((before : List ℕ) × (mid : World) × ReadsExport e w (offset - offset % 512) (offset % 512) (Ok before) mid
     × ReadsExport e mid (offset + length) (room_behind offset length) (Err error) w')
@@ -57,7 +67,7 @@ abbrev pub WritesExport : ExportRecord → World → ℕ → List ℕ → Reques
 WritesExport e w offset bytes (Ok content) w' =
     (content ≡ []) × (sectors : List ℕ) × (mid : World) × IsFramed e w offset bytes sectors mid × IsStored mid e.device (offset / 512) sectors w'
 WritesExport e w offset bytes (Err error) w' =
-    FailsToReadEnds e w offset (length bytes) error w'
+    FailsToReadEnds e w offset (length bytes) w' error
     ⊎ ((sectors : List ℕ) × (mid : World) × IsFramed e w offset bytes sectors mid × FailsToPutAll mid e.device (offset / 512) sectors error w')
 
 -- a write of no bytes does nothing
@@ -88,6 +98,10 @@ Settles false Does outcome w' = Does outcome w'
 Settles true Does (Ok content) w' = (mid : World) × Does (Ok []) mid × Flushes mid (Ok content) w'
 Settles true Does (Err error) w' = Does (Err error) w' ⊎ ((mid : World) × Does (Ok []) mid × Flushes mid (Err error) w')
 
+-- a WRITE_ZEROES: a write of as many zeros, run by run
+abbrev pub ServesZero : ExportRecord → World → ℕ → ℕ → Bool → RequestOutcome → World → Type 0
+ServesZero e w offset length fua outcome w' = Settles fua (WritesAny e w offset (replicate length 0)) outcome w'
+
 -- ---- block status
 
 -- Of some bytes the first ones, at most 256 KiB, were read with that outcome: they lie on verity lines that ignore blocks
@@ -109,6 +123,13 @@ pub record ReadsStatus (e : ExportRecord) (w : World) (offset count : ℕ) (one 
 abbrev pub TellsExtents : ExportRecord → World → ℕ → ℕ → Bool → List ℕ → World → Type 0
 TellsExtents e w offset count one told w' = (HasStatus (TouchZeros w.stack.config e) offset count one told × (w' ≡ w)) ⊎ ReadsStatus e w offset count one told w'
 
+-- as it was told
+abbrev pub AreExtentsTold : ExportRecord → World → ℕ → ℕ → Bool → World → Vec ℕ Global → Type 0
+AreExtentsTold e w offset count one w' told = TellsExtents e w offset count one told.items w'
+
+abbrev pub IsStatusRead : ExportRecord → World → ℕ → ℕ → Bool → World → Vec ℕ Global → Type 0
+IsStatusRead e w offset count one w' told = ReadsStatus e w offset count one told.items w'
+
 -- nothing was read, or such bytes were
 abbrev pub StaysOrReads : ExportRecord → World → ℕ → ℕ → World → Type 0
 StaysOrReads e w offset count w' = (w' ≡ w) ⊎ ((size : ℕ) × (outcome : RequestOutcome) × ReadsIgnoring e w offset count size outcome w')
@@ -128,12 +149,12 @@ RefusesRequest w error outcome w' = (outcome ≡ Err error) × (w' ≡ w)
 abbrev pub WritesGiven : ExportRecord → World → ℕ → List ℕ → RequestOutcome → World → Type 0
 WritesGiven e w offset bytes outcome w' = RefusesRequest w NoMemory outcome w' ⊎ WritesPayload e w offset bytes outcome w'
 
--- How a request ends that asks for this, or has that fault. WRITE_ZEROES is a write of as many zeros, run by run.
+-- How a request ends that asks for this, or has that fault.
 abbrev pub ServesCommand : ExportRecord → World → Result Command RequestError → List ℕ → RequestOutcome → World → Type 0
 ServesCommand e w (Err error) payload outcome w' = RefusesRequest w error outcome w'
 ServesCommand e w (Ok (Read offset length)) payload outcome w' = ReadsExport e w offset length outcome w'
 ServesCommand e w (Ok (Write offset length fua)) payload outcome w' = Settles fua (WritesGiven e w offset payload) outcome w'
-ServesCommand e w (Ok (Zero offset length fua)) payload outcome w' = Settles fua (WritesAny e w offset (replicate length 0)) outcome w'
+ServesCommand e w (Ok (Zero offset length fua)) payload outcome w' = ServesZero e w offset length fua outcome w'
 ServesCommand e w (Ok Hint) payload outcome w' = Stays w outcome w'
 ServesCommand e w (Ok Flush) payload outcome w' = Flushes w outcome w'
 ServesCommand e w (Ok (Status offset length one)) payload outcome w' = TellsStatus e w offset length one outcome w'
@@ -145,6 +166,10 @@ ServesRequest e a w h payload outcome w' = ServesCommand e w (command_of e a h) 
 -- the part of the bytes that is meant
 abbrev pub reply_data : Data → List ℕ
 reply_data d = take d.length (drop d.start d.bytes.items)
+
+-- what stands around some bytes was read: these parts
+abbrev pub AreEndsRead : ExportRecord → World → ℕ → ℕ → World → Ends → Type 0
+AreEndsRead e w offset length w' ends = ReadsEnds e w offset length (reply_data ends.before) (reply_data ends.behind) w'
 
 abbrev pub data_outcome : Result Data RequestError → RequestOutcome
 data_outcome (Ok d) = Ok (reply_data d)
@@ -174,3 +199,11 @@ pub record IsTakenAndServed (e : ExportRecord) (a : Agreement) (w : World) (h : 
   pub consumed : Consumes old new payload
   pub serves : ServesRequest e a w h payload (data_outcome outcome) w'
   pub inside : IsSendable outcome
+
+-- the bytes that follow a request were taken from a reader, and it was served
+abbrev pub Handles : {R : Type 0} → (R → Option (List ℕ)) → CountedRecord R → CountedRecord R → Export → Agreement → Header → World → World → Result Data RequestError → Type 0
+Handles remaining old new export a h w w' outcome = IsTakenAndServed (export_record export) a w h (remaining old.inner) (remaining new.inner) outcome w'
+
+-- so many bytes were to follow it, but fewer came, and nothing was done
+abbrev pub FallsShort : {R : Type 0} → (R → Option (List ℕ)) → CountedRecord R → CountedRecord R → ℕ → World → World → ServiceFault → Type 0
+FallsShort remaining old new count w w' fault = IsShort count (remaining old.inner) (remaining new.inner) fault × (w' ≡ w)

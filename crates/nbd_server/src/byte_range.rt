@@ -1,9 +1,9 @@
 //! Bytes of the export, read and written by the sectors that they touch.
-ghost use Rattle.std.specs.Prelude.{◌≡◌, ◌<◌, ◌≤◌, ◌+◌, ◌*◌, ◌%◌, ◌^◌, drop, length, replicate, take, Ok, IfErr, IfOk, IsTrue};
+ghost use Rattle.std.specs.Prelude.{◌≡◌, ◌<◌, ◌≤◌, ◌+◌, ◌*◌, ◌%◌, ◌^◌, length, replicate, Ok, IfErr, IfOk, IsTrue};
 ghost use Rattle.nbd_protocol.specs.Exports.{export_record};
-ghost use Rattle.nbd_server.specs.Premises.{AreBytesOf, HaveSizes};
+ghost use Rattle.nbd_server.specs.Premises.{AreBytesOf, HaveSizes, WritesFrom};
 ghost use Rattle.nbd_server.specs.Status.{touched};
-ghost use Rattle.nbd_server.specs.Transmission.{FailsToReadEnds, IsPartInside, ReadsExport, ReadsEnds, WritesExport, WritesAny, reply_data, data_outcome, no_bytes};
+ghost use Rattle.nbd_server.specs.Transmission.{AreEndsRead, FailsToReadEnds, IsPartInside, ReadsExport, WritesAny, reply_data, data_outcome, no_bytes};
 
 use crate::fetch::fetch;
 use crate::reply::Data;
@@ -59,10 +59,10 @@ fn read_ends<D: BlockDev>(
     len: u32,
 ) -> Result<Ends, RequestError>
     requires { AreBytesOf queue.old.stack.config (export_record export.now) offset len }
-    ensures ok { IfOk result (λ ends. ReadsEnds (export_record export.now) queue.old offset len (reply_data ends.before) (reply_data ends.behind) queue.new) }
+    ensures ok { IfOk result (AreEndsRead (export_record export.now) queue.old offset len queue.new) }
     ensures sizes { IfOk result (λ ends. HaveSizes offset len (reply_data ends.before) (reply_data ends.behind)) }
     ensures inside { IfOk result (λ ends. IsPartInside (Ok ends.before) × IsPartInside (Ok ends.behind)) }
-    ensures err { IfErr result (λ error. FailsToReadEnds (export_record export.now) queue.old offset len error queue.new) }
+    ensures err { IfErr result (FailsToReadEnds (export_record export.now) queue.old offset len queue.new) }
 {
     let start = (offset % 512) as usize;
     let before = read_bytes(alloc, queue, export, offset - start as u64, start as u32)?;
@@ -83,7 +83,7 @@ pub(crate) fn write_bytes<D: BlockDev>(
     requires bytes { AreBytesOf queue.old.stack.config (export_record export.now) offset len }
     requires room { length bytes.old ≡ 512 * touched offset len }
     requires allowed { IsTrue export.now.writable }
-    ensures { WritesExport (export_record export.now) queue.old offset (take len (drop (offset % 512) bytes.old)) (no_bytes result) queue.new }
+    ensures { WritesFrom (export_record export.now) queue.old offset len bytes.old (no_bytes result) queue.new }
 {
     let ends = read_ends(alloc, queue, export, offset, len)?;
     let start = (offset % 512) as usize;

@@ -1,13 +1,13 @@
 //! A READ that is answered piece by piece.
-ghost use Rattle.std.specs.Prelude.{◌≡◌, ◌<◌, ◌≤◌, ◌+◌, ◌*◌, ◌%◌, ◌^◌, ◌==◌, length, true, IsTrue, Err, IfErr, IfOk, IfSome, OnErr, OnOk};
+ghost use Rattle.std.specs.Prelude.{◌≡◌, ◌<◌, ◌≤◌, ◌+◌, ◌*◌, ◌%◌, ◌^◌, ◌==◌, length, true, IsTrue, IfErr, IfOk, IfSome, OnErr, OnOk};
 ghost use Rattle.counted_io.specs.Counted.{Writes, WritesSome};
 ghost use Rattle.nbd_protocol.specs.Exports.{export_record};
 ghost use Rattle.nbd_chunks.specs.Chunks.{hole_chunk};
 ghost use Rattle.nbd_server.specs.Content.{TellsContent};
 ghost use Rattle.nbd_server.specs.Premises.{AreBytesOf, IsDeliveryRest, ReadsTo};
 ghost use Rattle.nbd_server.specs.Status.{touched};
-ghost use Rattle.nbd_server.specs.Transmission.{ReadsExport};
-ghost use Rattle.nbd_server.specs.Delivery.{AnswersPiece, IsDelivered, IsDeliveryPiece, IsStuck, SendsPiece, delivery_of, has_df, most_piece_bytes};
+ghost use Rattle.nbd_server.specs.Transmission.{FailsToReadBytes};
+ghost use Rattle.nbd_server.specs.Delivery.{IsDeliveryPiece, IsStuck, SendsPiece, WritesDelivery, WritesPiece, delivery_of, has_df, most_piece_bytes};
 
 use crate::byte_range::touched;
 use crate::content::say_content;
@@ -154,7 +154,7 @@ fn read_to<D: BlockDev>(
     requires bytes { AreBytesOf queue.old.stack.config (export_record export.now) at size }
     requires room { 512 * touched at size ≤ length out.old }
     ensures ok { OnOk result (ReadsTo (export_record export.now) queue.old at size out.new queue.new) }
-    ensures err { IfErr result (λ error. ReadsExport (export_record export.now) queue.old at size (Err error) queue.new) }
+    ensures err { IfErr result (FailsToReadBytes (export_record export.now) queue.old at size queue.new) }
 {
     let count = touched(at, size);
     read_into(
@@ -177,7 +177,7 @@ fn read_piece<D: BlockDev>(
     requires { AreBytesOf queue.old.stack.config (export_record export.now) at size }
     ensures ok { OnOk result (ReadsTo (export_record export.now) queue.old at size room.new.bytes.items queue.new) }
     ensures inside { OnOk result (at % 512 + size ≤ length room.new.bytes.items) }
-    ensures err { IfErr result (λ error. ReadsExport (export_record export.now) queue.old at size (Err error) queue.new) }
+    ensures err { IfErr result (FailsToReadBytes (export_record export.now) queue.old at size queue.new) }
 {
     room.grow(512 * touched(at, size))?;
     read_to(queue, export, at, size, room.bytes.as_mut_slice())
@@ -194,7 +194,7 @@ fn deliver_piece<D: BlockDev, W: Write>(
 ) -> Result<Option<Progress>, WriteFault>
     requires bytes { AreBytesOf queue.old.stack.config (export_record export.now) delivery.offset delivery.count }
     requires some { progress.done < delivery.count }
-    ensures ok { IfOk result (AnswersPiece (export_record export.now) delivery progress queue.old queue.new (W.contents writer.old.inner) (W.contents writer.new.inner)) }
+    ensures ok { IfOk result (WritesPiece W.contents writer.old writer.new export.now delivery progress queue.old queue.new) }
     ensures err { OnErr result (SendsPiece (export_record export.now) delivery progress queue.old queue.new) }
     ensures kept { IfOk result (λ _. writer.new.failed ≡ writer.old.failed) }
     ensures failed { OnErr result (writer.new.failed ≡ true) }
@@ -234,7 +234,7 @@ fn deliver_next<D: BlockDev, W: Write>(
 ) -> Result<Option<Progress>, WriteFault>
     requires bytes { AreBytesOf queue.old.stack.config (export_record export.now) delivery.offset delivery.count }
     requires some { progress.done < delivery.count }
-    ensures ok { IfOk result (AnswersPiece (export_record export.now) delivery progress queue.old queue.new (W.contents writer.old.inner) (W.contents writer.new.inner)) }
+    ensures ok { IfOk result (WritesPiece W.contents writer.old writer.new export.now delivery progress queue.old queue.new) }
     ensures err { OnErr result (SendsPiece (export_record export.now) delivery progress queue.old queue.new) }
     ensures kept { IfOk result (λ _. writer.new.failed ≡ writer.old.failed) }
     ensures failed { OnErr result (writer.new.failed ≡ true) }
@@ -264,7 +264,7 @@ pub(crate) fn deliver<D: BlockDev, W: Write>(
     writer: &mut Counted<W>,
 ) -> Result<(), WriteFault>
     requires { AreBytesOf queue.old.stack.config (export_record export.now) delivery.offset delivery.count }
-    ensures reply { WritesSome W.contents writer.old writer.new (λ reply. IsDelivered (export_record export.now) delivery queue.old reply queue.new) result }
+    ensures reply { WritesDelivery W.contents writer.old writer.new export.now delivery queue.old queue.new result }
     ensures stuck { OnErr result (IsStuck (export_record export.now) delivery queue.old queue.new) }
 {
     let mut progress = Progress { done: 0, slow: 0 };

@@ -1,11 +1,11 @@
 //! The handshake's messages: the client's flags, and the options that it haggles over.
-ghost use Rattle.std.specs.Prelude.{◌≡◌, ◌≢◌, ◌<◌, ◌≤◌, ◌^◌, ℕ, List, length, nat_le, Option, IfOk, IfErr};
+ghost use Rattle.std.specs.Prelude.{◌≡◌, ◌≢◌, ◌<◌, ◌≤◌, ◌^◌, length, nat_le, IfOk, IfErr};
 ghost use Rattle.counted_io.specs.Streams.{streams};
 ghost use Rattle.request_queue.specs.World.{World};
-ghost use Rattle.nbd_protocol.specs.Exports.{HaveShortNames, ExportRecord, export_records};
-ghost use Rattle.nbd_server.specs.Service.{EndsReply, IsAnswered, IsTooLong, IsExportUnnamed, IsNameUnread, EndsMessage};
-ghost use Rattle.nbd_protocol.specs.Streaming.{HasRead, HasWritten, IsShort, TakesInto, content_in, result_fault};
-ghost use Rattle.nbd_protocol.specs.declared.phase.Phase.TheVariants.{Greeted, Haggling};
+ghost use Rattle.nbd_protocol.specs.Exports.{HaveShortNames, export_records};
+ghost use Rattle.nbd_server.specs.Service.{EndsFlags, EndsLongOption, EndsMessage, EndsOption, TakesContent};
+ghost use Rattle.nbd_protocol.specs.Streaming.{HasRead, HasWritten, IsShort, result_fault};
+ghost use Rattle.nbd_protocol.specs.declared.phase.Phase.TheVariants.{Haggling};
 
 use counted_io::Counted;
 use nbd_options::{
@@ -20,7 +20,7 @@ const MOST_DATA: usize = 65536;
 
 /// Takes the client's flags.
 pub(crate) fn take_flags<R: Read>(reader: &mut Counted<R>) -> Result<Option<Phase>, ServiceFault>
-    ensures turn { (es : List ExportRecord) (w : World) (written : Option (List ℕ)) → EndsMessage es Greeted w w (streams (R.remaining reader.old.inner) written) (streams (R.remaining reader.new.inner) written) result }
+    ensures turn { EndsFlags R.remaining reader.old reader.new result }
     ensures reader { HasRead 1 reader.old reader.new (result_fault result) }
     ensures other { result ≢ Err ServiceFault.WriteFault }
 {
@@ -48,7 +48,7 @@ fn take_content<R: Read>(
     count: u32,
 ) -> Result<bool, ServiceFault>
     requires { length room.old ≡ MOST_DATA }
-    ensures ok { IfOk result (λ fits. TakesInto (content_in fits count room.new) count (R.remaining reader.old.inner) (R.remaining reader.new.inner)) }
+    ensures ok { IfOk result (TakesContent R.remaining reader.old reader.new count room.new) }
     ensures fits { IfOk result (λ fits. fits ≡ nat_le count MOST_DATA) }
     ensures err { IfErr result (IsShort count (R.remaining reader.old.inner) (R.remaining reader.new.inner)) }
     ensures reader { HasRead 0 reader.old reader.new (result_fault result) }
@@ -74,7 +74,7 @@ fn refuse_content<W: Write>(
     writer: &mut Counted<W>,
 ) -> Result<Phase, ServiceFault>
     requires { MOST_DATA < count }
-    ensures answer { EndsReply (IsTooLong terms option count) (IsNameUnread option count) (W.contents writer.old.inner) (W.contents writer.new.inner) result }
+    ensures answer { EndsLongOption W.contents writer.old writer.new terms option count result }
     ensures writer { HasWritten writer.old writer.new (result_fault result) }
 {
     if option == EXPORT_NAME {
@@ -100,7 +100,7 @@ fn answer_option<W: Write>(
 ) -> Result<Phase, ServiceFault>
     requires names { HaveShortNames exports.now }
     requires short { length content.now ≤ MOST_DATA }
-    ensures answer { EndsReply (IsAnswered (export_records exports.now) terms option content.now) (IsExportUnnamed (export_records exports.now) option content.now) (W.contents writer.old.inner) (W.contents writer.new.inner) result }
+    ensures answer { EndsOption W.contents writer.old writer.new exports.now terms option content.now result }
     ensures writer { HasWritten writer.old writer.new (result_fault result) }
 {
     if !names_export(exports, option, content) {

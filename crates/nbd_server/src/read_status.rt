@@ -1,9 +1,9 @@
 //! The status of bytes that are read for it: those of `verity` lines that ignore blocks of zeros.
-ghost use Rattle.std.specs.Prelude.{◌≡◌, ◌<◌, ◌≤◌, ◌+◌, ◌^◌, length, replicate, take, Ok, IfOk, IsTrue, OnErr};
+ghost use Rattle.std.specs.Prelude.{◌≡◌, ◌<◌, ◌≤◌, ◌+◌, ◌^◌, length, replicate, take, IfOk, IsTrue, OnErr};
 ghost use Rattle.nbd_protocol.specs.Exports.{export_record};
 ghost use Rattle.nbd_server.specs.Premises.{AreBytesOf};
-ghost use Rattle.nbd_server.specs.Status.{AreReadAsZeros, HasStatus, TouchIgnoring};
-ghost use Rattle.nbd_server.specs.Transmission.{ReadsStatus, StaysOrReads};
+ghost use Rattle.nbd_server.specs.Status.{IsStatusOfBytes, TouchIgnoring};
+ghost use Rattle.nbd_server.specs.Transmission.{IsStatusRead, StaysOrReads};
 
 use crate::byte_range::read_bytes;
 use crate::content::{BLOCK, are_zeros};
@@ -62,7 +62,7 @@ fn tell_runs(alloc: Global, at: u64, bytes: &[u8], one: bool) -> Result<Vec<u8>,
     requires some { 0 < length bytes.now }
     requires few { length bytes.now ≤ 262144 }
     requires place { at + length bytes.now < 2 ^ 64 }
-    ensures { IfOk result (λ told. HasStatus (AreReadAsZeros at (Ok bytes.now)) at (length bytes.now) one told.items) }
+    ensures { IfOk result (IsStatusOfBytes at bytes.now one) }
 {
     let first = first_run(at, bytes);
     let mut told = first_status(alloc, first)?;
@@ -95,7 +95,7 @@ pub(crate) fn read_status<D: BlockDev>(
     requires bytes { AreBytesOf queue.old.stack.config (export_record export.now) offset count }
     requires some { 0 < count }
     requires ignoring { TouchIgnoring queue.old.stack.config (export_record export.now) offset count }
-    ensures ok { IfOk result (λ told. ReadsStatus (export_record export.now) queue.old offset count one told.items queue.new) }
+    ensures ok { IfOk result (IsStatusRead (export_record export.now) queue.old offset count one queue.new) }
     ensures err { OnErr result (StaysOrReads (export_record export.now) queue.old offset count queue.new) }
 {
     let room = room_at(offset, one).min(u64::from(count));

@@ -1,9 +1,8 @@
 //! Replies to requests.
-ghost use Rattle.std.specs.Prelude.{◌≡◌, ◌<◌, ◌≤◌, ◌+◌, ◌^◌, [], ◌++◌, length};
+ghost use Rattle.std.specs.Prelude.{◌≡◌, ◌<◌, ◌≤◌, ◌+◌, ◌^◌, [], length};
 ghost use Rattle.counted_io.specs.Counted.{Writes};
 ghost use Rattle.nbd_protocol.specs.Headers.{most_length};
-ghost use Rattle.nbd_protocol.specs.Numbers.{bytes32, bytes64};
-ghost use Rattle.nbd_server.specs.Replies.{chunked_reply, content_chunk, read_chunk, agreed_reply, simple_reply};
+ghost use Rattle.nbd_server.specs.Replies.{chunked_reply, content_chunk, read_chunk, agreed_reply, simple_head, simple_reply};
 ghost use Rattle.nbd_server.specs.Transmission.{IsPart, IsSendable, reply_data, data_outcome};
 
 use counted_io::{Counted, WriteFault};
@@ -60,7 +59,7 @@ impl Data {
 
 // A reply, but for its data.
 fn say_head<W: Write>(writer: &mut Counted<W>, error: u32, cookie: u64) -> Result<(), WriteFault>
-    ensures { Writes W.contents writer.old writer.new (bytes32 0x67446698 ++ (bytes32 error ++ bytes64 cookie)) result }
+    ensures { Writes W.contents writer.old writer.new (simple_head error cookie) result }
 {
     put32(writer, MAGIC)?;
     put32(writer, error)?;

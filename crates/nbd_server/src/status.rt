@@ -5,7 +5,7 @@ ghost use Rattle.nbd_protocol.specs.Numbers.{bytes32};
 ghost use Rattle.stack_rules.specs.Rules.{IsLoaded};
 ghost use Rattle.stack_extents.specs.declared.extent.ExtentKind.TheVariants as known;
 ghost use Rattle.nbd_server.specs.Premises.{AreBytesOf};
-ghost use Rattle.nbd_server.specs.Status.{HasStatus, IsByteExtent, IsStatus, TouchZeros, descriptor, status_flags};
+ghost use Rattle.nbd_server.specs.Status.{IsByteExtent, IsStatus, IsStatusOfLines, TouchZeros, descriptor, status_flags};
 
 use crate::byte_range::touched;
 use nbd_protocol::Export;
@@ -125,7 +125,7 @@ pub(crate) fn status_of(
     requires loaded { IsLoaded config.now }
     requires bytes { AreBytesOf config.now (export_record export.now) offset len }
     requires some { 0 < len }
-    ensures { IfOk result (λ told. HasStatus (TouchZeros config.now (export_record export.now)) offset len one told.items) }
+    ensures { IfOk result (IsStatusOfLines config.now (export_record export.now) offset len one) }
 {
     let first = status_at(config, export, offset, len);
     let mut told = first_status(alloc, first)?;

@@ -1,9 +1,9 @@
 //! Puts sectors of the export.
 ghost use Rattle.std.specs.Prelude.{◌≡◌, ◌<◌, ◌≤◌, ◌+◌, ◌/◌, ◌%◌, ◌^◌, length, IfErr, OnOk};
-ghost use Rattle.nbd_server.specs.Sectors.{FailsToPutAll, FailsToZero, IsStored};
+ghost use Rattle.nbd_server.specs.Sectors.{FailsToPutAll, IsStored};
 ghost use Rattle.nbd_protocol.specs.Exports.{IsExport, export_record};
 ghost use Rattle.nbd_server.specs.Premises.{AreExportSectors, HaveEnds};
-ghost use Rattle.nbd_server.specs.Zeros.{zeros_of};
+ghost use Rattle.nbd_server.specs.Zeros.{FailsToPutZeros, zeros_of};
 
 use crate::zeros::Zeros;
 use block_device::BlockDev;
@@ -46,7 +46,7 @@ fn zero_run<D: BlockDev>(
     requires some { 0 < zeros.now.count }
     requires sectors { AreExportSectors (export_record export.now) first (zeros_of zeros.now) }
     ensures ok { OnOk result (IsStored queue.old export.now.device.0 first (zeros_of zeros.now) queue.new) }
-    ensures err { IfErr result (λ error. FailsToZero queue.old export.now.device.0 first (zeros_of zeros.now) error queue.new) }
+    ensures err { IfErr result (FailsToPutZeros queue.old export.now.device.0 first zeros.now queue.new) }
 {
     let bytes = zeros.bytes(alloc)?;
     store(queue, export, first, bytes.as_slice())
@@ -65,7 +65,7 @@ pub(crate) fn store_zeros<D: BlockDev>(
     requires some { 0 < zeros.now.count }
     requires sectors { AreExportSectors (export_record export.now) first (zeros_of zeros.now) }
     ensures ok { OnOk result (IsStored queue.old export.now.device.0 first (zeros_of zeros.now) queue.new) }
-    ensures err { IfErr result (λ error. FailsToZero queue.old export.now.device.0 first (zeros_of zeros.now) error queue.new) }
+    ensures err { IfErr result (FailsToPutZeros queue.old export.now.device.0 first zeros.now queue.new) }
 {
     let mut at = first;
     let mut rest = *zeros;

@@ -1,13 +1,13 @@
 //! The requests of the transmission phase.
-ghost use Rattle.std.specs.Prelude.{◌≡◌, ◌<◌, ◌≤◌, ◌+◌, ◌^◌, ℕ, List, [], length, replicate, Ok, IfOk, IfErr, IsTrue, OnErr};
+ghost use Rattle.std.specs.Prelude.{◌≡◌, ◌<◌, ◌≤◌, ◌+◌, ◌^◌, ℕ, List, [], length, Ok, IfOk, IfErr, IsTrue, OnErr};
 ghost use Rattle.std.specs.Io.KnownBytes.{Consumes};
 ghost use Rattle.counted_io.specs.Streams.{streams};
 ghost use Rattle.nbd_protocol.specs.Exports.{ExportRecord, IsExport, export_at, export_record};
 ghost use Rattle.nbd_protocol.specs.Headers.{IsWithin, most_length, payload_len};
 ghost use Rattle.nbd_server.specs.Premises.{AreBytesOf, IsBare};
 ghost use Rattle.nbd_server.specs.Service.{EndsMessage};
-ghost use Rattle.nbd_protocol.specs.Streaming.{HasRead, HasWritten, IsShort, result_fault};
-ghost use Rattle.nbd_server.specs.Transmission.{Flushes, IsSendable, IsTakenAndServed, ReadsExport, ServesCommand, Settles, Stays, StaysOrReads, TellsExtents, TellsStatus, WritesGiven, WritesAny, data_outcome, no_bytes};
+ghost use Rattle.nbd_protocol.specs.Streaming.{HasRead, HasWritten, result_fault};
+ghost use Rattle.nbd_server.specs.Transmission.{AreExtentsTold, FallsShort, Flushes, Handles, IsSendable, ReadsExport, ServesCommand, ServesZero, Settles, Stays, StaysOrReads, TellsStatus, WritesGiven, data_outcome, no_bytes};
 ghost use Rattle.nbd_protocol.specs.declared.phase.Phase.TheVariants.{Serving};
 
 use crate::byte_range::{read_bytes, touched, write_bytes, write_zeros};
@@ -58,7 +58,7 @@ fn take_write<D: BlockDev, R: Read>(
     requires allowed { IsTrue export.now.writable }
     ensures ok { IfOk result (λ outcome. (payload : List ℕ) × (length payload ≡ len) × Consumes (R.remaining reader.old.inner) (R.remaining reader.new.inner) payload
         × WritesGiven (export_record export.now) queue.old offset payload (no_bytes outcome) queue.new) }
-    ensures err { IfErr result (λ fault. IsShort len (R.remaining reader.old.inner) (R.remaining reader.new.inner) fault × (queue.new ≡ queue.old)) }
+    ensures err { IfErr result (FallsShort R.remaining reader.old reader.new len queue.old queue.new) }
     ensures reader { HasRead 0 reader.old reader.new (result_fault result) }
 {
     if len == 0 {
@@ -105,7 +105,7 @@ fn zero<D: SyncDev>(
 ) -> Result<Data, RequestError>
     requires bytes { AreBytesOf queue.old.stack.config (export_record export.now) offset len }
     requires allowed { IsTrue export.now.writable }
-    ensures value { Settles fua (WritesAny (export_record export.now) queue.old offset (replicate len 0)) (data_outcome result) queue.new }
+    ensures value { ServesZero (export_record export.now) queue.old offset len fua (data_outcome result) queue.new }
     ensures inside { IsSendable result }
 {
     write_zeros(alloc, queue, export, offset, len)?;
@@ -124,7 +124,7 @@ fn told_of<D: BlockDev>(
 ) -> Result<Vec<u8>, AllocError>
     requires bytes { AreBytesOf queue.old.stack.config (export_record export.now) offset len }
     requires some { 0 < len }
-    ensures ok { IfOk result (λ told. TellsExtents (export_record export.now) queue.old offset len one told.items queue.new) }
+    ensures ok { IfOk result (AreExtentsTold (export_record export.now) queue.old offset len one queue.new) }
     ensures err { OnErr result (StaysOrReads (export_record export.now) queue.old offset len queue.new) }
 {
     let extent = bytes_at(queue.stack().config(), export, offset, len);
@@ -195,8 +195,8 @@ fn serve_request<D: SyncDev, R: Read>(
     reader: &mut Counted<R>,
 ) -> Result<Result<Data, RequestError>, ServiceFault>
     requires { IsExport queue.old.stack.config (export_record export.now) }
-    ensures ok { IfOk result (λ outcome. IsTakenAndServed (export_record export.now) agreed queue.old header (R.remaining reader.old.inner) (R.remaining reader.new.inner) outcome queue.new) }
-    ensures err { IfErr result (λ fault. IsShort (payload_len header) (R.remaining reader.old.inner) (R.remaining reader.new.inner) fault × (queue.new ≡ queue.old)) }
+    ensures ok { IfOk result (Handles R.remaining reader.old reader.new export.now agreed header queue.old queue.new) }
+    ensures err { IfErr result (FallsShort R.remaining reader.old reader.new (payload_len header) queue.old queue.new) }
     ensures reader { HasRead 0 reader.old reader.new (result_fault result) }
 {
     let command = match header.command(export, agreed) {

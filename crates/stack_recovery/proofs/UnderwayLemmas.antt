@@ -1,6 +1,7 @@
 -- A device that is gone over, while sectors are left.
-use Rattle.std.proofs.Common.{◌≡◌, ◌≢◌, ℕ, ◌+◌, ◌-◌, ◌≤◌, ◌^◌, Bool, true, false, IsTrue, List, [], ◌∷◌, ◌++◌, length, replicate, Option, Some, None, Ok, Err, refl, sym, ap, ◌∙◌, subst, arith}
+use Rattle.std.proofs.Common.{◌≡◌, ◌≢◌, ◌⊎◌, ℕ, ◌+◌, ◌-◌, ◌≤◌, ◌^◌, Bool, true, false, IsTrue, List, [], ◌∷◌, ◌++◌, length, replicate, Option, Some, None, is_some, Ok, Err, inl, inr, refl, sym, ap, ◌∙◌, subst, arith}
 use Rattle.std.specs.Io.KnownBytes.{Appends}
+use Rattle.std.proofs.lemmas.Bool.{false≢true}
 use Rattle.std.proofs.lemmas.List.{append-nil, length-append, length-replicate}
 use Rattle.block_device.specs.Device.{Device, IsWritten, sectors_of, spliced}
 use Rattle.stack_rules.specs.Names.{mapped, size}
@@ -18,6 +19,7 @@ use Rattle.stack_recovery.specs.declared.tally.Tally.{Tally}
 use Rattle.stack_recovery.specs.Alike.{AreAlike}
 use Rattle.stack_recovery.specs.Copies.{IsCopied}
 use Rattle.stack_recovery.specs.LostRuns.{lost_in, run_lost}
+use Rattle.stack_recovery.specs.Losses.{StopsInPiece}
 use Rattle.stack_recovery.specs.Recoveries.{EndsEarly, FindsNoMemory, GoesOver, IsBegunOver, AreMarksNoted, IsRecoveryEnd, NotesMore, Recovers, RunsShort, Sides, sides}
 use Rattle.stack_recovery.specs.Surveys.{AreMarked, IsPieceSurveyed, IsSurveyOver, PieceRead, SectorState, again, all_states, had, kept, lost, states_of}
 use Rattle.stack_recovery.specs.Tallies.{closed_lost, listed_lost, opened_lost}
@@ -76,6 +78,19 @@ module _ (before : List Bool) (d : ℕ) (old now : Sides) (at : ℕ) (tally : Ta
     unfailed = unfailed;
     read = λ none. subst (λ (k : ℕ). FindsNoMemory d k now.stack stack) u.here (read none);
   }
+
+  memory-read : (makes_map : Bool) (stack : StackRecord) (fault : IoFault) → is_some noted ≡ makes_map → (fault ≡ NoMemory → FindsNoMemory d at now.stack stack)
+      → (fault ≡ NoMemory) ⊎ (is_some noted ≡ true) → makes_map ≡ false → FindsNoMemory d at now.stack stack
+  memory-read makes_map stack fault same read (inl is) none = read is
+  memory-read makes_map stack fault same read (inr some) none = absurd (false≢true (sym none ∙ sym same ∙ some))
+
+  -- it ended in a piece that wasn't read
+  pub ends-in-piece : {L : Type 0} (told : L → Option (List ℕ)) (failed : L → Bool) (makes_map : Bool) (stack : StackRecord) (fault : IoFault) (a b : L) (error : RecoveryFault) → now.printed ≡ told a → now.out.failures ≡ old.out.failures → is_some noted ≡ makes_map
+      → (fault ≡ NoMemory → FindsNoMemory d at now.stack stack) → StopsInPiece failed fault (is_some noted) a b error → EndsEarly makes_map before d old (sides stack now.out (told b)) (failed b) error
+  ends-in-piece told failed makes_map stack fault a b recovery.NoMemory printed unfailed same read p =
+      subst (λ (t : Option (List ℕ)). RunsShort makes_map before d old (sides stack now.out t)) (printed ∙ ap told (sym p.1)) (runs-short makes_map stack unfailed (memory-read makes_map stack fault same read p.0))
+  ends-in-piece told failed makes_map stack fault a b recovery.Output printed unfailed same read p = absurd p
+  ends-in-piece told failed makes_map stack fault a b recovery.Write printed unfailed same read p = p
 
   pub few : tally.lost ≤ at
   few = omega (arith, u.here, u.lost, lost_in-most (all_states u.reads))

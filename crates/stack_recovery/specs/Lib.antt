@@ -8,3 +8,4 @@ pub mod Recoveries
 pub mod Surveys
 pub mod Tallies
 pub mod Texts
+pub mod Losses

@@ -3,6 +3,7 @@ use Rattle.std.specs.Prelude.{◌≡◌, ℕ, ◌-◌, Bool, true, false, IsTrue
 use Rattle.std.specs.Io.KnownBytes.{Appends}
 use Rattle.block_device.specs.Device.{Device, HasFailed}
 use Rattle.stack_rules.specs.Names.{mapped, size}
+use Rattle.stack_rules.specs.declared.lower.DevId.{DevId}
 use Rattle.stack_meaning.specs.declared.fault.IoFault.TheVariants as io
 use Rattle.stack_meaning.specs.Meaning.{said_at}
 use Rattle.stack_meaning.specs.Reading.{MeetVerity}
@@ -93,6 +94,10 @@ seen_sides state told p = sides p.stack (state p.out) (told p.listing)
 
 abbrev pub RecoversBy : {O L : Type 0} → (O → Device) → (L → Option (List ℕ)) → ℕ → Parties O L → Parties O L → Counts → Type 0
 RecoversBy state told d old new counts = Recovers d (seen_sides state told old) counts (seen_sides state told new)
+
+-- the same of a device's number, and of each of them before and behind the call
+abbrev pub Recovered : {O L : Type 0} → (O → Device) → (L → Option (List ℕ)) → DevId → StackRecord → O → L → StackRecord → O → L → Counts → Type 0
+Recovered state told d stack out listing stack' out' listing' counts = RecoversBy state told d.0 (parties stack out listing) (parties stack' out' listing') counts
 
 abbrev pub EndsRecovery : {O L : Type 0} → (O → Device) → (L → Option (List ℕ)) → (L → Bool) → ℕ → Parties O L → Parties O L → RecoveryFault → Type 0
 EndsRecovery state told failed d old new fault = IsRecoveryEnd d (seen_sides state told old) (seen_sides state told new) (failed new.listing) fault

@@ -1,16 +1,20 @@
 //! Going over a mapped device from its first sector to its last.
-ghost use Rattle.std.specs.Prelude.{◌≡◌, ◌≤◌, ◌<◌, [], length, IsTrue, IfOk, IfErr, OnOk};
+ghost use Rattle.std.specs.Prelude.{◌≡◌, ◌≢◌, ◌≤◌, ◌<◌, ◌+◌, ◌^◌, [], length, IsTrue, IfOk, IfErr, OnOk};
 ghost use Rattle.stack_rules.specs.Names.{mapped, size};
-ghost use Rattle.std.specs.Option.{is_some};
+ghost use Rattle.std.specs.Option.{ForSome, is_some};
+ghost use Rattle.rescue_map.specs.Maps.{marks};
 ghost use Rattle.rescue_map.specs.Aheads.{marks_ahead};
-ghost use Rattle.stack_recovery.specs.Recoveries.{EndsEarlyBy, EndsRecovery, GoesOverBy, AreMarksNoted, RecoversBy, parties};
+ghost use Rattle.stack_recovery.specs.LostRuns.{run_lost};
+ghost use Rattle.stack_recovery.specs.Losses.{ListsLost, NotesLost, StopsInPiece, TalliesLost};
+ghost use Rattle.stack_recovery.specs.Recoveries.{EndsEarlyBy, EndsRecovery, GoesOverBy, AreMarksNoted, Recovered, parties};
+ghost use Rattle.stack_recovery.specs.Tallies.{EndsAtSector};
 
 use crate::fault::RecoveryFault;
 use crate::listing::Listing;
 use crate::lost_run::{LostRun, is_same};
 use crate::notes::note;
 use crate::pace::Pace;
-use crate::piece::piece_at;
+use crate::piece::{Piece, piece_at};
 use crate::tally::Tally;
 use block_device::BlockDev;
 use progress::{NoProgress, Progress};
@@ -40,7 +44,7 @@ pub fn recover<D: BlockDev, O: BlockDev, L: Listing>(
     requires device { d.0 < length stack.old.config.devices }
     requires room { size stack.old.config (mapped d.0) ≤ (O.state out.old).size }
     requires allowed { IsTrue (O.state out.old).may_write }
-    ensures ok { IfOk result (RecoversBy O.state L.told d.0 (parties stack.old out.old listing.old) (parties stack.new out.new listing.new)) }
+    ensures ok { IfOk result (Recovered O.state L.told d stack.old out.old listing.old stack.new out.new listing.new) }
     ensures err { IfErr result (EndsRecovery O.state L.told L.failed d.0 (parties stack.old out.old listing.old) (parties stack.new out.new listing.new)) }
 {
     recover_with(stack, d, out, listing, &mut NoProgress)
@@ -57,7 +61,7 @@ pub fn recover_with<D: BlockDev, O: BlockDev, L: Listing, P: Progress>(
     requires device { d.0 < length stack.old.config.devices }
     requires room { size stack.old.config (mapped d.0) ≤ (O.state out.old).size }
     requires allowed { IsTrue (O.state out.old).may_write }
-    ensures ok { IfOk result (RecoversBy O.state L.told d.0 (parties stack.old out.old listing.old) (parties stack.new out.new listing.new)) }
+    ensures ok { IfOk result (Recovered O.state L.told d stack.old out.old listing.old stack.new out.new listing.new) }
     ensures err { IfErr result (EndsRecovery O.state L.told L.failed d.0 (parties stack.old out.old listing.old) (parties stack.new out.new listing.new)) }
 {
     let ahead = Ahead::unread(stack.config().sectors(d));
@@ -83,6 +87,8 @@ pub(crate) fn go_over<D: BlockDev, O: BlockDev, L: Listing, P: Progress>(
     ensures err { IfErr result (EndsEarlyBy O.state L.told L.failed (is_some noted.old) (marks_ahead ahead.entry) d.0 (parties stack.old out.old listing.old) (parties stack.new out.new listing.new)) }
     ensures noted { OnOk result (is_some noted.new ≡ is_some noted.old) }
 {
+    // How many sectors a device can have is learned from a call.
+    let _fits = out.sectors();
     let mut room = [0u8; ROOM];
     go_over_by(
         stack,
@@ -113,12 +119,11 @@ fn go_over_by<D: BlockDev, O: BlockDev, L: Listing, P: Progress>(
     requires allowed { IsTrue (O.state out.old).may_write }
     requires begun { AreMarksNoted noted.old [] }
     requires buffer { length room.old ≡ 65536 }
+    requires few { size stack.old.config (mapped d.0) ≤ 2 ^ 54 }
     ensures ok { IfOk result (GoesOverBy O.state L.told (marks_ahead ahead.entry) d.0 (parties stack.old out.old listing.old) noted.new (parties stack.new out.new listing.new)) }
     ensures err { IfErr result (EndsEarlyBy O.state L.told L.failed (is_some noted.old) (marks_ahead ahead.entry) d.0 (parties stack.old out.old listing.old) (parties stack.new out.new listing.new)) }
     ensures noted { OnOk result (is_some noted.new ≡ is_some noted.old) }
 {
-    // How many sectors a device can have is learned from a call.
-    let _fits = out.sectors();
     let sectors = stack.config().sectors(d);
     let mut tally = Tally::new();
     let mut pace = Pace::new();
@@ -145,19 +150,7 @@ fn go_over_by<D: BlockDev, O: BlockDev, L: Listing, P: Progress>(
                     pace = pace.after_bytes(piece.count, at);
                 }
                 Err(fault) => {
-                    if is_same(fault, IoFault::NoMemory) {
-                        return Err(RecoveryFault::NoMemory);
-                    }
-                    if piece.alike {
-                        note(noted, count, false)?;
-                        tally.lose(
-                            listing,
-                            LostRun {
-                                first: at,
-                                count,
-                                fault,
-                            },
-                        )?;
+                    if lose_piece(noted, &mut tally, listing, at, piece, fault)? {
                         ahead.pass(count);
                         at += count;
                         pace = Pace::after_loss();
@@ -169,10 +162,46 @@ fn go_over_by<D: BlockDev, O: BlockDev, L: Listing, P: Progress>(
         }
     }
     tally.close(listing)?;
-    Ok(Counts {
-        read: sectors - tally.lost,
-        lost: tally.lost,
-    })
+    Ok(tally.counts(sectors))
+}
+
+// A piece that ended in a fault: whether its sectors are lost. If not, they are read again in smaller pieces.
+fn lose_piece<L: Listing>(
+    noted: &mut Option<Map>,
+    tally: &mut Tally,
+    listing: &mut L,
+    at: u64,
+    piece: Piece,
+    fault: IoFault,
+) -> Result<bool, RecoveryFault>
+    requires some { 1 ≤ piece.count }
+    requires marks { ForSome noted.old (λ map. length (marks map) + piece.count ≤ 2 ^ 54) }
+    requires ends { EndsAtSector tally.old.last at }
+    requires few { tally.old.lost ≤ at }
+    requires room { at + piece.count < 2 ^ 64 }
+    ensures alike { IfOk result (λ lost. lost ≡ piece.alike) }
+    ensures kind { OnOk result (fault ≢ IoFault.NoMemory) }
+    ensures noted { IfOk result (NotesLost piece.count noted.old noted.new) }
+    ensures tallied { IfOk result (TalliesLost (run_lost at piece.count fault) tally.old tally.new) }
+    ensures told { IfOk result (ListsLost L.told (run_lost at piece.count fault) tally.old listing.old listing.new) }
+    ensures kept { OnOk result (L.failed listing.new ≡ L.failed listing.old) }
+    ensures err { IfErr result (StopsInPiece L.failed fault (is_some noted.old) listing.old listing.new) }
+{
+    if is_same(fault, IoFault::NoMemory) {
+        return Err(RecoveryFault::NoMemory);
+    }
+    if !piece.alike {
+        return Ok(false);
+    }
+    let count = u64::from(piece.count);
+    note(noted, count, false)?;
+    let run = LostRun {
+        first: at,
+        count,
+        fault,
+    };
+    tally.lose(listing, run)?;
+    Ok(true)
 }
 
 // So many sectors are done of so many.

@@ -1,11 +1,12 @@
 //! The lost sectors of a device, while it is gone over.
-ghost use Rattle.std.specs.Prelude.{◌≡◌, ◌+◌, ◌<◌, ◌≤◌, ◌^◌, None, Some, OnOk};
+ghost use Rattle.std.specs.Prelude.{◌≡◌, ◌+◌, ◌-◌, ◌<◌, ◌≤◌, ◌^◌, None, Some, OnOk};
 ghost use Rattle.stack_recovery.specs.Listings.{TellsLost};
 ghost use Rattle.stack_recovery.specs.Tallies.{EndsAtSector, closed_lost, joined_lost, listed_lost, opened_lost};
 ghost use Rattle.stack_recovery.specs.Texts.{lost_text};
 
 use crate::listing::Listing;
 use crate::lost_run::{LostRun, is_same};
+use crate::recovery::Counts;
 use counted_io::WriteFault;
 
 /// The lost run that may still grow, and how many sectors are lost.
@@ -39,6 +40,17 @@ impl Tally {
         Tally {
             last: None,
             lost: 0,
+        }
+    }
+
+    /// How many of so many sectors are had, and how many are lost.
+    pub(crate) fn counts(self, sectors: u64) -> Counts
+        requires { self.lost ≤ sectors }
+        ensures { result ≡ record { read = sectors - self.lost; lost = self.lost } }
+    {
+        Counts {
+            read: sectors - self.lost,
+            lost: self.lost,
         }
     }
 

@@ -11,7 +11,7 @@ returns-in_err-ends g c =
     let e = export_record c.args.export.now in
     let p = err_from_is_err_and c.from_residual.result c.from_residual.ensures.1 in
     rw (p.1, p.2)
-    (inl (subst (λ (n : ℕ). FailsToReadEnds e c.args.queue.now c.args.offset n c.in_err-ends.field-0.0 c.read_ends.new.queue) (sym (meant-length c.args.offset c.args.len c.args.bytes.now c.requires.room)) c.in_err-ends.ensures.err))
+    (inl (subst (λ (n : ℕ). FailsToReadEnds e c.args.queue.now c.args.offset n c.read_ends.new.queue c.in_err-ends.field-0.0) (sym (meant-length c.args.offset c.args.len c.args.bytes.now c.requires.room)) c.in_err-ends.ensures.err))
 
 pub returns : goal.returns
 returns g c =

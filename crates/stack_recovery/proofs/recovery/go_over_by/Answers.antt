@@ -1,24 +1,23 @@
-use Rattle.std.proofs.Common.{◌≡◌, ◌⊎◌, ◌+◌, ◌-◌, ◌≤◌, ◌<◌, ◌*◌, ◌/◌, ◌^◌, ℕ, Bool, true, false, List, Ok, Err, arith, refl, sym, ◌∙◌, ap, ap₂, subst, length, take, Option, Some, None, is_some}
+use Rattle.std.proofs.Common.{◌≡◌, ◌⊎◌, ◌+◌, ◌-◌, ◌≤◌, ◌<◌, ◌*◌, ◌/◌, ◌^◌, ℕ, Bool, true, false, List, Ok, Err, arith, refl, sym, ◌∙◌, ap, ap₂, subst, length, take, Option, None, is_some}
 use Rattle.std.proofs.lemmas.Bool.{false≢true}
 use Rattle.std.proofs.lemmas.List.{length-take-le}
 use Rattle.stack_rules.specs.Names.{mapped, size}
 use Rattle.stack_rules.specs.Records.{Configuration}
 use Rattle.stack_engine.specs.Bytes.{EachBytes}
 use Rattle.stack_meaning.specs.declared.fault.IoFault.{IoFault}
-use Rattle.stack_meaning.specs.declared.fault.IoFault.TheVariants.{NoMemory}
 use Rattle.rescue_map.specs.Aheads.{marks_ahead}
 use Rattle.rescue_map.specs.declared.map.Run.{Run}
 use Rattle.stack_recovery.specs.declared.fault.RecoveryFault.TheVariants.{Output}
 use Rattle.stack_recovery.specs.declared.lost_run.LostRun.{LostRun}
 use Rattle.stack_recovery.specs.declared.tally.Tally.{Tally}
 use Rattle.stack_recovery.specs.Alike.{AreAlike}
-use Rattle.stack_recovery.specs.LostRuns.{is_same_fault, run_lost}
-use Rattle.stack_recovery.specs.Recoveries.{EndsEarly, FindsNoMemory, Sides, sides}
+use Rattle.stack_recovery.specs.LostRuns.{run_lost}
+use Rattle.stack_recovery.specs.Losses.{ListsLost, NotesLost, TalliesLost}
+use Rattle.stack_recovery.specs.Recoveries.{EndsEarly, Sides, sides}
 use Rattle.stack_recovery.specs.Surveys.{AreMarked}
-use Rattle.stack_recovery.specs.Tallies.{EndsAtSector, opened_lost}
+use Rattle.stack_recovery.specs.Tallies.{EndsAtSector}
 use Rattle.stack_recovery.proofs.AheadLemmas.{ahead-inside, ahead-next, first-run, marked-next, notes-some}
-use Rattle.stack_recovery.proofs.LostRunLemmas.{is_same-true}
-use Rattle.stack_recovery.proofs.UnderwayLemmas.{IsUnderway, begun, few, note-room, runs-short, underway-again, underway-all, underway-had, underway-kept, underway-lost, underway-none}
+use Rattle.stack_recovery.proofs.UnderwayLemmas.{IsUnderway, begun, ends-in-piece, few, note-room, runs-short, underway-again, underway-all, underway-had, underway-kept, underway-lost, underway-none}
 use Rattle.stack_recovery.proofs.WritingLemmas.{err-from}
 use Rattle.stack_recovery.proofs.recovery.go_over_by.Goals as goal
 
@@ -33,7 +32,7 @@ pieces-init g c =
       config = refl;
       within = omega arith;
       all = all;
-      few = omega (arith, all, c.requires.room, c.sectors-fits.ensures.size, c.sectors-fits.ensures.small);
+      few = omega (arith, all, c.requires.few);
       pace = c.new-pace.ensures;
       kept = refl;
       unfailed = refl;
@@ -189,48 +188,35 @@ pieces-preserved-in-Ok g c =
       noted = notes-some c.pieces.noted c.note-in-Ok.new.noted _ c.in_ok-note-in-Ok.ensures.ok ∙ u.noted;
     }
 
-pub returns-then-is_same-clause-err : goal.returns-then-is_same-clause-err
-returns-then-is_same-clause-err g c =
+pub lose_piece-requires : goal.lose_piece-requires
+lose_piece-requires g c =
     let u = c.pieces.invariant in
-    let is : c.in-Err.fault ≡ NoMemory = is_same-true c.in-Err.fault NoMemory (sym c.is_same.ensures ∙ c.if-is_same.true) in
-    let count : ℕ = length (take (c.piece_at-piece.result.count * 512) c.pieces.room) / 512 in
-    let read : FindsNoMemory c.args.d.0 c.pieces.at c.pieces.stack c.read_bytes.new.self = record {
-      count = count;
-      answered = subst (λ (f : IoFault). EachBytes c.pieces.stack c.args.d.0 c.pieces.at count (Err f) c.read_bytes.new.self) is (record { any = c.in-Err.ensures.any; steady = c.in-Err.ensures.steady });
-      met = c.in-Err.ensures.memory (ap Err is);
-    } in
-    runs-short _ _ _ _ _ _ _ u.so_far (is_some c.args.noted.now) c.read_bytes.new.self u.unfailed (λ none. read)
-
-pub note-requires-then-piece-clause-room : goal.note-requires-then-piece-clause-room
-note-requires-then-piece-clause-room g c =
-    let u = c.pieces.invariant in
-    let first = first-run c.pieces.ahead c.next_run-run.new.self c.next_run-run.result c.next_run-run.ensures.same c.next_run-run.ensures.first in
-    let inside = ahead-inside (marks_ahead c.args.ahead) c.pieces.at c.sectors-sectors.result c.next_run-run.result.count c.next_run-run.result.had _ _ (c.requires.fits ∙ sym u.all) u.ahead first u.within in
-    λ x e. note-room _ _ _ _ _ _ _ u.so_far c.from-count.result (omega (arith, inside, u.few, c.from-count.ensures, c.piece_at-piece.ensures.inside)) x e
-
-pub returns-in_err-note-in-Err-clause-err : goal.returns-in_err-note-in-Err-clause-err
-returns-in_err-note-in-Err-clause-err g c =
-    let u = c.pieces.invariant in
-    let old : Sides = sides c.args.stack.now (g.O.BlockDev.state c.args.out.now) (g.L.Listing.told c.args.listing.now) in
-    let new : Sides = sides c.read_bytes.new.self (g.O.BlockDev.state c.pieces.out) (g.L.Listing.told c.pieces.listing) in
-    let makes_map : Bool = is_some c.args.noted.now in
-    err-from c.from_residual-in_err-note-in-Err.result _ _ c.from_residual-in_err-note-in-Err.ensures.1
-    (subst (EndsEarly makes_map (marks_ahead c.args.ahead) c.args.d.0 old new (g.L.Listing.failed c.pieces.listing)) (sym c.in_err-note-in-Err.ensures.err)
-    (runs-short _ _ _ _ _ _ _ u.so_far makes_map c.read_bytes.new.self u.unfailed (λ none. absurd (false≢true (sym none ∙ sym u.noted ∙ c.in_err-note-in-Err.ensures.made)))))
-
-pub lose-requires : goal.lose-requires
-lose-requires g c =
-    let u = c.pieces.invariant in
+    let n : ℕ = c.piece_at-piece.result.count in
     let first = first-run c.pieces.ahead c.next_run-run.new.self c.next_run-run.result c.next_run-run.ensures.same c.next_run-run.ensures.first in
     let inside = ahead-inside (marks_ahead c.args.ahead) c.pieces.at c.sectors-sectors.result c.next_run-run.result.count c.next_run-run.result.had _ _ (c.requires.fits ∙ sym u.all) u.ahead first u.within in
     record {
+      some = c.piece_at-piece.ensures.some;
+      marks = λ x e. note-room _ _ _ _ _ _ _ u.so_far n (omega (arith, inside, u.few, c.piece_at-piece.ensures.inside)) x e;
       ends = subst (EndsAtSector c.pieces.tally.last) (sym u.so_far.here) u.so_far.tallied.ends;
-      lost = few _ _ _ _ _ _ _ u.so_far;
-      room = omega (arith, inside, u.few, c.from-count.ensures, c.piece_at-piece.ensures.inside);
+      few = few _ _ _ _ _ _ _ u.so_far;
+      room = omega (arith, inside, u.few, c.piece_at-piece.ensures.inside);
     }
 
-pub pieces-preserved-then-piece : goal.pieces-preserved-then-piece
-pieces-preserved-then-piece g c =
+pub returns-in_err-lose_piece-in-Err-clause-err : goal.returns-in_err-lose_piece-in-Err-clause-err
+returns-in_err-lose_piece-in-Err-clause-err g c =
+    let u = c.pieces.invariant in
+    let count : ℕ = length (take (c.piece_at-piece.result.count * 512) c.pieces.room) / 512 in
+    err-from c.from_residual-in_err-lose_piece-in-Err.result _ _ c.from_residual-in_err-lose_piece-in-Err.ensures.1
+    (ends-in-piece _ _ _ _ _ _ _ u.so_far g.L.Listing.told g.L.Listing.failed (is_some c.args.noted.now) c.read_bytes.new.self c.in-Err.fault c.pieces.listing c.lose_piece.new.listing c.in_err-lose_piece-in-Err.field-0.0 refl u.unfailed u.noted
+    (λ is. record {
+      count = count;
+      answered = subst (λ (f : IoFault). EachBytes c.pieces.stack c.args.d.0 c.pieces.at count (Err f) c.read_bytes.new.self) is (record { any = c.in-Err.ensures.any; steady = c.in-Err.ensures.steady });
+      met = c.in-Err.ensures.memory (ap Err is);
+    })
+    c.in_err-lose_piece-in-Err.ensures.err)
+
+pub pieces-preserved-then-branch : goal.pieces-preserved-then-branch
+pieces-preserved-then-branch g c =
     let u = c.pieces.invariant in
     let before : List Bool = marks_ahead c.args.ahead in
     let here : Run = c.next_run-run.result in
@@ -241,28 +227,29 @@ pieces-preserved-then-piece g c =
     let wide : length (take (n * 512) c.pieces.room) ≡ n * 512 = length-take-le (n * 512) c.pieces.room (omega (arith, c.requires.buffer, c.pieces.auto.room, c.piece_at-piece.ensures.few)) in
     let number : length (take (n * 512) c.pieces.room) / 512 ≡ n = omega (arith, wide) in
     let piece = subst (λ (m : ℕ). EachBytes c.pieces.stack c.args.d.0 c.pieces.at m (Err c.in-Err.fault) c.read_bytes.new.self) number (record { any = c.in-Err.ensures.any; steady = c.in-Err.ensures.steady }) in
-    let alike : AreAlike c.pieces.stack.config c.args.d.0 c.pieces.at n = subst (λ (x : Configuration). AreAlike x c.args.d.0 c.pieces.at n) c.config-else-run.ensures.value (c.piece_at-piece.ensures.alike c.if-piece.true) in
-    let none : c.in-Err.fault ≡ NoMemory → ⊥ = λ e. false≢true (sym c.if-is_same.false ∙ c.is_same.ensures ∙ ap (λ (f : IoFault). is_same_fault f NoMemory) e) in
+    let grown : LostRun = run_lost c.pieces.at n c.in-Err.fault in
+    let call = c.in_ok-lose_piece-in-Err in
+    let is : call.field-0 ≡ true = c.if-branch.true in
+    let alike : AreAlike c.pieces.stack.config c.args.d.0 c.pieces.at n = subst (λ (x : Configuration). AreAlike x c.args.d.0 c.pieces.at n) c.config-else-run.ensures.value (c.piece_at-piece.ensures.alike (sym call.ensures.alike ∙ is)) in
+    let noting = subst (NotesLost n c.pieces.noted c.lose_piece.new.noted) is call.ensures.noted in
+    let tally = subst (TalliesLost grown c.pieces.tally c.lose_piece.new.tally) is call.ensures.tallied in
+    let told = subst (ListsLost g.L.Listing.told grown c.pieces.tally c.pieces.listing c.lose_piece.new.listing) is call.ensures.told in
     let old : Sides = sides c.args.stack.now (g.O.BlockDev.state c.args.out.now) (g.L.Listing.told c.args.listing.now) in
-    let new : Sides = sides c.read_bytes.new.self (g.O.BlockDev.state c.pieces.out) (g.L.Listing.told c.lose.new.listing) in
+    let new : Sides = sides c.read_bytes.new.self (g.O.BlockDev.state c.pieces.out) (g.L.Listing.told c.lose_piece.new.listing) in
     let same : c.from-count.result ≡ n = c.from-count.ensures in
-    let grown : LostRun = run_lost c.pieces.at c.from-count.result c.in-Err.fault in
-    let tally : c.lose.new.self ≡ record { last = Some (opened_lost c.pieces.tally.last grown); lost = c.pieces.tally.lost + c.from-count.result } =
-    ap₂ {C = Tally} (λ (l : Option LostRun) (m : ℕ). record { last = l; lost = m }) c.in_ok-lose-in-Err.ensures.last c.in_ok-lose-in-Err.ensures.lost in
     record {
-      so_far = subst (λ (m : ℕ). IsUnderway before c.args.d.0 old new (c.pieces.at + m) c.lose.new.self c.note-then-piece.new.noted) (sym same)
-          (underway-lost _ _ _ _ _ _ _ u.so_far n c.in-Err.fault c.read_bytes.new.self (g.L.Listing.told c.lose.new.listing) c.lose.new.self c.note-then-piece.new.noted
-          c.piece_at-piece.ensures.some piece marked (rw same at c.in_ok-note-in-Err.ensures.ok) alike none (rw same at c.in_ok-lose-in-Err.ensures.text.ok)
-          (rw same at tally));
-      ahead = ahead-next before c.pieces.at c.from-count.result _ _ _ (u.ahead ∙ sym c.next_run-run.ensures.same) c.pass-then-piece.ensures;
+      so_far = subst (λ (m : ℕ). IsUnderway before c.args.d.0 old new (c.pieces.at + m) c.lose_piece.new.tally c.lose_piece.new.noted) (sym same)
+          (underway-lost _ _ _ _ _ _ _ u.so_far n c.in-Err.fault c.read_bytes.new.self (g.L.Listing.told c.lose_piece.new.listing) c.lose_piece.new.tally c.lose_piece.new.noted
+          c.piece_at-piece.ensures.some piece marked noting alike call.ensures.kind told tally);
+      ahead = ahead-next before c.pieces.at c.from-count.result _ _ _ (u.ahead ∙ sym c.next_run-run.ensures.same) c.pass-then-branch.ensures;
       config = c.in-Err.ensures.any.config ∙ u.config;
       within = omega (arith, inside, same, c.piece_at-piece.ensures.inside);
       all = u.all;
       few = u.few;
       pace = c.after_loss-pace.ensures;
-      kept = c.in_ok-lose-in-Err.ensures.text.kept ∙ u.kept;
+      kept = call.ensures.kept ∙ u.kept;
       unfailed = u.unfailed;
-      noted = notes-some c.pieces.noted c.note-then-piece.new.noted _ c.in_ok-note-in-Err.ensures.ok ∙ u.noted;
+      noted = notes-some c.pieces.noted c.lose_piece.new.noted _ noting ∙ u.noted;
     }
 
 pub pieces-preserved : goal.pieces-preserved
@@ -276,25 +263,30 @@ pieces-preserved g c =
     let wide : length (take (n * 512) c.pieces.room) ≡ n * 512 = length-take-le (n * 512) c.pieces.room (omega (arith, c.requires.buffer, c.pieces.auto.room, c.piece_at-piece.ensures.few)) in
     let number : length (take (n * 512) c.pieces.room) / 512 ≡ n = omega (arith, wide) in
     let piece = subst (λ (m : ℕ). EachBytes c.pieces.stack c.args.d.0 c.pieces.at m (Err c.in-Err.fault) c.read_bytes.new.self) number (record { any = c.in-Err.ensures.any; steady = c.in-Err.ensures.steady }) in
+    let call = c.in_ok-lose_piece-in-Err in
+    let isnt : call.field-0 ≡ false = c.if-branch.false in
+    let noted = subst (NotesLost n c.pieces.noted c.lose_piece.new.noted) isnt call.ensures.noted in
+    let tally = subst (TalliesLost (run_lost c.pieces.at n c.in-Err.fault) c.pieces.tally c.lose_piece.new.tally) isnt call.ensures.tallied in
+    let told = subst (ListsLost g.L.Listing.told (run_lost c.pieces.at n c.in-Err.fault) c.pieces.tally c.pieces.listing c.lose_piece.new.listing) isnt call.ensures.told in
     record {
-      so_far = underway-again _ _ _ _ _ _ _ u.so_far n c.in-Err.fault c.read_bytes.new.self piece marked;
+      so_far = rw (noted, tally, told) (underway-again _ _ _ _ _ _ _ u.so_far n c.in-Err.fault c.read_bytes.new.self piece marked);
       ahead = u.ahead ∙ sym c.next_run-run.ensures.same;
       config = c.in-Err.ensures.any.config ∙ u.config;
       within = u.within;
       all = u.all;
       few = u.few;
       pace = c.after_failure-pace.ensures.pace;
-      kept = u.kept;
+      kept = call.ensures.kept ∙ u.kept;
       unfailed = u.unfailed;
-      noted = u.noted;
+      noted = ap (λ (m : Option (List Run)). is_some m) noted ∙ u.noted;
     }
 
-pub overflow_sub-result : goal.overflow_sub-result
-overflow_sub-result g c = omega (arith, few _ _ _ _ _ _ _ c.pieces.invariant.so_far, c.pieces.invariant.within, c.close-2.ensures.lost)
+pub counts-requires : goal.counts-requires
+counts-requires g c = omega (arith, few _ _ _ _ _ _ _ c.pieces.invariant.so_far, c.pieces.invariant.within, c.close-2.ensures.lost)
 
 pub returns-clause-ok : goal.returns-clause-ok
 returns-clause-ok g c =
     let u = c.pieces.invariant in
     let all : c.sectors-sectors.result ≡ c.pieces.at = omega (arith, u.within, c.pieces-test.false) in
     underway-all _ _ _ _ _ _ _ u.so_far (g.L.Listing.told c.close-2.new.listing) c.sectors-sectors.result _ (sym all ∙ u.all) all
-    c.in_ok-close-2.ensures.text.ok (ap (λ m. record { read = c.sectors-sectors.result - m; lost = m }) c.close-2.ensures.lost) u.unfailed
+    c.in_ok-close-2.ensures.text.ok (c.counts.ensures ∙ ap (λ m. record { read = c.sectors-sectors.result - m; lost = m }) c.close-2.ensures.lost) u.unfailed
