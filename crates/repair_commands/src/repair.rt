@@ -19,7 +19,8 @@ use tree_survey::SurveyFault;
 use watched_device::Watchers;
 
 /// `repair [--check] [--hash-offset BYTES] DATA HASH ROOT [COPY ..]`: a line for each block that isn't good and was found in a
-/// copy, and then what `verify --all` prints; where the repair left all good, without reading all again. Each copy is asked for each such block, at its place in DATA or in HASH.
+/// copy, and then what `verify --all` prints; where the repair left all good, without reading all again. Each copy is asked for
+/// each such block, at its place in DATA or in HASH.
 pub fn repair_images<'a, I: Images, S: Watchers, W: Write>(
     alloc: Global,
     images: &mut I,
