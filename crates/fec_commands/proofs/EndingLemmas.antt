@@ -1,13 +1,16 @@
 -- Commands that end early.
-use Rattle.std.proofs.Common.{◌≡◌, ℕ, List, Option, Result, Ok, Err, refl, sym, subst}
+use Rattle.std.proofs.Common.{◌≡◌, ℕ, Bool, List, Option, Result, Ok, Err, inl, inr, refl, sym, subst}
 use Rattle.std.specs.Prelude.{IfErr, IsErrAnd}
+use Rattle.command_line.specs.FecFiles.{FecRecord}
+use Rattle.image_files.specs.Opener.{Calls}
+use Rattle.image_commands.specs.Places.{TwoPlaces}
 use Rattle.image_commands.proofs.lemmas.EndingLemmas.{quiet as image-quiet}
 use Rattle.verity_commands.specs.declared.fault.VerityFault.{VerityFault}
 use Rattle.verity_commands.specs.declared.fault.VerityFault.TheVariants as verity
 use Rattle.verity_commands.specs.Endings.{IsVerityQuiet}
 use Rattle.fec_commands.specs.declared.fault.FecFault.{FecFault}
 use Rattle.fec_commands.specs.declared.fault.FecFault.TheVariants as fec
-use Rattle.fec_commands.specs.Checking.{IsFecQuiet}
+use Rattle.fec_commands.specs.Checking.{IsCheckEnd, IsCompareEnd, IsFecQuiet}
 
 verity-quiet : (fault : VerityFault) (bytes : Option (List ℕ)) → IsVerityQuiet fault bytes bytes
 verity-quiet verity.Usage bytes = refl
@@ -28,7 +31,7 @@ err-from (Err e) P fault is holds = subst P (sym is) holds
 pub at-fault : {T E : Type 0} (r : Result T E) (P : E → Type 0) (fault : E) → r ≡ Err fault → IfErr r P → P fault
 at-fault {T} {E} r P fault is holds = subst (λ (x : Result T E). IfErr x P) is holds
 
--- two facts of a result's fault give a third
-pub err-both : {T E : Type 0} (r : Result T E) (P Q R : E → Type 0) → ((e : E) → P e → Q e → R e) → IfErr r P → IfErr r Q → IfErr r R
-err-both (Ok done) P Q R f p q = tt
-err-both (Err e) P Q R f p q = f e p q
+-- where nothing is printed a command ends as it may end at all
+pub compare-as : {S D : Type 0} {w : Calls S D} {places : TwoPlaces} {fec : FecRecord} {failed : Bool} {fault : FecFault} → IsCompareEnd w places fec fault → IsCheckEnd w places fec failed fault
+compare-as (inl unopened) = inl unopened
+compare-as (inr unchecked) = inr (inl unchecked)

@@ -42,6 +42,11 @@ IsCheckingEnd data_dev hash_dev parity_dev extent parity_dev' fault =
     ((read_dev : Device) × IsLayoutEnd (before data_dev extent.end) (behind hash_dev extent.first) extent.first read_dev fault)
     ⊎ EndsUncompared data_dev hash_dev parity_dev extent parity_dev' fault
 
+-- the same by what devices of any kind are
+abbrev pub IsUncheckedBy : {D H P : Type 0} → (D → Device) → (H → Device) → (P → Device) → D → H → P → Extent → P → FecFault → Type 0
+IsUncheckedBy data_state hash_state parity_state data_dev hash_dev parity extent parity' fault =
+    IsCheckingEnd (data_state data_dev) (hash_state hash_dev) (parity_state parity) extent (parity_state parity') fault
+
 -- all three were opened for reading, and that was found
 pub record ChecksThree {S D : Type 0} (w : Calls S D) (places : TwoPlaces) (fec : FecRecord) (found : Option ℕ) : Type 0 where
   pub three : ThreeImages D
@@ -77,6 +82,10 @@ pub record EndsUnprinted {S D : Type 0} (w : Calls S D) (places : TwoPlaces) (fe
   pub checked : ChecksThree w places fec None
   pub has_failed : failed ≡ true
   pub is : fault ≡ unwritten
+
+-- so where nothing is printed
+abbrev pub IsCompareEnd : {S D : Type 0} → Calls S D → TwoPlaces → FecRecord → FecFault → Type 0
+IsCompareEnd w places fec fault = IsCheckUnopened w places fec fault ⊎ EndsUnchecked w places fec fault
 
 abbrev pub IsCheckEnd : {S D : Type 0} → Calls S D → TwoPlaces → FecRecord → Bool → FecFault → Type 0
 IsCheckEnd w places fec failed fault =

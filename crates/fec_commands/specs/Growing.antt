@@ -2,13 +2,16 @@
 use Rattle.std.specs.Prelude.{◌≡◌, ◌⊎◌, ℕ, Bool, true, false, List, Err}
 use Rattle.fec_area.specs.declared.writing.ParityFault.TheVariants.{TooSmall}
 use Rattle.image_files.specs.declared.opening.UnopenedFile.{UnopenedFile}
-use Rattle.image_files.specs.Opener.{Calls}
-use Rattle.image_commands.specs.Places.{TwoPlaces}
+use Rattle.block_device.specs.Device.{Device}
+use Rattle.image_files.specs.Opener.{Calls, Opener, calls}
+use Rattle.image_commands.specs.declared.places.ImagePlaces.{ImagePlaces}
+use Rattle.image_commands.specs.Places.{TwoPlaces, two_places}
 use Rattle.verity_commands.specs.Growing.{GrowsFile}
 use Rattle.fec_commands.specs.declared.fault.FecFault.{FecFault}
 use Rattle.fec_commands.specs.declared.fault.FecFault.TheVariants.{Parity}
 use Rattle.fec_commands.specs.FecFaults.{unopened}
-use Rattle.command_line.specs.FecFiles.{FecRecord}
+use Rattle.command_line.specs.declared.fec_file.FecFile.{FecFile}
+use Rattle.command_line.specs.FecFiles.{FecRecord, fec_record}
 use Rattle.fec_commands.specs.Protecting.{IsProtectEnd, ProtectsImage}
 
 -- the file couldn't be made so long
@@ -54,3 +57,7 @@ IsProtectionEnd true w places fec fault =
     EndsUngrown w fec.path 0 fault ⊎ (FailsToGrowParity w places fec fault
     ⊎ (GrowsThen w fec (λ v. IsProtectEnd v places fec fault) ⊎ GrowsTwiceThen w places fec (λ v. IsProtectEnd v places fec fault)))
 IsProtectionEnd false w places fec fault = IsProtectEnd w places fec fault
+
+-- the same by the program's own words, and the opener before and behind
+abbrev pub FailsToProtect : {S D : Type 0} → Bool → Opener S D → (D → Device) → S → S → ImagePlaces → FecFile → FecFault → Type 0
+FailsToProtect grow relations state old new places fec fault = IsProtectionEnd grow (calls relations state old new) (two_places places) (fec_record fec) fault

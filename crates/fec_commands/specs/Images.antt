@@ -63,3 +63,6 @@ extent_of places fec three = record { end = three_data_end three places.first; f
 -- the program's own words for the others
 abbrev pub Does : {S D : Type 0} {T : Type 1} → (Calls S D → TwoPlaces → FecRecord → T) → Opener S D → (D → Device) → S → S → ImagePlaces → FecFile → T
 Does relation relations state old new places fec = relation (calls relations state old new) (two_places places) (fec_record fec)
+
+abbrev pub RefusesThree : {S D : Type 0} → Opener S D → (D → Device) → S → S → ImagePlaces → FecFile → Bool → UnopenedFile → Type 0
+RefusesThree relations state old new places fec write file = FailsToOpenThree (calls relations state old new) (two_places places) (fec_record fec) write file

@@ -66,3 +66,11 @@ IsLayoutEnd data_dev hash_dev first hash_dev' (Verity fault) = IsImageEnd (IsSup
 IsLayoutEnd data_dev hash_dev first hash_dev' BlockSizes = HasOtherSizes hash_dev first
 IsLayoutEnd data_dev hash_dev first hash_dev' (Parity fault) = ⊥
 IsLayoutEnd data_dev hash_dev first hash_dev' (Differs round) = ⊥
+
+-- ---- the same by what devices of any kind are
+
+abbrev pub IsLaidOut : {D H : Type 0} → (D → Device) → (H → Device) → D → H → ℕ → ℕ → H → Layout → Type 0
+IsLaidOut data_state hash_state data_dev hash_dev first roots hash_dev' layout = LaysOut (data_state data_dev) (hash_state hash_dev) first roots (hash_state hash_dev') layout
+
+abbrev pub IsNotLaidOut : {D H : Type 0} → (D → Device) → (H → Device) → D → H → ℕ → H → FecFault → Type 0
+IsNotLaidOut data_state hash_state data_dev hash_dev first hash_dev' fault = IsLayoutEnd (data_state data_dev) (hash_state hash_dev) first (hash_state hash_dev') fault

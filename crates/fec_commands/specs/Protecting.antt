@@ -75,6 +75,18 @@ abbrev pub IsParityEnd : Device → Device → Device → Extent → Device → 
 IsParityEnd data_dev hash_dev parity_dev extent parity_dev' fault =
     EndsUnlaid data_dev hash_dev parity_dev extent parity_dev' fault ⊎ EndsUnsealed data_dev hash_dev parity_dev extent parity_dev' fault
 
+-- ---- the same by what devices of any kind are
+
+abbrev pub IsProtectedBy : {D H P : Type 0} → (D → Device) → (H → Device) → (P → Device) → D → H → P → Extent → P → Type 0
+IsProtectedBy data_state hash_state parity_state data_dev hash_dev parity extent parity' =
+    ProtectsBehind (data_state data_dev) (hash_state hash_dev) (parity_state parity) extent (parity_state parity')
+
+abbrev pub IsUnprotected : {D H P : Type 0} → (D → Device) → (H → Device) → (P → Device) → D → H → P → Extent → P → FecFault → Type 0
+IsUnprotected data_state hash_state parity_state data_dev hash_dev parity extent parity' fault =
+    IsParityEnd (data_state data_dev) (hash_state hash_dev) (parity_state parity) extent (parity_state parity') fault
+
+-- ---- of files
+
 -- The parity of the image was written to the file, which is neither of the images, synced, and given back under its path.
 pub record ProtectsImage {S D : Type 0} (w : Calls S D) (places : TwoPlaces) (fec : FecRecord) : Type 0 where
   pub between : S

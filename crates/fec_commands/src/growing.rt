@@ -4,7 +4,7 @@ ghost use Rattle.image_files.specs.Opener.{calls};
 ghost use Rattle.fec_area.specs.declared.writing.ParityFault.TheVariants as parity_fault;
 ghost use Rattle.fec_commands.specs.declared.fault.FecFault.TheVariants as fec_fault;
 ghost use Rattle.verity_commands.specs.Growing.{GrowsFile};
-ghost use Rattle.fec_commands.specs.Growing.{IsProtectionEnd, IsFileUnmade, Protects};
+ghost use Rattle.fec_commands.specs.Growing.{FailsToProtect, IsFileUnmade, Protects};
 ghost use Rattle.fec_commands.specs.Images.{Does};
 ghost use Rattle.fec_commands.specs.Layings.{IsRoots};
 
@@ -50,7 +50,7 @@ pub(crate) fn protect_growing<'a, I: Images>(
 ) -> Result<(), FecFault<'a>>
     requires { IsRoots fec.now.roots }
     ensures ok { OnOk result (Does (Protects true) I.relations I.Dev.state images.old images.new places.now fec.now) }
-    ensures err { IfErr result (Does (IsProtectionEnd true) I.relations I.Dev.state images.old images.new places.now fec.now) }
+    ensures err { IfErr result (FailsToProtect true I.relations I.Dev.state images.old images.new places.now fec.now) }
 {
     make_room(images, fec.path, 0)?;
     let tried = protect_image(alloc, images, places, fec);

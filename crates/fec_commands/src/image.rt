@@ -2,8 +2,8 @@
 ghost use Rattle.std.specs.Prelude.{◌≡◌, ◌&&◌, nat_le, nat_lt, IfErr, IfOk};
 ghost use Rattle.image_files.specs.Opener.{IsFresh};
 ghost use Rattle.fec_area.specs.Layouts.{IsLayout};
-ghost use Rattle.fec_commands.specs.Images.{Does, FailsToOpenThree, OpensThree, three_data_end};
-ghost use Rattle.fec_commands.specs.Layings.{IsLayoutEnd, IsRoots, LaysOut};
+ghost use Rattle.fec_commands.specs.Images.{Does, OpensThree, RefusesThree, three_data_end};
+ghost use Rattle.fec_commands.specs.Layings.{IsLaidOut, IsNotLaidOut, IsRoots};
 
 use crate::fault::FecFault;
 use block_device::BlockDev;
@@ -39,16 +39,16 @@ pub(crate) fn is_roots(roots: u32) -> bool
 }
 
 /// Opens the data image for reading, the hash image too, and then the file of the parity, for writing too where
-/// `writable` says so, which may be neither of them then.
+/// `write` says so, which may be neither of them then.
 pub(crate) fn open_three<'a, I: Images>(
     images: &mut I,
     places: &ImagePlaces<'a>,
     fec: &FecFile<'a>,
-    writable: bool,
+    write: bool,
 ) -> Result<ThreeImages<I::Dev>, UnopenedFile<'a>>
-    ensures ok { IfOk result (Does OpensThree I.relations I.Dev.state images.old images.new places.now fec.now writable) }
-    ensures fresh { IfOk result (λ three. IsFresh (I.Dev.state three.parity.device) writable) }
-    ensures err { IfErr result (Does FailsToOpenThree I.relations I.Dev.state images.old images.new places.now fec.now writable) }
+    ensures ok { IfOk result (Does OpensThree I.relations I.Dev.state images.old images.new places.now fec.now write) }
+    ensures fresh { IfOk result (λ three. IsFresh (I.Dev.state three.parity.device) write) }
+    ensures err { IfErr result (RefusesThree I.relations I.Dev.state images.old images.new places.now fec.now write) }
 {
     let data = open_image(images, places.data, false)?;
     let hash = open_image(images, places.hash, false)?;
@@ -64,7 +64,7 @@ pub(crate) fn open_three<'a, I: Images>(
             part: None,
         },
     ];
-    let parity = open_apart(images, &files, fec.path, writable)?;
+    let parity = open_apart(images, &files, fec.path, write)?;
     Ok(ThreeImages { data, hash, parity })
 }
 
@@ -86,8 +86,8 @@ pub(crate) fn lay_out<'a, D: BlockDev, H: BlockDev>(
     roots: u32,
 ) -> Result<Layout, FecFault<'a>>
     requires { IsRoots roots }
-    ensures ok { IfOk result (LaysOut (D.state data_dev.now) (H.state hash_dev.old) first roots (H.state hash_dev.new)) }
-    ensures err { IfErr result (IsLayoutEnd (D.state data_dev.now) (H.state hash_dev.old) first (H.state hash_dev.new)) }
+    ensures ok { IfOk result (IsLaidOut D.state H.state data_dev.now hash_dev.old first roots hash_dev.new) }
+    ensures err { IfErr result (IsNotLaidOut D.state H.state data_dev.now hash_dev.old first hash_dev.new) }
 {
     let superblock = read_superblock(hash_dev)?;
     if !is_aligned(first, superblock.hash_block()) {

@@ -2,11 +2,11 @@
 ghost use Rattle.std.specs.Prelude.{IfErr, OnOk};
 ghost use Rattle.image_commands.specs.Drawing.{drawing};
 ghost use Rattle.fec_commands.specs.Commands.{FailsToFormatFec, FailsToVerifyFec, FormatsFecByWords, VerifiesFecByWords};
-ghost use Rattle.fec_commands.specs.Growing.{IsProtectionEnd, Protects};
+ghost use Rattle.fec_commands.specs.Growing.{FailsToProtect, Protects};
 ghost use Rattle.fec_commands.specs.Images.{Does};
 ghost use Rattle.fec_commands.specs.Layings.{IsRoots};
 
-use crate::check::check_image;
+use crate::check::compare_image;
 use crate::fault::FecFault;
 use crate::growing::protect_growing;
 use crate::image::is_roots;
@@ -73,7 +73,13 @@ pub fn invoke_verify_fec<'a, I: Images, S: Watchers, W: Write>(
         hash: words.verify.hash_path,
         hash_first: sector_at(words.verify.hash_offset),
     };
-    check_image(alloc, images, &places, &words.fec, writer)
+    match compare_image(alloc, images, &places, &words.fec)? {
+        Some(round) => Err(FecFault::Differs(round)),
+        None => {
+            writer.put(b"parity ok\n")?;
+            Ok(())
+        }
+    }
 }
 
 // Writes the parity, and makes its file as long as is needed where `grow` says so.
@@ -86,7 +92,7 @@ fn protect<'a, I: Images>(
 ) -> Result<(), FecFault<'a>>
     requires { IsRoots fec.now.roots }
     ensures ok { OnOk result (Does (Protects grow) I.relations I.Dev.state images.old images.new places.now fec.now) }
-    ensures err { IfErr result (Does (IsProtectionEnd grow) I.relations I.Dev.state images.old images.new places.now fec.now) }
+    ensures err { IfErr result (FailsToProtect grow I.relations I.Dev.state images.old images.new places.now fec.now) }
 {
     if grow {
         return protect_growing(alloc, images, places, fec);

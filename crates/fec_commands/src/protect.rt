@@ -4,7 +4,7 @@ ghost use Rattle.fec_area.specs.Layouts.{IsLaidOn};
 ghost use Rattle.fec_area.specs.Rounds.{OnlyReadsCovered};
 ghost use Rattle.fec_commands.specs.Images.{Does};
 ghost use Rattle.fec_commands.specs.Layings.{IsRoots};
-ghost use Rattle.fec_commands.specs.Protecting.{IsParityEnd, IsProtectEnd, IsSealed, IsSealingEnd, ProtectsBehind, ProtectsImage};
+ghost use Rattle.fec_commands.specs.Protecting.{IsProtectEnd, IsProtectedBy, IsSealed, IsSealingEnd, IsUnprotected, ProtectsImage};
 
 use crate::fault::FecFault;
 use crate::image::{Extent, ThreeImages, data_end, lay_out, open_three};
@@ -58,17 +58,17 @@ fn protect_behind<'a, D: BlockDev + Drop, H: BlockDev + Drop, P: SyncDev>(
     alloc: Global,
     data_dev: D,
     hash_dev: H,
-    parity_dev: &mut P,
+    parity: &mut P,
     extent: Extent,
 ) -> Result<(), FecFault<'a>>
     requires { IsRoots extent.roots }
-    ensures ok { OnOk result (ProtectsBehind (D.state data_dev) (H.state hash_dev) (P.state parity_dev.old) extent (P.state parity_dev.new)) }
-    ensures err { IfErr result (IsParityEnd (D.state data_dev) (H.state hash_dev) (P.state parity_dev.old) extent (P.state parity_dev.new)) }
+    ensures ok { OnOk result (IsProtectedBy D.state H.state P.state data_dev hash_dev parity.old extent parity.new) }
+    ensures err { IfErr result (IsUnprotected D.state H.state P.state data_dev hash_dev parity.old extent parity.new) }
 {
     let mut before = Window::<D, Brand>::before(data_dev, extent.end);
     let mut behind = Window::<H, Brand>::behind(hash_dev, extent.first);
     let layout = lay_out(&before, &mut behind, extent.first, extent.roots)?;
-    write_synced(alloc, &layout, &mut before, &mut behind, parity_dev)?;
+    write_synced(alloc, &layout, &mut before, &mut behind, parity)?;
     Ok(())
 }
 

@@ -37,7 +37,7 @@ returns-in_err-found-clause-err g c =
     let hash_window = c.check_parity.new.hash_dev in
     let data_new = windowed (g.D.BlockDev.state data_window.inner) data_window.part in
     let hash_new = windowed (g.H.BlockDev.state hash_window.inner) hash_window.part in
-    let old = g.P.BlockDev.state c.args.parity_dev.now in
+    let old = g.P.BlockDev.state c.args.parity.now in
     let new = g.P.BlockDev.state c.check_parity.new.parity_dev in
     err-from c.from_residual-in_err-found.result _ (Parity cause) c.from_residual-in_err-found.ensures.1
     (inr (record {
@@ -64,5 +64,5 @@ returns-clause-ok g c =
       layout = l;
       read_dev = read_dev;
       lays = lays-as _ _ _ _ read_dev c.args.extent.first c.args.extent.roots l a b c.in_ok-layout.ensures.ok;
-      checked = subst (λ (v : Device). IsChecked l v read_dev (g.P.BlockDev.state c.args.parity_dev.now) c.in_ok-found.found) a c.in_ok-found.ensures.ok;
+      checked = subst (λ (v : Device). IsChecked l v read_dev (g.P.BlockDev.state c.args.parity.now) c.in_ok-found.found) a c.in_ok-found.ensures.ok;
     }

@@ -1,8 +1,8 @@
 use Rattle.std.proofs.Common.{inl, inr, refl}
-use Rattle.std.proofs.lemmas.Result.{on_ok_weaker}
 use Rattle.verity_commands.specs.declared.fault.VerityFault.TheVariants.{Usage}
 use Rattle.fec_commands.specs.declared.fault.FecFault.TheVariants.{Verity}
-use Rattle.fec_commands.proofs.EndingLemmas.{err-both, err-from}
+use Rattle.fec_commands.specs.FecFaults.{unwritten}
+use Rattle.fec_commands.proofs.EndingLemmas.{compare-as, err-from, quiet}
 use Rattle.fec_commands.proofs.invoke.invoke_verify_fec.Goals as goal
 
 pub returns-then-not-is_roots-clause-err : goal.returns-then-not-is_roots-clause-err
@@ -14,27 +14,43 @@ returns-in_err-invoke_verify-clause-err g c =
     err-from c.from_residual.result _ (Verity cause) c.from_residual.ensures.1
     (inr (inl (record { cause = cause; ends = c.in_err-invoke_verify.ensures.err; is = refl })))
 
-pub returns-clause-ok : goal.returns-clause-ok
-returns-clause-ok g c =
-    let checks = rw c.sector_at.ensures at c.check_image.ensures.ok in
-    on_ok_weaker c.check_image.result
-    (λ done. record {
-      between = c.invoke_verify.new.images;
-      told = g.W.Write.contents c.invoke_verify.new.writer.inner;
-      verifies = c.in_ok-invoke_verify.ensures.ok;
-      checks = done;
-    })
-    checks
+pub returns-in_err-round-clause-err : goal.returns-in_err-round-clause-err
+returns-in_err-round-clause-err g c =
+    let fault = c.in_err-round.field-0.0 in
+    let told = g.W.Write.contents c.invoke_verify.new.writer.inner in
+    let ends = rw c.sector_at.ensures at c.in_err-round.ensures.err in
+    err-from c.from_residual-in_err-round.result _ fault c.from_residual-in_err-round.ensures.1
+    (inr (inr (record { between = c.invoke_verify.new.images; told = told; verifies = c.in_ok-invoke_verify.ensures.ok; ends = compare-as ends; quiet = quiet fault told })))
 
-pub returns-clause-err : goal.returns-clause-err
-returns-clause-err g c =
-    let ends = rw c.sector_at.ensures at c.check_image.ensures.err in
-    err-both c.check_image.result _ _ _
-    (λ fault is is_quiet. inr (inr (record {
+pub returns-in-Some-clause-err : goal.returns-in-Some-clause-err
+returns-in-Some-clause-err g c =
+    let checked = rw (c.in-Some.is, c.sector_at.ensures) at c.in_ok-round.ensures.ok in
+    inr (inr (record {
       between = c.invoke_verify.new.images;
       told = g.W.Write.contents c.invoke_verify.new.writer.inner;
       verifies = c.in_ok-invoke_verify.ensures.ok;
-      ends = is;
-      quiet = is_quiet;
+      ends = inr (inr (inl (record { round = c.in-Some.round; checked = checked; is = refl })));
+      quiet = refl;
+    }))
+
+pub returns-in_err-put-in-None-clause-err : goal.returns-in_err-put-in-None-clause-err
+returns-in_err-put-in-None-clause-err g c =
+    let checked = rw (c.in-None.is, c.sector_at.ensures) at c.in_ok-round.ensures.ok in
+    err-from c.from_residual-in_err-put-in-None.result _ unwritten c.from_residual-in_err-put-in-None.ensures.1
+    (inr (inr (record {
+      between = c.invoke_verify.new.images;
+      told = g.W.Write.contents c.invoke_verify.new.writer.inner;
+      verifies = c.in_ok-invoke_verify.ensures.ok;
+      ends = inr (inr (inr (record { checked = checked; has_failed = c.in_err-put-in-None.ensures.writes.failed; is = refl })));
+      quiet = tt;
     })))
-    ends c.check_image.ensures.quiet
+
+pub returns-in_ok-put-in-None-clause-ok : goal.returns-in_ok-put-in-None-clause-ok
+returns-in_ok-put-in-None-clause-ok g c =
+    let checked = rw (c.in-None.is, c.sector_at.ensures) at c.in_ok-round.ensures.ok in
+    record {
+      between = c.invoke_verify.new.images;
+      told = g.W.Write.contents c.invoke_verify.new.writer.inner;
+      verifies = c.in_ok-invoke_verify.ensures.ok;
+      checks = record { checked = checked; printed = c.in_ok-put-in-None.ensures.writes.ok };
+    }

@@ -33,7 +33,7 @@ returns-in_err-write_synced-clause-err g c =
     let b = windowed-same _ hash_dev _ (part_behind hash_dev c.args.extent.first) (ap g.H.BlockDev.state c.behind-behind.ensures.inner) c.behind-behind.ensures.part in
     let l = c.in_ok-layout.layout in
     let cause = c.in_err-write_synced.field-0.0 in
-    let old = g.P.BlockDev.state c.args.parity_dev.now in
+    let old = g.P.BlockDev.state c.args.parity.now in
     let new = g.P.BlockDev.state c.write_synced.new.parity_dev in
     err-from c.from_residual-in_err-write_synced.result _ (Parity cause) c.from_residual-in_err-write_synced.ensures.1
     (inr (record {
@@ -54,7 +54,7 @@ returns-clause-ok g c =
     let a = windowed-same _ data_dev _ (part_before data_dev c.args.extent.end) (ap g.D.BlockDev.state c.before-before.ensures.inner) c.before-before.ensures.part in
     let b = windowed-same _ hash_dev _ (part_behind hash_dev c.args.extent.first) (ap g.H.BlockDev.state c.behind-behind.ensures.inner) c.behind-behind.ensures.part in
     let l = c.in_ok-layout.layout in
-    let old = g.P.BlockDev.state c.args.parity_dev.now in
+    let old = g.P.BlockDev.state c.args.parity.now in
     let new = g.P.BlockDev.state c.write_synced.new.parity_dev in
     record {
       layout = l;

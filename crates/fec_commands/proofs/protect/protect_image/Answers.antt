@@ -14,7 +14,7 @@ returns-in_err-protect_behind-clause-err g c =
     let three = c.in_ok-three.three in
     let state = g.I.Dev.BlockDev.state in
     let fault = c.in_err-protect_behind.field-0.0 in
-    let new = c.protect_behind.new.parity_dev in
+    let new = c.protect_behind.new.parity in
     err-from c.from_residual-in_err-protect_behind.result _ fault c.from_residual-in_err-protect_behind.ensures.1
     (inr (record {
       three = three;
@@ -27,7 +27,7 @@ pub returns-clause-ok : goal.returns-clause-ok
 returns-clause-ok g c =
     let three = c.in_ok-three.three in
     let state = g.I.Dev.BlockDev.state in
-    let new = c.protect_behind.new.parity_dev in
+    let new = c.protect_behind.new.parity in
     record {
       between = c.open_three.new.images;
       three = three;
