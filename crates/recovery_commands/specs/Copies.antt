@@ -1,6 +1,8 @@
 -- What can be had of a device is copied to an image, and how that ends early.
 use Rattle.std.specs.Prelude.{◌≡◌, ◌⊎◌, ℕ, ◌<◌, Bool, true, false, List, Option}
 use Rattle.block_device.specs.Device.{Device, synced}
+use Rattle.counted_io.specs.Counted.{CountedRecord}
+use Rattle.differing_device.specs.declared.differing.Differing.{Differing}
 use Rattle.differing_device.specs.Differing.{differing}
 use Rattle.image_files.specs.declared.images.OpenImage.{OpenImage}
 use Rattle.image_files.specs.Opener.{Calls, Opener, calls}
@@ -10,11 +12,12 @@ use Rattle.stack_making.specs.declared.device.NamedDevice.{NamedDevice}
 use Rattle.stack_making.specs.NamedDevices.{DeviceWords, FailsToFindOutput, FindsOutput, DevicePlace, words_for}
 use Rattle.stack_opening.specs.declared.stack_file.StackFile.{StackFile}
 use Rattle.stack_recovery.specs.declared.recovery.Counts.{Counts}
-use Rattle.stack_recovery.specs.Recoveries.{Parties, Recovers, Sides, seen_sides, sides}
+use Rattle.stack_recovery.specs.Recoveries.{Parties, Recovers, Sides, parties, seen_sides, sides}
+use Rattle.recovery_commands.specs.declared.copy.Copying.{Copying}
 use Rattle.recovery_commands.specs.declared.fault.RecoveringFault.{RecoveringFault}
 use Rattle.recovery_commands.specs.declared.fault.RecoveringFault.TheVariants.{OutputTooSmall}
 use Rattle.recovery_commands.specs.declared.output.Output.{Output}
-use Rattle.recovery_commands.specs.Recovering.{IsCountsEnd, IsRecoverEnd, IsRecoveryStackless, TellsCounts}
+use Rattle.recovery_commands.specs.Recovering.{EndsRecovering, IsCountsEnd, IsRecoverEnd, IsRecoveryStackless, TellsCounts, contents_of, has_failed}
 
 -- a stack file, the name of one of its devices, bindings, the image to which it is copied, and whether only what differs
 -- is written
@@ -63,6 +66,37 @@ CopiesBy state told is_differing d old new counts = CopiesTo is_differing d (see
 
 abbrev pub EndsCopyingBy : {O L : Type 0} → (O → Device) → (L → Option (List ℕ)) → (L → Bool) → Bool → ℕ → Parties O L → Parties O L → RecoveringFault → Type 0
 EndsCopyingBy state told failed is_differing d old new fault = EndsCopying is_differing d (seen_sides state told old) (seen_sides state told new) (failed new.listing) fault
+
+-- ---- the same of what is copied, and to what, with the writer of the lines
+
+abbrev pub copying_parties : {D O W : Type 0} → Copying D O → CountedRecord W → Parties O (CountedRecord W)
+copying_parties copying writer = parties copying.stack copying.out writer
+
+abbrev pub CopiesOnto : {D O W : Type 0} → (O → Device) → (W → Option (List ℕ)) → Copying D O → Copying D O → CountedRecord W → CountedRecord W → Counts → Type 0
+CopiesOnto state contents old new writer writer' counts = RecoversOnto state (contents_of contents) old.device.0 (copying_parties old writer) (copying_parties new writer') counts
+
+abbrev pub EndsOnto : {D O W : Type 0} → (O → Device) → (W → Option (List ℕ)) → Copying D O → Copying D O → CountedRecord W → CountedRecord W → RecoveringFault → Type 0
+EndsOnto state contents old new writer writer' fault = EndsRecovering state (contents_of contents) has_failed old.device.0 (copying_parties old writer) (copying_parties new writer') fault
+
+-- to a device of which only what differs is written
+abbrev pub differing_state : {O : Type 0} → (O → Device) → Differing O → Device
+differing_state state d = differing (state d.inner) d.reads d.writes d.dirty
+
+abbrev pub CopiesCompared : {D O W : Type 0} → (O → Device) → (W → Option (List ℕ)) → Copying D (Differing O) → Copying D (Differing O) → CountedRecord W → CountedRecord W → Counts → Type 0
+CopiesCompared state contents old new writer writer' counts = CopiesOnto (differing_state state) contents old new writer writer' counts
+
+abbrev pub EndsCompared : {D O W : Type 0} → (O → Device) → (W → Option (List ℕ)) → Copying D (Differing O) → Copying D (Differing O) → CountedRecord W → CountedRecord W → RecoveringFault → Type 0
+EndsCompared state contents old new writer writer' fault = EndsOnto (differing_state state) contents old new writer writer' fault
+
+-- to OUT, seen so or so
+abbrev pub CopiesAll : {D O W : Type 0} → (O → Device) → (W → Option (List ℕ)) → Bool → Copying D O → Copying D O → CountedRecord W → CountedRecord W → Counts → Type 0
+CopiesAll state contents is_differing old new writer writer' counts = CopiesBy state (contents_of contents) is_differing old.device.0 (copying_parties old writer) (copying_parties new writer') counts
+
+abbrev pub EndsCopyingAll : {D O W : Type 0} → (O → Device) → (W → Option (List ℕ)) → Bool → Copying D O → Copying D O → CountedRecord W → CountedRecord W → RecoveringFault → Type 0
+EndsCopyingAll state contents is_differing old new writer writer' fault =
+    EndsCopyingBy state (contents_of contents) has_failed is_differing old.device.0 (copying_parties old writer) (copying_parties new writer') fault
+
+-- ---- a copy
 
 -- The device was gone over: a line was printed for each longest lost run, what was had went to OUT's image, and that was
 -- synced and given back.

@@ -1,18 +1,21 @@
 -- Which sectors of a device are lost, and how the going over ends early.
 use Rattle.std.specs.Global.{Global}
-use Rattle.std.specs.Prelude.{◌≡◌, ◌⊎◌, ℕ, Bool, IsTrue, List, [], Option, Some, Vec}
+use Rattle.std.specs.Prelude.{◌≡◌, ◌⊎◌, ◌≤◌, ℕ, Bool, IsTrue, List, [], Option, Some, Vec}
 use Rattle.block_device.specs.Device.{Device}
 use Rattle.image_files.specs.Opener.{Calls, Opener, calls}
+use Rattle.stack_rules.specs.Names.{mapped, size}
 use Rattle.stack_making.specs.NamedDevices.{DeviceWords, FailsToFindDevice, FindsDevice, DevicePlace, words_for}
 use Rattle.stack_making.specs.declared.device.NamedDevice.{NamedDevice}
 use Rattle.stack_recovery.specs.declared.listing.KeptRuns.{KeptRuns}
 use Rattle.stack_recovery.specs.declared.lost_run.LostRun.{LostRun}
 use Rattle.stack_recovery.specs.declared.recovery.Counts.{Counts}
-use Rattle.stack_recovery.specs.Recoveries.{Recovers, Sides, sides}
+use Rattle.stack_recovery.specs.Recoveries.{Parties, Recovers, RecoversBy, Sides, parties, sides}
+use Rattle.stack_recovery.specs.declared.discard.Discard.{Discard}
 use Rattle.stack_recovery.specs.Texts.{lost_text}
 use Rattle.recovery_commands.specs.declared.fault.RecoveringFault.{RecoveringFault}
 use Rattle.recovery_commands.specs.declared.fault.RecoveringFault.TheVariants.{NoMemory, Write}
-use Rattle.recovery_commands.specs.Recovering.{IsCountsEnd, IsRecoverEnd, IsRecoveryStackless, TellsCounts}
+use Rattle.recovery_commands.specs.Recovering.{EndsRecovering, IsCountsEnd, IsRecoverEnd, IsRecoveryStackless, TellsCounts}
+use Rattle.recovery_commands.specs.declared.lost.Search.{Search}
 use Rattle.stack_opening.specs.declared.stack_file.StackFile.{StackFile}
 
 -- A device was gone over: a line was told for each longest lost run.
@@ -70,6 +73,19 @@ unkept fault = fault
 -- that cause, as an end of the going over
 abbrev pub IsUnkept : (RecoveringFault → Type 0) → RecoveringFault → Type 0
 IsUnkept Ends fault = (cause : RecoveringFault) × Ends cause × (fault ≡ unkept cause)
+
+-- a device is gone over and its lost runs kept, or that ends early
+abbrev pub search_parties : {D : Type 0} → Search D → Parties Discard KeptRuns
+search_parties search = parties search.stack search.out search.kept
+
+abbrev pub HasRoomToSearch : {D : Type 0} → (Discard → Device) → Search D → Type 0
+HasRoomToSearch state search = size search.stack.config (mapped search.device.0) ≤ (state search.out).size
+
+abbrev pub KeepsRuns : {D : Type 0} → (Discard → Device) → Search D → Search D → Counts → Type 0
+KeepsRuns state old new counts = RecoversBy state kept_text old.device.0 (search_parties old) (search_parties new) counts
+
+abbrev pub EndsSearch : {D : Type 0} → (Discard → Device) → Search D → Search D → RecoveringFault → Type 0
+EndsSearch state old new fault = IsUnkept (EndsRecovering state kept_text is_refused old.device.0 (search_parties old) (search_parties new)) fault
 
 -- it ended early, and no run that was kept is told
 pub record CutsScan {S D : Type 0} (w : Calls S D) (words : DeviceWords) (fault : RecoveringFault) : Type 0 where

@@ -1,9 +1,6 @@
 //! The lost sectors of a device, kept in memory.
 ghost use Rattle.std.specs.Prelude.{◌≡◌, ◌≤◌, ◌<◌, length, IfOk, IfErr};
-ghost use Rattle.stack_rules.specs.Names.{mapped, size};
-ghost use Rattle.stack_recovery.specs.Recoveries.{RecoversBy, parties};
-ghost use Rattle.recovery_commands.specs.Recovering.{EndsRecovering};
-ghost use Rattle.recovery_commands.specs.Scans.{FailsToFindLost, FindsLost, IsUnkept, is_refused, kept_text, unkept};
+ghost use Rattle.recovery_commands.specs.Scans.{EndsSearch, FailsToFindLost, FindsLost, HasRoomToSearch, KeepsRuns, unkept};
 
 use crate::fault::RecoveringFault;
 use crate::recovering::recover_device;
@@ -17,6 +14,15 @@ use stack_opening::StackFile;
 use stack_recovery::{Counts, Discard, KeptRuns, LostRun};
 use std::alloc::Global;
 
+// A device of a stack that is gone over, and its lost runs so far.
+#[derive(Drop)]
+struct Search<D: BlockDev> {
+    stack: Stack<D>,
+    device: DevId,
+    out: Discard,
+    kept: KeptRuns,
+}
+
 /// Reads a device of a stack file over the bindings, and keeps which sectors are lost.
 pub fn find_lost<'a, I: Images, P: Progress>(
     alloc: Global,
@@ -28,27 +34,37 @@ pub fn find_lost<'a, I: Images, P: Progress>(
     ensures ok { IfOk result (FindsLost I.relations I.Dev.state images.old images.new file.entry device.entry) }
     ensures err { IfErr result (FailsToFindLost I.relations I.Dev.state images.old images.new file.entry device.entry) }
 {
-    let (mut stack, device) = open_device(alloc, images, file, device)?;
-    let mut out = Discard::new(stack.config().sectors(device));
-    let mut kept = KeptRuns::new(alloc);
-    let counts = keep_runs(&mut stack, device, &mut out, &mut kept, progress)?;
-    Ok((kept.runs, counts))
+    let (stack, device) = open_device(alloc, images, file, device)?;
+    let out = Discard::new(stack.config().sectors(device));
+    let kept = KeptRuns::new(alloc);
+    let mut search = Search {
+        stack,
+        device,
+        out,
+        kept,
+    };
+    let counts = keep_runs(&mut search, progress)?;
+    Ok((search.kept.runs, counts))
 }
 
 // Goes over the device, and keeps its lost runs.
 fn keep_runs<'a, D: BlockDev + Drop, P: Progress>(
-    stack: &mut Stack<D>,
-    device: DevId,
-    out: &mut Discard,
-    kept: &mut KeptRuns,
+    search: &mut Search<D>,
     progress: &mut P,
 ) -> Result<Counts, RecoveringFault<'a>>
-    requires device { device.0 < length stack.old.config.devices }
-    requires room { size stack.old.config (mapped device.0) ≤ (⟦<Discard as BlockDev>⟧.state out.old).size }
-    ensures ok { IfOk result (RecoversBy ⟦<Discard as BlockDev>⟧.state kept_text device.0 (parties stack.old out.old kept.old) (parties stack.new out.new kept.new)) }
-    ensures err { IfErr result (IsUnkept (EndsRecovering ⟦<Discard as BlockDev>⟧.state kept_text is_refused device.0 (parties stack.old out.old kept.old) (parties stack.new out.new kept.new))) }
+    requires device { search.old.device.0 < length search.old.stack.config.devices }
+    requires room { HasRoomToSearch ⟦<Discard as BlockDev>⟧.state search.old }
+    ensures ok { IfOk result (KeepsRuns ⟦<Discard as BlockDev>⟧.state search.old search.new) }
+    ensures err { IfErr result (EndsSearch ⟦<Discard as BlockDev>⟧.state search.old search.new) }
 {
-    match recover_device(stack, device, out, kept, progress) {
+    let found = recover_device(
+        &mut search.stack,
+        search.device,
+        &mut search.out,
+        &mut search.kept,
+        progress,
+    );
+    match found {
         Ok(counts) => Ok(counts),
         Err(fault) => Err(unkept(fault)),
     }

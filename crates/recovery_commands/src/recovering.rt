@@ -2,7 +2,7 @@
 ghost use Rattle.std.specs.Prelude.{◌≤◌, ◌<◌, length, IsTrue, IfOk, IfErr, OnOk};
 ghost use Rattle.counted_io.specs.Counted.{Writes};
 ghost use Rattle.stack_rules.specs.Names.{mapped, size};
-ghost use Rattle.stack_recovery.specs.Recoveries.{RecoversBy, parties};
+ghost use Rattle.stack_recovery.specs.Recoveries.{Recovered, parties};
 ghost use Rattle.recovery_commands.specs.Recovering.{EndsPrintedBy, EndsRecovering, IsCountsEnd, PrintedBy, TellsCounts, counts_text};
 
 use crate::fault::RecoveringFault;
@@ -17,18 +17,18 @@ use std::io::Write;
 /// Goes over the device, and copies what is had to another one.
 pub fn recover_device<'a, D: BlockDev + Drop, O: BlockDev, L: Listing, P: Progress>(
     stack: &mut Stack<D>,
-    device: DevId,
+    d: DevId,
     out: &mut O,
     listing: &mut L,
     progress: &mut P,
 ) -> Result<Counts, RecoveringFault<'a>>
-    requires device { device.0 < length stack.old.config.devices }
-    requires room { size stack.old.config (mapped device.0) ≤ (O.state out.old).size }
+    requires device { d.0 < length stack.old.config.devices }
+    requires room { size stack.old.config (mapped d.0) ≤ (O.state out.old).size }
     requires allowed { IsTrue (O.state out.old).may_write }
-    ensures ok { IfOk result (RecoversBy O.state L.told device.0 (parties stack.old out.old listing.old) (parties stack.new out.new listing.new)) }
-    ensures err { IfErr result (EndsRecovering O.state L.told L.failed device.0 (parties stack.old out.old listing.old) (parties stack.new out.new listing.new)) }
+    ensures ok { IfOk result (Recovered O.state L.told d stack.old out.old listing.old stack.new out.new listing.new) }
+    ensures err { IfErr result (EndsRecovering O.state L.told L.failed d.0 (parties stack.old out.old listing.old) (parties stack.new out.new listing.new)) }
 {
-    match recover_with(stack, device, out, listing, progress) {
+    match recover_with(stack, d, out, listing, progress) {
         Ok(counts) => Ok(counts),
         Err(RecoveryFault::NoMemory) => Err(RecoveringFault::NoMemory),
         Err(RecoveryFault::Output) => Err(RecoveringFault::OutputFailed),

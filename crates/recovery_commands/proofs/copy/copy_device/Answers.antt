@@ -12,11 +12,11 @@ pub returns-clause-err : goal.returns-clause-err
 returns-clause-err g c = inr (inl (record {
   at = device_place c.in_ok-stack.stack c.in_ok-stack.device.0;
   image = c.in_ok-stack.image;
-  image' = c.copy_to-image.result.0;
-  left = c.copy_to-image.new.stack;
+  image' = c.copy_to-left.result.0.out;
+  left = c.copy_to-left.result.0.stack;
   between = c.open_with_room.new.images;
   found = c.in_ok-stack.ensures.ok;
-  fails = rw c.in-Err.is at c.copy_to-image.ensures.err;
+  fails = rw c.in-Err.is at c.copy_to-left.ensures.err;
   back = c.close.ensures;
 }))
 
@@ -27,11 +27,11 @@ returns-in-Ok-clause-ok g c = on_ok_weaker c.tell_counts.result (λ told. record
   copied = record {
     at = device_place c.in_ok-stack.stack c.in_ok-stack.device.0;
     image = c.in_ok-stack.image;
-    image' = c.copy_to-image.result.0;
+    image' = c.copy_to-left.result.0.out;
     left = _;
     between = c.open_with_room.new.images;
     found = c.in_ok-stack.ensures.ok;
-    copied = rw c.in-Ok.is at c.copy_to-image.ensures.ok;
+    copied = rw c.in-Ok.is at c.copy_to-left.ensures.ok;
     back = c.close.ensures;
   };
   told = told;
@@ -44,11 +44,11 @@ returns-in-Ok-clause-err g c = IfErr-weaker c.tell_counts.result _ _ (λ fault e
   copied = record {
     at = device_place c.in_ok-stack.stack c.in_ok-stack.device.0;
     image = c.in_ok-stack.image;
-    image' = c.copy_to-image.result.0;
+    image' = c.copy_to-left.result.0.out;
     left = _;
     between = c.open_with_room.new.images;
     found = c.in_ok-stack.ensures.ok;
-    copied = rw c.in-Ok.is at c.copy_to-image.ensures.ok;
+    copied = rw c.in-Ok.is at c.copy_to-left.ensures.ok;
     back = c.close.ensures;
   };
   ends = ends;
