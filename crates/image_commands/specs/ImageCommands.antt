@@ -16,6 +16,7 @@ use Rattle.image_files.specs.Opener.{Calls, Opener, calls}
 use Rattle.image_commands.specs.declared.fault.ImageFault.{ImageFault}
 use Rattle.image_commands.specs.declared.fault.ImageFault.TheVariants.{Random}
 use Rattle.image_commands.specs.declared.format.MadeImage.{MadeImage}
+use Rattle.image_commands.specs.declared.paths.ImagePair.{ImagePair}
 use Rattle.image_commands.specs.declared.paths.ImagePaths.{ImagePaths}
 use Rattle.image_commands.specs.declared.paths.TwoImages.{TwoImages}
 use Rattle.image_commands.specs.declared.table.LineWords.{LineWords}
@@ -140,17 +141,16 @@ VerifiesImages relations state images images' contents writer writer' paths root
 abbrev pub FailsToVerifyFiles : {S D W : Type 0} → Opener S D → (D → Device) → S → S → CountedRecord W → ImagePaths → List ℕ → ImageFault → Type 0
 FailsToVerifyFiles relations state images images' writer' paths root = IsVerifyFilesEnd (calls relations state images images') (two_paths paths) root writer'.failed
 
-abbrev pub OnlyReadsImages : {D H : Type 0} → (D → Device) → (H → Device) → D → H → D → H → Type 0
-OnlyReadsImages data_state hash_state data_dev hash_dev data_dev' hash_dev' =
-    IsOnlyRead (data_state data_dev) (data_state data_dev') × IsOnlyRead (hash_state hash_dev) (hash_state hash_dev')
+abbrev pub OnlyReadsImages : {D H : Type 0} → (D → Device) → (H → Device) → ImagePair D H → ImagePair D H → Type 0
+OnlyReadsImages data_state hash_state two two' = IsOnlyRead (data_state two.data) (data_state two'.data) × IsOnlyRead (hash_state two.hash) (hash_state two'.hash)
 
-abbrev pub FindsMatches : {D H W : Type 0} → (D → Device) → (H → Device) → D → H → D → H → (W → Option (List ℕ)) → CountedRecord W → CountedRecord W → List ℕ → Type 0
-FindsMatches data_state hash_state data_dev hash_dev data_dev' hash_dev' contents writer writer' root =
-    IsFound (data_state data_dev) (hash_state hash_dev) (data_state data_dev') (hash_state hash_dev') root Matches × Appends (contents writer.inner) (contents writer'.inner) (codes "matches\n")
+abbrev pub FindsMatches : {D H W : Type 0} → (D → Device) → (H → Device) → ImagePair D H → ImagePair D H → (W → Option (List ℕ)) → CountedRecord W → CountedRecord W → List ℕ → Type 0
+FindsMatches data_state hash_state two two' contents writer writer' root =
+    IsFound (data_state two.data) (hash_state two.hash) (data_state two'.data) (hash_state two'.hash) root Matches × Appends (contents writer.inner) (contents writer'.inner) (codes "matches\n")
 
-abbrev pub FailsToCompare : {D H W : Type 0} → (D → Device) → (H → Device) → D → H → D → H → CountedRecord W → List ℕ → ImageFault → Type 0
-FailsToCompare data_state hash_state data_dev hash_dev data_dev' hash_dev' writer' root =
-    IsComparisonEnd (IsVerifyCause (data_state data_dev) (hash_state hash_dev) (data_state data_dev') (hash_state hash_dev')) (IsFound (data_state data_dev) (hash_state hash_dev) (data_state data_dev') (hash_state hash_dev') root) writer'.failed
+abbrev pub FailsToCompare : {D H W : Type 0} → (D → Device) → (H → Device) → ImagePair D H → ImagePair D H → CountedRecord W → List ℕ → ImageFault → Type 0
+FailsToCompare data_state hash_state two two' writer' root =
+    IsComparisonEnd (IsVerifyCause (data_state two.data) (hash_state two.hash) (data_state two'.data) (hash_state two'.hash)) (IsFound (data_state two.data) (hash_state two.hash) (data_state two'.data) (hash_state two'.hash) root) writer'.failed
 
 -- two images are formatted
 abbrev pub FormatsImages : {S D T G W : Type 0} → Opener S D → (D → Device) → S → S → Gives T G → (G → Stream) → T → T → (W → Option (List ℕ)) → CountedRecord W → CountedRecord W → ImageOptions → ImagePaths → Type 0

@@ -109,9 +109,9 @@ abbrev pub SaysFieldsAt : {H W : Type 0} → (H → Device) → H → (W → Opt
 SaysFieldsAt state hash_dev contents writer writer' first json =
     SaysPlaced (state hash_dev) first (λ s. true) (dump_text json) (contents writer.inner) (contents writer'.inner)
 
-abbrev pub SaysLineAt : {H W : Type 0} → (H → Device) → H → (W → Option (List ℕ)) → CountedRecord W → CountedRecord W → ℕ → Option (Bor (List ℕ)) → LineWords → Type 0
-SaysLineAt state hash_dev contents writer writer' first name words =
-    SaysPlaced (state hash_dev) first (λ s. is_aligned first s.hash_block) (λ s. text_at name s words first) (contents writer.inner) (contents writer'.inner)
+abbrev pub SaysLineAt : {H W : Type 0} → (H → Device) → H × ℕ → (W → Option (List ℕ)) → CountedRecord W → CountedRecord W → Option (Bor (List ℕ)) → LineWords → Type 0
+SaysLineAt state placed contents writer writer' name words =
+    SaysPlaced (state placed.0) placed.1 (λ s. is_aligned placed.1 s.hash_block) (λ s. text_at name s words placed.1) (contents writer.inner) (contents writer'.inner)
 
 -- two images, or two devices that are open, are compared
 abbrev pub VerifiesImagesAt : {S D W : Type 0} → Opener S D → (D → Device) → S → S → (W → Option (List ℕ)) → CountedRecord W → CountedRecord W → WatchedPlaces → List ℕ → Type 0
@@ -120,10 +120,10 @@ VerifiesImagesAt relations state images images' contents writer writer' watched 
 abbrev pub FailsToVerifyAt : {S D W : Type 0} → Opener S D → (D → Device) → S → S → CountedRecord W → WatchedPlaces → List ℕ → ImageFault → Type 0
 FailsToVerifyAt relations state images images' writer' watched root = IsPlacedMatchesEnd (calls relations state images images') (two_places watched.places) root writer'.failed
 
-abbrev pub MatchesAt : {D H W : Type 0} → (D → Device) → (H → Device) → D → H → (W → Option (List ℕ)) → CountedRecord W → CountedRecord W → Bounds → List ℕ → Type 0
-MatchesAt data_state hash_state data_dev hash_dev contents writer writer' bounds root =
-    MatchesPlaced (data_state data_dev) (hash_state hash_dev) bounds.end bounds.first root (contents writer.inner) (contents writer'.inner)
+abbrev pub MatchesAt : {D H W : Type 0} → (D → Device) → (H → Device) → D × H → (W → Option (List ℕ)) → CountedRecord W → CountedRecord W → Bounds → List ℕ → Type 0
+MatchesAt data_state hash_state devices contents writer writer' bounds root =
+    MatchesPlaced (data_state devices.0) (hash_state devices.1) bounds.end bounds.first root (contents writer.inner) (contents writer'.inner)
 
-abbrev pub FailsToMatchAt : {D H W : Type 0} → (D → Device) → (H → Device) → D → H → CountedRecord W → Bounds → List ℕ → ImageFault → Type 0
-FailsToMatchAt data_state hash_state data_dev hash_dev writer' bounds root =
-    IsMatchingEnd (data_state data_dev) (hash_state hash_dev) bounds.end bounds.first root writer'.failed
+abbrev pub FailsToMatchAt : {D H W : Type 0} → (D → Device) → (H → Device) → D × H → CountedRecord W → Bounds → List ℕ → ImageFault → Type 0
+FailsToMatchAt data_state hash_state devices writer' bounds root =
+    IsMatchingEnd (data_state devices.0) (hash_state devices.1) bounds.end bounds.first root writer'.failed

@@ -148,6 +148,10 @@ abbrev pub MakesTreeBehind : {D H : Type 0} → (D → Device) → (H → Device
 MakesTreeBehind data_state hash_state data_dev hash_dev hash_dev' bounds options =
     let data_part = before (data_state data_dev) bounds.end in IsTreeMade (tree_with options data_part) data_part (hash_state hash_dev) bounds.first (hash_state hash_dev')
 
+-- the tree of a shape isn't made, behind a sector
+abbrev pub FailsToMakeShape : {D H : Type 0} → SuperRecord → (D → Device) → (H → Device) → D → H → H → ℕ → FormatFault → Type 0
+FailsToMakeShape s data_state hash_state data_dev hash_dev hash_dev' first = IsTreeUnmade s (data_state data_dev) (hash_state hash_dev) first (hash_state hash_dev')
+
 abbrev pub FailsToMakeTree : {D H : Type 0} → (D → Device) → (H → Device) → D → H → H → Bounds → FormatOptions → FormatFault → Type 0
 FailsToMakeTree data_state hash_state data_dev hash_dev hash_dev' bounds options =
     let data_part = before (data_state data_dev) bounds.end in IsTreeEnd (tree_with options data_part) data_part (hash_state hash_dev) bounds.first (hash_state hash_dev')

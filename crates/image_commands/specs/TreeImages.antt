@@ -84,24 +84,24 @@ FailsToVerifyTree relations state images images' writer' watched expected =
     IsTreeMatchesEnd (calls relations state images images') (two_places watched.places) expected.options expected.root writer'.failed
 
 -- two devices that are open, of which the data end and the tree begins at these sectors
-abbrev pub MatchesTreeAt : {D H W : Type 0} → (D → Device) → (H → Device) → D → H → (W → Option (List ℕ)) → CountedRecord W → CountedRecord W → Bounds → FormatOptions → List ℕ → Type 0
-MatchesTreeAt data_state hash_state data_dev hash_dev contents writer writer' bounds options root =
-    let data_part = before (data_state data_dev) bounds.end in
-    MatchesTree (tree_with options data_part) data_part (hash_state hash_dev) bounds.first root (contents writer.inner) (contents writer'.inner)
+abbrev pub MatchesTreeAt : {D H W : Type 0} → (D → Device) → (H → Device) → D × H → (W → Option (List ℕ)) → CountedRecord W → CountedRecord W → Bounds → FormatOptions → List ℕ → Type 0
+MatchesTreeAt data_state hash_state devices contents writer writer' bounds options root =
+    let data_part = before (data_state devices.0) bounds.end in
+    MatchesTree (tree_with options data_part) data_part (hash_state devices.1) bounds.first root (contents writer.inner) (contents writer'.inner)
 
-abbrev pub FailsAtTree : {D H W : Type 0} → (D → Device) → (H → Device) → D → H → CountedRecord W → Bounds → FormatOptions → List ℕ → ImageFault → Type 0
-FailsAtTree data_state hash_state data_dev hash_dev writer' bounds options root =
-    let data_part = before (data_state data_dev) bounds.end in
-    IsTreeComparisonEnd (tree_with options data_part) data_part (hash_state hash_dev) bounds.first root writer'.failed
+abbrev pub FailsAtTree : {D H W : Type 0} → (D → Device) → (H → Device) → D × H → CountedRecord W → Bounds → FormatOptions → List ℕ → ImageFault → Type 0
+FailsAtTree data_state hash_state devices writer' bounds options root =
+    let data_part = before (data_state devices.0) bounds.end in
+    IsTreeComparisonEnd (tree_with options data_part) data_part (hash_state devices.1) bounds.first root writer'.failed
 
--- a tree of that shape, and the sector at which it begins
-abbrev pub MatchesShape : {D H W : Type 0} → SuperRecord → (D → Device) → (H → Device) → D → H → ℕ → (W → Option (List ℕ)) → CountedRecord W → CountedRecord W → List ℕ → Type 0
-MatchesShape s data_state hash_state data_dev hash_dev first contents writer writer' root =
-    MatchesTree s (data_state data_dev) (hash_state hash_dev) first root (contents writer.inner) (contents writer'.inner)
+-- a tree of that shape on a hash device, behind the sector at which it begins
+abbrev pub MatchesShape : {D H W : Type 0} → SuperRecord → (D → Device) → (H → Device) → D → H × ℕ → (W → Option (List ℕ)) → CountedRecord W → CountedRecord W → List ℕ → Type 0
+MatchesShape s data_state hash_state data_dev placed contents writer writer' root =
+    MatchesTree s (data_state data_dev) (hash_state placed.0) placed.1 root (contents writer.inner) (contents writer'.inner)
 
-abbrev pub FailsAtShape : {D H W : Type 0} → SuperRecord → (D → Device) → (H → Device) → D → H → ℕ → CountedRecord W → List ℕ → ImageFault → Type 0
-FailsAtShape s data_state hash_state data_dev hash_dev first writer' root =
-    IsTreeComparisonEnd s (data_state data_dev) (hash_state hash_dev) first root writer'.failed
+abbrev pub FailsAtShape : {D H W : Type 0} → SuperRecord → (D → Device) → (H → Device) → D → H × ℕ → CountedRecord W → List ℕ → ImageFault → Type 0
+FailsAtShape s data_state hash_state data_dev placed writer' root =
+    IsTreeComparisonEnd s (data_state data_dev) (hash_state placed.0) placed.1 root writer'.failed
 
 -- the line that the words give
 abbrev pub SaysTreeLine : {W : Type 0} → (W → Option (List ℕ)) → CountedRecord W → CountedRecord W → ℕ → Option (Bor (List ℕ)) → LineWords → FormatOptions → Type 0

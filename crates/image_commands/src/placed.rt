@@ -6,7 +6,7 @@ ghost use Rattle.image_commands.specs.PlacedImages.{DumpsImageAt, FailsToMatchAt
 ghost use Rattle.image_commands.specs.PlacedLines.{entry_head, text_at};
 
 use crate::fault::ImageFault;
-use crate::paths::{ImagePaths, open_two};
+use crate::paths::{ImagePair, ImagePaths, open_two};
 use crate::placed_line::say_placed_line;
 use crate::places::{Bounds, HashPlace, ImagePlaces, data_end, is_aligned};
 use crate::superblock_json::say_dump;
@@ -75,21 +75,21 @@ pub fn table_placed<'a, I: Images, W: Write>(
 {
     let HashPlace { path, first } = place;
     let image = open_image(images, path, false)?;
-    table_behind(image.device, first, name, words, writer)
+    table_behind((image.device, first), name, words, writer)
 }
 
 #[tactic(auto, using(crate::proofs::lemmas::EndingLemmas::quiet))]
 fn table_behind<'a, H: BlockDev + Drop, W: Write>(
-    hash_dev: H,
-    first: u64,
+    placed: (H, u64),
     name: Option<&str>,
     words: LineWords<'_>,
     writer: &mut Counted<W>,
 ) -> Result<(), ImageFault<'a>>
-    ensures ok { OnOk result (SaysLineAt H.state hash_dev W.contents writer.old writer.new first name.entry words.entry) }
-    ensures err { IfErr result (IsPlacedSuperEnd (H.state hash_dev) first writer.new.failed) }
+    ensures ok { OnOk result (SaysLineAt H.state placed W.contents writer.old writer.new name.entry words.entry) }
+    ensures err { IfErr result (IsPlacedSuperEnd (H.state placed.0) placed.1 writer.new.failed) }
     ensures quiet { IfErr result (λ fault. IsQuiet fault (W.contents writer.old.inner) (W.contents writer.new.inner)) }
 {
+    let (hash_dev, first) = placed;
     let mut window = Window::<H, Brand>::behind(hash_dev, first);
     let superblock = read_superblock(&mut window)?;
     if !is_aligned(first, superblock.hash_block()) {
@@ -154,34 +154,32 @@ pub fn verify_placed<'a, I: Images, S: Watchers, W: Write>(
     let end = data_end(&two, first);
     let all = bytes_before(&two.data.device, end);
     let (data_dev, hash_dev) = watch(two, watchers, progress, all);
-    compare_behind(
-        alloc,
-        data_dev,
-        hash_dev,
-        Bounds { end, first },
-        root,
-        writer,
-    )
+    let bounds = Bounds { end, first };
+    compare_behind(alloc, (data_dev, hash_dev), bounds, root, writer)
 }
 
 #[tactic(auto, using(crate::proofs::lemmas::EndingLemmas::quiet))]
 fn compare_behind<'a, D: BlockDev + Drop, H: BlockDev + Drop, W: Write>(
     alloc: Global,
-    data_dev: D,
-    hash_dev: H,
+    devices: (D, H),
     bounds: Bounds,
     root: &Digest,
     writer: &mut Counted<W>,
 ) -> Result<(), ImageFault<'a>>
-    ensures ok { OnOk result (MatchesAt D.state H.state data_dev hash_dev W.contents writer.old writer.new bounds root.now) }
-    ensures err { IfErr result (FailsToMatchAt D.state H.state data_dev hash_dev writer.new bounds root.now) }
+    ensures ok { OnOk result (MatchesAt D.state H.state devices W.contents writer.old writer.new bounds root.now) }
+    ensures err { IfErr result (FailsToMatchAt D.state H.state devices writer.new bounds root.now) }
     ensures quiet { IfErr result (λ fault. IsQuiet fault (W.contents writer.old.inner) (W.contents writer.new.inner)) }
 {
-    let mut before = Window::<D, Brand>::before(data_dev, bounds.end);
+    let (data_dev, hash_dev) = devices;
+    let before = Window::<D, Brand>::before(data_dev, bounds.end);
     let mut behind = Window::<H, Brand>::behind(hash_dev, bounds.first);
     let superblock = read_superblock(&mut behind)?;
     if !is_aligned(bounds.first, superblock.hash_block()) {
         return Err(ImageFault::Unaligned);
     }
-    compare(alloc, &mut before, &mut behind, root, writer)
+    let mut two = ImagePair {
+        data: before,
+        hash: behind,
+    };
+    compare(alloc, &mut two, root, writer)
 }

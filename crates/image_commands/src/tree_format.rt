@@ -3,7 +3,7 @@ ghost use Rattle.std.specs.Prelude.{◌≡◌, Some, IfErr, IfOk, OnOk};
 ghost use Rattle.counted_io.specs.Counted.{Writes};
 ghost use Rattle.device_window.specs.Parts.{outside_of};
 ghost use Rattle.image_commands.specs.Endings.{IsQuiet};
-ghost use Rattle.image_commands.specs.TreeFormats.{FailsToPlaceTree, FailsToMakeTree, FormatsTree, IsFinished, IsTreeMade, IsTreeUnmade, IsUnfinished, MakesTreeBehind, tree_text};
+ghost use Rattle.image_commands.specs.TreeFormats.{FailsToMakeShape, FailsToPlaceTree, FailsToMakeTree, FormatsTree, IsFinished, IsTreeMade, IsUnfinished, MakesTreeBehind, tree_text};
 ghost use Rattle.image_commands.specs.TreePlaces.{tree_part};
 
 use crate::fault::ImageFault;
@@ -86,7 +86,7 @@ fn make_behind<D: BlockDev, H: SyncDev + Drop>(
     params: Superblock,
 ) -> (H, Result<MadeImage, FormatFault>)
     ensures ok { IfOk result.1 (IsTreeMade params (D.state data_dev.old) (H.state hash_dev) first (H.state result.0)) }
-    ensures err { IfErr result.1 (IsTreeUnmade params (D.state data_dev.old) (H.state hash_dev) first (H.state result.0)) }
+    ensures err { IfErr result.1 (FailsToMakeShape params D.state H.state data_dev.old hash_dev result.0 first) }
 {
     make_beside::<D, H, Brand>(alloc, data_dev, hash_dev, first, params)
 }
@@ -101,7 +101,7 @@ fn make_beside<D: BlockDev, H: SyncDev + Drop, K: Beside>(
 ) -> (H, Result<MadeImage, FormatFault>)
     requires { K.outside ≡ Some (outside_of (H.state hash_dev).image (tree_part (H.state hash_dev) first)) }
     ensures ok { IfOk result.1 (IsTreeMade params (D.state data_dev.old) (H.state hash_dev) first (H.state result.0)) }
-    ensures err { IfErr result.1 (IsTreeUnmade params (D.state data_dev.old) (H.state hash_dev) first (H.state result.0)) }
+    ensures err { IfErr result.1 (FailsToMakeShape params D.state H.state data_dev.old hash_dev result.0 first) }
 {
     let part = tree_part(&hash_dev, first);
     let window = Window::<H, K> {

@@ -78,8 +78,8 @@ fn compare_at<'a, D: BlockDev + Drop, H: BlockDev + Drop, W: Write>(
     root: &Digest,
     writer: &mut Counted<W>,
 ) -> Result<(), ImageFault<'a>>
-    ensures ok { OnOk result (MatchesTreeAt D.state H.state devices.0 devices.1 W.contents writer.old writer.new bounds options root.now) }
-    ensures err { IfErr result (FailsAtTree D.state H.state devices.0 devices.1 writer.new bounds options root.now) }
+    ensures ok { OnOk result (MatchesTreeAt D.state H.state devices W.contents writer.old writer.new bounds options root.now) }
+    ensures err { IfErr result (FailsAtTree D.state H.state devices writer.new bounds options root.now) }
     ensures quiet { IfErr result (λ fault. IsQuiet fault (W.contents writer.old.inner) (W.contents writer.new.inner)) }
 {
     let (data_dev, hash_dev) = devices;
@@ -105,8 +105,8 @@ fn compare_tree<'a, D: BlockDev, H: BlockDev + Drop, W: Write>(
     root: &Digest,
     writer: &mut Counted<W>,
 ) -> Result<(), ImageFault<'a>>
-    ensures ok { OnOk result (MatchesShape params D.state H.state data_dev.old placed.0 placed.1 W.contents writer.old writer.new root.now) }
-    ensures err { IfErr result (FailsAtShape params D.state H.state data_dev.old placed.0 placed.1 writer.new root.now) }
+    ensures ok { OnOk result (MatchesShape params D.state H.state data_dev.old placed W.contents writer.old writer.new root.now) }
+    ensures err { IfErr result (FailsAtShape params D.state H.state data_dev.old placed writer.new root.now) }
     ensures quiet { IfErr result (λ fault. IsQuiet fault (W.contents writer.old.inner) (W.contents writer.new.inner)) }
 {
     let (hash_dev, first) = placed;

@@ -4,7 +4,7 @@ ghost use Rattle.image_commands.specs.Endings.{IsQuiet};
 ghost use Rattle.image_commands.specs.ImageCommands.{FailsToCompare, FailsToVerifyFiles, FindsMatches, OnlyReadsImages, VerifiesImages};
 
 use crate::fault::ImageFault;
-use crate::paths::{ImagePaths, open_two};
+use crate::paths::{ImagePair, ImagePaths, open_two};
 use block_device::BlockDev;
 use counted_io::Counted;
 use image_files::Images;
@@ -26,31 +26,28 @@ pub fn verify_images<'a, I: Images, W: Write>(
     ensures err { IfErr result (FailsToVerifyFiles I.relations I.Dev.state images.old images.new writer.new paths.entry root.now) }
     ensures quiet { IfErr result (λ fault. IsQuiet fault (W.contents writer.old.inner) (W.contents writer.new.inner)) }
 {
-    let mut two = open_two(images, paths, false)?;
-    compare(
-        alloc,
-        &mut two.data.device,
-        &mut two.hash.device,
-        root,
-        writer,
-    )
+    let two = open_two(images, paths, false)?;
+    let mut two = ImagePair {
+        data: two.data.device,
+        hash: two.hash.device,
+    };
+    compare(alloc, &mut two, root, writer)
 }
 
 /// Compares the tree over the data device with the one on the hash device.
 #[tactic(auto, using(crate::proofs::lemmas::EndingLemmas::quiet))]
 pub(crate) fn compare<'a, D: BlockDev, H: BlockDev, W: Write>(
     alloc: Global,
-    data_dev: &mut D,
-    hash_dev: &mut H,
+    two: &mut ImagePair<D, H>,
     root: &Digest,
     writer: &mut Counted<W>,
 ) -> Result<(), ImageFault<'a>>
-    ensures read { OnlyReadsImages D.state H.state data_dev.old hash_dev.old data_dev.new hash_dev.new }
-    ensures ok { OnOk result (FindsMatches D.state H.state data_dev.old hash_dev.old data_dev.new hash_dev.new W.contents writer.old writer.new root.now) }
-    ensures err { IfErr result (FailsToCompare D.state H.state data_dev.old hash_dev.old data_dev.new hash_dev.new writer.new root.now) }
+    ensures read { OnlyReadsImages D.state H.state two.old two.new }
+    ensures ok { OnOk result (FindsMatches D.state H.state two.old two.new W.contents writer.old writer.new root.now) }
+    ensures err { IfErr result (FailsToCompare D.state H.state two.old two.new writer.new root.now) }
     ensures quiet { IfErr result (λ fault. IsQuiet fault (W.contents writer.old.inner) (W.contents writer.new.inner)) }
 {
-    match verify(alloc, data_dev, hash_dev, root)? {
+    match verify(alloc, &mut two.data, &mut two.hash, root)? {
         Verdict::Matches => {
             writer.put(b"matches\n")?;
             Ok(())

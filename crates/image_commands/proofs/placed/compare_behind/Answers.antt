@@ -14,7 +14,7 @@ use Rattle.image_commands.proofs.placed.compare_behind.Goals as goal
 
 pub returns-in_err-superblock-clause-err : goal.returns-in_err-superblock-clause-err
 returns-in_err-superblock-clause-err g c =
-    let hash_dev = g.H.BlockDev.state c.args.hash_dev in
+    let hash_dev = g.H.BlockDev.state c.args.devices.1 in
     let new = c.read_superblock.new.hash_dev in
     let after = windowed (g.H.BlockDev.state new.inner) new.part in
     let b = windowed-same _ hash_dev _ (part_behind hash_dev c.args.bounds.first) (ap g.H.BlockDev.state c.behind-behind.ensures.inner) c.behind-behind.ensures.part in
@@ -23,12 +23,12 @@ returns-in_err-superblock-clause-err g c =
 
 pub returns-clause-ok : goal.returns-clause-ok
 returns-clause-ok g c =
-    let data_dev = g.D.BlockDev.state c.args.data_dev in
-    let hash_dev = g.H.BlockDev.state c.args.hash_dev in
+    let data_dev = g.D.BlockDev.state c.args.devices.0 in
+    let hash_dev = g.H.BlockDev.state c.args.devices.1 in
     let read = c.read_superblock.new.hash_dev in
     let read_dev = windowed (g.H.BlockDev.state read.inner) read.part in
-    let data_new = windowed (g.D.BlockDev.state c.compare.new.data_dev.inner) c.compare.new.data_dev.part in
-    let hash_new = windowed (g.H.BlockDev.state c.compare.new.hash_dev.inner) c.compare.new.hash_dev.part in
+    let data_new = windowed (g.D.BlockDev.state c.compare.new.two.data.inner) c.compare.new.two.data.part in
+    let hash_new = windowed (g.H.BlockDev.state c.compare.new.two.hash.inner) c.compare.new.two.hash.part in
     let a = windowed-same _ data_dev _ (part_before data_dev c.args.bounds.end) (ap g.D.BlockDev.state c.before-before.ensures.inner) c.before-before.ensures.part in
     let b = windowed-same _ hash_dev _ (part_behind hash_dev c.args.bounds.first) (ap g.H.BlockDev.state c.behind-behind.ensures.inner) c.behind-behind.ensures.part in
     on_ok_weaker c.compare.result
@@ -44,12 +44,12 @@ returns-clause-ok g c =
 
 pub returns-clause-err : goal.returns-clause-err
 returns-clause-err g c =
-    let data_dev = g.D.BlockDev.state c.args.data_dev in
-    let hash_dev = g.H.BlockDev.state c.args.hash_dev in
+    let data_dev = g.D.BlockDev.state c.args.devices.0 in
+    let hash_dev = g.H.BlockDev.state c.args.devices.1 in
     let read = c.read_superblock.new.hash_dev in
     let read_dev = windowed (g.H.BlockDev.state read.inner) read.part in
-    let data_new = windowed (g.D.BlockDev.state c.compare.new.data_dev.inner) c.compare.new.data_dev.part in
-    let hash_new = windowed (g.H.BlockDev.state c.compare.new.hash_dev.inner) c.compare.new.hash_dev.part in
+    let data_new = windowed (g.D.BlockDev.state c.compare.new.two.data.inner) c.compare.new.two.data.part in
+    let hash_new = windowed (g.H.BlockDev.state c.compare.new.two.hash.inner) c.compare.new.two.hash.part in
     let root = c.args.root.now in
     let a = windowed-same _ data_dev _ (part_before data_dev c.args.bounds.end) (ap g.D.BlockDev.state c.before-before.ensures.inner) c.before-before.ensures.part in
     let b = windowed-same _ hash_dev _ (part_behind hash_dev c.args.bounds.first) (ap g.H.BlockDev.state c.behind-behind.ensures.inner) c.behind-behind.ensures.part in

@@ -11,28 +11,28 @@ use Rattle.image_commands.proofs.placed.table_behind.Goals as goal
 
 pub returns-in_err-superblock-clause-err : goal.returns-in_err-superblock-clause-err
 returns-in_err-superblock-clause-err g c =
-    let hash_dev = g.H.BlockDev.state c.args.hash_dev in
+    let hash_dev = g.H.BlockDev.state c.args.placed.0 in
     let new = c.read_superblock.new.hash_dev in
     let after = windowed (g.H.BlockDev.state new.inner) new.part in
-    let b = windowed-same _ hash_dev _ (part_behind hash_dev c.args.first) (ap g.H.BlockDev.state c.behind-window.ensures.inner) c.behind-window.ensures.part in
+    let b = windowed-same _ hash_dev _ (part_behind hash_dev c.args.placed.1) (ap g.H.BlockDev.state c.behind-window.ensures.inner) c.behind-window.ensures.part in
     err-from c.from_residual.result _ (Verify c.in_err-superblock.field-0.0) c.from_residual.ensures.1
     (inl (after, subst (λ (v : Device). IsReadCause v after c.in_err-superblock.field-0.0) b c.in_err-superblock.ensures.err))
 
 pub returns-in_err-say_named_line-clause-err : goal.returns-in_err-say_named_line-clause-err
 returns-in_err-say_named_line-clause-err g c =
     err-from c.from_residual-in_err-say_named_line.result _ Write c.from_residual-in_err-say_named_line.ensures.1
-    (inl (g.H.BlockDev.state c.args.hash_dev, c.in_err-say_named_line.ensures.failed))
+    (inl (g.H.BlockDev.state c.args.placed.0, c.in_err-say_named_line.ensures.failed))
 
 pub returns-clause-ok : goal.returns-clause-ok
 returns-clause-ok g c =
-    let hash_dev = g.H.BlockDev.state c.args.hash_dev in
-    let b = windowed-same _ hash_dev _ (part_behind hash_dev c.args.first) (ap g.H.BlockDev.state c.behind-window.ensures.inner) c.behind-window.ensures.part in
+    let hash_dev = g.H.BlockDev.state c.args.placed.0 in
+    let b = windowed-same _ hash_dev _ (part_behind hash_dev c.args.placed.1) (ap g.H.BlockDev.state c.behind-window.ensures.inner) c.behind-window.ensures.part in
     let found = c.in_ok-superblock.ensures.found in
-    let here : is_aligned c.args.first c.hash_block.result ≡ true = cc (c.if-not-is_aligned.ensures) in
+    let here : is_aligned c.args.placed.1 c.hash_block.result ≡ true = cc (c.if-not-is_aligned.ensures) in
     record {
       super = c.in_ok-superblock.superblock;
       sector = found.0;
       read = subst (λ (v : Device). IsReadFrom v found.0 c.in_ok-superblock.superblock) b found.1;
-      allowed = subst (λ (n : ℕ). is_aligned c.args.first n ≡ true) c.hash_block.ensures here;
+      allowed = subst (λ (n : ℕ). is_aligned c.args.placed.1 n ≡ true) c.hash_block.ensures here;
       printed = c.in_ok-say_named_line.ensures.ok;
     }
