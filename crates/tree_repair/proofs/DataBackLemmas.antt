@@ -29,7 +29,7 @@ use Rattle.tree_repair.proofs.NoneLostLemmas.{pass-formed}
 use Rattle.tree_repair.proofs.NumberLemmas.{of-hash}
 use Rattle.tree_repair.proofs.RunLemmas.{runs-then, world-none}
 use Rattle.tree_repair.proofs.StayFormedLemmas.{runs-kept}
-use Rattle.tree_repair.proofs.UnknownLemmas.{among-or}
+use Rattle.tree_repair.proofs.UnknownLemmas.{among-or, beside-inside}
 use Rattle.tree_repair.proofs.WithinParityLemmas.{HoldsParity, holds-first, holds-later, unreached}
 
 -- a covered data block of the tree is the one of its number
@@ -118,11 +118,11 @@ module _ (form : FormedChainsAreGood) (j : Job) (valid : IsShape j.tree.shape) (
           ]
         ]
 
-        pub data-formed : parity_sectors l ≤ q.size → ((k : ℕ) → IsAmong pass.sought.lost k → lost_count l pass.sought.lost k ≤ l.roots) → (i : ℕ) → i < l.data_blocks
+        pub data-formed : parity_sectors l ≤ q.size → (i : ℕ) → i < l.data_blocks → (IsAmong pass.sought.lost i → lost_count l pass.sought.lost i ≤ l.roots)
             → IsAsFormed l f w' i ⊎ Collide j.tree.salt
-        data-formed room few i low =
+        data-formed room i low few =
             let of_tree : i < j.tree.shape.blocks = omega (arith, low, tree.data_blocks) in
-            elim (pass-formed form j valid write f former l fits last w' q p' again pass holds-last room few all-known zero i i (data-at j.tree.shape valid l fits i of_tree low)) [
+            elim (pass-formed form j valid write f former l fits last w' q p' again pass holds-last room zero i i (data-at j.tree.shape valid l fits i of_tree low) few (λ n beside. all-known n (beside-inside l i n beside))) [
               | inl is ↦ inl is
               | inr rest ↦ elim rest [
                 | inl under ↦ inr (under-clash zero i of_tree under)
@@ -131,7 +131,7 @@ module _ (form : FormedChainsAreGood) (j : Job) (valid : IsShape j.tree.shape) (
             ]
 
 pub data-back : FormedChainsAreGood → DataUnderWholeTreeComeBack
-data-back form plan write l f w w' p p' r tree room few i low =
+data-back form plan write l f w w' p p' r tree room i low few =
     let passes = r.seeks.ends.passes in
     data-formed form (job_of r.seeks.s plan true) r.seeks.valid f r.former l r.sizes w p (holds-first plan l f w w' p p' r) tree passes.earlier passes.last w' p' passes.before write
-    passes.last_parity r.seeks.ends.again passes.pass passes.parity_read (omega (arith, room, passes.parity_read.same.size)) few i low
+    passes.last_parity r.seeks.ends.again passes.pass passes.parity_read (omega (arith, room, passes.parity_read.same.size)) i low few
