@@ -4,7 +4,7 @@ use Rattle.std.specs.List.{range_with_len}
 use Rattle.std.specs.Str.{bytes_eq}
 use Rattle.block_device.specs.Device.{Device, IsSector, IsWhole}
 use Rattle.fec_area.specs.declared.layout.Layout.{Layout}
-use Rattle.fec_area.specs.Layouts.{IsLayout, IsProtected, covered, covered_blocks, parity_sectors}
+use Rattle.fec_area.specs.Layouts.{IsLayout, IsLayoutOf, IsProtected, covered, covered_blocks, parity_sectors}
 use Rattle.fec_area.specs.Restoring.{IsAmong, is_beside, lost_count, round_of}
 use Rattle.fec_area.specs.Rounds.{AllNeverFail, BothNeverFail}
 use Rattle.tree_shape.specs.Shape.{ShapeRecord, ancestor, area_blocks, levels}
@@ -13,7 +13,7 @@ use Rattle.tree_path.specs.Path.{PathRecord}
 use Rattle.tree_survey.specs.Surveys.{Tree, IsWay}
 use Rattle.verity_format.specs.Blocks.{IsOnlyRead, blocks_at}
 use Rattle.verity_format.specs.Formatting.{IsFormatted}
-use Rattle.verity_format.specs.Image.{area_over, data_sectors, root_over}
+use Rattle.verity_format.specs.Image.{area_over, data_sectors, root_over, tree_sectors}
 use Rattle.verity_format.specs.Superblock.{SuperRecord, IsSuperblock, shape_of}
 use Rattle.tree_repair.specs.declared.repair.Plan.{Plan}
 use Rattle.tree_repair.specs.Beyond.{IsHadIn, IsPart, IsUnderBad}
@@ -165,11 +165,19 @@ NoBlockStaysLostWithinParity =
     → (h i k : ℕ) → IsCoveredAt (shape_of r.seeks.s) l h i k → let passes = r.seeks.ends.passes in IsWithinParity l f passes.pass.sought.lost passes.pass.behind p k
     → IsAsFormed l f w' k ⊎ (IsUnderBad (job_of r.seeks.s plan true) h i passes.last w' ⊎ Collide r.seeks.s.salt)
 
--- Parity covers all hash blocks of the tree, and of the data device its data blocks alone, and no covered block of the hash device is
--- damaged.
-pub record HasWholeTree (s : ShapeRecord) (l : Layout) (f : FormerImage) (w : RepairWorld) : Type 0 where
+-- Parity covers all hash blocks of the tree, and of the data device its data blocks alone.
+pub record IsTreeCovered (s : ShapeRecord) (l : Layout) : Type 0 where
   pub covers : (h i : ℕ) → IsPlace s (h + 1) i → (k : ℕ) × IsCoveredAt s l (h + 1) i k
   pub data_blocks : l.data_blocks ≡ s.blocks
+
+-- So it does where it is laid out for that tree and a hash device on which the tree fits; and its blocks have the size of the tree's.
+abbrev pub LaidOutParityCoversTheTree : Type 0
+LaidOutParityCoversTheTree =
+    (s : ShapeRecord) → (hash_sectors roots : ℕ) → (l : Layout) → IsLayoutOf s hash_sectors roots l → tree_sectors s ≤ hash_sectors → HasTreeSizes s l × IsTreeCovered s l
+
+-- Parity covers the tree, and no covered block of the hash device is damaged.
+pub record HasWholeTree (s : ShapeRecord) (l : Layout) (f : FormerImage) (w : RepairWorld) : Type 0 where
+  pub tree : IsTreeCovered s l
   pub whole : (n : ℕ) → l.data_blocks ≤ n → IsAsFormed l f w n
 
 -- Where that is so before the run, a data block of whose round no more blocks count as lost in its last pass than the code has roots is

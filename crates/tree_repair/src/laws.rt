@@ -3,7 +3,7 @@ ghost use Rattle.tree_repair.specs.Beyond.{WhatStaysLostIsBeyondParity};
 ghost use Rattle.tree_repair.specs.Excuses.{BlocksArePassedByForCause, BlocksAreTouchedForCause, GoodBlocksAreLeftAlone, IntactBlocksAreLeftAlone, UnreadBlocksAreCounted};
 ghost use Rattle.tree_repair.specs.Laws.{MendedBlocksAreFormatted, MendedBlocksAreGood, NoHashBlockIsLost, OtherSectorsStay};
 ghost use Rattle.tree_repair.specs.Standing.{LeftGoodBlocksAreFormatted, LeftGoodBlocksStand, LeftGoodWaysStand, RepairsWriteAll};
-ghost use Rattle.tree_repair.specs.WithinParity.{DamagedBlocksWithinParityComeBack, DataUnderWholeTreeComeBack, FormattedBlocksStay, FormattedImagesAreFormer, LostBlocksWithinParityComeBack, NoBlockStaysLostWithinParity};
+ghost use Rattle.tree_repair.specs.WithinParity.{DamagedBlocksWithinParityComeBack, DataUnderWholeTreeComeBack, FormattedBlocksStay, FormattedImagesAreFormer, LaidOutParityCoversTheTree, LostBlocksWithinParityComeBack, NoBlockStaysLostWithinParity};
 
 use hash_tree::laws::formed_chains_are_good;
 
@@ -117,6 +117,12 @@ pub fn no_block_stays_lost_within_parity()
 /// Formatting leaves an image as these laws suppose it.
 pub fn formatted_images_are_former()
     ensures { FormattedImagesAreFormer }
+{}
+
+/// Parity that is laid out for a tree and a hash device on which the tree fits covers all the tree's hash blocks, and of the data device
+/// its data blocks alone; and its blocks have the size of the tree's. So the laws of a tree that parity covers speak of such a layout.
+pub fn laid_out_parity_covers_the_tree()
+    ensures { LaidOutParityCoversTheTree }
 {}
 
 /// Where no hash block is damaged, a data block of whose round the last pass counts no more blocks as lost than the code has roots is as
