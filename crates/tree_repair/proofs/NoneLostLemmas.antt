@@ -1,4 +1,4 @@
--- Where the last pass knows each damaged block, and not too many of a round, none stays lost.
+-- Where the last pass knows each damaged block of a round, and not too many of it, no block of that round stays lost.
 use Rattle.std.proofs.Common.{◌≡◌, ◌≤◌, ◌<◌, ℕ, Bool, true, IsTrue, List, [], ◌∷◌, refl, sym, ap, ◌∙◌, subst, arith, inl, inr, ◌⊎◌}
 use Rattle.std.specs.List.{flat_map}
 use Rattle.block_device.specs.Device.{Device}
