@@ -7,7 +7,7 @@ use Rattle.std.proofs.lemmas.Bool.{and_from, and_parts, cases_Bool, eq-eqb, fals
 use Rattle.fec_area.specs.declared.layout.Layout.{Layout}
 use Rattle.fec_area.specs.Layouts.{IsLayout, code_rounds, covered, covered_blocks}
 use Rattle.fec_area.specs.Restoring.{IsAmong, is_beside, lost_count, round_of}
-use Rattle.fec_area.proofs.RestoringLemmas.{beside-round, round-below}
+use Rattle.fec_area.proofs.RestoringLemmas.{beside-round}
 use Rattle.fec_area.proofs.WritingLemmas.{bytes-same}
 use Rattle.hash_tree.specs.Laws.{FormedChainsAreGood}
 use Rattle.tree_shape.specs.Digests.{digest}
@@ -227,7 +227,7 @@ lost-few l f w lost different inside damaged k among =
     omega (arith, others, count-but p k 0 (covered_blocks l) (passes k among refl) (omega arith) (omega (arith, inside k among)))
 
 pub damaged-back : FormedChainsAreGood → DamagedBlocksWithinParityComeBack
-damaged-back form plan write l f w w' p p' r tree room few i low =
+damaged-back form plan write l f w w' p p' r tree room i low few =
     let j : Job = job_of r.seeks.s plan true in
     let s : ShapeRecord = j.tree.shape in
     let passes = r.seeks.ends.passes in
@@ -246,11 +246,6 @@ damaged-back form plan write l f w w' p p' r tree room few i low =
     elim (damaged-or l f w (Collide j.tree.salt) lost clash) [
       | inr found ↦ inr found
       | inl damaged ↦
-          data-back form plan write l f w w' p p' r tree room
-          (λ k among.
-          omega (
-            arith,
-            lost-few l f w lost (lost-different s r.seeks.valid l first.kept.layout j pass.visits lost pass.once pass.sought.are) inside damaged k among,
-            few (round_of l k) (round-below l k first.kept.layout (inside k among)),
-          )) i low
+          data-back form plan write l f w w' p p' r tree room i low
+          (λ among. omega (arith, lost-few l f w lost (lost-different s r.seeks.valid l first.kept.layout j pass.visits lost pass.once pass.sought.are) inside damaged i among, few))
     ]

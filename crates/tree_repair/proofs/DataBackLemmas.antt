@@ -29,7 +29,7 @@ use Rattle.tree_repair.proofs.NoneLostLemmas.{pass-formed}
 use Rattle.tree_repair.proofs.NumberLemmas.{of-hash}
 use Rattle.tree_repair.proofs.RunLemmas.{runs-then, world-none}
 use Rattle.tree_repair.proofs.StayFormedLemmas.{runs-kept}
-use Rattle.tree_repair.proofs.UnknownLemmas.{among-or}
+use Rattle.tree_repair.proofs.UnknownLemmas.{among-or, beside-inside}
 use Rattle.tree_repair.proofs.WithinParityLemmas.{HoldsParity, holds-first, holds-later, unreached}
 
 -- a covered data block of the tree is the one of its number
@@ -76,7 +76,7 @@ module _ (form : FormedChainsAreGood) (j : Job) (valid : IsShape j.tree.shape) (
           few = cut.way.few;
           leads = leads-along cut.p beside i (g + 1) (subst (λ (x : ShapeRecord). (m : ℕ) → g + 1 < m → ancestor x m beside ≡ ancestor x m i) (sym cut.way.is.shape_is) (λ m high. above m (omega (arith, high)))) cut.way.leads;
         } in
-        let number = tree.covers g i (record { valid = valid; inside = inside; high = cut.way.few }) in
+        let number = tree.tree.covers g i (record { valid = valid; inside = inside; high = cut.way.few }) in
         let up : IsCoveredAt s l (suc g) i number.0 = subst (λ (x : ℕ). IsCoveredAt s l x i number.0) (add-one g) number.1 in
         let a_holds : HoldsParity s l f a p = holds-later j valid l f vs w a p p runs (only_read-none p) holds in
         let stand : cut.block ≡ stored_block s a.hash_dev.image g i =
@@ -110,7 +110,7 @@ module _ (form : FormedChainsAreGood) (j : Job) (valid : IsShape j.tree.shape) (
           | inl low ↦ elim (among-or pass.sought.lost n) [
             | inl there ↦ inl there
             | inr unknown ↦
-                let of_tree : n < j.tree.shape.blocks = omega (arith, low, tree.data_blocks) in
+                let of_tree : n < j.tree.shape.blocks = omega (arith, low, tree.tree.data_blocks) in
                 elim (unreached form j valid f former l fits last w' q p' again pass holds-last [] pass.behind n (world-none pass.behind) unknown damaged zero n (data-at j.tree.shape valid l fits n of_tree low)) [
                   | inl under ↦ inr (under-clash zero n of_tree under)
                   | inr clash ↦ inr clash
@@ -118,11 +118,11 @@ module _ (form : FormedChainsAreGood) (j : Job) (valid : IsShape j.tree.shape) (
           ]
         ]
 
-        pub data-formed : parity_sectors l ≤ q.size → ((k : ℕ) → IsAmong pass.sought.lost k → lost_count l pass.sought.lost k ≤ l.roots) → (i : ℕ) → i < l.data_blocks
+        pub data-formed : parity_sectors l ≤ q.size → (i : ℕ) → i < l.data_blocks → (IsAmong pass.sought.lost i → lost_count l pass.sought.lost i ≤ l.roots)
             → IsAsFormed l f w' i ⊎ Collide j.tree.salt
-        data-formed room few i low =
-            let of_tree : i < j.tree.shape.blocks = omega (arith, low, tree.data_blocks) in
-            elim (pass-formed form j valid write f former l fits last w' q p' again pass holds-last room few all-known zero i i (data-at j.tree.shape valid l fits i of_tree low)) [
+        data-formed room i low few =
+            let of_tree : i < j.tree.shape.blocks = omega (arith, low, tree.tree.data_blocks) in
+            elim (pass-formed form j valid write f former l fits last w' q p' again pass holds-last room zero i i (data-at j.tree.shape valid l fits i of_tree low) few (λ n beside. all-known n (beside-inside l i n beside))) [
               | inl is ↦ inl is
               | inr rest ↦ elim rest [
                 | inl under ↦ inr (under-clash zero i of_tree under)
@@ -131,7 +131,7 @@ module _ (form : FormedChainsAreGood) (j : Job) (valid : IsShape j.tree.shape) (
             ]
 
 pub data-back : FormedChainsAreGood → DataUnderWholeTreeComeBack
-data-back form plan write l f w w' p p' r tree room few i low =
+data-back form plan write l f w w' p p' r tree room i low few =
     let passes = r.seeks.ends.passes in
     data-formed form (job_of r.seeks.s plan true) r.seeks.valid f r.former l r.sizes w p (holds-first plan l f w w' p p' r) tree passes.earlier passes.last w' p' passes.before write
-    passes.last_parity r.seeks.ends.again passes.pass passes.parity_read (omega (arith, room, passes.parity_read.same.size)) few i low
+    passes.last_parity r.seeks.ends.again passes.pass passes.parity_read (omega (arith, room, passes.parity_read.same.size)) i low few

@@ -1,10 +1,10 @@
--- Where the last pass knows each damaged block, and not too many of a round, none stays lost.
-use Rattle.std.proofs.Common.{◌≡◌, ◌≤◌, ◌<◌, ℕ, Bool, true, List, [], ◌∷◌, refl, sym, ap, ◌∙◌, arith, inl, inr, ◌⊎◌}
+-- Where the last pass knows each damaged block of a round, and not too many of it, no block of that round stays lost.
+use Rattle.std.proofs.Common.{◌≡◌, ◌≤◌, ◌<◌, ℕ, Bool, true, IsTrue, List, [], ◌∷◌, refl, sym, ap, ◌∙◌, subst, arith, inl, inr, ◌⊎◌}
 use Rattle.std.specs.List.{flat_map}
 use Rattle.block_device.specs.Device.{Device}
 use Rattle.fec_area.specs.declared.layout.Layout.{Layout}
 use Rattle.fec_area.specs.Layouts.{covered, covered_blocks, parity_sectors}
-use Rattle.fec_area.specs.Restoring.{IsAmong, lost_count}
+use Rattle.fec_area.specs.Restoring.{IsAmong, is_beside, lost_count}
 use Rattle.hash_tree.specs.Laws.{FormedChainsAreGood}
 use Rattle.tree_shape.specs.Digests.{digest}
 use Rattle.tree_shape.specs.Shape.{IsShape, ancestor}
@@ -22,7 +22,7 @@ use Rattle.tree_repair.specs.Standing.{StandsGood}
 use Rattle.tree_repair.specs.Tries.{IsBroughtBack, IsGoodBehind, trial}
 use Rattle.tree_repair.specs.WithinParity.{FormerImage, HasTreeSizes, IsAsFormed, IsDamaged, IsFormerOf, IsHiddenBeside, IsPastParity, IsSoughtWithin, NoBlockStaysLostWithinParity, Stage, stage}
 use Rattle.tree_repair.specs.Worlds.{IsWorldRead, RepairWorld}
-use Rattle.tree_repair.proofs.NumberLemmas.{off-not}
+use Rattle.tree_repair.proofs.NumberLemmas.{covered-one, off-not}
 use Rattle.tree_repair.proofs.RecordedLemmas.{beside-formed, formed-on, had-formed}
 use Rattle.tree_repair.proofs.RunLemmas.{read-same, runs-one, runs-read, runs-same}
 use Rattle.tree_repair.proofs.SoughtLemmas.{all-run}
@@ -64,8 +64,7 @@ module _ (form : FormedChainsAreGood) (j : Job) (valid : IsShape j.tree.shape) (
               ∙ sym (covered-same l a between k (read-images j.tree.shape a between good.read ready)) ∙ is)
         ]
 
-  module _ (w w' : RepairWorld) (p p' : Device) (again : Bool) (pass : IsPass j l w w' p p' again) (holds : HoldsParity j.tree.shape l f w p) (room : parity_sectors l ≤ p.size)
-      (few : (k : ℕ) → IsAmong pass.sought.lost k → lost_count l pass.sought.lost k ≤ l.roots) (known : (n : ℕ) → n < covered_blocks l → IsDamaged l f pass.behind n → IsAmong pass.sought.lost n ⊎ Collide j.tree.salt) where
+  module _ (w w' : RepairWorld) (p p' : Device) (again : Bool) (pass : IsPass j l w w' p p' again) (holds : HoldsParity j.tree.shape l f w p) (room : parity_sectors l ≤ p.size) where
     abbrev st : Stage
     st = stage w pass.behind w'
 
@@ -73,11 +72,12 @@ module _ (form : FormedChainsAreGood) (j : Job) (valid : IsShape j.tree.shape) (
     holds-behind = holds-later j valid l f pass.visits w pass.behind p p pass.runs (only_read-none p) holds
 
     -- a damaged block that isn't known was damaged already when parity was asked for the first block
-    none-hidden : (vs : List Visit) (a b : RepairWorld) (q q' : Device) (n : ℕ) → VisitsAll j vs pass.behind a → IsHiddenBeside j f st (trial l pass.sought.lost a b q q') n → Collide j.tree.salt
-    none-hidden vs a b q q' n runs hidden =
-        let inside : hidden.n < covered_blocks l = beside-inside l n hidden.n hidden.beside in
+    none-hidden : (k : ℕ) → ((n : ℕ) → IsTrue (is_beside l k n) → IsDamaged l f pass.behind n → IsAmong pass.sought.lost n ⊎ Collide j.tree.salt)
+        → (vs : List Visit) (a b : RepairWorld) (q q' : Device) → VisitsAll j vs pass.behind a → IsHiddenBeside j f st (trial l pass.sought.lost a b q q') k → Collide j.tree.salt
+    none-hidden k known vs a b q q' runs hidden =
+        let inside : hidden.n < covered_blocks l = beside-inside l k hidden.n hidden.beside in
         elim (same-or (covered l pass.behind.data_dev.image pass.behind.hash_dev.image hidden.n) (covered l f.data_image f.hash_image hidden.n)) [
-          | inr other ↦ elim (known hidden.n inside other) [
+          | inr other ↦ elim (known hidden.n hidden.beside other) [
             | inl there ↦ absurd (hidden.unknown there)
             | inr clash ↦ clash
           ]
@@ -87,22 +87,25 @@ module _ (form : FormedChainsAreGood) (j : Job) (valid : IsShape j.tree.shape) (
           ]
         ]
 
-    module _ (h i k : ℕ) (at : IsCoveredAt j.tree.shape l h i k) where
+    module _ (h i k : ℕ) (at : IsCoveredAt j.tree.shape l h i k) (few : IsAmong pass.sought.lost k → lost_count l pass.sought.lost k ≤ l.roots)
+        (known : (n : ℕ) → IsTrue (is_beside l k n) → IsDamaged l f pass.behind n → IsAmong pass.sought.lost n ⊎ Collide j.tree.salt) where
       to-end : (vs : List Visit) (a : RepairWorld) → VisitsAll j vs a w' → IsSure a → IsReady j.tree.shape a → IsAsFormed l f a k ⊎ Collide j.tree.salt → IsAsFormed l f w' k ⊎ Collide j.tree.salt
       to-end vs a runs sure ready is = formed-on form j valid f former l fits h i k at vs a w' runs sure ready is
 
-      -- parity has it
+      -- parity has it: what is lost of its round, and it alone, is within what the code can make again
       none-past : (vs : List Visit) (m : ℕ) (a b : RepairWorld) (q q' : Device) → ancestor j.tree.shape h m ≡ ancestor j.tree.shape h i → IsOnlyRead p q → VisitsAll j vs pass.behind a
           → IsPastParity j f st (trial l pass.sought.lost a b q q') h m → Collide j.tree.salt
       none-past vs m a b q q' same read runs past = elim past.vain [
         | inl off ↦ absurd (off-not j.tree.shape valid l holds.kept.layout h i m k same at off)
-        | inr round ↦ elim round.past [
-          | inl many ↦ absurd (omega (arith, many, few round.k round.known))
-          | inr rest ↦ elim rest [
-            | inl short ↦ absurd (omega (arith, short, room, read.same.size))
-            | inr hidden ↦ none-hidden vs a b q q' round.k runs hidden
-          ]
-        ]
+        | inr round ↦
+            let own : round.k ≡ k = covered-one j.tree.shape valid l holds.kept.layout h i m k round.k same at round.at in
+            elim round.past [
+              | inl many ↦ absurd (omega (arith, subst (λ (n : ℕ). l.roots < lost_count l pass.sought.lost n) own many, few (subst (IsAmong pass.sought.lost) own round.known)))
+              | inr rest ↦ elim rest [
+                | inl short ↦ absurd (omega (arith, short, room, read.same.size))
+                | inr hidden ↦ none-hidden k known vs a b q q' runs (subst (IsHiddenBeside j f st (trial l pass.sought.lost a b q q')) own hidden)
+              ]
+            ]
       ]
 
       sought-formed : IsSoughtWithin j l pass.sought.lost f st p h i → IsAsFormed l f w' k ⊎ Collide j.tree.salt
@@ -141,9 +144,9 @@ module _ (form : FormedChainsAreGood) (j : Job) (valid : IsShape j.tree.shape) (
           ending (inr clash) = inr (inr clash)
 
 pub none-stays : FormedChainsAreGood → NoBlockStaysLostWithinParity
-none-stays form plan write l f w w' p p' r enough h i k at =
+none-stays form plan write l f w w' p p' r h i k at enough =
     let j : Job = job_of r.seeks.s plan true in
     let passes = r.seeks.ends.passes in
     pass-formed form j r.seeks.valid write f r.former l r.sizes passes.last w' passes.last_parity p' r.seeks.ends.again passes.pass
     (holds-later j r.seeks.valid l f passes.earlier w passes.last p passes.last_parity passes.before passes.parity_read (holds-first plan l f w w' p p' r))
-    (omega (arith, enough.room, passes.parity_read.same.size)) enough.few (λ n inside damaged. inl (enough.known n inside damaged)) h i k at
+    (omega (arith, enough.room, passes.parity_read.same.size)) h i k at enough.few (λ n beside damaged. inl (enough.known n beside damaged))

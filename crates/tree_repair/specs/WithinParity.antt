@@ -4,7 +4,7 @@ use Rattle.std.specs.List.{range_with_len}
 use Rattle.std.specs.Str.{bytes_eq}
 use Rattle.block_device.specs.Device.{Device, IsSector, IsWhole}
 use Rattle.fec_area.specs.declared.layout.Layout.{Layout}
-use Rattle.fec_area.specs.Layouts.{IsLayout, IsProtected, code_rounds, covered, covered_blocks, parity_sectors}
+use Rattle.fec_area.specs.Layouts.{IsLayout, IsLayoutOf, IsProtected, covered, covered_blocks, parity_sectors}
 use Rattle.fec_area.specs.Restoring.{IsAmong, is_beside, lost_count, round_of}
 use Rattle.fec_area.specs.Rounds.{AllNeverFail, BothNeverFail}
 use Rattle.tree_shape.specs.Shape.{ShapeRecord, ancestor, area_blocks, levels}
@@ -13,7 +13,7 @@ use Rattle.tree_path.specs.Path.{PathRecord}
 use Rattle.tree_survey.specs.Surveys.{Tree, IsWay}
 use Rattle.verity_format.specs.Blocks.{IsOnlyRead, blocks_at}
 use Rattle.verity_format.specs.Formatting.{IsFormatted}
-use Rattle.verity_format.specs.Image.{area_over, data_sectors, root_over}
+use Rattle.verity_format.specs.Image.{area_over, data_sectors, root_over, tree_sectors}
 use Rattle.verity_format.specs.Superblock.{SuperRecord, IsSuperblock, shape_of}
 use Rattle.tree_repair.specs.declared.repair.Plan.{Plan}
 use Rattle.tree_repair.specs.Beyond.{IsHadIn, IsPart, IsUnderBad}
@@ -150,35 +150,43 @@ LostBlocksWithinParityComeBack =
     → let passes = r.seeks.ends.passes in
     IsSettledWithin (job_of r.seeks.s plan true) l passes.pass.sought.lost passes.pass.visits f (stage passes.last passes.pass.behind w') passes.last_parity h i ⊎ Collide r.seeks.s.salt
 
--- There is as much parity as the code needs, of no round more blocks count as lost than it has roots, and each damaged block counts as
--- lost.
-pub record IsWithinParity (l : Layout) (f : FormerImage) (lost : List ℕ) (w : RepairWorld) (p : Device) : Type 0 where
+-- There is as much parity as the code needs. Where covered block k counts as lost, so do no more blocks of its round than the code has
+-- roots; and each other block of its round that is damaged counts as lost.
+pub record IsWithinParity (l : Layout) (f : FormerImage) (lost : List ℕ) (w : RepairWorld) (p : Device) (k : ℕ) : Type 0 where
   pub room : parity_sectors l ≤ p.size
-  pub few : (k : ℕ) → IsAmong lost k → lost_count l lost k ≤ l.roots
-  pub known : (n : ℕ) → n < covered_blocks l → IsDamaged l f w n → IsAmong lost n
+  pub few : IsAmong lost k → lost_count l lost k ≤ l.roots
+  pub known : (n : ℕ) → IsTrue (is_beside l k n) → IsDamaged l f w n → IsAmong lost n
 
--- Where that is so behind the last pass's visits, and blocks may be written, each covered block of the tree is as it was formatted
--- behind the run, or a hash block above it isn't good, or two different inputs have one digest.
+-- Each covered block of the tree of which that is so behind the last pass's visits, where blocks may be written, is as it was formatted
+-- behind the run, whatever other rounds hold; or a hash block above it isn't good, or two different inputs have one digest.
 abbrev pub NoBlockStaysLostWithinParity : Type 0
 NoBlockStaysLostWithinParity =
     (plan : Plan) → IsTrue plan.write → (l : Layout) → (f : FormerImage) → (w w' : RepairWorld) → (p p' : Device) → (r : IsSureRepair plan l f w w' p p')
-    → let passes = r.seeks.ends.passes in IsWithinParity l f passes.pass.sought.lost passes.pass.behind p
-    → (h i k : ℕ) → IsCoveredAt (shape_of r.seeks.s) l h i k → IsAsFormed l f w' k ⊎ (IsUnderBad (job_of r.seeks.s plan true) h i passes.last w' ⊎ Collide r.seeks.s.salt)
+    → (h i k : ℕ) → IsCoveredAt (shape_of r.seeks.s) l h i k → let passes = r.seeks.ends.passes in IsWithinParity l f passes.pass.sought.lost passes.pass.behind p k
+    → IsAsFormed l f w' k ⊎ (IsUnderBad (job_of r.seeks.s plan true) h i passes.last w' ⊎ Collide r.seeks.s.salt)
 
--- Parity covers all hash blocks of the tree, and of the data device its data blocks alone, and no covered block of the hash device is
--- damaged.
-pub record HasWholeTree (s : ShapeRecord) (l : Layout) (f : FormerImage) (w : RepairWorld) : Type 0 where
+-- Parity covers all hash blocks of the tree, and of the data device its data blocks alone.
+pub record IsTreeCovered (s : ShapeRecord) (l : Layout) : Type 0 where
   pub covers : (h i : ℕ) → IsPlace s (h + 1) i → (k : ℕ) × IsCoveredAt s l (h + 1) i k
   pub data_blocks : l.data_blocks ≡ s.blocks
+
+-- So it does where it is laid out for that tree and a hash device on which the tree fits; and its blocks have the size of the tree's.
+abbrev pub LaidOutParityCoversTheTree : Type 0
+LaidOutParityCoversTheTree =
+    (s : ShapeRecord) → (hash_sectors roots : ℕ) → (l : Layout) → IsLayoutOf s hash_sectors roots l → tree_sectors s ≤ hash_sectors → HasTreeSizes s l × IsTreeCovered s l
+
+-- Parity covers the tree, and no covered block of the hash device is damaged.
+pub record HasWholeTree (s : ShapeRecord) (l : Layout) (f : FormerImage) (w : RepairWorld) : Type 0 where
+  pub tree : IsTreeCovered s l
   pub whole : (n : ℕ) → l.data_blocks ≤ n → IsAsFormed l f w n
 
--- Where that is so before the run, and of no round more blocks count as lost in its last pass than the code has roots, each data block
--- is as it was formatted behind the run, or two different inputs have one digest.
+-- Where that is so before the run, a data block of whose round no more blocks count as lost in its last pass than the code has roots is
+-- as it was formatted behind the run, whatever other rounds hold; or two different inputs have one digest.
 abbrev pub DataUnderWholeTreeComeBack : Type 0
 DataUnderWholeTreeComeBack =
     (plan : Plan) → IsTrue plan.write → (l : Layout) → (f : FormerImage) → (w w' : RepairWorld) → (p p' : Device) → (r : IsSureRepair plan l f w w' p p')
     → HasWholeTree (shape_of r.seeks.s) l f w → parity_sectors l ≤ p.size
-    → let lost = r.seeks.ends.passes.pass.sought.lost in ((k : ℕ) → IsAmong lost k → lost_count l lost k ≤ l.roots) → (i : ℕ) → i < l.data_blocks → IsAsFormed l f w' i ⊎ Collide r.seeks.s.salt
+    → (i : ℕ) → i < l.data_blocks → let lost = r.seeks.ends.passes.pass.sought.lost in (IsAmong lost i → lost_count l lost i ≤ l.roots) → IsAsFormed l f w' i ⊎ Collide r.seeks.s.salt
 
 -- covered block n is damaged, as a test; and how many of a round are
 abbrev pub is_damaged : Layout → FormerImage → RepairWorld → ℕ → Bool
@@ -187,10 +195,10 @@ is_damaged l f w n = not (bytes_eq (covered l w.data_dev.image w.hash_dev.image 
 abbrev pub damaged_count : Layout → FormerImage → RepairWorld → ℕ → ℕ
 damaged_count l f w round = count_by (λ n. (round_of l n == round) && is_damaged l f w n) (range_with_len 0 (covered_blocks l))
 
--- Where a tree is whole before the run, and of no round more covered blocks are damaged then than the code has roots, each data block is
--- as it was formatted behind the run, or two different inputs have one digest.
+-- Where a tree is whole before the run, a data block of whose round no more covered blocks are damaged then than the code has roots is as
+-- it was formatted behind the run, whatever other rounds hold; or two different inputs have one digest.
 abbrev pub DamagedBlocksWithinParityComeBack : Type 0
 DamagedBlocksWithinParityComeBack =
     (plan : Plan) → IsTrue plan.write → (l : Layout) → (f : FormerImage) → (w w' : RepairWorld) → (p p' : Device) → (r : IsSureRepair plan l f w w' p p')
     → HasWholeTree (shape_of r.seeks.s) l f w → parity_sectors l ≤ p.size
-    → ((round : ℕ) → round < code_rounds l → damaged_count l f w round ≤ l.roots) → (i : ℕ) → i < l.data_blocks → IsAsFormed l f w' i ⊎ Collide r.seeks.s.salt
+    → (i : ℕ) → i < l.data_blocks → damaged_count l f w (round_of l i) ≤ l.roots → IsAsFormed l f w' i ⊎ Collide r.seeks.s.salt

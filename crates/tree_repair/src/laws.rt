@@ -3,7 +3,7 @@ ghost use Rattle.tree_repair.specs.Beyond.{WhatStaysLostIsBeyondParity};
 ghost use Rattle.tree_repair.specs.Excuses.{BlocksArePassedByForCause, BlocksAreTouchedForCause, GoodBlocksAreLeftAlone, IntactBlocksAreLeftAlone, UnreadBlocksAreCounted};
 ghost use Rattle.tree_repair.specs.Laws.{MendedBlocksAreFormatted, MendedBlocksAreGood, NoHashBlockIsLost, OtherSectorsStay};
 ghost use Rattle.tree_repair.specs.Standing.{LeftGoodBlocksAreFormatted, LeftGoodBlocksStand, LeftGoodWaysStand, RepairsWriteAll};
-ghost use Rattle.tree_repair.specs.WithinParity.{DamagedBlocksWithinParityComeBack, DataUnderWholeTreeComeBack, FormattedBlocksStay, FormattedImagesAreFormer, LostBlocksWithinParityComeBack, NoBlockStaysLostWithinParity};
+ghost use Rattle.tree_repair.specs.WithinParity.{DamagedBlocksWithinParityComeBack, DataUnderWholeTreeComeBack, FormattedBlocksStay, FormattedImagesAreFormer, LaidOutParityCoversTheTree, LostBlocksWithinParityComeBack, NoBlockStaysLostWithinParity};
 
 use hash_tree::laws::formed_chains_are_good;
 
@@ -105,8 +105,9 @@ pub fn formatted_blocks_stay()
     formed_chains_are_good()
 }
 
-/// Where the last pass knows each block that is damaged then, and of no round more than the code has roots, each covered block of the
-/// tree is as it was formatted behind the run, or a hash block above it isn't good, or two different inputs have one digest.
+/// Where the last pass knows each other block of a covered block's round that is damaged then, and of that round no more than the code
+/// has roots, the block is as it was formatted behind the run, whatever other rounds hold; or a hash block above it isn't good, or two
+/// different inputs have one digest.
 pub fn no_block_stays_lost_within_parity()
     ensures { NoBlockStaysLostWithinParity }
 {
@@ -118,16 +119,22 @@ pub fn formatted_images_are_former()
     ensures { FormattedImagesAreFormer }
 {}
 
-/// Where no hash block is damaged, and the last pass counts no more blocks of a round as lost than the code has roots, each data block
-/// is as it was formatted behind the run, or two different inputs have one digest.
+/// Parity that is laid out for a tree and a hash device on which the tree fits covers all the tree's hash blocks, and of the data device
+/// its data blocks alone; and its blocks have the size of the tree's. So the laws of a tree that parity covers speak of such a layout.
+pub fn laid_out_parity_covers_the_tree()
+    ensures { LaidOutParityCoversTheTree }
+{}
+
+/// Where no hash block is damaged, a data block of whose round the last pass counts no more blocks as lost than the code has roots is as
+/// it was formatted behind the run, whatever other rounds hold; or two different inputs have one digest.
 pub fn data_under_a_whole_tree_come_back()
     ensures { DataUnderWholeTreeComeBack }
 {
     formed_chains_are_good()
 }
 
-/// Where no hash block is damaged before the run, and of no round more covered blocks are damaged than the code has roots, each data
-/// block is as it was formatted behind the run, or two different inputs have one digest.
+/// Where no hash block is damaged before the run, a data block of whose round no more covered blocks are damaged than the code has roots
+/// is as it was formatted behind the run, whatever other rounds hold; or two different inputs have one digest.
 pub fn damaged_blocks_within_parity_come_back()
     ensures { DamagedBlocksWithinParityComeBack }
 {
