@@ -7,7 +7,6 @@ use Rattle.command_line.specs.declared.invocation.ImageInvocation.{ImageInvocati
 use Rattle.command_line.specs.declared.invocation.ImageInvocation.TheVariants.{Dump, Format, Table, Verify}
 use Rattle.command_line.specs.declared.option_words.OptionWords.{OptionWords}
 use Rattle.command_line.specs.FormatOptions.{AreSaid, OptionTexts, option_texts}
-use Rattle.image_commands.specs.declared.fault.ImageFault.{ImageFault}
 use Rattle.image_commands.specs.Drawing.{Drawing}
 use Rattle.image_commands.specs.ImageCommands.{IsFormatFilesEnd, IsSuperblockEnd, IsVerifyFilesEnd, PrintsMade, PrintsMatches, PrintsSuperblock}
 use Rattle.image_commands.specs.Openings.{TwoPaths}
