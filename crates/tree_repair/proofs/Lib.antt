@@ -14,6 +14,7 @@ mod DamagedLemmas
 mod DataBackLemmas
 mod DistinctLemmas
 mod HeightLemmas
+mod KeepLemmas
 mod LookLemmas
 mod MakeLemmas
 mod NoneLostLemmas
