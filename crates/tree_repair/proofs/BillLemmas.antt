@@ -186,7 +186,7 @@ on_ok-map (Err e) P Q f holds = tt
 -- a superblock, and then a pass
 pub one-pass : (s : ShapeRecord) (w x y : RepairWorld) → LeavesWorld (reading 0 1) nothing_due w x → LeavesWorld (pass_over s) nothing_due x y → IsOnePass s w y
 one-pass s w x y first rest =
-    let all = leaves-then (leaves-more (record (pass_over s) { hash_reads = 1 + 2 * levels s * area_block_sectors s }) (pass_over s) first
+    let all = leaves-then (leaves-more (record (pass_over s) { hash_reads = 1 + (2 * levels s + 1) * area_block_sectors s }) (pass_over s) first
     (record { data_reads = omega arith; hash_reads = omega arith; data_once = omega arith; hash_once = omega arith })) rest in
     record {
       data_reads = omega (arith, all.data_reads);

@@ -8,7 +8,7 @@ use Rattle.std.proofs.lemmas.List.FromFn.{map-range_with_len_more}
 use Rattle.std.proofs.lemmas.List.Sums.{sum_by-append}
 use Rattle.tree_shape.specs.Shape.{ShapeRecord, IsShape, ancestor, area_blocks, level_blocks, levels, per_block}
 use Rattle.tree_repair.specs.declared.place.Row.{Row}
-use Rattle.tree_repair.specs.Bills.{Bill, LeavesWorld, LeavesRow, LeavesVisit, data_over, hash_over, hash_up_to, height_over, left_of, nothing_due, pass_over, reading, rows_over, sectors_over, visits_over}
+use Rattle.tree_repair.specs.Bills.{Bill, LeavesWorld, LeavesRow, LeavesChecked, data_over, hash_over, hash_up_to, height_over, left_of, nothing_due, pass_over, reading, rows_over, sectors_over, checks_over}
 use Rattle.tree_repair.specs.Bounds.{area_block_sectors}
 use Rattle.tree_repair.specs.Jobs.{IsRow}
 use Rattle.tree_repair.specs.Worlds.{RepairWorld}
@@ -19,19 +19,19 @@ use Rattle.tree_repair.proofs.RowLemmas.{per_block-some}
 -- ---- a row, block by block
 
 -- a block that begins there
-pub visit-at : (s : ShapeRecord) → IsShape s → (h i : ℕ) → i % per_block s ^ h ≡ 0 → (w x : RepairWorld) → LeavesVisit s h i w x → LeavesWorld (visits_over s h (s.blocks - i)) (visits_over s h (s.blocks - i - per_block s ^ h)) w x
+pub visit-at : (s : ShapeRecord) → IsShape s → (h i : ℕ) → i % per_block s ^ h ≡ 0 → (w x : RepairWorld) → LeavesChecked s h i w x → LeavesWorld (checks_over s h (s.blocks - i)) (checks_over s h (s.blocks - i - per_block s ^ h)) w x
 visit-at s valid h i begins w x leaves =
     let here : left_of s h (ancestor s h i) ≡ s.blocks - i = left-at s valid h i begins in
     let behind : left_of s h (ancestor s h i + 1) ≡ s.blocks - i - per_block s ^ h = left-next s h (ancestor s h i) ∙ ap (λ (n : ℕ). n - per_block s ^ h) here in
-    subst (λ (n : ℕ). LeavesWorld (visits_over s h (s.blocks - i)) (visits_over s h n) w x) behind (subst (λ (n : ℕ). LeavesWorld (visits_over s h n) (visits_over s h (left_of s h (ancestor s h i + 1))) w x) here leaves)
+    subst (λ (n : ℕ). LeavesWorld (checks_over s h (s.blocks - i)) (checks_over s h n) w x) behind (subst (λ (n : ℕ). LeavesWorld (checks_over s h n) (checks_over s h (left_of s h (ancestor s h i + 1))) w x) here leaves)
 
 -- fewer are left
-pub visits-fewer : {a : Bill} (s : ShapeRecord) → IsShape s → (h n m : ℕ) (w x : RepairWorld) → m ≤ n → LeavesWorld a (visits_over s h n) w x → LeavesWorld a (visits_over s h m) w x
+pub visits-fewer : {a : Bill} (s : ShapeRecord) → IsShape s → (h n m : ℕ) (w x : RepairWorld) → m ≤ n → LeavesWorld a (checks_over s h n) w x → LeavesWorld a (checks_over s h m) w x
 visits-fewer {a} s valid h n m w x less leaves =
-    leaves-more a (visits_over s h m) leaves
+    leaves-more a (checks_over s h m) leaves
     (record {
-      data_reads = omega (arith, sectors-more s valid 0 m n less);
-      hash_reads = omega (arith, up_to-more s valid h m n less);
+      data_reads = omega (arith, sectors-more s valid 0 m n less, data-more s valid h m n less);
+      hash_reads = omega (arith, up_to-more s valid h m n less, hash-more s valid h m n less);
       data_once = omega (arith, data-more s valid h m n less);
       hash_once = omega (arith, hash-more s valid h m n less);
     })
@@ -53,9 +53,9 @@ module _ (s : ShapeRecord) (valid : IsShape s) (row : Row) (is : IsRow s row) wh
 
   -- the row was seen to be good
   row-reading : (w x : RepairWorld) → LeavesWorld (reading (data_over s row.height (row.end - row.first)) 0) nothing_due w x
-      → LeavesWorld (rows_over s row.height n_here) (record (visits_over s row.height n_here) { data_reads = sectors_over s 0 n_here + data_over s row.height n_behind }) w x
+      → LeavesWorld (rows_over s row.height n_here) (record (checks_over s row.height n_here) { data_reads = sectors_over s 0 n_here + data_over s row.height n_here + data_over s row.height n_behind }) w x
   row-reading w x read =
-      leaves-more (rows_over s row.height n_here) (record (visits_over s row.height n_here) { data_reads = sectors_over s 0 n_here + data_over s row.height n_behind }) read
+      leaves-more (rows_over s row.height n_here) (record (checks_over s row.height n_here) { data_reads = sectors_over s 0 n_here + data_over s row.height n_here + data_over s row.height n_behind }) read
       (record {
         data_reads = omega (arith, data-row s valid row.height (row.end - row.first) n_here (per_block s ^ (row.height + 1)) (omega (arith, is.few)) (omega (arith, is.inside)));
         hash_reads = omega arith;
@@ -63,10 +63,10 @@ module _ (s : ShapeRecord) (valid : IsShape s) (row : Row) (is : IsRow s row) wh
         hash_once = omega arith;
       })
 
-  pub row-visited : (w x y : RepairWorld) → LeavesWorld (reading (data_over s row.height (row.end - row.first)) 0) nothing_due w x → LeavesRow visits_over s row x y → LeavesRow rows_over s row w y
+  pub row-visited : (w x y : RepairWorld) → LeavesWorld (reading (data_over s row.height (row.end - row.first)) 0) nothing_due w x → LeavesRow checks_over s row x y → LeavesRow rows_over s row w y
   row-visited w x y read visits =
       leaves-then (row-reading w x read)
-      (leaves-more (record (visits_over s row.height n_here) { data_reads = sectors_over s 0 n_here + data_over s row.height n_behind }) (rows_over s row.height n_behind) visits
+      (leaves-more (record (checks_over s row.height n_here) { data_reads = sectors_over s 0 n_here + data_over s row.height n_here + data_over s row.height n_behind }) (rows_over s row.height n_behind) visits
       (record { data_reads = omega arith; hash_reads = omega arith; data_once = omega arith; hash_once = omega arith }))
 
   rows-fewer : n_behind ≤ n_here
@@ -76,15 +76,15 @@ module _ (s : ShapeRecord) (valid : IsShape s) (row : Row) (is : IsRow s row) wh
   row-seen w x read =
       leaves-more (rows_over s row.height n_here) (rows_over s row.height n_behind) (row-reading w x read)
       (record {
-        data_reads = omega (arith, sectors-more s valid 0 n_behind n_here rows-fewer);
-        hash_reads = omega (arith, up_to-more s valid row.height n_behind n_here rows-fewer);
+        data_reads = omega (arith, sectors-more s valid 0 n_behind n_here rows-fewer, data-more s valid row.height n_behind n_here rows-fewer);
+        hash_reads = omega (arith, up_to-more s valid row.height n_behind n_here rows-fewer, hash-more s valid row.height n_behind n_here rows-fewer);
         data_once = omega (arith, data-more s valid row.height n_behind n_here rows-fewer);
         hash_once = omega (arith, hash-more s valid row.height n_behind n_here rows-fewer);
       })
 
   -- the way to it
   abbrev way_left : Bill
-  way_left = record (rows_over s row.height n_here) { hash_reads = hash_up_to s row.height n_here + sectors_over s (suc row.height) n_behind * (levels s - row.height) }
+  way_left = record (rows_over s row.height n_here) { hash_reads = hash_up_to s row.height n_here + hash_over s row.height n_here + sectors_over s (suc row.height) n_behind * (levels s - row.height) }
 
   row-way : row.first < s.blocks → (w x : RepairWorld) → LeavesWorld (reading 0 ((levels s - row.height) * (s.hash_block / 512))) nothing_due w x → LeavesWorld (height_over s row.height n_here) way_left w x
   row-way some w x read =
@@ -104,7 +104,7 @@ module _ (s : ShapeRecord) (valid : IsShape s) (row : Row) (is : IsRow s row) wh
       leaves-more (height_over s row.height n_here) (height_over s row.height n_behind) (row-way some w x read)
       (record {
         data_reads = omega (arith, sectors-more s valid 0 n_behind n_here rows-fewer, data-more s valid row.height n_behind n_here rows-fewer);
-        hash_reads = omega (arith, up_to-more s valid row.height n_behind n_here rows-fewer);
+        hash_reads = omega (arith, up_to-more s valid row.height n_behind n_here rows-fewer, hash-more s valid row.height n_behind n_here rows-fewer);
         data_once = omega (arith, data-more s valid row.height n_behind n_here rows-fewer);
         hash_once = omega (arith, hash-more s valid row.height n_behind n_here rows-fewer);
       })
@@ -150,8 +150,8 @@ up_to-is s (suc h) =
 abbrev pub heights_over : ShapeRecord → ℕ → Bill
 heights_over s zero = nothing_due
 heights_over s (suc h) = record {
-  data_reads = sectors_over s 0 s.blocks + data_over s h s.blocks + (heights_over s h).data_reads;
-  hash_reads = hash_up_to s h s.blocks + sectors_over s (suc h) s.blocks * (levels s - h) + (heights_over s h).hash_reads;
+  data_reads = sectors_over s 0 s.blocks + data_over s h s.blocks + data_over s h s.blocks + (heights_over s h).data_reads;
+  hash_reads = hash_up_to s h s.blocks + hash_over s h s.blocks + sectors_over s (suc h) s.blocks * (levels s - h) + (heights_over s h).hash_reads;
   data_once = data_over s h s.blocks + (heights_over s h).data_once;
   hash_once = hash_over s h s.blocks + (heights_over s h).hash_once;
 }
@@ -168,10 +168,10 @@ module _ (s : ShapeRecord) (valid : IsShape s) where
   abbrev whole_tree : ℕ
   whole_tree = hash_up_to s (levels s) s.blocks
 
-  heights-data : (h : ℕ) → (heights_over s (suc h)).data_reads ≡ (h + 2) * whole_data
+  heights-data : (h : ℕ) → (heights_over s (suc h)).data_reads ≡ (h + 3) * whole_data
   heights-data zero = omega (arith, data-all s valid s.blocks)
   heights-data (suc h) =
-      let next : (suc h + 2) * whole_data ≡ (h + 2) * whole_data + whole_data = grind arith in
+      let next : (suc h + 3) * whole_data ≡ (h + 3) * whole_data + whole_data = grind arith in
       omega (arith, next, heights-data h, data-all s valid s.blocks)
 
   heights-data_once : (h : ℕ) → (heights_over s (suc h)).data_once ≡ whole_data
@@ -182,7 +182,7 @@ module _ (s : ShapeRecord) (valid : IsShape s) where
   heights-hash_once zero = omega arith
   heights-hash_once (suc h) = omega (arith, heights-hash_once h)
 
-  heights-hash : (h : ℕ) → h < levels s → (heights_over s (suc h)).hash_reads ≤ h * whole_tree + hash_up_to s (suc h) s.blocks * levels s
+  heights-hash : (h : ℕ) → h < levels s → (heights_over s (suc h)).hash_reads ≤ h * whole_tree + hash_up_to s h s.blocks + hash_up_to s (suc h) s.blocks * levels s
   heights-hash zero low =
       let at : hash_up_to s (suc zero) s.blocks ≡ sectors_over s (suc zero) s.blocks = omega arith in
       let same : sectors_over s (suc zero) s.blocks * (levels s - zero) ≡ sectors_over s (suc zero) s.blocks * levels s = ap (λ (n : ℕ). sectors_over s (suc zero) s.blocks * n) (let e : levels s - zero ≡ levels s = omega arith in e) in
@@ -197,7 +197,7 @@ module _ (s : ShapeRecord) (valid : IsShape s) where
       let next : suc h * whole_tree ≡ h * whole_tree + whole_tree = grind arith in
       omega (arith, before, here, ways, sum, next)
 
-  heights-all : (l : ℕ) → l ≡ levels s → (heights_over s (suc l)).hash_reads ≤ 2 * levels s * whole_tree
+  heights-all : (l : ℕ) → l ≡ levels s → (heights_over s (suc l)).hash_reads ≤ (2 * levels s + 1) * whole_tree
   heights-all zero e =
       let none : levels s - zero ≡ 0 = omega (arith, e) in
       let last : sectors_over s (suc zero) s.blocks * (levels s - zero) ≡ sectors_over s (suc zero) s.blocks * 0 = ap (λ (n : ℕ). sectors_over s (suc zero) s.blocks * n) none in
@@ -209,7 +209,7 @@ module _ (s : ShapeRecord) (valid : IsShape s) where
       let top : hash_up_to s (suc h) s.blocks ≡ whole_tree = ap (λ (n : ℕ). hash_up_to s n s.blocks) e in
       let all : hash_up_to s (suc h) s.blocks * levels s ≡ whole_tree * levels s = ap (λ (n : ℕ). n * levels s) top in
       let turned : whole_tree * levels s ≡ levels s * whole_tree = grind arith in
-      let twice : 2 * levels s * whole_tree ≡ levels s * whole_tree + levels s * whole_tree = grind arith in
+      let twice : (2 * levels s + 1) * whole_tree ≡ levels s * whole_tree + levels s * whole_tree + whole_tree = grind arith in
       let high : levels s * whole_tree ≡ suc h * whole_tree = ap (λ (n : ℕ). n * whole_tree) (sym e) in
       let next : suc h * whole_tree ≡ h * whole_tree + whole_tree = grind arith in
       omega (arith, last, before, top, all, turned, twice, high, next)
@@ -223,7 +223,7 @@ module _ (s : ShapeRecord) (valid : IsShape s) where
       leaves-more (pass_over s) nothing_due (subst (λ (n : ℕ). LeavesWorld (heights_over s n) b w x) (add-one (levels s)) leaves)
       (record {
         data_reads = omega (arith, heights-data (levels s));
-        hash_reads = omega (arith, heights-all (levels s) refl, ap (λ (n : ℕ). 2 * levels s * n) tree-is);
+        hash_reads = omega (arith, heights-all (levels s) refl, ap (λ (n : ℕ). (2 * levels s + 1) * n) tree-is);
         data_once = omega (arith, heights-data_once (levels s));
         hash_once = omega (arith, heights-hash_once (levels s), tree-is);
       })

@@ -15,6 +15,7 @@ mod DataBackLemmas
 mod DistinctLemmas
 mod HeightLemmas
 mod LaidOutLemmas
+mod KeepLemmas
 mod LookLemmas
 mod MakeLemmas
 mod NoneLostLemmas

@@ -201,8 +201,8 @@ module _ (s : ShapeRecord) (l : Layout) where
       → IsAskedWithin (parity_bill s l u a m) w x p q → IsAskedWithin (parity_bill s l v b n) x y q r → IsAskedWithin (parity_bill s l t c k) w y p r
   work-then u v t a b c m n k d e f one two =
       asked-more (parity_bill s l t c k) (asked-then one two) (record {
-        data_reads = steps-sum a b c ((levels s + 2) * data_sectors s) m n k around_reads e f;
-        hash_reads = first-sum u v t a b c (2 * levels s * area_block_sectors s) m n k (way_reads + around_reads) d e f;
+        data_reads = steps-sum a b c ((levels s + 3) * data_sectors s) m n k around_reads e f;
+        hash_reads = first-sum u v t a b c ((2 * levels s + 1) * area_block_sectors s) m n k (way_reads + around_reads) d e f;
         parity_reads = one-sum m n k (l.roots * (l.block / 512)) f;
         data_writes = steps-sum a b c (data_sectors s) m n k (l.block / 512) e f;
         hash_writes = steps-sum a b c (area_block_sectors s) m n k (l.block / 512) e f;

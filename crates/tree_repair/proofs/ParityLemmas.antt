@@ -66,6 +66,29 @@ pub end-small : (s : ShapeRecord) (h : ℕ) → IsShape s → end_at s h ≤ 2 ^
 end-small s zero valid = valid.data_fits
 end-small s (suc l) valid = valid.tree_fits
 
+-- ---- a block that was read is good
+
+module _ (j : Job) (p : PathRecord) (h i : ℕ) (d e : Device) (cs es : List Device) (way : IsWay j.tree i h p) where
+  pub good-data : h ≡ 0 → (read : List ℕ) × IsThere d (sector_at j.tree.shape h i) (wanted j.tree.salt (digest_on p i h) (size_at j.tree.shape h / 512)) read → IsGoodNow j h i (repair_world d e cs es)
+  good-data none there =
+      subst (λ (n : ℕ). IsGoodNow j n i (repair_world d e cs es)) (sym none)
+      (record {
+        p = p;
+        way = subst (λ (n : ℕ). IsWay j.tree i n p) none way;
+        bytes = there.0;
+        there = subst (λ (n : ℕ). IsThere d (sector_at j.tree.shape n i) (wanted j.tree.salt (digest_on p i n) (size_at j.tree.shape n / 512)) there.0) none there.1;
+      })
+
+  pub good-hash : (l : ℕ) → h ≡ suc l → (read : List ℕ) × IsThere d (sector_at j.tree.shape h i) (wanted j.tree.salt (digest_on p i h) (size_at j.tree.shape h / 512)) read → IsGoodNow j h i (repair_world e d es cs)
+  good-hash l some there =
+      subst (λ (n : ℕ). IsGoodNow j n i (repair_world e d es cs)) (sym some)
+      (record {
+        p = p;
+        way = subst (λ (n : ℕ). IsWay j.tree i n p) some way;
+        bytes = there.0;
+        there = subst (λ (n : ℕ). IsThere d (sector_at j.tree.shape n i) (wanted j.tree.salt (digest_on p i n) (size_at j.tree.shape n / 512)) there.0) some there.1;
+      })
+
 -- ---- a block that was put is a visit
 
 module _ (j : Job) (p : PathRecord) (h i : ℕ) (bytes : List ℕ) (d d' e : Device) (cs es : List Device) (asked : IsTrue j.parity) (inside : i < j.tree.shape.blocks) (way : IsWay j.tree i h p) where
@@ -103,33 +126,13 @@ module _ (j : Job) (p : PathRecord) (h i : ℕ) (bytes : List ℕ) (d d' e : Dev
         copies_are = refl;
       })
 
-  good-data : h ≡ 0 → (read : List ℕ) × IsThere d (sector_at j.tree.shape h i) (wanted j.tree.salt (digest_on p i h) (size_at j.tree.shape h / 512)) read → IsGoodNow j h i (repair_world d e cs es)
-  good-data none there =
-      subst (λ (n : ℕ). IsGoodNow j n i (repair_world d e cs es)) (sym none)
-      (record {
-        p = p;
-        way = subst (λ (n : ℕ). IsWay j.tree i n p) none way;
-        bytes = there.0;
-        there = subst (λ (n : ℕ). IsThere d (sector_at j.tree.shape n i) (wanted j.tree.salt (digest_on p i n) (size_at j.tree.shape n / 512)) there.0) none there.1;
-      })
-
-  good-hash : (l : ℕ) → h ≡ suc l → (read : List ℕ) × IsThere d (sector_at j.tree.shape h i) (wanted j.tree.salt (digest_on p i h) (size_at j.tree.shape h / 512)) read → IsGoodNow j h i (repair_world e d es cs)
-  good-hash l some there =
-      subst (λ (n : ℕ). IsGoodNow j n i (repair_world e d es cs)) (sym some)
-      (record {
-        p = p;
-        way = subst (λ (n : ℕ). IsWay j.tree i n p) some way;
-        bytes = there.0;
-        there = subst (λ (n : ℕ). IsThere d (sector_at j.tree.shape n i) (wanted j.tree.salt (digest_on p i n) (size_at j.tree.shape n / 512)) there.0) some there.1;
-      })
-
   data-or : (back : Bool) → h ≡ 0 → IsPutOr d (sector_at j.tree.shape h i) (wanted j.tree.salt (digest_on p i h) (size_at j.tree.shape h / 512)) j.write bytes d' back → IsPlaced j h i bytes (repair_world d e cs es) (repair_world d' e cs es) back
   data-or true none put = data-visit true none put
-  data-or false none put = (record { data_read = put.0.0; hash_read = only_read-none e; data_more = put.0.1; hash_more = omega arith; data_copies_read = each-none cs; hash_copies_read = each-none es }, good-data none put.1)
+  data-or false none put = (record { data_read = put.0.0; hash_read = only_read-none e; data_more = put.0.1; hash_more = omega arith; data_copies_read = each-none cs; hash_copies_read = each-none es }, good-data j p h i d e cs es way none put.1)
 
   hash-or : (l : ℕ) (back : Bool) → h ≡ suc l → IsPutOr d (sector_at j.tree.shape h i) (wanted j.tree.salt (digest_on p i h) (size_at j.tree.shape h / 512)) j.write bytes d' back → IsPlaced j h i bytes (repair_world e d es cs) (repair_world e d' es cs) back
   hash-or l true some put = hash-visit l true some put
-  hash-or l false some put = (record { data_read = only_read-none e; hash_read = put.0.0; data_more = omega arith; hash_more = put.0.1; data_copies_read = each-none es; hash_copies_read = each-none cs }, good-hash l some put.1)
+  hash-or l false some put = (record { data_read = only_read-none e; hash_read = put.0.0; data_more = omega arith; hash_more = put.0.1; data_copies_read = each-none es; hash_copies_read = each-none cs }, good-hash j p h i d e cs es way l some put.1)
 
   pub data-placed : {E : Type 0} (r : Result Bool E) → h ≡ 0 → IfOk r (IsPutOr d (sector_at j.tree.shape h i) (wanted j.tree.salt (digest_on p i h) (size_at j.tree.shape h / 512)) j.write bytes d')
       → IfOk r (IsPlaced j h i bytes (repair_world d e cs es) (repair_world d' e cs es))

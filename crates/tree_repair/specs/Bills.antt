@@ -86,13 +86,17 @@ beneath_over s l n = reading (sectors_over s zero n) (hash_up_to s l n)
 abbrev pub visits_over : ShapeRecord → ℕ → ℕ → Bill
 visits_over s h n = record { data_reads = sectors_over s zero n; hash_reads = hash_up_to s h n; data_once = data_over s h n; hash_once = hash_over s h n }
 
+-- and what was written of it is read back
+abbrev pub checks_over : ShapeRecord → ℕ → ℕ → Bill
+checks_over s h n = record (visits_over s h n) { data_reads = sectors_over s zero n + data_over s h n; hash_reads = hash_up_to s h n + hash_over s h n }
+
 -- and data blocks are read once more, with their row
 abbrev pub rows_over : ShapeRecord → ℕ → ℕ → Bill
-rows_over s h n = record (visits_over s h n) { data_reads = sectors_over s zero n + data_over s h n }
+rows_over s h n = record (checks_over s h n) { data_reads = sectors_over s zero n + data_over s h n + data_over s h n }
 
 -- and so are the hash blocks on the way to each row
 abbrev pub height_over : ShapeRecord → ℕ → ℕ → Bill
-height_over s h n = record (rows_over s h n) { hash_reads = hash_up_to s h n + sectors_over s (suc h) n * (levels s - h) }
+height_over s h n = record (rows_over s h n) { hash_reads = hash_up_to s h n + hash_over s h n + sectors_over s (suc h) n * (levels s - h) }
 
 -- a visit of each block of a height
 abbrev pub LeavesHeight : ShapeRecord → ℕ → RepairWorld → RepairWorld → Type 0
@@ -112,7 +116,7 @@ ReadsData state s n old new = HasReadAtMost (state old) (n * (s.data_block / 512
 
 -- a pass over all heights
 abbrev pub pass_over : ShapeRecord → Bill
-pass_over s = record { data_reads = (levels s + 2) * data_sectors s; hash_reads = 2 * levels s * area_block_sectors s; data_once = data_sectors s; hash_once = area_block_sectors s }
+pass_over s = record { data_reads = (levels s + 3) * data_sectors s; hash_reads = (2 * levels s + 1) * area_block_sectors s; data_once = data_sectors s; hash_once = area_block_sectors s }
 
 -- how many of the data blocks that are left a piece took: all of them, where it wasn't good
 abbrev pub piece_of : ℕ → Option ℕ → ℕ
@@ -137,7 +141,15 @@ LeavesMade s m w w' = LeavesBlock (made_over s m.from) s (m.from + m.steps) m.nu
 abbrev pub LeavesVisit : ShapeRecord → ℕ → ℕ → RepairWorld → RepairWorld → Type 0
 LeavesVisit s h i w w' = LeavesBlock (visits_over s h) s h (ancestor s h i) w w'
 
--- the same of a hash block of level l, and of all beneath it
+-- the block above data block i is read back, if anything of it was written
+abbrev pub LeavesBack : ShapeRecord → ℕ → ℕ → RepairWorld → RepairWorld → Type 0
+LeavesBack s h i w w' = LeavesBlock (made_over s h) s h (ancestor s h i) w w'
+
+-- and it was visited before
+abbrev pub LeavesChecked : ShapeRecord → ℕ → ℕ → RepairWorld → RepairWorld → Type 0
+LeavesChecked s h i w w' = LeavesBlock (checks_over s h) s h (ancestor s h i) w w'
+
+-- a visit of a hash block of level l, and of all beneath it
 abbrev pub LeavesHashVisit : ShapeRecord → ℕ → ℕ → RepairWorld → RepairWorld → Type 0
 LeavesHashVisit s l i w w' = LeavesVisit s (suc l) i w w'
 

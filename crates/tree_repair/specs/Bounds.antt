@@ -30,12 +30,12 @@ pub record AreReadAtMost (old : List Device) (n : ℕ) (new : List Device) : Typ
 abbrev pub area_block_sectors : ShapeRecord → ℕ
 area_block_sectors s = blocks_sectors (area_blocks s) s.hash_block
 
--- Of the data each block is read once with its row, once alone, and once for each level, whose hash blocks it is made into. Of
--- the tree there are the superblock, the way to each row, each block once alone, and once for each level above. No block is
--- written twice, nor sought twice in a copy.
+-- Of the data each block is read once with its row, once alone, once where it is written, to read it back, and once for each
+-- level, whose hash blocks it is made into. Of the tree there are the superblock, the way to each row, each block once alone, once
+-- to read it back, and once for each level above. No block is written twice, nor sought twice in a copy.
 pub record IsOnePass (s : ShapeRecord) (w w' : RepairWorld) : Type 0 where
-  pub data_reads : HasReadAtMost w.data_dev ((levels s + 2) * data_sectors s) w'.data_dev
-  pub hash_reads : HasReadAtMost w.hash_dev (1 + 2 * levels s * area_block_sectors s) w'.hash_dev
+  pub data_reads : HasReadAtMost w.data_dev ((levels s + 3) * data_sectors s) w'.data_dev
+  pub hash_reads : HasReadAtMost w.hash_dev (1 + (2 * levels s + 1) * area_block_sectors s) w'.hash_dev
   pub data_writes : HasWrittenAtMost w.data_dev (data_sectors s) w'.data_dev
   pub hash_writes : HasWrittenAtMost w.hash_dev (area_block_sectors s) w'.hash_dev
   pub data_copies : AreReadAtMost w.data_copies (data_sectors s) w'.data_copies

@@ -21,6 +21,14 @@ found_of write mended.Remade = unless write
 found_of write mended.Parity = unless write
 found_of write mended.Lost = Some false
 
+-- its bytes were written
+abbrev pub was_put : Bool → Mended → Bool
+was_put write mended.Good = false
+was_put write (mended.Copy k) = write
+was_put write mended.Remade = write
+was_put write mended.Parity = write
+was_put write mended.Lost = false
+
 -- what is noted of it
 abbrev pub bad_blocks : Place → Option Bool → List BadBlock
 bad_blocks place None = []

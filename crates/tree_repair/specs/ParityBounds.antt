@@ -51,8 +51,8 @@ pub record IsAskedWithin (b : ParityBill) (w w' : RepairWorld) (p p' : Device) :
 -- parity that of the round; and the block may be written.
 abbrev pub parity_bill : ShapeRecord → Layout → ℕ → ℕ → ℕ → ParityBill
 parity_bill s l superblocks passes sought = record {
-  data_reads = passes * ((levels s + 2) * data_sectors s) + sought * ((256 - l.roots) * (l.block / 512));
-  hash_reads = superblocks + passes * (2 * levels s * area_block_sectors s) + sought * (levels s * (s.hash_block / 512) + (256 - l.roots) * (l.block / 512));
+  data_reads = passes * ((levels s + 3) * data_sectors s) + sought * ((256 - l.roots) * (l.block / 512));
+  hash_reads = superblocks + passes * ((2 * levels s + 1) * area_block_sectors s) + sought * (levels s * (s.hash_block / 512) + (256 - l.roots) * (l.block / 512));
   parity_reads = sought * (l.roots * (l.block / 512));
   data_writes = passes * data_sectors s + sought * (l.block / 512);
   hash_writes = passes * area_block_sectors s + sought * (l.block / 512);

@@ -70,6 +70,19 @@ impl BadBlocks {
         Ok(self.blocks.push(block)?)
     }
 
+    /// Notes of a block that was written whether it was read back: if not, it isn't known to be good.
+    pub(crate) fn keep(&mut self, kept: bool)
+        ensures asked { self.new.asked ≡ self.old.asked }
+        ensures blocks { self.new.blocks.items ≡ self.old.blocks.items }
+        ensures any { self.new.any ≡ false → self.old.any ≡ false }
+        ensures kept { self.new.any ≡ false → IsTrue kept }
+        ensures passed { self.new.passed ≡ self.old.passed }
+    {
+        if !kept {
+            self.any = true;
+        }
+    }
+
     /// Notes that blocks were passed by.
     pub(crate) fn pass_by(&mut self)
         ensures { self.new ≡ passed_some self.old }

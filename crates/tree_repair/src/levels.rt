@@ -3,7 +3,7 @@ ghost use Rattle.std.specs.Prelude.{◌≡◌, ◌<◌, ◌≤◌, IfOk, OnOk, l
 ghost use Rattle.tree_shape.specs.Shape.{levels};
 ghost use Rattle.tree_survey.specs.Surveys.{IsWay};
 ghost use Rattle.tree_path.specs.Steps.{HasReadAtMost};
-ghost use Rattle.tree_repair.specs.Bills.{LeavesWorld, LeavesHeight, LeavesRow, LeavesVisit, height_over, nothing_due, reading, rows_over, visits_over, way_sectors};
+ghost use Rattle.tree_repair.specs.Bills.{LeavesWorld, LeavesChecked, LeavesHeight, LeavesRow, checks_over, height_over, nothing_due, reading, rows_over, way_sectors};
 ghost use Rattle.tree_repair.specs.Jobs.{IsRow, job};
 ghost use Rattle.tree_repair.specs.ParityBounds.{LeavesNoted, NotesInHeight, NotesInRow};
 ghost use Rattle.tree_repair.specs.Notes.{NotesAt, NotesHeight, NotesRow};
@@ -17,6 +17,7 @@ use crate::bad::BadBlocks;
 use crate::fault::RepairFault;
 use crate::good_row::is_good_row;
 use crate::image::DamagedImage;
+use crate::keeping::is_kept;
 use crate::place::{Place, Repair, Row};
 use crate::saying::say_mended;
 use crate::visiting::visit;
@@ -179,7 +180,7 @@ fn repair_blocks<D: BlockDev, H: BlockDev, C: BlockDev, W: Write>(
     requires room { 65536 ≤ length memory.old }
     ensures notes { NotesRow W.contents repair.now row image.old image.new bad.old bad.new writer.old writer.new result }
     ensures told { IfErr result (IsWriterCause writer.new) }
-    ensures asked { LeavesRow visits_over repair.now.shape row image.old image.new }
+    ensures asked { LeavesRow checks_over repair.now.shape row image.old image.new }
     ensures few { OnOk result (NotesInRow repair.now.shape row bad.old bad.new) }
 {
     let Row {
@@ -197,7 +198,7 @@ fn repair_blocks<D: BlockDev, H: BlockDev, C: BlockDev, W: Write>(
     Ok(())
 }
 
-// Looks at a block, and prints its line.
+// Looks at a block, prints its line, and reads back what was written.
 fn repair_block<D: BlockDev, H: BlockDev, C: BlockDev, W: Write>(
     path: &TreePath,
     repair: &Repair,
@@ -213,11 +214,13 @@ fn repair_block<D: BlockDev, H: BlockDev, C: BlockDev, W: Write>(
     requires room { 65536 ≤ length memory.old }
     ensures notes { NotesAt W.contents repair.now place image.old image.new bad.old bad.new writer.old writer.new result }
     ensures told { IfErr result (IsWriterCause writer.new) }
-    ensures asked { LeavesVisit repair.now.shape place.height place.index image.old image.new }
+    ensures asked { LeavesChecked repair.now.shape place.height place.index image.old image.new }
     ensures few { OnOk result (LeavesNoted 1 0 bad.old bad.new) }
 {
     let mended = visit(path, repair, place, image, memory)?;
     say_mended(writer, repair, place, mended)?;
     bad.note(place, mended, repair.write)?;
+    let kept = is_kept(path, repair, place, mended, image, memory);
+    bad.keep(kept);
     Ok(())
 }

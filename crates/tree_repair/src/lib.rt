@@ -7,6 +7,7 @@ mod bad;
 mod fault;
 mod good_row;
 mod image;
+mod keeping;
 pub mod laws;
 mod levels;
 mod mending;

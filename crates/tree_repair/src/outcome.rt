@@ -38,7 +38,7 @@ impl Failures {
     }
 
     /// Whether it is known that none has failed since.
-    pub(crate) fn are_all<D: BlockDev, H: BlockDev, C: BlockDev>(
+    pub(crate) fn none_since<D: BlockDev, H: BlockDev, C: BlockDev>(
         self,
         image: &DamagedImage<D, H, C>,
     ) -> bool

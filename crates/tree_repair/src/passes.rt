@@ -52,7 +52,7 @@ pub fn repair_with_parity<D: BlockDev, H: BlockDev, C: BlockDev, P: BlockDev, W:
     let repair = repair_of(alloc, &superblock, &plan, true);
     let all = run_passes(&repair, layout, image, parity_dev, writer)?;
     let blocks = repair.shape.blocks();
-    let sure = before.are_all(image);
+    let sure = before.none_since(image);
     Ok(outcome_of(all, sure, blocks))
 }
 

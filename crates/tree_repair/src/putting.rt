@@ -85,8 +85,8 @@ fn put_block<D: BlockDev, H: BlockDev, C: BlockDev>(
     replace(&mut image.hash, first, repair, &digest, bytes, block)
 }
 
-// The first sector of a block on its device.
-fn first_sector(repair: &Repair, place: Place) -> u64
+/// The first sector of a block on its device.
+pub(crate) fn first_sector(repair: &Repair, place: Place) -> u64
     requires { IsPlace repair.now.shape place.height place.index }
     ensures value { result ≡ sector_at repair.now.shape place.height place.index }
     ensures inside { result + size_at repair.now.shape place.height / 512 ≤ end_at repair.now.shape place.height }

@@ -64,7 +64,7 @@ pub fn repair_image<D: BlockDev, H: BlockDev, C: BlockDev, W: Write>(
     repair_heights(&repair, image, &mut bad, writer)?;
     let blocks = repair.shape.blocks();
     let good = bad.is_none();
-    let sure = before.are_all(image);
+    let sure = before.none_since(image);
     Ok(outcome_of(good, sure, blocks))
 }
 

@@ -1,6 +1,8 @@
-use Rattle.std.proofs.Common.{refl, arith}
+use Rattle.std.proofs.Common.{List, length, refl, ap, arith}
+use Rattle.tree_repair.specs.declared.bad.BadBlock.{BadBlock}
+use Rattle.tree_repair.proofs.KeepLemmas.{leaves-checked, leaves-unchecked, noted-kept}
 use Rattle.tree_repair.proofs.PassLemmas.{noted-from, noted-not, noted-one}
-use Rattle.tree_repair.proofs.RunLemmas.{ends-unnoted, ends-unsaid, ends-unwritten}
+use Rattle.tree_repair.proofs.RunLemmas.{can-later, ends-unnoted, ends-unsaid, ends-unwritten, has-one}
 use Rattle.tree_repair.proofs.levels.repair_block.Goals as goal
 
 pub returns-in_err-mended-clause-notes : goal.returns-in_err-mended-clause-notes
@@ -12,8 +14,31 @@ returns-in_err-say_mended-clause-notes g c = noted-from c.from_residual-in_err-s
 pub returns-in_err-note-clause-notes : goal.returns-in_err-note-clause-notes
 returns-in_err-note-clause-notes g c = noted-from c.from_residual-in_err-note.result c.from_residual-in_err-note.ensures.1 (noted-not (ends-unnoted c.in_ok-mended.ensures.ok.1 refl) c.note.ensures.asked)
 
+pub is_kept-kept-requires-clause-can : goal.is_kept-kept-requires-clause-can
+is_kept-kept-requires-clause-can g c = can-later (has-one c.in_ok-mended.ensures.ok.1 refl c.in_ok-say_mended.ensures.ok) c.requires.can
+
 pub returns-clause-notes : goal.returns-clause-notes
-returns-clause-notes g c = noted-one _ c.in_ok-mended.ensures.ok.1 refl c.in_ok-say_mended.ensures.ok c.note.ensures.asked c.in_ok-note.ensures.noted c.in_ok-note.ensures.any c.note.ensures.passed (λ h i due. record { height_is = due.0; same = due.1 }) (refl, refl)
+returns-clause-notes g c =
+    noted-kept
+    (noted-one {b = c.note.new.self} _ c.in_ok-mended.ensures.ok.1 refl c.in_ok-say_mended.ensures.ok c.note.ensures.asked c.in_ok-note.ensures.noted c.in_ok-note.ensures.any c.note.ensures.passed (λ h i due. record { height_is = due.0; same = due.1 }) (refl, refl))
+    c.is_kept-kept.ensures.read c.keep.ensures.asked c.keep.ensures.blocks c.keep.ensures.any c.keep.ensures.passed
 
 pub returns-clause-few : goal.returns-clause-few
-returns-clause-few g c = omega (arith, c.in_ok-note.ensures.few)
+returns-clause-few g c = omega (arith, c.in_ok-note.ensures.few, ap (λ (l : List BadBlock). length l) c.keep.ensures.blocks)
+
+pub returns-in_err-mended-clause-asked : goal.returns-in_err-mended-clause-asked
+returns-in_err-mended-clause-asked g c =
+    leaves-unchecked c.args.repair.now.shape c.requires.can.valid c.args.place.height c.args.place.index c.args.image.now c.visit.new.image c.visit.ensures.asked
+
+pub returns-in_err-say_mended-clause-asked : goal.returns-in_err-say_mended-clause-asked
+returns-in_err-say_mended-clause-asked g c =
+    leaves-unchecked c.args.repair.now.shape c.requires.can.valid c.args.place.height c.args.place.index c.args.image.now c.visit.new.image c.visit.ensures.asked
+
+pub returns-in_err-note-clause-asked : goal.returns-in_err-note-clause-asked
+returns-in_err-note-clause-asked g c =
+    leaves-unchecked c.args.repair.now.shape c.requires.can.valid c.args.place.height c.args.place.index c.args.image.now c.visit.new.image c.visit.ensures.asked
+
+pub returns-clause-asked : goal.returns-clause-asked
+returns-clause-asked g c =
+    leaves-checked c.args.repair.now.shape c.requires.can.valid c.args.place.height c.args.place.index c.args.image.now c.visit.new.image c.is_kept-kept.new.image
+    c.visit.ensures.asked c.is_kept-kept.ensures.asked

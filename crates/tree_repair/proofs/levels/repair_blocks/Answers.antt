@@ -3,7 +3,7 @@ use Rattle.std.proofs.lemmas.Bool.{cases_lt}
 use Rattle.tree_shape.specs.Shape.{ancestor, per_block}
 use Rattle.tree_repair.proofs.LookLemmas.{first-begins, next-begins, same-above}
 use Rattle.tree_shape.proofs.lemmas.ShapeFaultLemmas.{blocks-le}
-use Rattle.tree_repair.specs.Bills.{LeavesWorld, visits_over}
+use Rattle.tree_repair.specs.Bills.{LeavesWorld, checks_over}
 use Rattle.tree_repair.proofs.BillLemmas.{leaves-none, leaves-then}
 use Rattle.tree_repair.specs.ParityBounds.{blocks_over}
 use Rattle.tree_repair.proofs.CountLemmas.{count-fewer, count-next}
@@ -19,7 +19,7 @@ pub places-init : goal.places-init
 places-init g c = record {
   from = omega arith;
   begins = λ less. first-begins c.args.repair.now.shape c.args.row c.requires.can.valid c.requires.row;
-  asked = leaves-none (visits_over c.args.repair.now.shape c.args.row.height (c.args.repair.now.shape.blocks - c.args.row.first)) c.args.image.now;
+  asked = leaves-none (checks_over c.args.repair.now.shape c.args.row.height (c.args.repair.now.shape.blocks - c.args.row.first)) c.args.image.now;
   few = omega arith;
   enough = omega arith;
   run = noted-none (λ h i due. omega (arith, due.0.1.0, due.1));
@@ -46,7 +46,7 @@ places-preserved g c =
     record {
       from = omega (arith, c.places.invariant.from);
       begins = λ less. next-begins (per_block s) row.height c.places.index row.step s.blocks row.end (c.places.invariant.begins c.places-test.true) c.requires.row.step_is c.requires.row.inside less;
-      asked = subst (λ (n : ℕ). LeavesWorld (visits_over s row.height (s.blocks - row.first)) (visits_over s row.height n) c.args.image.now c.repair_block.new.image) (sym (next-left s c.requires.can.valid row c.requires.row c.places.index))
+      asked = subst (λ (n : ℕ). LeavesWorld (checks_over s row.height (s.blocks - row.first)) (checks_over s row.height n) c.args.image.now c.repair_block.new.image) (sym (next-left s c.requires.can.valid row c.requires.row c.places.index))
           (leaves-then c.places.invariant.asked (visit-at s c.requires.can.valid row.height c.places.index (c.places.invariant.begins c.places-test.true) c.places.image c.repair_block.new.image c.repair_block.ensures.asked));
       few = omega (arith, c.places.invariant.few, c.in_ok-repair_block.ensures.few, count-next s c.requires.can.valid row.height (s.blocks - c.places.index) (omega (arith, c.places-test.true, c.requires.row.inside)), ap (blocks_over s row.height) (next-left s c.requires.can.valid row c.requires.row c.places.index));
       enough = omega (arith, next-left s c.requires.can.valid row c.requires.row c.places.index, row-left s c.requires.can.valid row c.requires.row c.places.index (c.places.invariant.begins c.places-test.true) c.places-test.true);

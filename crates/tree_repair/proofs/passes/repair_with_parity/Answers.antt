@@ -63,8 +63,8 @@ returns-clause-whole g c =
     let y = c.run_passes.new.image in
     subst (IsParityOutcome c.args.plan w y) (sym c.outcome_of.ensures)
     (parity-outcome c.in_ok-superblock.superblock c.args.plan (job c.repair_of-repair.result) w c.superblock_of.new.image y c.repair_of-repair.ensures.job c.in_ok-superblock.ensures.read c.in_ok-superblock.ensures.ok
-    c.in_ok-all.all c.are_all-sure.result c.blocks-blocks.result c.blocks-blocks.ensures.value c.in_ok-all.ensures.whole
-    (λ known. unfailed-since c.of-before.result w y c.of-before.ensures.data c.of-before.ensures.hash (c.are_all-sure.ensures known)))
+    c.in_ok-all.all c.none_since-sure.result c.blocks-blocks.result c.blocks-blocks.ensures.value c.in_ok-all.ensures.whole
+    (λ known. unfailed-since c.of-before.result w y c.of-before.ensures.data c.of-before.ensures.hash (c.none_since-sure.ensures known)))
 
 pub returns-clause-sought : goal.returns-clause-sought
 returns-clause-sought g c =

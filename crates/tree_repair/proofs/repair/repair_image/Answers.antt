@@ -69,6 +69,6 @@ returns-clause-whole g c =
     let x = c.superblock_of.new.image in
     let y = c.repair_heights.new.image in
     subst (IsOutcomeOf c.args.plan w y) (sym c.outcome_of.ensures)
-    (outcome-of s c.args.plan (job c.repair_of-repair.result) w x y c.repair_of-repair.ensures.job c.in_ok-superblock.ensures.read c.in_ok-superblock.ensures.ok c.is_none-good.result c.are_all-sure.result
+    (outcome-of s c.args.plan (job c.repair_of-repair.result) w x y c.repair_of-repair.ensures.job c.in_ok-superblock.ensures.read c.in_ok-superblock.ensures.ok c.is_none-good.result c.none_since-sure.result
     c.blocks-blocks.result c.blocks-blocks.ensures.value c.in_ok-repair_heights.ensures.notes c.in_ok-repair_heights.ensures.whole c.is_none-good.ensures
-    (λ known. unfailed-since c.of-before.result w y c.of-before.ensures.data c.of-before.ensures.hash (c.are_all-sure.ensures known)))
+    (λ known. unfailed-since c.of-before.result w y c.of-before.ensures.data c.of-before.ensures.hash (c.none_since-sure.ensures known)))

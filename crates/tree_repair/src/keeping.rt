@@ -1,0 +1,80 @@
+//! Blocks that were written, read back.
+ghost use Rattle.std.specs.Prelude.{◌≡◌, ◌≤◌, ◌<◌, IsTrue, length};
+ghost use Rattle.tree_survey.specs.Surveys.{IsWay};
+ghost use Rattle.tree_repair.specs.Bills.{LeavesBack};
+ghost use Rattle.tree_repair.specs.Jobs.{job};
+ghost use Rattle.tree_repair.specs.Noting.{was_put};
+ghost use Rattle.tree_repair.specs.Parity.{IsGoodNow};
+ghost use Rattle.tree_repair.specs.Runs.{CanRun};
+ghost use Rattle.tree_repair.specs.Worlds.{IsWorldRead};
+
+use crate::image::DamagedImage;
+use crate::mending::Mended;
+use crate::place::{Place, Repair, block_size};
+use crate::putting::first_sector;
+use crate::seeking::is_there;
+use block_device::BlockDev;
+use tree_path::TreePath;
+
+/// Whether a block was read back with its digest, if it was written.
+pub(crate) fn is_kept<D: BlockDev, H: BlockDev, C: BlockDev>(
+    path: &TreePath,
+    repair: &Repair,
+    place: Place,
+    mended: Mended,
+    image: &mut DamagedImage<D, H, C>,
+    memory: &mut [u8],
+) -> bool
+    requires can { CanRun (job repair.now) image.old }
+    requires inside { place.index < repair.now.shape.blocks }
+    requires way { IsWay (job repair.now).tree place.index place.height path.now }
+    requires room { 65536 ≤ length memory.old }
+    ensures read { IsWorldRead image.old image.new }
+    ensures kept { IsTrue result → IsTrue (was_put repair.now.write mended) → IsGoodNow (job repair.now) place.height place.index image.old }
+    ensures asked { LeavesBack repair.now.shape place.height place.index image.old image.new }
+{
+    if !was_put(mended, repair.write) {
+        return true;
+    }
+    is_read_back(path, repair, place, image, memory)
+}
+
+// Whether a block is read with its digest.
+fn is_read_back<D: BlockDev, H: BlockDev, C: BlockDev>(
+    path: &TreePath,
+    repair: &Repair,
+    place: Place,
+    image: &mut DamagedImage<D, H, C>,
+    memory: &mut [u8],
+) -> bool
+    requires can { CanRun (job repair.now) image.old }
+    requires inside { place.index < repair.now.shape.blocks }
+    requires way { IsWay (job repair.now).tree place.index place.height path.now }
+    requires room { 65536 ≤ length memory.old }
+    ensures read { IsWorldRead image.old image.new }
+    ensures good { IsTrue result → IsGoodNow (job repair.now) place.height place.index image.old }
+    ensures asked { LeavesBack repair.now.shape place.height place.index image.old image.new }
+{
+    let Place { height, index } = place;
+    let size = block_size(&repair.shape, height);
+    let first = first_sector(repair, place);
+    let digest = path.digest_at(height, index);
+    let block = &mut memory[..size];
+    if height == 0 {
+        return is_there(&mut image.data, first, &repair.salt, &digest, block);
+    }
+    is_there(&mut image.hash, first, &repair.salt, &digest, block)
+}
+
+// Whether a block was written of which that came.
+fn was_put(mended: Mended, write: bool) -> bool
+    ensures { result ≡ was_put write mended }
+{
+    match mended {
+        Mended::Good => false,
+        Mended::Copy(_) => write,
+        Mended::Remade => write,
+        Mended::Parity => write,
+        Mended::Lost => false,
+    }
+}
