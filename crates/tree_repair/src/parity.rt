@@ -26,7 +26,7 @@ use fec_area::{Layout, LostBlock, RestoreFault, restore_block};
 use std::alloc::{AllocError, Global};
 use std::io::Write;
 
-/// Whether a hash block came back by parity, and whether all is good by then.
+/// Whether a hash block came back by parity; and of some blocks whether all came back, of a pass whether all of the image is good.
 #[derive(Clone, Copy)]
 pub(crate) struct Came {
     pub(crate) tree: bool,
