@@ -97,8 +97,8 @@ pub record StandsIntact (j : Job) (contents : List (List ℕ)) (v : Visit) (w : 
   pub steady : IsTrue (own v.height w).steady
   pub is : standing_bytes j v.height v.index w ≡ block_of_height j.tree (formed j.tree.shape j.tree.salt contents v.index) v.height
 
--- So a block that stands as the data and its tree were formatted is left alone, unless it couldn't be read just then, which is
--- counted, or two different inputs have one digest.
+-- So a block that stands as the data and its tree were formatted is left alone, unless a call of its device failed just then,
+-- which is counted, or two different inputs have one digest.
 abbrev pub IntactBlocksAreLeftAlone : Type 0
 IntactBlocksAreLeftAlone = (j : Job) → (contents : List (List ℕ)) → AreContents j.tree contents → (visits : List Visit) → (w w' : RepairWorld) → (runs : VisitsAll j visits w w')
     → Throughout j (λ v a b here. StandsIntact j contents v a → IsLeftAlone v a b ⊎ ((unread_visit j v a b here ≡ 1) ⊎ Collide j.tree.salt)) visits w w' runs
