@@ -18,7 +18,7 @@ use Rattle.tree_repair.proofs.OverLemmas.{data-more, hash-more, left-above, left
 -- ---- a block that is read to make another one
 
 module _ (s : ShapeRecord) (valid : IsShape s) (h k : ℕ) (inside : k < count_in s h) where
-  next-here : sectors_over s h (left_of s h (k + 1)) + size_at s h / 512 ≤ sectors_over s h (left_of s h k)
+  pub next-here : sectors_over s h (left_of s h (k + 1)) + size_at s h / 512 ≤ sectors_over s h (left_of s h k)
   next-here = subst (λ (n : ℕ). sectors_over s h n + size_at s h / 512 ≤ sectors_over s h (left_of s h k)) (sym (left-next s h k)) (sectors-next s valid h (left_of s h k) (left-some s valid h k inside))
 
 pub made-data : (s : ShapeRecord) → IsShape s → (h k : ℕ) → h ≡ 0 → k < count_in s h → (w : RepairWorld) (d' : Device) → IsOnlyRead w.data_dev d' → HasReadAtMost w.data_dev (s.data_block / 512) d'

@@ -61,7 +61,7 @@ back-at j l lost b false x y q r (inr behind) =
     let v : Visit = visit b.place.height b.place.index mended.Parity brought.bytes true in
     record {
       visits = v ∷ [];
-      runs = (brought.between, (y, (world-then x behind.between brought.between behind.read brought.read, (brought.visited, world-none y))));
+      runs = (brought.between, (brought.behind, (world-then x behind.between brought.between behind.read brought.read, (brought.visited, brought.read_back))));
       done = All-cons IsDone v [] refl (All-nil IsDone);
       each = All-cons (λ (c : BadBlock). IsBackIn j.tree.shape c (v ∷ [])) b [] (inl (record { height_is = refl; same = refl }, refl)) (All-nil (λ (c : BadBlock). IsBackIn j.tree.shape c (v ∷ [])));
     }

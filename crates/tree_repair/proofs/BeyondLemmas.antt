@@ -21,6 +21,7 @@ use Rattle.tree_repair.specs.Repairs.{job_of}
 use Rattle.tree_repair.specs.Runs.{Job, Visit, VisitsAll, visit}
 use Rattle.tree_repair.specs.Tries.{AreSought, IsBlockUnmade, IsSought, IsSoughtAt, IsTriedBehind, IsUncovered, IsVain, Trial, trial}
 use Rattle.tree_repair.specs.Worlds.{IsWorldRead, RepairWorld}
+use Rattle.tree_repair.proofs.KeepLemmas.{runs-before}
 use Rattle.tree_repair.proofs.RunLemmas.{AreSame, read-same, runs-one, runs-read, runs-same, runs-then, world-none, world-then}
 
 -- ---- devices that can't fail
@@ -77,7 +78,7 @@ tried-visits : (j : Job) (h i : ℕ) (t : Trial) (back : Bool) → IsTriedBehind
 tried-visits j h i t true behind =
     let brought = behind.tried.0 in
     let v : Visit = visit h i mended.Parity brought.bytes true in
-    (v ∷ [], runs-read j (v ∷ []) t.w behind.between t.w' behind.read (runs-read j (v ∷ []) behind.between brought.between t.w' brought.read (runs-one j v brought.between t.w' brought.visited)))
+    (v ∷ [], runs-read j (v ∷ []) t.w behind.between t.w' behind.read (runs-read j (v ∷ []) behind.between brought.between t.w' brought.read (runs-before j (v ∷ []) brought.between brought.behind t.w' (runs-one j v brought.between brought.behind brought.visited) brought.read_back)))
 tried-visits j h i t false behind = ([], world-then t.w behind.between t.w' behind.read behind.tried.0.image)
 
 tried-parity : (j : Job) (h i : ℕ) (t : Trial) (back : Bool) → IsTriedBehind j h i t back → IsOnlyRead t.parity_dev t.parity_dev'

@@ -1,23 +1,54 @@
 -- A block that was written, and is read back.
-use Rattle.std.proofs.Common.{◌≡◌, ◌≤◌, ◌<◌, ◌+◌, ◌-◌, ◌*◌, ◌/◌, ◌^◌, ℕ, zero, suc, false, IsTrue, List, [], ◌∷◌, Option, None, refl, sym, ◌∙◌, ◌++◌, ap, subst, arith, inl, inr, add-one}
+use Rattle.std.proofs.Common.{◌≡◌, ◌≤◌, ◌<◌, ◌+◌, ◌-◌, ◌*◌, ◌/◌, ◌^◌, ℕ, zero, suc, Bool, false, IsTrue, List, [], ◌∷◌, Option, None, refl, sym, ◌∙◌, ◌++◌, ap, subst, arith, inl, inr, add-one}
 use Rattle.block_device.specs.Device.{Device}
 use Rattle.tree_shape.specs.Shape.{ShapeRecord, IsShape, ancestor, level_blocks, per_block}
 use Rattle.tree_shape.proofs.lemmas.ShapeFactLemmas.{ancestor-lt, ancestor-none}
 use Rattle.tree_path.specs.Steps.{HasReadAtMost}
 use Rattle.tree_repair.specs.declared.bad.BadBlock.{BadBlock}
 use Rattle.tree_repair.specs.declared.bad.BadBlocks.{BadBlocks}
-use Rattle.tree_repair.specs.Bills.{Bill, LeavesBack, LeavesChecked, LeavesVisit, checks_over, data_over, hash_over, hash_up_to, left_of, made_over, sectors_over, visits_over}
+use Rattle.tree_repair.specs.Bills.{Bill, LeavesBlock, LeavesChecked, LeavesVisit, LeavesWorld, block_read, checks_over, data_over, hash_over, hash_up_to, left_of, made_over, nothing_due, sectors_over, visits_over}
 use Rattle.tree_repair.specs.Coverage.{IsLookedAt, IsPassedBy}
 use Rattle.tree_repair.specs.Passes.{HasNoted}
 use Rattle.tree_repair.specs.Runs.{HasRun, IsVisited, Job, VisitsAll, Visit, size_at}
 use Rattle.tree_repair.specs.Worlds.{IsWorldRead, RepairWorld, repair_world}
-use Rattle.tree_repair.proofs.AskedLemmas.{made-data, made-hash}
+use Rattle.tree_repair.proofs.AskedLemmas.{next-here}
+use Rattle.tree_path.proofs.lemmas.DeviceLemmas.{only_read-none}
+use Rattle.tree_repair.specs.ParityBounds.{TellsOfHash}
+use Rattle.tree_repair.specs.Remaking.{count_in}
+use Rattle.tree_repair.specs.declared.fault.RepairFault.{RepairFault}
 use Rattle.verity_format.specs.Blocks.{IsOnlyRead}
-use Rattle.tree_repair.proofs.BillLemmas.{leaves-more, leaves-none, leaves-then}
+use Rattle.tree_repair.proofs.BillLemmas.{leaves-end, leaves-more, leaves-none, leaves-read, leaves-then}
 use Rattle.tree_repair.proofs.OverLemmas.{data-more, hash-more, left-next}
 use Rattle.tree_repair.proofs.RunLemmas.{world-then}
 
 -- ---- what it asks
+
+block-back : (s : ShapeRecord) → IsShape s → (h i : ℕ) → i < s.blocks → (w x : RepairWorld) → LeavesWorld (block_read s h) nothing_due w x → LeavesBlock (made_over s h) s h (ancestor s h i) w x
+block-back s valid zero i inside w x read =
+    let k : ℕ = ancestor s zero i in
+    let low : k < count_in s zero = omega (arith, ancestor-none s valid i, inside) in
+    leaves-more (made_over s zero (left_of s zero k)) (made_over s zero (left_of s zero (k + 1))) read
+    (record { data_reads = omega (arith, next-here s valid zero k low); hash_reads = omega arith; data_once = omega arith; hash_once = omega arith })
+block-back s valid (suc l) i inside w x read =
+    let k : ℕ = ancestor s (suc l) i in
+    let low : k < level_blocks s l = subst (λ (n : ℕ). ancestor s n i < level_blocks s l) (add-one l) (ancestor-lt s valid l i inside) in
+    leaves-more (made_over s (suc l) (left_of s (suc l) k)) (made_over s (suc l) (left_of s (suc l) (k + 1))) read
+    (record { data_reads = omega arith; hash_reads = omega (arith, next-here s valid (suc l) k low); data_once = omega arith; hash_once = omega arith })
+
+pub unread : (s : ShapeRecord) (h : ℕ) (w : RepairWorld) → LeavesWorld (block_read s h) nothing_due w w
+unread s h w = leaves-end (leaves-none (block_read s h) w)
+
+pub data-back : (s : ShapeRecord) (h : ℕ) → h ≡ 0 → (w : RepairWorld) (d' : Device) → IsOnlyRead w.data_dev d' → HasReadAtMost w.data_dev (size_at s h / 512) d'
+    → LeavesWorld (block_read s h) nothing_due w (repair_world d' w.hash_dev w.data_copies w.hash_copies)
+data-back s zero none w d' read asked =
+    leaves-read (s.data_block / 512) 0 w (repair_world d' w.hash_dev w.data_copies w.hash_copies) (record { data_read = read; hash_read = only_read-none w.hash_dev }) refl refl asked (omega arith)
+data-back s (suc l) none w d' read asked = absurd (omega (arith, none))
+
+pub hash-back : (s : ShapeRecord) (h l : ℕ) → h ≡ suc l → (w : RepairWorld) (d' : Device) → IsOnlyRead w.hash_dev d' → HasReadAtMost w.hash_dev (size_at s h / 512) d'
+    → LeavesWorld (block_read s h) nothing_due w (repair_world w.data_dev d' w.data_copies w.hash_copies)
+hash-back s zero l some w d' read asked = absurd (omega (arith, some))
+hash-back s (suc m) l some w d' read asked =
+    leaves-read 0 (s.hash_block / 512) w (repair_world w.data_dev d' w.data_copies w.hash_copies) (record { data_read = only_read-none w.data_dev; hash_read = read }) refl refl (omega arith) asked
 
 module _ (s : ShapeRecord) (valid : IsShape s) (h i : ℕ) where
   abbrev at_here : ℕ
@@ -33,11 +64,11 @@ module _ (s : ShapeRecord) (valid : IsShape s) (h i : ℕ) where
   abbrev unchecked : Bill
   unchecked = record (visits_over s h at_behind) { data_reads = sectors_over s zero at_behind + data_over s h at_here; hash_reads = hash_up_to s h at_behind + hash_over s h at_here }
 
-  pub leaves-checked : (w x y : RepairWorld) → LeavesVisit s h i w x → LeavesBack s h i x y → LeavesChecked s h i w y
-  leaves-checked w x y visited back =
+  pub leaves-checked : i < s.blocks → (w x y : RepairWorld) → LeavesVisit s h i w x → LeavesWorld (block_read s h) nothing_due x y → LeavesChecked s h i w y
+  leaves-checked inside w x y visited back =
       leaves-then
       (leaves-more (checks_over s h at_here) unchecked visited (record { data_reads = omega arith; hash_reads = omega arith; data_once = omega arith; hash_once = omega arith }))
-      (leaves-more unchecked (checks_over s h at_behind) back (record { data_reads = omega arith; hash_reads = omega arith; data_once = omega arith; hash_once = omega arith }))
+      (leaves-more unchecked (checks_over s h at_behind) (block-back s valid h i inside x y back) (record { data_reads = omega arith; hash_reads = omega arith; data_once = omega arith; hash_once = omega arith }))
 
   -- it wasn't
   pub leaves-unchecked : (w x : RepairWorld) → LeavesVisit s h i w x → LeavesChecked s h i w x
@@ -50,32 +81,17 @@ module _ (s : ShapeRecord) (valid : IsShape s) (h i : ℕ) where
         hash_once = omega arith;
       })
 
-  pub leaves-unread : (w : RepairWorld) → LeavesBack s h i w w
-  leaves-unread w =
-      leaves-more (made_over s h at_here) (made_over s h at_behind) (leaves-none (made_over s h at_here) w)
-      (record {
-        data_reads = omega (arith, data-more s valid h at_behind at_here fewer-behind);
-        hash_reads = omega (arith, hash-more s valid h at_behind at_here fewer-behind);
-        data_once = omega arith;
-        hash_once = omega arith;
-      })
-
-pub back-data : (s : ShapeRecord) → IsShape s → (h i : ℕ) → h ≡ 0 → i < s.blocks → (w : RepairWorld) (d' : Device) → IsOnlyRead w.data_dev d' → HasReadAtMost w.data_dev (size_at s h / 512) d'
-    → LeavesBack s h i w (repair_world d' w.hash_dev w.data_copies w.hash_copies)
-back-data s valid zero i none inside w d' read asked = made-data s valid 0 (ancestor s 0 i) refl (omega (arith, ancestor-none s valid i, inside)) w d' read asked
-back-data s valid (suc l) i none inside w d' read asked = absurd (omega (arith, none))
-
-pub back-hash : (s : ShapeRecord) → IsShape s → (h l i : ℕ) → h ≡ suc l → i < s.blocks → (w : RepairWorld) (d' : Device) → IsOnlyRead w.hash_dev d' → HasReadAtMost w.hash_dev (size_at s h / 512) d'
-    → LeavesBack s h i w (repair_world w.data_dev d' w.data_copies w.hash_copies)
-back-hash s valid zero l i some inside w d' read asked = absurd (omega (arith, some))
-back-hash s valid (suc m) l i some inside w d' read asked =
-    made-hash s valid (suc m) m (ancestor s (suc m) i) refl (subst (λ (n : ℕ). ancestor s n i < level_blocks s m) (add-one m) (ancestor-lt s valid m i inside)) w d' read asked
-
 -- ---- a run, and a reading behind it
 
-runs-before : (j : Job) (vs : List Visit) (a b c : RepairWorld) → VisitsAll j vs a b → IsWorldRead b c → VisitsAll j vs a c
+pub runs-before : (j : Job) (vs : List Visit) (a b c : RepairWorld) → VisitsAll j vs a b → IsWorldRead b c → VisitsAll j vs a c
 runs-before j [] a b c runs read = world-then a b c runs read
 runs-before j (v ∷ more) a b c (x, (y, (before, (here, rest)))) read = (x, (y, (before, (here, runs-before j more y b c rest read))))
+
+abbrev pub has-kept : {j : Job} {a b c : RepairWorld} {old new : Option (List ℕ)} {fault : Option RepairFault} → HasRun j a b old new fault → IsWorldRead b c → HasRun j a c old new fault
+has-kept {j} {a} {b} {c} run read = record { visits = run.visits; runs = runs-before j run.visits a b c run.runs read; done = run.done; printed = run.printed; cause = run.cause }
+
+pub tells-kept : {j : Job} {h : ℕ} {a b c : RepairWorld} {old new : Option (List ℕ)} {fault : Option RepairFault} {told : Bool} → TellsOfHash j h a b old new fault told → IsWorldRead b c → TellsOfHash j h a c old new fault told
+tells-kept tells read = record { run = has-kept tells.run read; came = tells.came }
 
 looked-kept : (j : Job) (h i : ℕ) (vs : List Visit) (a b c : RepairWorld) → IsLookedAt j h i vs a b → IsWorldRead b c → IsLookedAt j h i vs a c
 looked-kept j h i vs a b c (inl seen) read = inl seen
@@ -96,7 +112,7 @@ looked-kept j h i vs a b c (inr by) read = inr (record {
 pub noted-kept : {j : Job} {Due : ℕ → ℕ → Type 0} {w x y : RepairWorld} {old new : Option (List ℕ)} {a b c : BadBlocks} → HasNoted j Due w x old new a b None → IsWorldRead x y → c.asked ≡ b.asked → c.blocks.items ≡ b.blocks.items
     → (c.any ≡ false → b.any ≡ false) → c.passed ≡ b.passed → HasNoted j Due w y old new a c None
 noted-kept {j} {Due} {w} {x} {y} {old} {new} {a} {b} {c} p read asked blocks any passed = record {
-  run = record { visits = p.run.visits; runs = runs-before j p.run.visits w x y p.run.runs read; done = p.run.done; printed = p.run.printed; cause = p.run.cause };
+  run = has-kept p.run read;
   asked = asked ∙ p.asked;
   noted = λ end on. blocks ∙ p.noted end on;
   looked = λ end h i due. looked-kept j h i p.run.visits w x y (p.looked end h i due) read;

@@ -24,6 +24,7 @@ use Rattle.tree_repair.specs.WithinParity.{FormerImage, HasTreeSizes, IsAsFormed
 use Rattle.tree_repair.specs.Worlds.{IsWorldRead, RepairWorld}
 use Rattle.tree_repair.proofs.NumberLemmas.{covered-one, off-not}
 use Rattle.tree_repair.proofs.RecordedLemmas.{beside-formed, formed-on, had-formed}
+use Rattle.tree_repair.proofs.KeepLemmas.{runs-before}
 use Rattle.tree_repair.proofs.RunLemmas.{read-same, runs-one, runs-read, runs-same}
 use Rattle.tree_repair.proofs.SoughtLemmas.{all-run}
 use Rattle.tree_repair.proofs.StandLemmas.{IsReady}
@@ -35,7 +36,7 @@ use Rattle.tree_repair.proofs.WithinParityLemmas.{HoldsParity, holds-first, hold
 back-run : (j : Job) (h beside : ℕ) (a b : RepairWorld) → IsBroughtBack j h beside a b → (us : List Visit) × VisitsAll j us a b
 back-run j h beside a b back =
     let v : Visit = visit h beside mended.Parity back.bytes true in
-    (v ∷ [], runs-read j (v ∷ []) a back.between b back.read (runs-one j v back.between b back.visited))
+    (v ∷ [], runs-read j (v ∷ []) a back.between b back.read (runs-before j (v ∷ []) back.between back.behind b (runs-one j v back.between back.behind back.visited) back.read_back))
 
 module _ (form : FormedChainsAreGood) (j : Job) (valid : IsShape j.tree.shape) (write : j.write ≡ true) (f : FormerImage) (former : IsFormerOf j.tree f) (l : Layout) (fits : HasTreeSizes j.tree.shape l) where
   module _ (h i k : ℕ) (at : IsCoveredAt j.tree.shape l h i k) where
@@ -47,7 +48,12 @@ module _ (form : FormedChainsAreGood) (j : Job) (valid : IsShape j.tree.shape) (
         let sure_then : IsSure back.between = sure-same a back.between (read-same a back.between back.read) sure in
         let ready_then : IsReady j.tree.shape back.between =
         ready-same j.tree.shape a back.between (read-same a back.between back.read) (read-images j.tree.shape a back.between back.read ready) ready in
-        beside-formed form j valid f former l fits b h i h beside k at refl same (visit-stands j valid v back.between b back.visited sure_then ready_then write refl tt)
+        let ready_behind : IsReady j.tree.shape back.behind =
+        runs-ready-sure j valid (v ∷ []) back.between back.behind (runs-one j v back.between back.behind back.visited) sure_then ready_then in
+        elim (beside-formed form j valid f former l fits back.behind h i h beside k at refl same (visit-stands j valid v back.between back.behind back.visited sure_then ready_then write refl tt)) [
+          | inr clash ↦ inr clash
+          | inl is ↦ inl (covered-same l back.behind b k (read-images j.tree.shape back.behind b back.read_back ready_behind) ∙ is)
+        ]
 
     -- so is one that stands there by now
     by-now-formed : (beside : ℕ) (a b : RepairWorld) → ancestor j.tree.shape h beside ≡ ancestor j.tree.shape h i → IsWorldRead a b → IsGoodBehind j h beside a

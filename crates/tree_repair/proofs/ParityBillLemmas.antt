@@ -1,5 +1,5 @@
 -- What a repair with parity asks of the devices, step by step.
-use Rattle.std.proofs.Common.{◌≡◌, ◌≤◌, ◌+◌, ◌-◌, ◌*◌, ◌/◌, ℕ, suc, Bool, List, sym, ap, ◌∙◌, arith}
+use Rattle.std.proofs.Common.{◌≡◌, ◌≤◌, ◌+◌, ◌-◌, ◌*◌, ◌/◌, ℕ, zero, suc, Bool, List, sym, ap, ◌∙◌, arith}
 use Rattle.std.proofs.Math.Nat.{mul-le-mul_right}
 use Rattle.block_device.specs.Device.{Device}
 use Rattle.fec_area.specs.declared.layout.Layout.{Layout}
@@ -9,9 +9,10 @@ use Rattle.fec_area.proofs.lemmas.KeptLemmas.{kept_data-few, kept_hash-few}
 use Rattle.tree_shape.specs.Shape.{ShapeRecord, levels}
 use Rattle.verity_format.specs.Blocks.{AreOnlyRead, IsOnlyRead}
 use Rattle.verity_format.specs.Image.{data_sectors}
-use Rattle.tree_repair.specs.Bills.{Bill, LeavesWorld, nothing_due, pass_over, reading}
+use Rattle.tree_repair.specs.Bills.{Bill, LeavesWorld, block_read, nothing_due, pass_over, reading}
 use Rattle.tree_repair.specs.Bounds.{AreReadAtMost, area_block_sectors}
-use Rattle.tree_repair.specs.ParityBounds.{IsAskedWithin, IsReplacedOnce, ParityBill, along_bill, parity_bill, put_bill, round_bill}
+use Rattle.tree_repair.specs.ParityBounds.{IsAskedAlone, IsAskedWithin, IsReplacedOnce, ParityBill, along_bill, kept_bill, parity_bill, put_bill, round_bill}
+use Rattle.tree_repair.specs.Runs.{size_at}
 use Rattle.tree_repair.specs.Worlds.{RepairWorld, repair_world}
 use Rattle.tree_repair.proofs.BillLemmas.{at_most-left, at_most-none}
 
@@ -118,6 +119,19 @@ asked-hash n d d' e cs es p once = record {
   hash_copies = at_most-none es 0;
 }
 
+-- a block that was put isn't read back, or is
+pub put-unread : {n : ℕ} {w x : RepairWorld} {p q : Device} → IsAskedWithin (put_bill n) w x p q → IsAskedWithin (kept_bill n) w x p q
+put-unread {n} asked =
+    asked-more (kept_bill n) asked (record { data_reads = omega arith; hash_reads = omega arith; parity_reads = omega arith; data_writes = omega arith; hash_writes = omega arith; data_sought = omega arith; hash_sought = omega arith })
+
+pub put-read : (s : ShapeRecord) (h : ℕ) (w x y : RepairWorld) → IsAskedAlone (put_bill (size_at s h / 512)) w x → LeavesWorld (block_read s h) nothing_due x y → IsAskedAlone (kept_bill (size_at s h / 512)) w y
+put-read s zero w x y put read = λ p.
+    asked-more (kept_bill (s.data_block / 512)) (asked-then (put p) (asked-leaves read p))
+    (record { data_reads = omega arith; hash_reads = omega arith; parity_reads = omega arith; data_writes = omega arith; hash_writes = omega arith; data_sought = omega arith; hash_sought = omega arith })
+put-read s (suc l) w x y put read = λ p.
+    asked-more (kept_bill (s.hash_block / 512)) (asked-then (put p) (asked-leaves read p))
+    (record { data_reads = omega arith; hash_reads = omega arith; parity_reads = omega arith; data_writes = omega arith; hash_writes = omega arith; data_sought = omega arith; hash_sought = omega arith })
+
 -- ---- a block that is sought by parity
 
 -- the others of its round and the parity, whether the call ended well or not
@@ -138,18 +152,18 @@ asked-round l valid lost index ok w d' h' p p' read parity asked =
       hash_copies = at_most-none w.hash_copies 0;
     }
 
-one-more : (r k : ℕ) → r ≤ 24 → (255 - r) * k + k ≡ (256 - r) * k
-one-more r k few =
-    let next : 256 - r ≡ suc (255 - r) = omega (arith, few) in
-    let parts : suc (255 - r) * k ≡ (255 - r) * k + k = grind arith in
+two-more : (r k : ℕ) → r ≤ 24 → (255 - r) * k + (k + k) ≡ (257 - r) * k
+two-more r k few =
+    let next : 257 - r ≡ suc (suc (255 - r)) = omega (arith, few) in
+    let parts : suc (suc (255 - r)) * k ≡ (255 - r) * k + (k + k) = grind arith in
     sym (ap (λ (n : ℕ). n * k) next ∙ parts)
 
 -- and then the block itself
-pub asked-along : {w x y : RepairWorld} {p q r : Device} (l : Layout) → IsLayout l → (n : ℕ) → l.block ≡ n → IsAskedWithin (round_bill l) w x p q → IsAskedWithin (put_bill (n / 512)) x y q r → IsAskedWithin (along_bill l) w y p r
+pub asked-along : {w x y : RepairWorld} {p q r : Device} (l : Layout) → IsLayout l → (n : ℕ) → l.block ≡ n → IsAskedWithin (round_bill l) w x p q → IsAskedWithin (kept_bill (n / 512)) x y q r → IsAskedWithin (along_bill l) w y p r
 asked-along l valid n same first last =
     let k : ℕ = l.block / 512 in
     let size : k ≡ n / 512 = ap (λ (m : ℕ). m / 512) same in
-    let sum : (255 - l.roots) * k + k ≡ (256 - l.roots) * k = one-more l.roots k valid.few in
+    let sum : (255 - l.roots) * k + (k + k) ≡ (257 - l.roots) * k = two-more l.roots k valid.few in
     asked-more (along_bill l) (asked-then first last) (record {
       data_reads = omega (arith, sum, size);
       hash_reads = omega (arith, sum, size);
@@ -163,7 +177,7 @@ asked-along l valid n same first last =
 -- it wasn't put
 pub asked-round_alone : {w x : RepairWorld} {p q : Device} (l : Layout) → IsLayout l → IsAskedWithin (round_bill l) w x p q → IsAskedWithin (along_bill l) w x p q
 asked-round_alone l valid first =
-    let sum : (255 - l.roots) * (l.block / 512) + l.block / 512 ≡ (256 - l.roots) * (l.block / 512) = one-more l.roots (l.block / 512) valid.few in
+    let sum : (255 - l.roots) * (l.block / 512) + (l.block / 512 + l.block / 512) ≡ (257 - l.roots) * (l.block / 512) = two-more l.roots (l.block / 512) valid.few in
     asked-more (along_bill l) first (record {
       data_reads = omega (arith, sum);
       hash_reads = omega (arith, sum);
@@ -195,7 +209,7 @@ module _ (s : ShapeRecord) (l : Layout) where
   way_reads = levels s * (s.hash_block / 512)
 
   abbrev around_reads : ℕ
-  around_reads = (256 - l.roots) * (l.block / 512)
+  around_reads = (257 - l.roots) * (l.block / 512)
 
   pub work-then : {w x y : RepairWorld} {p q r : Device} (u v t a b c m n k : ℕ) → u + v ≡ t → a + b ≡ c → m + n ≡ k
       → IsAskedWithin (parity_bill s l u a m) w x p q → IsAskedWithin (parity_bill s l v b n) x y q r → IsAskedWithin (parity_bill s l t c k) w y p r

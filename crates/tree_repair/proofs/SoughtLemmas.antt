@@ -11,6 +11,7 @@ use Rattle.tree_repair.specs.Runs.{Job, Visit, VisitsAll, visit}
 use Rattle.tree_repair.specs.Tries.{AreSought, IsSought, IsSoughtAt, IsTriedBehind, Trial, trial}
 use Rattle.tree_repair.specs.Worlds.{IsWorldRead, RepairWorld}
 use Rattle.tree_repair.proofs.RecordedLemmas.{IsRecordedAt, IsRecordedIn}
+use Rattle.tree_repair.proofs.KeepLemmas.{runs-before}
 use Rattle.tree_repair.proofs.RunLemmas.{runs-one, runs-read, runs-then, world-none, world-then}
 
 -- ---- what is visited, and what is read of the parity
@@ -19,7 +20,7 @@ tried-run : (j : Job) (h i : ℕ) (t : Trial) (back : Bool) → IsTriedBehind j 
 tried-run j h i t true behind =
     let brought = behind.tried.0 in
     let v : Visit = visit h i mended.Parity brought.bytes true in
-    ((v ∷ [], runs-read j (v ∷ []) t.w behind.between t.w' behind.read (runs-read j (v ∷ []) behind.between brought.between t.w' brought.read (runs-one j v brought.between t.w' brought.visited))), behind.tried.1)
+    ((v ∷ [], runs-read j (v ∷ []) t.w behind.between t.w' behind.read (runs-read j (v ∷ []) behind.between brought.between t.w' brought.read (runs-before j (v ∷ []) brought.between brought.behind t.w' (runs-one j v brought.between brought.behind brought.visited) brought.read_back))), behind.tried.1)
 tried-run j h i t false behind = (([], world-then t.w behind.between t.w' behind.read behind.tried.0.image), behind.tried.0.parity)
 
 sought-run : (j : Job) (h i : ℕ) (t : Trial) (found back : Bool) → IsSoughtAt j h i t found back → ((us : List Visit) × VisitsAll j us t.w t.w') × IsOnlyRead t.parity_dev t.parity_dev'

@@ -13,7 +13,7 @@ use Rattle.tree_shape.specs.Shape.{ShapeRecord}
 use Rattle.tree_path.specs.Path.{PathRecord, digest_on}
 use Rattle.tree_path.proofs.lemmas.PathLemmas.{is_same-cases}
 use Rattle.tree_repair.specs.declared.bad.BadBlock.{BadBlock}
-use Rattle.tree_repair.specs.Parity.{IsCoveredAt, IsPlaced}
+use Rattle.tree_repair.specs.Parity.{IsCoveredAt, IsPlacedAndRead}
 use Rattle.tree_repair.specs.Runs.{Job}
 use Rattle.tree_repair.specs.Tries.{AreCovered, AreSought, IsCoveredOr, IsMadeOrVain, IsSought, IsSoughtAt, IsTried, Trial, is_hash_back, listed_number, trial}
 use Rattle.tree_repair.specs.Worlds.{IsWorldRead, RepairWorld}
@@ -28,9 +28,9 @@ made-or j p h i t k bytes true at made is = tt
 made-or j p h i t k bytes false at made is = λ place. inr (k, (at, inr (record { bytes = bytes; other = is_same-cases (digest j.tree.salt bytes) (digest_on p i h) false is; made = made })))
 
 -- what was put came back, or stands there
-pub tried-placed : {E : Type 0} (j : Job) (h i : ℕ) (l : Layout) (lost : List ℕ) (w a w' : RepairWorld) (p p' : Device) (bytes : List ℕ) (r : Result Bool E) → IsWorldRead w a → IsOnlyRead p p' → IfOk r (IsPlaced j h i bytes a w')
+pub tried-placed : {E : Type 0} (j : Job) (h i : ℕ) (l : Layout) (lost : List ℕ) (w a w' : RepairWorld) (p p' : Device) (bytes : List ℕ) (r : Result Bool E) → IsWorldRead w a → IsOnlyRead p p' → IfOk r (IsPlacedAndRead j h i bytes a w')
     → IfOk r (IsTried j h i (trial l lost w w' p p'))
-tried-placed j h i l lost w a w' p p' bytes (Ok true) read parity placed = (record { between = a; read = read; bytes = bytes; visited = placed }, parity)
+tried-placed j h i l lost w a w' p p' bytes (Ok true) read parity placed = (record { between = a; read = read; bytes = bytes; behind = placed.0; visited = placed.1.0; read_back = placed.1.1 }, parity)
 tried-placed j h i l lost w a w' p p' bytes (Ok false) read parity placed =
     (record { image = world-then w a w' read placed.0; parity = parity }, inr (record { between = a; read = read; good = placed.1 }))
 tried-placed j h i l lost w a w' p p' bytes (Err e) read parity placed = tt

@@ -114,6 +114,11 @@ row_reads s row = reading (data_over s row.height (row.end - row.first)) 0
 abbrev pub ReadsData : {D : Type 0} → (D → Device) → ShapeRecord → ℕ → D → D → Type 0
 ReadsData state s n old new = HasReadAtMost (state old) (n * (s.data_block / 512)) (state new)
 
+-- a block of a height is read
+abbrev pub block_read : ShapeRecord → ℕ → Bill
+block_read s zero = reading (s.data_block / 512) 0
+block_read s (suc l) = reading 0 (s.hash_block / 512)
+
 -- a pass over all heights
 abbrev pub pass_over : ShapeRecord → Bill
 pass_over s = record { data_reads = (levels s + 3) * data_sectors s; hash_reads = (2 * levels s + 1) * area_block_sectors s; data_once = data_sectors s; hash_once = area_block_sectors s }
@@ -141,11 +146,7 @@ LeavesMade s m w w' = LeavesBlock (made_over s m.from) s (m.from + m.steps) m.nu
 abbrev pub LeavesVisit : ShapeRecord → ℕ → ℕ → RepairWorld → RepairWorld → Type 0
 LeavesVisit s h i w w' = LeavesBlock (visits_over s h) s h (ancestor s h i) w w'
 
--- the block above data block i is read back, if anything of it was written
-abbrev pub LeavesBack : ShapeRecord → ℕ → ℕ → RepairWorld → RepairWorld → Type 0
-LeavesBack s h i w w' = LeavesBlock (made_over s h) s h (ancestor s h i) w w'
-
--- and it was visited before
+-- and where it was written it is read back
 abbrev pub LeavesChecked : ShapeRecord → ℕ → ℕ → RepairWorld → RepairWorld → Type 0
 LeavesChecked s h i w w' = LeavesBlock (checks_over s h) s h (ancestor s h i) w w'
 

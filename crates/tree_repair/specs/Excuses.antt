@@ -1,4 +1,4 @@
--- Blocks that were taken for bad because they couldn't be read, and the failures that their devices count for them.
+-- Blocks that were taken for bad because a call of their device failed just then, and the failures that the devices count for them.
 use Rattle.std.specs.Prelude.{◌≡◌, ◌≢◌, ◌⊎◌, ℕ, zero, suc, ◌+◌, ◌-◌, ◌^◌, ◌<◌, ◌≤◌, Bool, IsTrue, List, [], ◌∷◌}
 use mathlib.Core.Logic.{inl, inr}
 use Rattle.block_device.specs.Device.{Device}
@@ -27,7 +27,7 @@ abbrev pub first_counts : {A B : Type 0} → A ⊎ B → ℕ
 first_counts (inl a) = 1
 first_counts (inr b) = 0
 
--- 1 where a block was taken for bad because it couldn't be read, else 0: it is good, or other bytes were read there
+-- 1 where a block was taken for bad because a call of its device failed just then, else 0: it is good, or other bytes were read there
 abbrev pub unread_look : (l : Look) → (bytes : List ℕ) → (done : Bool) → (m : Mended) → IsMended l bytes done m → ℕ
 unread_look l bytes done mended.Good found = 0
 unread_look l bytes done (mended.Copy k) found = first_counts found.bad
@@ -47,7 +47,7 @@ abbrev pub if_hash : ℕ → ℕ → ℕ
 if_hash zero n = 0
 if_hash (suc l) n = n
 
--- so many data blocks of a run, and so many hash blocks, were taken for bad because they couldn't be read
+-- so many data blocks of a run, and so many hash blocks, were taken for bad because a call of their device failed just then
 abbrev pub unread_data : (j : Job) → (visits : List Visit) → (w w' : RepairWorld) → VisitsAll j visits w w' → ℕ
 unread_data j [] w w' runs = 0
 unread_data j (v ∷ more) w w' (a, (b, (read, (here, rest)))) = if_data v.height (unread_visit j v a b here) + unread_data j more b w' rest
@@ -87,7 +87,7 @@ pub record StoodBad (j : Job) (v : Visit) (w : RepairWorld) : Type 0 where
 abbrev pub IsTreatedRightly : Job → Visit → RepairWorld → RepairWorld → Type 0
 IsTreatedRightly j v w w' = IsLeftAlone v w w' ⊎ StoodBad j v w
 
--- A block that isn't left alone couldn't be read just then, which is counted, or wasn't good.
+-- Of a block that isn't left alone a call of its device failed just then, which is counted, or it wasn't good.
 abbrev pub BlocksAreTouchedForCause : Type 0
 BlocksAreTouchedForCause = (j : Job) → (visits : List Visit) → (w w' : RepairWorld) → (runs : VisitsAll j visits w w')
     → Throughout j (λ v a b here. (unread_visit j v a b here ≡ 1) ⊎ IsTreatedRightly j v a b) visits w w' runs
@@ -97,8 +97,8 @@ pub record StandsIntact (j : Job) (contents : List (List ℕ)) (v : Visit) (w : 
   pub steady : IsTrue (own v.height w).steady
   pub is : standing_bytes j v.height v.index w ≡ block_of_height j.tree (formed j.tree.shape j.tree.salt contents v.index) v.height
 
--- So a block that stands as the data and its tree were formatted is left alone, unless it couldn't be read just then, which is
--- counted, or two different inputs have one digest.
+-- So a block that stands as the data and its tree were formatted is left alone, unless a call of its device failed just then,
+-- which is counted, or two different inputs have one digest.
 abbrev pub IntactBlocksAreLeftAlone : Type 0
 IntactBlocksAreLeftAlone = (j : Job) → (contents : List (List ℕ)) → AreContents j.tree contents → (visits : List Visit) → (w w' : RepairWorld) → (runs : VisitsAll j visits w w')
     → Throughout j (λ v a b here. StandsIntact j contents v a → IsLeftAlone v a b ⊎ ((unread_visit j v a b here ≡ 1) ⊎ Collide j.tree.salt)) visits w w' runs

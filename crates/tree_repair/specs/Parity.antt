@@ -58,6 +58,11 @@ abbrev pub IsPlaced : Job → ℕ → ℕ → List ℕ → RepairWorld → Repai
 IsPlaced j h i bytes w w' true = IsVisited j (visit h i mended.Parity bytes true) w w'
 IsPlaced j h i bytes w w' false = IsWorldRead w w' × IsGoodNow j h i w
 
+-- and where it was put, all was only read behind that
+abbrev pub IsPlacedAndRead : Job → ℕ → ℕ → List ℕ → RepairWorld → RepairWorld → Bool → Type 0
+IsPlacedAndRead j h i bytes w w' true = (x : RepairWorld) × (IsVisited j (visit h i mended.Parity bytes true) w x × IsWorldRead x w')
+IsPlacedAndRead j h i bytes w w' false = IsWorldRead w w' × IsGoodNow j h i w
+
 -- it wasn't good, but can't be written
 abbrev pub FailsToPlace : Job → ℕ → ℕ → List ℕ → RepairWorld → RepairWorld → Type 0
 FailsToPlace j h i bytes w w' = IsVisited j (visit h i mended.Parity bytes false) w w'

@@ -47,12 +47,12 @@ pub record IsAskedWithin (b : ParityBill) (w w' : RepairWorld) (p p' : Device) :
   pub hash_copies : AreReadAtMost w.hash_copies b.hash_sought w'.hash_copies
 
 -- So many superblocks are read, so many passes made, and so many blocks sought by parity. For a sought block the way to it is
--- read on the hash device, of each device no more than the other blocks of its round and then the block itself, and of the
--- parity that of the round; and the block may be written.
+-- read on the hash device, of each device no more than the other blocks of its round and then the block itself, once more to read
+-- it back, and of the parity that of the round; and the block may be written.
 abbrev pub parity_bill : ShapeRecord → Layout → ℕ → ℕ → ℕ → ParityBill
 parity_bill s l superblocks passes sought = record {
-  data_reads = passes * ((levels s + 3) * data_sectors s) + sought * ((256 - l.roots) * (l.block / 512));
-  hash_reads = superblocks + passes * ((2 * levels s + 1) * area_block_sectors s) + sought * (levels s * (s.hash_block / 512) + (256 - l.roots) * (l.block / 512));
+  data_reads = passes * ((levels s + 3) * data_sectors s) + sought * ((257 - l.roots) * (l.block / 512));
+  hash_reads = superblocks + passes * ((2 * levels s + 1) * area_block_sectors s) + sought * (levels s * (s.hash_block / 512) + (257 - l.roots) * (l.block / 512));
   parity_reads = sought * (l.roots * (l.block / 512));
   data_writes = passes * data_sectors s + sought * (l.block / 512);
   hash_writes = passes * area_block_sectors s + sought * (l.block / 512);
@@ -71,8 +71,13 @@ pub record IsReplacedOnce (n : ℕ) (old new : Device) : Type 0 where
   pub reads : HasReadAtMost old n new
   pub writes : HasWrittenAtMost old n new
 
+-- the same of a block of an image
 abbrev pub put_bill : ℕ → ParityBill
 put_bill n = record { data_reads = n; hash_reads = n; parity_reads = 0; data_writes = n; hash_writes = n; data_sought = 0; hash_sought = 0 }
+
+-- and then it was read back
+abbrev pub kept_bill : ℕ → ParityBill
+kept_bill n = record (put_bill n) { data_reads = n + n; hash_reads = n + n }
 
 -- the other blocks of a round were read, and their parity
 abbrev pub round_bill : Layout → ParityBill
@@ -89,8 +94,8 @@ round_bill l = record {
 -- both
 abbrev pub along_bill : Layout → ParityBill
 along_bill l = record {
-  data_reads = (256 - l.roots) * (l.block / 512);
-  hash_reads = (256 - l.roots) * (l.block / 512);
+  data_reads = (257 - l.roots) * (l.block / 512);
+  hash_reads = (257 - l.roots) * (l.block / 512);
   parity_reads = l.roots * (l.block / 512);
   data_writes = l.block / 512;
   hash_writes = l.block / 512;

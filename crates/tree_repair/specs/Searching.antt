@@ -14,7 +14,7 @@ use Rattle.tree_repair.specs.declared.place.Repair.{Repair}
 use Rattle.tree_repair.specs.declared.putting.Missing.{Missing}
 use Rattle.tree_repair.specs.Jobs.{AreGoodAt, job}
 use Rattle.tree_repair.specs.Mending.{IsBlockReplaced}
-use Rattle.tree_repair.specs.Parity.{FailsToPlace, IsNotBack, IsPlace, IsPlaced, IsPutOr}
+use Rattle.tree_repair.specs.Parity.{FailsToPlace, IsNotBack, IsPlace, IsPlaced, IsPlacedAndRead, IsPutOr}
 use Rattle.tree_repair.specs.ParityBounds.{IsAskedWithin, IsMadeWithin, ParityBill, RunsInAll, RunsInOne, TellsBack, parity_bill, sought_among, tries_of}
 use Rattle.tree_repair.specs.Passes.{EndsInPass, IsPass}
 use Rattle.tree_repair.specs.Runs.{size_at}
@@ -87,6 +87,10 @@ MakesMissing state m l w w' old new result = IfOk result (IsMadeOrVain (job m.re
 -- its bytes are put where it isn't good
 abbrev pub IsMissingPut : Missing → List ℕ → RepairWorld → RepairWorld → Bool → Type 0
 IsMissingPut m bytes w w' put = IsPlaced (job m.repair.now) m.place.height m.place.index bytes w w' put
+
+-- and read back
+abbrev pub IsMissingRead : Missing → List ℕ → RepairWorld → RepairWorld → Bool → Type 0
+IsMissingRead m bytes w w' put = IsPlacedAndRead (job m.repair.now) m.place.height m.place.index bytes w w' put
 
 -- or they can't be
 abbrev pub FailsToPutMissing : Missing → List ℕ → RepairWorld → RepairWorld → Type 0

@@ -97,12 +97,14 @@ abbrev pub IsMadeOrVain : Job → PathRecord → ℕ → ℕ → Trial → Bool 
 IsMadeOrVain j p h i t true = Unit {0}
 IsMadeOrVain j p h i t false = IsPlace j.tree.shape h i → IsVain j p h i t
 
--- it came back
+-- it came back, and all was only read behind that
 pub record IsBroughtBack (j : Job) (h i : ℕ) (w w' : RepairWorld) : Type 0 where
   pub between : RepairWorld
   pub read : IsWorldRead w between
   pub bytes : List ℕ
-  pub visited : IsVisited j (visit h i mended.Parity bytes true) between w'
+  pub behind : RepairWorld
+  pub visited : IsVisited j (visit h i mended.Parity bytes true) between behind
+  pub read_back : IsWorldRead behind w'
 
 -- parity hasn't it
 pub record IsVainAlong (j : Job) (h i : ℕ) (t : Trial) : Type 0 where

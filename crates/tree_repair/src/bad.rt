@@ -13,13 +13,15 @@ pub(crate) struct BadBlock {
     pub(crate) found: bool,
 }
 
-/// The blocks that aren't good behind a pass, if anyone asks for them; whether there are any; and whether some were passed by.
+/// The blocks that aren't good behind a pass, if anyone asks for them; whether there are any; whether some were passed by; and
+/// whether some were written and not read back, which aren't among the blocks.
 #[derive(Drop)]
 pub(crate) struct BadBlocks {
     asked: bool,
     blocks: Vec<BadBlock>,
     any: bool,
     passed: bool,
+    unkept: bool,
 }
 
 impl BadBlocks {
@@ -33,6 +35,7 @@ impl BadBlocks {
             blocks: Vec::new(alloc),
             any: false,
             passed: false,
+            unkept: false,
         }
     }
 
@@ -48,6 +51,7 @@ impl BadBlocks {
         ensures few { OnOk result (length self.new.blocks.items ≤ length self.old.blocks.items + 1) }
         ensures any { OnOk result (self.new.any ≡ false → IsGoodBefore self.old (found_of write mended)) }
         ensures passed { self.new.passed ≡ self.old.passed }
+        ensures unkept { self.new.unkept ≡ self.old.unkept }
     {
         match found_of(mended, write) {
             None => Ok(()),
@@ -62,6 +66,7 @@ impl BadBlocks {
         ensures few { OnOk result (length self.new.blocks.items ≤ length self.old.blocks.items + 1) }
         ensures any { self.new.any ≡ true }
         ensures passed { self.new.passed ≡ self.old.passed }
+        ensures unkept { self.new.unkept ≡ self.old.unkept }
     {
         self.any = true;
         if !self.asked {
@@ -70,16 +75,18 @@ impl BadBlocks {
         Ok(self.blocks.push(block)?)
     }
 
-    /// Notes of a block that was written whether it was read back: if not, it isn't known to be good.
+    /// Notes of a block whether it was read back, if it was written. If not, it isn't known to be good.
     pub(crate) fn keep(&mut self, kept: bool)
         ensures asked { self.new.asked ≡ self.old.asked }
         ensures blocks { self.new.blocks.items ≡ self.old.blocks.items }
         ensures any { self.new.any ≡ false → self.old.any ≡ false }
         ensures kept { self.new.any ≡ false → IsTrue kept }
+        ensures unkept { self.new.unkept ≡ false → (self.old.unkept ≡ false) × IsTrue kept }
         ensures passed { self.new.passed ≡ self.old.passed }
     {
         if !kept {
             self.any = true;
+            self.unkept = true;
         }
     }
 
@@ -91,13 +98,14 @@ impl BadBlocks {
     }
 
     /// Whether all of an image is good behind a pass, where this says whether all that were noted came back since, and whether
-    /// anything may be written.
+    /// anything may be written. If nothing may, what came back is only repairable, so that none may have been noted.
     pub(crate) fn is_whole(&self, back: bool, write: bool) -> bool
         ensures passed { IsTrue result → self.now.passed ≡ false }
+        ensures unkept { IsTrue result → self.now.unkept ≡ false }
         ensures back { IsTrue result → IsTrue back }
         ensures any { IsTrue result → write ≡ false → self.now.any ≡ false }
     {
-        if self.passed || !back {
+        if self.passed || self.unkept || !back {
             return false;
         }
         write || !self.any

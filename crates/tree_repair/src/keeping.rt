@@ -1,11 +1,11 @@
 //! Blocks that were written, read back.
-ghost use Rattle.std.specs.Prelude.{◌≡◌, ◌≤◌, ◌<◌, IsTrue, length};
+ghost use Rattle.std.specs.Prelude.{◌≡◌, ◌≤◌, ◌<◌, ◌&&◌, IsTrue, length};
 ghost use Rattle.tree_survey.specs.Surveys.{IsWay};
-ghost use Rattle.tree_repair.specs.Bills.{LeavesBack};
+ghost use Rattle.tree_repair.specs.Bills.{LeavesWorld, block_read, nothing_due};
 ghost use Rattle.tree_repair.specs.Jobs.{job};
 ghost use Rattle.tree_repair.specs.Noting.{was_put};
 ghost use Rattle.tree_repair.specs.Parity.{IsGoodNow};
-ghost use Rattle.tree_repair.specs.Runs.{CanRun};
+ghost use Rattle.tree_repair.specs.Runs.{CanRun, size_at};
 ghost use Rattle.tree_repair.specs.Worlds.{IsWorldRead};
 
 use crate::image::DamagedImage;
@@ -28,10 +28,10 @@ pub(crate) fn is_kept<D: BlockDev, H: BlockDev, C: BlockDev>(
     requires can { CanRun (job repair.now) image.old }
     requires inside { place.index < repair.now.shape.blocks }
     requires way { IsWay (job repair.now).tree place.index place.height path.now }
-    requires room { 65536 ≤ length memory.old }
+    requires room { size_at repair.now.shape place.height ≤ length memory.old }
     ensures read { IsWorldRead image.old image.new }
     ensures kept { IsTrue result → IsTrue (was_put repair.now.write mended) → IsGoodNow (job repair.now) place.height place.index image.old }
-    ensures asked { LeavesBack repair.now.shape place.height place.index image.old image.new }
+    ensures asked { LeavesWorld (block_read repair.now.shape place.height) nothing_due image.old image.new }
 {
     if !was_put(mended, repair.write) {
         return true;
@@ -50,10 +50,10 @@ fn is_read_back<D: BlockDev, H: BlockDev, C: BlockDev>(
     requires can { CanRun (job repair.now) image.old }
     requires inside { place.index < repair.now.shape.blocks }
     requires way { IsWay (job repair.now).tree place.index place.height path.now }
-    requires room { 65536 ≤ length memory.old }
+    requires room { size_at repair.now.shape place.height ≤ length memory.old }
     ensures read { IsWorldRead image.old image.new }
     ensures good { IsTrue result → IsGoodNow (job repair.now) place.height place.index image.old }
-    ensures asked { LeavesBack repair.now.shape place.height place.index image.old image.new }
+    ensures asked { LeavesWorld (block_read repair.now.shape place.height) nothing_due image.old image.new }
 {
     let Place { height, index } = place;
     let size = block_size(&repair.shape, height);
@@ -77,4 +77,11 @@ fn was_put(mended: Mended, write: bool) -> bool
         Mended::Parity => write,
         Mended::Lost => false,
     }
+}
+
+/// Whether both are.
+pub(crate) fn are_both(all: bool, back: bool) -> bool
+    ensures { result ≡ (all && back) }
+{
+    all && back
 }

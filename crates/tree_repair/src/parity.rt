@@ -16,6 +16,7 @@ ghost use Rattle.tree_repair.specs.Searching.{AreGoodFor, AsksWithin, IsInTree, 
 use crate::bad::BadBlock;
 use crate::fault::RepairFault;
 use crate::image::DamagedImage;
+use crate::keeping::are_both;
 use crate::levels::{way_to, zeros};
 use crate::place::{Place, Repair, block_size};
 use crate::putting::{Missing, put_restored};
@@ -26,7 +27,7 @@ use fec_area::{Layout, LostBlock, RestoreFault, restore_block};
 use std::alloc::{AllocError, Global};
 use std::io::Write;
 
-/// Whether a hash block came back by parity, and whether all is good by then.
+/// Whether a hash block came back by parity; and of some blocks whether all came back, of a pass whether all of the image is good.
 #[derive(Clone, Copy)]
 pub(crate) struct Came {
     pub(crate) tree: bool,
@@ -41,7 +42,7 @@ struct Losses {
 }
 
 /// Goes over the blocks that were found nowhere, from the root down, and brings back those that parity has. Tells whether
-/// a hash block is among them, and whether all of them came back.
+/// a hash block is among them, and whether all of them came back and were read back.
 pub(crate) fn restore_bad<D: BlockDev, H: BlockDev, C: BlockDev, P: BlockDev, W: Write>(
     repair: &Repair,
     layout: &Layout,
@@ -68,18 +69,14 @@ pub(crate) fn restore_bad<D: BlockDev, H: BlockDev, C: BlockDev, P: BlockDev, W:
     };
     let mut tree = false;
     let mut all = true;
+    let mut kept = true;
     'each: for bad in blocks {
-        let back = restore_block_at(repair, &losses, bad, image, parity, writer)?;
+        let back = restore_block_at(repair, &losses, bad, image, parity, writer, &mut kept)?;
         tree = is_in_tree(tree, back, bad);
         all = are_both(all, back);
     }
-    Ok(Came { tree, all })
-}
-
-fn are_both(all: bool, back: bool) -> bool
-    ensures { result ≡ (all && back) }
-{
-    all && back
+    let sure = are_both(all, kept);
+    Ok(Came { tree, all: sure })
 }
 
 fn is_in_tree(tree: bool, back: bool, bad: &BadBlock) -> bool
@@ -153,6 +150,7 @@ fn restore_block_at<D: BlockDev, H: BlockDev, C: BlockDev, P: BlockDev, W: Write
     image: &mut DamagedImage<D, H, C>,
     parity: &mut P,
     writer: &mut Counted<W>,
+    kept: &mut bool,
 ) -> Result<bool, RepairFault>
     requires asked { IsTrue repair.now.parity }
     requires can { CanRun (job repair.now) image.old }
@@ -180,7 +178,7 @@ fn restore_block_at<D: BlockDev, H: BlockDev, C: BlockDev, P: BlockDev, W: Write
                 repair,
                 place,
             };
-            restore_missing(&missing, losses, image, parity, writer)
+            restore_missing(&missing, losses, image, parity, writer, kept)
         }
     }
 }
@@ -192,6 +190,7 @@ fn restore_missing<D: BlockDev, H: BlockDev, C: BlockDev, P: BlockDev, W: Write>
     image: &mut DamagedImage<D, H, C>,
     parity: &mut P,
     writer: &mut Counted<W>,
+    kept: &mut bool,
 ) -> Result<bool, RepairFault>
     requires asked { IsTrue missing.now.repair.now.parity }
     requires can { CanRun (job missing.now.repair.now) image.old }
@@ -215,7 +214,7 @@ fn restore_missing<D: BlockDev, H: BlockDev, C: BlockDev, P: BlockDev, W: Write>
     if !back {
         return Ok(false);
     }
-    put_restored(missing, image, bytes, block, writer)
+    put_restored(missing, image, bytes, block, writer, kept)
 }
 
 // Makes a block again by parity, and tells whether it has the digest to which the path leads.

@@ -22,10 +22,9 @@ use fec_area::Layout;
 use std::alloc::Global;
 use std::io::Write;
 
-/// As `repair_image`, and each block that no other source has is sought by the parity of its round, where all blocks that
-/// the pass has found bad count as lost. Behind a pass in which a hash block came back by parity the image is gone over
-/// anew, if anything may be written. It tells whether all of the image is
-/// known to be good by then.
+/// As `repair_image`, and each block that no other source has is sought by the parity of its round, where all blocks that the pass
+/// has found bad count as lost. Behind a pass in which a hash block came back by parity the image is gone over anew, if anything
+/// may be written. It tells whether all of the image is known to be good by then.
 ///
 /// It keeps 32 bytes for each block that isn't good.
 pub fn repair_with_parity<D: BlockDev, H: BlockDev, C: BlockDev, P: BlockDev, W: Write>(

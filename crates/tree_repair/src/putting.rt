@@ -3,13 +3,14 @@ ghost use Rattle.std.specs.Prelude.{◌≡◌, ◌<◌, ◌≤◌, ◌+◌, ◌/
 ghost use Rattle.block_device.specs.Device.{IsInside};
 ghost use Rattle.tree_shape.specs.Digests.{digest};
 ghost use Rattle.tree_repair.specs.Jobs.{job};
-ghost use Rattle.tree_repair.specs.ParityBounds.{IsAskedAlone, IsReplacedOnce, put_bill};
+ghost use Rattle.tree_repair.specs.ParityBounds.{IsAskedAlone, IsReplacedOnce, kept_bill, put_bill};
 ghost use Rattle.tree_repair.specs.Parity.{IsPlace, end_at};
 ghost use Rattle.tree_repair.specs.Runs.{CanRun, IsWriterCause, Ran, sector_at, size_at};
-ghost use Rattle.tree_repair.specs.Searching.{AreGoodFor, FailsToPutMissing, FailsToReplace, IsInTree, IsMissingPut, IsReached, PutsWhereBad, TellsMissing, missing_size};
+ghost use Rattle.tree_repair.specs.Searching.{AreGoodFor, FailsToPutMissing, FailsToReplace, IsInTree, IsMissingPut, IsMissingRead, IsReached, PutsWhereBad, TellsMissing, missing_size};
 
 use crate::fault::RepairFault;
 use crate::image::DamagedImage;
+use crate::keeping::{are_both, is_kept};
 use crate::mending::{Mended, put};
 use crate::place::{Place, Repair, block_size};
 use crate::saying::say_mended;
@@ -28,13 +29,15 @@ pub(crate) struct Missing<'a> {
     pub(crate) place: Place,
 }
 
-/// Puts the bytes of a block where it stands, and prints its line.
+/// Puts the bytes of a block where it stands, prints its line, and reads it back; `kept` says no longer that all were read back,
+/// where it wasn't.
 pub(crate) fn put_restored<D: BlockDev, H: BlockDev, C: BlockDev, W: Write>(
     missing: &Missing<'_>,
     image: &mut DamagedImage<D, H, C>,
     bytes: &[u8],
     block: &mut [u8],
     writer: &mut Counted<W>,
+    kept: &mut bool,
 ) -> Result<bool, RepairFault>
     requires asked { IsTrue missing.now.repair.now.parity }
     requires can { CanRun (job missing.now.repair.now) image.old }
@@ -45,15 +48,23 @@ pub(crate) fn put_restored<D: BlockDev, H: BlockDev, C: BlockDev, W: Write>(
     requires size { length block.old ≡ missing_size missing.now }
     ensures run { Ran W.contents (job missing.now.repair.now) image.old image.new writer.old writer.new result }
     ensures told { IfErr result (IsWriterCause writer.new) }
-    ensures placed { IfOk result (IsMissingPut missing.now bytes.now image.old image.new) }
-    ensures within { IsAskedAlone (put_bill (missing_size missing.now / 512)) image.old image.new }
+    ensures placed { IfOk result (IsMissingRead missing.now bytes.now image.old image.new) }
+    ensures kept { IsTrue kept.new → IsTrue kept.old }
+    ensures within { IsAskedAlone (kept_bill (missing_size missing.now / 512)) image.old image.new }
     ensures came { TellsMissing W.contents missing.now image.old image.new writer.old writer.new result }
 {
     let back = put_block(missing, image, bytes, block)?;
     if !back {
         return Ok(false);
     }
-    say_mended(writer, missing.repair, missing.place, Mended::Parity)?;
+    let Missing {
+        path,
+        repair,
+        place,
+    } = *missing;
+    say_mended(writer, repair, place, Mended::Parity)?;
+    let there = is_kept(path, repair, place, Mended::Parity, image, block);
+    *kept = are_both(*kept, there);
     Ok(true)
 }
 

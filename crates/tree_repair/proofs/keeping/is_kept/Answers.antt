@@ -1,6 +1,6 @@
 use Rattle.std.proofs.Common.{◌∙◌, sym}
 use Rattle.std.proofs.lemmas.Bool.{true≢false}
-use Rattle.tree_repair.proofs.KeepLemmas.{leaves-unread}
+use Rattle.tree_repair.proofs.KeepLemmas.{unread}
 use Rattle.tree_repair.proofs.RunLemmas.{world-none}
 use Rattle.tree_repair.proofs.keeping.is_kept.Goals as goal
 
@@ -11,7 +11,7 @@ pub returns-then-not-was_put-clause-kept : goal.returns-then-not-was_put-clause-
 returns-then-not-was_put-clause-kept g c = λ kept put. absurd (true≢false (sym put ∙ sym c.was_put.ensures ∙ c.if-not-was_put.true))
 
 pub returns-then-not-was_put-clause-asked : goal.returns-then-not-was_put-clause-asked
-returns-then-not-was_put-clause-asked g c = leaves-unread c.args.repair.now.shape c.requires.can.valid c.args.place.height c.args.place.index c.args.image.now
+returns-then-not-was_put-clause-asked g c = unread c.args.repair.now.shape c.args.place.height c.args.image.now
 
 pub returns-clause-kept : goal.returns-clause-kept
 returns-clause-kept g c = λ kept put. c.is_read_back.ensures.good kept

@@ -2,13 +2,13 @@ use Rattle.std.proofs.Common.{◌≡◌, ◌≤◌, ◌-◌, ◌*◌, ◌/◌, �
 use Rattle.std.proofs.lemmas.List.{length-take-le}
 use Rattle.std.specs.Prelude.{IsTrue}
 use Rattle.tree_shape.specs.Shape.{levels}
-use Rattle.tree_repair.specs.Bills.{LeavesBack}
+use Rattle.tree_repair.specs.Bills.{LeavesWorld, block_read, nothing_due}
 use Rattle.tree_repair.specs.Jobs.{job}
 use Rattle.tree_repair.specs.Parity.{IsGoodNow, end_at}
 use Rattle.tree_repair.specs.Runs.{CanRun, size_at}
 use Rattle.tree_repair.specs.Worlds.{IsWorldRead, RepairWorld, repair_world}
-use Rattle.tree_repair.proofs.KeepLemmas.{back-data, back-hash}
-use Rattle.tree_repair.proofs.ParityLemmas.{good-data, good-hash, inside-place, size-block}
+use Rattle.tree_repair.proofs.KeepLemmas.{data-back, hash-back}
+use Rattle.tree_repair.proofs.ParityLemmas.{good-data, good-hash, inside-place}
 use Rattle.tree_repair.proofs.RunLemmas.{data-read, tree-read}
 use Rattle.tree_repair.proofs.keeping.is_read_back.Goals as goal
 
@@ -22,7 +22,7 @@ pub is_there-requires : goal.is_there-requires
 is_there-requires g c =
     let s = c.args.repair.now.shape in
     let long : length (take c.block_size-size.result c.args.memory.now) ≡ size_at s c.args.place.height =
-    length-take-le c.block_size-size.result c.args.memory.now (omega (arith, c.block_size-size.ensures, (size-block s c.args.place.height c.requires.can.valid).most, c.requires.room)) ∙ c.block_size-size.ensures in
+    length-take-le c.block_size-size.result c.args.memory.now (omega (arith, c.block_size-size.ensures, c.requires.room)) ∙ c.block_size-size.ensures in
     let can = subst (λ (w : RepairWorld). CanRun (job c.args.repair.now) w) (sym c.image.view_is) c.requires.can in
     let room : end_at s c.args.place.height ≤ (g.D.BlockDev.state c.image.inside.data).size = rw c.if-height-eq0.true can.data_fits in
     inside-place s c.args.place.height c.first_sector-first.result _ (g.D.BlockDev.state c.image.inside.data) can.valid long c.first_sector-first.ensures.inside room
@@ -31,7 +31,7 @@ pub is_there-requires-2 : goal.is_there-requires-2
 is_there-requires-2 g c =
     let s = c.args.repair.now.shape in
     let long : length (take c.block_size-size.result c.args.memory.now) ≡ size_at s c.args.place.height =
-    length-take-le c.block_size-size.result c.args.memory.now (omega (arith, c.block_size-size.ensures, (size-block s c.args.place.height c.requires.can.valid).most, c.requires.room)) ∙ c.block_size-size.ensures in
+    length-take-le c.block_size-size.result c.args.memory.now (omega (arith, c.block_size-size.ensures, c.requires.room)) ∙ c.block_size-size.ensures in
     let can = subst (λ (w : RepairWorld). CanRun (job c.args.repair.now) w) (sym c.image.view_is) c.requires.can in
     let some : c.args.place.height ≡ suc (c.args.place.height - 1) = omega (arith, c.if-height-eq0.false) in
     let h = g.H.BlockDev.state c.image.inside.hash in
@@ -42,7 +42,7 @@ pub returns-then-height-eq0-clause-read : goal.returns-then-height-eq0-clause-re
 returns-then-height-eq0-clause-read g c =
     let s = c.args.repair.now.shape in
     let long : length (take c.block_size-size.result c.args.memory.now) ≡ size_at s c.args.place.height =
-    length-take-le c.block_size-size.result c.args.memory.now (omega (arith, c.block_size-size.ensures, (size-block s c.args.place.height c.requires.can.valid).most, c.requires.room)) ∙ c.block_size-size.ensures in
+    length-take-le c.block_size-size.result c.args.memory.now (omega (arith, c.block_size-size.ensures, c.requires.room)) ∙ c.block_size-size.ensures in
     let i = c.image.inside in
     let a = repair_world (g.D.BlockDev.state i.data) (g.H.BlockDev.state i.hash) (map g.C.BlockDev.state i.data_copies.items) (map g.C.BlockDev.state i.hash_copies.items) in
     let d' = g.D.BlockDev.state c.is_there.new.device in
@@ -52,7 +52,7 @@ pub returns-clause-read : goal.returns-clause-read
 returns-clause-read g c =
     let s = c.args.repair.now.shape in
     let long : length (take c.block_size-size.result c.args.memory.now) ≡ size_at s c.args.place.height =
-    length-take-le c.block_size-size.result c.args.memory.now (omega (arith, c.block_size-size.ensures, (size-block s c.args.place.height c.requires.can.valid).most, c.requires.room)) ∙ c.block_size-size.ensures in
+    length-take-le c.block_size-size.result c.args.memory.now (omega (arith, c.block_size-size.ensures, c.requires.room)) ∙ c.block_size-size.ensures in
     let i = c.image.inside in
     let a = repair_world (g.D.BlockDev.state i.data) (g.H.BlockDev.state i.hash) (map g.C.BlockDev.state i.data_copies.items) (map g.C.BlockDev.state i.hash_copies.items) in
     let d' = g.H.BlockDev.state c.is_there-2.new.device in
@@ -62,7 +62,7 @@ pub returns-then-height-eq0-clause-good : goal.returns-then-height-eq0-clause-go
 returns-then-height-eq0-clause-good g c =
     let s = c.args.repair.now.shape in
     let long : length (take c.block_size-size.result c.args.memory.now) ≡ size_at s c.args.place.height =
-    length-take-le c.block_size-size.result c.args.memory.now (omega (arith, c.block_size-size.ensures, (size-block s c.args.place.height c.requires.can.valid).most, c.requires.room)) ∙ c.block_size-size.ensures in
+    length-take-le c.block_size-size.result c.args.memory.now (omega (arith, c.block_size-size.ensures, c.requires.room)) ∙ c.block_size-size.ensures in
     let i = c.image.inside in
     let a = repair_world (g.D.BlockDev.state i.data) (g.H.BlockDev.state i.hash) (map g.C.BlockDev.state i.data_copies.items) (map g.C.BlockDev.state i.hash_copies.items) in
     λ good. subst (λ (w : RepairWorld). IsGoodNow (job c.args.repair.now) c.args.place.height c.args.place.index w) c.image.view_is
@@ -73,7 +73,7 @@ pub returns-clause-good : goal.returns-clause-good
 returns-clause-good g c =
     let s = c.args.repair.now.shape in
     let long : length (take c.block_size-size.result c.args.memory.now) ≡ size_at s c.args.place.height =
-    length-take-le c.block_size-size.result c.args.memory.now (omega (arith, c.block_size-size.ensures, (size-block s c.args.place.height c.requires.can.valid).most, c.requires.room)) ∙ c.block_size-size.ensures in
+    length-take-le c.block_size-size.result c.args.memory.now (omega (arith, c.block_size-size.ensures, c.requires.room)) ∙ c.block_size-size.ensures in
     let i = c.image.inside in
     let a = repair_world (g.D.BlockDev.state i.data) (g.H.BlockDev.state i.hash) (map g.C.BlockDev.state i.data_copies.items) (map g.C.BlockDev.state i.hash_copies.items) in
     let some : c.args.place.height ≡ suc (c.args.place.height - 1) = omega (arith, c.if-height-eq0.false) in
@@ -85,21 +85,21 @@ pub returns-then-height-eq0-clause-asked : goal.returns-then-height-eq0-clause-a
 returns-then-height-eq0-clause-asked g c =
     let s = c.args.repair.now.shape in
     let long : length (take c.block_size-size.result c.args.memory.now) ≡ size_at s c.args.place.height =
-    length-take-le c.block_size-size.result c.args.memory.now (omega (arith, c.block_size-size.ensures, (size-block s c.args.place.height c.requires.can.valid).most, c.requires.room)) ∙ c.block_size-size.ensures in
+    length-take-le c.block_size-size.result c.args.memory.now (omega (arith, c.block_size-size.ensures, c.requires.room)) ∙ c.block_size-size.ensures in
     let i = c.image.inside in
     let a = repair_world (g.D.BlockDev.state i.data) (g.H.BlockDev.state i.hash) (map g.C.BlockDev.state i.data_copies.items) (map g.C.BlockDev.state i.hash_copies.items) in
     let d' = g.D.BlockDev.state c.is_there.new.device in
-    subst (λ (w : RepairWorld). LeavesBack s c.args.place.height c.args.place.index w (repair_world d' a.hash_dev a.data_copies a.hash_copies)) c.image.view_is
-    (back-data s c.requires.can.valid c.args.place.height c.args.place.index c.if-height-eq0.true c.requires.inside a d' c.is_there.ensures.read (rw long at c.is_there.ensures.asked))
+    subst (λ (w : RepairWorld). LeavesWorld (block_read s c.args.place.height) nothing_due w (repair_world d' a.hash_dev a.data_copies a.hash_copies)) c.image.view_is
+    (data-back s c.args.place.height c.if-height-eq0.true a d' c.is_there.ensures.read (rw long at c.is_there.ensures.asked))
 
 pub returns-clause-asked : goal.returns-clause-asked
 returns-clause-asked g c =
     let s = c.args.repair.now.shape in
     let long : length (take c.block_size-size.result c.args.memory.now) ≡ size_at s c.args.place.height =
-    length-take-le c.block_size-size.result c.args.memory.now (omega (arith, c.block_size-size.ensures, (size-block s c.args.place.height c.requires.can.valid).most, c.requires.room)) ∙ c.block_size-size.ensures in
+    length-take-le c.block_size-size.result c.args.memory.now (omega (arith, c.block_size-size.ensures, c.requires.room)) ∙ c.block_size-size.ensures in
     let i = c.image.inside in
     let a = repair_world (g.D.BlockDev.state i.data) (g.H.BlockDev.state i.hash) (map g.C.BlockDev.state i.data_copies.items) (map g.C.BlockDev.state i.hash_copies.items) in
     let d' = g.H.BlockDev.state c.is_there-2.new.device in
     let some : c.args.place.height ≡ suc (c.args.place.height - 1) = omega (arith, c.if-height-eq0.false) in
-    subst (λ (w : RepairWorld). LeavesBack s c.args.place.height c.args.place.index w (repair_world a.data_dev d' a.data_copies a.hash_copies)) c.image.view_is
-    (back-hash s c.requires.can.valid c.args.place.height (c.args.place.height - 1) c.args.place.index some c.requires.inside a d' c.is_there-2.ensures.read (rw long at c.is_there-2.ensures.asked))
+    subst (λ (w : RepairWorld). LeavesWorld (block_read s c.args.place.height) nothing_due w (repair_world a.data_dev d' a.data_copies a.hash_copies)) c.image.view_is
+    (hash-back s c.args.place.height (c.args.place.height - 1) some a d' c.is_there-2.ensures.read (rw long at c.is_there-2.ensures.asked))

@@ -1,6 +1,7 @@
 use Rattle.std.proofs.Common.{List, length, refl, ap, arith}
 use Rattle.tree_repair.specs.declared.bad.BadBlock.{BadBlock}
 use Rattle.tree_repair.proofs.KeepLemmas.{leaves-checked, leaves-unchecked, noted-kept}
+use Rattle.tree_repair.proofs.ParityLemmas.{size-block}
 use Rattle.tree_repair.proofs.PassLemmas.{noted-from, noted-not, noted-one}
 use Rattle.tree_repair.proofs.RunLemmas.{can-later, ends-unnoted, ends-unsaid, ends-unwritten, has-one}
 use Rattle.tree_repair.proofs.levels.repair_block.Goals as goal
@@ -40,5 +41,8 @@ returns-in_err-note-clause-asked g c =
 
 pub returns-clause-asked : goal.returns-clause-asked
 returns-clause-asked g c =
-    leaves-checked c.args.repair.now.shape c.requires.can.valid c.args.place.height c.args.place.index c.args.image.now c.visit.new.image c.is_kept-kept.new.image
+    leaves-checked c.args.repair.now.shape c.requires.can.valid c.args.place.height c.args.place.index c.requires.inside c.args.image.now c.visit.new.image c.is_kept-kept.new.image
     c.visit.ensures.asked c.is_kept-kept.ensures.asked
+
+pub is_kept-kept-requires-clause-room : goal.is_kept-kept-requires-clause-room
+is_kept-kept-requires-clause-room g c = omega (arith, (size-block c.args.repair.now.shape c.args.place.height c.requires.can.valid).most, c.requires.room, c.visit.auto.memory)

@@ -1,4 +1,5 @@
-use Rattle.std.proofs.Common.{◌+◌, Bool, refl, subst, sym, take}
+use Rattle.std.proofs.Common.{◌+◌, Bool, IsTrue, refl, subst, sym, take}
+use Rattle.std.proofs.lemmas.Bool.{and_parts}
 use Rattle.std.proofs.lemmas.List.{take_all}
 use Rattle.tree_path.proofs.lemmas.DeviceLemmas.{only_read-none, only_read-then}
 use Rattle.tree_repair.specs.Jobs.{job}
@@ -63,7 +64,7 @@ returns-clause-sought g c = record {
 }
 
 pub returns-clause-back : goal.returns-clause-back
-returns-clause-back g c = λ yes. subst (λ xs. AreBack (job c.args.repair.now) xs c.args.image.now c.each.image) (take_all c.each.bad-index c.args.blocks.now c.each-test.false) (c.each.invariant.back yes)
+returns-clause-back g c = λ both. let yes = (and_parts c.each.all c.each.kept (subst IsTrue c.are_both-sure.ensures both)).0 in subst (λ xs. AreBack (job c.args.repair.now) xs c.args.image.now c.each.image) (take_all c.each.bad-index c.args.blocks.now c.each-test.false) (c.each.invariant.back yes)
 
 pub returns-in_err-lost-clause-within : goal.returns-in_err-lost-clause-within
 returns-in_err-lost-clause-within g c = asked-none (parity_bill c.args.repair.now.shape c.args.layout.now 0 0 (sought_among c.args.blocks.now)) c.args.image.now (g.P.BlockDev.state c.args.parity.now)

@@ -1,5 +1,8 @@
-use Rattle.std.proofs.Common.{refl}
-use Rattle.tree_repair.proofs.RunLemmas.{ended-from, ends-unsaid, ends-unwritten, has-one, has-read}
+use Rattle.std.proofs.Common.{IsTrue, refl, subst, arith}
+use Rattle.std.proofs.lemmas.Bool.{and_parts}
+use Rattle.tree_repair.proofs.KeepLemmas.{has-kept, tells-kept}
+use Rattle.tree_repair.proofs.ParityBillLemmas.{put-read, put-unread}
+use Rattle.tree_repair.proofs.RunLemmas.{can-later, ended-from, ends-unsaid, ends-unwritten, has-one, has-read}
 use Rattle.tree_repair.proofs.ParityPassLemmas.{tells-from, tells-none, tells-one}
 use Rattle.tree_repair.proofs.putting.put_restored.Goals as goal
 
@@ -17,25 +20,35 @@ returns-in_err-say_mended-clause-run g c =
     ended-from c.from_residual-in_err-say_mended.result c.from_residual-in_err-say_mended.ensures.1 (ends-unsaid (rw c.if-not-back.false at c.in_ok-back.ensures.ok) refl)
 
 pub returns-clause-placed : goal.returns-clause-placed
-returns-clause-placed g c = rw c.if-not-back.false at c.in_ok-back.ensures.ok
+returns-clause-placed g c = (c.put_block.new.image, (rw c.if-not-back.false at c.in_ok-back.ensures.ok, c.is_kept-there.ensures.read))
 
 pub returns-clause-run : goal.returns-clause-run
-returns-clause-run g c = has-one (rw c.if-not-back.false at c.in_ok-back.ensures.ok) refl c.in_ok-say_mended.ensures.ok
+returns-clause-run g c = has-kept (has-one (rw c.if-not-back.false at c.in_ok-back.ensures.ok) refl c.in_ok-say_mended.ensures.ok) c.is_kept-there.ensures.read
+
+pub is_kept-there-requires-clause-can : goal.is_kept-there-requires-clause-can
+is_kept-there-requires-clause-can g c = can-later (has-one (rw c.if-not-back.false at c.in_ok-back.ensures.ok) refl c.in_ok-say_mended.ensures.ok) c.requires.can
+
+pub is_kept-there-requires-clause-room : goal.is_kept-there-requires-clause-room
+is_kept-there-requires-clause-room g c = omega (arith, c.requires.size, c.put_block.auto.block)
 
 pub say_mended-requires : goal.say_mended-requires
 say_mended-requires g c = c.requires.place.inside
 
 pub returns-in_err-back-clause-within : goal.returns-in_err-back-clause-within
-returns-in_err-back-clause-within g c = c.put_block.ensures.within
+returns-in_err-back-clause-within g c = λ p. put-unread (c.put_block.ensures.within p)
 
 pub returns-then-not-back-clause-within : goal.returns-then-not-back-clause-within
-returns-then-not-back-clause-within g c = c.put_block.ensures.within
+returns-then-not-back-clause-within g c = λ p. put-unread (c.put_block.ensures.within p)
 
 pub returns-in_err-say_mended-clause-within : goal.returns-in_err-say_mended-clause-within
-returns-in_err-say_mended-clause-within g c = c.put_block.ensures.within
+returns-in_err-say_mended-clause-within g c = λ p. put-unread (c.put_block.ensures.within p)
 
 pub returns-clause-within : goal.returns-clause-within
-returns-clause-within g c = c.put_block.ensures.within
+returns-clause-within g c =
+    put-read c.args.missing.now.repair.now.shape c.args.missing.now.place.height c.args.image.now c.put_block.new.image c.is_kept-there.new.image c.put_block.ensures.within c.is_kept-there.ensures.asked
+
+pub returns-clause-kept : goal.returns-clause-kept
+returns-clause-kept g c = λ yes. (and_parts c.args.kept.now c.is_kept-there.result (subst IsTrue c.are_both.ensures yes)).0
 
 pub returns-in_err-back-clause-came : goal.returns-in_err-back-clause-came
 returns-in_err-back-clause-came g c = tells-from c.args.missing.now.place.height c.from_residual.result c.from_residual.ensures.1 (ends-unwritten c.in_err-back.ensures.err tt refl)
@@ -48,4 +61,6 @@ returns-in_err-say_mended-clause-came g c =
     tells-from c.args.missing.now.place.height c.from_residual-in_err-say_mended.result c.from_residual-in_err-say_mended.ensures.1 (ends-unsaid (rw c.if-not-back.false at c.in_ok-back.ensures.ok) refl)
 
 pub returns-clause-came : goal.returns-clause-came
-returns-clause-came g c = tells-one c.args.missing.now.place.height c.args.missing.now.place.index c.args.bytes.now (rw c.if-not-back.false at c.in_ok-back.ensures.ok) c.in_ok-say_mended.ensures.ok
+returns-clause-came g c =
+    tells-kept (tells-one c.args.missing.now.place.height c.args.missing.now.place.index c.args.bytes.now (rw c.if-not-back.false at c.in_ok-back.ensures.ok) c.in_ok-say_mended.ensures.ok)
+    c.is_kept-there.ensures.read
