@@ -1,15 +1,14 @@
 -- A block that was written, and is read back.
-use Rattle.std.proofs.Common.{◌≡◌, ◌≤◌, ◌<◌, ◌+◌, ◌-◌, ◌*◌, ◌/◌, ◌^◌, ℕ, zero, suc, Bool, false, IsTrue, List, [], ◌∷◌, Option, None, refl, sym, ◌∙◌, ◌++◌, ap, subst, arith, inl, inr, add-one}
+use Rattle.std.proofs.Common.{◌≡◌, ◌≤◌, ◌<◌, ◌+◌, ◌/◌, ℕ, zero, suc, Bool, false, List, [], ◌∷◌, Option, None, refl, sym, ◌∙◌, subst, arith, inl, inr, add-one}
 use Rattle.block_device.specs.Device.{Device}
-use Rattle.tree_shape.specs.Shape.{ShapeRecord, IsShape, ancestor, level_blocks, per_block}
+use Rattle.tree_shape.specs.Shape.{ShapeRecord, IsShape, ancestor, level_blocks}
 use Rattle.tree_shape.proofs.lemmas.ShapeFactLemmas.{ancestor-lt, ancestor-none}
 use Rattle.tree_path.specs.Steps.{HasReadAtMost}
-use Rattle.tree_repair.specs.declared.bad.BadBlock.{BadBlock}
 use Rattle.tree_repair.specs.declared.bad.BadBlocks.{BadBlocks}
 use Rattle.tree_repair.specs.Bills.{Bill, LeavesBlock, LeavesChecked, LeavesVisit, LeavesWorld, block_read, checks_over, data_over, hash_over, hash_up_to, left_of, made_over, nothing_due, sectors_over, visits_over}
-use Rattle.tree_repair.specs.Coverage.{IsLookedAt, IsPassedBy}
+use Rattle.tree_repair.specs.Coverage.{IsLookedAt}
 use Rattle.tree_repair.specs.Passes.{HasNoted}
-use Rattle.tree_repair.specs.Runs.{HasRun, IsVisited, Job, VisitsAll, Visit, size_at}
+use Rattle.tree_repair.specs.Runs.{HasRun, Job, VisitsAll, Visit, size_at}
 use Rattle.tree_repair.specs.Worlds.{IsWorldRead, RepairWorld, repair_world}
 use Rattle.tree_repair.proofs.AskedLemmas.{next-here}
 use Rattle.tree_path.proofs.lemmas.DeviceLemmas.{only_read-none}

@@ -1,13 +1,15 @@
 -- One block of an image that is looked at.
-use Rattle.std.specs.Prelude.{◌≡◌, ℕ, suc, ◌+◌, ◌*◌, ◌/◌, Bool, true, false, List}
+use Rattle.std.specs.Prelude.{◌≡◌, ℕ, suc, ◌+◌, ◌*◌, ◌/◌, Bool, true, false, IsTrue, List}
 use Rattle.block_device.specs.Device.{Device}
 use Rattle.tree_shape.specs.Shape.{ShapeRecord, ancestor, position}
 use Rattle.tree_path.specs.Path.{PathRecord, digest_on}
 use Rattle.tree_repair.specs.declared.mending.Mended.{Mended}
 use Rattle.tree_repair.specs.Mending.{Look, IsBlockFound, IsMended, IsPutAt}
+use Rattle.tree_repair.specs.Noting.{was_put}
+use Rattle.tree_repair.specs.Parity.{IsGoodNow}
 use Rattle.tree_repair.specs.Runs.{IsMadeOf, IsVisited, Job, OtherStays, visit}
 use Rattle.tree_repair.specs.Sources.{wanted}
-use Rattle.tree_repair.specs.Worlds.{RepairWorld}
+use Rattle.tree_repair.specs.Worlds.{IsWorldRead, RepairWorld}
 
 -- it came to that, and no write failed
 abbrev pub IsLooked : Look → Mended → Type 0
@@ -19,6 +21,15 @@ IsBlockMade j h i w w' m = (bytes : List ℕ) × IsVisited j (visit h i m bytes 
 -- it was found or made, but a write failed
 abbrev pub FailsToStoreBlock : Job → ℕ → ℕ → RepairWorld → RepairWorld → Type 0
 FailsToStoreBlock j h i w w' = (m : Mended) × ((bytes : List ℕ) × (IsBlockFound m × IsVisited j (visit h i m bytes false) w w'))
+
+-- it came to that, and all was only read behind that; if it was written, good hash blocks lead to what was read there
+pub record IsBlockKept (j : Job) (h i : ℕ) (w w' : RepairWorld) : Type 0 where
+  pub mended : Mended
+  pub bytes : List ℕ
+  pub behind : RepairWorld
+  pub visited : IsVisited j (visit h i mended bytes true) w behind
+  pub there : IsTrue (was_put j.write mended) → IsGoodNow j h i behind
+  pub read_back : IsWorldRead behind w'
 
 -- ---- a data block
 

@@ -1,5 +1,5 @@
 //! The blocks of a height, gone over row by row.
-ghost use Rattle.std.specs.Prelude.{◌≡◌, ◌<◌, ◌≤◌, IfOk, OnOk, length, replicate, IfErr};
+ghost use Rattle.std.specs.Prelude.{◌≡◌, ◌<◌, ◌≤◌, false, IfOk, OnOk, length, replicate, IfErr};
 ghost use Rattle.tree_shape.specs.Shape.{levels};
 ghost use Rattle.tree_survey.specs.Surveys.{IsWay};
 ghost use Rattle.tree_path.specs.Steps.{HasReadAtMost};
@@ -9,6 +9,7 @@ ghost use Rattle.tree_repair.specs.ParityBounds.{LeavesNoted, NotesInHeight, Not
 ghost use Rattle.tree_repair.specs.Notes.{NotesAt, NotesHeight, NotesRow};
 ghost use Rattle.tree_repair.specs.Runs.{CanRun, IsWriterCause};
 ghost use Rattle.tree_repair.specs.Tries.{IsWayOr};
+ghost use Rattle.tree_repair.specs.Visits.{IsBlockKept};
 ghost use Rattle.tree_repair.specs.Worlds.{IsWorldRead};
 ghost use Rattle.verity_format.specs.Blocks.{IsOnlyRead};
 ghost use Rattle.verity_format.specs.Image.{tree_sectors};
@@ -214,6 +215,7 @@ fn repair_block<D: BlockDev, H: BlockDev, C: BlockDev, W: Write>(
     requires room { 65536 ≤ length memory.old }
     ensures notes { NotesAt W.contents repair.now place image.old image.new bad.old bad.new writer.old writer.new result }
     ensures told { IfErr result (IsWriterCause writer.new) }
+    ensures kept { OnOk result (bad.new.unkept ≡ false → IsBlockKept (job repair.now) place.height place.index image.old image.new) }
     ensures asked { LeavesChecked repair.now.shape place.height place.index image.old image.new }
     ensures few { OnOk result (LeavesNoted 1 0 bad.old bad.new) }
 {

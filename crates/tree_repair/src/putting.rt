@@ -7,6 +7,7 @@ ghost use Rattle.tree_repair.specs.ParityBounds.{IsAskedAlone, IsReplacedOnce, k
 ghost use Rattle.tree_repair.specs.Parity.{IsPlace, end_at};
 ghost use Rattle.tree_repair.specs.Runs.{CanRun, IsWriterCause, Ran, sector_at, size_at};
 ghost use Rattle.tree_repair.specs.Searching.{AreGoodFor, FailsToPutMissing, FailsToReplace, IsInTree, IsMissingPut, IsMissingRead, IsReached, PutsWhereBad, TellsMissing, missing_size};
+ghost use Rattle.tree_repair.specs.Visits.{IsBlockKept};
 
 use crate::fault::RepairFault;
 use crate::image::DamagedImage;
@@ -50,6 +51,7 @@ pub(crate) fn put_restored<D: BlockDev, H: BlockDev, C: BlockDev, W: Write>(
     ensures told { IfErr result (IsWriterCause writer.new) }
     ensures placed { IfOk result (IsMissingRead missing.now bytes.now image.old image.new) }
     ensures kept { IsTrue kept.new → IsTrue kept.old }
+    ensures there { IfOk result (λ back. IsTrue back → IsTrue kept.new → IsBlockKept (job missing.now.repair.now) missing.now.place.height missing.now.place.index image.old image.new) }
     ensures within { IsAskedAlone (kept_bill (missing_size missing.now / 512)) image.old image.new }
     ensures came { TellsMissing W.contents missing.now image.old image.new writer.old writer.new result }
 {

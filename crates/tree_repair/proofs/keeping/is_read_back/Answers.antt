@@ -1,6 +1,5 @@
-use Rattle.std.proofs.Common.{◌≡◌, ◌≤◌, ◌-◌, ◌*◌, ◌/◌, ℕ, suc, length, map, take, sym, ap, ◌∙◌, subst, arith}
+use Rattle.std.proofs.Common.{◌≡◌, ◌≤◌, ◌-◌, ℕ, suc, length, map, take, sym, ap, ◌∙◌, subst, arith}
 use Rattle.std.proofs.lemmas.List.{length-take-le}
-use Rattle.std.specs.Prelude.{IsTrue}
 use Rattle.tree_shape.specs.Shape.{levels}
 use Rattle.tree_repair.specs.Bills.{LeavesWorld, block_read, nothing_due}
 use Rattle.tree_repair.specs.Jobs.{job}

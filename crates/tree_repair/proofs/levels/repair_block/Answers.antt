@@ -46,3 +46,13 @@ returns-clause-asked g c =
 
 pub is_kept-kept-requires-clause-room : goal.is_kept-kept-requires-clause-room
 is_kept-kept-requires-clause-room g c = omega (arith, (size-block c.args.repair.now.shape c.args.place.height c.requires.can.valid).most, c.requires.room, c.visit.auto.memory)
+
+pub returns-clause-kept : goal.returns-clause-kept
+returns-clause-kept g c = λ kept. record {
+  mended = c.in_ok-mended.mended;
+  bytes = c.in_ok-mended.ensures.ok.0;
+  behind = c.visit.new.image;
+  visited = c.in_ok-mended.ensures.ok.1;
+  there = c.is_kept-kept.ensures.kept (c.keep.ensures.unkept kept).1;
+  read_back = c.is_kept-kept.ensures.read;
+}

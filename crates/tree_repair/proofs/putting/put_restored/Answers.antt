@@ -1,5 +1,6 @@
 use Rattle.std.proofs.Common.{IsTrue, refl, subst, arith}
 use Rattle.std.proofs.lemmas.Bool.{and_parts}
+use Rattle.tree_repair.specs.declared.mending.Mended.TheVariants as mended
 use Rattle.tree_repair.proofs.KeepLemmas.{has-kept, tells-kept}
 use Rattle.tree_repair.proofs.ParityBillLemmas.{put-read, put-unread}
 use Rattle.tree_repair.proofs.RunLemmas.{can-later, ended-from, ends-unsaid, ends-unwritten, has-one, has-read}
@@ -64,3 +65,13 @@ pub returns-clause-came : goal.returns-clause-came
 returns-clause-came g c =
     tells-kept (tells-one c.args.missing.now.place.height c.args.missing.now.place.index c.args.bytes.now (rw c.if-not-back.false at c.in_ok-back.ensures.ok) c.in_ok-say_mended.ensures.ok)
     c.is_kept-there.ensures.read
+
+pub returns-clause-there : goal.returns-clause-there
+returns-clause-there g c = λ back yes. record {
+  mended = mended.Parity;
+  bytes = c.args.bytes.now;
+  behind = c.put_block.new.image;
+  visited = rw c.if-not-back.false at c.in_ok-back.ensures.ok;
+  there = c.is_kept-there.ensures.kept (and_parts c.args.kept.now c.is_kept-there.result (subst IsTrue c.are_both.ensures yes)).1;
+  read_back = c.is_kept-there.ensures.read;
+}
