@@ -10,9 +10,8 @@ use Rattle.command_line.specs.CommandWords.{InvocationRecord, copy, invocation_r
 use Rattle.command_line.specs.FormatOptions.{option_texts}
 use Rattle.command_line.specs.FurtherRecords.{further_record}
 use Rattle.command_parser.specs.declared.parser.CommandLine.{CommandLine}
-use Rattle.image_commands.specs.Drawing.{Gives, drawing}
+use Rattle.image_commands.specs.Drawing.{Drawing}
 use Rattle.image_files.specs.Opener.{Calls, Opener, calls}
-use Rattle.rand_core.specs.Stream.{Stream}
 use Rattle.recovery_commands.specs.Copies.{IsCopyEnd, PrintsCopy}
 use Rattle.recovery_commands.specs.Scans.{IsScanEnd, PrintsScan}
 use Rattle.request_queue.specs.Requests.{a_read, a_write}
@@ -26,12 +25,12 @@ use Rattle.stack_commands.specs.Further.{FailsFurther, SucceedsFurther}
 use Rattle.stack_commands.specs.StackCommands.{IsListEnd, IsReadEnd, IsWriteEnd, PrintsDevices, PrintsReply, PrintsWritten, device_on, on}
 use Rattle.stack_commands.specs.Uses.{IsRecoveringEnd, Uses, uses}
 
-module _ {S D G F R T : Type 0} (relations : Opener S D) (state : D → Device) (gives : Gives G F) (stream : F → Stream) (remaining : R → Option (List ℕ)) (contents : T → Option (List ℕ))
-    (images images' : S) (generators generators' : G) (reader reader' : CountedRecord R) (writer writer' : CountedRecord T) where
+module _ {S D G F R T : Type 0} (relations : Opener S D) (state : D → Device) (remaining : R → Option (List ℕ)) (contents : T → Option (List ℕ)) (images images' : S) (drawn : Drawing G F)
+    (reader reader' : CountedRecord R) (writer writer' : CountedRecord T) where
   abbrev all_used : Uses S D G F
   all_used = uses
       (calls relations state images images')
-      (drawing gives stream generators generators')
+      drawn
       (streams (remaining reader.inner) (contents writer.inner))
       (streams (remaining reader'.inner) (contents writer'.inner))
 

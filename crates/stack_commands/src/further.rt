@@ -1,5 +1,6 @@
 //! Runs the further commands: which of them is told by the words.
 ghost use Rattle.std.specs.Prelude.{OnOk, IfErr};
+ghost use Rattle.image_commands.specs.Drawing.{drawing};
 ghost use Rattle.stack_commands.specs.Desks.{DoesCat, DoesCopy, DoesLoad, DoesScan, EndsCat, EndsCopy, EndsLoad, EndsPage, EndsScan, ShowsText};
 ghost use Rattle.stack_commands.specs.Lines.{DoesFurther, EndsFurther};
 ghost use Rattle.stack_commands.specs.Served.{DoesExports, DoesStore, EndsExports, EndsStore};
@@ -52,8 +53,8 @@ pub fn invoke_further<'a, I: Images, G: Generators + Progress + Watchers, S: Rea
     reader: &mut Counted<S>,
     writer: &mut Counted<W>,
 ) -> Result<(), CommandFault<'a>>
-    ensures ok { OnOk result (DoesFurther I.relations I.Dev.state G.gives G.Generator.stream S.remaining W.contents images.old images.new generators.old generators.new reader.old reader.new writer.old writer.new line.entry) }
-    ensures err { IfErr result (EndsFurther I.relations I.Dev.state G.gives G.Generator.stream S.remaining W.contents images.old images.new generators.old generators.new reader.old reader.new writer.old writer.new line.entry) }
+    ensures ok { OnOk result (DoesFurther I.relations I.Dev.state S.remaining W.contents images.old images.new (drawing G.gives G.Generator.stream generators.old generators.new) reader.old reader.new writer.old writer.new line.entry) }
+    ensures err { IfErr result (EndsFurther I.relations I.Dev.state S.remaining W.contents images.old images.new (drawing G.gives G.Generator.stream generators.old generators.new) reader.old reader.new writer.old writer.new line.entry) }
 {
     let FurtherLine { further, options } = line;
     match further {

@@ -109,8 +109,8 @@ fn run<'a, I: Images, G: Generators + Progress + Watchers, S: Read, W: Write>(
 ) -> Result<(), CommandFault<'a>>
     requires reader { reader.old.failed ≡ false }
     requires writer { writer.old.failed ≡ false }
-    ensures ok { OnOk result (DoesWords I.relations I.Dev.state G.gives G.Generator.stream S.remaining W.contents images.old images.new generators.old generators.new reader.old reader.new writer.old writer.new (map string_bytes words.now)) }
-    ensures err { IfErr result (EndsWords I.relations I.Dev.state G.gives G.Generator.stream S.remaining W.contents images.old images.new generators.old generators.new reader.old reader.new writer.old writer.new (map string_bytes words.now)) }
+    ensures ok { OnOk result (DoesWords I.relations I.Dev.state S.remaining W.contents images.old images.new (drawing G.gives G.Generator.stream generators.old generators.new) reader.old reader.new writer.old writer.new (map string_bytes words.now)) }
+    ensures err { IfErr result (EndsWords I.relations I.Dev.state S.remaining W.contents images.old images.new (drawing G.gives G.Generator.stream generators.old generators.new) reader.old reader.new writer.old writer.new (map string_bytes words.now)) }
 {
     let line = parse(alloc, words)?;
     invoke(alloc, images, generators, line, reader, writer)
@@ -127,8 +127,8 @@ fn invoke<'a, I: Images, G: Generators + Progress + Watchers, S: Read, W: Write>
 ) -> Result<(), CommandFault<'a>>
     requires reader { reader.old.failed ≡ false }
     requires writer { writer.old.failed ≡ false }
-    ensures ok { OnOk result (DoesLine I.relations I.Dev.state G.gives G.Generator.stream S.remaining W.contents images.old images.new generators.old generators.new reader.old reader.new writer.old writer.new line.entry) }
-    ensures err { IfErr result (EndsLine I.relations I.Dev.state G.gives G.Generator.stream S.remaining W.contents images.old images.new generators.old generators.new reader.old reader.new writer.old writer.new line.entry) }
+    ensures ok { OnOk result (DoesLine I.relations I.Dev.state S.remaining W.contents images.old images.new (drawing G.gives G.Generator.stream generators.old generators.new) reader.old reader.new writer.old writer.new line.entry) }
+    ensures err { IfErr result (EndsLine I.relations I.Dev.state S.remaining W.contents images.old images.new (drawing G.gives G.Generator.stream generators.old generators.new) reader.old reader.new writer.old writer.new line.entry) }
 {
     let CommandLine {
         invocation,

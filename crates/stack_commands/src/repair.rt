@@ -81,7 +81,7 @@ fn by_parity<'a, I: Images, S: Watchers, W: Write>(
     }
     match repair_by_parity(alloc, images, watchers, places, fec, copies, root, writer) {
         Ok(()) => Ok(()),
-        Err(fault) => Err(parity_fault(fault)),
+        Err(fault) => return Err(parity_fault(fault)),
     }
 }
 
