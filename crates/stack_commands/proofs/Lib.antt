@@ -3,5 +3,6 @@ pub mod KeptLemmas
 pub mod OpeningLemmas
 mod RepairingLemmas
 pub mod ServeLemmas
+pub mod StackFileLemmas
 pub mod UsageLemmas
 pub mod VerityLemmas

@@ -1,11 +1,14 @@
 pub mod Commands
+pub mod Desks
 pub mod Endings
 pub mod FaultTexts
 pub mod Further
+pub mod Lines
 pub mod ManyExports
 pub mod MappedCopies
 pub mod Repairing
 pub mod ScanObjects
+pub mod Served
 pub mod StackCommands
 pub mod Uses
 pub mod Verifying

@@ -1,7 +1,8 @@
 //! How a command ends early: what is printed, and the status.
-ghost use Rattle.std.specs.Prelude.{true, ◌≡◌, ◌⊎◌};
+ghost use Rattle.std.specs.Prelude.{true, ◌≡◌};
 ghost use Rattle.counted_io.specs.Counted.{Writes};
-ghost use Rattle.stack_commands.specs.Endings.{IsEnd, ending_status, ending_text};
+ghost use Rattle.stack_commands.specs.Desks.{IsToldBy};
+ghost use Rattle.stack_commands.specs.Endings.{ending_status, ending_text};
 
 use crate::fault::CommandFault;
 use crate::fault_texts::{
@@ -29,7 +30,7 @@ const BROKEN_CLIENT: u8 = 4;
 /// Prints why a command ends early, and answers its status: 1 where that can't be written. A failure of the writer stays
 /// known.
 pub fn end<W: Write>(writer: &mut Counted<W>, fault: CommandFault<'_>) -> u8
-    ensures told { IsEnd fault.entry (W.contents writer.old.inner) (W.contents writer.new.inner) result ⊎ ((result ≡ 1) × (writer.new.failed ≡ true)) }
+    ensures told { IsToldBy W.contents writer.old writer.new fault.entry result }
     ensures failed { writer.old.failed ≡ true → writer.new.failed ≡ true }
 {
     match say_fault(writer, fault) {

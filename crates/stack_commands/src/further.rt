@@ -1,20 +1,11 @@
 //! Runs the further commands: which of them is told by the words.
-ghost use Rattle.std.specs.Io.KnownBytes.{Appends};
-ghost use Rattle.std.specs.Prelude.{◌≡◌, ℕ, List, Option, OnOk, IfErr};
-ghost use Rattle.counted_io.specs.Streams.{streams};
-ghost use Rattle.command_line.specs.FormatOptions.{option_texts};
-ghost use Rattle.command_line.specs.FurtherRecords.{further_record};
-ghost use Rattle.command_line.specs.words.Cat.{cat_record};
-ghost use Rattle.command_line.specs.words.Copy.{copy_record};
-ghost use Rattle.command_line.specs.words.Exports.{exports_record};
-ghost use Rattle.command_line.specs.words.Load.{load_record};
-ghost use Rattle.command_line.specs.words.Scan.{scan_record};
-ghost use Rattle.command_line.specs.words.Store.{store_record};
+ghost use Rattle.std.specs.Prelude.{OnOk, IfErr};
 ghost use Rattle.image_commands.specs.Drawing.{drawing};
-ghost use Rattle.image_files.specs.Opener.{calls};
-ghost use Rattle.stack_commands.specs.Further.{CatsSectors, CopiesSectors, FailsFurther, IsCatCommandEnd, IsCopyWordsEnd, IsExportsWordsEnd, IsLoadWordsEnd, IsPageEnd, IsScanWordsEnd, IsStoreCommandEnd, ListsDevices, ScansSectors, ServesDevices, StoresSectors, SucceedsFurther};
-ghost use Rattle.stack_commands.specs.Uses.{uses};
+ghost use Rattle.stack_commands.specs.Desks.{DoesCat, DoesCopy, DoesLoad, DoesScan, EndsCat, EndsCopy, EndsLoad, EndsPage, EndsScan, ShowsText};
+ghost use Rattle.stack_commands.specs.Lines.{DoesFurther, EndsFurther};
+ghost use Rattle.stack_commands.specs.Served.{DoesExports, DoesStore, EndsExports, EndsStore};
 
+use crate::desk::Desk;
 use crate::fault::CommandFault;
 use crate::load::load_stack_file;
 use crate::mapped_copy::copy_by_map;
@@ -62,18 +53,18 @@ pub fn invoke_further<'a, I: Images, G: Generators + Progress + Watchers, S: Rea
     reader: &mut Counted<S>,
     writer: &mut Counted<W>,
 ) -> Result<(), CommandFault<'a>>
-    ensures ok { OnOk result (SucceedsFurther (option_texts line.entry.options) (further_record line.entry.further) (uses (calls I.relations I.Dev.state images.old images.new) (drawing G.gives G.Generator.stream generators.old generators.new) (streams (S.remaining reader.old.inner) (W.contents writer.old.inner)) (streams (S.remaining reader.new.inner) (W.contents writer.new.inner)))) }
-    ensures err { IfErr result (FailsFurther (option_texts line.entry.options) (further_record line.entry.further) (uses (calls I.relations I.Dev.state images.old images.new) (drawing G.gives G.Generator.stream generators.old generators.new) (streams (S.remaining reader.old.inner) (W.contents writer.old.inner)) (streams (S.remaining reader.new.inner) (W.contents writer.new.inner))) writer.new.failed) }
+    ensures ok { OnOk result (DoesFurther I.relations I.Dev.state S.remaining W.contents images.old images.new (drawing G.gives G.Generator.stream generators.old generators.new) reader.old reader.new writer.old writer.new line.entry) }
+    ensures err { IfErr result (EndsFurther I.relations I.Dev.state S.remaining W.contents images.old images.new (drawing G.gives G.Generator.stream generators.old generators.new) reader.old reader.new writer.old writer.new line.entry) }
 {
     let FurtherLine { further, options } = line;
     match further {
-        Further::Load(words) => invoke_load(alloc, images, words, writer),
-        Further::Cat(words) => invoke_cat(alloc, images, words, writer, generators),
+        Further::Load(words) => invoke_load(alloc, Desk { images, writer }, words),
+        Further::Cat(words) => invoke_cat(alloc, Desk { images, writer }, words, generators),
         Further::Store(words) => invoke_store(alloc, images, words, reader, writer, generators),
         Further::Format(words) => {
             Ok(invoke_format(alloc, images, generators, &words, &options, writer)?)
         }
-        Further::Verify(words) => check_image(alloc, images, generators, &words, writer),
+        Further::Verify(words) => check_image(alloc, Desk { images, writer }, generators, &words),
         Further::Dump(words) => Ok(invoke_dump(alloc, images, &words, writer)?),
         Further::Table(words) => Ok(invoke_table(images, &words, writer)?),
         Further::Partitions(words) => Ok(invoke_partitions(alloc, images, words, writer)?),
@@ -93,9 +84,11 @@ pub fn invoke_further<'a, I: Images, G: Generators + Progress + Watchers, S: Rea
         Further::VerifyFec(words) => {
             Ok(invoke_verify_fec(alloc, images, generators, &words, writer)?)
         }
-        Further::Repair(words) => repair_image(alloc, images, generators, &words, writer),
-        Further::Scan(words) => invoke_scan(alloc, images, words, writer, generators),
-        Further::Copy(words) => invoke_copy(alloc, images, words, writer, generators),
+        Further::Repair(words) => {
+            repair_image(alloc, Desk { images, writer }, generators, &words)
+        }
+        Further::Scan(words) => invoke_scan(alloc, Desk { images, writer }, words, generators),
+        Further::Copy(words) => invoke_copy(alloc, Desk { images, writer }, words, generators),
         Further::Exports(words) => invoke_exports(alloc, images, words, reader, writer),
         Further::Manual(command) => show_page(command, writer),
         Further::Version => Ok(print_version(writer)?),
@@ -107,8 +100,8 @@ fn show_page<'a, W: Write>(
     command: Option<&'a str>,
     writer: &mut Counted<W>,
 ) -> Result<(), CommandFault<'a>>
-    ensures ok { OnOk result ((text : List ℕ) × Appends (W.contents writer.old.inner) (W.contents writer.new.inner) text) }
-    ensures err { IfErr result (IsPageEnd (W.contents writer.old.inner) (W.contents writer.new.inner) writer.new.failed) }
+    ensures ok { OnOk result (ShowsText W.contents writer.old writer.new) }
+    ensures err { IfErr result (EndsPage W.contents writer.old writer.new) }
 {
     match page_of(command) {
         Some(page) => Ok(print_page(writer, page)?),
@@ -118,12 +111,11 @@ fn show_page<'a, W: Write>(
 
 fn invoke_load<'a, I: Images, W: Write>(
     alloc: Global,
-    images: &mut I,
+    desk: Desk<'_, I, W>,
     words: LoadWords<'a>,
-    writer: &mut Counted<W>,
 ) -> Result<(), CommandFault<'a>>
-    ensures ok { OnOk result (ListsDevices (calls I.relations I.Dev.state images.old images.new) (load_record words.entry) (W.contents writer.old.inner) (W.contents writer.new.inner)) }
-    ensures err { IfErr result (IsLoadWordsEnd (calls I.relations I.Dev.state images.old images.new) (load_record words.entry) (W.contents writer.old.inner) (W.contents writer.new.inner) writer.new.failed) }
+    ensures ok { OnOk result (DoesLoad I.relations I.Dev.state W.contents desk.entry desk.exit words.entry) }
+    ensures err { IfErr result (EndsLoad I.relations I.Dev.state W.contents desk.entry desk.exit words.entry) }
 {
     let LoadWords {
         stack,
@@ -131,19 +123,19 @@ fn invoke_load<'a, I: Images, W: Write>(
         json,
     } = words;
     let file = stack_file(stack, &bindings);
-    load_stack_file(alloc, images, file, json, writer)
+    load_stack_file(alloc, desk, file, json)
 }
 
 fn invoke_cat<'a, I: Images, W: Write, P: Progress>(
     alloc: Global,
-    images: &mut I,
+    desk: Desk<'_, I, W>,
     words: CatWords<'a>,
-    writer: &mut Counted<W>,
     progress: &mut P,
 ) -> Result<(), CommandFault<'a>>
-    ensures ok { OnOk result (CatsSectors (calls I.relations I.Dev.state images.old images.new) (cat_record words.entry) (W.contents writer.old.inner) (W.contents writer.new.inner)) }
-    ensures err { IfErr result (IsCatCommandEnd (calls I.relations I.Dev.state images.old images.new) (cat_record words.entry) (W.contents writer.old.inner) (W.contents writer.new.inner) writer.new.failed) }
+    ensures ok { OnOk result (DoesCat I.relations I.Dev.state W.contents desk.entry desk.exit words.entry) }
+    ensures err { IfErr result (EndsCat I.relations I.Dev.state W.contents desk.entry desk.exit words.entry) }
 {
+    let Desk { images, writer } = desk;
     let CatWords {
         cache,
         first,
@@ -175,8 +167,8 @@ fn invoke_store<'a, I: Images, S: Read, W: Write, P: Progress>(
     writer: &mut Counted<W>,
     progress: &mut P,
 ) -> Result<(), CommandFault<'a>>
-    ensures ok { OnOk result (StoresSectors (calls I.relations I.Dev.state images.old images.new) (store_record words.entry) (streams (S.remaining reader.old.inner) (W.contents writer.old.inner)) (streams (S.remaining reader.new.inner) (W.contents writer.new.inner))) }
-    ensures err { IfErr result (IsStoreCommandEnd (calls I.relations I.Dev.state images.old images.new) (store_record words.entry) (streams (S.remaining reader.old.inner) (W.contents writer.old.inner)) (streams (S.remaining reader.new.inner) (W.contents writer.new.inner)) writer.new.failed) }
+    ensures ok { OnOk result (DoesStore I.relations I.Dev.state S.remaining W.contents images.old images.new reader.old reader.new writer.old writer.new words.entry) }
+    ensures err { IfErr result (EndsStore I.relations I.Dev.state S.remaining W.contents images.old images.new reader.old reader.new writer.old writer.new words.entry) }
 {
     let StoreWords {
         cache,
@@ -201,13 +193,12 @@ fn invoke_store<'a, I: Images, S: Read, W: Write, P: Progress>(
 
 fn invoke_scan<'a, I: Images, W: Write, P: Progress>(
     alloc: Global,
-    images: &mut I,
+    desk: Desk<'_, I, W>,
     words: ScanWords<'a>,
-    writer: &mut Counted<W>,
     progress: &mut P,
 ) -> Result<(), CommandFault<'a>>
-    ensures ok { OnOk result (ScansSectors (calls I.relations I.Dev.state images.old images.new) (scan_record words.entry) (W.contents writer.old.inner) (W.contents writer.new.inner)) }
-    ensures err { IfErr result (IsScanWordsEnd (calls I.relations I.Dev.state images.old images.new) (scan_record words.entry) (W.contents writer.old.inner) (W.contents writer.new.inner) writer.new.failed) }
+    ensures ok { OnOk result (DoesScan I.relations I.Dev.state W.contents desk.entry desk.exit words.entry) }
+    ensures err { IfErr result (EndsScan I.relations I.Dev.state W.contents desk.entry desk.exit words.entry) }
 {
     let ScanWords {
         cache,
@@ -225,27 +216,27 @@ fn invoke_scan<'a, I: Images, W: Write, P: Progress>(
     let device = NamedDevice { name, cache };
     if json {
         return match map {
-            None => scan_to_object(alloc, images, file, device, writer, progress),
-            Some(map) => {
-                scan_to_object_by_map(alloc, images, file, device, map, writer, progress)
-            }
+            None => scan_to_object(alloc, desk, file, device, progress),
+            Some(map) => scan_to_object_by_map(alloc, desk, file, device, map, progress),
         };
     }
     match map {
-        None => Ok(scan_device(alloc, images, file, device, writer, progress)?),
-        Some(map) => scan_by_map(alloc, images, file, device, map, writer, progress),
+        None => {
+            let Desk { images, writer } = desk;
+            Ok(scan_device(alloc, images, file, device, writer, progress)?)
+        }
+        Some(map) => scan_by_map(alloc, desk, file, device, map, progress),
     }
 }
 
 fn invoke_copy<'a, I: Images, W: Write, P: Progress>(
     alloc: Global,
-    images: &mut I,
+    desk: Desk<'_, I, W>,
     words: CopyWords<'a>,
-    writer: &mut Counted<W>,
     progress: &mut P,
 ) -> Result<(), CommandFault<'a>>
-    ensures ok { OnOk result (CopiesSectors (calls I.relations I.Dev.state images.old images.new) (copy_record words.entry) (W.contents writer.old.inner) (W.contents writer.new.inner)) }
-    ensures err { IfErr result (IsCopyWordsEnd (calls I.relations I.Dev.state images.old images.new) (copy_record words.entry) (W.contents writer.old.inner) (W.contents writer.new.inner) writer.new.failed) }
+    ensures ok { OnOk result (DoesCopy I.relations I.Dev.state W.contents desk.entry desk.exit words.entry) }
+    ensures err { IfErr result (EndsCopy I.relations I.Dev.state W.contents desk.entry desk.exit words.entry) }
 {
     let CopyWords {
         cache,
@@ -267,8 +258,11 @@ fn invoke_copy<'a, I: Images, W: Write, P: Progress>(
         differing,
     };
     match map {
-        None => Ok(copy_device(alloc, images, file, device, output, writer, progress)?),
-        Some(map) => copy_by_map(alloc, images, file, device, output, map, writer, progress),
+        None => {
+            let Desk { images, writer } = desk;
+            Ok(copy_device(alloc, images, file, device, output, writer, progress)?)
+        }
+        Some(map) => copy_by_map(alloc, desk, file, device, output, map, progress),
     }
 }
 
@@ -279,8 +273,8 @@ fn invoke_exports<'a, I: Images, S: Read, W: Write>(
     reader: &mut Counted<S>,
     writer: &mut Counted<W>,
 ) -> Result<(), CommandFault<'a>>
-    ensures ok { OnOk result (ServesDevices (calls I.relations I.Dev.state images.old images.new) (exports_record words.entry) (streams (S.remaining reader.old.inner) (W.contents writer.old.inner)) (streams (S.remaining reader.new.inner) (W.contents writer.new.inner))) }
-    ensures err { IfErr result (IsExportsWordsEnd (calls I.relations I.Dev.state images.old images.new) (exports_record words.entry) (streams (S.remaining reader.old.inner) (W.contents writer.old.inner)) (streams (S.remaining reader.new.inner) (W.contents writer.new.inner)) writer.new.failed) }
+    ensures ok { OnOk result (DoesExports I.relations I.Dev.state S.remaining W.contents images.old images.new reader.old reader.new writer.old writer.new words.entry) }
+    ensures err { IfErr result (EndsExports I.relations I.Dev.state S.remaining W.contents images.old images.new reader.old reader.new writer.old writer.new words.entry) }
 {
     let ExportsWords {
         cache,

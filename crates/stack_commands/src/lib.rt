@@ -1,6 +1,7 @@
 //! The commands of the program: words and a reader in, a written text and a status out.
 #![tactic(auto)]
 
+mod desk;
 mod ending;
 mod fault;
 mod fault_texts;

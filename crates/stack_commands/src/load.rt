@@ -1,12 +1,9 @@
 //! The command `load`: checks a stack, and says what its devices are.
 ghost use Rattle.std.specs.Prelude.{◌≡◌, ◌⊎◌, IfErr, OnOk};
-ghost use Rattle.std.specs.Io.KnownBytes.{Appends};
-ghost use Rattle.image_files.specs.Opener.{calls};
-ghost use Rattle.stack_json.specs.Lines.{load_text};
-ghost use Rattle.stack_opening.specs.OpenStacks.{stack_words};
 ghost use Rattle.stack_commands.specs.Endings.{IsSilent, IsReplyUnwritten};
-ghost use Rattle.stack_commands.specs.StackCommands.{IsListEnd, PrintsDevices};
+ghost use Rattle.stack_commands.specs.Desks.{EndsListing, IsSilentOn, ListsFile, PrintsConfiguration};
 
+use crate::desk::Desk;
 use crate::fault::CommandFault;
 use counted_io::Counted;
 use image_files::Images;
@@ -21,15 +18,15 @@ use std::io::Write;
 #[tactic(auto, using(crate::proofs::EndingLemmas::quiet))]
 pub fn load_stack_file<'a, I: Images, W: Write>(
     alloc: Global,
-    images: &mut I,
+    desk: Desk<'_, I, W>,
     file: StackFile<'a, '_>,
     json: bool,
-    writer: &mut Counted<W>,
 ) -> Result<(), CommandFault<'a>>
-    ensures ok { OnOk result (PrintsDevices json (calls I.relations I.Dev.state images.old images.new) (stack_words file.entry) (W.contents writer.old.inner) (W.contents writer.new.inner)) }
-    ensures err { IfErr result (IsListEnd (calls I.relations I.Dev.state images.old images.new) (stack_words file.entry) writer.new.failed) }
-    ensures quiet { IfErr result (λ fault. IsSilent fault (W.contents writer.old.inner) (W.contents writer.new.inner)) }
+    ensures ok { OnOk result (ListsFile I.relations I.Dev.state W.contents desk.entry desk.exit file.entry json) }
+    ensures err { IfErr result (EndsListing I.relations I.Dev.state W.contents desk.entry desk.exit file.entry) }
+    ensures quiet { IfErr result (IsSilentOn W.contents desk.entry desk.exit) }
 {
+    let Desk { images, writer } = desk;
     let config = open_configuration(alloc, images, file)?;
     say_configuration(alloc, &config, json, writer)
 }
@@ -42,7 +39,7 @@ fn say_configuration<'a, W: Write>(
     json: bool,
     writer: &mut Counted<W>,
 ) -> Result<(), CommandFault<'a>>
-    ensures ok { OnOk result (Appends (W.contents writer.old.inner) (W.contents writer.new.inner) (load_text json config.now)) }
+    ensures ok { OnOk result (PrintsConfiguration W.contents writer.old writer.new config.now json) }
     ensures err { IfErr result (λ fault. (fault ≡ CommandFault.NoMemory) ⊎ IsReplyUnwritten writer.new.failed fault) }
     ensures quiet { IfErr result (λ fault. IsSilent fault (W.contents writer.old.inner) (W.contents writer.new.inner)) }
 {

@@ -1,14 +1,9 @@
 //! The command `copy` with a map file.
 ghost use Rattle.std.specs.Prelude.{◌≤◌, ◌<◌, length, IsTrue, OnOk, IfOk, IfErr};
-ghost use Rattle.image_files.specs.Opener.{calls};
 ghost use Rattle.stack_rules.specs.Names.{mapped, size};
-ghost use Rattle.stack_recovery.specs.Recoveries.{sides};
-ghost use Rattle.stack_opening.specs.OpenStacks.{stack_words};
-ghost use Rattle.stack_making.specs.NamedDevices.{device_words};
-ghost use Rattle.rescue_files.specs.ByMap.{IsMapEnd, moving};
-ghost use Rattle.recovery_commands.specs.Copies.{copy_words};
-ghost use Rattle.stack_commands.specs.MappedCopies.{CopiesByMap, CutsCopying, IsMappedCopyEnd, PrintsMappedCopy};
+ghost use Rattle.stack_commands.specs.Desks.{CopiesInTurns, CopiesMapped, CutsInTurns, EndsMappedCopy};
 
+use crate::desk::Desk;
 use crate::fault::CommandFault;
 use block_device::{BlockDev, SyncDev};
 use counted_io::Counted;
@@ -29,17 +24,17 @@ use std::io::Write;
 /// bindings that weren't had, as the map file says, as far as they can be had, to an image, and keeps the map.
 pub fn copy_by_map<'a, I: Images, W: Write, P: Progress>(
     alloc: Global,
-    images: &mut I,
+    desk: Desk<'_, I, W>,
     file: StackFile<'a, '_>,
     device: NamedDevice<'a>,
     output: Output<'a>,
     map: &'a str,
-    writer: &mut Counted<W>,
     progress: &mut P,
 ) -> Result<(), CommandFault<'a>>
-    ensures ok { OnOk result (PrintsMappedCopy (calls I.relations I.Dev.state images.old images.new) (copy_words (device_words (stack_words file.entry) device.entry.name.now device.entry.cache) output.entry.path.now output.entry.differing) map.now (W.contents writer.old.inner) (W.contents writer.new.inner)) }
-    ensures err { IfErr result (IsMappedCopyEnd (calls I.relations I.Dev.state images.old images.new) (copy_words (device_words (stack_words file.entry) device.entry.name.now device.entry.cache) output.entry.path.now output.entry.differing) map.now (W.contents writer.old.inner) (W.contents writer.new.inner) writer.new.failed) }
+    ensures ok { OnOk result (CopiesMapped I.relations I.Dev.state W.contents desk.entry desk.exit file.entry device.entry output.entry map.now) }
+    ensures err { IfErr result (EndsMappedCopy I.relations I.Dev.state W.contents desk.entry desk.exit file.entry device.entry output.entry map.now) }
 {
+    let Desk { images, writer } = desk;
     let Output { path, differing } = output;
     let (mut stack, device, image) = open_with_room(alloc, images, file, device, path)?;
     let OpenImage {
@@ -71,8 +66,8 @@ fn copy_in_turns<'a, I: Images, D: BlockDev, O: SyncDev + Drop, W: Write, P: Pro
     requires device { device.0 < length stack.old.config.devices }
     requires room { size stack.old.config (mapped device.0) ≤ (O.state image).size }
     requires allowed { IsTrue (O.state image).may_write }
-    ensures ok { IfOk result.1 (CopiesByMap differing (calls I.relations I.Dev.state images.old images.new) map.now device.0 (moving (sides stack.old (O.state image) (W.contents writer.old.inner)) (sides stack.new (O.state result.0) (W.contents writer.new.inner)))) }
-    ensures err { IfErr result.1 (IsMapEnd map.now (CutsCopying differing (calls I.relations I.Dev.state images.old images.new) map.now device.0 (moving (sides stack.old (O.state image) (W.contents writer.old.inner)) (sides stack.new (O.state result.0) (W.contents writer.new.inner))) writer.new.failed)) }
+    ensures ok { IfOk result.1 (CopiesInTurns I.relations I.Dev.state O.state W.contents images.old images.new stack.old stack.new image result.0 writer.old writer.new map.now device.0 differing) }
+    ensures err { IfErr result.1 (CutsInTurns I.relations I.Dev.state O.state W.contents images.old images.new stack.old stack.new image result.0 writer.old writer.new map.now device.0 differing) }
 {
     if differing {
         let mut compared = Differing::new(image);

@@ -1,13 +1,10 @@
 //! The command `scan` with a map file.
 ghost use Rattle.std.specs.Prelude.{OnOk, IfErr};
-ghost use Rattle.image_files.specs.Opener.{calls};
-ghost use Rattle.stack_making.specs.NamedDevices.{device_words};
-ghost use Rattle.stack_opening.specs.OpenStacks.{stack_words};
-ghost use Rattle.stack_commands.specs.MappedCopies.{IsMappedScanEnd, PrintsMappedScan};
+ghost use Rattle.stack_commands.specs.Desks.{EndsMappedScan, ScansMapped};
 
+use crate::desk::Desk;
 use crate::fault::CommandFault;
 use block_device::BlockDev;
-use counted_io::Counted;
 use image_files::Images;
 use progress::Progress;
 use recovery_commands::tell_counts;
@@ -22,16 +19,16 @@ use std::io::Write;
 /// weren't had, as the map file says, says which sectors are lost, and keeps the map.
 pub fn scan_by_map<'a, I: Images, W: Write, P: Progress>(
     alloc: Global,
-    images: &mut I,
+    desk: Desk<'_, I, W>,
     file: StackFile<'a, '_>,
     device: NamedDevice<'a>,
     map: &'a str,
-    writer: &mut Counted<W>,
     progress: &mut P,
 ) -> Result<(), CommandFault<'a>>
-    ensures ok { OnOk result (PrintsMappedScan (calls I.relations I.Dev.state images.old images.new) (device_words (stack_words file.entry) device.entry.name.now device.entry.cache) map.now (W.contents writer.old.inner) (W.contents writer.new.inner)) }
-    ensures err { IfErr result (IsMappedScanEnd (calls I.relations I.Dev.state images.old images.new) (device_words (stack_words file.entry) device.entry.name.now device.entry.cache) map.now (W.contents writer.old.inner) (W.contents writer.new.inner) writer.new.failed) }
+    ensures ok { OnOk result (ScansMapped I.relations I.Dev.state W.contents desk.entry desk.exit file.entry device.entry map.now) }
+    ensures err { IfErr result (EndsMappedScan I.relations I.Dev.state W.contents desk.entry desk.exit file.entry device.entry map.now) }
 {
+    let Desk { images, writer } = desk;
     let (mut stack, device) = open_device(alloc, images, file, device)?;
     let mut out = Discard::new(stack.config().sectors(device));
     let counts = rescue_by_map(

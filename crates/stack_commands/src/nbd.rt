@@ -1,10 +1,6 @@
 //! The command `nbd`: serves a device, or each device, of a stack to a client of the NBD protocol.
-ghost use Rattle.std.specs.Prelude.{map, Ok, OnOk, IfErr};
-ghost use Rattle.counted_io.specs.Streams.{streams};
-ghost use Rattle.command_line.specs.Bindings.{binding_record};
-ghost use Rattle.image_files.specs.Opener.{calls};
-ghost use Rattle.stack_commands.specs.StackCommands.{IsClientEnd, ServesClient, device_on, on};
-ghost use Rattle.stack_commands.specs.ManyExports.{IsExportsEnd, ServesExports};
+ghost use Rattle.std.specs.Prelude.{OnOk, IfErr};
+ghost use Rattle.stack_commands.specs.Served.{EndsAll, EndsClient, ServesDevice, ServesEach};
 
 use crate::fault::CommandFault;
 use block_device::BlockDev;
@@ -29,8 +25,8 @@ pub fn serve_client<'a, I: Images, R: Read, W: Write>(
     reader: &mut Counted<R>,
     writer: &mut Counted<W>,
 ) -> Result<(), CommandFault<'a>>
-    ensures ok { OnOk result (ServesClient (calls I.relations I.Dev.state images.old images.new) (device_on device.entry.stack.now device.entry.name.now device.entry.cache (map binding_record bindings.now)) (streams (R.remaining reader.old.inner) (W.contents writer.old.inner)) (streams (R.remaining reader.new.inner) (W.contents writer.new.inner)) (Ok tt) (Ok tt)) }
-    ensures err { IfErr result (IsClientEnd (calls I.relations I.Dev.state images.old images.new) (device_on device.entry.stack.now device.entry.name.now device.entry.cache (map binding_record bindings.now)) (streams (R.remaining reader.old.inner) (W.contents writer.old.inner)) (streams (R.remaining reader.new.inner) (W.contents writer.new.inner)) writer.new.failed) }
+    ensures ok { OnOk result (ServesDevice I.relations I.Dev.state R.remaining W.contents images.old images.new reader.old reader.new writer.old writer.new device.entry bindings.now) }
+    ensures err { IfErr result (EndsClient I.relations I.Dev.state R.remaining W.contents images.old images.new reader.old reader.new writer.old writer.new device.entry bindings.now) }
 {
     let file = StackFile {
         path: device.stack,
@@ -58,8 +54,8 @@ pub fn serve_exports<'a, I: Images, R: Read, W: Write>(
     reader: &mut Counted<R>,
     writer: &mut Counted<W>,
 ) -> Result<(), CommandFault<'a>>
-    ensures ok { OnOk result (ServesExports (calls I.relations I.Dev.state images.old images.new) (on stack.now (map binding_record bindings.now)) cache (streams (R.remaining reader.old.inner) (W.contents writer.old.inner)) (streams (R.remaining reader.new.inner) (W.contents writer.new.inner)) (Ok tt) (Ok tt)) }
-    ensures err { IfErr result (IsExportsEnd (calls I.relations I.Dev.state images.old images.new) (on stack.now (map binding_record bindings.now)) cache (streams (R.remaining reader.old.inner) (W.contents writer.old.inner)) (streams (R.remaining reader.new.inner) (W.contents writer.new.inner)) writer.new.failed) }
+    ensures ok { OnOk result (ServesEach I.relations I.Dev.state R.remaining W.contents images.old images.new reader.old reader.new writer.old writer.new cache stack.now bindings.now) }
+    ensures err { IfErr result (EndsAll I.relations I.Dev.state R.remaining W.contents images.old images.new reader.old reader.new writer.old writer.new cache stack.now bindings.now) }
 {
     let file = StackFile {
         path: stack,

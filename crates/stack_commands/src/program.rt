@@ -1,13 +1,13 @@
 //! The whole program: its words, a reader and a writer in, the status out.
 ghost use Rattle.std.specs.Prelude.{false, ◌≡◌, ◌⊎◌, ℕ, List, Option, map, string_bytes, OnOk, IfErr};
 ghost use Rattle.counted_io.specs.Streams.{streams};
-ghost use Rattle.command_line.specs.CommandWords.{invocation_record};
-ghost use Rattle.command_line.specs.FormatOptions.{option_texts};
 ghost use Rattle.image_commands.specs.Drawing.{drawing};
 ghost use Rattle.image_files.specs.Opener.{calls};
-ghost use Rattle.stack_commands.specs.Commands.{EndsCommand, FailsCommand, IsCommandDone, IsRunEnd, Succeeds, is_cat, is_usage, told_to};
+ghost use Rattle.stack_commands.specs.Commands.{EndsCommand, IsCommandDone, is_cat, is_usage, told_to};
+ghost use Rattle.stack_commands.specs.Lines.{DoesLine, DoesOnDevice, DoesOnStack, DoesWords, EndsLine, EndsOnDevice, EndsOnStack, EndsWords, IsOnDevice, IsOnStack};
 ghost use Rattle.stack_commands.specs.Uses.{uses};
 
+use crate::desk::Desk;
 use crate::ending::end;
 use crate::fault::CommandFault;
 use crate::further::{FurtherLine, invoke_further};
@@ -109,8 +109,8 @@ fn run<'a, I: Images, G: Generators + Progress + Watchers, S: Read, W: Write>(
 ) -> Result<(), CommandFault<'a>>
     requires reader { reader.old.failed ≡ false }
     requires writer { writer.old.failed ≡ false }
-    ensures ok { OnOk result (IsCommandDone (map string_bytes words.now) (uses (calls I.relations I.Dev.state images.old images.new) (drawing G.gives G.Generator.stream generators.old generators.new) (streams (S.remaining reader.old.inner) (W.contents writer.old.inner)) (streams (S.remaining reader.new.inner) (W.contents writer.new.inner)))) }
-    ensures err { IfErr result (IsRunEnd (map string_bytes words.now) (uses (calls I.relations I.Dev.state images.old images.new) (drawing G.gives G.Generator.stream generators.old generators.new) (streams (S.remaining reader.old.inner) (W.contents writer.old.inner)) (streams (S.remaining reader.new.inner) (W.contents writer.new.inner))) writer.new.failed) }
+    ensures ok { OnOk result (DoesWords I.relations I.Dev.state S.remaining W.contents images.old images.new (drawing G.gives G.Generator.stream generators.old generators.new) reader.old reader.new writer.old writer.new (map string_bytes words.now)) }
+    ensures err { IfErr result (EndsWords I.relations I.Dev.state S.remaining W.contents images.old images.new (drawing G.gives G.Generator.stream generators.old generators.new) reader.old reader.new writer.old writer.new (map string_bytes words.now)) }
 {
     let line = parse(alloc, words)?;
     invoke(alloc, images, generators, line, reader, writer)
@@ -127,67 +127,16 @@ fn invoke<'a, I: Images, G: Generators + Progress + Watchers, S: Read, W: Write>
 ) -> Result<(), CommandFault<'a>>
     requires reader { reader.old.failed ≡ false }
     requires writer { writer.old.failed ≡ false }
-    ensures ok { OnOk result (Succeeds (option_texts line.entry.options) (invocation_record line.entry.invocation) (uses (calls I.relations I.Dev.state images.old images.new) (drawing G.gives G.Generator.stream generators.old generators.new) (streams (S.remaining reader.old.inner) (W.contents writer.old.inner)) (streams (S.remaining reader.new.inner) (W.contents writer.new.inner)))) }
-    ensures err { IfErr result (FailsCommand (option_texts line.entry.options) (invocation_record line.entry.invocation) (uses (calls I.relations I.Dev.state images.old images.new) (drawing G.gives G.Generator.stream generators.old generators.new) (streams (S.remaining reader.old.inner) (W.contents writer.old.inner)) (streams (S.remaining reader.new.inner) (W.contents writer.new.inner))) writer.new.failed) }
+    ensures ok { OnOk result (DoesLine I.relations I.Dev.state S.remaining W.contents images.old images.new (drawing G.gives G.Generator.stream generators.old generators.new) reader.old reader.new writer.old writer.new line.entry) }
+    ensures err { IfErr result (EndsLine I.relations I.Dev.state S.remaining W.contents images.old images.new (drawing G.gives G.Generator.stream generators.old generators.new) reader.old reader.new writer.old writer.new line.entry) }
 {
     let CommandLine {
         invocation,
         options,
     } = line;
     match invocation {
-        Invocation::Load { stack, bindings } => {
-            let file = stack_file(stack, &bindings);
-            load_stack_file(alloc, images, file, false, writer)
-        }
-        Invocation::Read {
-            cache,
-            stack,
-            sectors,
-            bindings,
-        } => {
-            let file = stack_file(stack, &bindings);
-            read_stack_file(alloc, images, file, cache, sectors, writer)
-        }
-        Invocation::Write {
-            cache,
-            stack,
-            transfer,
-            bindings,
-        } => {
-            let file = stack_file(stack, &bindings);
-            write_stack_file(alloc, images, file, cache, transfer, writer)
-        }
         Invocation::Session { cache, bindings } => {
             serve_lines(alloc, images, cache, bindings.as_slice(), reader, writer)
-        }
-        Invocation::Scan {
-            stack,
-            name,
-            bindings,
-        } => {
-            let file = stack_file(stack, &bindings);
-            let device = NamedDevice {
-                name,
-                cache: CACHED_BLOCKS,
-            };
-            Ok(scan_device(alloc, images, file, device, writer, generators)?)
-        }
-        Invocation::Copy {
-            stack,
-            name,
-            out,
-            bindings,
-        } => {
-            let file = stack_file(stack, &bindings);
-            let device = NamedDevice {
-                name,
-                cache: CACHED_BLOCKS,
-            };
-            let output = Output {
-                path: out,
-                differing: false,
-            };
-            Ok(copy_device(alloc, images, file, device, output, writer, generators)?)
         }
         Invocation::Nbd { device, bindings } => {
             serve_client(alloc, images, device, bindings.as_slice(), reader, writer)
@@ -199,5 +148,85 @@ fn invoke<'a, I: Images, G: Generators + Progress + Watchers, S: Read, W: Write>
             let line = FurtherLine { further, options };
             invoke_further(alloc, images, generators, line, reader, writer)
         }
+        invocation => invoke_on_stack(alloc, Desk { images, writer }, invocation, generators),
+    }
+}
+
+// The commands on a stack file that read no input.
+fn invoke_on_stack<'a, I: Images, W: Write, P: Progress>(
+    alloc: Global,
+    desk: Desk<'_, I, W>,
+    invocation: Invocation<'a>,
+    progress: &mut P,
+) -> Result<(), CommandFault<'a>>
+    requires { IsOnStack invocation }
+    ensures ok { OnOk result (DoesOnStack I.relations I.Dev.state W.contents desk.entry desk.exit invocation.entry) }
+    ensures err { IfErr result (EndsOnStack I.relations I.Dev.state W.contents desk.entry desk.exit invocation.entry) }
+{
+    match invocation {
+        Invocation::Load { stack, bindings } => {
+            let file = stack_file(stack, &bindings);
+            load_stack_file(alloc, desk, file, false)
+        }
+        Invocation::Read {
+            cache,
+            stack,
+            sectors,
+            bindings,
+        } => {
+            let file = stack_file(stack, &bindings);
+            read_stack_file(alloc, desk, file, cache, sectors)
+        }
+        Invocation::Write {
+            cache,
+            stack,
+            transfer,
+            bindings,
+        } => {
+            let file = stack_file(stack, &bindings);
+            write_stack_file(alloc, desk, file, cache, transfer)
+        }
+        invocation => invoke_on_device(alloc, desk, invocation, progress),
+    }
+}
+
+// Those that go over a device.
+fn invoke_on_device<'a, I: Images, W: Write, P: Progress>(
+    alloc: Global,
+    desk: Desk<'_, I, W>,
+    invocation: Invocation<'a>,
+    progress: &mut P,
+) -> Result<(), CommandFault<'a>>
+    requires { IsOnDevice invocation }
+    ensures ok { OnOk result (DoesOnDevice I.relations I.Dev.state W.contents desk.entry desk.exit invocation.entry) }
+    ensures err { IfErr result (EndsOnDevice I.relations I.Dev.state W.contents desk.entry desk.exit invocation.entry) }
+{
+    let Desk { images, writer } = desk;
+    let cache = CACHED_BLOCKS;
+    match invocation {
+        Invocation::Scan {
+            stack,
+            name,
+            bindings,
+        } => {
+            let file = stack_file(stack, &bindings);
+            let device = NamedDevice { name, cache };
+            Ok(scan_device(alloc, images, file, device, writer, progress)?)
+        }
+        Invocation::Copy {
+            stack,
+            name,
+            out,
+            bindings,
+        } => {
+            let file = stack_file(stack, &bindings);
+            let device = NamedDevice { name, cache };
+            let output = Output {
+                path: out,
+                differing: false,
+            };
+            Ok(copy_device(alloc, images, file, device, output, writer, progress)?)
+        }
+        _ => Err(CommandFault::Usage),
     }
 }

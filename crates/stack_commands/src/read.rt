@@ -1,14 +1,10 @@
 //! The command `read`: prints sectors of a device.
 ghost use Rattle.std.specs.Prelude.{OnOk, IfErr};
-ghost use Rattle.image_files.specs.Opener.{calls};
-ghost use Rattle.stack_opening.specs.OpenStacks.{stack_words};
-ghost use Rattle.request_commands.specs.Requests.{read_request};
-ghost use Rattle.stack_commands.specs.Endings.{IsSilent};
-ghost use Rattle.stack_commands.specs.StackCommands.{IsReadEnd, PrintsReply};
+ghost use Rattle.stack_commands.specs.Desks.{EndsReading, IsSilentOn, ReadsFile};
 
+use crate::desk::Desk;
 use crate::fault::CommandFault;
 use command_line::Sectors;
-use counted_io::Counted;
 use image_files::Images;
 use request_commands::read_sectors;
 use stack_opening::StackFile;
@@ -21,16 +17,16 @@ use std::io::Write;
 #[tactic(auto, using(crate::proofs::EndingLemmas::quiet))]
 pub fn read_stack_file<'a, I: Images, W: Write>(
     alloc: Global,
-    images: &mut I,
+    desk: Desk<'_, I, W>,
     file: StackFile<'a, '_>,
     cache: u32,
     sectors: Sectors<'_>,
-    writer: &mut Counted<W>,
 ) -> Result<(), CommandFault<'a>>
-    ensures ok { OnOk result (PrintsReply (calls I.relations I.Dev.state images.old images.new) (stack_words file.entry) cache (read_request sectors.entry) (W.contents writer.old.inner) (W.contents writer.new.inner)) }
-    ensures err { IfErr result (IsReadEnd (calls I.relations I.Dev.state images.old images.new) (stack_words file.entry) cache (read_request sectors.entry) writer.new.failed) }
-    ensures quiet { IfErr result (λ fault. IsSilent fault (W.contents writer.old.inner) (W.contents writer.new.inner)) }
+    ensures ok { OnOk result (ReadsFile I.relations I.Dev.state W.contents desk.entry desk.exit file.entry cache sectors.entry) }
+    ensures err { IfErr result (EndsReading I.relations I.Dev.state W.contents desk.entry desk.exit file.entry cache sectors.entry) }
+    ensures quiet { IfErr result (IsSilentOn W.contents desk.entry desk.exit) }
 {
+    let Desk { images, writer } = desk;
     let reply = read_sectors(alloc, images, file, cache, sectors)?;
     Ok(say_reply(writer, sectors.first, reply)?)
 }

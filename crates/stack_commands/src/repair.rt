@@ -1,17 +1,11 @@
 //! The command `repair`.
 ghost use Rattle.std.specs.Prelude.{◌≡◌, ◌≤◌, ◌^◌, OnOk, IfErr};
-ghost use Rattle.command_line.specs.FecFiles.{fec_record};
-ghost use Rattle.command_line.specs.words.Repair.{repair_record};
-ghost use Rattle.image_files.specs.Opener.{calls};
-ghost use Rattle.stack_commands.specs.Repairing.{IsParityWordsEnd, IsRepairWordsEnd, RepairsImage, parity_fault};
-ghost use Rattle.repair_commands.specs.ByParity.{RepairsByParity};
-ghost use Rattle.repair_commands.specs.Commands.{IsRepairEnd, RepairsFiles};
-ghost use Rattle.repair_commands.specs.Pairs.{places_of};
-ghost use Rattle.stack_commands.specs.Uses.{IsTreesEnd};
+ghost use Rattle.stack_commands.specs.Desks.{DoesRepair, EndsByCopies, EndsByParity, EndsRepair, FixesByCopies, FixesByParity};
+ghost use Rattle.stack_commands.specs.Repairing.{parity_fault};
 
+use crate::desk::Desk;
 use crate::fault::CommandFault;
 use command_line::{FecFile, ImageCopy, RepairWords};
-use counted_io::Counted;
 use fec_area::ParityFault;
 use fec_commands::FecFault;
 use image_files::Images;
@@ -26,15 +20,14 @@ use watched_device::Watchers;
 /// is known before an image is opened.
 pub fn repair_image<'a, I: Images, S: Watchers, W: Write>(
     alloc: Global,
-    images: &mut I,
+    desk: Desk<'_, I, W>,
     watchers: &S,
     words: &RepairWords<'a>,
-    writer: &mut Counted<W>,
 ) -> Result<(), CommandFault<'a>>
-    ensures ok { OnOk result (RepairsImage (calls I.relations I.Dev.state images.old images.new) (repair_record words.now) (W.contents writer.old.inner) (W.contents writer.new.inner)) }
-    ensures err { IfErr result (IsRepairWordsEnd (calls I.relations I.Dev.state images.old images.new) (repair_record words.now) (W.contents writer.old.inner) (W.contents writer.new.inner) writer.new.failed) }
+    ensures ok { OnOk result (DoesRepair I.relations I.Dev.state W.contents desk.entry desk.exit words.now) }
+    ensures err { IfErr result (EndsRepair I.relations I.Dev.state W.contents desk.entry desk.exit words.now) }
 {
-    let root = match root_in(images, &words.root) {
+    let root = match root_in(desk.images, &words.root) {
         Ok(root) => root,
         Err(fault) => return Err(CommandFault::Verity(VerityFault::Image(fault))),
     };
@@ -46,49 +39,49 @@ pub fn repair_image<'a, I: Images, S: Watchers, W: Write>(
     };
     let copies = words.copies.as_slice();
     match &words.fec {
-        None => by_copies(alloc, images, watchers, places, copies, &root, writer),
-        Some(fec) => by_parity(alloc, images, watchers, places, fec, copies, &root, writer),
+        None => by_copies(alloc, desk, watchers, places, copies, &root),
+        Some(fec) => by_parity(alloc, desk, watchers, places, fec, copies, &root),
     }
 }
 
 // Without parity.
 fn by_copies<'a, I: Images, S: Watchers, W: Write>(
     alloc: Global,
-    images: &mut I,
+    desk: Desk<'_, I, W>,
     watchers: &S,
     places: RepairPlaces<'a>,
     copies: &[ImageCopy<'a>],
     root: &Digest,
-    writer: &mut Counted<W>,
 ) -> Result<(), CommandFault<'a>>
     requires { places.hash_first ≤ 2 ^ 55 }
-    ensures ok { OnOk result (RepairsFiles (calls I.relations I.Dev.state images.old images.new) (places_of places.entry) copies.now root.now (W.contents writer.old.inner) (W.contents writer.new.inner)) }
-    ensures err { IfErr result (IsTreesEnd (IsRepairEnd (calls I.relations I.Dev.state images.old images.new) (places_of places.entry) copies.now root.now (W.contents writer.old.inner) (W.contents writer.new.inner) writer.new.failed)) }
+    ensures ok { OnOk result (FixesByCopies I.relations I.Dev.state W.contents desk.entry desk.exit places.entry copies.now root.now) }
+    ensures err { IfErr result (EndsByCopies I.relations I.Dev.state W.contents desk.entry desk.exit places.entry copies.now root.now) }
 {
+    let Desk { images, writer } = desk;
     Ok(repair_images(alloc, images, watchers, places, copies, root, writer)?)
 }
 
 // By parity too, of which a codeword has 2 to 24 bytes.
 fn by_parity<'a, I: Images, S: Watchers, W: Write>(
     alloc: Global,
-    images: &mut I,
+    desk: Desk<'_, I, W>,
     watchers: &S,
     places: RepairPlaces<'a>,
     fec: &FecFile<'a>,
     copies: &[ImageCopy<'a>],
     root: &Digest,
-    writer: &mut Counted<W>,
 ) -> Result<(), CommandFault<'a>>
     requires { places.hash_first ≤ 2 ^ 55 }
-    ensures ok { OnOk result (RepairsByParity (calls I.relations I.Dev.state images.old images.new) (places_of places.entry) (fec_record fec.now) copies.now root.now (W.contents writer.old.inner) (W.contents writer.new.inner)) }
-    ensures err { IfErr result (IsParityWordsEnd (calls I.relations I.Dev.state images.old images.new) (places_of places.entry) (fec_record fec.now) copies.now root.now (W.contents writer.old.inner) (W.contents writer.new.inner) writer.new.failed) }
+    ensures ok { OnOk result (FixesByParity I.relations I.Dev.state W.contents desk.entry desk.exit places.entry fec.now copies.now root.now) }
+    ensures err { IfErr result (EndsByParity I.relations I.Dev.state W.contents desk.entry desk.exit places.entry fec.now copies.now root.now) }
 {
+    let Desk { images, writer } = desk;
     if fec.roots < 2 || fec.roots > 24 {
         return Err(CommandFault::Usage);
     }
     match repair_by_parity(alloc, images, watchers, places, fec, copies, root, writer) {
         Ok(()) => Ok(()),
-        Err(fault) => Err(parity_fault(fault)),
+        Err(fault) => return Err(parity_fault(fault)),
     }
 }
 

@@ -1,16 +1,10 @@
 //! The command `scan --json`: says which sectors of a device are lost, as one JSON object.
-ghost use Rattle.std.specs.Prelude.{◌≡◌, ◌≤◌, ◌<◌, length, Some, IfErr, IfOk, OnOk};
-ghost use Rattle.image_files.specs.Opener.{calls};
-ghost use Rattle.stack_opening.specs.OpenStacks.{stack_words};
+ghost use Rattle.std.specs.Prelude.{◌≡◌, ◌≤◌, ◌<◌, length, IfErr, IfOk, OnOk};
 ghost use Rattle.stack_rules.specs.Names.{mapped, size};
-ghost use Rattle.stack_making.specs.NamedDevices.{device_words};
-ghost use Rattle.stack_recovery.specs.Recoveries.{sides};
-ghost use Rattle.stack_recovery.specs.Texts.{lost_text};
-ghost use Rattle.rescue_files.specs.ByMap.{IsMapEnd, IsRescued, IsUnrescued, moving};
-ghost use Rattle.recovery_commands.specs.Scans.{Scans};
-ghost use Rattle.stack_commands.specs.MappedCopies.{ScansByMap};
-ghost use Rattle.stack_commands.specs.ScanObjects.{IsMappedObjectEnd, IsObjectEnd, IsScanObjectEnd, IsMapUnkept, PrintsLost, PrintsScanObject, unkept_map, unkept_fault};
+ghost use Rattle.stack_commands.specs.Desks.{EndsMappedObject, EndsObject, EndsSaying, KeepsRuns, LosesRuns, SaysNoneLost, TellsMapped, TellsObject};
+ghost use Rattle.stack_commands.specs.ScanObjects.{unkept_map, unkept_fault};
 
+use crate::desk::Desk;
 use crate::fault::CommandFault;
 use block_device::BlockDev;
 use counted_io::Counted;
@@ -31,15 +25,15 @@ use std::io::Write;
 /// are lost.
 pub fn scan_to_object<'a, I: Images, W: Write, P: Progress>(
     alloc: Global,
-    images: &mut I,
+    desk: Desk<'_, I, W>,
     file: StackFile<'a, '_>,
     device: NamedDevice<'a>,
-    writer: &mut Counted<W>,
     progress: &mut P,
 ) -> Result<(), CommandFault<'a>>
-    ensures ok { OnOk result (PrintsScanObject (Scans (calls I.relations I.Dev.state images.old images.new) (device_words (stack_words file.entry) device.entry.name.now device.entry.cache)) (W.contents writer.old.inner) (W.contents writer.new.inner)) }
-    ensures err { IfErr result (IsScanObjectEnd (calls I.relations I.Dev.state images.old images.new) (device_words (stack_words file.entry) device.entry.name.now device.entry.cache) (W.contents writer.old.inner) (W.contents writer.new.inner) writer.new.failed) }
+    ensures ok { OnOk result (TellsObject I.relations I.Dev.state W.contents desk.entry desk.exit file.entry device.entry) }
+    ensures err { IfErr result (EndsObject I.relations I.Dev.state W.contents desk.entry desk.exit file.entry device.entry) }
 {
+    let Desk { images, writer } = desk;
     let (runs, counts) = find_lost(alloc, images, file, device, progress)?;
     say_lost(alloc, runs.as_slice(), counts, writer)
 }
@@ -47,16 +41,16 @@ pub fn scan_to_object<'a, I: Images, W: Write, P: Progress>(
 /// The same with `--map FILE`: reads the sectors that weren't had, as the map file says, and keeps the map.
 pub fn scan_to_object_by_map<'a, I: Images, W: Write, P: Progress>(
     alloc: Global,
-    images: &mut I,
+    desk: Desk<'_, I, W>,
     file: StackFile<'a, '_>,
     device: NamedDevice<'a>,
     map: &'a str,
-    writer: &mut Counted<W>,
     progress: &mut P,
 ) -> Result<(), CommandFault<'a>>
-    ensures ok { OnOk result (PrintsScanObject (ScansByMap (calls I.relations I.Dev.state images.old images.new) (device_words (stack_words file.entry) device.entry.name.now device.entry.cache) map.now) (W.contents writer.old.inner) (W.contents writer.new.inner)) }
-    ensures err { IfErr result (IsMappedObjectEnd (calls I.relations I.Dev.state images.old images.new) (device_words (stack_words file.entry) device.entry.name.now device.entry.cache) map.now (W.contents writer.old.inner) (W.contents writer.new.inner) writer.new.failed) }
+    ensures ok { OnOk result (TellsMapped I.relations I.Dev.state W.contents desk.entry desk.exit file.entry device.entry map.now) }
+    ensures err { IfErr result (EndsMappedObject I.relations I.Dev.state W.contents desk.entry desk.exit file.entry device.entry map.now) }
 {
+    let Desk { images, writer } = desk;
     let (mut stack, device) = open_device(alloc, images, file, device)?;
     let mut out = Discard::new(stack.config().sectors(device));
     let mut kept = KeptRuns::new(alloc);
@@ -79,8 +73,8 @@ fn keep_runs_by_map<'a, I: Images, D: BlockDev, P: Progress>(
 ) -> Result<Counts, UnkeptMap<'a>>
     requires device { device.0 < length stack.old.config.devices }
     requires room { size stack.old.config (mapped device.0) ≤ (⟦<Discard as BlockDev>⟧.state out.old).size }
-    ensures ok { IfOk result (IsRescued (calls I.relations I.Dev.state images.old images.new) map.now device.0 (moving (sides stack.old (⟦<Discard as BlockDev>⟧.state out.old) (Some (lost_text kept.old.runs.items))) (sides stack.new (⟦<Discard as BlockDev>⟧.state out.new) (Some (lost_text kept.new.runs.items))))) }
-    ensures err { IfErr result (IsMapUnkept (IsMapEnd map.now (IsUnrescued (calls I.relations I.Dev.state images.old images.new) map.now device.0 (moving (sides stack.old (⟦<Discard as BlockDev>⟧.state out.old) (Some (lost_text kept.old.runs.items))) (sides stack.new (⟦<Discard as BlockDev>⟧.state out.new) (Some (lost_text kept.new.runs.items)))) kept.new.refused))) }
+    ensures ok { IfOk result (KeepsRuns I.relations I.Dev.state images.old images.new map.now stack.old stack.new device.0 ⟦<Discard as BlockDev>⟧.state out.old out.new kept.old kept.new) }
+    ensures err { IfErr result (LosesRuns I.relations I.Dev.state images.old images.new map.now stack.old stack.new device.0 ⟦<Discard as BlockDev>⟧.state out.old out.new kept.old kept.new) }
 {
     match rescue_by_map(alloc, images, stack, device, out, map, kept, progress) {
         Ok(counts) => Ok(counts),
@@ -113,8 +107,8 @@ fn say_lost<'a, W: Write>(
     counts: Counts,
     writer: &mut Counted<W>,
 ) -> Result<(), CommandFault<'a>>
-    ensures ok { OnOk result ((counts.lost ≡ 0) × PrintsLost runs.now counts (W.contents writer.old.inner) (W.contents writer.new.inner)) }
-    ensures err { IfErr result (IsObjectEnd runs.now counts (W.contents writer.old.inner) (W.contents writer.new.inner) writer.new.failed) }
+    ensures ok { OnOk result (SaysNoneLost W.contents writer.old writer.new runs.now counts) }
+    ensures err { IfErr result (EndsSaying W.contents writer.old writer.new runs.now counts) }
 {
     let line = lost_line(alloc, runs, counts)?;
     writer.put(line.as_bytes())?;

@@ -1,9 +1,6 @@
 //! The command `session`: serves the lines of a reader.
-ghost use Rattle.std.specs.Prelude.{false, ◌≡◌, map, Ok, OnOk, IfErr};
-ghost use Rattle.counted_io.specs.Streams.{streams};
-ghost use Rattle.command_line.specs.Bindings.{binding_record};
-ghost use Rattle.image_files.specs.Opener.{calls};
-ghost use Rattle.stack_commands.specs.StackCommands.{IsServeEnd, ServesSession};
+ghost use Rattle.std.specs.Prelude.{false, ◌≡◌, OnOk, IfErr};
+ghost use Rattle.stack_commands.specs.Served.{EndsLines, ServesInput};
 
 use crate::fault::CommandFault;
 use block_device::BlockDev;
@@ -27,8 +24,8 @@ pub fn serve_lines<'a, I: Images, R: Read, W: Write>(
 ) -> Result<(), CommandFault<'a>>
     requires reader { reader.old.failed ≡ false }
     requires writer { writer.old.failed ≡ false }
-    ensures ok { OnOk result (ServesSession (calls I.relations I.Dev.state images.old images.new) cache (map binding_record bindings.now) (streams (R.remaining reader.old.inner) (W.contents writer.old.inner)) (streams (R.remaining reader.new.inner) (W.contents writer.new.inner)) (Ok tt) (Ok tt)) }
-    ensures err { IfErr result (IsServeEnd (calls I.relations I.Dev.state images.old images.new) cache (map binding_record bindings.now) (streams (R.remaining reader.old.inner) (W.contents writer.old.inner)) (streams (R.remaining reader.new.inner) (W.contents writer.new.inner)) writer.new.failed) }
+    ensures ok { OnOk result (ServesInput I.relations I.Dev.state R.remaining W.contents images.old images.new reader.old reader.new writer.old writer.new cache bindings.now) }
+    ensures err { IfErr result (EndsLines I.relations I.Dev.state R.remaining W.contents images.old images.new reader.old reader.new writer.old writer.new cache bindings.now) }
 {
     let stack = open_leaves(alloc, images, bindings, cache)?;
     let mut queue = Queue::new(alloc, stack);

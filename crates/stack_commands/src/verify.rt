@@ -1,12 +1,10 @@
 //! The command `verify`: an image is checked, or gone over whole.
 ghost use Rattle.std.specs.Prelude.{OnOk, IfErr};
-ghost use Rattle.command_line.specs.words.Verify.{verify_record};
-ghost use Rattle.image_files.specs.Opener.{calls};
-ghost use Rattle.stack_commands.specs.Verifying.{ChecksImage, GoesOverImage, IsCheckCommandEnd, IsGoingOverEnd};
+ghost use Rattle.stack_commands.specs.Desks.{DoesVerify, DoesVerifyAll, EndsVerify, EndsVerifyAll};
 
+use crate::desk::Desk;
 use crate::fault::CommandFault;
 use command_line::VerifyWords;
-use counted_io::Counted;
 use image_files::Images;
 use std::alloc::Global;
 use std::io::Write;
@@ -17,17 +15,17 @@ use watched_device::Watchers;
 /// `verify [--all] [--progress] [--hash-offset BYTES] [--root-hash-file FILE] DATA HASH [ROOT]`
 pub fn check_image<'a, I: Images, S: Watchers, W: Write>(
     alloc: Global,
-    images: &mut I,
+    desk: Desk<'_, I, W>,
     watchers: &S,
     words: &VerifyWords<'a>,
-    writer: &mut Counted<W>,
 ) -> Result<(), CommandFault<'a>>
-    ensures ok { OnOk result (ChecksImage (calls I.relations I.Dev.state images.old images.new) (verify_record words.now) (W.contents writer.old.inner) (W.contents writer.new.inner)) }
-    ensures err { IfErr result (IsCheckCommandEnd (calls I.relations I.Dev.state images.old images.new) (verify_record words.now) (W.contents writer.old.inner) (W.contents writer.new.inner) writer.new.failed) }
+    ensures ok { OnOk result (DoesVerify I.relations I.Dev.state W.contents desk.entry desk.exit words.now) }
+    ensures err { IfErr result (EndsVerify I.relations I.Dev.state W.contents desk.entry desk.exit words.now) }
 {
     if words.all {
-        go_over_image(alloc, images, watchers, words, writer)
+        go_over_image(alloc, desk, watchers, words)
     } else {
+        let Desk { images, writer } = desk;
         Ok(invoke_verify(alloc, images, watchers, words, writer)?)
     }
 }
@@ -35,14 +33,14 @@ pub fn check_image<'a, I: Images, S: Watchers, W: Write>(
 // With `--all`: the root is known before an image is opened.
 fn go_over_image<'a, I: Images, S: Watchers, W: Write>(
     alloc: Global,
-    images: &mut I,
+    desk: Desk<'_, I, W>,
     watchers: &S,
     words: &VerifyWords<'a>,
-    writer: &mut Counted<W>,
 ) -> Result<(), CommandFault<'a>>
-    ensures ok { OnOk result (GoesOverImage (calls I.relations I.Dev.state images.old images.new) (verify_record words.now) (W.contents writer.old.inner) (W.contents writer.new.inner)) }
-    ensures err { IfErr result (IsGoingOverEnd (calls I.relations I.Dev.state images.old images.new) (verify_record words.now) (W.contents writer.old.inner) (W.contents writer.new.inner) writer.new.failed) }
+    ensures ok { OnOk result (DoesVerifyAll I.relations I.Dev.state W.contents desk.entry desk.exit words.now) }
+    ensures err { IfErr result (EndsVerifyAll I.relations I.Dev.state W.contents desk.entry desk.exit words.now) }
 {
+    let Desk { images, writer } = desk;
     let root = match root_in(images, &words.root) {
         Ok(root) => root,
         Err(fault) => return Err(CommandFault::Verity(VerityFault::Image(fault))),

@@ -1,15 +1,10 @@
 //! The command `write`: writes a file's bytes to a device.
 ghost use Rattle.std.specs.Prelude.{OnOk, IfErr};
-ghost use Rattle.image_files.specs.Opener.{calls};
-ghost use Rattle.stack_opening.specs.OpenStacks.{stack_words};
-ghost use Rattle.request_commands.specs.Requests.{write_request};
-ghost use Rattle.request_commands.specs.Writes.{put_words};
-ghost use Rattle.stack_commands.specs.Endings.{IsSilent};
-ghost use Rattle.stack_commands.specs.StackCommands.{IsWriteEnd, PrintsWritten};
+ghost use Rattle.stack_commands.specs.Desks.{EndsWriting, IsSilentOn, WritesFile};
 
+use crate::desk::Desk;
 use crate::fault::CommandFault;
 use command_line::Transfer;
-use counted_io::Counted;
 use image_files::Images;
 use request_commands::write_source;
 use stack_opening::StackFile;
@@ -22,16 +17,16 @@ use std::io::Write;
 #[tactic(auto, using(crate::proofs::EndingLemmas::quiet))]
 pub fn write_stack_file<'a, I: Images, W: Write>(
     alloc: Global,
-    images: &mut I,
+    desk: Desk<'_, I, W>,
     file: StackFile<'a, '_>,
     cache: u32,
     transfer: Transfer<'a>,
-    writer: &mut Counted<W>,
 ) -> Result<(), CommandFault<'a>>
-    ensures ok { OnOk result (PrintsWritten (calls I.relations I.Dev.state images.old images.new) (put_words (stack_words file.entry) cache transfer.entry.source.now (write_request transfer.entry)) (W.contents writer.old.inner) (W.contents writer.new.inner)) }
-    ensures err { IfErr result (IsWriteEnd (calls I.relations I.Dev.state images.old images.new) (put_words (stack_words file.entry) cache transfer.entry.source.now (write_request transfer.entry)) writer.new.failed) }
-    ensures quiet { IfErr result (λ fault. IsSilent fault (W.contents writer.old.inner) (W.contents writer.new.inner)) }
+    ensures ok { OnOk result (WritesFile I.relations I.Dev.state W.contents desk.entry desk.exit file.entry cache transfer.entry) }
+    ensures err { IfErr result (EndsWriting I.relations I.Dev.state W.contents desk.entry desk.exit file.entry cache transfer.entry) }
+    ensures quiet { IfErr result (IsSilentOn W.contents desk.entry desk.exit) }
 {
+    let Desk { images, writer } = desk;
     write_source(alloc, images, file, cache, transfer)?;
     Ok(say_written(writer)?)
 }

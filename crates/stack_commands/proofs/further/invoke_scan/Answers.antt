@@ -5,8 +5,8 @@ use Rattle.stack_commands.proofs.further.invoke_scan.Goals as goal
 
 pub returns-then-json-clause-err : goal.returns-then-json-clause-err
 returns-then-json-clause-err g c = elim c.match-map.branch [
-  | in-None w ↦ rw w.result-is (rw w.images-is (rw w.writer-is (rw c.if-json.true (rw w.in-None.is (rw c.stack_file-file.ensures at w.scan_to_object.ensures.err)))))
-  | in-Some w ↦ rw w.result-is (rw w.images-is (rw w.writer-is (rw c.if-json.true (rw w.in-Some.is (rw c.stack_file-file.ensures at w.scan_to_object_by_map.ensures.err)))))
+  | in-None w ↦ rw w.result-is (rw w.desk-is (rw c.if-json.true (rw w.in-None.is (rw c.stack_file-file.ensures at w.scan_to_object.ensures.err))))
+  | in-Some w ↦ rw w.result-is (rw w.desk-is (rw c.if-json.true (rw w.in-Some.is (rw c.stack_file-file.ensures at w.scan_to_object_by_map.ensures.err))))
 ]
 
 pub returns-in_err-scan_device-in-None-map-clause-err : goal.returns-in_err-scan_device-in-None-map-clause-err

@@ -1,0 +1,243 @@
+-- What the functions of the commands that print do with what they are lent (`Desk`): it is said of the opener and the writer
+-- before the call, and of what stands behind the two references after it.
+use Rattle.std.specs.Prelude.{◌≡◌, ◌⊎◌, ℕ, Bool, true, List, Option, Some, ⊤}
+use Rattle.std.specs.Borrow.{MutBor}
+use Rattle.std.specs.Io.KnownBytes.{Appends}
+use Rattle.block_device.specs.Device.{Device}
+use Rattle.counted_io.specs.Counted.{CountedRecord}
+use Rattle.command_line.specs.declared.fec_file.FecFile.{FecFile}
+use Rattle.command_line.specs.declared.image_copies.ImageCopy.{ImageCopy}
+use Rattle.command_line.specs.declared.invocation.Sectors.{Sectors}
+use Rattle.command_line.specs.declared.invocation.Transfer.{Transfer}
+use Rattle.command_line.specs.declared.words.cat.CatWords.{CatWords}
+use Rattle.command_line.specs.declared.words.copy.CopyWords.{CopyWords}
+use Rattle.command_line.specs.declared.words.load.LoadWords.{LoadWords}
+use Rattle.command_line.specs.declared.words.repair.RepairWords.{RepairWords}
+use Rattle.command_line.specs.declared.words.scan.ScanWords.{ScanWords}
+use Rattle.command_line.specs.declared.words.verify.VerifyWords.{VerifyWords}
+use Rattle.command_line.specs.FecFiles.{fec_record}
+use Rattle.command_line.specs.words.Cat.{cat_record}
+use Rattle.command_line.specs.words.Copy.{copy_record}
+use Rattle.command_line.specs.words.Load.{load_record}
+use Rattle.command_line.specs.words.Repair.{repair_record}
+use Rattle.command_line.specs.words.Scan.{scan_record}
+use Rattle.command_line.specs.words.Verify.{verify_record}
+use Rattle.image_files.specs.Opener.{Calls, Opener, calls}
+use Rattle.recovery_commands.specs.declared.output.Output.{Output}
+use Rattle.recovery_commands.specs.Copies.{CopyWords as OutputWords, copy_words}
+use Rattle.recovery_commands.specs.Scans.{Scans}
+use Rattle.repair_commands.specs.declared.pair.RepairPlaces.{RepairPlaces}
+use Rattle.repair_commands.specs.ByParity.{RepairsByParity}
+use Rattle.repair_commands.specs.Commands.{IsRepairEnd, RepairsFiles}
+use Rattle.repair_commands.specs.Pairs.{places_of}
+use Rattle.request_commands.specs.Requests.{read_request, write_request}
+use Rattle.request_commands.specs.Writes.{PutWords, put_words}
+use Rattle.rescue_files.specs.declared.by_map.UnkeptMap.{UnkeptMap}
+use Rattle.rescue_files.specs.ByMap.{IsMapEnd, IsRescued, IsUnrescued, Moving, moving}
+use Rattle.stack_engine.specs.Stacks.{StackRecord}
+use Rattle.stack_json.specs.Lines.{load_text}
+use Rattle.stack_making.specs.declared.device.NamedDevice.{NamedDevice}
+use Rattle.stack_making.specs.NamedDevices.{DeviceWords, device_words}
+use Rattle.stack_opening.specs.declared.stack_file.StackFile.{StackFile}
+use Rattle.stack_opening.specs.OpenStacks.{stack_words}
+use Rattle.stack_recovery.specs.declared.listing.KeptRuns.{KeptRuns}
+use Rattle.stack_recovery.specs.declared.lost_run.LostRun.{LostRun}
+use Rattle.stack_recovery.specs.declared.recovery.Counts.{Counts}
+use Rattle.stack_recovery.specs.Recoveries.{sides}
+use Rattle.stack_recovery.specs.Texts.{lost_text}
+use Rattle.stack_rules.specs.Records.{Configuration}
+use Rattle.stack_commands.specs.declared.desk.Desk.{Desk}
+use Rattle.stack_commands.specs.declared.fault.CommandFault.{CommandFault}
+use Rattle.stack_commands.specs.Endings.{IsEnd, IsSilent}
+use Rattle.stack_commands.specs.Further.{CatsSectors, CopiesSectors, IsCatCommandEnd, IsCopyWordsEnd, IsLoadWordsEnd, IsPageEnd, IsScanWordsEnd, ListsDevices, ScansSectors}
+use Rattle.stack_commands.specs.MappedCopies.{CopiesByMap, CutsCopying, IsMappedCopyEnd, IsMappedScanEnd, PrintsMappedCopy, PrintsMappedScan, ScansByMap}
+use Rattle.stack_commands.specs.Repairing.{IsParityWordsEnd, IsRepairWordsEnd, RepairsImage}
+use Rattle.stack_commands.specs.ScanObjects.{IsMapUnkept, IsMappedObjectEnd, IsObjectEnd, IsScanObjectEnd, PrintsLost, PrintsScanObject}
+use Rattle.stack_commands.specs.StackCommands.{IsListEnd, IsReadEnd, IsWriteEnd, PrintsDevices, PrintsReply, PrintsWritten}
+use Rattle.stack_commands.specs.Uses.{IsTreesEnd}
+use Rattle.stack_commands.specs.Verifying.{ChecksImage, GoesOverImage, IsCheckCommandEnd, IsGoingOverEnd}
+
+-- what stands behind a desk's references when it was used
+abbrev pub DeskLeft : Type 0 → Type 0 → Type 0
+DeskLeft S T = MutBor S × (MutBor (CountedRecord T) × ⊤)
+
+-- the words of functions that are lent a desk name these
+abbrev named_device_words : StackFile → NamedDevice → DeviceWords
+named_device_words file device = device_words (stack_words file) device.name.now device.cache
+
+abbrev output_words : StackFile → NamedDevice → Output → OutputWords
+output_words file device output = copy_words (named_device_words file device) output.path.now output.differing
+
+abbrev transfer_words : StackFile → ℕ → Transfer → PutWords
+transfer_words file cache transfer = put_words (stack_words file) cache transfer.source.now (write_request transfer)
+
+-- ---- with a desk: `Does..` and the like what is printed, `Ends..` how it ends early
+
+module _ {S D T E : Type 0} (relations : Opener S D) (state : D → Device) (contents : T → Option (List ℕ)) (old : Desk S T E) (new : DeskLeft S T) where
+  abbrev desk_calls : Calls S D
+  desk_calls = calls relations state old.images.now new.0.now
+
+  abbrev desk_before : Option (List ℕ)
+  desk_before = contents old.writer.now.inner
+
+  abbrev desk_behind : Option (List ℕ)
+  desk_behind = contents new.1.0.now.inner
+
+  abbrev desk_failed : Bool
+  desk_failed = new.1.0.now.failed
+
+  -- by the words of a command
+  abbrev pub DoesLoad : LoadWords → Type 0
+  DoesLoad words = ListsDevices desk_calls (load_record words) desk_before desk_behind
+
+  abbrev pub EndsLoad : LoadWords → CommandFault → Type 0
+  EndsLoad words = IsLoadWordsEnd desk_calls (load_record words) desk_before desk_behind desk_failed
+
+  abbrev pub DoesCat : CatWords → Type 0
+  DoesCat words = CatsSectors desk_calls (cat_record words) desk_before desk_behind
+
+  abbrev pub EndsCat : CatWords → CommandFault → Type 0
+  EndsCat words = IsCatCommandEnd desk_calls (cat_record words) desk_before desk_behind desk_failed
+
+  abbrev pub DoesScan : ScanWords → Type 0
+  DoesScan words = ScansSectors desk_calls (scan_record words) desk_before desk_behind
+
+  abbrev pub EndsScan : ScanWords → CommandFault → Type 0
+  EndsScan words = IsScanWordsEnd desk_calls (scan_record words) desk_before desk_behind desk_failed
+
+  abbrev pub DoesCopy : CopyWords → Type 0
+  DoesCopy words = CopiesSectors desk_calls (copy_record words) desk_before desk_behind
+
+  abbrev pub EndsCopy : CopyWords → CommandFault → Type 0
+  EndsCopy words = IsCopyWordsEnd desk_calls (copy_record words) desk_before desk_behind desk_failed
+
+  abbrev pub DoesVerify : VerifyWords → Type 0
+  DoesVerify words = ChecksImage desk_calls (verify_record words) desk_before desk_behind
+
+  abbrev pub EndsVerify : VerifyWords → CommandFault → Type 0
+  EndsVerify words = IsCheckCommandEnd desk_calls (verify_record words) desk_before desk_behind desk_failed
+
+  -- with `--all`
+  abbrev pub DoesVerifyAll : VerifyWords → Type 0
+  DoesVerifyAll words = GoesOverImage desk_calls (verify_record words) desk_before desk_behind
+
+  abbrev pub EndsVerifyAll : VerifyWords → CommandFault → Type 0
+  EndsVerifyAll words = IsGoingOverEnd desk_calls (verify_record words) desk_before desk_behind desk_failed
+
+  abbrev pub DoesRepair : RepairWords → Type 0
+  DoesRepair words = RepairsImage desk_calls (repair_record words) desk_before desk_behind
+
+  abbrev pub EndsRepair : RepairWords → CommandFault → Type 0
+  EndsRepair words = IsRepairWordsEnd desk_calls (repair_record words) desk_before desk_behind desk_failed
+
+  -- without parity, and by it
+  abbrev pub FixesByCopies : RepairPlaces → List ImageCopy → List ℕ → Type 0
+  FixesByCopies places copies root = RepairsFiles desk_calls (places_of places) copies root desk_before desk_behind
+
+  abbrev pub EndsByCopies : RepairPlaces → List ImageCopy → List ℕ → CommandFault → Type 0
+  EndsByCopies places copies root = IsTreesEnd (IsRepairEnd desk_calls (places_of places) copies root desk_before desk_behind desk_failed)
+
+  abbrev pub FixesByParity : RepairPlaces → FecFile → List ImageCopy → List ℕ → Type 0
+  FixesByParity places fec copies root = RepairsByParity desk_calls (places_of places) (fec_record fec) copies root desk_before desk_behind
+
+  abbrev pub EndsByParity : RepairPlaces → FecFile → List ImageCopy → List ℕ → CommandFault → Type 0
+  EndsByParity places fec copies root = IsParityWordsEnd desk_calls (places_of places) (fec_record fec) copies root desk_before desk_behind desk_failed
+
+  -- over a stack file
+  abbrev pub ListsFile : StackFile → Bool → Type 0
+  ListsFile file json = PrintsDevices json desk_calls (stack_words file) desk_before desk_behind
+
+  abbrev pub EndsListing : StackFile → CommandFault → Type 0
+  EndsListing file = IsListEnd desk_calls (stack_words file) desk_failed
+
+  abbrev pub ReadsFile : StackFile → ℕ → Sectors → Type 0
+  ReadsFile file cache sectors = PrintsReply desk_calls (stack_words file) cache (read_request sectors) desk_before desk_behind
+
+  abbrev pub EndsReading : StackFile → ℕ → Sectors → CommandFault → Type 0
+  EndsReading file cache sectors = IsReadEnd desk_calls (stack_words file) cache (read_request sectors) desk_failed
+
+  abbrev pub WritesFile : StackFile → ℕ → Transfer → Type 0
+  WritesFile file cache transfer = PrintsWritten desk_calls (transfer_words file cache transfer) desk_before desk_behind
+
+  abbrev pub EndsWriting : StackFile → ℕ → Transfer → CommandFault → Type 0
+  EndsWriting file cache transfer = IsWriteEnd desk_calls (transfer_words file cache transfer) desk_failed
+
+  -- over a device of one; of `scan` as an object too
+  abbrev pub TellsObject : StackFile → NamedDevice → Type 0
+  TellsObject file device = PrintsScanObject (Scans desk_calls (named_device_words file device)) desk_before desk_behind
+
+  abbrev pub EndsObject : StackFile → NamedDevice → CommandFault → Type 0
+  EndsObject file device = IsScanObjectEnd desk_calls (named_device_words file device) desk_before desk_behind desk_failed
+
+  -- with a map file
+  abbrev pub TellsMapped : StackFile → NamedDevice → List ℕ → Type 0
+  TellsMapped file device map = PrintsScanObject (ScansByMap desk_calls (named_device_words file device) map) desk_before desk_behind
+
+  abbrev pub EndsMappedObject : StackFile → NamedDevice → List ℕ → CommandFault → Type 0
+  EndsMappedObject file device map = IsMappedObjectEnd desk_calls (named_device_words file device) map desk_before desk_behind desk_failed
+
+  abbrev pub ScansMapped : StackFile → NamedDevice → List ℕ → Type 0
+  ScansMapped file device map = PrintsMappedScan desk_calls (named_device_words file device) map desk_before desk_behind
+
+  abbrev pub EndsMappedScan : StackFile → NamedDevice → List ℕ → CommandFault → Type 0
+  EndsMappedScan file device map = IsMappedScanEnd desk_calls (named_device_words file device) map desk_before desk_behind desk_failed
+
+  abbrev pub CopiesMapped : StackFile → NamedDevice → Output → List ℕ → Type 0
+  CopiesMapped file device output map = PrintsMappedCopy desk_calls (output_words file device output) map desk_before desk_behind
+
+  abbrev pub EndsMappedCopy : StackFile → NamedDevice → Output → List ℕ → CommandFault → Type 0
+  EndsMappedCopy file device output map = IsMappedCopyEnd desk_calls (output_words file device output) map desk_before desk_behind desk_failed
+
+-- nothing is written ahead of what ends a command, unless it is the writing that fails
+abbrev pub IsSilentOn : {S T E : Type 0} → (T → Option (List ℕ)) → Desk S T E → DeskLeft S T → CommandFault → Type 0
+IsSilentOn contents old new fault = IsSilent fault (contents old.writer.now.inner) (contents new.1.0.now.inner)
+
+-- ---- with a writer alone
+
+module _ {T : Type 0} (contents : T → Option (List ℕ)) (old new : CountedRecord T) where
+  -- the devices of a configuration, as `load` says them
+  abbrev pub PrintsConfiguration : Configuration → Bool → Type 0
+  PrintsConfiguration config json = Appends (contents old.inner) (contents new.inner) (load_text json config)
+
+  -- some text
+  abbrev pub ShowsText : Type 0
+  ShowsText = (text : List ℕ) × Appends (contents old.inner) (contents new.inner) text
+
+  abbrev pub EndsPage : CommandFault → Type 0
+  EndsPage = IsPageEnd (contents old.inner) (contents new.inner) new.failed
+
+  -- the object of runs that are lost, of which there are none
+  abbrev pub SaysNoneLost : List LostRun → Counts → Type 0
+  SaysNoneLost runs counts = (counts.lost ≡ 0) × PrintsLost runs counts (contents old.inner) (contents new.inner)
+
+  abbrev pub EndsSaying : List LostRun → Counts → CommandFault → Type 0
+  EndsSaying runs counts = IsObjectEnd runs counts (contents old.inner) (contents new.inner) new.failed
+
+  -- why a command ended early, with its status, or the status 1 where that can't be written
+  abbrev pub IsToldBy : CommandFault → ℕ → Type 0
+  IsToldBy fault status = IsEnd fault (contents old.inner) (contents new.inner) status ⊎ ((status ≡ 1) × (new.failed ≡ true))
+
+-- ---- by a map file, over a stack that is open
+
+-- to an image
+module _ {S D O T : Type 0} (relations : Opener S D) (state : D → Device) (seen : O → Device) (contents : T → Option (List ℕ)) (old new : S) (stack stack' : StackRecord) (image image' : O) (writer writer' : CountedRecord T)
+    (map : List ℕ) (d : ℕ) (is_differing : Bool) where
+  abbrev image_moved : Moving
+  image_moved = moving (sides stack (seen image) (contents writer.inner)) (sides stack' (seen image') (contents writer'.inner))
+
+  abbrev pub CopiesInTurns : Counts → Type 0
+  CopiesInTurns = CopiesByMap is_differing (calls relations state old new) map d image_moved
+
+  abbrev pub CutsInTurns : UnkeptMap → Type 0
+  CutsInTurns = IsMapEnd map (CutsCopying is_differing (calls relations state old new) map d image_moved writer'.failed)
+
+-- to nowhere, with the lost runs kept in memory
+module _ {S D O : Type 0} (relations : Opener S D) (state : D → Device) (old new : S) (map : List ℕ) (stack stack' : StackRecord) (d : ℕ) (seen : O → Device) (out out' : O) (kept kept' : KeptRuns) where
+  abbrev runs_listed : Moving
+  runs_listed = moving (sides stack (seen out) (Some (lost_text kept.runs.items))) (sides stack' (seen out') (Some (lost_text kept'.runs.items)))
+
+  abbrev pub KeepsRuns : Counts → Type 0
+  KeepsRuns = IsRescued (calls relations state old new) map d runs_listed
+
+  abbrev pub LosesRuns : UnkeptMap → Type 0
+  LosesRuns = IsMapUnkept (IsMapEnd map (IsUnrescued (calls relations state old new) map d runs_listed kept'.refused))
