@@ -121,7 +121,7 @@ const REPAIR: Row = Row {
     ..READ
 };
 
-static ROWS: [Row; 30] = [
+static ROWS: [Row; 31] = [
     WRITE,
     // The write fails, and then the sync: what was written is given back.
     Row {
@@ -203,15 +203,16 @@ static ROWS: [Row; 30] = [
         printed: b"repaired data 0 copy 1\nrefused 10 Device\n",
         ..REPAIR
     },
-    // It isn't written, or not put on its medium.
+    // It isn't written, or not read back, so that all is gone over again, or not put on its medium.
     Row {
         call: 3,
         status: 1,
         printed: b"refused 10 Device\n",
         ..REPAIR
     },
+    Row { call: 4, ..REPAIR },
     Row {
-        call: 4,
+        call: 5,
         status: 1,
         printed: b"repaired data 0 copy 1\nrefused 10 Device\n",
         ..REPAIR
