@@ -1,5 +1,5 @@
 -- What a proof sees of images in files: no clause of the library says which file a path leads to, nor what it holds.
-use Rattle.std.specs.Prelude.{◌≡◌, Bool, Option, Result, Ok, Err}
+use Rattle.std.specs.Prelude.{◌≡◌, Bool, List, Option, Result, Ok, Err}
 use Rattle.block_device.specs.declared.file_id.FileId.{FileId}
 use Rattle.block_device.specs.Device.{Device}
 use Rattle.block_device.specs.File.{opened}
@@ -7,20 +7,22 @@ use Rattle.device_window.specs.declared.part.Part.{Part}
 use Rattle.device_window.specs.Parts.{LiesInside}
 use Rattle.device_window.specs.Windows.{windowed}
 use Rattle.image_files.specs.declared.images.OpenImage.{OpenImage}
+use Rattle.image_files.specs.FileLocks.{Locks, LocksAtMost}
 use Rattle.image_files.specs.Opener.{Opener}
 
--- what a proof sees of a device, and which file it is
-pub record FileView (D : Type 0) : Type 0 where
+-- what a proof sees of a device, which file it is, and which files an opener has locked
+pub record FileView (S D : Type 0) : Type 0 where
   pub state : D → Device
   pub id : D → Option FileId
+  pub locked : S → List FileId
 
 -- a file as it was opened, of its own size, and which one it is
-pub record IsOpenFile {D : Type 0} (view : FileView D) (image : OpenImage D) (writable : Bool) : Type 0 where
+pub record IsOpenFile {S D : Type 0} (view : FileView S D) (image : OpenImage D) (writable : Bool) : Type 0 where
   pub device : view.state image.device ≡ opened (view.state image.device).size writable
   pub id : image.id ≡ view.id image.device
 
 -- a part of one, inside of it
-pub record IsOpenPart {D : Type 0} (view : FileView D) (image : OpenImage D) (writable : Bool) (part : Part) : Type 0 where
+pub record IsOpenPart {S D : Type 0} (view : FileView S D) (image : OpenImage D) (writable : Bool) (part : Part) : Type 0 where
   pub whole : Device
   pub is : whole ≡ opened whole.size writable
   pub inside : LiesInside whole part
@@ -31,14 +33,19 @@ abbrev pub OpensFile : {D F : Type 0} → (OpenImage D → Type 0) → Result (O
 OpensFile Is (Ok image) = Is image
 OpensFile Is (Err fault) = Unit {0}
 
-abbrev pub file_relations : {S D : Type 0} → FileView D → Opener S D
+-- a file that is opened for writing is locked from then on, and no lock is let go
+abbrev pub LocksFile : {S D F : Type 0} → FileView S D → Bool → Result (OpenImage D) F → S → S → Type 0
+LocksFile view writable (Ok image) old new = Locks writable image.id (view.locked old) (view.locked new)
+LocksFile view writable (Err fault) old new = LocksAtMost (view.locked old) (view.locked new)
+
+abbrev pub file_relations : {S D : Type 0} → FileView S D → Opener S D
 file_relations view = record {
-  opens = λ old path writable outcome new. (new ≡ old) × OpensFile (λ image. IsOpenFile view image writable) outcome;
-  opens_part = λ old path writable part outcome new. (new ≡ old) × OpensFile (λ image. IsOpenPart view image writable part) outcome;
+  opens = λ old path writable outcome new. LocksFile view writable outcome old new × OpensFile (λ image. IsOpenFile view image writable) outcome;
+  opens_part = λ old path writable part outcome new. LocksFile view writable outcome old new × OpensFile (λ image. IsOpenPart view image writable part) outcome;
   tells = λ old path most outcome new. new ≡ old;
   takes = λ old path device new. new ≡ old;
   takes_part = λ old path part device new. new ≡ old;
-  grows = λ old path sectors outcome new. new ≡ old;
+  grows = λ old path sectors outcome new. LocksAtMost (view.locked old) (view.locked new);
   measures = λ old path outcome new. new ≡ old;
   replaces = λ old path bytes outcome new. new ≡ old;
 }

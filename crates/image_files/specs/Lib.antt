@@ -1,4 +1,5 @@
 pub mod Apart
+pub mod FileLocks
 pub mod FileRelations
 pub mod FileUses
 pub mod OneFile

@@ -1,6 +1,6 @@
 -- What is taken of an operating system's files: a premise of who reads the commands' clauses of files. The library's contracts
 -- say none of it, so no proof gives it of `FileImages`; images in memory keep it (`memory_images`).
-use Rattle.std.specs.Prelude.{◌≡◌, ◌+◌, ◌-◌, ◌*◌, ◌/◌, ◌%◌, ◌≤◌, ◌==◌, ◌++◌, ℕ, Bool, true, false, not, codes, IsSome, List, length, take, drop, replicate, Option, Some, Result, Ok}
+use Rattle.std.specs.Prelude.{◌≡◌, ◌+◌, ◌-◌, ◌*◌, ◌/◌, ◌%◌, ◌≤◌, ◌==◌, ◌++◌, ℕ, Bool, true, false, not, IsSome, List, length, take, drop, replicate, Option, Some, Result, Ok}
 use Rattle.block_device.specs.declared.file_id.FileId.{FileId}
 use Rattle.block_device.specs.declared.open_fault.OpenFault.{OpenFault}
 use Rattle.block_device.specs.Device.{Device, sectors_of}
@@ -46,10 +46,6 @@ AreApart file another = IsSome file.id × IsSome another.id × (is_one_file file
 abbrev pub IsApartFrom : Option FileRecord → FileRecord → Type 0
 IsApartFrom here another = (file : FileRecord) → here ≡ Some file → AreApart file another
 
--- under this path a text is written before it is put in the other one's place
-abbrev pub beside : List ℕ → List ℕ
-beside path = path ++ codes ".dmstack-new"
-
 -- Of an opener, a proof's view of its devices, and the file that stands under each path. `steady` holds of a file while
 -- nobody else writes it.
 pub record KeepsFiles {S D : Type 0} (o : Opener S D) (state : D → Device) (at : S → List ℕ → Option FileRecord) : Type 0 where
@@ -88,7 +84,7 @@ pub record KeepsFiles {S D : Type 0} (o : Opener S D) (state : D → Device) (at
   pub kept_measuring : (old new : S) (path : List ℕ) (outcome : Result Bool OpenFault) → o.measures old path outcome new → at new ≡ at old
   pub measured : (old new : S) (path : List ℕ) (part : Bool) → o.measures old path (Ok part) new
       → (file : FileRecord) × (at old path ≡ Some file) × (part ≡ not (length file.bytes % 512 == 0))
-  -- bytes that are put in the place of what a file holds are all that it holds then, and no other file changes, but the one beside it
+  -- bytes that are put in the place of what a file holds are all that it holds then, and no other file changes
   pub replaced : (old new : S) (path bytes : List ℕ) → o.replaces old path bytes (Ok tt) new → (file : FileRecord) × (at new path ≡ Some file) × (file.bytes ≡ bytes)
   pub kept_replacing : (old new : S) (path other bytes : List ℕ) (outcome : Result (Unit {0}) ReplaceFault) (another : FileRecord) → o.replaces old path bytes outcome new → at old other ≡ Some another
-      → IsApartFrom (at old path) another → IsApartFrom (at old (beside path)) another → at new other ≡ Some another
+      → IsApartFrom (at old path) another → at new other ≡ Some another

@@ -1,17 +1,22 @@
 //! Images in files.
-ghost use Rattle.std.specs.Prelude.{◌≤◌, length, OnOk, IfOk};
+ghost use Rattle.std.specs.Prelude.{◌≡◌, ◌≤◌, length, OnErr, OnOk, IfErr, IfOk};
 ghost use Rattle.block_device.specs.Any.{any_id};
+ghost use Rattle.block_device.specs.File.{opened};
+ghost use Rattle.block_device.specs.FileId.{file_id};
+ghost use Rattle.image_files.specs.FileLocks.{Locks, LocksAtMost};
 
+use crate::file_locks::FileLocks;
+use crate::growing::{lengthen, make_file};
 use crate::images::{FileText, Images, OpenImage};
 use crate::parts::PartFault;
 use block_device::{AnyDev, BlockDev, FileDev, FileId, MemoryDev, OpenFault};
 use device_window::{OutsideDevice, Part, Window};
 use std::alloc::Global;
-use std::fs::{File, OpenFile, OpenOptions};
+use std::fs;
+use std::fs::{File, OpenFile};
 use std::io::{ErrorKind, Read};
 use std::rt::Files;
-use std::{fs, io};
-use text_files::{FileTexts, ReplaceFault, Texts};
+use text_files::{FileTexts, ReplaceFault, SystemCalls, Texts};
 
 // The text under this path is the standard input's.
 const INPUT: &str = "-";
@@ -32,29 +37,36 @@ fn first_bytes<S: Read + Drop>(alloc: Global, source: S, most: usize) -> Result<
     }
 }
 
-// Makes the file where there is none, and so many bytes long where it is shorter.
-fn lengthen<R: Files<File = File>>(rt: &R, path: &str, bytes: u64) -> io::Result<()> {
-    let file = OpenOptions::new()
-        .read(true)
-        .write(true)
-        .create(true)
-        .open(rt, path)?;
-    let metadata = file.metadata()?;
-    if metadata.is_file() && metadata.len() < bytes {
-        file.set_len(bytes)?;
+// A file as a device. One that may be written is locked.
+fn open_file<R: Files<File = File>>(
+    rt: &R,
+    locks: &mut FileLocks,
+    path: &str,
+    writable: bool,
+) -> Result<FileDev, OpenFault>
+    ensures state { IfOk result (λ f. (⟦<FileDev as BlockDev>⟧.state f) ≡ opened (⟦<FileDev as BlockDev>⟧.state f).size writable) }
+    ensures locked { IfOk result (λ f. Locks writable (file_id f) locks.old.files.items locks.new.files.items) }
+    ensures same { OnErr result (locks.new.files.items ≡ locks.old.files.items) }
+{
+    let file = FileDev::open(rt, path, writable)?;
+    if writable {
+        locks.lock(&file)?;
     }
-    Ok(())
+    Ok(file)
 }
 
-/// Images in files, under their paths; the text under `-` is the standard input's.
+/// Images in files, under their paths; the text under `-` is the standard input's. Each file that is opened for writing, or
+/// grown, stays locked against other processes as long as these live.
 #[derive(Drop)]
 pub struct FileImages<'a, R> {
     rt: &'a R,
+    locks: FileLocks,
 }
 
-impl<'a, R> FileImages<'a, R> {
+impl<'a, R: AllocGlobal> FileImages<'a, R> {
     pub fn new(rt: &'a R) -> FileImages<'a, R> {
-        FileImages { rt }
+        let locks = FileLocks::new(rt.alloc());
+        FileImages { rt, locks }
     }
 }
 
@@ -63,10 +75,10 @@ impl<R: Files<File = File> + AllocGlobal + Input> Images for FileImages<'_, R> {
 
     type Dev = Window<AnyDev>;
 
-    ghost relations = { file_relations (record { state = ⟦<Window<AnyDev> as BlockDev>⟧.state; id = λ window. any_id window.inner }) };
+    ghost relations = { file_relations (record { state = ⟦<Window<AnyDev> as BlockDev>⟧.state; id = λ window. any_id window.inner; locked = λ images. images.locks.files.items }) };
 
     fn open(&mut self, path: &str, writable: bool) -> Result<OpenImage<Window<AnyDev>>, OpenFault> {
-        let file = FileDev::open(self.rt, path, writable)?;
+        let file = open_file(self.rt, &mut self.locks, path, writable)?;
         let id = file.id();
         Ok(OpenImage {
             device: Window::whole(AnyDev::File(file)),
@@ -80,7 +92,7 @@ impl<R: Files<File = File> + AllocGlobal + Input> Images for FileImages<'_, R> {
         writable: bool,
         part: Part,
     ) -> Result<OpenImage<Window<AnyDev>>, PartFault> {
-        let file = FileDev::open(self.rt, path, writable)?;
+        let file = open_file(self.rt, &mut self.locks, path, writable)?;
         let id = file.id();
         match Window::new(AnyDev::File(file), part) {
             Ok(device) => Ok(OpenImage { device, id }),
@@ -126,10 +138,9 @@ impl<R: Files<File = File> + AllocGlobal + Input> Images for FileImages<'_, R> {
         if sectors > MAX_SECTORS {
             return Err(OpenFault::TooLarge);
         }
-        match lengthen(self.rt, path, sectors * SECTOR) {
-            Ok(()) => Ok(()),
-            Err(error) => Err(OpenFault::from(error.kind())),
-        }
+        make_file(self.rt, path)?;
+        let file = open_file(self.rt, &mut self.locks, path, true)?;
+        lengthen(self.rt, path, file.id(), sectors * SECTOR)
     }
 
     fn has_part_sector(&mut self, path: &str) -> Result<bool, OpenFault> {
@@ -140,7 +151,8 @@ impl<R: Files<File = File> + AllocGlobal + Input> Images for FileImages<'_, R> {
     }
 
     fn replace(&mut self, path: &str, bytes: &[u8]) -> Result<(), ReplaceFault> {
-        FileTexts::new(self.rt).replace(path, bytes)
+        let calls = SystemCalls::new(self.rt);
+        FileTexts::new(self.rt.alloc(), calls).replace(path, bytes)
     }
 
     fn of_memory(memory: MemoryDev) -> Window<AnyDev> {

@@ -2,7 +2,9 @@
 #![tactic(auto)]
 
 mod file_images;
+mod file_locks;
 mod file_use;
+mod growing;
 mod images;
 mod one_file;
 mod opening;

@@ -1,0 +1,21 @@
+-- Which files an opener has locked: each that it opened for writing, once.
+use Rattle.std.specs.Prelude.{◌≡◌, ◌⊎◌, ◌++◌, Bool, List, [], ◌∷◌, Option, None, Some, if◌then◌else◌}
+use Rattle.std.specs.List.{list_any}
+use Rattle.block_device.specs.declared.file_id.FileId.{FileId}
+use Rattle.image_files.specs.OneFile.{is_one_file}
+
+abbrev pub is_locked : List FileId → FileId → Bool
+is_locked files id = list_any (λ file. is_one_file (Some file) (Some id)) files
+
+-- the locked files once one more is opened for writing
+abbrev pub with_lock : Option FileId → List FileId → List FileId
+with_lock None files = files
+with_lock (Some id) files = if is_locked files id then files else files ++ (id ∷ [])
+
+-- what opening a file leaves of the locks: one that may be written is locked
+abbrev pub Locks : Bool → Option FileId → List FileId → List FileId → Type 0
+Locks writable id old new = new ≡ (if writable then with_lock id old else old)
+
+-- what a call leaves that may fail behind a lock
+abbrev pub LocksAtMost : List FileId → List FileId → Type 0
+LocksAtMost old new = (new ≡ old) ⊎ ((id : FileId) × (new ≡ with_lock (Some id) old))
