@@ -1,7 +1,7 @@
 #!/usr/bin/env bash
 # What sessions and commands answer while others change their files: images that are cut short, overwritten, removed or put
-# in another's place, file systems that are full, and standard streams that are full or closed. Each answer is a named fault
-# or status, nothing waits for ever, and no other file is changed.
+# in another's place, images that another process writes, maps that are replaced, file systems that are full, and standard
+# streams that are full or closed. Each answer is a named fault or status, nothing waits for ever, and no other file is changed.
 #
 # shellcheck disable=SC2154 # checks.sh sets what is named here
 set -eu
@@ -202,6 +202,126 @@ check "a session without input: the image isn't taken for it" cmp a kept
 yes moved | timeout 60 bash -c '{ "$0" session A=rw:a; echo $? > status; } | head -n 1' "$program" > out 2> errors || true
 check 'nobody reads: one reply' test "$(cat out)" = 'moved 0 0'
 check 'nobody reads: the status' test "$(cat status)" = 1
+
+# Two processes: what one has open for writing, no other one opens for writing or lengthens, and reading goes on. One process may
+# have parts of one file open. A lock ends with its process, also where that is killed.
+filled 1 8 > a
+cp a kept
+filled 4 8 > source
+truncate -s 512 made
+truncate -s 8192 data
+printf 'a,,,rw,0 8 linear A 0' > stack
+printf 'a,,,ro,0 8 linear A 0' > reading
+printf 'a,,,rw,0 4 linear A 0,4 4 linear B 0' > halves
+begin A=rw:a M=rw:made
+ask 'load a,,,rw,0 8 linear A 0' 'loaded 1'
+ran 1 'refused 7 InUse a' "$program" store stack a source A=rw:a
+ran 1 'refused 7 InUse a' "$program" write stack a 0 source A=rw:a
+ran 1 'refused 7 InUse ./a' "$program" load halves A=rw@0+4:./a B=rw@4+4:./a
+ran 1 'refused 7 InUse a' "$program" copy reading a a A=ro:source
+ran 1 'refused 7 InUse made' "$program" format --grow $sizes data made
+ran 1 'refused 7 InUse made' "$program" format $sizes data made
+check 'the image that is in use is as it was' cmp a kept
+check 'the file that is in use has its length' test "$(wc -c < made)" = 512
+ran 0 '7 all 01' "$program" read reading a 7 1 A=ro:a
+check 'another program sees the lock' test "$(flock -n a echo free)" = ''
+ask 'write a 7 1 05' written
+ran 0 '7 all 05' "$program" read reading a 7 1 A=ro:a
+end 0
+ran 0 'written 8' "$program" store stack a source A=rw:a
+check 'the image holds what was stored' cmp a source
+ran 0 'written 8' "$program" store halves a kept A=rw@0+4:a B=rw@4+4:a
+check 'parts of one file are written' cmp a kept
+ran 1 'refused 7 InUse a' flock a "$program" store stack a source A=rw:a
+begin A=ro:a
+ask 'load a,,,ro,0 8 linear A 0' 'loaded 1'
+ran 0 'written 8' "$program" store stack a source A=rw:a
+ask 'read a 0 1' '0 all 04'
+end 0
+begin A=rw:a
+ask 'load a,,,rw,0 8 linear A 0' 'loaded 1'
+kill -KILL "$SESSION_PID"
+wait "$SESSION_PID" 2> /dev/null || true
+ran 0 'written 8' "$program" store stack a kept A=rw:a
+ran 0 "$(printf 'root %s\nsalt -\nuuid 00000000-0000-0000-0000-000000000001\nblocks 16' "$("$program" format $sizes data formatted | sed -n 's/^root //p')")" \
+    "$program" format --grow $sizes data made
+
+# The map of a device takes another one's place: a link under the name that it is written to first isn't followed, the map keeps
+# its permissions and its owner, and where it is a link that stays.
+filled 1 8 > a
+printf 'a,,,ro,0 4 linear A 0,4 4 error' > lossy
+lossy=$'lost 4 4 1 ErrorTarget\nread 4 lost 4'
+printf '0 ?\n0 4096 ?\n' > unread
+printf '0 +\n0 2048 +\n2048 2048 -\n' > tried
+printf 'precious\n' > victim
+cp victim kept
+
+# is_scanned MAP: the map is what a scan leaves
+is_scanned() {
+    ran 3 "$lossy" "$program" scan --map "$1" lossy a A=ro:a
+    check "$1: the map" cmp "$1" tried
+}
+
+cp unread map
+ln -s victim map.dmstack-new
+ln victim map.dmstack-new-1
+chmod 640 map
+is_scanned map
+check 'the file that a link names is as it was' cmp victim kept
+check 'the link beside the map stays' test "$(readlink map.dmstack-new)" = victim
+check 'the file beside the map stays' cmp map.dmstack-new-1 kept
+check 'no other file is left beside the map' test "$(echo map*)" = 'map map.dmstack-new map.dmstack-new-1'
+check 'the map is no link' test ! -L map
+check 'the map keeps its permissions' test "$(stat -c %a map)" = 640
+for mode in 600 666 444; do
+    cp unread "map$mode"
+    chmod $mode "map$mode"
+    [ "$(id -u)" != 0 ] || chown 1234:4321 "map$mode"
+    owner=$(stat -c %u:%g "map$mode")
+    (umask 022; is_scanned "map$mode"; echo "$passed $failed" > counts)
+    read -r passed failed < counts
+    check "a map of mode $mode keeps it" test "$(stat -c %a:%u:%g "map$mode")" = "$mode:$owner"
+done
+mkdir folder
+cp unread folder/target
+ln -s folder/target linked
+ln -s target folder/twice
+ln -s missing hanging
+ln -s around around
+is_scanned linked
+check 'a map that is a link stays one' test "$(readlink linked)" = folder/target
+check 'what the link names is the map' cmp folder/target tried
+cp unread folder/target
+is_scanned folder/twice
+check 'a link in a folder stays one' test "$(readlink folder/twice)" = target
+is_scanned hanging
+check 'a link to nothing stays one' test "$(readlink hanging)" = missing
+check 'the map stands where the link leads' test -f missing
+ran 1 'refused 4 OtherFault around' "$program" scan --map around lossy a A=ro:a
+check 'nothing is left beside the links' test "$(echo folder/* linked* hanging* missing*)" = 'folder/target folder/twice linked hanging missing'
+# The process is killed before each call in turn: the old map stands, or the new one, and a draft that is left hinders nobody.
+cc -shared -fPIC -O2 -o "$room/fail.so" "$top/scripts/fail_calls.c" -ldl
+mkdir killed
+calls=''
+for number in 1 2 3 4 5 6 7 8 9; do
+    rm -rf killed/* met
+    cp unread killed/map
+    status=0
+    (LD_PRELOAD=$room/fail.so FAIL_KIND=cut FAIL=$number FAIL_MET=met "$program" scan --map killed/map lossy a A=ro:a > out 2>&1
+        exit $?) 2> /dev/null || status=$?
+    [ -e met ] || break
+    read -r call _ _ path < met
+    calls+=" $call:${path#"$room/"}"
+    check "killed before call $number: the status" test "$status" = 137
+    # the map takes the place of the old one by the fourth call
+    wanted=unread && [ "$number" -le 4 ] || wanted=tried
+    check "killed before call $number: the map" cmp killed/map $wanted
+    check "killed before call $number: the draft" test "$(echo killed/*.dmstack-new*)" = "$([ "$number" = 1 ] || [ "$number" -gt 4 ] && echo 'killed/*.dmstack-new*' || echo killed/map.dmstack-new)"
+    cp unread killed/map
+    is_scanned killed/map
+done
+draft=killed/map.dmstack-new
+check "the calls by which a map is replaced, and not$calls" test "$calls" = " create:$draft write:$draft sync:$draft rename:$draft sync:killed"
 
 # A file system that is full in the midst of a session, where a small one can be mounted: the fault is of the right device,
 # what was written stands, the other image is served, and once there is room again the write is made.

@@ -1,12 +1,15 @@
 // Fails call number FAIL (from 1) of the kind FAIL_KIND of the program that it is loaded into: `device` counts positioned reads
 // and writes and syncs, `input` reads of standard input, `output` writes of standard output, `text` other reads, and each fails
-// with EIO. `short` and `interrupted` count all of these but the syncs; such a call moves one byte, or is interrupted. The file
+// with EIO. `short` and `interrupted` count all of these but the syncs; such a call moves one byte, or is interrupted. `cut`
+// counts the calls that change files and folders, but positioned writes, and the process is killed before that one. The file
 // FAIL_MET then says which call it was, how many whole sectors positioned reads and writes had asked for, it included, and of
 // which file.
 #define _GNU_SOURCE
 #include <dlfcn.h>
 #include <errno.h>
 #include <fcntl.h>
+#include <signal.h>
+#include <stdarg.h>
 #include <stdio.h>
 #include <stdlib.h>
 #include <string.h>
@@ -18,29 +21,58 @@ static ssize_t (*real_write)(int, const void *, size_t);
 // What positioned reads and writes asked for so far, in bytes.
 static size_t asked_to_read, asked_to_write;
 
-static void tell(const char *call, int fd) {
+#define REAL(result, name, ...)                         \
+    static result (*real)(__VA_ARGS__);                 \
+    if (!real)                                          \
+        real = dlsym(RTLD_NEXT, name)
+
+static int real_open(const char *path, int flags, mode_t mode) {
+    REAL(int, "open", const char *, int, ...);
+    return real(path, flags, mode);
+}
+
+static void tell(const char *call, const char *path) {
     const char *met = getenv("FAIL_MET");
-    char name[64], path[4096], line[4300];
-    snprintf(name, sizeof name, "/proc/self/fd/%d", fd);
-    ssize_t length = readlink(name, path, sizeof path);
-    int size = snprintf(line, sizeof line, "%s %zu %zu %.*s\n", call, asked_to_read / 512, asked_to_write / 512,
-                        (int)(length < 0 ? 0 : length), path);
-    int file = met ? open(met, O_WRONLY | O_CREAT | O_TRUNC, 0644) : -1;
+    char line[4300];
+    int size = snprintf(line, sizeof line, "%s %zu %zu %s\n", call, asked_to_read / 512, asked_to_write / 512, path);
+    int file = met ? real_open(met, O_WRONLY | O_CREAT | O_TRUNC, 0644) : -1;
     if (file < 0 || real_write(file, line, size) != size)
         abort();
     close(file);
 }
 
-// Whether this is the call, counted where it is of the kind that is wanted.
-static int is_the_call(const char *kind, const char *call, int fd) {
+// Whether this is the call's number, where it is of the kind that is wanted.
+static int is_counted(const char *kind) {
     static long seen;
     const char *wanted = getenv("FAIL_KIND"), *number = getenv("FAIL");
     if (!real_write)
         real_write = dlsym(RTLD_NEXT, "write");
-    if (!wanted || !number || strcmp(kind, wanted) || ++seen != atol(number))
+    return wanted && number && !strcmp(kind, wanted) && ++seen == atol(number);
+}
+
+static const char *path_of(int fd) {
+    static char path[4096];
+    char name[64];
+    snprintf(name, sizeof name, "/proc/self/fd/%d", fd);
+    ssize_t length = readlink(name, path, sizeof path - 1);
+    path[length < 0 ? 0 : length] = 0;
+    return path;
+}
+
+// Whether this is the call.
+static int is_the_call(const char *kind, const char *call, int fd) {
+    if (!is_counted(kind))
         return 0;
-    tell(call, fd);
+    tell(call, path_of(fd));
     return 1;
+}
+
+// Kills the process before a call of the kind `cut`.
+static void may_cut(const char *call, const char *path) {
+    if (!is_counted("cut"))
+        return;
+    tell(call, path);
+    raise(SIGKILL);
 }
 
 // Whether a call fails, with its error; one that moves less than it may changes its count.
@@ -59,16 +91,12 @@ static int fails(const char *kind, const char *call, int fd, size_t *count) {
 }
 
 static int sync_fails(int fd) {
+    may_cut("sync", path_of(fd));
     if (!is_the_call("device", "sync", fd))
         return 0;
     errno = EIO;
     return 1;
 }
-
-#define REAL(result, name, ...)                         \
-    static result (*real)(__VA_ARGS__);                 \
-    if (!real)                                          \
-        real = dlsym(RTLD_NEXT, name)
 
 ssize_t pread64(int fd, void *bytes, size_t n, off64_t at) {
     REAL(ssize_t, "pread64", int, void *, size_t, off64_t);
@@ -103,5 +131,29 @@ ssize_t read(int fd, void *bytes, size_t n) {
 
 ssize_t write(int fd, const void *bytes, size_t n) {
     REAL(ssize_t, "write", int, const void *, size_t);
+    if (fd > 2)
+        may_cut("write", path_of(fd));
     return fails("output", "write", fd, &n) ? -1 : real(fd, bytes, n);
+}
+
+int open(const char *path, int flags, ...) {
+    va_list more;
+    va_start(more, flags);
+    mode_t mode = flags & O_CREAT ? va_arg(more, mode_t) : 0;
+    va_end(more);
+    if (flags & O_CREAT)
+        may_cut(flags & O_EXCL ? "create" : "open", path);
+    return real_open(path, flags, mode);
+}
+
+int rename(const char *from, const char *to) {
+    REAL(int, "rename", const char *, const char *);
+    may_cut("rename", from);
+    return real(from, to);
+}
+
+int unlink(const char *path) {
+    REAL(int, "unlink", const char *);
+    may_cut("remove", path);
+    return real(path);
 }

@@ -22,7 +22,7 @@ sys.dont_write_bytecode = True
 
 import nbd_served  # noqa: E402
 from nbd_file_system import file_system_copied, file_system_mounted  # noqa: E402
-from nbd_served import Served, attempt, encrypted, libnbd, needs, run, say, volume, words_for  # noqa: E402
+from nbd_served import Served, attempt, encrypted, libnbd, needs, run, say, volume, wait_until_free, words_for  # noqa: E402
 from nbd_speed import speed  # noqa: E402
 from nbd_syncs import syncs  # noqa: E402
 
@@ -48,7 +48,7 @@ def whole(label, words, wanted):
 def each_of_all(data, bindings):
     """Each device of a stack is listed in its order and copied out by its name; another name is none."""
     size = len(data) // 512
-    open("both", "w").write(open("verity").read() + f";l,,,rw,0 {size // 2} linear D 0;z,,,ro,0 {size} zero")
+    open("both", "w").write(open("verity").read() + f";l,,,ro,0 {size // 2} linear D 0;z,,,ro,0 {size} zero")
     wanted = {"v": data, "l": data[: len(data) // 2], "z": bytes(len(data))}
     with Served([nbd_served.program, "nbd", "--all", os.path.abspath("both"), *bindings]) as uri:
         socket = uri.split("=")[1]
@@ -156,19 +156,25 @@ def copied_in(data):
     words = encrypted(len(data))
     open("plain", "wb").write(data)
     wanted = bytearray(data)
+
+    def served(*client):
+        done = run(*client)
+        wait_until_free(words)
+        return done
+
     with Served(words) as uri:
-        done = run("nbdcopy", "plain", uri)
+        done = served("nbdcopy", "plain", uri)
         say("copy in: nbdcopy", done.returncode == 0, done.stderr.decode())
         if shutil.which("qemu-io"):
             for offset, length, byte in ((511, 2, 0x11), (1000, 5000, 0x22), (len(data) - 700, 700, 0x33)):
-                done = run("qemu-io", "-f", "raw", "-c", f"write -P {byte} {offset} {length}", "-c", "flush", "nbd:unix:" + uri.split("=")[1])
+                done = served("qemu-io", "-f", "raw", "-c", f"write -P {byte} {offset} {length}", "-c", "flush", "nbd:unix:" + uri.split("=")[1])
                 say(f"qemu-io writes at {offset}", done.returncode == 0, done.stderr.decode())
                 wanted[offset : offset + length] = bytes([byte]) * length
             for offset, length in ((513, 1), (70000, 5000), (1 << 20, 3 << 20)):
-                done = run("qemu-io", "-f", "raw", "-c", f"write -z -f {offset} {length}", "-c", f"discard {offset} {length}", "nbd:unix:" + uri.split("=")[1])
+                done = served("qemu-io", "-f", "raw", "-c", f"write -z -f {offset} {length}", "-c", f"discard {offset} {length}", "nbd:unix:" + uri.split("=")[1])
                 say(f"qemu-io writes zeros at {offset}", done.returncode == 0, done.stderr.decode())
                 wanted[offset : offset + length] = bytes(length)
-            done = run("qemu-io", "-f", "raw", "-c", "write -f -P 68 99 9", "nbd:unix:" + uri.split("=")[1])
+            done = served("qemu-io", "-f", "raw", "-c", "write -f -P 68 99 9", "nbd:unix:" + uri.split("=")[1])
             say("qemu-io writes with FUA", done.returncode == 0, done.stderr.decode())
             wanted[99:108] = bytes([68]) * 9
     say("copy in: the image is encrypted", open("secret", "rb").read() != bytes(wanted))
@@ -235,11 +241,12 @@ def any_bytes(data):
     open("bytes", "wb").write(image)
     open("writable", "w").write(f"l,,,rw,0 {len(image) // 512} linear B 0")
     strict = [getattr(nbd, it) for it in dir(nbd) if it.startswith("STRICT_")]
+    words = words_for("writable", "l", "B=rw:" + os.path.abspath("bytes"))
     for mode in [0, *strict]:
         handle = nbd.NBD()
         handle.set_strict_mode(mode)
         handle.add_meta_context("base:allocation")
-        handle.connect_command(words_for("writable", "l", "B=rw:" + os.path.abspath("bytes")))
+        handle.connect_command(words)
         label = f"strict mode {mode:#x}"
         say(f"{label}: block sizes", [handle.get_block_size(it) for it in (nbd.SIZE_MINIMUM, nbd.SIZE_PREFERRED, nbd.SIZE_MAXIMUM)] == [1, 4096, 32 << 20])
         for offset, length in ((511, 2), (0, 1), (1023, 1), (513, 4096), (len(image) - 3, 3)):
@@ -257,6 +264,7 @@ def any_bytes(data):
             say(f"{label}: written at {offset}", handle.pread(length, offset) == image[offset : offset + length])
         handle.flush()
         handle.shutdown()
+        wait_until_free(words)
         say(f"{label}: the image", open("bytes", "rb").read() == image)
 
 
@@ -266,7 +274,7 @@ def main():
     open("linear", "w").write(f"l,,,ro,0 {len(data) // 512} linear D 0")
     attempt(whole, "linear", words_for("linear", "l", verity[0]), data)
     attempt(whole, "verity", words_for("verity", "v", *verity), data)
-    attempt(each_of_all, data, ["D=rw:" + os.path.abspath("data"), verity[1]])
+    attempt(each_of_all, data, ["D=ro:" + os.path.abspath("data"), verity[1]])
     attempt(copied_in, data)
     attempt(sparse)
     attempt(holes_read)

@@ -959,7 +959,8 @@ def cuts(runner):
 
 
 def talks(chunked, failing=None, error=EIO):
-    """What is written in an exchange over the file, where the request of that number fails and does nothing."""
+    """What is written in an exchange over the file, where the request of that number fails and does nothing. A device whose sync
+    failed stays failed, so later flushes fail too."""
     e = exports()["file"]
     asked = [("write", 509, b"across"), ("flush",), ("read", 508, 8), ("write", 1024, bytes(range(256)) * 4), ("flush",), ("zeroes", 1536, 512), ("read", 0, 4096)]
     if chunked:
@@ -974,7 +975,8 @@ def talks(chunked, failing=None, error=EIO):
             answer = reply(error) if number == failing else e.write(rest[0], bytes(rest[1]))
         elif kind == "flush":
             sent += request(FLUSH)
-            answer = reply(error) if number == failing else reply()
+            fails = number == failing or error == EIO and failing is not None and asked[failing][0] == "flush" and failing < number
+            answer = reply(error) if fails else reply()
         elif kind == "status":
             sent += request(STATUS, *rest)
             answer = failed(error) if number == failing else e.status(*rest)
@@ -1120,7 +1122,8 @@ def cut_behind(runner, label, sent, whole, taken, after):
 
 
 def forced(runner):
-    """Writes with FUA where each sync fails in turn: the reply is that of an error, and comes behind the write, which stands."""
+    """Writes with FUA where each sync fails in turn: the reply is that of an error, and comes behind the write, which stands. The
+    device stays failed, though each later sync of the system is good: so do all later replies to such writes, and the end."""
     library = os.path.join(os.getcwd(), "fail.so")
     source = os.path.join(os.path.dirname(os.path.realpath(__file__)), "fail_calls.c")
     subprocess.run(["cc", "-shared", "-fPIC", "-O2", "-o", library, source, "-ldl"], check=True)
@@ -1155,9 +1158,9 @@ def forced(runner):
         put, place = syncs[found]
         found += 1
         # the sync at the end is that of the third binding
-        last = place is None
-        wanted = told + b"".join(reply(EIO) if k == place else it for k, it in enumerate(answers)) + b"fault 3 Device 3\n" * last
-        good = done.stdout == wanted and done.returncode == (3 if last else 0) and not done.stderr and int(call[2]) == put
+        failing = [later for _, later in syncs[found - 1 :]]
+        wanted = told + b"".join(reply(EIO) if k in failing else it for k, it in enumerate(answers)) + b"fault 3 Device 3\n"
+        good = done.stdout == wanted and done.returncode == 3 and not done.stderr and int(call[2]) == put
         runner.count(f"sync {found} fails", good, f"status {done.returncode}, {len(done.stdout)} of {len(wanted)} bytes, behind {call[2]} sectors of {put}")
         runner.count(f"sync {found} fails: the image", open("F", "rb").read() == bytes(e.content))
     runner.count("each sync failed", found == len(syncs), f"{found} of {len(syncs)}")
@@ -1190,9 +1193,10 @@ def failures_of(runner, chunked):
             found = done.stdout, done.returncode, open("F", "rb").read()
             if kind == "device":
                 synced = met.startswith("sync")
-                ends = [(told, 0, left) for _, told, left, _ in (talks(chunked, k) for k, it in enumerate(kinds) if (it == "flush") == synced)]
-                # the sync at the end: the file is the third binding
-                good = found in ends or synced and found == (plain + b"fault 3 Device 3\n", 3, after)
+                # the sync at the end, which fails too if a flush did: the file is the third binding
+                last, status = (b"fault 3 Device 3\n", 3) if synced else (b"", 0)
+                ends = [(told + last, status, left) for _, told, left, _ in (talks(chunked, k) for k, it in enumerate(kinds) if (it == "flush") == synced)]
+                good = found in ends or synced and found == (plain + last, status, after)
             elif kind == "memory":
                 ends = [(told, 0, left) for _, told, left, _ in (talks(chunked), *(talks(chunked, k, ENOMEM) for k in range(len(kinds))))]
                 good = found in ends or found[:2] in ((b"no memory\n", 1), (GREETING, 1))

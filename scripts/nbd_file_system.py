@@ -5,7 +5,7 @@ import shutil
 import subprocess
 import time
 
-from nbd_served import Left, Served, encrypted, needs, run, say
+from nbd_served import Left, Served, encrypted, needs, run, say, wait_until_free
 
 SIZE = 16 << 20
 TOOLS = ("mke2fs", "e2fsck", "debugfs")
@@ -34,6 +34,7 @@ class Mounted:
     """The device of a service as a file, by nbdfuse."""
 
     def __init__(self, words):
+        self.words = words
         os.makedirs("mounted", exist_ok=True)
         self.log = open("mounting", "wb")
         self.child = subprocess.Popen(["nbdfuse", "mounted", "--command", *words], stdin=subprocess.DEVNULL, stdout=self.log, stderr=self.log)
@@ -61,6 +62,7 @@ class Mounted:
         self.log.close()
         if os.path.ismount("mounted"):
             run(*(["fusermount3", "-uz"] if shutil.which("fusermount3") else ["umount", "-l"]), "mounted")
+        wait_until_free(self.words)
 
 
 def file_system_mounted():

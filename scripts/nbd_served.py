@@ -1,4 +1,5 @@
 """Services that NBD clients are tried with: what is installed of these, what is counted, and sockets with a service behind each."""
+import fcntl
 import os
 import random
 import shlex
@@ -92,6 +93,19 @@ def sockets_are_allowed():
             os.remove("socket")
 
 
+def wait_until_free(words):
+    """Waits until no service of these words holds an image: a client is done before its service has synced and ended, and until
+    then another one is refused."""
+    for path in (it.partition(":")[2] for it in words if "=rw" in it):
+        with open(path) as image:
+            for _ in range(600):
+                try:
+                    fcntl.flock(image, fcntl.LOCK_EX | fcntl.LOCK_NB)
+                    break
+                except BlockingIOError:
+                    time.sleep(0.05)
+
+
 class Served:
     """A Unix socket at which each connection is served by a program of its own."""
 
@@ -99,6 +113,7 @@ class Served:
         needs("socat")
         if not sockets_are_allowed():
             raise Left("no Unix socket can be made")
+        self.words = words
         self.path = os.path.join(os.getcwd(), "socket")
         # The words stand in a file: socat cuts its own at each colon.
         script = os.path.join(os.getcwd(), "serve")
@@ -131,6 +146,7 @@ class Served:
         self.child.wait()
         if os.path.exists(self.path):
             os.remove(self.path)
+        wait_until_free(self.words)
 
 
 def format_data(size):

@@ -3,7 +3,7 @@
 from stack import SECTOR
 
 REFUSED = 1
-OPENING_FAULTS = ["NotFound", "NotAllowed", "TooLarge", "OtherFault", "NoMemory", "SameFile"]
+OPENING_FAULTS = ["NotFound", "NotAllowed", "TooLarge", "OtherFault", "NoMemory", "SameFile", "InUse"]
 LONGEST_NAME = 255
 WHOLE = (0, 2**64)
 OUTSIDE = b"refused 23 OutsideFile "

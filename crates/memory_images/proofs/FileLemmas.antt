@@ -11,7 +11,7 @@ use Rattle.block_device.specs.Device.{Device, sectors_of}
 use Rattle.block_device.specs.Memory.{memory_bytes}
 use Rattle.image_files.specs.declared.images.FileText.{FileText}
 use Rattle.image_files.specs.declared.images.OpenImage.{OpenImage}
-use Rattle.image_files.specs.Promises.{AreApart, FileRecord, HoldsSectors, IsApartFrom, beside}
+use Rattle.image_files.specs.Promises.{AreApart, FileRecord, HoldsSectors, IsApartFrom}
 use Rattle.memory_images.specs.declared.named_images.MemoryImages.{MemoryImages}
 use Rattle.text_files.specs.declared.texts.ReplaceFault.{ReplaceFault}
 use Rattle.memory_images.specs.Files.{file_at, file_at_place, file_under}
@@ -150,6 +150,6 @@ replaced-others old new path other bytes another r is' apart =
     under new other at'.place at'.bytes (record { placed = placed-still old new other at'.place r.names at'.placed; found = kept ∙ at'.found }) ∙ ap (λ (f : FileRecord). Some f) (sym at'.is)
 
 pub others-unreplaced : (old new : MemoryImages) (path other bytes : List ℕ) (outcome : Result (Unit {0}) ReplaceFault) (another : FileRecord) → ReplacesAt old path bytes outcome new
-    → file_under old other ≡ Some another → IsApartFrom (file_under old path) another → IsApartFrom (file_under old (beside path)) another → file_under new other ≡ Some another
-others-unreplaced old new path other bytes (Ok done) another r is' apart apart-too = replaced-others old new path other bytes another r is' apart
-others-unreplaced old new path other bytes (Err fault) another same is' apart apart-too = ap (λ (m : MemoryImages). file_under m other) same ∙ is'
+    → file_under old other ≡ Some another → IsApartFrom (file_under old path) another → file_under new other ≡ Some another
+others-unreplaced old new path other bytes (Ok done) another r is' apart = replaced-others old new path other bytes another r is' apart
+others-unreplaced old new path other bytes (Err fault) another same is' apart = ap (λ (m : MemoryImages). file_under m other) same ∙ is'
