@@ -262,8 +262,8 @@ class Runner:
     def __init__(self, program):
         self.program, self.passed, self.failed = program, 0, 0
 
-    def run(self, label, name, sent, wanted, status=0, after=None):
-        """The device of that name is served, or each one where there is none."""
+    def run(self, label, name, sent, wanted, status=0, after=None, told=b""):
+        """The device of that name is served, or each one where there is none. What isn't a reply goes to standard error."""
         open("F", "wb").write(exports()["file"].content)
         open("stack", "w").write(STACK)
         named = ["--all", "stack"] if name is None else ["stack", name]
@@ -275,7 +275,7 @@ class Runner:
             problems.append(f"output differs at {at}: {done.stdout[at:at+32].hex()} and not {wanted[at:at+32].hex()}")
         if done.returncode != status:
             problems.append(f"status {done.returncode} and not {status}")
-        if done.stderr:
+        if done.stderr != told:
             problems.append(f"standard error: {done.stderr[:200]!r}")
         if after is not None and open("F", "rb").read() != after:
             problems.append("the image differs")
@@ -754,8 +754,9 @@ def short_of_memory(runner, label, stack, e):
             break
         place = chunk(ERROR_OFFSET, struct.pack(">IHQ", ENOMEM, 0, 0))
         ends = [told + answer + e.chunks(0, 8) for answer in answers] + [told + answers[0] + place]
-        good = done.stdout in ends and done.returncode == 0 or (done.stdout, done.returncode) in ((b"no memory\n", 1), (GREETING, 1))
-        runner.count(f"{label}: allocation {number} fails", good and not done.stderr, f"status {done.returncode}, {done.stdout[-40:]!r}")
+        good = done.stdout in ends and done.returncode == 0 or (done.stdout, done.returncode) in ((b"", 1), (GREETING, 1))
+        said = b"" if done.stdout else b"no memory\n"
+        runner.count(f"{label}: allocation {number} fails", good and done.stderr == said, f"status {done.returncode}, {done.stdout[-40:]!r}, {done.stderr[:80]!r}")
     runner.count(f"{label}: some allocations failed", number > 1)
 
 
@@ -1159,8 +1160,8 @@ def forced(runner):
         found += 1
         # the sync at the end is that of the third binding
         failing = [later for _, later in syncs[found - 1 :]]
-        wanted = told + b"".join(reply(EIO) if k in failing else it for k, it in enumerate(answers)) + b"fault 3 Device 3\n"
-        good = done.stdout == wanted and done.returncode == 3 and not done.stderr and int(call[2]) == put
+        wanted = told + b"".join(reply(EIO) if k in failing else it for k, it in enumerate(answers))
+        good = done.stdout == wanted and done.returncode == 3 and done.stderr == b"fault 3 Device 3\n" and int(call[2]) == put
         runner.count(f"sync {found} fails", good, f"status {done.returncode}, {len(done.stdout)} of {len(wanted)} bytes, behind {call[2]} sectors of {put}")
         runner.count(f"sync {found} fails: the image", open("F", "rb").read() == bytes(e.content))
     runner.count("each sync failed", found == len(syncs), f"{found} of {len(syncs)}")
@@ -1190,26 +1191,29 @@ def failures_of(runner, chunked):
             if not os.path.exists("met"):
                 break
             met = open("met").read()
-            found = done.stdout, done.returncode, open("F", "rb").read()
+            found, said = (done.stdout, done.returncode, open("F", "rb").read()), b""
             if kind == "device":
                 synced = met.startswith("sync")
                 # the sync at the end, which fails too if a flush did: the file is the third binding
-                last, status = (b"fault 3 Device 3\n", 3) if synced else (b"", 0)
-                ends = [(told + last, status, left) for _, told, left, _ in (talks(chunked, k) for k, it in enumerate(kinds) if (it == "flush") == synced)]
-                good = found in ends or synced and found == (plain + last, status, after)
+                status, said = (3, b"fault 3 Device 3\n") if synced else (0, b"")
+                ends = [(told, status, left) for _, told, left, _ in (talks(chunked, k) for k, it in enumerate(kinds) if (it == "flush") == synced)]
+                good = found in ends or synced and found == (plain, status, after)
             elif kind == "memory":
                 ends = [(told, 0, left) for _, told, left, _ in (talks(chunked), *(talks(chunked, k, ENOMEM) for k in range(len(kinds))))]
-                good = found in ends or found[:2] in ((b"no memory\n", 1), (GREETING, 1))
+                if found[:2] == (b"", 1):
+                    good, said = True, b"no memory\n"
+                else:
+                    good = found in ends or found[:2] == (GREETING, 1)
             else:
                 good = done.returncode == 1 and plain.startswith(done.stdout)
-            runner.count(f"{kind} {number} fails ({met.strip()})", good and not done.stderr, f"status {done.returncode}, {len(done.stdout)} of {len(plain)} bytes, {done.stdout[-40:]!r}")
+            runner.count(f"{kind} {number} fails ({met.strip()})", good and done.stderr == said, f"status {done.returncode}, {len(done.stdout)} of {len(plain)} bytes, {done.stdout[-40:]!r}, {done.stderr[:80]!r}")
         runner.count(f"{kind}: some failed", number > 1)
 
 
 def refusals(runner):
-    """What isn't served at all says so as every command does."""
-    for name, text in (("none", "refused 1 NoSuchDevice\n"), ("R", "refused 1 NoSuchDevice\n"), ("", "refused 1 NoSuchDevice\n")):
-        runner.run(f"device {name}", name, flags(3), text.encode(), status=1)
+    """What isn't served at all says so on standard error, and nothing to the client."""
+    for name in ("none", "R", ""):
+        runner.run(f"device {name}", name, flags(3), b"", status=1, told=b"refused 1 NoSuchDevice\n")
 
 
 def main():

@@ -20,6 +20,8 @@ TARGETS = ("linear", "striped", "zero", "error", "crypt", "verity", "zero_blocks
 # Options and forms of words that a program may not have yet; without them they are wrong words.
 FORMS = ("all", "grow", "json", "map", "differing", "progress", "pass-cache", "parts", "input-stack", "store-file",
          "exports", "fec")
+# Commands whose output is data for another program: their refusals go to standard error.
+OUTPUT_IS_DATA = ("cat", "nbd")
 # Commands whose STACK may be `-`, standard input; where that is the client's or the bytes', `-` is a wrong word.
 STACK_FROM_INPUT = ("load", "read", "write", "scan", "copy", "cat", "store")
 
@@ -299,7 +301,8 @@ def run(words, given, files, features, cuts=()):
         line, status = refusal.text().encode(), REFUSED
     except Fault as fault:
         line, status = fault.text.encode(), FAULT
-    if words[:1] == [b"cat"] and "cat" in features["commands"]:
+    name = b"".join(words[:1]).decode("latin-1")
+    if name in OUTPUT_IS_DATA and name in features["commands"]:
         return Octets(b"", line), status
     return [line], status
 

@@ -5,10 +5,11 @@ mod system;
 
 use counted_io::Counted;
 use image_files::FileImages;
-use stack_commands::{CommandFault, command, end};
+use stack_commands::{CommandFault, command, end, writes_data};
 use std::fs::File;
-use std::io::{BufWriter, ErrorKind};
+use std::io::{BufWriter, ErrorKind, Write};
 use std::process::ExitCode;
+use std::rt::Env;
 use std::{env, io};
 use system::System;
 
@@ -17,13 +18,13 @@ fn main(rt: HostRuntime) -> ExitCode {
     let _input = File::open(&rt, "/");
     let _output = File::open(&rt, "/");
     let _errors = File::open(&rt, "/");
+    let mut errors = Counted::new(rt.stderr());
     let Ok(buffered) = BufWriter::new(rt.alloc(), io::writer(&rt)) else {
-        let _ = print!(rt; "no memory\n");
-        return ExitCode::from(1);
+        let mut writer = Counted::new(io::writer(&rt));
+        return ExitCode::from(end_unread(&rt, &mut writer, &mut errors, CommandFault::NoMemory));
     };
     let mut reader = Counted::new(rt.reader());
     let mut writer = Counted::new(buffered);
-    let mut errors = Counted::new(rt.stderr());
     let (mut images, mut system) = (FileImages::new(&rt), System::new(&rt));
     let status = match words_of(&rt) {
         Ok(words) => command(
@@ -36,15 +37,34 @@ fn main(rt: HostRuntime) -> ExitCode {
             &mut errors,
         ),
         Err(error) if error.kind() == ErrorKind::OutOfMemory => {
-            end(&mut writer, CommandFault::NoMemory)
+            end_unread(&rt, &mut writer, &mut errors, CommandFault::NoMemory)
         }
-        Err(_) => end(&mut writer, CommandFault::Usage),
+        Err(_) => end_unread(&rt, &mut writer, &mut errors, CommandFault::Usage),
     };
     ExitCode::from(if writer.flush().is_ok() { status } else { 1 })
 }
 
+// Tells why a command ends whose words can't all be read: on standard error where its output is data.
+fn end_unread<R: Env, W: Write, E: Write>(
+    rt: &R,
+    writer: &mut Counted<W>,
+    errors: &mut Counted<E>,
+    fault: CommandFault<'_>,
+) -> u8 {
+    let mut buffer = [0; 4];
+    let name = match rt.arg(1, &mut buffer) {
+        Ok(length) => buffer.get(..length),
+        Err(_) => None,
+    };
+    if name.is_some_and(writes_data) {
+        end(errors, fault)
+    } else {
+        end(writer, fault)
+    }
+}
+
 // The words behind the program's name. One that is not UTF-8 is an error of another kind than memory.
-fn words_of<R: std::rt::Env + AllocGlobal>(rt: &R) -> io::Result<Vec<String>> {
+fn words_of<R: Env + AllocGlobal>(rt: &R) -> io::Result<Vec<String>> {
     let mut words = env::args(rt)?;
     let _ = words.next();
     Ok(words.collect(rt.alloc())?)

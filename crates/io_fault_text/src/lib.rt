@@ -2,7 +2,9 @@
 #![tactic(auto)]
 
 mod open;
+mod path;
 mod say;
 
 pub use open::say_unopened;
+pub use path::say_path;
 pub use say::{say_io_fault, say_io_words, say_no_memory, say_refused, say_usage};

@@ -2,6 +2,7 @@
 ghost use Rattle.counted_io.specs.Counted.{Writes};
 ghost use Rattle.io_fault_text.specs.Opening.{open_text};
 
+use crate::path::say_path;
 use crate::say::say_no_memory;
 use block_device::OpenFault;
 use counted_io::{Counted, WriteFault};
@@ -21,5 +22,7 @@ pub fn say_unopened<W: Write>(
     }
     let number = fault.number();
     let name = fault.name();
-    writer.print(format_args!("refused {number} {name} {path}\n"))
+    writer.print(format_args!("refused {number} {name} "))?;
+    say_path(writer, path)?;
+    writer.put(b"\n")
 }

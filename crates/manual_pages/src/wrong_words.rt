@@ -1,9 +1,11 @@
 //! What is said of words that are no command.
 use crate::page::{Page, page_of};
 use counted_io::{Counted, WriteFault};
+use io_fault_text::say_path;
 use std::io::Write;
 
-/// Says which word is wrong, what the words of its command are, and where more is said: in three lines at most.
+/// Says which word is wrong, what the words of its command are, and where more is said: in three lines at most. A word is
+/// printed as a path is.
 pub fn say_wrong_words<W: Write>(
     errors: &mut Counted<W>,
     words: &[String],
@@ -15,9 +17,9 @@ pub fn say_wrong_words<W: Write>(
     match page_of(Some(name)) {
         Some(page) if !name.is_empty() => say_of_command(errors, page, rest),
         _ => {
-            errors.print(format_args!(
-                "dmstack: there is no command {name}; `dmstack manual` names them\n"
-            ))
+            errors.put(b"dmstack: there is no command ")?;
+            say_path(errors, name)?;
+            errors.put(b"; `dmstack manual` names them\n")
         }
     }
 }
@@ -30,7 +32,11 @@ fn say_of_command<W: Write>(
 ) -> Result<(), WriteFault> {
     let (name, usage) = (page.name, page.usage);
     match wrong_option(page, words) {
-        Some(word) => errors.print(format_args!("dmstack: {name} has no option {word}\n"))?,
+        Some(word) => {
+            errors.print(format_args!("dmstack: {name} has no option "))?;
+            say_path(errors, word)?;
+            errors.put(b"\n")?;
+        }
         None => errors.print(format_args!("dmstack: these aren't the words of {name}\n"))?,
     }
     errors.print(format_args!("usage: {usage}\n`dmstack manual {name}` says more\n"))

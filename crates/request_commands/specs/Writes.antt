@@ -10,7 +10,7 @@ use Rattle.stack_opening.specs.declared.stack_file.OpenStack.{OpenStack}
 use Rattle.stack_opening.specs.OpenStacks.{FailsToOpenSource, OpensSource, StackWords, stack_words}
 use Rattle.stack_opening.specs.declared.stack_file.StackFile.{StackFile}
 use Rattle.stack_making.specs.declared.fault.StackFault.{StackFault}
-use Rattle.stack_making.specs.Closings.{GivesBack, IsGivenBack}
+use Rattle.stack_making.specs.Closings.{GivesBack}
 use Rattle.stack_making.specs.Endings.{IsOpeningEnd}
 use Rattle.stack_making.specs.StacksOfTexts.{FailsToLoad, IsStackOf}
 use Rattle.request_queue.specs.declared.reply.Reply.{Reply}
@@ -59,7 +59,7 @@ pub record MakesNoStack {S D : Type 0} (w : Calls S D) (words : PutWords) (fault
 abbrev pub FailsToLoadSource : {S D : Type 0} → Calls S D → PutWords → StackFault → Type 0
 FailsToLoadSource w words fault = IsOpeningEnd (FailsToOpenSource w words.words words.source) fault ⊎ MakesNoStack w words fault
 
--- the request isn't served to its end, and what then stands in the images is given back
+-- the request isn't served to its end, and what then stands in the images is given back, synced or not
 pub record FailsToPut {S D : Type 0} (w : Calls S D) (words : PutWords) (fault : RequestFault) : Type 0 where
   pub over : OpenStack D
   pub source : FileText
@@ -69,7 +69,8 @@ pub record FailsToPut {S D : Type 0} (w : Calls S D) (words : PutWords) (fault :
   pub opened : OpensSource (record w { new = between }) words.words words.source over source
   pub made : IsStackOf w.state over words.cache stack
   pub fails : FailsToServe (new_world stack) (words.put source.bytes.items) fault after
-  pub back : IsGivenBack (record w { old = between }) words.words.bindings after.stack.leaves
+  pub synced : Result Unit IoFault
+  pub back : GivesBack (record w { old = between }) words.words.bindings after.stack.leaves synced
 
 -- an image wasn't synced behind it
 abbrev pub IsUnsyncedBehind : (Result Unit IoFault → Type 0) → RequestFault → Type 0

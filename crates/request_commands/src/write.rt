@@ -9,11 +9,12 @@ use block_device::BlockDev;
 use command_line::Transfer;
 use image_files::Images;
 use request_queue::{Queue, Reply, Request};
-use stack_making::{close_stack, load_stack, sync_and_close};
+use stack_making::{load_stack, sync_and_close};
 use stack_opening::{StackFile, open_with_source};
 use std::alloc::Global;
 
-/// The bytes of the source file to a device of a stack file over the bindings, whose images are synced and given back.
+/// The bytes of the source file to a device of a stack file over the bindings, whose images are synced and given back,
+/// also after a fault of the request, which is returned if the sync fails too.
 pub fn write_source<'a, I: Images>(
     alloc: Global,
     images: &mut I,
@@ -29,12 +30,10 @@ pub fn write_source<'a, I: Images>(
     let mut queue = Queue::new(alloc, stack);
     let outcome = store(alloc, &mut queue, transfer, source.bytes);
     let stack = queue.into_stack();
+    let synced = sync_and_close(images, file.bindings, stack);
     match outcome {
-        Ok(_reply) => Ok(sync_and_close(images, file.bindings, stack)?),
-        Err(fault) => {
-            close_stack(images, file.bindings, stack);
-            Err(fault)
-        }
+        Ok(_reply) => Ok(synced?),
+        Err(fault) => Err(fault),
     }
 }
 

@@ -1,5 +1,5 @@
 -- What the program does: which command prints what where it succeeds, and how it ends early.
-use Rattle.std.specs.Prelude.{◌≡◌, ◌⊎◌, ℕ, Bool, true, false, List, [], ◌∷◌, codes, Option, Some, Ok}
+use Rattle.std.specs.Prelude.{◌≡◌, ◌⊎◌, ◌||◌, ℕ, Bool, true, false, List, [], ◌∷◌, codes, Option, Some, Ok}
 use Rattle.std.specs.Str.{bytes_eq}
 use Rattle.stack_commands.specs.declared.fault.CommandFault.{CommandFault}
 use Rattle.stack_commands.specs.declared.fault.CommandFault.TheVariants.{Usage, Verity}
@@ -80,10 +80,14 @@ IsRunEnd words u failed fault =
     (IsUsageEnd fault (IsNoCommand words) × (u.new ≡ u.old) × (u.images.new ≡ u.images.old))
     ⊎ ((invocation : InvocationRecord) × (texts : OptionTexts) × IsCommandOf words texts invocation × FailsCommand texts invocation u failed fault)
 
--- the command's name is `cat`
-abbrev pub is_cat : List (List ℕ) → Bool
-is_cat [] = false
-is_cat (name ∷ words) = bytes_eq name (codes "cat")
+-- the command of that name writes data for another program: the bytes of a device, the replies to a client
+abbrev pub writes_data : List ℕ → Bool
+writes_data name = bytes_eq name (codes "cat") || bytes_eq name (codes "nbd")
+
+-- that of the words does
+abbrev pub output_is_data : List (List ℕ) → Bool
+output_is_data [] = false
+output_is_data (name ∷ words) = writes_data name
 
 -- the words are no command
 abbrev pub is_usage : CommandFault → Bool
@@ -111,7 +115,7 @@ pub record IsToldElsewhere (fault : CommandFault) (told : Told) (status : ℕ) :
   pub unsaid : is_usage fault ≡ false → before ≡ told.old
   pub ends : IsEndOr told.errors_failed fault before told.new status
 
--- how an end is told: printed; of `cat` among the errors, and nothing is written
+-- how an end is told: printed; where the output is data among the errors, and nothing is written
 abbrev pub IsTold : Bool → CommandFault → Option (List ℕ) → Option (List ℕ) → Told → ℕ → Type 0
 IsTold false fault old new told status = IsEndOr told.failed fault old new status
 IsTold true fault old new told status = (new ≡ old) × IsToldElsewhere fault told status
@@ -124,7 +128,7 @@ pub record EndsCommand {S D T G : Type 0} (words : List (List ℕ)) (u : Uses S 
   pub unwritten : Bool
   pub fails : IsRunEnd words (record u { new = before }) unwritten fault
   pub kept : unwritten ≡ true → told.failed ≡ true
-  pub told_so : IsTold (is_cat words) fault before.output u.new.output told status
+  pub told_so : IsTold (output_is_data words) fault before.output u.new.output told status
 
 -- the command of some words succeeded
 abbrev pub IsCommandDone : {S D T G : Type 0} → List (List ℕ) → Uses S D T G → Type 0

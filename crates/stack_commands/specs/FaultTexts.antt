@@ -1,6 +1,7 @@
 -- What is printed of faults of stacks, of requests, of devices that are gone over, and of their bytes; and the statuses.
 use Rattle.std.specs.Prelude.{ℕ, List, [], ◌++◌, codes, decimal}
 use Rattle.io_fault_text.specs.Opening.{open_text}
+use Rattle.io_fault_text.specs.Paths.{shown_path}
 use Rattle.io_fault_text.specs.Texts.{io_text, no_memory, refused_text}
 use Rattle.stack_meaning.specs.declared.fault.IoFault.{IoFault}
 use Rattle.stack_meaning.specs.declared.fault.IoFault.TheVariants as io
@@ -24,7 +25,7 @@ use Rattle.stack_session.specs.Texts.{fault_text, load_refusal_text, submit_text
 
 -- a part that isn't inside its file
 abbrev pub outside_text : List ℕ → List ℕ
-outside_text path = codes "refused 23 OutsideFile " ++ (path ++ codes "\n")
+outside_text path = codes "refused 23 OutsideFile " ++ (shown_path path ++ codes "\n")
 
 -- leaves that aren't taken
 abbrev pub config_text : ConfigFault → List ℕ

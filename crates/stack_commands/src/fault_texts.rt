@@ -4,7 +4,7 @@ ghost use Rattle.counted_io.specs.Counted.{Writes};
 ghost use Rattle.stack_commands.specs.FaultTexts.{config_text, io_status, outside_text, recovering_status, recovering_text, request_status, request_text, stack_fault_text, stream_status, stream_text, too_small_text};
 
 use counted_io::{Counted, WriteFault};
-use io_fault_text::{say_io_fault, say_no_memory, say_refused, say_unopened};
+use io_fault_text::{say_io_fault, say_no_memory, say_path, say_refused, say_unopened};
 use recovery_commands::{RecoveringFault, say_counts};
 use request_commands::RequestFault;
 use request_queue::SubmitFault;
@@ -42,7 +42,9 @@ pub fn say_stack_fault<W: Write>(
 fn say_outside<W: Write>(writer: &mut Counted<W>, path: &str) -> Result<(), WriteFault>
     ensures { Writes W.contents writer.old writer.new (outside_text path.now) result }
 {
-    writer.print(format_args!("refused 23 OutsideFile {path}\n"))
+    writer.put(b"refused 23 OutsideFile ")?;
+    say_path(writer, path)?;
+    writer.put(b"\n")
 }
 
 // `refused K NAME`

@@ -21,4 +21,4 @@ mod write;
 
 pub use ending::end;
 pub use fault::CommandFault;
-pub use program::command;
+pub use program::{command, writes_data};

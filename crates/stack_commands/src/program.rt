@@ -3,7 +3,7 @@ ghost use Rattle.std.specs.Prelude.{false, ◌≡◌, ◌⊎◌, ℕ, List, Opti
 ghost use Rattle.counted_io.specs.Streams.{streams};
 ghost use Rattle.image_commands.specs.Drawing.{drawing};
 ghost use Rattle.image_files.specs.Opener.{calls};
-ghost use Rattle.stack_commands.specs.Commands.{EndsCommand, IsCommandDone, is_cat, is_usage, told_to};
+ghost use Rattle.stack_commands.specs.Commands.{EndsCommand, IsCommandDone, is_usage, output_is_data, told_to, writes_data};
 ghost use Rattle.stack_commands.specs.Lines.{DoesLine, DoesOnDevice, DoesOnStack, DoesWords, EndsLine, EndsOnDevice, EndsOnStack, EndsWords, IsOnDevice, IsOnStack};
 ghost use Rattle.stack_commands.specs.Uses.{uses};
 
@@ -39,8 +39,8 @@ const CACHED_BLOCKS: u32 = 64;
 /// Runs the words behind the program's name, and answers the status: 0 done, 1 refused, 2 usage, 3 a fault of
 /// the stack or images that differ, 4 a client that breaks the NBD protocol.
 ///
-/// All that is opened is opened by `images`. Why `cat` ends early goes to `errors`, since its bytes go to the writer;
-/// so does what is said of words that are no command, beside `usage`.
+/// All that is opened is opened by `images`. Why `cat` and `nbd` end early goes to `errors`, since what they write is
+/// data for another program; so does what is said of words that are no command, beside `usage`.
 pub fn command<I: Images, G: Generators + Progress + Watchers, S: Read, W: Write, E: Write>(
     alloc: Global,
     images: &mut I,
@@ -59,7 +59,7 @@ pub fn command<I: Images, G: Generators + Progress + Watchers, S: Read, W: Write
         Ok(()) => DONE,
         Err(fault) => {
             explain(errors, words, fault);
-            if is_cat(words) {
+            if output_is_data(words) {
                 end(errors, fault)
             } else {
                 end(writer, fault)
@@ -88,12 +88,19 @@ fn is_usage(fault: CommandFault<'_>) -> bool
     }
 }
 
-// Whether the command's name is `cat`.
-fn is_cat(words: &[String]) -> bool
-    ensures { result ≡ is_cat (map string_bytes words.now) }
+/// Whether the command of that name writes data for another program, so that no line of text may stand on its output.
+pub fn writes_data(name: &[u8]) -> bool
+    ensures { result ≡ writes_data name.now }
+{
+    name == b"cat".as_slice() || name == b"nbd".as_slice()
+}
+
+// Whether that of the words does.
+fn output_is_data(words: &[String]) -> bool
+    ensures { result ≡ output_is_data (map string_bytes words.now) }
 {
     match words {
-        [name, ..] => name.as_bytes() == b"cat".as_slice(),
+        [name, ..] => writes_data(name.as_bytes()),
         [] => false,
     }
 }

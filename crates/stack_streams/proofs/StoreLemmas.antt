@@ -1,17 +1,20 @@
 -- Bytes that are taken and written, piece by piece.
 use Rattle.std.proofs.Common.{◌≡◌, ℕ, ◌+◌, ◌-◌, ◌*◌, ◌/◌, ◌%◌, List, [], ◌++◌, length, drop, Option, Some, None, Ok, Err, refl, sym, ap, ◌∙◌, subst, arith, append-nil, append_assoc, inl, inr, length-drop}
-use Rattle.std.specs.Prelude.{IfErr, IfOk, Result}
+use Rattle.std.specs.Prelude.{IfErr, IfOk, OnOk, Result, map}
 use Rattle.std.specs.Io.KnownBytes.{Consumes, IsAtEnd, prepend_known}
 use Rattle.std.proofs.KnownBytes.{Consumes-nil, Consumes-trans}
 use Rattle.std.proofs.lemmas.List.{length-append, length-take-le, take-append-drop, take_all}
+use Rattle.block_device.specs.Device.{synced}
+use Rattle.stack_meaning.specs.declared.fault.IoFault.{IoFault}
 use Rattle.stack_rules.specs.Names.{mapped, size}
 use Rattle.stack_engine.specs.Stacks.{StackRecord}
+use Rattle.stack_engine.specs.Syncs.{FailsToSync}
 use Rattle.stack_engine.specs.WritePieces.{EachWrite, WritesInPieces}
 use Rattle.stack_engine.proofs.lemmas.WritePieceLemmas.{write-none, write-then}
 use Rattle.stack_streams.specs.declared.fault.StoreCause.{StoreCause}
 use Rattle.stack_streams.specs.declared.fault.StoreCause.TheVariants as cause
 use Rattle.stack_streams.specs.declared.fault.StoreFault.{StoreFault}
-use Rattle.stack_streams.specs.Stores.{HasStored, IsProbeEnd, LastEnds, StopsStore, StoreSide, StoresPiece, store_side, whole_of}
+use Rattle.stack_streams.specs.Stores.{HasStored, IsProbeEnd, IsSyncTried, LastEnds, StopsStore, StoreSide, StoresPiece, store_side, whole_of}
 
 -- bytes that were taken at once, as if in two parts
 pub consumes-part : (a c : Option (List ℕ)) (x y : List ℕ) → Consumes a c (x ++ y) → Consumes a (prepend_known y c) x
@@ -22,6 +25,12 @@ consumes-part (Some a) (Some c) x y p = p ∙ append_assoc x y c
 pub consumes-rest : (c : Option (List ℕ)) (y : List ℕ) → Consumes (prepend_known y c) c y
 consumes-rest None y = tt
 consumes-rest (Some c) y = refl
+
+-- whatever a sync answers
+pub sync-tried : (old new : StackRecord) (outcome : Result Unit IoFault) → new.config ≡ old.config → new.capacity ≡ old.capacity → new.kept ≡ old.kept
+    → OnOk outcome (new.leaves ≡ map synced old.leaves) → IfErr outcome (FailsToSync old.leaves new.leaves) → IsSyncTried old new
+sync-tried old new (Ok done) config capacity kept ok err = record { config = config; capacity = capacity; kept = kept; leaves = inl ok }
+sync-tried old new (Err fault) config capacity kept ok err = record { config = config; capacity = capacity; kept = kept; leaves = inr (fault, err) }
 
 pub store-none : (d first : ℕ) (old : StoreSide) → HasStored d first 0 old old
 store-none d first old = record { bytes = []; count = refl; pieces = write-none old.stack d first; taken = Consumes-nil old.input }

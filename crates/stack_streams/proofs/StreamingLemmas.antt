@@ -9,7 +9,7 @@ use Rattle.stack_streams.specs.declared.fault.StoreCause.TheVariants as cause
 use Rattle.stack_streams.specs.declared.fault.StoreFault.{StoreFault}
 use Rattle.stack_streams.specs.declared.input.StorePlace.{StorePlace}
 use Rattle.stack_streams.specs.Cats.{IsCat, IsCatEnd, cat_side}
-use Rattle.stack_streams.specs.Stores.{IsStoreEnd, StopsStore, StoreSide}
+use Rattle.stack_streams.specs.Stores.{IsStoreEnd, StopsStore, StoreSide, store_side}
 use Rattle.stack_streams.specs.declared.fault.StreamFault.TheVariants.{Cat}
 use Rattle.stack_making.specs.NamedDevices.{DeviceWords, FindsDevice, DevicePlace}
 use Rattle.stack_streams.specs.Streaming.{FailsToCat, PrintsBytes, count_from}
@@ -46,5 +46,6 @@ stop-told d first n old new broken (cause.Sync fault) ends = ends
 
 pub end-told : (d : ℕ) (place : StorePlace) (old new : StoreSide) (broken : Type 0) (fault : StoreFault) → IsStoreEnd d place old new broken fault → IsStoreEnd d place old new (Unit {0}) fault
 end-told d place old new broken fault (inl refused) = inl refused
-end-told d place old new broken fault (inr (inl stopped)) = inr (inl (stop-told d place.first fault.written old new broken fault.cause stopped))
+end-told d place old new broken fault (inr (inl stopped)) =
+    inr (inl (record { left = stopped.left; stops = stop-told d place.first fault.written old (store_side stopped.left new.input) broken fault.cause stopped.stops; synced = stopped.synced }))
 end-told d place old new broken fault (inr (inr unsynced)) = inr (inr unsynced)

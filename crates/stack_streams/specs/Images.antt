@@ -8,7 +8,7 @@ use Rattle.stack_streams.specs.declared.fault.StoreCause.{StoreCause}
 use Rattle.stack_streams.specs.declared.fault.StoreCause.TheVariants as cause
 use Rattle.stack_streams.specs.declared.fault.StoreFault.{StoreFault}
 use Rattle.stack_streams.specs.declared.input.StorePlace.{StorePlace}
-use Rattle.stack_streams.specs.Stores.{IsSynced, IsStoreUnsynced, put_refusal}
+use Rattle.stack_streams.specs.Stores.{IsSynced, IsSyncTried, IsStoreUnsynced, put_refusal}
 
 -- all sectors of a source are to come behind that one
 abbrev pub image_place : ℕ → Device → StorePlace
@@ -36,6 +36,12 @@ ImageStopsAt d first n w source w' source' (cause.Write fault) =
     (left : StackRecord) × HasStoredImage d first n w source left × (piece : List ℕ) × EachWrite left d (first + n) piece (Err fault) w'
 ImageStopsAt d first n w source w' source' other = ⊥
 
+-- it did, and what was written until then was synced, or one leaf couldn't be
+pub record IsImageStopSynced (d first : ℕ) (w : StackRecord) (source : Device) (w' : StackRecord) (source' : Device) (fault : StoreFault) : Type 0 where
+  pub left : StackRecord
+  pub stops : ImageStopsAt d first fault.written w source left source' fault.cause
+  pub synced : IsSyncTried left w'
+
 -- all was written, and a leaf couldn't be synced
 pub record IsImageSyncStop (d first : ℕ) (w : StackRecord) (source : Device) (w' : StackRecord) (fault : StoreFault) : Type 0 where
   pub left : StackRecord
@@ -52,7 +58,7 @@ pub record IsImageRefused (d first : ℕ) (w : StackRecord) (source : Device) (w
 abbrev pub IsStoredEnd : ℕ → ℕ → StackRecord → Device → StackRecord → Device → StoreFault → Type 0
 IsStoredEnd d first w source w' source' fault =
     IsImageRefused d first w source w' source' fault
-    ⊎ (ImageStopsAt d first fault.written w source w' source' fault.cause ⊎ IsImageSyncStop d first w source w' fault)
+    ⊎ (IsImageStopSynced d first w source w' source' fault ⊎ IsImageSyncStop d first w source w' fault)
 
 -- ---- as a call sees them
 

@@ -54,6 +54,13 @@ pub record IsSynced (old new : StackRecord) : Type 0 where
   pub kept : new.kept ≡ old.kept
   pub leaves : new.leaves ≡ map synced old.leaves
 
+-- What was written to the leaves was synced, or one of them couldn't be; nothing else changed.
+pub record IsSyncTried (old new : StackRecord) : Type 0 where
+  pub config : new.config ≡ old.config
+  pub capacity : new.capacity ≡ old.capacity
+  pub kept : new.kept ≡ old.kept
+  pub leaves : (new.leaves ≡ map synced old.leaves) ⊎ ((fault : IoFault) × FailsToSync old.leaves new.leaves fault)
+
 -- all bytes of the reader were written, those of n sectors, and put on the media
 pub record Stores (d first : ℕ) (old new : StoreSide) (n : ℕ) : Type 0 where
   pub left : StackRecord
@@ -94,6 +101,12 @@ StopsStore d first n old new broken other = ⊥
 abbrev pub IsStoreStop : ℕ → ℕ → StoreSide → StoreSide → Type 0 → StoreFault → Type 0
 IsStoreStop d first old new broken fault = StopsStore d first fault.written old new broken fault.cause
 
+-- it ended early, and what was written until then was synced, or one leaf couldn't be
+pub record IsStoppedSynced (d first : ℕ) (old new : StoreSide) (broken : Type 0) (fault : StoreFault) : Type 0 where
+  pub left : StackRecord
+  pub stops : IsStoreStop d first old (store_side left new.input) broken fault
+  pub synced : IsSyncTried left new.stack
+
 -- nothing was written to the media: the fault was known before, and nothing was done; or all but the sync was
 pub record IsStoreRefused (d : ℕ) (place : StorePlace) (old new : StoreSide) (fault : StoreFault) : Type 0 where
   pub none : fault.written ≡ 0
@@ -109,7 +122,7 @@ pub record IsSyncStop (d first : ℕ) (old new : StoreSide) (fault : StoreFault)
 -- one of the three
 abbrev pub IsStoreEnd : ℕ → StorePlace → StoreSide → StoreSide → Type 0 → StoreFault → Type 0
 IsStoreEnd d place old new broken fault =
-    IsStoreRefused d place old new fault ⊎ (IsStoreStop d place.first old new broken fault ⊎ IsSyncStop d place.first old new fault)
+    IsStoreRefused d place old new fault ⊎ (IsStoppedSynced d place.first old new broken fault ⊎ IsSyncStop d place.first old new fault)
 
 -- ---- on the way
 

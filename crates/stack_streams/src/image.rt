@@ -5,14 +5,14 @@ ghost use Rattle.stack_streams.specs.Images.{HasStoredAll, IsStoredEnd, StopsIma
 ghost use Rattle.stack_streams.specs.Stores.{put_refusal};
 
 use crate::fault::{StoreCause, StoreFault};
-use crate::input::{MOST_PIECE, ROOM, StorePlace, refusal_of, sync_stored, tell};
+use crate::input::{MOST_PIECE, ROOM, StorePlace, refusal_of, sync_stopped, sync_stored, tell};
 use block_device::{BlockDev, SyncDev};
 use progress::Progress;
 use stack_config::DevId;
 use stack_engine::Stack;
 
-/// Writes all sectors of another device to a mapped device from its sector `first` on, and has them put on the media.
-/// Where they don't fit nothing is read or written.
+/// Writes all sectors of another device to a mapped device from its sector `first` on, and has them put on the media,
+/// those too that are written before a fault. Where they don't fit nothing is read or written.
 pub fn store_image<D: SyncDev, S: BlockDev, P: Progress>(
     stack: &mut Stack<D>,
     d: DevId,
@@ -36,7 +36,10 @@ pub fn store_image<D: SyncDev, S: BlockDev, P: Progress>(
             let mut room = [0u8; ROOM];
             match store_image_by(stack, d, first, source, progress, room.as_mut_slice()) {
                 Ok(written) => sync_stored(stack, written),
-                Err(fault) => Err(fault),
+                Err(fault) => {
+                    sync_stopped(stack);
+                    Err(fault)
+                }
             }
         }
     }

@@ -2,7 +2,7 @@
 ghost use Rattle.std.specs.Prelude.{◌≡◌, ◌≢◌, ◌+◌, ◌/◌, ◌%◌, ◌≤◌, ◌<◌, ◌^◌, length, IsTrue, None, Err, IsOk, OnOk, IfOk, IfErr};
 ghost use Rattle.stack_rules.specs.Names.{mapped, may_write, size};
 ghost use Rattle.stack_engine.specs.WritePieces.{EachWrite};
-ghost use Rattle.stack_streams.specs.Stores.{EndsStoreBy, EndsThere, GoesFurther, HasStoredBy, IsLastEnd, IsSynced, IsStoreUnsynced, StopsStoreBy, StoresBy, StoresLast, StoresPiece, put_refusal};
+ghost use Rattle.stack_streams.specs.Stores.{EndsStoreBy, EndsThere, GoesFurther, HasStoredBy, IsLastEnd, IsSynced, IsSyncTried, IsStoreUnsynced, StopsStoreBy, StoresBy, StoresLast, StoresPiece, put_refusal};
 
 use crate::fault::{StoreCause, StoreFault};
 use crate::filling::fill;
@@ -50,7 +50,7 @@ pub(crate) fn refusal_of(config: &Config, d: DevId, place: StorePlace) -> Option
 
 /// Writes all bytes of a reader to a mapped device, in the longest pieces, and has them put on the media. What is known
 /// before is refused before anything is read or written. Otherwise whole sectors are written up to where it ends, of
-/// which the fault says how many; those aren't synced.
+/// which the fault says how many; those are synced too. If that sync fails as well, the first fault is returned.
 pub fn store<D: SyncDev, R: Read, P: Progress>(
     stack: &mut Stack<D>,
     d: DevId,
@@ -70,7 +70,10 @@ pub fn store<D: SyncDev, R: Read, P: Progress>(
             let mut room = [0u8; ROOM];
             match store_by(stack, d, place, reader, progress, room.as_mut_slice()) {
                 Ok(written) => sync_stored(stack, written),
-                Err(fault) => Err(fault),
+                Err(fault) => {
+                    sync_stopped(stack);
+                    Err(fault)
+                }
             }
         }
     }
@@ -88,6 +91,13 @@ pub(crate) fn sync_stored<D: SyncDev>(stack: &mut Stack<D>, written: u64) -> Res
             Err(StoreFault { written, cause })
         }
     }
+}
+
+// Syncs what was written before a fault. The caller returns that fault, so the sync's own is dropped.
+pub(crate) fn sync_stopped<D: SyncDev>(stack: &mut Stack<D>)
+    ensures { IsSyncTried stack.old stack.new }
+{
+    let _synced = stack.sync();
 }
 
 // The same of a place inside the device that may be written, each piece by that buffer, and nothing is synced.

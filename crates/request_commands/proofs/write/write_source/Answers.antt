@@ -27,25 +27,26 @@ returns-in-Err-clause-err g c =
       opened = c.in_ok-over.ensures.ok;
       made = c.in_ok-stack.ensures.ok;
       fails = subst (λ (w : World). FailsToServe w (write_request c.args.transfer c.in_ok-over.source.bytes.items) c.in-Err.fault c.store-outcome.new.queue) c.new-queue.ensures.value c.in-Err.ensures.err;
-      back = rw c.into_stack-stack.ensures at c.close_stack.ensures;
+      synced = c.sync_and_close-synced.result;
+      back = rw c.into_stack-stack.ensures at c.sync_and_close-synced.ensures;
     }))
 
-pub returns-in_err-sync_and_close-in-Ok-clause-err : goal.returns-in_err-sync_and_close-in-Ok-clause-err
-returns-in_err-sync_and_close-in-Ok-clause-err g c =
-    err-from c.from_residual-in_err-sync_and_close-in-Ok.result _ (Io c.in_err-sync_and_close-in-Ok.field-0.0) c.from_residual-in_err-sync_and_close-in-Ok.ensures.1
+pub returns-in_err-synced-in-Ok-clause-err : goal.returns-in_err-synced-in-Ok-clause-err
+returns-in_err-synced-in-Ok-clause-err g c =
+    err-from c.from_residual-in_err-synced-in-Ok.result _ (Io c.in_err-synced-in-Ok.field-0.0) c.from_residual-in_err-synced-in-Ok.ensures.1
     (inr (inr (record {
       after = c.store-outcome.new.queue;
       between = c.open_with_source.new.images;
       put = puts _ _ c.in_ok-over.over c.in_ok-over.source c.in_ok-stack.stack c.new-queue.result c.store-outcome.new.queue c.in-Ok._reply
           c.in_ok-over.ensures.ok c.in_ok-stack.ensures.ok c.new-queue.ensures.value c.in-Ok.ensures.ok;
-      back = rw c.into_stack-stack.ensures at c.in_err-sync_and_close-in-Ok.ensures;
+      back = rw c.into_stack-stack.ensures at c.in_err-synced-in-Ok.ensures;
     })))
 
-pub returns-in_ok-sync_and_close-in-Ok-clause-ok : goal.returns-in_ok-sync_and_close-in-Ok-clause-ok
-returns-in_ok-sync_and_close-in-Ok-clause-ok g c = record {
+pub returns-in_ok-synced-in-Ok-clause-ok : goal.returns-in_ok-synced-in-Ok-clause-ok
+returns-in_ok-synced-in-Ok-clause-ok g c = record {
   after = c.store-outcome.new.queue;
   between = c.open_with_source.new.images;
   put = puts _ _ c.in_ok-over.over c.in_ok-over.source c.in_ok-stack.stack c.new-queue.result c.store-outcome.new.queue c.in-Ok._reply
       c.in_ok-over.ensures.ok c.in_ok-stack.ensures.ok c.new-queue.ensures.value c.in-Ok.ensures.ok;
-  back = rw c.into_stack-stack.ensures at c.in_ok-sync_and_close-in-Ok.ensures;
+  back = rw c.into_stack-stack.ensures at c.in_ok-synced-in-Ok.ensures;
 }
