@@ -1,6 +1,8 @@
 //! A device in front of another one, as one device.
 ghost use Rattle.std.specs.Prelude.{◌≡◌, ◌+◌, ◌-◌, ◌^◌, ◌≤◌, drop, IsTrue};
 ghost use Rattle.std.specs.Option.{ForSome};
+ghost use Rattle.block_device.specs.CallList.{DeviceCalls, sectors_read, sectors_written};
+ghost use Rattle.block_device.specs.Counters.{capped-fits};
 ghost use Rattle.bare_tree.specs.Headed.{headed, headed-whole, IsBehind};
 
 use crate::Ahead;
@@ -61,7 +63,11 @@ impl<A: BlockDev, D: BlockDev, K: Ahead> BlockDev for Headed<A, D, K> {
 
     ghost gives = { λ h first bytes. (A.state h.head).size ≤ first → D.gives h.inner (first - (A.state h.head).size) bytes };
 
+    ghost does = { λ old call new. DeviceCalls A.state A.does (sectors_read call) (sectors_written call) old.head new.head × DeviceCalls D.state D.does (sectors_read call) (sectors_written call) old.inner new.inner };
+
     ghost whole = { λ h. headed-whole (A.state h.head) (D.state h.inner) (A.whole h.head) (D.whole h.inner) };
+
+    ghost counters = { λ h. record { reads = capped-fits _; writes = capped-fits _; failures = (D.counters h.inner).failures } };
 
     fn sectors(&self) -> u64 {
         self.head.sectors() + self.inner.sectors()

@@ -1,5 +1,8 @@
 pub mod Device
 pub mod Failing
+pub mod Counters
+pub mod Call
+pub mod CallList
 pub mod Calls
 pub mod OpenFault
 pub mod File

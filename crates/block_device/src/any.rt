@@ -1,7 +1,9 @@
 //! A device in memory or in a file.
-ghost use Rattle.std.specs.Prelude.{◌≡◌, refl, IsOk, IsTrue, OnErr, OnOk};
+ghost use Rattle.std.specs.Prelude.{◌≡◌, refl, is_ok, IsOk, IsTrue, OnErr, OnOk};
+ghost use Rattle.block_device.specs.Call.{DeviceDoes, Sync};
 ghost use Rattle.block_device.specs.Calls.{DeviceFailsToSync, DeviceSyncs};
 ghost use Rattle.block_device.specs.Any.{any_id};
+ghost use Rattle.block_device.specs.Counters.{capped-fits};
 ghost use Rattle.block_device.specs.Whole.{whole_bytes, whole_zeros};
 ghost use Rattle.block_device.specs.declared.any.AnyDev.TheVariants.{Memory, File};
 
@@ -31,7 +33,11 @@ impl BlockDev for AnyDev {
 
     ghost gives = { elim [ Memory m ↦ ⟦<MemoryDev as BlockDev>⟧.gives m | File f ↦ ⟦<FileDev as BlockDev>⟧.gives f ] };
 
+    ghost does = { λ old call new. Unit {0} };
+
     ghost whole = { elim [ Memory m ↦ whole_bytes (⟦<MemoryDev as BlockDev>⟧.state m) m.bytes.items refl refl | File f ↦ whole_zeros (⟦<AnyDev as BlockDev>⟧.state (File f)) refl ] };
+
+    ghost counters = { elim [ Memory m ↦ record { reads = capped-fits m.reads; writes = capped-fits m.writes; failures = capped-fits 0 } | File f ↦ record { reads = capped-fits f.reads; writes = capped-fits f.writes; failures = capped-fits f.failures } ] };
 
     fn sectors(&self) -> u64 {
         match self {
@@ -95,6 +101,7 @@ impl SyncDev for AnyDev {
     fn sync(&mut self) -> Result<(), DeviceFault>
         ensures ok { OnOk result (DeviceSyncs ⟦<AnyDev as BlockDev>⟧.state self.old self.new) }
         ensures err { OnErr result (DeviceFailsToSync ⟦<AnyDev as BlockDev>⟧.state self.old self.new) }
+        ensures call { DeviceDoes ⟦<AnyDev as BlockDev>⟧.state ⟦<AnyDev as BlockDev>⟧.does self.old (Sync (is_ok result)) self.new }
         ensures sure { IsTrue (⟦<AnyDev as BlockDev>⟧.state self.old).never_fails → IsOk result }
         ensures same { any_id self.new ≡ any_id self.old }
     {

@@ -1,7 +1,8 @@
 //! A device of sectors, as the layers above see it.
 ghost use Rattle.std.specs.Prelude.{◌≡◌, ◌≤◌, ◌^◌, ℕ, List, length, is_ok, OnOk, OnErr, IsOk, IsTrue};
+ghost use Rattle.block_device.specs.Call.{Call, DeviceDoes, Read, Write};
 ghost use Rattle.block_device.specs.Calls.{DeviceFails, DeviceGives, DevicePuts, DeviceReads, DeviceWrites};
-ghost use Rattle.block_device.specs.Device.{Device, IsInside, IsWhole};
+ghost use Rattle.block_device.specs.Device.{CountersFit, Device, IsInside, IsWhole};
 
 use thiserror::Error;
 
@@ -21,6 +22,10 @@ pub trait BlockDev {
     /// Of a device that isn't steady: which bytes a read from that sector on may give. Of a steady one the image says it.
     ghost gives: { Self → ℕ → List ℕ → Type 0 };
 
+    /// What a device promises of one call, from the state before it to the state after it. Code that is generic over the device
+    /// knows this only of the calls that it made, so a list of them (`Calls`) names every call, in order.
+    ghost does: { Self → Call → Self → Type 0 };
+
     /// How many sectors there are. It never changes.
     fn sectors(&self) -> u64
         ensures size { result ≡ (state self.now).size }
@@ -36,6 +41,7 @@ pub trait BlockDev {
         ensures moved { DeviceReads state self.old self.new out.old (is_ok result) }
         ensures bytes { OnOk result (DeviceGives state self.old first out.old out.new) }
         ensures given { OnOk result (gives self.old first out.new) }
+        ensures call { DeviceDoes state does self.old (Read first out.new (is_ok result)) self.new }
         ensures sure { IsTrue (state self.old).never_fails → IsOk result }
         ensures fault { OnErr result (DeviceFails state self.old self.new) };
 
@@ -45,6 +51,7 @@ pub trait BlockDev {
         requires allowed { IsTrue (state self.old).may_write }
         ensures moved { DeviceWrites state self.old self.new first bytes.now (is_ok result) }
         ensures image { OnOk result (DevicePuts state self.old self.new first bytes.now) }
+        ensures call { DeviceDoes state does self.old (Write first bytes.now (is_ok result)) self.new }
         ensures sure { IsTrue (state self.old).never_fails → IsOk result }
         ensures fault { OnErr result (DeviceFails state self.old self.new) };
 
@@ -62,4 +69,7 @@ pub trait BlockDev {
 
     /// The image has as many sectors as the device, each of 512 bytes.
     ghost whole: { (d : Self) → IsWhole (state d) };
+
+    /// The counters fit in 64 bits, so a failed call is always seen in them.
+    ghost counters: { (d : Self) → CountersFit (state d) };
 }

@@ -1,6 +1,8 @@
 //! A device that fails once.
 ghost use Rattle.std.specs.Prelude.{◌≡◌, ◌≢◌, ◌/◌, ◌-◌, false, length, is_ok, IsTrue, IsOk, IsErr, OnOk, OnErr};
+ghost use Rattle.block_device.specs.Call.{DeviceDoes, Read, Sync, Write};
 ghost use Rattle.block_device.specs.Calls.{DeviceFails, DeviceFailsToSync, DeviceGives, DevicePuts, DeviceReads, DeviceSyncs, DeviceWrites, ReadsInner, SyncsInner, WritesInner};
+ghost use Rattle.block_device.specs.Counters.{failing-fits};
 ghost use Rattle.block_device.specs.Device.{IsInside};
 ghost use Rattle.block_device.specs.Failing.{failing};
 
@@ -44,7 +46,11 @@ impl<D: BlockDev> BlockDev for FailAt<D> {
 
     ghost gives = { λ f first bytes. D.gives f.inner first bytes };
 
+    ghost does = { λ old call new. (old.calls_to_failure ≢ 1 → DeviceDoes D.state D.does old.inner call new.inner) × (old.calls_to_failure ≡ 1 → new.inner ≡ old.inner) };
+
     ghost whole = { λ f. record { length = (D.whole f.inner).length; sectors = (D.whole f.inner).sectors } };
+
+    ghost counters = { λ f. failing-fits (D.state f.inner) f.calls_to_failure f.sectors_of_failed_reads f.sectors_of_failed_writes f.failed_calls f.has_failed_write };
 
     fn sectors(&self) -> u64 {
         self.inner.sectors()
@@ -59,6 +65,7 @@ impl<D: BlockDev> BlockDev for FailAt<D> {
         ensures moved { DeviceReads ⟦<FailAt<D> as BlockDev>⟧.state self.old self.new out.old (is_ok result) }
         ensures bytes { OnOk result (DeviceGives ⟦<FailAt<D> as BlockDev>⟧.state self.old first out.old out.new) }
         ensures given { OnOk result (⟦<FailAt<D> as BlockDev>⟧.gives self.old first out.new) }
+        ensures call { DeviceDoes ⟦<FailAt<D> as BlockDev>⟧.state ⟦<FailAt<D> as BlockDev>⟧.does self.old (Read first out.new (is_ok result)) self.new }
         ensures sure { IsTrue (⟦<FailAt<D> as BlockDev>⟧.state self.old).never_fails → IsOk result }
         ensures fault { OnErr result (DeviceFails ⟦<FailAt<D> as BlockDev>⟧.state self.old self.new) }
 
@@ -84,6 +91,7 @@ impl<D: BlockDev> BlockDev for FailAt<D> {
         requires allowed { IsTrue (⟦<FailAt<D> as BlockDev>⟧.state self.old).may_write }
         ensures moved { DeviceWrites ⟦<FailAt<D> as BlockDev>⟧.state self.old self.new first bytes.now (is_ok result) }
         ensures image { OnOk result (DevicePuts ⟦<FailAt<D> as BlockDev>⟧.state self.old self.new first bytes.now) }
+        ensures call { DeviceDoes ⟦<FailAt<D> as BlockDev>⟧.state ⟦<FailAt<D> as BlockDev>⟧.does self.old (Write first bytes.now (is_ok result)) self.new }
         ensures sure { IsTrue (⟦<FailAt<D> as BlockDev>⟧.state self.old).never_fails → IsOk result }
         ensures fault { OnErr result (DeviceFails ⟦<FailAt<D> as BlockDev>⟧.state self.old self.new) }
 
@@ -130,6 +138,7 @@ impl<D: SyncDev> SyncDev for FailAt<D> {
     fn sync(&mut self) -> Result<(), DeviceFault>
         ensures ok { OnOk result (DeviceSyncs ⟦<FailAt<D> as BlockDev>⟧.state self.old self.new) }
         ensures err { OnErr result (DeviceFailsToSync ⟦<FailAt<D> as BlockDev>⟧.state self.old self.new) }
+        ensures call { DeviceDoes ⟦<FailAt<D> as BlockDev>⟧.state ⟦<FailAt<D> as BlockDev>⟧.does self.old (Sync (is_ok result)) self.new }
         ensures sure { IsTrue (⟦<FailAt<D> as BlockDev>⟧.state self.old).never_fails → IsOk result }
 
         // As for reads and writes.

@@ -1,8 +1,10 @@
 //! A device in a file.
 ghost use Rattle.std.specs.Prelude.{◌≡◌, ◌≤◌, ◌^◌, ◌/◌, ◌↔◌, length, false, refl, is_ok, IfOk, IfErr, IfSome, IsOk, IsTrue, OnErr, OnOk, Ok};
 ghost use Rattle.std.specs.Fs.{metadata_len, file_type, IsFile};
+ghost use Rattle.block_device.specs.Call.{DeviceDoes, Read, Sync, Write};
 ghost use Rattle.block_device.specs.Calls.{DeviceFails, DeviceFailsToSync, DeviceGives, DevicePuts, DeviceReads, DeviceSyncs, DeviceWrites};
-ghost use Rattle.block_device.specs.Device.{IsInside, zeros_image};
+ghost use Rattle.block_device.specs.Counters.{capped-fits};
+ghost use Rattle.block_device.specs.Device.{IsInside, capped, zeros_image};
 ghost use Rattle.block_device.specs.File.{opened, HasSectors, IsRefused, IsImage, IsBlockDevice};
 ghost use Rattle.block_device.specs.Identity.{IsIdOf};
 ghost use Rattle.block_device.specs.Whole.{whole_zeros};
@@ -160,14 +162,18 @@ impl BlockDev for FileDev {
       never_fails = false;
       dirty = f.dirty;
       image = zeros_image f.sectors;
-      reads = f.reads;
-      writes = f.writes;
-      failures = f.failures;
+      reads = capped f.reads;
+      writes = capped f.writes;
+      failures = capped f.failures;
     } };
 
     ghost gives = { λ f first bytes. Unit {0} };
 
+    ghost does = { λ old call new. Unit {0} };
+
     ghost whole = { λ f. whole_zeros (⟦<FileDev as BlockDev>⟧.state f) refl };
+
+    ghost counters = { λ d. record { reads = capped-fits d.reads; writes = capped-fits d.writes; failures = capped-fits d.failures } };
 
     fn sectors(&self) -> u64 {
         self.sectors
@@ -182,6 +188,7 @@ impl BlockDev for FileDev {
         ensures moved { DeviceReads ⟦<FileDev as BlockDev>⟧.state self.old self.new out.old (is_ok result) }
         ensures bytes { OnOk result (DeviceGives ⟦<FileDev as BlockDev>⟧.state self.old first out.old out.new) }
         ensures given { OnOk result (⟦<FileDev as BlockDev>⟧.gives self.old first out.new) }
+        ensures call { DeviceDoes ⟦<FileDev as BlockDev>⟧.state ⟦<FileDev as BlockDev>⟧.does self.old (Read first out.new (is_ok result)) self.new }
         ensures sure { IsTrue (⟦<FileDev as BlockDev>⟧.state self.old).never_fails → IsOk result }
         ensures fault { OnErr result (DeviceFails ⟦<FileDev as BlockDev>⟧.state self.old self.new) }
         ensures lost { has_lost_writes self.new ≡ has_lost_writes self.old }
@@ -201,6 +208,7 @@ impl BlockDev for FileDev {
         requires allowed { IsTrue (⟦<FileDev as BlockDev>⟧.state self.old).may_write }
         ensures moved { DeviceWrites ⟦<FileDev as BlockDev>⟧.state self.old self.new first bytes.now (is_ok result) }
         ensures image { OnOk result (DevicePuts ⟦<FileDev as BlockDev>⟧.state self.old self.new first bytes.now) }
+        ensures call { DeviceDoes ⟦<FileDev as BlockDev>⟧.state ⟦<FileDev as BlockDev>⟧.does self.old (Write first bytes.now (is_ok result)) self.new }
         ensures sure { IsTrue (⟦<FileDev as BlockDev>⟧.state self.old).never_fails → IsOk result }
         ensures fault { OnErr result (DeviceFails ⟦<FileDev as BlockDev>⟧.state self.old self.new) }
         ensures lost { has_lost_writes self.new ≡ has_lost_writes self.old }
@@ -241,6 +249,7 @@ impl SyncDev for FileDev {
     fn sync(&mut self) -> Result<(), DeviceFault>
         ensures ok { OnOk result (DeviceSyncs ⟦<FileDev as BlockDev>⟧.state self.old self.new) }
         ensures err { OnErr result (DeviceFailsToSync ⟦<FileDev as BlockDev>⟧.state self.old self.new) }
+        ensures call { DeviceDoes ⟦<FileDev as BlockDev>⟧.state ⟦<FileDev as BlockDev>⟧.does self.old (Sync (is_ok result)) self.new }
         ensures sure { IsTrue (⟦<FileDev as BlockDev>⟧.state self.old).never_fails → IsOk result }
         ensures same { file_id self.new ≡ file_id self.old }
         ensures lost { FailsForGood self.old self.new result }

@@ -1,8 +1,10 @@
 //! A device in memory.
 ghost use Rattle.std.specs.Prelude.{◌≡◌, ◌≤◌, ◌/◌, ◌*◌, ◌+◌, ◌%◌, ◌++◌, take, drop, length, replicate, true, refl, is_ok, IfOk, IsOk, IsTrue, OnErr, OnOk};
 ghost use Rattle.std.specs.List.{concat};
+ghost use Rattle.block_device.specs.Call.{DeviceDoes, Write};
 ghost use Rattle.block_device.specs.Calls.{DeviceFails, DevicePuts, DeviceWrites};
-ghost use Rattle.block_device.specs.Device.{IsInside, sectors_of, in_memory, zeros_image, ramp_image};
+ghost use Rattle.block_device.specs.Counters.{capped-fits};
+ghost use Rattle.block_device.specs.Device.{IsInside, capped, sectors_of, in_memory, zeros_image, ramp_image};
 ghost use Rattle.block_device.specs.Whole.{whole_bytes};
 
 use crate::{BlockDev, DeviceFault, SyncDev};
@@ -96,14 +98,18 @@ impl BlockDev for MemoryDev {
       never_fails = true;
       dirty = m.dirty;
       image = sectors_of (length m.bytes.items / 512) m.bytes.items;
-      reads = m.reads;
-      writes = m.writes;
+      reads = capped m.reads;
+      writes = capped m.writes;
       failures = 0;
     } };
 
     ghost gives = { λ m first bytes. Unit {0} };
 
+    ghost does = { λ old call new. Unit {0} };
+
     ghost whole = { λ m. whole_bytes (⟦<MemoryDev as BlockDev>⟧.state m) m.bytes.items refl refl };
+
+    ghost counters = { λ d. record { reads = capped-fits d.reads; writes = capped-fits d.writes; failures = capped-fits 0 } };
 
     fn sectors(&self) -> u64 {
         self.bytes.len() as u64 / 512
@@ -127,6 +133,7 @@ impl BlockDev for MemoryDev {
         requires allowed { IsTrue (⟦<MemoryDev as BlockDev>⟧.state self.old).may_write }
         ensures moved { DeviceWrites ⟦<MemoryDev as BlockDev>⟧.state self.old self.new first bytes.now (is_ok result) }
         ensures image { OnOk result (DevicePuts ⟦<MemoryDev as BlockDev>⟧.state self.old self.new first bytes.now) }
+        ensures call { DeviceDoes ⟦<MemoryDev as BlockDev>⟧.state ⟦<MemoryDev as BlockDev>⟧.does self.old (Write first bytes.now (is_ok result)) self.new }
         ensures sure { IsTrue (⟦<MemoryDev as BlockDev>⟧.state self.old).never_fails → IsOk result }
         ensures fault { OnErr result (DeviceFails ⟦<MemoryDev as BlockDev>⟧.state self.old self.new) }
         ensures bytes { memory_bytes self.new ≡ take (first * 512) (memory_bytes self.old) ++ bytes.now ++ drop (first * 512 + length bytes.now) (memory_bytes self.old) }

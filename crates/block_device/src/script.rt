@@ -1,6 +1,7 @@
 //! A device that answers what a script says.
 ghost use Rattle.std.specs.Prelude.{◌≡◌, ◌≤◌, ◌^◌, ◌/◌, ◌+◌, length, true, false, refl, is_ok, IsOk, IsErr, map};
 ghost use Rattle.block_device.specs.Calls.{DeviceReads};
+ghost use Rattle.block_device.specs.Counters.{capped-fits};
 ghost use Rattle.block_device.specs.Device.{IsInside, capped, zeros_image};
 ghost use Rattle.block_device.specs.Script.{answer_of};
 ghost use Rattle.block_device.specs.Whole.{whole_zeros};
@@ -64,14 +65,18 @@ impl BlockDev for ScriptDev {
       never_fails = true;
       dirty = false;
       image = zeros_image s.sectors;
-      reads = s.reads;
+      reads = capped s.reads;
       writes = 0;
       failures = 0;
     } };
 
     ghost gives = { λ s first bytes. bytes ≡ answer_of s.answers s.calls (length bytes) };
 
+    ghost does = { λ old call new. Unit {0} };
+
     ghost whole = { λ s. whole_zeros (⟦<ScriptDev as BlockDev>⟧.state s) refl };
+
+    ghost counters = { λ d. record { reads = capped-fits d.reads; writes = capped-fits 0; failures = capped-fits 0 } };
 
     fn sectors(&self) -> u64 {
         self.sectors

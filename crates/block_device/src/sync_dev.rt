@@ -1,5 +1,6 @@
 //! A device whose writes can be put on its medium.
-ghost use Rattle.std.specs.Prelude.{◌≡◌, IsOk, IsTrue, OnErr, OnOk};
+ghost use Rattle.std.specs.Prelude.{◌≡◌, is_ok, IsOk, IsTrue, OnErr, OnOk};
+ghost use Rattle.block_device.specs.Call.{DeviceDoes, Sync};
 ghost use Rattle.block_device.specs.Calls.{DeviceFailsToSync, DeviceSyncs};
 
 use crate::{BlockDev, DeviceFault};
@@ -14,5 +15,6 @@ pub trait SyncDev: BlockDev {
     fn sync(&mut self) -> Result<(), DeviceFault>
         ensures ok { OnOk result (DeviceSyncs Self.state self.old self.new) }
         ensures err { OnErr result (DeviceFailsToSync Self.state self.old self.new) }
+        ensures call { DeviceDoes Self.state Self.does self.old (Sync (is_ok result)) self.new }
         ensures sure { IsTrue (Self.state self.old).never_fails → IsOk result };
 }

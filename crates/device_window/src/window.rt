@@ -1,6 +1,7 @@
 //! A part of a device as a device.
 ghost use Rattle.std.specs.Prelude.{◌≡◌, ◌+◌, ◌^◌, ◌≤◌, length, is_ok, ◌↔◌, IsOk, IsTrue, IfOk, OnErr, OnOk};
 ghost use Rattle.std.specs.Option.{ForSome};
+ghost use Rattle.block_device.specs.Call.{DeviceDoes, Read, Sync, Write, moved_by};
 ghost use Rattle.block_device.specs.Calls.{DeviceFails, DeviceFailsToSync, DeviceGives, DevicePuts, DeviceReads, DeviceSyncs, DeviceWrites, ReadsInner, SyncsInner, WritesInner};
 ghost use Rattle.block_device.specs.Device.{IsInside};
 ghost use Rattle.device_window.specs.Parts.{LiesInside, StandOutside, part_before, part_behind};
@@ -99,7 +100,11 @@ impl<D: BlockDev, K: Beside> BlockDev for Window<D, K> {
 
     ghost gives = { λ w first bytes. D.gives w.inner (w.part.first + first) bytes };
 
+    ghost does = { λ old call new. DeviceDoes D.state D.does old.inner (moved_by old.part.first call) new.inner × (new.part ≡ old.part) };
+
     ghost whole = { λ w. windowed-whole (D.state w.inner) w.part w.inside (D.whole w.inner) };
+
+    ghost counters = { λ w. record { reads = (D.counters w.inner).reads; writes = (D.counters w.inner).writes; failures = (D.counters w.inner).failures } };
 
     fn sectors(&self) -> u64 {
         self.part.count
@@ -114,6 +119,7 @@ impl<D: BlockDev, K: Beside> BlockDev for Window<D, K> {
         ensures moved { DeviceReads ⟦<Window<D, K> as BlockDev>⟧.state self.old self.new out.old (is_ok result) }
         ensures bytes { OnOk result (DeviceGives ⟦<Window<D, K> as BlockDev>⟧.state self.old first out.old out.new) }
         ensures given { OnOk result (⟦<Window<D, K> as BlockDev>⟧.gives self.old first out.new) }
+        ensures call { DeviceDoes ⟦<Window<D, K> as BlockDev>⟧.state ⟦<Window<D, K> as BlockDev>⟧.does self.old (Read first out.new (is_ok result)) self.new }
         ensures sure { IsTrue (⟦<Window<D, K> as BlockDev>⟧.state self.old).never_fails → IsOk result }
         ensures fault { OnErr result (DeviceFails ⟦<Window<D, K> as BlockDev>⟧.state self.old self.new) }
 
@@ -129,6 +135,7 @@ impl<D: BlockDev, K: Beside> BlockDev for Window<D, K> {
         requires allowed { IsTrue (⟦<Window<D, K> as BlockDev>⟧.state self.old).may_write }
         ensures moved { DeviceWrites ⟦<Window<D, K> as BlockDev>⟧.state self.old self.new first bytes.now (is_ok result) }
         ensures image { OnOk result (DevicePuts ⟦<Window<D, K> as BlockDev>⟧.state self.old self.new first bytes.now) }
+        ensures call { DeviceDoes ⟦<Window<D, K> as BlockDev>⟧.state ⟦<Window<D, K> as BlockDev>⟧.does self.old (Write first bytes.now (is_ok result)) self.new }
         ensures sure { IsTrue (⟦<Window<D, K> as BlockDev>⟧.state self.old).never_fails → IsOk result }
         ensures fault { OnErr result (DeviceFails ⟦<Window<D, K> as BlockDev>⟧.state self.old self.new) }
 
@@ -160,6 +167,7 @@ impl<D: SyncDev, K: Beside> SyncDev for Window<D, K> {
     fn sync(&mut self) -> Result<(), DeviceFault>
         ensures ok { OnOk result (DeviceSyncs ⟦<Window<D, K> as BlockDev>⟧.state self.old self.new) }
         ensures err { OnErr result (DeviceFailsToSync ⟦<Window<D, K> as BlockDev>⟧.state self.old self.new) }
+        ensures call { DeviceDoes ⟦<Window<D, K> as BlockDev>⟧.state ⟦<Window<D, K> as BlockDev>⟧.does self.old (Sync (is_ok result)) self.new }
         ensures sure { IsTrue (⟦<Window<D, K> as BlockDev>⟧.state self.old).never_fails → IsOk result }
 
         // It is one of the whole device.

@@ -1,7 +1,10 @@
 //! A device of which only what differs is written.
-ghost use Rattle.std.specs.Prelude.{◌≡◌, false, length, is_ok, IsOk, IsTrue, OnErr, OnOk};
+ghost use Rattle.std.specs.Prelude.{◌≡◌, ◌+◌, false, length, is_ok, IsOk, IsTrue, OnErr, OnOk};
+ghost use Rattle.block_device.specs.Call.{DeviceDoes, Sync, Write};
+ghost use Rattle.block_device.specs.CallList.{DeviceCalls, sectors_read, sectors_written};
 ghost use Rattle.block_device.specs.Calls.{DeviceFails, DeviceFailsToSync, DevicePuts, DeviceSyncs, DeviceWrites, SyncsInner};
-ghost use Rattle.block_device.specs.Device.{IsInside};
+ghost use Rattle.block_device.specs.Counters.{capped-fits};
+ghost use Rattle.block_device.specs.Device.{IsInside, capped};
 ghost use Rattle.differing_device.specs.Calls.{LeavesStanding};
 ghost use Rattle.differing_device.specs.Differing.{differing};
 
@@ -37,11 +40,15 @@ impl<D> Differing<D> {
 }
 
 impl<D: BlockDev> BlockDev for Differing<D> {
-    ghost state = { λ d. differing (D.state d.inner) d.reads d.writes d.dirty };
+    ghost state = { λ d. differing (D.state d.inner) (capped d.reads) (capped d.writes) d.dirty };
 
     ghost gives = { λ d first bytes. D.gives d.inner first bytes };
 
+    ghost does = { λ old call new. DeviceCalls D.state D.does (sectors_read call + sectors_written call) (sectors_written call) old.inner new.inner };
+
     ghost whole = { λ d. record { length = (D.whole d.inner).length; sectors = (D.whole d.inner).sectors } };
+
+    ghost counters = { λ d. record { reads = capped-fits d.reads; writes = capped-fits d.writes; failures = (D.counters d.inner).failures } };
 
     fn sectors(&self) -> u64 {
         self.inner.sectors()
@@ -61,6 +68,7 @@ impl<D: BlockDev> BlockDev for Differing<D> {
         requires allowed { IsTrue (⟦<Differing<D> as BlockDev>⟧.state self.old).may_write }
         ensures moved { DeviceWrites ⟦<Differing<D> as BlockDev>⟧.state self.old self.new first bytes.now (is_ok result) }
         ensures image { OnOk result (DevicePuts ⟦<Differing<D> as BlockDev>⟧.state self.old self.new first bytes.now) }
+        ensures call { DeviceDoes ⟦<Differing<D> as BlockDev>⟧.state ⟦<Differing<D> as BlockDev>⟧.does self.old (Write first bytes.now (is_ok result)) self.new }
         ensures sure { IsTrue (⟦<Differing<D> as BlockDev>⟧.state self.old).never_fails → IsOk result }
         ensures fault { OnErr result (DeviceFails ⟦<Differing<D> as BlockDev>⟧.state self.old self.new) }
 
@@ -93,6 +101,7 @@ impl<D: SyncDev> SyncDev for Differing<D> {
     fn sync(&mut self) -> Result<(), DeviceFault>
         ensures ok { OnOk result (DeviceSyncs ⟦<Differing<D> as BlockDev>⟧.state self.old self.new) }
         ensures err { OnErr result (DeviceFailsToSync ⟦<Differing<D> as BlockDev>⟧.state self.old self.new) }
+        ensures call { DeviceDoes ⟦<Differing<D> as BlockDev>⟧.state ⟦<Differing<D> as BlockDev>⟧.does self.old (Sync (is_ok result)) self.new }
         ensures sure { IsTrue (⟦<Differing<D> as BlockDev>⟧.state self.old).never_fails → IsOk result }
 
         // It is one of the device that is compared with.

@@ -1,10 +1,12 @@
 -- Reads of a device, one after another, and the header that one gave.
-use Rattle.std.proofs.Common.{◌≡◌, ◌∙◌, ◌+◌, ◌≤◌, ℕ, IsTrue, arith, subst, sym}
+use Rattle.std.proofs.Common.{◌≡◌, ◌∙◌, ◌⊎◌, ◌+◌, ◌-◌, ◌*◌, ◌^◌, ◌≤◌, ◌<◌, ℕ, IsTrue, arith, subst, sym}
 use Rattle.block_device.specs.Device.{Device, IsSameDevice}
 use Rattle.partition_table.specs.declared.header.Header.{Header}
+use Rattle.partition_table.specs.declared.read_fault.ReadFault.{ReadFault}
+use Rattle.partition_table.specs.declared.read_fault.ReadFault.TheVariants.{Device as DeviceFailed, NoMemory, Table}
 use Rattle.partition_table.specs.declared.sector_size.Disk.{Disk}
-use Rattle.partition_table.specs.Copies.{IsHeaderRead}
-use Rattle.partition_table.specs.Reads.{IsReadAtMost}
+use Rattle.partition_table.specs.Copies.{IsCopyCause, IsHeaderRead}
+use Rattle.partition_table.specs.Reads.{IsReadAtMost, IsUnread}
 use Rattle.partition_table.proofs.HeaderLemmas.{IsOnDisk, IsOnDisk-from_none}
 
 same-then : {a b c : Device} → IsSameDevice a b → IsSameDevice b c → IsSameDevice a c
@@ -26,3 +28,9 @@ only_read-then {a = a} {b = b} {c = c} n m k p q fits = record {
 -- the entries of a header that was read lie on the disk
 pub on_disk : (device : Device) (disk : Disk) (sector : ℕ) (header : Header) → IsHeaderRead device disk sector header → IsOnDisk disk header
 on_disk device disk sector header h = subst (IsOnDisk disk) (sym h.value) (IsOnDisk-from_none disk sector h.sector_bytes h.good)
+
+-- why sectors of a copy were not read, after calls that didn't fail
+pub unread-cause : (a b c : Device) (disk : Disk) (sector n : ℕ) (fault : ReadFault) → b.failures ≡ a.failures → n ≤ 2048 → IsUnread b c n fault → IsCopyCause a c disk sector fault
+unread-cause a b c disk sector n DeviceFailed same few h = subst (λ (f : ℕ). (f < c.failures) ⊎ (f ≡ 2 ^ 64 - 1)) same h
+unread-cause a b c disk sector n NoMemory same few h = (h.0 ∙ same, (h.1.0, omega (arith, h.1.1, few), h.1.2))
+unread-cause a b c disk sector n (Table fault) same few h = absurd h

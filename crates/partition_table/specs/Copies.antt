@@ -1,5 +1,6 @@
 -- A copy of a table on a device: its header in one sector, and its entries where the header says.
 use Rattle.std.specs.Prelude.{◌≡◌, ℕ, List, take, Option, Some, None}
+use Rattle.allocation.specs.Refusal.{IsOutOfMemory}
 use Rattle.block_device.specs.Device.{Device, HasFailed}
 use Rattle.partition_table.specs.declared.header.Header.{Header}
 use Rattle.partition_table.specs.declared.partition.Partition.{Partition}
@@ -39,10 +40,14 @@ pub record IsBadCopy (device : Device) (disk : Disk) (sector : ℕ) (fault : Tab
   pub read : IsCopyRead device disk sector header array
   pub is : copy_fault disk sector header array ≡ Some fault
 
--- why a copy isn't taken: the device failed in a call, memory ran out, or what was read has a fault
+-- the most that one allocation asks for: the bytes of the largest array of entries
+abbrev pub largest_allocation : ℕ
+largest_allocation = 0x100000
+
+-- why a copy isn't taken: the device failed in a call, an allocation was refused, or what was read has a fault
 abbrev pub IsCopyCause : Device → Device → Disk → ℕ → ReadFault → Type 0
 IsCopyCause old new disk sector DeviceFailed = HasFailed old new
-IsCopyCause old new disk sector NoMemory = new.failures ≡ old.failures
+IsCopyCause old new disk sector NoMemory = (new.failures ≡ old.failures) × IsOutOfMemory largest_allocation
 IsCopyCause old new disk sector (Table fault) = IsBadCopy old disk sector fault
 
 -- a good header was read
@@ -55,5 +60,5 @@ pub record IsHeaderRead (device : Device) (disk : Disk) (sector : ℕ) (header :
 -- why the entries are not taken, once they are read
 abbrev pub IsArrayCause : Header → List ℕ → ReadFault → Type 0
 IsArrayCause header array DeviceFailed = ⊥
-IsArrayCause header array NoMemory = Unit {0}
+IsArrayCause header array NoMemory = IsOutOfMemory largest_allocation
 IsArrayCause header array (Table fault) = array_fault header array ≡ Some fault

@@ -1,6 +1,7 @@
 -- Sectors of a disk that are read from a device.
 use Rattle.std.specs.Prelude.{◌≡◌, ℕ, ◌+◌, ◌*◌, ◌≤◌, IsTrue, List, length}
 use Rattle.std.specs.List.{concat}
+use Rattle.allocation.specs.Refusal.{IsOutOfMemory}
 use Rattle.block_device.specs.Device.{Device, HasFailed, IsSameDevice, run_of}
 use Rattle.partition_table.specs.declared.read_fault.ReadFault.{ReadFault}
 use Rattle.partition_table.specs.declared.read_fault.ReadFault.TheVariants.{Device as DeviceFailed, NoMemory, Table}
@@ -19,8 +20,8 @@ pub record AreSectorsRead (device : Device) (disk : Disk) (first count : ℕ) (b
   pub size : length bytes ≡ 512 * (count * unit_of disk.size)
   pub stands : IsTrue device.steady → bytes ≡ concat (run_of device.image (first * unit_of disk.size) (count * unit_of disk.size))
 
--- why sectors were not read: the device failed in the call, or memory ran out
-abbrev pub IsUnread : Device → Device → ReadFault → Type 0
-IsUnread old new DeviceFailed = HasFailed old new
-IsUnread old new NoMemory = new.failures ≡ old.failures
-IsUnread old new (Table fault) = ⊥
+-- why n sectors of 512 bytes were not read: the device failed in the call, or the allocation of their bytes was refused
+abbrev pub IsUnread : Device → Device → ℕ → ReadFault → Type 0
+IsUnread old new n DeviceFailed = HasFailed old new
+IsUnread old new n NoMemory = (new.failures ≡ old.failures) × IsOutOfMemory (512 * n)
+IsUnread old new n (Table fault) = ⊥

@@ -1,5 +1,5 @@
 //! A copy of a table, read from a device.
-ghost use Rattle.std.specs.Prelude.{◌≡◌, ◌⊎◌, ◌+◌, ◌*◌, ◌≤◌, ◌<◌, length, replicate, take, Option, Some, None, IfErr, IfOk, OnOk};
+ghost use Rattle.std.specs.Prelude.{◌≡◌, ◌⊎◌, ◌+◌, ◌*◌, ◌≤◌, ◌<◌, length, take, Option, Some, None, IfErr, IfOk, OnOk};
 ghost use Rattle.block_device.specs.Device.{Device};
 ghost use Rattle.partition_table.specs.Copies.{IsArrayCause, IsCopyCause, IsGoodCopy, IsHeaderRead};
 ghost use Rattle.partition_table.specs.Disks.{IsDiskOn, unit_of};
@@ -12,15 +12,9 @@ use crate::crc::crc32;
 use crate::entries::{first_fault, partitions_in};
 use crate::header::{Header, header_fault};
 use crate::{Disk, Partition, ReadFault, TableFault};
+use allocation::zeros;
 use block_device::BlockDev;
-use std::alloc::{AllocError, Global};
-
-// So many zero bytes.
-fn zeros(alloc: Global, size: usize) -> Result<Vec<u8>, AllocError>
-    ensures { IfOk result (λ v. v.items ≡ replicate size 0) }
-{
-    vec![in alloc; 0u8; size]
-}
+use std::alloc::Global;
 
 // So many sectors of the disk, from the first on.
 fn read_sectors<D: BlockDev>(
@@ -35,7 +29,7 @@ fn read_sectors<D: BlockDev>(
     ensures read { IsReadAtMost (D.state device.old) (count * unit_of disk.size) (D.state device.new) }
     ensures ok { IfOk result (λ v. AreSectorsRead (D.state device.old) disk first count v.items) }
     ensures full { OnOk result ((D.state device.new).failures ≡ (D.state device.old).failures) }
-    ensures err { IfErr result (IsUnread (D.state device.old) (D.state device.new)) }
+    ensures err { IfErr result (IsUnread (D.state device.old) (D.state device.new) (count * unit_of disk.size)) }
 {
     let mut bytes = zeros(alloc, 512 * disk.units(count) as usize)?;
     device.read(disk.units(first), &mut bytes)?;

@@ -1,22 +1,25 @@
 //! The entries of a table.
-ghost use Rattle.std.specs.Prelude.{◌≡◌, ◌+◌, ◌*◌, ◌≤◌, ◌<◌, [], length, IfOk};
+ghost use Rattle.std.specs.Prelude.{◌≡◌, ◌+◌, ◌*◌, ◌≤◌, ◌<◌, [], length, IfErr, IfOk};
 ghost use Rattle.std.specs.List.{list_any};
+ghost use Rattle.allocation.specs.Asked.{WasRefused};
 ghost use Rattle.partition_table.specs.Headers.{array_bytes};
 ghost use Rattle.partition_table.specs.Partitions.{entry_at, fault_behind, partitions_overlap, partition_fault, partitions_in};
 
 use crate::header::Header;
 use crate::{Partition, TableFault};
-use std::alloc::{AllocError, Global};
+use allocation::{OutOfMemory, push};
+use std::alloc::Global;
 
 /// The partitions in the entries, in their order.
 pub(crate) fn partitions_in(
     alloc: Global,
     header: &Header,
     array: &[u8],
-) -> Result<Vec<Partition>, AllocError>
+) -> Result<Vec<Partition>, OutOfMemory>
     requires size { 128 ≤ header.now.entry_size }
     requires whole { length array.now ≡ array_bytes header.now }
-    ensures { IfOk result (λ v. v.items ≡ partitions_in header.now array.now) }
+    ensures ok { IfOk result (λ v. v.items ≡ partitions_in header.now array.now) }
+    ensures err { IfErr result (WasRefused 1) }
 {
     let size = header.entry_size as usize;
     let mut partitions = Vec::new(alloc);
@@ -24,7 +27,7 @@ pub(crate) fn partitions_in(
         let entry = entry_at(size, array, index as usize, header.entry_count as usize);
         let partition = Partition::of(index + 1, entry);
         if partition.is_used() {
-            partitions.push(partition)?;
+            push(&mut partitions, partition)?;
         }
     }
     Ok(partitions)

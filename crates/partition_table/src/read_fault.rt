@@ -3,8 +3,8 @@ ghost use Rattle.std.specs.Prelude.{◌≡◌};
 ghost use Rattle.partition_table.specs.FaultNames.{read_name, read_partition};
 
 use crate::TableFault;
+use allocation::OutOfMemory;
 use block_device::DeviceFault;
-use std::alloc::AllocError;
 use thiserror::Error;
 
 /// Why a copy of a table isn't taken.
@@ -13,7 +13,7 @@ pub enum ReadFault {
     /// The device failed.
     #[error("Device")]
     Device,
-    /// A growth was refused.
+    /// An allocation was refused.
     #[error("NoMemory")]
     NoMemory,
     /// What was read is no good copy.
@@ -54,12 +54,12 @@ impl From<DeviceFault> for ReadFault {
     }
 }
 
-impl From<AllocError> for ReadFault {
+impl From<OutOfMemory> for ReadFault {
     ghost use Rattle.partition_table.specs.declared.read_fault.ReadFault.TheVariants.{NoMemory};
 
     ghost from_gives = { λ _ fault. fault ≡ NoMemory };
 
-    fn from(_error: AllocError) -> ReadFault {
+    fn from(_error: OutOfMemory) -> ReadFault {
         ReadFault::NoMemory
     }
 }

@@ -1,11 +1,13 @@
 //! Bytes lost at the same places of many codewords, summed up one place after the other.
 
-ghost use Rattle.std.specs.Prelude.{◌≡◌, ◌<◌, ◌≤◌, ◌*◌, length, slice_index, EachIndex, IfOk};
+ghost use Rattle.std.specs.Prelude.{◌≡◌, ◌<◌, ◌≤◌, ◌*◌, length, slice_index, EachIndex, IfOk, OnErr};
+ghost use Rattle.allocation.specs.Refusal.{IsOutOfMemory};
 ghost use Rattle.reed_solomon.specs.Factors.{AreProducts, AreRows, parity_places};
 ghost use Rattle.reed_solomon.specs.Products.{AreAdded, product_at};
 
 use crate::products::Products;
 use crate::restoring::factors;
+use allocation::{append, push};
 use std::alloc::{AllocError, Global};
 
 /// The products by which the bytes of codewords sum up to those at the lost places: of place i by the factor for the
@@ -13,14 +15,15 @@ use std::alloc::{AllocError, Global};
 pub fn restoring_products(alloc: Global, lost: &[usize]) -> Result<Vec<Products>, AllocError>
     requires in_word { EachIndex lost.now (λ k. slice_index lost.now k < 255) }
     requires few { length lost.now ≤ 255 }
-    ensures { IfOk result (λ v. AreProducts lost.now v.items) }
+    ensures ok { IfOk result (λ v. AreProducts lost.now v.items) }
+    ensures err { OnErr result (IsOutOfMemory 255) }
 {
     let rows = factor_rows(alloc, lost)?;
     let mut products = Vec::new(alloc);
     for at in 0..255 * lost.len() {
         let row = at % lost.len();
         let factor = rows[row * 255 + at / lost.len()];
-        products.push(Products::by(factor))?;
+        push(&mut products, Products::by(factor))?;
     }
     Ok(products)
 }
@@ -28,11 +31,12 @@ pub fn restoring_products(alloc: Global, lost: &[usize]) -> Result<Vec<Products>
 // The factors of all places for each lost place, one row of 255 behind the other.
 fn factor_rows(alloc: Global, lost: &[usize]) -> Result<Vec<u8>, AllocError>
     requires { EachIndex lost.now (λ k. slice_index lost.now k < 255) }
-    ensures { IfOk result (λ v. AreRows lost.now v.items (length lost.now)) }
+    ensures ok { IfOk result (λ v. AreRows lost.now v.items (length lost.now)) }
+    ensures err { OnErr result (IsOutOfMemory 255) }
 {
     let mut rows = Vec::new(alloc);
     for place in lost {
-        rows.extend_from_slice(&factors(lost, *place))?;
+        append(&mut rows, &factors(lost, *place))?;
     }
     Ok(rows)
 }
@@ -40,11 +44,12 @@ fn factor_rows(alloc: Global, lost: &[usize]) -> Result<Vec<u8>, AllocError>
 /// As `restoring_products`, where the parity of codewords is lost.
 pub fn parity_products(alloc: Global, parity: usize) -> Result<Vec<Products>, AllocError>
     requires { parity ≤ 24 }
-    ensures { IfOk result (λ v. AreProducts (parity_places parity) v.items) }
+    ensures ok { IfOk result (λ v. AreProducts (parity_places parity) v.items) }
+    ensures err { OnErr result (IsOutOfMemory 255) }
 {
     let mut places = Vec::new(alloc);
     for place in 255 - parity..255_usize {
-        places.push(place)?;
+        push(&mut places, place)?;
     }
     restoring_products(alloc, &places)
 }

@@ -1,6 +1,7 @@
 //! A device that keeps nothing.
 ghost use Rattle.std.specs.Prelude.{◌≡◌, ◌≤◌, ◌^◌, false, true, refl};
-ghost use Rattle.block_device.specs.Device.{zeros_image};
+ghost use Rattle.block_device.specs.Counters.{capped-fits};
+ghost use Rattle.block_device.specs.Device.{capped, zeros_image};
 ghost use Rattle.block_device.specs.Whole.{whole_zeros};
 
 use block_device::{BlockDev, DeviceFault, SyncDev};
@@ -40,14 +41,18 @@ impl BlockDev for Discard {
       never_fails = true;
       dirty = f.dirty;
       image = zeros_image f.sectors;
-      reads = f.reads;
-      writes = f.writes;
+      reads = capped f.reads;
+      writes = capped f.writes;
       failures = 0;
     } };
 
     ghost gives = { λ f first bytes. Unit {0} };
 
+    ghost does = { λ old call new. Unit {0} };
+
     ghost whole = { λ f. whole_zeros (⟦<Discard as BlockDev>⟧.state f) refl };
+
+    ghost counters = { λ f. record { reads = capped-fits f.reads; writes = capped-fits f.writes; failures = capped-fits 0 } };
 
     fn sectors(&self) -> u64 {
         self.sectors

@@ -1,5 +1,6 @@
 //! A device of which it is told how much was read.
 ghost use Rattle.std.specs.Prelude.{◌≡◌, ◌*◌, length, min, is_ok, IsOk, IsTrue, OnErr, OnOk};
+ghost use Rattle.block_device.specs.Call.{DeviceDoes, Read};
 ghost use Rattle.block_device.specs.Calls.{DeviceFails, DeviceGives, DeviceReads, ReadsInner};
 ghost use Rattle.block_device.specs.Device.{IsInside};
 ghost use Rattle.watched_device.specs.Watching.{done_after};
@@ -49,7 +50,11 @@ impl<D: BlockDev, P: Progress> BlockDev for Watched<D, P> {
 
     ghost gives = { λ w first bytes. D.gives w.inner first bytes };
 
+    ghost does = { λ old call new. DeviceDoes D.state D.does old.inner call new.inner };
+
     ghost whole = { λ w. record { length = (D.whole w.inner).length; sectors = (D.whole w.inner).sectors } };
+
+    ghost counters = { λ w. record { reads = (D.counters w.inner).reads; writes = (D.counters w.inner).writes; failures = (D.counters w.inner).failures } };
 
     fn sectors(&self) -> u64 {
         self.inner.sectors()
@@ -64,6 +69,7 @@ impl<D: BlockDev, P: Progress> BlockDev for Watched<D, P> {
         ensures moved { DeviceReads ⟦<Watched<D, P> as BlockDev>⟧.state self.old self.new out.old (is_ok result) }
         ensures bytes { OnOk result (DeviceGives ⟦<Watched<D, P> as BlockDev>⟧.state self.old first out.old out.new) }
         ensures given { OnOk result (⟦<Watched<D, P> as BlockDev>⟧.gives self.old first out.new) }
+        ensures call { DeviceDoes ⟦<Watched<D, P> as BlockDev>⟧.state ⟦<Watched<D, P> as BlockDev>⟧.does self.old (Read first out.new (is_ok result)) self.new }
         ensures sure { IsTrue (⟦<Watched<D, P> as BlockDev>⟧.state self.old).never_fails → IsOk result }
         ensures fault { OnErr result (DeviceFails ⟦<Watched<D, P> as BlockDev>⟧.state self.old self.new) }
 

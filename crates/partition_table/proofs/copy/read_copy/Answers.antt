@@ -1,8 +1,9 @@
 use Rattle.std.proofs.Common.{◌≡◌, ◌∙◌, ◌*◌, ap, arith, sym, subst}
+use Rattle.std.proofs.lemmas.Result.{err_from_is_err_and}
 use Rattle.partition_table.specs.Disks.{unit_of}
 use Rattle.partition_table.specs.Headers.{array_sectors}
 use Rattle.partition_table.proofs.HeaderLemmas.{IsOnDisk}
-use Rattle.partition_table.proofs.ReadLemmas.{on_disk, only_read-then}
+use Rattle.partition_table.proofs.ReadLemmas.{on_disk, only_read-then, unread-cause}
 use Rattle.partition_table.proofs.copy.read_copy.Goals as goal
 
 pub read_sectors-requires-clause-range : goal.read_sectors-requires-clause-range
@@ -22,3 +23,11 @@ pub returns-clause-read : goal.returns-clause-read
 returns-clause-read g c =
     let on = on_disk _ c.args.disk c.args.sector c.in_ok-header.header c.in_ok-header.ensures.ok in
     only_read-then 8 _ _ c.in_ok-header.ensures.read c.read_sectors.ensures.read (rw c.array_sectors-count.ensures (omega (arith, on.few)))
+
+pub returns-in_err-array-clause-err : goal.returns-in_err-array-clause-err
+returns-in_err-array-clause-err g c =
+    let on = on_disk _ c.args.disk c.args.sector c.in_ok-header.header c.in_ok-header.ensures.ok in
+    let was = err_from_is_err_and c.from_residual-in_err-array.result c.from_residual-in_err-array.ensures.1 in
+    rw (was.1, was.2)
+    (unread-cause (g.D.BlockDev.state c.args.device.now) (g.D.BlockDev.state c.read_header.new.device) (g.D.BlockDev.state c.read_sectors.new.device) c.args.disk c.args.sector _ c.in_err-array.field-0.0 c.in_ok-header.ensures.full
+    (rw c.array_sectors-count.ensures on.few) c.in_err-array.ensures.err)

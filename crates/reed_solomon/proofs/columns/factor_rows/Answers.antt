@@ -10,5 +10,5 @@ loop-place-preserved c =
     let n = c.loop-place.place-index in
     let row = c.factors.result in
     let found = found-factors lost row n c.loop-place-test.true c.factors.ensures.restore c.factors.ensures.skip_lost in
-    subst (λ xs. AreRows lost xs (n + 1)) (sym c.in_ok-extend_from_slice.ensures.items)
+    subst (λ xs. AreRows lost xs (n + 1)) (sym c.in_ok-append.ensures.ok)
     (rows-more lost c.loop-place.rows.items row n c.requires c.factors.ensures.len found c.loop-place.invariant)

@@ -1,0 +1,11 @@
+//! Allocations, and the evidence that one was refused.
+#![tactic(auto)]
+
+mod out_of_memory;
+mod seal;
+mod texts;
+mod vectors;
+
+pub use out_of_memory::OutOfMemory;
+pub use texts::{joined, number, push_char, push_text};
+pub use vectors::{append, copied, filled, push, resize, with_capacity, zeros};

@@ -1,0 +1,56 @@
+-- What a list of calls adds up to.
+use Rattle.std.specs.Prelude.{ℕ, ◌+◌, ◌/◌, ◌≤◌, Bool, true, false, IsTrue, List, [], ◌∷◌, length}
+use Rattle.block_device.specs.Call.{Call, Calls, DeviceDoes, Read, Sync, Write}
+use Rattle.block_device.specs.Device.{Device, sectors_of, spliced}
+
+abbrev pub has_succeeded : Call → Bool
+has_succeeded (Read first bytes ok) = ok
+has_succeeded (Write first bytes ok) = ok
+has_succeeded (Sync ok) = ok
+
+-- a read, whether it succeeded or not
+abbrev pub is_read : Call → Bool
+is_read (Read first bytes ok) = true
+is_read (Write first bytes ok) = false
+is_read (Sync ok) = false
+
+-- how many sectors a call asks to read, and how many to write
+abbrev pub sectors_read : Call → ℕ
+sectors_read (Read first bytes ok) = length bytes / 512
+sectors_read (Write first bytes ok) = 0
+sectors_read (Sync ok) = 0
+
+abbrev pub sectors_written : Call → ℕ
+sectors_written (Read first bytes ok) = 0
+sectors_written (Write first bytes ok) = length bytes / 512
+sectors_written (Sync ok) = 0
+
+abbrev pub AllSucceeded : List Call → Type 0
+AllSucceeded [] = Unit {0}
+AllSucceeded (call ∷ more) = IsTrue (has_succeeded call) × AllSucceeded more
+
+abbrev pub AllReads : List Call → Type 0
+AllReads [] = Unit {0}
+AllReads (call ∷ more) = IsTrue (is_read call) × AllReads more
+
+abbrev pub all_read : List Call → ℕ
+all_read [] = 0
+all_read (call ∷ more) = sectors_read call + all_read more
+
+abbrev pub all_written : List Call → ℕ
+all_written [] = 0
+all_written (call ∷ more) = sectors_written call + all_written more
+
+-- the image after calls that all succeeded
+abbrev pub image_after : List (List ℕ) → List Call → List (List ℕ)
+image_after image [] = image
+image_after image (Read first bytes ok ∷ more) = image_after image more
+image_after image (Write first bytes ok ∷ more) = image_after (spliced image first (sectors_of (length bytes / 512) bytes)) more
+image_after image (Sync ok ∷ more) = image_after image more
+
+-- calls on a device lead from one state of it to another, and they read and write at most so many sectors in all
+pub record DeviceCalls {D : Type 0} (state : D → Device) (does : D → Call → D → Type 0) (reads writes : ℕ) (old new : D) : Type 0 where
+  pub calls : List Call
+  pub reads_few : all_read calls ≤ reads
+  pub writes_few : all_written calls ≤ writes
+  pub made : Calls (DeviceDoes state does) old calls new
