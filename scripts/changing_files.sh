@@ -238,10 +238,15 @@ ask 'load a,,,ro,0 8 linear A 0' 'loaded 1'
 ran 0 'written 8' "$program" store stack a source A=rw:a
 ask 'read a 0 1' '0 all 04'
 end 0
-begin A=rw:a
-ask 'load a,,,rw,0 8 linear A 0' 'loaded 1'
-kill -KILL "$SESSION_PID"
-wait "$SESSION_PID" 2> /dev/null || true
+mkfifo waits
+"$program" session A=rw:a < waits > /dev/null &
+process=$!
+exec 8> waits
+for _ in $(seq 600); do flock -n a true || break; sleep 0.05; done
+ran 1 'refused 7 InUse a' "$program" store stack a kept A=rw:a
+kill -KILL $process
+wait $process 2> /dev/null || true
+exec 8>&-
 ran 0 'written 8' "$program" store stack a kept A=rw:a
 ran 0 "$(printf 'root %s\nsalt -\nuuid 00000000-0000-0000-0000-000000000001\nblocks 16' "$("$program" format $sizes data formatted | sed -n 's/^root //p')")" \
     "$program" format --grow $sizes data made

@@ -1,22 +1,21 @@
 -- Images in memory as files.
-use Rattle.std.proofs.Common.{◌≡◌, ◌<◌, ◌/◌, ◌%◌, ◌==◌, ◌&&◌, ℕ, Bool, true, false, not, List, length, take, Option, Some, None, Result, Ok, Err, Vec, refl, sym, ap, subst, ◌∙◌}
-use Rattle.std.specs.Prelude.{IsSome, slice_get}
+use Rattle.std.proofs.Common.{◌≡◌, ◌<◌, ◌%◌, ◌==◌, ℕ, Bool, not, List, length, take, Option, Some, None, Result, Ok, Err, Vec, refl, sym, ap, subst, ◌∙◌}
+use Rattle.std.specs.Prelude.{slice_get}
 use Rattle.std.specs.Option.{option_map}
 use Rattle.std.proofs.lemmas.Bool.{eq-eqb, false≢true}
 use Rattle.std.proofs.lemmas.Option.{none-some, same_Some, slice_get_within}
 use Rattle.block_device.specs.declared.memory.MemoryDev.{MemoryDev}
-use Rattle.block_device.specs.declared.open_fault.OpenFault.{OpenFault}
 use Rattle.block_device.specs.contracts.memory.MemoryDevBlockDev.TheImpl.{ghosts}
-use Rattle.block_device.specs.Device.{Device, sectors_of}
+use Rattle.block_device.specs.Device.{Device}
 use Rattle.block_device.specs.Memory.{memory_bytes}
 use Rattle.image_files.specs.declared.images.FileText.{FileText}
 use Rattle.image_files.specs.declared.images.OpenImage.{OpenImage}
 use Rattle.image_files.specs.Promises.{AreApart, FileRecord, HoldsSectors, IsApartFrom}
 use Rattle.memory_images.specs.declared.named_images.MemoryImages.{MemoryImages}
 use Rattle.text_files.specs.declared.texts.ReplaceFault.{ReplaceFault}
-use Rattle.memory_images.specs.Files.{file_at, file_at_place, file_under}
+use Rattle.memory_images.specs.Files.{file_at_place, file_under}
 use Rattle.memory_images.specs.MemoryRelations.{ChangesAt, IsCopy, IsMeasured, IsReplaced, IsText, PutsAt, ReplacesAt, id_at}
-use Rattle.memory_images.specs.Named.{AreBytesPut, Stands, image_bytes, named_place}
+use Rattle.memory_images.specs.Named.{Stands, image_bytes, named_place}
 
 -- what stands at a place as a file
 abbrev pub file-of : ℕ → List ℕ → FileRecord

@@ -1,6 +1,6 @@
 -- Parts of images in memory as parts of files.
-use Rattle.std.proofs.Common.{◌≡◌, ◌+◌, ◌*◌, ◌/◌, ◌≤◌, ◌++◌, ℕ, Bool, true, List, [], length, take, drop, Option, Some, Ok, arith, refl, sym, ap, subst, ◌∙◌, nat_le, rules, add-zero, length-append, length-drop}
-use Rattle.std.proofs.lemmas.List.{append-nil, drop-append-le, drop-drop, length-take-le, take-append-le, take-take}
+use Rattle.std.proofs.Common.{◌≡◌, ◌+◌, ◌*◌, ◌/◌, ◌≤◌, ◌++◌, ℕ, Bool, true, List, [], length, take, drop, Some, Ok, arith, refl, sym, ap, subst, ◌∙◌, nat_le, rules, add-zero, length-append, length-drop}
+use Rattle.std.proofs.lemmas.List.{append-nil, drop-drop, length-take-le, take-append-le, take-take}
 use Rattle.std.proofs.Math.Nat.{mul_comm}
 use Rattle.std.proofs.Math.Seq.{drop-append_seam}
 use Rattle.block_device.proofs.lemmas.SectorLemmas.{sectors_of-append, sectors_of-split}

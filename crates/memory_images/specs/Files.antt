@@ -1,5 +1,5 @@
 -- Images in memory as files.
-use Rattle.std.specs.Prelude.{ℕ, List, Option, Some, None, Vec, map}
+use Rattle.std.specs.Prelude.{ℕ, List, Option, Some, None, Vec}
 use Rattle.std.specs.Option.{option_map}
 use Rattle.image_files.specs.Promises.{FileRecord}
 use Rattle.memory_images.specs.declared.named_images.MemoryImages.{MemoryImages}
