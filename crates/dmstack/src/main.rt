@@ -40,7 +40,11 @@ fn main(rt: HostRuntime) -> ExitCode {
         }
         Err(_) => end(&mut writer, CommandFault::Usage),
     };
-    ExitCode::from(if writer.flush().is_ok() { status } else { 1 })
+    let status = if writer.flush().is_ok() { status } else { 1 };
+    if writer.failed() {
+        let _said = errors.put(b"dmstack: standard output failed\n");
+    }
+    ExitCode::from(status)
 }
 
 // The words behind the program's name. One that is not UTF-8 is an error of another kind than memory.
