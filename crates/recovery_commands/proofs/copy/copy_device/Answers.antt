@@ -1,9 +1,7 @@
-use Rattle.std.proofs.Common.{Bool, inl, inr, refl, subst}
+use Rattle.std.proofs.Common.{inl, inr, refl}
 use Rattle.std.proofs.lemmas.Result.{IfErr-weaker, on_ok_weaker}
 use Rattle.stack_making.specs.NamedDevices.{device_place}
-use Rattle.stack_recovery.specs.Listings.{listed}
-use Rattle.stack_recovery.specs.Recoveries.{sides}
-use Rattle.recovery_commands.specs.Copies.{CopiesTo}
+use Rattle.recovery_commands.proofs.ListedLemmas.{copies-whole}
 use Rattle.recovery_commands.proofs.OpeningLemmas.{err-from}
 use Rattle.recovery_commands.proofs.copy.copy_device.Goals as goal
 
@@ -36,7 +34,7 @@ returns-in-Ok-clause-ok g c = on_ok_weaker c.tell_counts.result (λ told. record
     left = _;
     between = c.open_with_room.new.images;
     found = c.in_ok-stack.ensures.ok;
-    copied = subst (λ (b : Bool). CopiesTo c.args.output.differing c.in_ok-stack.device.0 _ c.in-Ok.counts (sides _ _ (listed (g.W.Write.contents c.copy_to-left.new.writer.inner) b))) told.0 (rw c.in-Ok.is at c.copy_to-left.ensures.ok);
+    copied = copies-whole _ _ _ _ _ _ _ _ told.0 (rw c.in-Ok.is at c.copy_to-left.ensures.ok);
     back = c.close.ensures;
   };
   told = told.1;

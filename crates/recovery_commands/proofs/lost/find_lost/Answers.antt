@@ -38,8 +38,8 @@ returns-in_err-counts-clause-err g c =
       };
     })))
 
-pub returns-then-refused-clause-err : goal.returns-then-refused-clause-err
-returns-then-refused-clause-err g c = inr (inr (record {
+pub returns-then-search-clause-err : goal.returns-then-search-clause-err
+returns-then-search-clause-err g c = inr (inr (record {
   counts = c.in_ok-counts.counts;
   kept = _;
   scanned = record {
@@ -48,7 +48,7 @@ returns-then-refused-clause-err g c = inr (inr (record {
     left = _;
     found = c.in_ok-stack.ensures.ok;
     recovered = recovers-none _ _ _ _ _ _ _ c.new-kept.ensures.runs c.new-kept.ensures.refused c.in_ok-counts.ensures.ok;
-    same = ap (λ (b : Bool). listed (Some (lost_text c.keep_runs.new.search.kept.runs.items)) b) c.if-refused.true;
+    same = ap (λ (b : Bool). listed (Some (lost_text c.keep_runs.new.search.kept.runs.items)) b) c.if-search.true;
   };
   is = refl;
 }))
@@ -60,5 +60,5 @@ returns-clause-ok g c = record {
   left = _;
   found = c.in_ok-stack.ensures.ok;
   recovered = recovers-none _ _ _ _ _ _ _ c.new-kept.ensures.runs c.new-kept.ensures.refused c.in_ok-counts.ensures.ok;
-  same = ap (λ (b : Bool). listed (Some (lost_text c.keep_runs.new.search.kept.runs.items)) b) c.if-refused.false;
+  same = ap (λ (b : Bool). listed (Some (lost_text c.keep_runs.new.search.kept.runs.items)) b) c.if-search.false;
 }

@@ -1,10 +1,7 @@
-use Rattle.std.proofs.Common.{Bool, inl, inr, refl, subst}
+use Rattle.std.proofs.Common.{inl, inr, refl}
 use Rattle.stack_making.specs.NamedDevices.{device_place}
 use Rattle.image_files.specs.Opener.{calls}
-use Rattle.rescue_files.specs.ByMap.{moving}
-use Rattle.stack_recovery.specs.Listings.{listed}
-use Rattle.stack_recovery.specs.Recoveries.{sides}
-use Rattle.stack_commands.specs.MappedCopies.{CopiesByMap}
+use Rattle.stack_commands.proofs.ListedLemmas.{copies-whole}
 use Rattle.stack_commands.specs.declared.fault.CommandFault.TheVariants.{Recovering}
 use Rattle.stack_commands.proofs.OpeningLemmas.{err-from}
 use Rattle.stack_commands.proofs.mapped_copy.copy_by_map.Goals as goal
@@ -40,8 +37,8 @@ returns-in-Ok-clause-ok g c = record {
     between = c.open_with_room.new.images;
     behind = c.copy_in_turns-image.new.images;
     found = c.in_ok-stack.ensures.ok;
-    copied = subst (λ (b : Bool). CopiesByMap c.args.output.differing (calls g.I.Images.relations g.I.Dev.BlockDev.state c.open_with_room.new.images c.copy_in_turns-image.new.images) c.args.map.now c.in_ok-stack.device.0 (moving _ (sides _ _ (listed (g.W.Write.contents c.copy_in_turns-image.new.writer.inner) b))) c.in-Ok.counts)
-        c.in_ok-tell_counts-in-Ok.ensures.ok.0 (rw c.in-Ok.is at c.copy_in_turns-image.ensures.ok);
+    copied = copies-whole (calls g.I.Images.relations g.I.Dev.BlockDev.state c.open_with_room.new.images c.copy_in_turns-image.new.images) _ _ _ _ _ _ _ _ c.in-Ok.counts c.in_ok-tell_counts-in-Ok.ensures.ok.0
+        (rw c.in-Ok.is at c.copy_in_turns-image.ensures.ok);
     back = c.close.ensures;
   };
   told = c.in_ok-tell_counts-in-Ok.ensures.ok.1;
