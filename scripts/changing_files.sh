@@ -176,18 +176,21 @@ filled 1 4 > source
 filled 3 9 > out
 truncate -s 8192 made
 sizes='--data-block=512 --hash-block=512 --salt=- --uuid=00000000-0000-0000-0000-000000000001'
+failed='dmstack: standard output failed'
 for closed in '>&-' '<&- >&-' '<&- >&- 2>&-' '> /dev/full' '> /dev/full 2>&-'; do
+    said=$failed
+    [[ $closed != *'2>&-' ]] || said=
     for words in 'session A=rw:a' 'load stack A=rw:a' 'read stack a 0 8 A=rw:a' 'write stack a 0 source A=rw:a' \
         'scan stack a A=rw:a' 'copy stack a out A=rw:a' 'nbd stack a A=rw:a'; do
-        ran 1 '' bash -c "\"\$0\" $words $closed" "$program"
+        ran 1 "$said" bash -c "\"\$0\" $words $closed" "$program"
         check "$words $closed: the image is as it was" cmp a kept
     done
-    ran 1 '' bash -c "\"\$0\" format $sizes a made $closed" "$program"
+    ran 1 "$said" bash -c "\"\$0\" format $sizes a made $closed" "$program"
     check "format $closed: the data image is as it was" cmp a kept
 done
 cp made formatted
 for words in "verify a made $root" 'dump made' "table made $root D H"; do
-    ran 1 '' bash -c "\"\$0\" $words <&- >&-" "$program"
+    ran 1 "$failed" bash -c "\"\$0\" $words <&- >&-" "$program"
     check "$words: the images are as they were" cmp made formatted
     check "$words: the images are as they were" cmp a kept
 done

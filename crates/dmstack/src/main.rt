@@ -41,7 +41,11 @@ fn main(rt: HostRuntime) -> ExitCode {
         }
         Err(_) => end_unread(&rt, &mut writer, &mut errors, CommandFault::Usage),
     };
-    ExitCode::from(if writer.flush().is_ok() { status } else { 1 })
+    let status = if writer.flush().is_ok() { status } else { 1 };
+    if writer.failed() {
+        let _said = errors.put(b"dmstack: standard output failed\n");
+    }
+    ExitCode::from(status)
 }
 
 // Tells why a command ends whose words can't all be read: on standard error where its output is data.

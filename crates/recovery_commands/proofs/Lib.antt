@@ -1,2 +1,3 @@
 pub mod KeptLemmas
+pub mod ListedLemmas
 pub mod OpeningLemmas

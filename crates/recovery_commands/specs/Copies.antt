@@ -12,12 +12,13 @@ use Rattle.stack_making.specs.declared.device.NamedDevice.{NamedDevice}
 use Rattle.stack_making.specs.NamedDevices.{DeviceWords, FailsToFindOutput, FindsOutput, DevicePlace, words_for}
 use Rattle.stack_opening.specs.declared.stack_file.StackFile.{StackFile}
 use Rattle.stack_recovery.specs.declared.recovery.Counts.{Counts}
+use Rattle.stack_recovery.specs.Listings.{Listed, listed}
 use Rattle.stack_recovery.specs.Recoveries.{Parties, Recovers, Sides, parties, seen_sides, sides}
 use Rattle.recovery_commands.specs.declared.copy.Copying.{Copying}
 use Rattle.recovery_commands.specs.declared.fault.RecoveringFault.{RecoveringFault}
 use Rattle.recovery_commands.specs.declared.fault.RecoveringFault.TheVariants.{OutputTooSmall}
 use Rattle.recovery_commands.specs.declared.output.Output.{Output}
-use Rattle.recovery_commands.specs.Recovering.{EndsRecovering, IsCountsEnd, IsRecoverEnd, IsRecoveryStackless, TellsCounts, contents_of, has_failed}
+use Rattle.recovery_commands.specs.Recovering.{EndsRecovering, IsCountsEnd, IsRecoverEnd, IsRecoveryStackless, TellsCounts, listed_by}
 
 -- a stack file, the name of one of its devices, bindings, the image to which it is copied, and whether only what differs
 -- is written
@@ -48,24 +49,24 @@ pub record CopiesTo (is_differing : Bool) (d : ℕ) (old : Sides) (counts : Coun
   pub on_medium : new.out.dirty ≡ false
 
 -- a device was gone over to another one, and what this left was put on the medium
-abbrev pub RecoversOnto : {O L : Type 0} → (O → Device) → (L → Option (List ℕ)) → ℕ → Parties O L → Parties O L → Counts → Type 0
+abbrev pub RecoversOnto : {O L : Type 0} → (O → Device) → (L → Listed) → ℕ → Parties O L → Parties O L → Counts → Type 0
 RecoversOnto state told d old new counts =
     (left : Device) × Recovers d (seen_sides state told old) counts (sides new.stack left (told new.listing)) × (state new.out ≡ synced left)
 
 -- it was begun, and ended early
-pub record EndsCopying (is_differing : Bool) (d : ℕ) (old new : Sides) (failed : Bool) (fault : RecoveringFault) : Type 0 where
+pub record EndsCopying (is_differing : Bool) (d : ℕ) (old new : Sides) (fault : RecoveringFault) : Type 0 where
   pub seen : Device
   pub seen' : Device
   pub begun : IsOutputSeenAs is_differing old.out seen
-  pub fails : IsRecoverEnd d (record old { out = seen }) (record new { out = seen' }) failed fault
+  pub fails : IsRecoverEnd d (record old { out = seen }) (record new { out = seen' }) fault
   pub ended : IsOutputSeenAs is_differing new.out seen'
 
 -- both, as a call sees them
-abbrev pub CopiesBy : {O L : Type 0} → (O → Device) → (L → Option (List ℕ)) → Bool → ℕ → Parties O L → Parties O L → Counts → Type 0
+abbrev pub CopiesBy : {O L : Type 0} → (O → Device) → (L → Listed) → Bool → ℕ → Parties O L → Parties O L → Counts → Type 0
 CopiesBy state told is_differing d old new counts = CopiesTo is_differing d (seen_sides state told old) counts (seen_sides state told new)
 
-abbrev pub EndsCopyingBy : {O L : Type 0} → (O → Device) → (L → Option (List ℕ)) → (L → Bool) → Bool → ℕ → Parties O L → Parties O L → RecoveringFault → Type 0
-EndsCopyingBy state told failed is_differing d old new fault = EndsCopying is_differing d (seen_sides state told old) (seen_sides state told new) (failed new.listing) fault
+abbrev pub EndsCopyingBy : {O L : Type 0} → (O → Device) → (L → Listed) → Bool → ℕ → Parties O L → Parties O L → RecoveringFault → Type 0
+EndsCopyingBy state told is_differing d old new fault = EndsCopying is_differing d (seen_sides state told old) (seen_sides state told new) fault
 
 -- ---- the same of what is copied, and to what, with the writer of the lines
 
@@ -73,10 +74,10 @@ abbrev pub copying_parties : {D O W : Type 0} → Copying D O → CountedRecord 
 copying_parties copying writer = parties copying.stack copying.out writer
 
 abbrev pub CopiesOnto : {D O W : Type 0} → (O → Device) → (W → Option (List ℕ)) → Copying D O → Copying D O → CountedRecord W → CountedRecord W → Counts → Type 0
-CopiesOnto state contents old new writer writer' counts = RecoversOnto state (contents_of contents) old.device.0 (copying_parties old writer) (copying_parties new writer') counts
+CopiesOnto state contents old new writer writer' counts = RecoversOnto state (listed_by contents) old.device.0 (copying_parties old writer) (copying_parties new writer') counts
 
 abbrev pub EndsOnto : {D O W : Type 0} → (O → Device) → (W → Option (List ℕ)) → Copying D O → Copying D O → CountedRecord W → CountedRecord W → RecoveringFault → Type 0
-EndsOnto state contents old new writer writer' fault = EndsRecovering state (contents_of contents) has_failed old.device.0 (copying_parties old writer) (copying_parties new writer') fault
+EndsOnto state contents old new writer writer' fault = EndsRecovering state (listed_by contents) old.device.0 (copying_parties old writer) (copying_parties new writer') fault
 
 -- to a device of which only what differs is written
 abbrev pub differing_state : {O : Type 0} → (O → Device) → Differing O → Device
@@ -90,17 +91,17 @@ EndsCompared state contents old new writer writer' fault = EndsOnto (differing_s
 
 -- to OUT, seen so or so
 abbrev pub CopiesAll : {D O W : Type 0} → (O → Device) → (W → Option (List ℕ)) → Bool → Copying D O → Copying D O → CountedRecord W → CountedRecord W → Counts → Type 0
-CopiesAll state contents is_differing old new writer writer' counts = CopiesBy state (contents_of contents) is_differing old.device.0 (copying_parties old writer) (copying_parties new writer') counts
+CopiesAll state contents is_differing old new writer writer' counts = CopiesBy state (listed_by contents) is_differing old.device.0 (copying_parties old writer) (copying_parties new writer') counts
 
 abbrev pub EndsCopyingAll : {D O W : Type 0} → (O → Device) → (W → Option (List ℕ)) → Bool → Copying D O → Copying D O → CountedRecord W → CountedRecord W → RecoveringFault → Type 0
 EndsCopyingAll state contents is_differing old new writer writer' fault =
-    EndsCopyingBy state (contents_of contents) has_failed is_differing old.device.0 (copying_parties old writer) (copying_parties new writer') fault
+    EndsCopyingBy state (listed_by contents) is_differing old.device.0 (copying_parties old writer) (copying_parties new writer') fault
 
 -- ---- a copy
 
 -- The device was gone over: a line was printed for each longest lost run, what was had went to OUT's image, and that was
 -- synced and given back.
-pub record Copies {S D : Type 0} (w : Calls S D) (words : CopyWords) (old : Option (List ℕ)) (counts : Counts) (printed : Option (List ℕ)) : Type 0 where
+pub record Copies {S D : Type 0} (w : Calls S D) (words : CopyWords) (old : Listed) (counts : Counts) (printed : Listed) : Type 0 where
   pub at : DevicePlace
   pub image : OpenImage D
   pub image' : D
@@ -110,11 +111,12 @@ pub record Copies {S D : Type 0} (w : Calls S D) (words : CopyWords) (old : Opti
   pub copied : CopiesTo words.differing at.d (sides at.stack (w.state image.device) old) counts (sides left (w.state image') printed)
   pub back : w.relations.takes between words.out image' w.new
 
--- no sector is lost, and the counts were printed
+-- no sector is lost, and the counts were printed, as all before
 pub record PrintsCopy {S D : Type 0} (w : Calls S D) (words : CopyWords) (old new : Option (List ℕ)) : Type 0 where
   pub counts : Counts
+  pub unprinted : Bool
   pub printed : Option (List ℕ)
-  pub copied : Copies w words old counts printed
+  pub copied : Copies w words (listed old unprinted) counts (listed printed false)
   pub told : TellsCounts counts printed new
 
 -- it has so many sectors, which are more than the image has
@@ -133,22 +135,24 @@ pub record FindsNoRoom {S D : Type 0} (w : Calls S D) (words : DeviceWords) (out
 abbrev pub IsOutputUncopied : {S D : Type 0} → Calls S D → DeviceWords → List ℕ → RecoveringFault → Type 0
 IsOutputUncopied w words out fault = IsRecoveryStackless (FailsToFindOutput w words out) fault ⊎ FindsNoRoom w words out fault
 
--- the copy was begun, ended early, and what then stood in the image was given back
+-- the copy was begun, ended early, and what then stood in the image was given back; the writer may have failed before
 pub record FailsToCopy {S D : Type 0} (w : Calls S D) (words : CopyWords) (old new : Option (List ℕ)) (failed : Bool) (fault : RecoveringFault) : Type 0 where
   pub at : DevicePlace
   pub image : OpenImage D
   pub image' : D
   pub left : StackRecord
   pub between : S
+  pub unprinted : Bool
   pub found : FindsOutput (record w { new = between }) words.words words.out at image
-  pub fails : EndsCopying words.differing at.d (sides at.stack (w.state image.device) old) (sides left (w.state image') new) failed fault
+  pub fails : EndsCopying words.differing at.d (sides at.stack (w.state image.device) (listed old unprinted)) (sides left (w.state image') (listed new failed)) fault
   pub back : w.relations.takes between words.out image' w.new
 
--- sectors are lost, or the counts can't be written
+-- All was copied that is had. Sectors are lost, or a line can't be written.
 pub record LosesInCopy {S D : Type 0} (w : Calls S D) (words : CopyWords) (old new : Option (List ℕ)) (failed : Bool) (fault : RecoveringFault) : Type 0 where
   pub counts : Counts
-  pub printed : Option (List ℕ)
-  pub copied : Copies w words old counts printed
+  pub unprinted : Bool
+  pub printed : Listed
+  pub copied : Copies w words (listed old unprinted) counts printed
   pub ends : IsCountsEnd counts printed new failed fault
 
 -- nothing is printed where it isn't begun

@@ -1,11 +1,12 @@
 -- What the commands that go over a device have in common.
-use Rattle.std.specs.Prelude.{◌≡◌, ℕ, ◌<◌, ◌++◌, Bool, true, List, codes, decimal, Option}
+use Rattle.std.specs.Prelude.{◌≡◌, ℕ, ◌<◌, ◌++◌, Bool, true, false, List, codes, decimal, Option}
 use Rattle.std.specs.Io.KnownBytes.{Appends}
 use Rattle.block_device.specs.Device.{Device}
 use Rattle.counted_io.specs.Counted.{CountedRecord}
 use Rattle.stack_making.specs.declared.fault.StackFault.{StackFault}
 use Rattle.stack_recovery.specs.declared.fault.RecoveryFault.TheVariants as recovery
 use Rattle.stack_recovery.specs.declared.recovery.Counts.{Counts}
+use Rattle.stack_recovery.specs.Listings.{Listed, listed}
 use Rattle.stack_recovery.specs.Recoveries.{IsRecoveryEnd, Parties, Sides, seen_sides}
 use Rattle.recovery_commands.specs.declared.fault.RecoveringFault.{RecoveringFault}
 use Rattle.recovery_commands.specs.declared.fault.RecoveringFault.TheVariants.{Lost, NoMemory, OutputFailed, Stack, Write}
@@ -27,28 +28,31 @@ abbrev pub counts_text : ℕ → ℕ → List ℕ
 counts_text read lost = codes "read " ++ (decimal read ++ (codes " lost " ++ (decimal lost ++ codes "\n")))
 
 -- the ends of a recovery as a command's
-abbrev pub IsRecoverEnd : ℕ → Sides → Sides → Bool → RecoveringFault → Type 0
-IsRecoverEnd d old new failed NoMemory = IsRecoveryEnd d old new failed recovery.NoMemory
-IsRecoverEnd d old new failed OutputFailed = IsRecoveryEnd d old new failed recovery.Output
-IsRecoverEnd d old new failed Write = failed ≡ true
-IsRecoverEnd d old new failed fault = ⊥
+abbrev pub IsRecoverEnd : ℕ → Sides → Sides → RecoveringFault → Type 0
+IsRecoverEnd d old new NoMemory = IsRecoveryEnd d old new recovery.NoMemory
+IsRecoverEnd d old new OutputFailed = IsRecoveryEnd d old new recovery.Output
+IsRecoverEnd d old new fault = ⊥
 
-abbrev pub EndsRecovering : {O L : Type 0} → (O → Device) → (L → Option (List ℕ)) → (L → Bool) → ℕ → Parties O L → Parties O L → RecoveringFault → Type 0
-EndsRecovering state told failed d old new fault = IsRecoverEnd d (seen_sides state told old) (seen_sides state told new) (failed new.listing) fault
+abbrev pub EndsRecovering : {O L : Type 0} → (O → Device) → (L → Listed) → ℕ → Parties O L → Parties O L → RecoveringFault → Type 0
+EndsRecovering state told d old new fault = IsRecoverEnd d (seen_sides state told old) (seen_sides state told new) fault
 
 -- what a counted writer holds, and whether it failed
-abbrev pub contents_of : {T : Type 0} → (T → Option (List ℕ)) → CountedRecord T → Option (List ℕ)
-contents_of contents writer = contents writer.inner
-
-abbrev pub has_failed : {T : Type 0} → CountedRecord T → Bool
-has_failed writer = writer.failed
+abbrev pub listed_by : {T : Type 0} → (T → Option (List ℕ)) → CountedRecord T → Listed
+listed_by contents writer = listed (contents writer.inner) writer.failed
 
 -- no sector is lost, and the counts were printed
 abbrev pub TellsCounts : Counts → Option (List ℕ) → Option (List ℕ) → Type 0
 TellsCounts counts old new = (counts.lost ≡ 0) × Appends old new (counts_text counts.read 0)
 
--- some are lost, or the line can't be written
-abbrev pub IsCountsEnd : Counts → Option (List ℕ) → Option (List ℕ) → Bool → RecoveringFault → Type 0
-IsCountsEnd counts old new failed (Lost read lost) = (read ≡ counts.read) × (lost ≡ counts.lost) × (0 < counts.lost) × (new ≡ old)
+-- some are lost, or a line can't be written, this one or one before
+abbrev pub IsCountsEnd : Counts → Listed → Option (List ℕ) → Bool → RecoveringFault → Type 0
+IsCountsEnd counts old new failed (Lost read lost) = (read ≡ counts.read) × (lost ≡ counts.lost) × (0 < counts.lost) × (new ≡ old.text) × (old.failed ≡ false)
 IsCountsEnd counts old new failed Write = failed ≡ true
 IsCountsEnd counts old new failed fault = ⊥
+
+-- the same of a counted writer, before and after
+abbrev pub EndsCounts : {T : Type 0} → (T → Option (List ℕ)) → CountedRecord T → CountedRecord T → Counts → RecoveringFault → Type 0
+EndsCounts contents old new counts fault = IsCountsEnd counts (listed_by contents old) (contents new.inner) new.failed fault
+
+abbrev pub TellsCountsBy : {T : Type 0} → (T → Option (List ℕ)) → CountedRecord T → CountedRecord T → Counts → Type 0
+TellsCountsBy contents old new counts = (old.failed ≡ false) × TellsCounts counts (contents old.inner) (contents new.inner)

@@ -18,7 +18,7 @@ pub enum RecoveringFault<'a> {
     OutputTooSmall { needed: u64 },
     /// The image to which a device is copied failed.
     OutputFailed,
-    /// A line can't be written.
+    /// A line can't be written; all of the device was gone over.
     Write,
 }
 

@@ -1,6 +1,6 @@
 //! The lost sectors of a device, kept in memory.
-ghost use Rattle.std.specs.Prelude.{◌≡◌, ◌≤◌, ◌<◌, length, IfOk, IfErr};
-ghost use Rattle.recovery_commands.specs.Scans.{EndsSearch, FailsToFindLost, FindsLost, HasRoomToSearch, KeepsRuns, unkept};
+ghost use Rattle.std.specs.Prelude.{◌≤◌, ◌<◌, length, IfOk, IfErr};
+ghost use Rattle.recovery_commands.specs.Scans.{EndsSearch, FailsToFindLost, FindsLost, HasRoomToSearch, KeepsRuns};
 
 use crate::fault::RecoveringFault;
 use crate::recovering::recover_device;
@@ -44,6 +44,9 @@ pub fn find_lost<'a, I: Images, P: Progress>(
         kept,
     };
     let counts = keep_runs(&mut search, progress)?;
+    if search.kept.refused {
+        return Err(RecoveringFault::NoMemory);
+    }
     Ok((search.kept.runs, counts))
 }
 
@@ -57,25 +60,11 @@ fn keep_runs<'a, D: BlockDev + Drop, P: Progress>(
     ensures ok { IfOk result (KeepsRuns ⟦<Discard as BlockDev>⟧.state search.old search.new) }
     ensures err { IfErr result (EndsSearch ⟦<Discard as BlockDev>⟧.state search.old search.new) }
 {
-    let found = recover_device(
+    recover_device(
         &mut search.stack,
         search.device,
         &mut search.out,
         &mut search.kept,
         progress,
-    );
-    match found {
-        Ok(counts) => Ok(counts),
-        Err(fault) => Err(unkept(fault)),
-    }
-}
-
-// Where a run isn't kept, memory ran out.
-fn unkept<'a>(fault: RecoveringFault<'a>) -> RecoveringFault<'a>
-    ensures { result ≡ unkept fault.entry }
-{
-    match fault {
-        RecoveringFault::Write => RecoveringFault::NoMemory,
-        other => other,
-    }
+    )
 }

@@ -3,7 +3,7 @@ ghost use Rattle.std.specs.Prelude.{◌≤◌, ◌<◌, length, IsTrue, IfOk, If
 ghost use Rattle.counted_io.specs.Counted.{Writes};
 ghost use Rattle.stack_rules.specs.Names.{mapped, size};
 ghost use Rattle.stack_recovery.specs.Recoveries.{Recovered, parties};
-ghost use Rattle.recovery_commands.specs.Recovering.{EndsPrintedBy, EndsRecovering, IsCountsEnd, PrintedBy, TellsCounts, counts_text};
+ghost use Rattle.recovery_commands.specs.Recovering.{EndsCounts, EndsRecovering, TellsCountsBy, counts_text};
 
 use crate::fault::RecoveringFault;
 use block_device::BlockDev;
@@ -26,24 +26,26 @@ pub fn recover_device<'a, D: BlockDev + Drop, O: BlockDev, L: Listing, P: Progre
     requires room { size stack.old.config (mapped d.0) ≤ (O.state out.old).size }
     requires allowed { IsTrue (O.state out.old).may_write }
     ensures ok { IfOk result (Recovered O.state L.told d stack.old out.old listing.old stack.new out.new listing.new) }
-    ensures err { IfErr result (EndsRecovering O.state L.told L.failed d.0 (parties stack.old out.old listing.old) (parties stack.new out.new listing.new)) }
+    ensures err { IfErr result (EndsRecovering O.state L.told d.0 (parties stack.old out.old listing.old) (parties stack.new out.new listing.new)) }
 {
     match recover_with(stack, d, out, listing, progress) {
         Ok(counts) => Ok(counts),
         Err(RecoveryFault::NoMemory) => Err(RecoveringFault::NoMemory),
         Err(RecoveryFault::Output) => Err(RecoveringFault::OutputFailed),
-        Err(RecoveryFault::Write) => Err(RecoveringFault::Write),
     }
 }
 
-/// Prints the counts where no sector is lost; else they are a fault.
+/// Prints the counts if no sector is lost; else they are a fault. After a line that couldn't be written it prints nothing.
 pub fn tell_counts<'a, W: Write>(
     counts: Counts,
     writer: &mut Counted<W>,
 ) -> Result<(), RecoveringFault<'a>>
-    ensures ok { OnOk result (PrintedBy W.contents writer.old writer.new (TellsCounts counts)) }
-    ensures err { IfErr result (EndsPrintedBy W.contents writer.old writer.new (IsCountsEnd counts)) }
+    ensures ok { OnOk result (TellsCountsBy W.contents writer.old writer.new counts) }
+    ensures err { IfErr result (EndsCounts W.contents writer.old writer.new counts) }
 {
+    if writer.failed() {
+        return Err(RecoveringFault::Write);
+    }
     let Counts { read, lost } = counts;
     if lost > 0 {
         return Err(RecoveringFault::Lost { read, lost });

@@ -7,8 +7,8 @@ use Rattle.stack_rules.specs.Names.{mapped, size}
 use Rattle.stack_engine.specs.Stacks.{StackRecord}
 use Rattle.stack_recovery.specs.declared.rescued.Rescued.{Rescued}
 use Rattle.rescue_files.specs.declared.fault.RescueFault.{RescueFault}
-use Rattle.rescue_files.specs.declared.fault.RescueFault.TheVariants.{NoMap, NoMemory, Output, TooLong, Unread, Unwritten, Write}
-use Rattle.rescue_files.specs.MapFiles.{recovery_ending}
+use Rattle.rescue_files.specs.declared.fault.RescueFault.TheVariants.{NoMap, NoMemory, Output, TooLong, Unread, Unwritten}
+use Rattle.rescue_files.specs.MapFiles.{MapPathRecord, recovery_ending}
 use Rattle.text_files.specs.declared.texts.ReplaceFault.{ReplaceFault}
 use Rattle.rescue_map.specs.declared.totals.Totals.{Totals}
 use Rattle.rescue_files.specs.Turns.{IsTurnsEnd, IsMapUnwritten, IsUnfailed, Kept, Progressed, RescuesInTurns, StopsIn, IsTurn, Turns, kept as kept_by, progressed}
@@ -51,21 +51,19 @@ err-from (Err e) P fault is holds = subst P (sym is) holds
 
 -- ---- a turn that ends early
 
-pub stops-rescue : {S : Type 0} (k : Kept S) (now : Progressed S) (before : List Bool) (new : Sides) (failed : Bool) (fault : RecoveryFault)
-    → IsRescueEnd before k.d now.sides new failed fault → StopsIn k now now.images new failed (recovery_ending fault)
-stops-rescue k now before new failed recovery.NoMemory e = (refl, e.unfailed)
-stops-rescue k now before new failed recovery.Output e = (refl, e.1.0, e.1.1)
-stops-rescue k now before new failed recovery.Write e = (refl, e)
+pub stops-rescue : {S : Type 0} (k : Kept S) (now : Progressed S) (before : List Bool) (new : Sides) (fault : RecoveryFault)
+    → IsRescueEnd before k.d now.sides new fault → StopsIn k now now.images new (recovery_ending fault)
+stops-rescue k now before new recovery.NoMemory e = (refl, e.unfailed)
+stops-rescue k now before new recovery.Output e = (refl, e.1.0, e.1.1)
 
-pub stops-unwritten : {S : Type 0} (k : Kept S) (now : Progressed S) (text : List ℕ) (images : S) (new : Sides) (failed : Bool) (fault : RescueFault)
-    → IsUnfailed now.sides new → IsMapUnwritten k.replaces k.path now.images text images fault → StopsIn k now images new failed fault
-stops-unwritten k now text images new failed NoMemory u e = (e, u)
-stops-unwritten k now text images new failed (Unread cause) u e = absurd e
-stops-unwritten k now text images new failed TooLong u e = absurd e
-stops-unwritten k now text images new failed (NoMap cause) u e = absurd e
-stops-unwritten k now text images new failed Output u e = absurd e
-stops-unwritten k now text images new failed Write u e = absurd e
-stops-unwritten k now text images new failed (Unwritten cause) u e = (text, e, u)
+pub stops-unwritten : {S : Type 0} (k : Kept S) (now : Progressed S) (text : List ℕ) (images : S) (new : Sides) (fault : RescueFault)
+    → IsUnfailed now.sides new → IsMapUnwritten k.replaces k.file.path now.images text images fault → StopsIn k now images new fault
+stops-unwritten k now text images new NoMemory u e = (e, u)
+stops-unwritten k now text images new (Unread cause) u e = absurd e
+stops-unwritten k now text images new TooLong u e = absurd e
+stops-unwritten k now text images new (NoMap cause) u e = absurd e
+stops-unwritten k now text images new Output u e = absurd e
+stops-unwritten k now text images new (Unwritten cause) u e = (text, e, u)
 
 -- the device stays one, of that size, which may be written
 pub rescued-out : (before : List Bool) (d : ℕ) (old : Sides) (rescued : Rescued) (new : Sides) → Rescues before d old rescued new → IsSameDevice old.out new.out
@@ -82,16 +80,16 @@ turn-out k old new t =
     (ap (λ (s : Sides). s.out.size) t.on_medium ∙ same.size, λ h. subst IsTrue (sym (ap (λ (s : Sides). s.out.may_write) t.on_medium ∙ same.may_write)) h)
 
 -- the size of the device as it was told
-pub ends-as : {S : Type 0} (replaces : S → List ℕ → List ℕ → Result (Unit {0}) ReplaceFault → S → Type 0) (path : List ℕ) (d m n : ℕ) (first now : Progressed S) (images : S) (new : Sides) (failed : Bool) (fault : RescueFault)
-    → m ≡ n → Turns (kept_by replaces path d m) first now → StopsIn (kept_by replaces path d m) now images new failed fault → IsTurnsEnd (kept_by replaces path d n) first images new failed fault
-ends-as replaces path d m n first now images new failed fault e t s =
-    subst (λ (k : ℕ). IsTurnsEnd (kept_by replaces path d k) first images new failed fault) e (record { now = now; turns = t; stops = s })
+pub ends-as : {S : Type 0} (replaces : S → List ℕ → List ℕ → Result (Unit {0}) ReplaceFault → S → Type 0) (file : MapPathRecord) (d m n : ℕ) (first now : Progressed S) (images : S) (new : Sides) (fault : RescueFault)
+    → m ≡ n → Turns (kept_by replaces file d m) first now → StopsIn (kept_by replaces file d m) now images new fault → IsTurnsEnd (kept_by replaces file d n) first images new fault
+ends-as replaces file d m n first now images new fault e t s =
+    subst (λ (k : ℕ). IsTurnsEnd (kept_by replaces file d k) first images new fault) e (record { now = now; turns = t; stops = s })
 
-pub whole-as : {S : Type 0} (replaces : S → List ℕ → List ℕ → Result (Unit {0}) ReplaceFault → S → Type 0) (path : List ℕ) (d m n at : ℕ) (first : Progressed S) (images : S) (new : Sides) (runs : List Run) (totals : Totals)
-    → m ≡ n → at ≡ m → Turns (kept_by replaces path d m) first (progressed images new runs at) → totals ≡ map_totals runs → RescuesInTurns (kept_by replaces path d n) first images new totals
-whole-as replaces path d m n at first images new runs totals e here t counted =
-    subst (λ (k : ℕ). RescuesInTurns (kept_by replaces path d k) first images new totals) e (record {
+pub whole-as : {S : Type 0} (replaces : S → List ℕ → List ℕ → Result (Unit {0}) ReplaceFault → S → Type 0) (file : MapPathRecord) (d m n at : ℕ) (first : Progressed S) (images : S) (new : Sides) (runs : List Run) (totals : Totals)
+    → m ≡ n → at ≡ m → Turns (kept_by replaces file d m) first (progressed images new runs at) → totals ≡ map_totals runs → RescuesInTurns (kept_by replaces file d n) first images new totals
+whole-as replaces file d m n at first images new runs totals e here t counted =
+    subst (λ (k : ℕ). RescuesInTurns (kept_by replaces file d k) first images new totals) e (record {
       runs = runs;
-      turns = subst (λ (k : ℕ). Turns (kept_by replaces path d m) first (progressed images new runs k)) here t;
+      turns = subst (λ (k : ℕ). Turns (kept_by replaces file d m) first (progressed images new runs k)) here t;
       counted = counted;
     })

@@ -1,5 +1,5 @@
 -- What is printed of map files.
-use Rattle.std.specs.Prelude.{ℕ, List, [], codes}
+use Rattle.std.specs.Prelude.{ℕ, List, codes}
 use Rattle.std.specs.Borrow.{Bor}
 use Rattle.io_fault_text.specs.Opening.{open_text}
 use Rattle.io_fault_text.specs.Texts.{no_memory, refused_text}
@@ -28,14 +28,13 @@ unreplaced_text replace.Write = refused_text 31 (codes "MapWrite")
 unreplaced_text replace.Sync = refused_text 32 (codes "MapSync")
 unreplaced_text replace.Rename = refused_text 33 (codes "MapRename")
 
--- by what ended it; nothing where the writer failed
+-- by what ended it
 abbrev pub rescue_text : Bor (List ℕ) → RescueFault → List ℕ
 rescue_text path rescue.NoMemory = no_memory
 rescue_text path (rescue.Unread fault) = open_text (record { fault = fault; path = path })
 rescue_text path rescue.TooLong = refused_text 30 (codes "MapTooLong")
 rescue_text path (rescue.NoMap fault) = no_map_text fault
 rescue_text path rescue.Output = codes "refused 2 Device\n"
-rescue_text path rescue.Write = []
 rescue_text path (rescue.Unwritten fault) = unreplaced_text fault
 
 abbrev pub map_fault_text : UnkeptMap → List ℕ

@@ -9,26 +9,29 @@ use Rattle.rescue_map.specs.MapText.{map_text}
 use Rattle.rescue_map.specs.declared.totals.Totals.{Totals}
 use Rattle.stack_recovery.specs.declared.rescued.Rescued.{Rescued}
 use Rattle.stack_rules.specs.Names.{mapped, size}
+use Rattle.stack_recovery.specs.Listings.{Listed}
 use Rattle.stack_recovery.specs.Recoveries.{Parties, Rescues, Sides, seen_sides, sides}
 use Rattle.text_files.specs.declared.texts.ReplaceFault.{ReplaceFault}
+use Rattle.rescue_files.specs.MapFiles.{MapPathRecord, map_path_of}
 use Rattle.rescue_files.specs.declared.map_file.MapFile.{MapFile}
+use Rattle.rescue_files.specs.declared.map_file.MapPath.{MapPath}
 use Rattle.rescue_files.specs.declared.turns.NextTurn.{NextTurn}
 use Rattle.rescue_files.specs.declared.fault.RescueFault.{RescueFault}
-use Rattle.rescue_files.specs.declared.fault.RescueFault.TheVariants.{NoMemory, Output, Unwritten, Write}
+use Rattle.rescue_files.specs.declared.fault.RescueFault.TheVariants.{NoMemory, Output, Unwritten}
 
 -- what puts bytes under a path
 abbrev pub Replaces : Type 0 → Type 1
 Replaces S = S → List ℕ → List ℕ → Result (Unit {0}) ReplaceFault → S → Type 0
 
--- a device of so many sectors, the path of its map, and what puts it there
+-- a device of so many sectors, its map file, and what puts a map there
 pub record Kept (S : Type 0) : Type 1 where
   pub replaces : Replaces S
-  pub path : List ℕ
+  pub file : MapPathRecord
   pub d : ℕ
   pub sectors : ℕ
 
-abbrev pub kept : {S : Type 0} → Replaces S → List ℕ → ℕ → ℕ → Kept S
-kept replaces path d sectors = record { replaces = replaces; path = path; d = d; sectors = sectors }
+abbrev pub kept : {S : Type 0} → Replaces S → MapPathRecord → ℕ → ℕ → Kept S
+kept replaces file d sectors = record { replaces = replaces; file = file; d = d; sectors = sectors }
 
 -- the opener, the stack with what is copied and printed, and the map; the sectors before `at` are done
 pub record Progressed (S : Type 0) : Type 0 where
@@ -70,7 +73,7 @@ pub record IsTurn {S : Type 0} (k : Kept S) (old new : Progressed S) : Type 0 wh
   pub rescues : Rescues (asked_marks span k.sectors old.runs) k.d old.sides rescued left
   pub on_medium : new.sides ≡ sides left.stack (synced left.out) left.printed
   pub map : marks new.runs ≡ spliced_marks span (marks old.runs) (marks rescued.map)
-  pub written : k.replaces old.images k.path (map_text (tried_before k.sectors new.at) new.runs) (Ok tt) new.images
+  pub written : k.replaces old.images k.file.path (map_text k.file.kind (tried_before k.sectors new.at) new.runs) (Ok tt) new.images
 
 -- all of the next sectors were had before, so that nothing is done
 pub record IsSkipped {S : Type 0} (k : Kept S) (old new : Progressed S) : Type 0 where
@@ -102,41 +105,39 @@ IsMapUnwritten replaces path old text new other = ⊥
 abbrev pub IsUnfailed : Sides → Sides → Type 0
 IsUnfailed old new = new.out.failures ≡ old.out.failures
 
--- why the turn behind some ended early, where the last but one says whether the writer failed: the map that stands is the last
--- one that was put in its place
-abbrev pub StopsIn : {S : Type 0} → Kept S → Progressed S → S → Sides → Bool → RescueFault → Type 0
-StopsIn k now images new failed NoMemory = (images ≡ now.images) × IsUnfailed now.sides new
-StopsIn k now images new failed Output = (images ≡ now.images) × HasFailed now.sides.out new.out × (IsTrue now.sides.out.never_fails → ⊥)
-StopsIn k now images new failed Write = (images ≡ now.images) × (failed ≡ true)
-StopsIn k now images new failed (Unwritten fault) = (text : List ℕ) × k.replaces now.images k.path text (Err fault) images × IsUnfailed now.sides new
-StopsIn k now images new failed other = ⊥
+-- why the turn after some ended early: the map that stands is the last one that was put in its place
+abbrev pub StopsIn : {S : Type 0} → Kept S → Progressed S → S → Sides → RescueFault → Type 0
+StopsIn k now images new NoMemory = (images ≡ now.images) × IsUnfailed now.sides new
+StopsIn k now images new Output = (images ≡ now.images) × HasFailed now.sides.out new.out × (IsTrue now.sides.out.never_fails → ⊥)
+StopsIn k now images new (Unwritten fault) = (text : List ℕ) × k.replaces now.images k.file.path text (Err fault) images × IsUnfailed now.sides new
+StopsIn k now images new other = ⊥
 
 -- some turns were ended, and the next one wasn't
-pub record IsTurnsEnd {S : Type 0} (k : Kept S) (first : Progressed S) (images : S) (new : Sides) (failed : Bool) (fault : RescueFault) : Type 0 where
+pub record IsTurnsEnd {S : Type 0} (k : Kept S) (first : Progressed S) (images : S) (new : Sides) (fault : RescueFault) : Type 0 where
   pub now : Progressed S
   pub turns : Turns k first now
-  pub stops : StopsIn k now images new failed fault
+  pub stops : StopsIn k now images new fault
 
 -- ---- as a call sees them
 
 -- a turn, which makes this map
-abbrev pub TakesTurn : {S O L : Type 0} → Replaces S → (O → Device) → (L → Option (List ℕ)) → ℕ → NextTurn → S → Parties O L → S → Parties O L → List Run → Type 0
+abbrev pub TakesTurn : {S O L : Type 0} → Replaces S → (O → Device) → (L → Listed) → ℕ → NextTurn → S → Parties O L → S → Parties O L → List Run → Type 0
 TakesTurn replaces state told d turn images old images' new map =
-    IsTurn (kept replaces turn.path.now d turn.sectors) (progressed images (seen_sides state told old) turn.map.now turn.span.first) (progressed images' (seen_sides state told new) map (turn.span.first + turn.span.count))
+    IsTurn (kept replaces (map_path_of turn.file) d turn.sectors) (progressed images (seen_sides state told old) turn.map.now turn.span.first) (progressed images' (seen_sides state told new) map (turn.span.first + turn.span.count))
 
-abbrev pub StopsTurn : {S O L : Type 0} → Replaces S → (O → Device) → (L → Option (List ℕ)) → (L → Bool) → ℕ → NextTurn → S → Parties O L → S → Parties O L → RescueFault → Type 0
-StopsTurn replaces state told failed d turn images old images' new fault =
-    StopsIn (kept replaces turn.path.now d turn.sectors) (progressed images (seen_sides state told old) turn.map.now turn.span.first) images' (seen_sides state told new) (failed new.listing) fault
+abbrev pub StopsTurn : {S O L : Type 0} → Replaces S → (O → Device) → (L → Listed) → ℕ → NextTurn → S → Parties O L → S → Parties O L → RescueFault → Type 0
+StopsTurn replaces state told d turn images old images' new fault =
+    StopsIn (kept replaces (map_path_of turn.file) d turn.sectors) (progressed images (seen_sides state told old) turn.map.now turn.span.first) images' (seen_sides state told new) fault
 
 -- all turns of a device by the map of a file
-abbrev pub RescuesByFile : {S O L : Type 0} → Replaces S → (O → Device) → (L → Option (List ℕ)) → ℕ → MapFile → S → Parties O L → S → Parties O L → Totals → Type 0
-RescuesByFile replaces state told d file images old images' new totals =
-    RescuesInTurns (kept replaces file.path.now d (size old.stack.config (mapped d))) (progressed images (seen_sides state told old) file.map 0) images' (seen_sides state told new) totals
+abbrev pub RescuesByFile : {S O L : Type 0} → Replaces S → (O → Device) → (L → Listed) → ℕ → MapFile → S → Parties O L → S → Parties O L → Totals → Type 0
+RescuesByFile replaces state told d kept_map images old images' new totals =
+    RescuesInTurns (kept replaces (map_path_of kept_map.file) d (size old.stack.config (mapped d))) (progressed images (seen_sides state told old) kept_map.map 0) images' (seen_sides state told new) totals
 
-abbrev pub StopsByFile : {S O L : Type 0} → Replaces S → (O → Device) → (L → Option (List ℕ)) → (L → Bool) → ℕ → MapFile → S → Parties O L → S → Parties O L → RescueFault → Type 0
-StopsByFile replaces state told failed d file images old images' new fault =
-    IsTurnsEnd (kept replaces file.path.now d (size old.stack.config (mapped d))) (progressed images (seen_sides state told old) file.map 0) images' (seen_sides state told new) (failed new.listing) fault
+abbrev pub StopsByFile : {S O L : Type 0} → Replaces S → (O → Device) → (L → Listed) → ℕ → MapFile → S → Parties O L → S → Parties O L → RescueFault → Type 0
+StopsByFile replaces state told d kept_map images old images' new fault =
+    IsTurnsEnd (kept replaces (map_path_of kept_map.file) d (size old.stack.config (mapped d))) (progressed images (seen_sides state told old) kept_map.map 0) images' (seen_sides state told new) fault
 
 -- the map of a file isn't replaced by this one
-abbrev pub LeavesMap : {S : Type 0} → Replaces S → List ℕ → S → Option ℕ → List Run → S → RescueFault → Type 0
-LeavesMap replaces path images tried map images' = IsMapUnwritten replaces path images (map_text tried map) images'
+abbrev pub LeavesMap : {S : Type 0} → Replaces S → MapPath → S → Option ℕ → List Run → S → RescueFault → Type 0
+LeavesMap replaces file images tried map images' = IsMapUnwritten replaces file.path.now images (map_text file.kind tried map) images'

@@ -3,10 +3,11 @@ ghost use Rattle.std.specs.Prelude.{◌≡◌, ◌≤◌, ◌<◌, length, IsTru
 ghost use Rattle.image_files.specs.Opener.{calls};
 ghost use Rattle.stack_rules.specs.Names.{mapped, size};
 ghost use Rattle.stack_recovery.specs.Recoveries.{sides};
+ghost use Rattle.rescue_files.specs.MapFiles.{map_path_of};
 ghost use Rattle.rescue_files.specs.ByMap.{IsMapEnd, IsRescued, IsUnrescued, counts_of, moving};
 
 use crate::fault::RescueFault;
-use crate::map_file::{MapFile, read_map};
+use crate::map_file::{MapFile, MapPath, read_map};
 use crate::turns::rescue_in_turns;
 use block_device::{BlockDev, SyncDev};
 use image_files::Images;
@@ -24,35 +25,43 @@ pub struct UnkeptMap<'a> {
     pub fault: RescueFault,
 }
 
-/// Goes over the sectors of the device that weren't had, as the map file under a path says, and keeps it; what is had is
-/// copied to another device.
+/// Goes over the sectors of the device that weren't had, as a map file says, and keeps it; what is had is copied to another
+/// device.
 pub fn rescue_by_map<'a, I: Images, D: BlockDev, O: SyncDev, L: Listing, P: Progress>(
     alloc: Global,
     images: &mut I,
     stack: &mut Stack<D>,
     device: DevId,
     out: &mut O,
-    path: &'a str,
+    file: MapPath<'a>,
     listing: &mut L,
     progress: &mut P,
 ) -> Result<Counts, UnkeptMap<'a>>
     requires device { device.0 < length stack.old.config.devices }
     requires room { size stack.old.config (mapped device.0) ≤ (O.state out.old).size }
     requires allowed { IsTrue (O.state out.old).may_write }
-    ensures ok { IfOk result (IsRescued (calls I.relations I.Dev.state images.old images.new) path.now device.0 (moving (sides stack.old (O.state out.old) (L.told listing.old)) (sides stack.new (O.state out.new) (L.told listing.new)))) }
-    ensures err { IfErr result (IsMapEnd path.now (IsUnrescued (calls I.relations I.Dev.state images.old images.new) path.now device.0 (moving (sides stack.old (O.state out.old) (L.told listing.old)) (sides stack.new (O.state out.new) (L.told listing.new))) (L.failed listing.new))) }
+    ensures ok { IfOk result (IsRescued (calls I.relations I.Dev.state images.old images.new) (map_path_of file.entry) device.0 (moving (sides stack.old (O.state out.old) (L.told listing.old)) (sides stack.new (O.state out.new) (L.told listing.new)))) }
+    ensures err { IfErr result (IsMapEnd file.entry.path.now (IsUnrescued (calls I.relations I.Dev.state images.old images.new) (map_path_of file.entry) device.0 (moving (sides stack.old (O.state out.old) (L.told listing.old)) (sides stack.new (O.state out.new) (L.told listing.new))))) }
 {
     // How many sectors a device can have is learned from a call.
     let _most = out.sectors();
     let sectors = stack.config().sectors(device);
-    let map = match read_map(alloc, images, path, sectors) {
+    let map = match read_map(alloc, images, file, sectors) {
         Ok(map) => map,
-        Err(fault) => return Err(UnkeptMap { path, fault }),
+        Err(fault) => {
+            return Err(UnkeptMap {
+                path: file.path,
+                fault,
+            });
+        }
     };
-    let file = MapFile { path, map };
-    match rescue_in_turns(alloc, images, stack, device, out, file, listing, progress) {
+    let kept = MapFile { file, map };
+    match rescue_in_turns(alloc, images, stack, device, out, kept, listing, progress) {
         Ok(totals) => Ok(counts_of(totals)),
-        Err(fault) => Err(UnkeptMap { path, fault }),
+        Err(fault) => Err(UnkeptMap {
+            path: file.path,
+            fault,
+        }),
     }
 }
 

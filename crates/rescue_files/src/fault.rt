@@ -22,8 +22,6 @@ pub enum RescueFault {
     NoMap(MapFault),
     /// The device failed to which the sectors are copied.
     Output,
-    /// A line can't be written.
-    Write,
     /// The map file can't be replaced.
     Unwritten(ReplaceFault),
 }
@@ -59,7 +57,6 @@ impl From<RecoveryFault> for RescueFault {
         match fault {
             RecoveryFault::NoMemory => RescueFault::NoMemory,
             RecoveryFault::Output => RescueFault::Output,
-            RecoveryFault::Write => RescueFault::Write,
         }
     }
 }

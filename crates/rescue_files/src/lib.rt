@@ -9,6 +9,6 @@ mod turns;
 
 pub use by_map::{UnkeptMap, rescue_by_map};
 pub use fault::RescueFault;
-pub use map_file::{MapFile, read_map};
+pub use map_file::{MapFile, MapPath, read_map};
 pub use map_texts::say_map_fault;
 pub use turns::rescue_in_turns;

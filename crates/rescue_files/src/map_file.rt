@@ -2,25 +2,33 @@
 ghost use Rattle.std.specs.Prelude.{◌≡◌, ◌^◌, ◌≤◌, false, length, replicate, IfOk, IfErr};
 ghost use Rattle.image_files.specs.Opener.{calls};
 ghost use Rattle.rescue_map.specs.Maps.{marks};
-ghost use Rattle.rescue_files.specs.MapFiles.{IsMapUnread, ReadsMap, is_missing};
+ghost use Rattle.rescue_files.specs.MapFiles.{IsMapOfText, IsMapUnread, IsTextUnread, ReadsMap, continues, is_missing};
 ghost use Rattle.rescue_files.specs.declared.fault.RescueFault.TheVariants as rescue_fault;
 
 use crate::fault::RescueFault;
 use block_device::OpenFault;
 use image_files::Images;
-use rescue_map::{Map, parse_map};
+use rescue_map::{Map, MapKind, kind_of, parse_map};
 use std::alloc::Global;
 
 const MOST_TEXT: usize = 1 << 24;
 
+/// The path of a map file, and what its map is of.
+#[derive(Clone, Copy, Debug, PartialEq, Eq)]
+pub struct MapPath<'a> {
+    pub path: &'a str,
+    pub kind: MapKind,
+}
+
 /// A map of a device, which is kept under a path.
 #[derive(Drop)]
 pub struct MapFile<'a> {
-    pub path: &'a str,
+    pub file: MapPath<'a>,
     pub map: Map,
 }
 
-/// The map of a device of so many sectors that stands under a path. Where there is no file, no sector was had.
+/// The map of a device of so many sectors in a file. If there is no file, no sector was had; nor if the file has a scan's map
+/// and the map is to be a copy's.
 ///
 /// # Errors
 ///
@@ -28,23 +36,20 @@ pub struct MapFile<'a> {
 pub fn read_map<I: Images>(
     alloc: Global,
     images: &mut I,
-    path: &str,
+    file: MapPath<'_>,
     sectors: u64,
 ) -> Result<Map, RescueFault>
     requires { sectors ≤ 2 ^ 54 }
-    ensures ok { IfOk result (ReadsMap I.relations I.Dev.state images.old images.new path.now sectors) }
+    ensures ok { IfOk result (ReadsMap I.relations I.Dev.state images.old images.new file.entry sectors) }
     ensures sectors { IfOk result (λ map. length (marks map) ≡ sectors) }
-    ensures err { IfErr result (IsMapUnread (calls I.relations I.Dev.state images.old images.new) path.now sectors) }
+    ensures err { IfErr result (IsMapUnread (calls I.relations I.Dev.state images.old images.new) file.entry.path.now sectors) }
 {
-    match images.read_text(path, MOST_TEXT + 1) {
+    match images.read_text(file.path, MOST_TEXT + 1) {
         Ok(text) => {
             if text.bytes.len() > MOST_TEXT {
                 return Err(RescueFault::TooLong);
             }
-            match parse_map(alloc, text.bytes.as_slice(), sectors) {
-                Ok(map) => Ok(map),
-                Err(fault) => Err(RescueFault::NoMap(fault)),
-            }
+            map_in(alloc, file.kind, text.bytes.as_slice(), sectors)
         }
         Err(fault) => {
             if is_missing(fault) {
@@ -52,6 +57,33 @@ pub fn read_map<I: Images>(
             }
             Err(RescueFault::Unread(fault))
         }
+    }
+}
+
+// The map in a text, or one of no sector that was had if a map of the kind doesn't continue it.
+fn map_in(alloc: Global, kind: MapKind, text: &[u8], sectors: u64) -> Result<Map, RescueFault>
+    requires { sectors ≤ 2 ^ 54 }
+    ensures ok { IfOk result (IsMapOfText kind text.now sectors) }
+    ensures sectors { IfOk result (λ map. length (marks map) ≡ sectors) }
+    ensures err { IfErr result (IsTextUnread text.now sectors) }
+{
+    let map = match parse_map(alloc, text, sectors) {
+        Ok(map) => map,
+        Err(fault) => return Err(RescueFault::NoMap(fault)),
+    };
+    if continues(kind, kind_of(text)) {
+        return Ok(map);
+    }
+    new_map(alloc, sectors)
+}
+
+// Whether a map of a kind continues one that was read: a copy's doesn't continue a scan's, whose `+` isn't in the copy.
+fn continues(kind: MapKind, read: MapKind) -> bool
+    ensures { result ≡ continues kind read }
+{
+    match (kind, read) {
+        (MapKind::Copy, MapKind::Scan) => false,
+        _ => true,
     }
 }
 

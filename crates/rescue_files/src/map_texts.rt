@@ -12,7 +12,7 @@ use rescue_map::MapFault;
 use std::io::Write;
 use text_files::ReplaceFault;
 
-/// One line, or none where the writer failed.
+/// One line.
 pub fn say_map_fault<W: Write>(
     writer: &mut Counted<W>,
     map: UnkeptMap<'_>,
@@ -26,7 +26,6 @@ pub fn say_map_fault<W: Write>(
         RescueFault::TooLong => say_refused(writer, 30, "MapTooLong"),
         RescueFault::NoMap(fault) => say_no_map(writer, fault),
         RescueFault::Output => writer.put(b"refused 2 Device\n"),
-        RescueFault::Write => Ok(()),
         RescueFault::Unwritten(fault) => say_unreplaced(writer, fault),
     }
 }

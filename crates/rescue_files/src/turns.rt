@@ -7,7 +7,7 @@ ghost use Rattle.stack_recovery.specs.Recoveries.{parties};
 ghost use Rattle.rescue_files.specs.Turns.{IsSpan, LeavesMap, RescuesByFile, StopsByFile, StopsTurn, TakesTurn, asked_marks, tried_before, turn_len};
 
 use crate::fault::RescueFault;
-use crate::map_file::MapFile;
+use crate::map_file::{MapFile, MapPath};
 use block_device::{BlockDev, SyncDev};
 use image_files::Images;
 use progress::Progress;
@@ -53,15 +53,15 @@ fn tried_before(sectors: u64, at: u64) -> Option<u64>
 fn write_map<I: Images>(
     alloc: Global,
     images: &mut I,
-    path: &str,
+    file: MapPath<'_>,
     map: &Map,
     tried: Option<u64>,
 ) -> Result<(), RescueFault>
-    ensures ok { OnOk result (I.relations.replaces images.old path.now (map_text tried map.now) (Ok tt) images.new) }
-    ensures err { IfErr result (LeavesMap I.relations.replaces path.now images.old tried map.now images.new) }
+    ensures ok { OnOk result (I.relations.replaces images.old file.entry.path.now (map_text file.entry.kind tried map.now) (Ok tt) images.new) }
+    ensures err { IfErr result (LeavesMap I.relations.replaces file.entry images.old tried map.now images.new) }
 {
-    let text = print_map(alloc, map, tried)?;
-    Ok(images.replace(path, text.as_slice())?)
+    let text = print_map(alloc, file.kind, map, tried)?;
+    Ok(images.replace(file.path, text.as_slice())?)
 }
 
 /// A turn: the sectors that are asked in it, and the maps before it.
@@ -69,7 +69,7 @@ fn write_map<I: Images>(
 struct NextTurn<'a> {
     span: Span,
     sectors: u64,
-    path: &'a str,
+    file: MapPath<'a>,
     map: &'a Map,
     wanted: &'a Map,
 }
@@ -94,13 +94,13 @@ fn take_turn<I: Images, D: BlockDev, O: SyncDev, L: Listing, P: Progress>(
     requires allowed { IsTrue (O.state out.old).may_write }
     ensures ok { IfOk result (TakesTurn I.relations.replaces O.state L.told d.0 turn.entry images.old (parties stack.old out.old listing.old) images.new (parties stack.new out.new listing.new)) }
     ensures sectors { IfOk result (λ map. length (marks map) ≡ turn.entry.sectors) }
-    ensures err { IfErr result (StopsTurn I.relations.replaces O.state L.told L.failed d.0 turn.entry images.old (parties stack.old out.old listing.old) images.new (parties stack.new out.new listing.new)) }
+    ensures err { IfErr result (StopsTurn I.relations.replaces O.state L.told d.0 turn.entry images.old (parties stack.old out.old listing.old) images.new (parties stack.new out.new listing.new)) }
 {
     let rescued = rescue(alloc, stack, d, out, turn.wanted, listing, progress)?;
     out.sync()?;
     let map = splice(alloc, turn.map, &rescued.map, turn.span, turn.sectors)?;
     let tried = tried_before(turn.sectors, turn.span.first + turn.span.count);
-    write_map(alloc, images, turn.path, &map, tried)?;
+    write_map(alloc, images, turn.file, &map, tried)?;
     Ok(map)
 }
 
@@ -118,19 +118,19 @@ pub fn rescue_in_turns<I: Images, D: BlockDev, O: SyncDev, L: Listing, P: Progre
     stack: &mut Stack<D>,
     d: DevId,
     out: &mut O,
-    file: MapFile<'_>,
+    kept: MapFile<'_>,
     listing: &mut L,
     progress: &mut P,
 ) -> Result<Totals, RescueFault>
     requires device { d.0 < length stack.old.config.devices }
-    requires fits { length (marks file.map) ≡ size stack.old.config (mapped d.0) }
+    requires fits { length (marks kept.map) ≡ size stack.old.config (mapped d.0) }
     requires room { size stack.old.config (mapped d.0) ≤ (O.state out.old).size }
     requires allowed { IsTrue (O.state out.old).may_write }
-    ensures ok { IfOk result (RescuesByFile I.relations.replaces O.state L.told d.0 file.entry images.old (parties stack.old out.old listing.old) images.new (parties stack.new out.new listing.new)) }
-    ensures err { IfErr result (StopsByFile I.relations.replaces O.state L.told L.failed d.0 file.entry images.old (parties stack.old out.old listing.old) images.new (parties stack.new out.new listing.new)) }
+    ensures ok { IfOk result (RescuesByFile I.relations.replaces O.state L.told d.0 kept.entry images.old (parties stack.old out.old listing.old) images.new (parties stack.new out.new listing.new)) }
+    ensures err { IfErr result (StopsByFile I.relations.replaces O.state L.told d.0 kept.entry images.old (parties stack.old out.old listing.old) images.new (parties stack.new out.new listing.new)) }
 {
     let sectors = stack.config().sectors(d);
-    let MapFile { path, mut map } = file;
+    let MapFile { file, mut map } = kept;
     let mut at = 0;
     'turns: while at < sectors {
         let count = turn_len(sectors).min(sectors - at);
@@ -142,7 +142,7 @@ pub fn rescue_in_turns<I: Images, D: BlockDev, O: SyncDev, L: Listing, P: Progre
             let turn = NextTurn {
                 span,
                 sectors,
-                path,
+                file,
                 map: &map,
                 wanted: &wanted,
             };

@@ -1,12 +1,13 @@
 -- A map that was printed reads back.
-use Rattle.std.proofs.Common.{◌≡◌, ℕ, ◌+◌, ◌-◌, ◌*◌, ◌/◌, ◌%◌, ◌^◌, ◌<◌, ◌≤◌, Bool, true, false, not, ◌&&◌, ◌||◌, cond, eqb, ltb, leb, List, [], ◌∷◌, ◌++◌, length, take, filter, map, get_or, codes, decimal, All, Option, Some, None, Ok, Err, Result, refl, ap, ap₂, sym, subst, ◌∙◌, inl, inr, append_assoc, arith}
-use Rattle.std.specs.Prelude.{◌⊎◌}
+use Rattle.std.proofs.Common.{◌≡◌, ℕ, ◌+◌, ◌-◌, ◌*◌, ◌/◌, ◌%◌, ◌^◌, ◌<◌, ◌≤◌, Bool, true, false, not, ◌&&◌, ◌||◌, eqb, ltb, List, [], ◌∷◌, ◌++◌, length, take, filter, map, get_or, codes, decimal, All, Option, Some, None, Ok, Result, refl, ap, sym, ◌∙◌, inl, inr, append_assoc, arith}
 use Rattle.std.specs.List.{list_all, join_with_byte, slice_split, starts_with}
 use Rattle.std.specs.Cmp.Lexicographic.{pointwise}
 use Rattle.std.specs.Char.{is_ascii_digit}
+use Rattle.std.specs.Str.{bytes_eq}
 use Rattle.std.specs.Str.Parse.{digits_value, AllDigits}
-use Rattle.std.proofs.lemmas.Bool.{cases_lt, cond-true, cond-false, and_from, eq-eqb, le-leb, le-ltb, lt-ltb, ne_eqb}
+use Rattle.std.proofs.lemmas.Bool.{false≢true, cases_lt, cond-true, cond-false, and_from, eq-eqb, le-leb, le-ltb, lt-ltb, ne_eqb}
 use Rattle.std.proofs.lemmas.Fmt.{decimal_by_steps, decimal_is_IsNumeral}
+use Rattle.std.proofs.lemmas.Slice.Eq.{bytes_eq-Decides}
 use Rattle.std.proofs.lemmas.Str.Parse.{digit_from_value}
 use Rattle.std.proofs.lemmas.List.{get_or_append_left, length-append, length-replicate}
 use Rattle.std.proofs.lemmas.List.Elements.{All-nil, All-cons, All-append, All-head, All-tail}
@@ -18,11 +19,13 @@ use Rattle.dm_table.specs.Words.{Word, is_white, text_lines, words}
 use Rattle.dm_table.proofs.lemmas.ReadLineLemmas.{number-some}
 use Rattle.rescue_map.specs.declared.block.Block.{Block}
 use Rattle.rescue_map.specs.declared.fault.MapFault.{MapFault}
-use Rattle.rescue_map.specs.declared.fault.MapFault.TheVariants as fault
+use Rattle.rescue_map.specs.declared.kind.MapKind.{MapKind}
+use Rattle.rescue_map.specs.declared.kind.MapKind.TheVariants.{Copy, Scan}
 use Rattle.rescue_map.specs.declared.map.Run.{Run}
 use Rattle.rescue_map.specs.Blocks.{block_from, map_block, is_status, is_whole_block, run_at, status_of}
+use Rattle.rescue_map.specs.Kinds.{kind_in, kind_of, mark_text, scan_mark}
 use Rattle.rescue_map.specs.Maps.{AreRuns, marks}
-use Rattle.rescue_map.specs.MapText.{is_tried, map_of, map_text, map_run_text, run_words, runs_behind, map_runs_from, map_runs_text, said, status_text, status_word}
+use Rattle.rescue_map.specs.MapText.{blocks_text, is_tried, map_of, map_text, map_run_text, run_words, runs_behind, map_runs_from, map_runs_text, said, status_text, status_word}
 use Rattle.rescue_map.specs.Numbers.{has_base, map_number}
 
 -- ---- words
@@ -227,16 +230,67 @@ head-one (Some tried) =
     let P = λ (b : ℕ). eqb b 10 ≡ false in
     All-cons P 48 (32 ∷ 63 ∷ []) refl (All-cons P 32 (63 ∷ []) refl (All-cons P 63 [] refl (All-nil P)))
 
--- what was printed gives the runs back
-pub map-read : (tried : Option ℕ) (runs : List Run) → AreRuns runs → map_of (length (marks runs)) (map_text tried runs) ≡ Ok runs
-unfolding map_of map_text text_lines
-map-read tried runs whole =
+blocks-read : (tried : Option ℕ) (runs : List Run) → AreRuns runs → runs_behind (length (marks runs)) (said (slice_split (λ b. eqb b 10) (blocks_text tried runs))) ≡ Ok runs
+blocks-read tried runs whole =
     let sectors : ℕ = length (marks runs) in
     let rest : List (List ℕ) = slice_split (λ b. eqb b 10) (map_runs_text tried 0 runs) in
     ap (λ (l : List (List ℕ)). runs_behind sectors (said l)) (split-line (status_text tried) (map_runs_text tried 0 runs) (head-one tried))
     ∙ ap (runs_behind sectors) (said-line (status_text tried) (codes "0" ∷ state-word tried ∷ []) rest (head-words tried) refl)
     ∙ cond-true (is_status (codes "0" ∷ state-word tried ∷ [])) _ _ (head-status tried)
     ∙ runs-read tried sectors 0 runs whole.some (omega arith) whole.few
+
+-- ---- marks
+
+mark-one : All (λ b. eqb b 10 ≡ false) scan_mark
+mark-one =
+    let P = λ (b : ℕ). eqb b 10 ≡ false in
+    All-cons P 35 (codes " dmstack scan") refl (All-cons P 32 (codes "dmstack scan") refl (All-cons P 100 (codes "mstack scan") refl (All-cons P 109 (codes "stack scan") refl
+    (All-cons P 115 (codes "tack scan") refl (All-cons P 116 (codes "ack scan") refl (All-cons P 97 (codes "ck scan") refl (All-cons P 99 (codes "k scan") refl (All-cons P 107 (codes " scan") refl
+    (All-cons P 32 (codes "scan") refl (All-cons P 115 (codes "can") refl (All-cons P 99 (codes "an") refl (All-cons P 97 (codes "n") refl (All-cons P 110 [] refl (All-nil P))))))))))))))
+
+mark-skipped : is_skipped (words scan_mark) ≡ true
+unfolding words
+mark-skipped = refl
+
+-- a line that isn't skipped is no mark
+no_mark : (line : List ℕ) (ws : List Word) → words line ≡ ws → is_skipped ws ≡ false → bytes_eq line scan_mark ≡ false
+no_mark line ws e kept =
+    not_true (bytes_eq line scan_mark) (λ is. false≢true (sym kept ∙ ap is_skipped (sym e) ∙ ap (λ (l : List ℕ). is_skipped (words l)) ((bytes_eq-Decides line scan_mark).0 is) ∙ mark-skipped))
+  where
+    not_true : (b : Bool) → (b ≡ true → ⊥) → b ≡ false
+    not_true true h = absurd (h refl)
+    not_true false h = refl
+
+kind-line : (line : List ℕ) (ws : List Word) (more : List (List ℕ)) → words line ≡ ws → is_skipped ws ≡ false → kind_in (line ∷ more) ≡ kind_in more
+kind-line line ws more e kept = cond-false (bytes_eq line scan_mark) _ _ (no_mark line ws e kept)
+
+kind-runs : (tried : Option ℕ) (at : ℕ) (runs : List Run) → at + length (marks runs) ≤ 2 ^ 54 → kind_in (slice_split (λ b. eqb b 10) (map_runs_text tried at runs)) ≡ Copy
+kind-runs tried at [] few = refl
+kind-runs tried at (run ∷ more) few =
+    let len = length-marks run more in
+    let room : at + run.count ≤ 2 ^ 54 = omega (arith, len, few) in
+    ap kind_in (split-line (join_with_byte 32 (run_words tried at run)) (map_runs_text tried (at + run.count) more) (line-one tried at run room))
+    ∙ kind-line (join_with_byte 32 (run_words tried at run)) (run_words tried at run) (slice_split (λ b. eqb b 10) (map_runs_text tried (at + run.count) more)) (line-words tried at run room) (line-said tried at run room)
+    ∙ kind-runs tried (at + run.count) more (omega (arith, len, few))
+
+kind-blocks : (tried : Option ℕ) (runs : List Run) → AreRuns runs → kind_in (slice_split (λ b. eqb b 10) (blocks_text tried runs)) ≡ Copy
+kind-blocks tried runs whole =
+    ap kind_in (split-line (status_text tried) (map_runs_text tried 0 runs) (head-one tried))
+    ∙ kind-line (status_text tried) (codes "0" ∷ state-word tried ∷ []) (slice_split (λ b. eqb b 10) (map_runs_text tried 0 runs)) (head-words tried) refl
+    ∙ kind-runs tried 0 runs (omega (arith, whole.few))
+
+-- what was printed gives the runs back
+pub map-read : (kind : MapKind) (tried : Option ℕ) (runs : List Run) → AreRuns runs → map_of (length (marks runs)) (map_text kind tried runs) ≡ Ok runs
+unfolding map_of map_text text_lines words
+map-read Copy tried runs whole = blocks-read tried runs whole
+map-read Scan tried runs whole =
+    ap (λ (l : List (List ℕ)). runs_behind (length (marks runs)) (said l)) (split-line scan_mark (blocks_text tried runs) mark-one) ∙ blocks-read tried runs whole
+
+-- and its kind
+pub map-kind : (kind : MapKind) (tried : Option ℕ) (runs : List Run) → AreRuns runs → kind_of (map_text kind tried runs) ≡ kind
+unfolding kind_of map_text text_lines
+map-kind Copy tried runs whole = kind-blocks tried runs whole
+map-kind Scan tried runs whole = ap kind_in (split-line scan_mark (blocks_text tried runs) mark-one)
 
 append-end : (l : List ℕ) → l ++ [] ≡ l
 append-end [] = refl
@@ -249,12 +303,16 @@ runs_text-push tried at (x ∷ more) run =
     ap (λ (l : List ℕ). map_run_text tried at x ++ l) (runs_text-push tried (at + x.count) more run ∙ ap (λ (n : ℕ). map_runs_text tried (at + x.count) more ++ map_run_text tried n run) here)
     ∙ sym (append_assoc (map_run_text tried at x) (map_runs_text tried (at + x.count) more) (map_run_text tried (at + length (marks (x ∷ more))) run))
 
--- one run more
-pub map_text-push : (tried : Option ℕ) (runs : List Run) (run : Run) → map_text tried runs ++ map_run_text tried (length (marks runs)) run ≡ map_text tried (runs ++ run ∷ [])
-unfolding map_text
-map_text-push tried runs run =
+blocks_text-push : (tried : Option ℕ) (runs : List Run) (run : Run) → blocks_text tried runs ++ map_run_text tried (length (marks runs)) run ≡ blocks_text tried (runs ++ run ∷ [])
+blocks_text-push tried runs run =
     append_assoc (status_text tried ++ 10 ∷ []) (map_runs_text tried 0 runs) (map_run_text tried (length (marks runs)) run)
     ∙ ap (λ (l : List ℕ). (status_text tried ++ 10 ∷ []) ++ l) (ap (λ (n : ℕ). map_runs_text tried 0 runs ++ map_run_text tried n run) zero-more ∙ sym (runs_text-push tried 0 runs run))
   where
     zero-more : length (marks runs) ≡ 0 + length (marks runs)
     zero-more = omega arith
+
+-- one run more
+pub map_text-push : (kind : MapKind) (tried : Option ℕ) (runs : List Run) (run : Run) → map_text kind tried runs ++ map_run_text tried (length (marks runs)) run ≡ map_text kind tried (runs ++ run ∷ [])
+unfolding map_text
+map_text-push kind tried runs run =
+    append_assoc (mark_text kind) (blocks_text tried runs) (map_run_text tried (length (marks runs)) run) ∙ ap (λ (l : List ℕ). mark_text kind ++ l) (blocks_text-push tried runs run)

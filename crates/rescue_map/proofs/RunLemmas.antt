@@ -1,5 +1,5 @@
 -- Runs of a map, and the marks of their sectors.
-use Rattle.std.proofs.Common.{◌≡◌, ℕ, zero, suc, ◌+◌, ◌≤◌, ◌<◌, ◌^◌, Bool, true, false, cond, List, [], ◌∷◌, ◌++◌, length, take, drop, get_or, set, replicate, All, refl, sym, ap, ap₂, subst, ◌∙◌, append-nil, append_assoc, take-append-drop, arith}
+use Rattle.std.proofs.Common.{◌≡◌, ℕ, zero, suc, ◌+◌, ◌≤◌, ◌<◌, ◌^◌, Bool, true, false, cond, List, [], ◌∷◌, ◌++◌, length, take, drop, get_or, set, replicate, refl, sym, ap, subst, ◌∙◌, append-nil, append_assoc, take-append-drop, arith}
 use Rattle.std.proofs.Math.Bool.{beq}
 use Rattle.std.proofs.lemmas.List.{length-append, length-replicate, length-set, replicate-append-replicate, take_all, take_more, take_more_set}
 use Rattle.std.proofs.lemmas.List.Concat.{flat_map-append}

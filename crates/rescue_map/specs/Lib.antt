@@ -1,5 +1,6 @@
 pub mod Aheads
 pub mod Blocks
+pub mod Kinds
 pub mod MapText
 pub mod Maps
 pub mod Numbers

@@ -6,8 +6,10 @@ use Rattle.dm_table.specs.TableText.{is_skipped}
 use Rattle.dm_table.specs.Words.{Word, text_lines, words}
 use Rattle.rescue_map.specs.declared.fault.MapFault.{MapFault}
 use Rattle.rescue_map.specs.declared.fault.MapFault.TheVariants as fault
+use Rattle.rescue_map.specs.declared.kind.MapKind.{MapKind}
 use Rattle.rescue_map.specs.declared.map.Run.{Run}
 use Rattle.rescue_map.specs.Blocks.{map_block, is_status, run_at}
+use Rattle.rescue_map.specs.Kinds.{mark_text}
 
 -- the words of the lines that say something: not of comments, nor of lines without a word
 abbrev pub said : List (List ℕ) → List (List Word)
@@ -58,9 +60,13 @@ abbrev pub status_text : Option ℕ → List ℕ
 status_text None = codes "0 +"
 status_text (Some tried) = codes "0 ?"
 
--- behind a status line
-unfoldable pub map_text : Option ℕ → List Run → List ℕ
-map_text tried runs = (status_text tried ++ 10 ∷ []) ++ map_runs_text tried 0 runs
+-- after a status line
+abbrev pub blocks_text : Option ℕ → List Run → List ℕ
+blocks_text tried runs = (status_text tried ++ 10 ∷ []) ++ map_runs_text tried 0 runs
+
+-- a map of a kind, whose mark is a comment
+unfoldable pub map_text : MapKind → Option ℕ → List Run → List ℕ
+map_text kind tried runs = mark_text kind ++ blocks_text tried runs
 
 -- the result is what the text says, unless memory ran out
 abbrev pub IsMapAnswer : Result (List Run) MapFault → Result (List Run) MapFault → Type 0

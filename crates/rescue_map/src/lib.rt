@@ -4,6 +4,7 @@
 mod ahead;
 mod block;
 mod fault;
+mod kind;
 mod lines;
 mod map;
 mod numbers;
@@ -14,6 +15,7 @@ mod totals;
 
 pub use ahead::Ahead;
 pub use fault::MapFault;
+pub use kind::{MapKind, kind_of};
 pub use map::{Map, Run};
 pub use print::print_map;
 pub use splicing::{Span, splice};

@@ -43,8 +43,8 @@ impl<'a> Lines<'a> {
         Lines { rest: Some(text) }
     }
 
-    // Takes the first line. Without one it is at its end, and stays there.
-    fn next_line(&mut self) -> Option<&'a [u8]>
+    /// Takes the first line. Without one it is at its end, and stays there.
+    pub(crate) fn next_line(&mut self) -> Option<&'a [u8]>
         ensures { MatchOption result
             ((self.old ≡ []) × (self.new ≡ []))
             (λ line. self.old ≡ line.now ∷ self.new) }

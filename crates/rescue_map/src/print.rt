@@ -1,29 +1,47 @@
 //! Map files printed.
 ghost use Rattle.std.specs.Prelude.{◌≡◌, ◌+◌, ◌++◌, ◌≤◌, ◌^◌, [], ◌∷◌, IfOk, Ok, OnOk, decimal, length};
+ghost use Rattle.rescue_map.specs.Kinds.{kind_of, mark_text};
 ghost use Rattle.rescue_map.specs.Maps.{marks};
 ghost use Rattle.rescue_map.specs.MapText.{is_tried, map_of, map_text, map_run_text, status_text, status_word};
 
+use crate::kind::MapKind;
 use crate::map::{Map, Run};
 use itoa::Buffer;
 use std::alloc::{AllocError, Global};
 
-/// A status line, and a line for each run, in bytes. Where all sectors were tried it is finished; where those before one
-/// were, it is copying, and a run of sectors that weren't had is one of bad ones only if it ends there or before.
+/// A map of a kind: a scan's mark, a status line, and a line for each run, in bytes. If all sectors were tried, it is finished.
+/// If those before one were tried, it is copying, and a run of sectors that weren't had is bad only if it ends there or before.
 ///
 /// # Errors
 ///
 /// Memory for the text was refused.
-pub fn print_map(alloc: Global, map: &Map, tried: Option<u64>) -> Result<Vec<u8>, AllocError>
-    ensures text { IfOk result (λ text. text.items ≡ map_text tried map.now) }
+pub fn print_map(
+    alloc: Global,
+    kind: MapKind,
+    map: &Map,
+    tried: Option<u64>,
+) -> Result<Vec<u8>, AllocError>
+    ensures text { IfOk result (λ text. text.items ≡ map_text kind tried map.now) }
+    ensures kind { IfOk result (λ text. kind_of text.items ≡ kind) }
     ensures reads_back { IfOk result (λ text. map_of (length (marks map.now)) text.items ≡ Ok map.now) }
 {
-    let mut text = Vec::from_slice(alloc, status_line(tried))?;
+    let mut text = Vec::from_slice(alloc, mark_line(kind))?;
+    text.extend_from_slice(status_line(tried))?;
     let mut at = 0;
     for run in map.runs() {
         print_run(&mut text, tried, at, *run)?;
         at += run.count;
     }
     Ok(text)
+}
+
+fn mark_line(kind: MapKind) -> &'static [u8]
+    ensures { result.now ≡ mark_text kind }
+{
+    match kind {
+        MapKind::Copy => b"",
+        MapKind::Scan => b"# dmstack scan\n",
+    }
 }
 
 fn status_line(tried: Option<u64>) -> &'static [u8]

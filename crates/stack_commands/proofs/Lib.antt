@@ -1,5 +1,6 @@
 pub mod EndingLemmas
 pub mod KeptLemmas
+pub mod ListedLemmas
 pub mod OpeningLemmas
 mod RepairingLemmas
 pub mod ServeLemmas

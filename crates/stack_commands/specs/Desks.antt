@@ -1,6 +1,6 @@
 -- What the functions of the commands that print do with what they are lent (`Desk`): it is said of the opener and the writer
 -- before the call, and of what stands behind the two references after it.
-use Rattle.std.specs.Prelude.{◌≡◌, ◌⊎◌, ℕ, Bool, true, List, Option, Some, ⊤}
+use Rattle.std.specs.Prelude.{◌≡◌, ◌⊎◌, ℕ, Bool, true, List, Option, ⊤}
 use Rattle.std.specs.Borrow.{MutBor}
 use Rattle.std.specs.Io.KnownBytes.{Appends}
 use Rattle.block_device.specs.Device.{Device}
@@ -25,6 +25,7 @@ use Rattle.command_line.specs.words.Verify.{verify_record}
 use Rattle.image_files.specs.Opener.{Calls, Opener, calls}
 use Rattle.recovery_commands.specs.declared.output.Output.{Output}
 use Rattle.recovery_commands.specs.Copies.{CopyWords as OutputWords, copy_words}
+use Rattle.recovery_commands.specs.Recovering.{listed_by}
 use Rattle.recovery_commands.specs.Scans.{Scans}
 use Rattle.repair_commands.specs.declared.pair.RepairPlaces.{RepairPlaces}
 use Rattle.repair_commands.specs.ByParity.{RepairsByParity}
@@ -33,18 +34,16 @@ use Rattle.repair_commands.specs.Pairs.{places_of}
 use Rattle.request_commands.specs.Requests.{read_request, write_request}
 use Rattle.request_commands.specs.Writes.{PutWords, put_words}
 use Rattle.rescue_files.specs.declared.by_map.UnkeptMap.{UnkeptMap}
-use Rattle.rescue_files.specs.ByMap.{IsMapEnd, IsRescued, IsUnrescued, Moving, moving}
+use Rattle.rescue_files.specs.ByMap.{IsMapEnd, Moving, moving}
 use Rattle.stack_engine.specs.Stacks.{StackRecord}
 use Rattle.stack_json.specs.Lines.{load_text}
 use Rattle.stack_making.specs.declared.device.NamedDevice.{NamedDevice}
 use Rattle.stack_making.specs.NamedDevices.{DeviceWords, device_words}
 use Rattle.stack_opening.specs.declared.stack_file.StackFile.{StackFile}
 use Rattle.stack_opening.specs.OpenStacks.{stack_words}
-use Rattle.stack_recovery.specs.declared.listing.KeptRuns.{KeptRuns}
 use Rattle.stack_recovery.specs.declared.lost_run.LostRun.{LostRun}
 use Rattle.stack_recovery.specs.declared.recovery.Counts.{Counts}
 use Rattle.stack_recovery.specs.Recoveries.{sides}
-use Rattle.stack_recovery.specs.Texts.{lost_text}
 use Rattle.stack_rules.specs.Records.{Configuration}
 use Rattle.stack_commands.specs.declared.desk.Desk.{Desk}
 use Rattle.stack_commands.specs.declared.fault.CommandFault.{CommandFault}
@@ -52,7 +51,7 @@ use Rattle.stack_commands.specs.Endings.{IsEnd, IsSilent}
 use Rattle.stack_commands.specs.Further.{CatsSectors, CopiesSectors, IsCatCommandEnd, IsCopyWordsEnd, IsLoadWordsEnd, IsPageEnd, IsScanWordsEnd, ListsDevices, ScansSectors}
 use Rattle.stack_commands.specs.MappedCopies.{CopiesByMap, CutsCopying, IsMappedCopyEnd, IsMappedScanEnd, PrintsMappedCopy, PrintsMappedScan, ScansByMap}
 use Rattle.stack_commands.specs.Repairing.{IsParityWordsEnd, IsRepairWordsEnd, RepairsImage}
-use Rattle.stack_commands.specs.ScanObjects.{IsMapUnkept, IsMappedObjectEnd, IsObjectEnd, IsScanObjectEnd, PrintsLost, PrintsScanObject}
+use Rattle.stack_commands.specs.ScanObjects.{IsMappedObjectEnd, IsObjectEnd, IsScanObjectEnd, PrintsLost, PrintsScanObject}
 use Rattle.stack_commands.specs.StackCommands.{IsListEnd, IsReadEnd, IsWriteEnd, PrintsDevices, PrintsReply, PrintsWritten}
 use Rattle.stack_commands.specs.Uses.{IsTreesEnd}
 use Rattle.stack_commands.specs.Verifying.{ChecksImage, GoesOverImage, IsCheckCommandEnd, IsGoingOverEnd}
@@ -217,27 +216,14 @@ module _ {T : Type 0} (contents : T → Option (List ℕ)) (old new : CountedRec
   abbrev pub IsToldBy : CommandFault → ℕ → Type 0
   IsToldBy fault status = IsEnd fault (contents old.inner) (contents new.inner) status ⊎ ((status ≡ 1) × (new.failed ≡ true))
 
--- ---- by a map file, over a stack that is open
-
--- to an image
+-- ---- by a map file, over a stack that is open, to an image
 module _ {S D O T : Type 0} (relations : Opener S D) (state : D → Device) (seen : O → Device) (contents : T → Option (List ℕ)) (old new : S) (stack stack' : StackRecord) (image image' : O) (writer writer' : CountedRecord T)
     (map : List ℕ) (d : ℕ) (is_differing : Bool) where
   abbrev image_moved : Moving
-  image_moved = moving (sides stack (seen image) (contents writer.inner)) (sides stack' (seen image') (contents writer'.inner))
+  image_moved = moving (sides stack (seen image) (listed_by contents writer)) (sides stack' (seen image') (listed_by contents writer'))
 
   abbrev pub CopiesInTurns : Counts → Type 0
   CopiesInTurns = CopiesByMap is_differing (calls relations state old new) map d image_moved
 
   abbrev pub CutsInTurns : UnkeptMap → Type 0
-  CutsInTurns = IsMapEnd map (CutsCopying is_differing (calls relations state old new) map d image_moved writer'.failed)
-
--- to nowhere, with the lost runs kept in memory
-module _ {S D O : Type 0} (relations : Opener S D) (state : D → Device) (old new : S) (map : List ℕ) (stack stack' : StackRecord) (d : ℕ) (seen : O → Device) (out out' : O) (kept kept' : KeptRuns) where
-  abbrev runs_listed : Moving
-  runs_listed = moving (sides stack (seen out) (Some (lost_text kept.runs.items))) (sides stack' (seen out') (Some (lost_text kept'.runs.items)))
-
-  abbrev pub KeepsRuns : Counts → Type 0
-  KeepsRuns = IsRescued (calls relations state old new) map d runs_listed
-
-  abbrev pub LosesRuns : UnkeptMap → Type 0
-  LosesRuns = IsMapUnkept (IsMapEnd map (IsUnrescued (calls relations state old new) map d runs_listed kept'.refused))
+  CutsInTurns = IsMapEnd map (CutsCopying is_differing (calls relations state old new) map d image_moved)

@@ -11,7 +11,8 @@ use differing_device::Differing;
 use image_files::{Images, OpenImage};
 use progress::Progress;
 use recovery_commands::{Output, open_with_room, tell_counts};
-use rescue_files::{UnkeptMap, rescue_by_map};
+use rescue_files::{MapPath, UnkeptMap, rescue_by_map};
+use rescue_map::MapKind;
 use stack_config::DevId;
 use stack_engine::Stack;
 use stack_making::NamedDevice;
@@ -21,7 +22,8 @@ use std::alloc::Global;
 use std::io::Write;
 
 /// `copy --map FILE [--cache N] [--differing] STACK NAME OUT BINDING...`: copies the sectors of a device of a stack file over the
-/// bindings that weren't had, as the map file says, as far as they can be had, to an image, and keeps the map.
+/// bindings that weren't had, as the map file says, as far as they can be had, to an image, and keeps the map. By a scan's map
+/// none was had: the image has none of the sectors that it marks `+`.
 pub fn copy_by_map<'a, I: Images, W: Write, P: Progress>(
     alloc: Global,
     desk: Desk<'_, I, W>,
@@ -69,6 +71,10 @@ fn copy_in_turns<'a, I: Images, D: BlockDev, O: SyncDev + Drop, W: Write, P: Pro
     ensures ok { IfOk result.1 (CopiesInTurns I.relations I.Dev.state O.state W.contents images.old images.new stack.old stack.new image result.0 writer.old writer.new map.now device.0 differing) }
     ensures err { IfErr result.1 (CutsInTurns I.relations I.Dev.state O.state W.contents images.old images.new stack.old stack.new image result.0 writer.old writer.new map.now device.0 differing) }
 {
+    let file = MapPath {
+        path: map,
+        kind: MapKind::Copy,
+    };
     if differing {
         let mut compared = Differing::new(image);
         let outcome = rescue_by_map(
@@ -77,7 +83,7 @@ fn copy_in_turns<'a, I: Images, D: BlockDev, O: SyncDev + Drop, W: Write, P: Pro
             stack,
             device,
             &mut compared,
-            map,
+            file,
             writer,
             progress,
         );
@@ -85,7 +91,7 @@ fn copy_in_turns<'a, I: Images, D: BlockDev, O: SyncDev + Drop, W: Write, P: Pro
     }
     let mut plain = image;
     let outcome = rescue_by_map(
-        alloc, images, stack, device, &mut plain, map, writer, progress,
+        alloc, images, stack, device, &mut plain, file, writer, progress,
     );
     (plain, outcome)
 }

@@ -8,7 +8,8 @@ use block_device::BlockDev;
 use image_files::Images;
 use progress::Progress;
 use recovery_commands::tell_counts;
-use rescue_files::rescue_by_map;
+use rescue_files::{MapPath, rescue_by_map};
+use rescue_map::MapKind;
 use stack_making::{NamedDevice, open_device};
 use stack_opening::StackFile;
 use stack_recovery::Discard;
@@ -16,7 +17,7 @@ use std::alloc::Global;
 use std::io::Write;
 
 /// `scan --map FILE [--cache N] STACK NAME BINDING...`: reads the sectors of a device of a stack file over the bindings that
-/// weren't had, as the map file says, says which sectors are lost, and keeps the map.
+/// weren't had, as the map file says, says which sectors are lost, and keeps the map, as a scan's.
 pub fn scan_by_map<'a, I: Images, W: Write, P: Progress>(
     alloc: Global,
     desk: Desk<'_, I, W>,
@@ -31,8 +32,12 @@ pub fn scan_by_map<'a, I: Images, W: Write, P: Progress>(
     let Desk { images, writer } = desk;
     let (mut stack, device) = open_device(alloc, images, file, device)?;
     let mut out = Discard::new(stack.config().sectors(device));
+    let file = MapPath {
+        path: map,
+        kind: MapKind::Scan,
+    };
     let counts = rescue_by_map(
-        alloc, images, &mut stack, device, &mut out, map, writer, progress,
+        alloc, images, &mut stack, device, &mut out, file, writer, progress,
     )?;
     Ok(tell_counts(counts, writer)?)
 }

@@ -1,8 +1,6 @@
 //! The command `scan --json`: says which sectors of a device are lost, as one JSON object.
-ghost use Rattle.std.specs.Prelude.{◌≡◌, ◌≤◌, ◌<◌, length, IfErr, IfOk, OnOk};
-ghost use Rattle.stack_rules.specs.Names.{mapped, size};
-ghost use Rattle.stack_commands.specs.Desks.{EndsMappedObject, EndsObject, EndsSaying, KeepsRuns, LosesRuns, SaysNoneLost, TellsMapped, TellsObject};
-ghost use Rattle.stack_commands.specs.ScanObjects.{unkept_map, unkept_fault};
+ghost use Rattle.std.specs.Prelude.{IfErr, OnOk};
+ghost use Rattle.stack_commands.specs.Desks.{EndsMappedObject, EndsObject, EndsSaying, SaysNoneLost, TellsMapped, TellsObject};
 
 use crate::desk::Desk;
 use crate::fault::CommandFault;
@@ -11,9 +9,8 @@ use counted_io::Counted;
 use image_files::Images;
 use progress::Progress;
 use recovery_commands::find_lost;
-use rescue_files::{RescueFault, UnkeptMap, rescue_by_map};
-use stack_config::DevId;
-use stack_engine::Stack;
+use rescue_files::{MapPath, rescue_by_map};
+use rescue_map::MapKind;
 use stack_json::lost_line;
 use stack_making::{NamedDevice, open_device};
 use stack_opening::StackFile;
@@ -38,7 +35,7 @@ pub fn scan_to_object<'a, I: Images, W: Write, P: Progress>(
     say_lost(alloc, runs.as_slice(), counts, writer)
 }
 
-/// The same with `--map FILE`: reads the sectors that weren't had, as the map file says, and keeps the map.
+/// The same with `--map FILE`: reads the sectors that weren't had, as the map file says, and keeps the map, as a scan's.
 pub fn scan_to_object_by_map<'a, I: Images, W: Write, P: Progress>(
     alloc: Global,
     desk: Desk<'_, I, W>,
@@ -54,50 +51,17 @@ pub fn scan_to_object_by_map<'a, I: Images, W: Write, P: Progress>(
     let (mut stack, device) = open_device(alloc, images, file, device)?;
     let mut out = Discard::new(stack.config().sectors(device));
     let mut kept = KeptRuns::new(alloc);
-    let counts = keep_runs_by_map(
-        alloc, images, &mut stack, device, &mut out, map, &mut kept, progress,
+    let file = MapPath {
+        path: map,
+        kind: MapKind::Scan,
+    };
+    let counts = rescue_by_map(
+        alloc, images, &mut stack, device, &mut out, file, &mut kept, progress,
     )?;
+    if kept.refused {
+        return Err(CommandFault::NoMemory);
+    }
     say_lost(alloc, kept.runs.as_slice(), counts, writer)
-}
-
-// Goes over the device by a map file, and keeps its lost runs.
-fn keep_runs_by_map<'a, I: Images, D: BlockDev, P: Progress>(
-    alloc: Global,
-    images: &mut I,
-    stack: &mut Stack<D>,
-    device: DevId,
-    out: &mut Discard,
-    map: &'a str,
-    kept: &mut KeptRuns,
-    progress: &mut P,
-) -> Result<Counts, UnkeptMap<'a>>
-    requires device { device.0 < length stack.old.config.devices }
-    requires room { size stack.old.config (mapped device.0) ≤ (⟦<Discard as BlockDev>⟧.state out.old).size }
-    ensures ok { IfOk result (KeepsRuns I.relations I.Dev.state images.old images.new map.now stack.old stack.new device.0 ⟦<Discard as BlockDev>⟧.state out.old out.new kept.old kept.new) }
-    ensures err { IfErr result (LosesRuns I.relations I.Dev.state images.old images.new map.now stack.old stack.new device.0 ⟦<Discard as BlockDev>⟧.state out.old out.new kept.old kept.new) }
-{
-    match rescue_by_map(alloc, images, stack, device, out, map, kept, progress) {
-        Ok(counts) => Ok(counts),
-        Err(end) => Err(unkept(end)),
-    }
-}
-
-// Where a run isn't kept, memory ran out.
-fn unkept<'a>(end: UnkeptMap<'a>) -> UnkeptMap<'a>
-    ensures { result ≡ unkept_map end.entry }
-{
-    let UnkeptMap { path, fault } = end;
-    let fault = unkept_fault(fault);
-    UnkeptMap { path, fault }
-}
-
-fn unkept_fault(fault: RescueFault) -> RescueFault
-    ensures { result ≡ unkept_fault fault }
-{
-    match fault {
-        RescueFault::Write => RescueFault::NoMemory,
-        other => other,
-    }
 }
 
 // Prints the object; where sectors are lost, the command ends so.

@@ -1,6 +1,5 @@
 -- A device that is gone over, while sectors are left.
 use Rattle.std.proofs.Common.{◌≡◌, ◌≢◌, ◌⊎◌, ℕ, ◌+◌, ◌-◌, ◌≤◌, ◌^◌, Bool, true, false, IsTrue, List, [], ◌∷◌, ◌++◌, length, replicate, Option, Some, None, is_some, Ok, Err, inl, inr, refl, sym, ap, ◌∙◌, subst, arith}
-use Rattle.std.specs.Io.KnownBytes.{Appends}
 use Rattle.std.proofs.lemmas.Bool.{false≢true}
 use Rattle.std.proofs.lemmas.List.{append-nil, length-append, length-replicate}
 use Rattle.block_device.specs.Device.{Device, IsWritten, sectors_of, spliced}
@@ -18,6 +17,7 @@ use Rattle.stack_recovery.specs.declared.recovery.Counts.{Counts}
 use Rattle.stack_recovery.specs.declared.tally.Tally.{Tally}
 use Rattle.stack_recovery.specs.Alike.{AreAlike}
 use Rattle.stack_recovery.specs.Copies.{IsCopied}
+use Rattle.stack_recovery.specs.Listings.{Listed, Tells}
 use Rattle.stack_recovery.specs.LostRuns.{lost_in, run_lost}
 use Rattle.stack_recovery.specs.Losses.{StopsInPiece}
 use Rattle.stack_recovery.specs.Recoveries.{EndsEarly, FindsNoMemory, GoesOver, IsBegunOver, AreMarksNoted, IsRecoveryEnd, NotesMore, Recovers, RunsShort, Sides, sides}
@@ -28,7 +28,7 @@ use Rattle.stack_recovery.proofs.AheadLemmas.{length-noted, marks-none, noted-mo
 use Rattle.stack_recovery.proofs.CopyLemmas.{copied-had, copied-lost, copied-none}
 use Rattle.stack_recovery.proofs.LostRunLemmas.{IsTallied, lost_in-append, lost_in-had, lost_in-lost, lost_in-most, tallied-all, tallied-had, tallied-lost, tallied-none}
 use Rattle.stack_recovery.proofs.SurveyLemmas.{states-push, survey-push, survey-same}
-use Rattle.stack_recovery.proofs.WritingLemmas.{runs-then, writes_nothing}
+use Rattle.stack_recovery.proofs.WritingLemmas.{runs-then, tells_nothing}
 
 -- the sectors before that one were had or are lost, and of their runs all but the last were printed
 pub record IsUnderway (before : List Bool) (d : ℕ) (old new : Sides) (at : ℕ) (tally : Tally) (made : Option (List Run)) : Type 0 where
@@ -39,7 +39,7 @@ pub record IsUnderway (before : List Bool) (d : ℕ) (old new : Sides) (at : ℕ
   pub tallied : IsTallied (all_states reads) closed tally.last
   pub lost : tally.lost ≡ lost_in (all_states reads)
   pub copied : IsCopied reads old.out new.out
-  pub printed : Appends old.printed new.printed (lost_text closed)
+  pub printed : Tells old.printed new.printed (lost_text closed)
   pub noted : AreMarksNoted made (all_states reads)
 
 pub underway-none : (before : List Bool) (d : ℕ) (old : Sides) (noted : Option (List Run)) → AreMarksNoted noted [] → IsUnderway before d old old 0 (record { last = None; lost = 0 }) noted
@@ -51,7 +51,7 @@ underway-none before d old noted p = record {
   tallied = tallied-none;
   lost = refl;
   copied = copied-none old.out;
-  printed = writes_nothing old.printed;
+  printed = tells_nothing old.printed;
   noted = p;
 }
 
@@ -85,12 +85,11 @@ module _ (before : List Bool) (d : ℕ) (old now : Sides) (at : ℕ) (tally : Ta
   memory-read makes_map stack fault same read (inr some) none = absurd (false≢true (sym none ∙ sym same ∙ some))
 
   -- it ended in a piece that wasn't read
-  pub ends-in-piece : {L : Type 0} (told : L → Option (List ℕ)) (failed : L → Bool) (makes_map : Bool) (stack : StackRecord) (fault : IoFault) (a b : L) (error : RecoveryFault) → now.printed ≡ told a → now.out.failures ≡ old.out.failures → is_some noted ≡ makes_map
-      → (fault ≡ NoMemory → FindsNoMemory d at now.stack stack) → StopsInPiece failed fault (is_some noted) a b error → EndsEarly makes_map before d old (sides stack now.out (told b)) (failed b) error
-  ends-in-piece told failed makes_map stack fault a b recovery.NoMemory printed unfailed same read p =
-      subst (λ (t : Option (List ℕ)). RunsShort makes_map before d old (sides stack now.out t)) (printed ∙ ap told (sym p.1)) (runs-short makes_map stack unfailed (memory-read makes_map stack fault same read p.0))
-  ends-in-piece told failed makes_map stack fault a b recovery.Output printed unfailed same read p = absurd p
-  ends-in-piece told failed makes_map stack fault a b recovery.Write printed unfailed same read p = p
+  pub ends-in-piece : {L : Type 0} (told : L → Listed) (makes_map : Bool) (stack : StackRecord) (fault : IoFault) (a b : L) (error : RecoveryFault) → now.printed ≡ told a → now.out.failures ≡ old.out.failures → is_some noted ≡ makes_map
+      → (fault ≡ NoMemory → FindsNoMemory d at now.stack stack) → StopsInPiece fault (is_some noted) a b error → EndsEarly makes_map before d old (sides stack now.out (told b)) error
+  ends-in-piece told makes_map stack fault a b recovery.NoMemory printed unfailed same read p =
+      subst (λ (t : Listed). RunsShort makes_map before d old (sides stack now.out t)) (printed ∙ ap told (sym p.1)) (runs-short makes_map stack unfailed (memory-read makes_map stack fault same read p.0))
+  ends-in-piece told makes_map stack fault a b recovery.Output printed unfailed same read p = absurd p
 
   pub few : tally.lost ≤ at
   few = omega (arith, u.here, u.lost, lost_in-most (all_states u.reads))
@@ -106,9 +105,9 @@ module _ (before : List Bool) (d : ℕ) (old now : Sides) (at : ℕ) (tally : Ta
       survey-push before d 0 old.stack u.reads now.stack r u.survey (subst (λ (k : ℕ). IsPieceSurveyed before d k now.stack r) here p)
 
   -- a piece that was had, written, and told
-  pub underway-had : (n : ℕ) (bytes : List ℕ) (stack : StackRecord) (k : ℕ) (ok : Bool) (out : Device) (printed : Option (List ℕ)) (next : Tally) (more : Option (List Run)) → 1 ≤ n → EachBytes now.stack d at n (Ok bytes) stack → AreMarked before at n false → NotesMore noted more (replicate n true) → k ≡ n
+  pub underway-had : (n : ℕ) (bytes : List ℕ) (stack : StackRecord) (k : ℕ) (ok : Bool) (out : Device) (printed : Listed) (next : Tally) (more : Option (List Run)) → 1 ≤ n → EachBytes now.stack d at n (Ok bytes) stack → AreMarked before at n false → NotesMore noted more (replicate n true) → k ≡ n
       → IsWritten now.out at k ok out → (IsTrue now.out.steady → out.image ≡ spliced now.out.image at (sectors_of k bytes))
-      → Appends now.printed printed (lost_text (listed_lost tally.last)) → next ≡ record { last = None; lost = tally.lost } → IsUnderway before d old (sides stack out printed) (at + n) next more
+      → Tells now.printed printed (lost_text (listed_lost tally.last)) → next ≡ record { last = None; lost = tally.lost } → IsUnderway before d old (sides stack out printed) (at + n) next more
   underway-had n bytes stack k ok out printed next more some p marked noting count w image told is =
       let r : PieceRead = record { count = n; found = had bytes; after = stack } in
       let states : all_states (u.reads ++ r ∷ []) ≡ all_states u.reads ++ replicate n None = states-push u.reads r in
@@ -125,8 +124,8 @@ module _ (before : List Bool) (d : ℕ) (old now : Sides) (at : ℕ) (tally : Ta
       })
 
   -- sectors that were had before
-  pub underway-kept : (n : ℕ) (printed : Option (List ℕ)) (next : Tally) (more : Option (List Run)) → 1 ≤ n → AreMarked before at n true → NotesMore noted more (replicate n true)
-      → Appends now.printed printed (lost_text (listed_lost tally.last)) → next ≡ record { last = None; lost = tally.lost } → IsUnderway before d old (sides now.stack now.out printed) (at + n) next more
+  pub underway-kept : (n : ℕ) (printed : Listed) (next : Tally) (more : Option (List Run)) → 1 ≤ n → AreMarked before at n true → NotesMore noted more (replicate n true)
+      → Tells now.printed printed (lost_text (listed_lost tally.last)) → next ≡ record { last = None; lost = tally.lost } → IsUnderway before d old (sides now.stack now.out printed) (at + n) next more
   underway-kept n printed next more some marked noting told is =
       let r : PieceRead = record { count = n; found = kept; after = now.stack } in
       let states : all_states (u.reads ++ r ∷ []) ≡ all_states u.reads ++ replicate n None = states-push u.reads r in
@@ -143,8 +142,8 @@ module _ (before : List Bool) (d : ℕ) (old now : Sides) (at : ℕ) (tally : Ta
       })
 
   -- a piece that is lost, and told
-  pub underway-lost : (n : ℕ) (fault : IoFault) (stack : StackRecord) (printed : Option (List ℕ)) (next : Tally) (more : Option (List Run)) → 1 ≤ n → EachBytes now.stack d at n (Err fault) stack → AreMarked before at n false → NotesMore noted more (replicate n false) → AreAlike now.stack.config d at n → fault ≢ NoMemory
-      → Appends now.printed printed (lost_text (closed_lost tally.last (run_lost at n fault))) → next ≡ record { last = Some (opened_lost tally.last (run_lost at n fault)); lost = tally.lost + n }
+  pub underway-lost : (n : ℕ) (fault : IoFault) (stack : StackRecord) (printed : Listed) (next : Tally) (more : Option (List Run)) → 1 ≤ n → EachBytes now.stack d at n (Err fault) stack → AreMarked before at n false → NotesMore noted more (replicate n false) → AreAlike now.stack.config d at n → fault ≢ NoMemory
+      → Tells now.printed printed (lost_text (closed_lost tally.last (run_lost at n fault))) → next ≡ record { last = Some (opened_lost tally.last (run_lost at n fault)); lost = tally.lost + n }
       → IsUnderway before d old (sides stack now.out printed) (at + n) next more
   underway-lost n fault stack printed next more some p marked noting alike kind told is =
       let r : PieceRead = record { count = n; found = lost fault; after = stack } in
@@ -179,7 +178,7 @@ module _ (before : List Bool) (d : ℕ) (old now : Sides) (at : ℕ) (tally : Ta
       }
 
   -- all sectors
-  pub underway-all : (printed : Option (List ℕ)) (sectors : ℕ) (counts : Counts) → at ≡ size old.stack.config (mapped d) → sectors ≡ at → Appends now.printed printed (lost_text (listed_lost tally.last))
+  pub underway-all : (printed : Listed) (sectors : ℕ) (counts : Counts) → at ≡ size old.stack.config (mapped d) → sectors ≡ at → Tells now.printed printed (lost_text (listed_lost tally.last))
       → counts ≡ record { read = sectors - tally.lost; lost = tally.lost } → now.out.failures ≡ old.out.failures → GoesOver before d old counts noted (sides now.stack now.out printed)
   underway-all printed sectors counts end all told is unfailed = record {
     reads = u.reads;
@@ -224,7 +223,6 @@ short-none n d makes_map old new p = record {
   read = p.read;
 }
 
-pub ends-none : (n d : ℕ) (old new : Sides) (failed : Bool) (fault : RecoveryFault) → EndsEarly false (replicate n false) d old new failed fault → IsRecoveryEnd d old new failed fault
-ends-none n d old new failed recovery.NoMemory p = short-none n d false old new p
-ends-none n d old new failed recovery.Output p = (begun-none n d old new p.0, p.1)
-ends-none n d old new failed recovery.Write p = p
+pub ends-none : (n d : ℕ) (old new : Sides) (fault : RecoveryFault) → EndsEarly false (replicate n false) d old new fault → IsRecoveryEnd d old new fault
+ends-none n d old new recovery.NoMemory p = short-none n d false old new p
+ends-none n d old new recovery.Output p = (begun-none n d old new p.0, p.1)

@@ -7,20 +7,30 @@ use Rattle.std.proofs.lemmas.List.Concat.{flat_map-append}
 use Rattle.stack_recovery.specs.declared.fault.RecoveryFault.{RecoveryFault}
 use Rattle.stack_recovery.specs.declared.lost_run.LostRun.{LostRun}
 use Rattle.stack_recovery.specs.declared.recovery.Counts.{Counts}
+use Rattle.stack_recovery.specs.Listings.{Listed, Tells}
 use Rattle.stack_recovery.specs.Texts.{lost_run_text, lost_text}
 
-pub writes_nothing : (known : Option (List ℕ)) → Appends known known []
+writes_nothing : (known : Option (List ℕ)) → Appends known known []
 writes_nothing None = tt
 writes_nothing (Some xs) = sym (append-nil xs)
 
-pub writes-then : (a b c : Option (List ℕ)) (xs ys : List ℕ) → Appends a b xs → Appends b c ys → Appends a c (xs ++ ys)
+writes-then : (a b c : Option (List ℕ)) (xs ys : List ℕ) → Appends a b xs → Appends b c ys → Appends a c (xs ++ ys)
 writes-then None b c xs ys p q = tt
 writes-then (Some a) None c xs ys p q = absurd p
 writes-then (Some a) (Some b) None xs ys p q = absurd q
 writes-then (Some a) (Some b) (Some c) xs ys p q = q ∙ ap (λ (l : List ℕ). l ++ ys) p ∙ append_assoc a xs ys
 
-pub runs-then : (a b c : Option (List ℕ)) (runs more : List LostRun) → Appends a b (lost_text runs) → Appends b c (lost_text more) → Appends a c (lost_text (runs ++ more))
-runs-then a b c runs more p q = rw (flat_map-append lost_run_text runs more) (writes-then a b c (lost_text runs) (lost_text more) p q)
+pub tells_nothing : (told : Listed) → Tells told told []
+tells_nothing told = record { ok = λ whole. writes_nothing told.text; kept = λ whole. whole }
+
+tells-then : (a b c : Listed) (xs ys : List ℕ) → Tells a b xs → Tells b c ys → Tells a c (xs ++ ys)
+tells-then a b c xs ys p q = record {
+  ok = λ whole. writes-then a.text b.text c.text xs ys (p.ok (q.kept whole)) (q.ok whole);
+  kept = λ whole. p.kept (q.kept whole);
+}
+
+pub runs-then : (a b c : Listed) (runs more : List LostRun) → Tells a b (lost_text runs) → Tells b c (lost_text more) → Tells a c (lost_text (runs ++ more))
+runs-then a b c runs more p q = rw (flat_map-append lost_run_text runs more) (tells-then a b c (lost_text runs) (lost_text more) p q)
 
 -- the text of one run more
 pub runs_text_last : (runs : List LostRun) (run : LostRun) → lost_text (runs ++ run ∷ []) ≡ lost_text runs ++ lost_run_text run

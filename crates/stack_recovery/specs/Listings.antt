@@ -1,10 +1,16 @@
 -- Who is told of lost runs.
-use Rattle.std.specs.Prelude.{◌≡◌, ℕ, Bool, true, List, Option, Result, OnOk, OnErr}
+use Rattle.std.specs.Prelude.{◌≡◌, ℕ, Bool, false, List, Option}
 use Rattle.std.specs.Io.KnownBytes.{Appends}
-use Rattle.counted_io.specs.declared.fault.WriteFault.{WriteFault}
 
--- this text was told; or it couldn't be, which is remembered
-pub record TellsLost {T : Type 0} (told_by : T → Option (List ℕ)) (has_failed : T → Bool) (old new : T) (text : List ℕ) (result : Result Unit WriteFault) : Type 0 where
-  pub ok : OnOk result (Appends (told_by old) (told_by new) text)
-  pub kept : OnOk result (has_failed new ≡ has_failed old)
-  pub failed : OnErr result (has_failed new ≡ true)
+-- the text of the runs that were told, if it is known, and whether one couldn't be
+pub record Listed : Type 0 where
+  pub text : Option (List ℕ)
+  pub failed : Bool
+
+abbrev pub listed : Option (List ℕ) → Bool → Listed
+listed text failed = record { text = text; failed = failed }
+
+-- this text was told, unless a run couldn't be; that stays known
+pub record Tells (old new : Listed) (text : List ℕ) : Type 0 where
+  pub ok : new.failed ≡ false → Appends old.text new.text text
+  pub kept : new.failed ≡ false → old.failed ≡ false

@@ -1,13 +1,13 @@
 -- A piece that ended in a fault, while a device is gone over: its sectors are lost, or they are read again.
 use Rattle.std.specs.Prelude.{◌≡◌, ◌⊎◌, ℕ, ◌+◌, Bool, true, false, List, replicate, Option, Some}
-use Rattle.std.specs.Io.KnownBytes.{Appends}
 use Rattle.stack_meaning.specs.declared.fault.IoFault.{IoFault}
 use Rattle.stack_meaning.specs.declared.fault.IoFault.TheVariants as io
 use Rattle.rescue_map.specs.declared.map.Run.{Run}
 use Rattle.stack_recovery.specs.declared.fault.RecoveryFault.{RecoveryFault}
-use Rattle.stack_recovery.specs.declared.fault.RecoveryFault.TheVariants.{NoMemory, Output, Write}
+use Rattle.stack_recovery.specs.declared.fault.RecoveryFault.TheVariants.{NoMemory, Output}
 use Rattle.stack_recovery.specs.declared.lost_run.LostRun.{LostRun}
 use Rattle.stack_recovery.specs.declared.tally.Tally.{Tally}
+use Rattle.stack_recovery.specs.Listings.{Listed, Tells}
 use Rattle.stack_recovery.specs.Recoveries.{NotesMore}
 use Rattle.stack_recovery.specs.Tallies.{closed_lost, opened_lost}
 use Rattle.stack_recovery.specs.Texts.{lost_text}
@@ -23,12 +23,11 @@ TalliesLost run old new true = new ≡ record { last = Some (opened_lost old.las
 TalliesLost run old new false = new ≡ old
 
 -- and what is told: the run that doesn't grow further
-abbrev pub ListsLost : {L : Type 0} → (L → Option (List ℕ)) → LostRun → Tally → L → L → Bool → Type 0
-ListsLost told run tally old new true = Appends (told old) (told new) (lost_text (closed_lost tally.last run))
+abbrev pub ListsLost : {L : Type 0} → (L → Listed) → LostRun → Tally → L → L → Bool → Type 0
+ListsLost told run tally old new true = Tells (told old) (told new) (lost_text (closed_lost tally.last run))
 ListsLost told run tally old new false = new ≡ old
 
--- why the going over ends there: the read found no memory, or the map that is made, or the run couldn't be told
-abbrev pub StopsInPiece : {L : Type 0} → (L → Bool) → IoFault → Bool → L → L → RecoveryFault → Type 0
-StopsInPiece failed fault makes_map old new NoMemory = ((fault ≡ io.NoMemory) ⊎ (makes_map ≡ true)) × (new ≡ old)
-StopsInPiece failed fault makes_map old new Output = ⊥
-StopsInPiece failed fault makes_map old new Write = failed new ≡ true
+-- why the recovery ends there: the read found no memory, or the map that is made
+abbrev pub StopsInPiece : {L : Type 0} → IoFault → Bool → L → L → RecoveryFault → Type 0
+StopsInPiece fault makes_map old new NoMemory = ((fault ≡ io.NoMemory) ⊎ (makes_map ≡ true)) × (new ≡ old)
+StopsInPiece fault makes_map old new Output = ⊥

@@ -1,6 +1,5 @@
 -- What going over a mapped device does.
 use Rattle.std.specs.Prelude.{◌≡◌, ℕ, ◌-◌, Bool, true, false, IsTrue, List, [], ◌++◌, length, map, Option, Some, None, Err}
-use Rattle.std.specs.Io.KnownBytes.{Appends}
 use Rattle.block_device.specs.Device.{Device, HasFailed}
 use Rattle.stack_rules.specs.Names.{mapped, size}
 use Rattle.stack_rules.specs.declared.lower.DevId.{DevId}
@@ -12,22 +11,23 @@ use Rattle.stack_engine.specs.Stacks.{StackRecord}
 use Rattle.rescue_map.specs.declared.map.Run.{Run}
 use Rattle.rescue_map.specs.Maps.{marks}
 use Rattle.stack_recovery.specs.declared.fault.RecoveryFault.{RecoveryFault}
-use Rattle.stack_recovery.specs.declared.fault.RecoveryFault.TheVariants.{NoMemory, Output, Write}
+use Rattle.stack_recovery.specs.declared.fault.RecoveryFault.TheVariants.{NoMemory, Output}
 use Rattle.stack_recovery.specs.declared.lost_run.LostRun.{LostRun}
 use Rattle.stack_recovery.specs.declared.recovery.Counts.{Counts}
 use Rattle.stack_recovery.specs.declared.rescued.Rescued.{Rescued}
 use Rattle.stack_recovery.specs.Copies.{IsCopied}
+use Rattle.stack_recovery.specs.Listings.{Listed, Tells}
 use Rattle.stack_recovery.specs.LostRuns.{lost_in, lost_runs}
 use Rattle.stack_recovery.specs.Surveys.{IsStackSurvey, IsSurveyOver, PieceRead, SectorState, all_states}
 use Rattle.stack_recovery.specs.Texts.{lost_text}
 
--- the stack, the device to which is copied, and what was printed, where that is known
+-- the stack, the device to which is copied, and what was printed
 pub record Sides : Type 0 where
   pub stack : StackRecord
   pub out : Device
-  pub printed : Option (List ℕ)
+  pub printed : Listed
 
-abbrev pub sides : StackRecord → Device → Option (List ℕ) → Sides
+abbrev pub sides : StackRecord → Device → Listed → Sides
 sides stack out printed = record { stack = stack; out = out; printed = printed }
 
 -- Each sector of device d was had or is lost. What was had was copied, a line was printed for each longest lost run,
@@ -38,7 +38,7 @@ pub record Recovers (d : ℕ) (old : Sides) (counts : Counts) (new : Sides) : Ty
   pub whole : length (all_states reads) ≡ size old.stack.config (mapped d)
   pub copied : IsCopied reads old.out new.out
   pub unfailed : new.out.failures ≡ old.out.failures
-  pub printed : Appends old.printed new.printed (lost_text (lost_runs 0 (all_states reads)))
+  pub printed : Tells old.printed new.printed (lost_text (lost_runs 0 (all_states reads)))
   pub counted : counts ≡ record { read = length (all_states reads) - lost_in (all_states reads); lost = lost_in (all_states reads) }
 
 -- some first pieces of the device were read, and the first of their lost runs printed
@@ -49,7 +49,7 @@ pub record IsBegunOver (marks : List Bool) (d : ℕ) (old new : Sides) : Type 0 
   pub more : List LostRun
   pub survey : IsSurveyOver marks d 0 old.stack reads left
   pub first : lost_runs 0 (all_states reads) ≡ runs ++ more
-  pub printed : Appends old.printed new.printed (lost_text runs)
+  pub printed : Tells old.printed new.printed (lost_text runs)
 
 -- a read of some sectors from that one on found no memory, and a `verity` line is on their way: no other read takes any
 pub record FindsNoMemory (d at : ℕ) (w w' : StackRecord) : Type 0 where
@@ -65,17 +65,16 @@ pub record RunsShort (makes_map : Bool) (marks : List Bool) (d : ℕ) (old new :
   pub unfailed : new.out.failures ≡ old.out.failures
   pub read : makes_map ≡ false → FindsNoMemory d (length (all_states begun.reads)) begun.left new.stack
 
--- why it ended early, where the last says whether the writer failed
-abbrev pub EndsEarly : Bool → List Bool → ℕ → Sides → Sides → Bool → RecoveryFault → Type 0
-EndsEarly makes_map marks d old new failed NoMemory = RunsShort makes_map marks d old new
-EndsEarly makes_map marks d old new failed Output = IsBegunOver marks d old new × (HasFailed old.out new.out × (IsTrue old.out.never_fails → ⊥))
-EndsEarly makes_map marks d old new failed Write = failed ≡ true
+-- why it ended early: never because a line can't be written
+abbrev pub EndsEarly : Bool → List Bool → ℕ → Sides → Sides → RecoveryFault → Type 0
+EndsEarly makes_map marks d old new NoMemory = RunsShort makes_map marks d old new
+EndsEarly makes_map marks d old new Output = IsBegunOver marks d old new × (HasFailed old.out new.out × (IsTrue old.out.never_fails → ⊥))
 
-abbrev pub IsRescueEnd : List Bool → ℕ → Sides → Sides → Bool → RecoveryFault → Type 0
-IsRescueEnd marks d old new failed fault = EndsEarly true marks d old new failed fault
+abbrev pub IsRescueEnd : List Bool → ℕ → Sides → Sides → RecoveryFault → Type 0
+IsRescueEnd marks d old new fault = EndsEarly true marks d old new fault
 
-abbrev pub IsRecoveryEnd : ℕ → Sides → Sides → Bool → RecoveryFault → Type 0
-IsRecoveryEnd d old new failed fault = EndsEarly false [] d old new failed fault
+abbrev pub IsRecoveryEnd : ℕ → Sides → Sides → RecoveryFault → Type 0
+IsRecoveryEnd d old new fault = EndsEarly false [] d old new fault
 
 -- ---- as a call sees them
 
@@ -89,18 +88,18 @@ abbrev pub parties : {O L : Type 0} → StackRecord → O → L → Parties O L
 parties stack out listing = record { stack = stack; out = out; listing = listing }
 
 -- what a proof sees of them
-abbrev pub seen_sides : {O L : Type 0} → (O → Device) → (L → Option (List ℕ)) → Parties O L → Sides
+abbrev pub seen_sides : {O L : Type 0} → (O → Device) → (L → Listed) → Parties O L → Sides
 seen_sides state told p = sides p.stack (state p.out) (told p.listing)
 
-abbrev pub RecoversBy : {O L : Type 0} → (O → Device) → (L → Option (List ℕ)) → ℕ → Parties O L → Parties O L → Counts → Type 0
+abbrev pub RecoversBy : {O L : Type 0} → (O → Device) → (L → Listed) → ℕ → Parties O L → Parties O L → Counts → Type 0
 RecoversBy state told d old new counts = Recovers d (seen_sides state told old) counts (seen_sides state told new)
 
 -- the same of a device's number, and of each of them before and behind the call
-abbrev pub Recovered : {O L : Type 0} → (O → Device) → (L → Option (List ℕ)) → DevId → StackRecord → O → L → StackRecord → O → L → Counts → Type 0
+abbrev pub Recovered : {O L : Type 0} → (O → Device) → (L → Listed) → DevId → StackRecord → O → L → StackRecord → O → L → Counts → Type 0
 Recovered state told d stack out listing stack' out' listing' counts = RecoversBy state told d.0 (parties stack out listing) (parties stack' out' listing') counts
 
-abbrev pub EndsRecovery : {O L : Type 0} → (O → Device) → (L → Option (List ℕ)) → (L → Bool) → ℕ → Parties O L → Parties O L → RecoveryFault → Type 0
-EndsRecovery state told failed d old new fault = IsRecoveryEnd d (seen_sides state told old) (seen_sides state told new) (failed new.listing) fault
+abbrev pub EndsRecovery : {O L : Type 0} → (O → Device) → (L → Listed) → ℕ → Parties O L → Parties O L → RecoveryFault → Type 0
+EndsRecovery state told d old new fault = IsRecoveryEnd d (seen_sides state told old) (seen_sides state told new) fault
 
 -- ---- where some sectors were had before
 
@@ -121,7 +120,7 @@ pub record GoesOver (before : List Bool) (d : ℕ) (old : Sides) (counts : Count
   pub whole : length (all_states reads) ≡ size old.stack.config (mapped d)
   pub copied : IsCopied reads old.out new.out
   pub unfailed : new.out.failures ≡ old.out.failures
-  pub printed : Appends old.printed new.printed (lost_text (lost_runs 0 (all_states reads)))
+  pub printed : Tells old.printed new.printed (lost_text (lost_runs 0 (all_states reads)))
   pub counted : counts ≡ record { read = length (all_states reads) - lost_in (all_states reads); lost = lost_in (all_states reads) }
   pub noted : AreMarksNoted made (all_states reads)
 
@@ -130,17 +129,17 @@ abbrev pub Rescues : List Bool → ℕ → Sides → Rescued → Sides → Type 
 Rescues before d old rescued new = GoesOver before d old rescued.counts (Some rescued.map) new
 
 -- the same, as a call sees them
-abbrev pub GoesOverBy : {O L : Type 0} → (O → Device) → (L → Option (List ℕ)) → List Bool → ℕ → Parties O L → Option (List Run) → Parties O L → Counts → Type 0
+abbrev pub GoesOverBy : {O L : Type 0} → (O → Device) → (L → Listed) → List Bool → ℕ → Parties O L → Option (List Run) → Parties O L → Counts → Type 0
 GoesOverBy state told before d old made new counts = GoesOver before d (seen_sides state told old) counts made (seen_sides state told new)
 
-abbrev pub EndsEarlyBy : {O L : Type 0} → (O → Device) → (L → Option (List ℕ)) → (L → Bool) → Bool → List Bool → ℕ → Parties O L → Parties O L → RecoveryFault → Type 0
-EndsEarlyBy state told failed makes_map before d old new fault = EndsEarly makes_map before d (seen_sides state told old) (seen_sides state told new) (failed new.listing) fault
+abbrev pub EndsEarlyBy : {O L : Type 0} → (O → Device) → (L → Listed) → Bool → List Bool → ℕ → Parties O L → Parties O L → RecoveryFault → Type 0
+EndsEarlyBy state told makes_map before d old new fault = EndsEarly makes_map before d (seen_sides state told old) (seen_sides state told new) fault
 
-abbrev pub RescuesBy : {O L : Type 0} → (O → Device) → (L → Option (List ℕ)) → List Bool → ℕ → Parties O L → Parties O L → Rescued → Type 0
+abbrev pub RescuesBy : {O L : Type 0} → (O → Device) → (L → Listed) → List Bool → ℕ → Parties O L → Parties O L → Rescued → Type 0
 RescuesBy state told before d old new rescued = Rescues before d (seen_sides state told old) rescued (seen_sides state told new)
 
-abbrev pub EndsRescue : {O L : Type 0} → (O → Device) → (L → Option (List ℕ)) → (L → Bool) → List Bool → ℕ → Parties O L → Parties O L → RecoveryFault → Type 0
-EndsRescue state told failed before d old new fault = IsRescueEnd before d (seen_sides state told old) (seen_sides state told new) (failed new.listing) fault
+abbrev pub EndsRescue : {O L : Type 0} → (O → Device) → (L → Listed) → List Bool → ℕ → Parties O L → Parties O L → RecoveryFault → Type 0
+EndsRescue state told before d old new fault = IsRescueEnd before d (seen_sides state told old) (seen_sides state told new) fault
 
 -- these sectors were noted behind those before
 abbrev pub NotesMore : Option (List Run) → Option (List Run) → List Bool → Type 0

@@ -3,7 +3,6 @@ ghost use Rattle.std.specs.Prelude.{◌≡◌};
 ghost use Rattle.stack_recovery.specs.declared.fault.RecoveryFault.TheVariants as recovery_fault;
 
 use block_device::DeviceFault;
-use counted_io::WriteFault;
 use thiserror::Error;
 
 /// Why a device isn't gone over to its end.
@@ -15,9 +14,6 @@ pub enum RecoveryFault {
     /// The device failed to which the sectors are copied.
     #[error("Output")]
     Output,
-    /// A line can't be written.
-    #[error("Write")]
-    Write,
 }
 
 impl From<DeviceFault> for RecoveryFault {
@@ -25,13 +21,5 @@ impl From<DeviceFault> for RecoveryFault {
 
     fn from(_fault: DeviceFault) -> Self {
         RecoveryFault::Output
-    }
-}
-
-impl From<WriteFault> for RecoveryFault {
-    ghost from_gives = { λ _ given. given ≡ recovery_fault.Write };
-
-    fn from(_fault: WriteFault) -> Self {
-        RecoveryFault::Write
     }
 }

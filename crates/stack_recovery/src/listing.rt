@@ -1,37 +1,36 @@
 //! Who is told of lost runs: a writer, or a list in memory.
-ghost use Rattle.std.specs.Prelude.{◌≡◌, ◌++◌, ◌∷◌, [], ℕ, Bool, List, Option, OnOk};
-ghost use Rattle.stack_recovery.specs.Listings.{TellsLost};
+ghost use Rattle.std.specs.Prelude.{◌≡◌, ◌++◌, ◌∷◌, [], false, OnOk};
+ghost use Rattle.stack_recovery.specs.Listings.{Listed, Tells};
 ghost use Rattle.stack_recovery.specs.Texts.{lost_run_text};
 
 use crate::lost_run::{LostRun, say_run};
-use counted_io::{Counted, WriteFault};
+use counted_io::Counted;
 use std::alloc::{AllocError, Global};
 use std::io::Write;
 
-/// Who is told of lost runs, one after another.
+/// Who is told of lost runs, one after another. After a run that couldn't be told no further one is: a recovery goes on.
 pub trait Listing {
-    /// The text of the runs that were told, a line each, where it is known.
-    ghost told: { Self → Option (List ℕ) };
+    /// The text of the runs that were told, a line each, and whether one couldn't be.
+    ghost told: { Self → Listed };
 
-    /// Whether a run couldn't be told.
-    ghost failed: { Self → Bool };
-
-    /// Tells a run.
-    fn tell(&mut self, run: LostRun) -> Result<(), WriteFault>
-        ensures { TellsLost told failed self.old self.new (lost_run_text run) result };
+    /// Tells a run, unless one couldn't be told before.
+    fn tell(&mut self, run: LostRun)
+        ensures { Tells (told self.old) (told self.new) (lost_run_text run) };
 }
 
 impl<W: Write> Listing for Counted<W> {
-    ghost told = { λ writer. W.contents writer.inner };
+    ghost use Rattle.stack_recovery.specs.Listings.{listed};
 
-    ghost failed = { λ writer. writer.failed };
+    ghost told = { λ writer. listed (W.contents writer.inner) writer.failed };
 
-    fn tell(&mut self, run: LostRun) -> Result<(), WriteFault> {
-        say_run(self, run)
+    fn tell(&mut self, run: LostRun) {
+        if !self.failed() {
+            let _remembered = say_run(self, run);
+        }
     }
 }
 
-/// Runs that are kept in memory, and whether one couldn't be, since a growth was refused.
+/// Runs that are kept in memory, and whether one couldn't be, since its allocation failed.
 #[derive(Drop)]
 pub struct KeptRuns {
     pub runs: Vec<LostRun>,
@@ -42,6 +41,7 @@ impl KeptRuns {
     /// No run yet.
     pub fn new(alloc: Global) -> KeptRuns
         ensures runs { result.runs.items ≡ [] }
+        ensures refused { result.refused ≡ false }
     {
         KeptRuns {
             runs: Vec::new(alloc),
@@ -52,20 +52,15 @@ impl KeptRuns {
 
 impl Listing for KeptRuns {
     ghost use Rattle.std.specs.Prelude.{Some};
+    ghost use Rattle.stack_recovery.specs.Listings.{listed};
     ghost use Rattle.stack_recovery.specs.Texts.{lost_text};
 
-    ghost told = { λ kept. Some (lost_text kept.runs.items) };
-
-    ghost failed = { λ kept. kept.refused };
+    ghost told = { λ kept. listed (Some (lost_text kept.runs.items)) kept.refused };
 
     #[tactic(auto, using(crate::proofs::WritingLemmas::runs_text_last))]
-    fn tell(&mut self, run: LostRun) -> Result<(), WriteFault> {
-        match keep(&mut self.runs, run) {
-            Ok(()) => Ok(()),
-            Err(_refused) => {
-                self.refused = true;
-                Err(WriteFault)
-            }
+    fn tell(&mut self, run: LostRun) {
+        if !self.refused && keep(&mut self.runs, run).is_err() {
+            self.refused = true;
         }
     }
 }

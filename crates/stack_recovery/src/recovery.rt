@@ -45,7 +45,7 @@ pub fn recover<D: BlockDev, O: BlockDev, L: Listing>(
     requires room { size stack.old.config (mapped d.0) ≤ (O.state out.old).size }
     requires allowed { IsTrue (O.state out.old).may_write }
     ensures ok { IfOk result (Recovered O.state L.told d stack.old out.old listing.old stack.new out.new listing.new) }
-    ensures err { IfErr result (EndsRecovery O.state L.told L.failed d.0 (parties stack.old out.old listing.old) (parties stack.new out.new listing.new)) }
+    ensures err { IfErr result (EndsRecovery O.state L.told d.0 (parties stack.old out.old listing.old) (parties stack.new out.new listing.new)) }
 {
     recover_with(stack, d, out, listing, &mut NoProgress)
 }
@@ -62,7 +62,7 @@ pub fn recover_with<D: BlockDev, O: BlockDev, L: Listing, P: Progress>(
     requires room { size stack.old.config (mapped d.0) ≤ (O.state out.old).size }
     requires allowed { IsTrue (O.state out.old).may_write }
     ensures ok { IfOk result (Recovered O.state L.told d stack.old out.old listing.old stack.new out.new listing.new) }
-    ensures err { IfErr result (EndsRecovery O.state L.told L.failed d.0 (parties stack.old out.old listing.old) (parties stack.new out.new listing.new)) }
+    ensures err { IfErr result (EndsRecovery O.state L.told d.0 (parties stack.old out.old listing.old) (parties stack.new out.new listing.new)) }
 {
     let ahead = Ahead::unread(stack.config().sectors(d));
     go_over(stack, d, out, ahead, &mut None, listing, progress)
@@ -84,7 +84,7 @@ pub(crate) fn go_over<D: BlockDev, O: BlockDev, L: Listing, P: Progress>(
     requires allowed { IsTrue (O.state out.old).may_write }
     requires begun { AreMarksNoted noted.old [] }
     ensures ok { IfOk result (GoesOverBy O.state L.told (marks_ahead ahead.entry) d.0 (parties stack.old out.old listing.old) noted.new (parties stack.new out.new listing.new)) }
-    ensures err { IfErr result (EndsEarlyBy O.state L.told L.failed (is_some noted.old) (marks_ahead ahead.entry) d.0 (parties stack.old out.old listing.old) (parties stack.new out.new listing.new)) }
+    ensures err { IfErr result (EndsEarlyBy O.state L.told (is_some noted.old) (marks_ahead ahead.entry) d.0 (parties stack.old out.old listing.old) (parties stack.new out.new listing.new)) }
     ensures noted { OnOk result (is_some noted.new ≡ is_some noted.old) }
 {
     // How many sectors a device can have is learned from a call.
@@ -121,7 +121,7 @@ fn go_over_by<D: BlockDev, O: BlockDev, L: Listing, P: Progress>(
     requires buffer { length room.old ≡ 65536 }
     requires few { size stack.old.config (mapped d.0) ≤ 2 ^ 54 }
     ensures ok { IfOk result (GoesOverBy O.state L.told (marks_ahead ahead.entry) d.0 (parties stack.old out.old listing.old) noted.new (parties stack.new out.new listing.new)) }
-    ensures err { IfErr result (EndsEarlyBy O.state L.told L.failed (is_some noted.old) (marks_ahead ahead.entry) d.0 (parties stack.old out.old listing.old) (parties stack.new out.new listing.new)) }
+    ensures err { IfErr result (EndsEarlyBy O.state L.told (is_some noted.old) (marks_ahead ahead.entry) d.0 (parties stack.old out.old listing.old) (parties stack.new out.new listing.new)) }
     ensures noted { OnOk result (is_some noted.new ≡ is_some noted.old) }
 {
     let sectors = stack.config().sectors(d);
@@ -132,7 +132,7 @@ fn go_over_by<D: BlockDev, O: BlockDev, L: Listing, P: Progress>(
         let run = ahead.next_run();
         if run.had {
             note(noted, run.count, true)?;
-            tally.close(listing)?;
+            tally.close(listing);
             ahead.pass(run.count);
             at += run.count;
         } else {
@@ -144,7 +144,7 @@ fn go_over_by<D: BlockDev, O: BlockDev, L: Listing, P: Progress>(
                 Ok(()) => {
                     note(noted, count, true)?;
                     out.write(at, bytes)?;
-                    tally.close(listing)?;
+                    tally.close(listing);
                     ahead.pass(count);
                     at += count;
                     pace = pace.after_bytes(piece.count, at);
@@ -161,7 +161,7 @@ fn go_over_by<D: BlockDev, O: BlockDev, L: Listing, P: Progress>(
             }
         }
     }
-    tally.close(listing)?;
+    tally.close(listing);
     Ok(tally.counts(sectors))
 }
 
@@ -184,8 +184,7 @@ fn lose_piece<L: Listing>(
     ensures noted { IfOk result (NotesLost piece.count noted.old noted.new) }
     ensures tallied { IfOk result (TalliesLost (run_lost at piece.count fault) tally.old tally.new) }
     ensures told { IfOk result (ListsLost L.told (run_lost at piece.count fault) tally.old listing.old listing.new) }
-    ensures kept { OnOk result (L.failed listing.new ≡ L.failed listing.old) }
-    ensures err { IfErr result (StopsInPiece L.failed fault (is_some noted.old) listing.old listing.new) }
+    ensures err { IfErr result (StopsInPiece fault (is_some noted.old) listing.old listing.new) }
 {
     if is_same(fault, IoFault::NoMemory) {
         return Err(RecoveryFault::NoMemory);
@@ -200,7 +199,7 @@ fn lose_piece<L: Listing>(
         count,
         fault,
     };
-    tally.lose(listing, run)?;
+    tally.lose(listing, run);
     Ok(true)
 }
 

@@ -36,7 +36,7 @@ pub fn rescue<D: BlockDev, O: BlockDev, L: Listing, P: Progress>(
     requires room { size stack.old.config (mapped d.0) ≤ (O.state out.old).size }
     requires allowed { IsTrue (O.state out.old).may_write }
     ensures ok { IfOk result (RescuesBy O.state L.told (marks map.now) d.0 (parties stack.old out.old listing.old) (parties stack.new out.new listing.new)) }
-    ensures err { IfErr result (EndsRescue O.state L.told L.failed (marks map.now) d.0 (parties stack.old out.old listing.old) (parties stack.new out.new listing.new)) }
+    ensures err { IfErr result (EndsRescue O.state L.told (marks map.now) d.0 (parties stack.old out.old listing.old) (parties stack.new out.new listing.new)) }
 {
     let mut noted = Some(Map::new(alloc));
     let ahead = Ahead::of_map(map);

@@ -1,13 +1,12 @@
 //! The lost sectors of a device, while it is gone over.
-ghost use Rattle.std.specs.Prelude.{◌≡◌, ◌+◌, ◌-◌, ◌<◌, ◌≤◌, ◌^◌, None, Some, OnOk};
-ghost use Rattle.stack_recovery.specs.Listings.{TellsLost};
+ghost use Rattle.std.specs.Prelude.{◌≡◌, ◌+◌, ◌-◌, ◌<◌, ◌≤◌, ◌^◌, None, Some};
+ghost use Rattle.stack_recovery.specs.Listings.{Tells};
 ghost use Rattle.stack_recovery.specs.Tallies.{EndsAtSector, closed_lost, joined_lost, listed_lost, opened_lost};
 ghost use Rattle.stack_recovery.specs.Texts.{lost_text};
 
 use crate::listing::Listing;
 use crate::lost_run::{LostRun, is_same};
 use crate::recovery::Counts;
-use counted_io::WriteFault;
 
 /// The lost run that may still grow, and how many sectors are lost.
 #[derive(Clone, Copy)]
@@ -55,44 +54,35 @@ impl Tally {
     }
 
     /// Tells the run that may still grow, since it doesn't.
-    #[tactic(auto, using(crate::proofs::WritingLemmas::writes_nothing))]
-    pub(crate) fn close<L: Listing>(&mut self, listing: &mut L) -> Result<(), WriteFault>
-        ensures text { TellsLost L.told L.failed listing.old listing.new (lost_text (listed_lost self.old.last)) result }
-        ensures last { OnOk result (self.new.last ≡ None) }
+    #[tactic(auto, using(crate::proofs::WritingLemmas::tells_nothing))]
+    pub(crate) fn close<L: Listing>(&mut self, listing: &mut L)
+        ensures text { Tells (L.told listing.old) (L.told listing.new) (lost_text (listed_lost self.old.last)) }
+        ensures last { self.new.last ≡ None }
         ensures lost { self.new.lost ≡ self.old.lost }
     {
-        match self.last {
-            None => Ok(()),
-            Some(run) => {
-                listing.tell(run)?;
-                self.last = None;
-                Ok(())
-            }
+        if let Some(run) = self.last {
+            listing.tell(run);
+            self.last = None;
         }
     }
 
     /// Adds a run that begins where the sectors so far end.
-    #[tactic(auto, using(crate::proofs::WritingLemmas::writes_nothing))]
-    pub(crate) fn lose<L: Listing>(
-        &mut self,
-        listing: &mut L,
-        run: LostRun,
-    ) -> Result<(), WriteFault>
+    #[tactic(auto, using(crate::proofs::WritingLemmas::tells_nothing))]
+    pub(crate) fn lose<L: Listing>(&mut self, listing: &mut L, run: LostRun)
         requires ends { EndsAtSector self.old.last run.first }
         requires lost { self.old.lost ≤ run.first }
         requires room { run.first + run.count < 2 ^ 64 }
-        ensures text { TellsLost L.told L.failed listing.old listing.new (lost_text (closed_lost self.old.last run)) result }
-        ensures last { OnOk result (self.new.last ≡ Some (opened_lost self.old.last run)) }
-        ensures lost { OnOk result (self.new.lost ≡ self.old.lost + run.count) }
+        ensures text { Tells (L.told listing.old) (L.told listing.new) (lost_text (closed_lost self.old.last run)) }
+        ensures last { self.new.last ≡ Some (opened_lost self.old.last run) }
+        ensures lost { self.new.lost ≡ self.old.lost + run.count }
     {
         match joined(self.last, run) {
             Some(both) => self.last = Some(both),
             None => {
-                self.close(listing)?;
+                self.close(listing);
                 self.last = Some(run);
             }
         }
         self.lost += run.count;
-        Ok(())
     }
 }

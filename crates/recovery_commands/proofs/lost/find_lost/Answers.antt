@@ -1,8 +1,10 @@
-use Rattle.std.proofs.Common.{inl, inr, refl, ap, ◌∙◌, arith}
+use Rattle.std.proofs.Common.{Bool, false, Some, inl, inr, refl, ap, ◌∙◌, arith}
 use Rattle.stack_rules.specs.Names.{mapped, size}
 use Rattle.stack_rules.specs.Records.{Configuration}
 use Rattle.stack_config.proofs.lemmas.LoadedLineLemmas.{size-most}
 use Rattle.stack_making.specs.NamedDevices.{device_place}
+use Rattle.stack_recovery.specs.Listings.{listed}
+use Rattle.stack_recovery.specs.Texts.{lost_text}
 use Rattle.recovery_commands.specs.declared.fault.RecoveringFault.TheVariants.{Stack}
 use Rattle.recovery_commands.proofs.KeptLemmas.{ends-none, recovers-none}
 use Rattle.recovery_commands.proofs.OpeningLemmas.{err-from}
@@ -21,21 +23,35 @@ returns-in_err-stack-clause-err g c =
 pub returns-in_err-counts-clause-err : goal.returns-in_err-counts-clause-err
 returns-in_err-counts-clause-err g c =
     err-from c.from_residual-in_err-counts.result _ c.in_err-counts.field-0.0 c.from_residual-in_err-counts.ensures.1
-    (inr (record {
+    (inr (inl (record {
       kept = _;
       failed = _;
-      cause = c.in_err-counts.ensures.err.0;
       cuts = record {
         at = device_place c.in_ok-stack.stack c.in_ok-stack.device.0;
         out = _;
         left = _;
+        unprinted = false;
         found = c.in_ok-stack.ensures.ok;
         sure = refl;
-        fails = ends-none _ _ _ _ _ _ _ c.new-kept.ensures.runs c.in_err-counts.ensures.err.1;
+        fails = ends-none _ _ _ _ _ _ _ c.new-kept.ensures.runs c.new-kept.ensures.refused c.in_err-counts.ensures.err;
         same = refl;
       };
-      is = c.in_err-counts.ensures.err.2;
-    }))
+    })))
+
+pub returns-then-search-clause-err : goal.returns-then-search-clause-err
+returns-then-search-clause-err g c = inr (inr (record {
+  counts = c.in_ok-counts.counts;
+  kept = _;
+  scanned = record {
+    at = device_place c.in_ok-stack.stack c.in_ok-stack.device.0;
+    out = _;
+    left = _;
+    found = c.in_ok-stack.ensures.ok;
+    recovered = recovers-none _ _ _ _ _ _ _ c.new-kept.ensures.runs c.new-kept.ensures.refused c.in_ok-counts.ensures.ok;
+    same = ap (λ (b : Bool). listed (Some (lost_text c.keep_runs.new.search.kept.runs.items)) b) c.if-search.true;
+  };
+  is = refl;
+}))
 
 pub returns-clause-ok : goal.returns-clause-ok
 returns-clause-ok g c = record {
@@ -43,6 +59,6 @@ returns-clause-ok g c = record {
   out = _;
   left = _;
   found = c.in_ok-stack.ensures.ok;
-  recovered = recovers-none _ _ _ _ _ _ c.new-kept.ensures.runs c.in_ok-counts.ensures.ok;
-  same = refl;
+  recovered = recovers-none _ _ _ _ _ _ _ c.new-kept.ensures.runs c.new-kept.ensures.refused c.in_ok-counts.ensures.ok;
+  same = ap (λ (b : Bool). listed (Some (lost_text c.keep_runs.new.search.kept.runs.items)) b) c.if-search.false;
 }

@@ -1,9 +1,10 @@
-use Rattle.std.proofs.Common.{inl, inr, refl, ap, ◌∙◌, arith}
+use Rattle.std.proofs.Common.{Bool, inl, inr, refl, ap, ◌∙◌, arith}
 use Rattle.std.proofs.lemmas.Result.{IfErr-weaker, on_ok_weaker}
 use Rattle.stack_rules.specs.Names.{mapped, size}
 use Rattle.stack_rules.specs.Records.{Configuration}
 use Rattle.stack_config.proofs.lemmas.LoadedLineLemmas.{size-most}
 use Rattle.stack_making.specs.NamedDevices.{device_place}
+use Rattle.stack_recovery.specs.Listings.{listed}
 use Rattle.recovery_commands.specs.declared.fault.RecoveringFault.TheVariants.{Stack}
 use Rattle.recovery_commands.proofs.OpeningLemmas.{err-from}
 use Rattle.recovery_commands.proofs.scan.scan_device.Goals as goal
@@ -25,6 +26,7 @@ returns-in_err-counts-clause-err g c =
       at = device_place c.in_ok-stack.stack c.in_ok-stack.device.0;
       out = _;
       left = _;
+      unprinted = _;
       found = c.in_ok-stack.ensures.ok;
       sure = refl;
       fails = c.in_err-counts.ensures.err;
@@ -34,6 +36,7 @@ returns-in_err-counts-clause-err g c =
 pub returns-clause-ok : goal.returns-clause-ok
 returns-clause-ok g c = on_ok_weaker c.tell_counts.result (λ told. record {
   counts = c.in_ok-counts.counts;
+  unprinted = _;
   printed = _;
   scanned = record {
     at = device_place c.in_ok-stack.stack c.in_ok-stack.device.0;
@@ -41,14 +44,15 @@ returns-clause-ok g c = on_ok_weaker c.tell_counts.result (λ told. record {
     left = _;
     found = c.in_ok-stack.ensures.ok;
     recovered = c.in_ok-counts.ensures.ok;
-    same = refl;
+    same = ap (λ (b : Bool). listed (g.W.Write.contents c.recover_device.new.listing.inner) b) told.0;
   };
-  told = told;
+  told = told.1;
 }) c.tell_counts.ensures.ok
 
 pub returns-clause-err : goal.returns-clause-err
 returns-clause-err g c = IfErr-weaker c.tell_counts.result _ _ (λ fault ends. inr (inr (record {
   counts = c.in_ok-counts.counts;
+  unprinted = _;
   printed = _;
   scanned = record {
     at = device_place c.in_ok-stack.stack c.in_ok-stack.device.0;

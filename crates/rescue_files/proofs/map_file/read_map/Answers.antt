@@ -1,36 +1,30 @@
-use Rattle.std.proofs.Common.{◌≡◌, ℕ, false, List, length, Ok, Err, sym, ap, subst, ◌∙◌, arith, inl, inr}
+use Rattle.std.proofs.Common.{false, length, Err, sym, ap, subst, ◌∙◌, arith, inl, inr}
 use Rattle.std.proofs.lemmas.List.{length-replicate}
 use Rattle.std.proofs.lemmas.Result.{IfErr-weaker, IfOk-weaker}
 use Rattle.block_device.specs.declared.open_fault.OpenFault.{OpenFault}
 use Rattle.image_files.specs.Opener.{calls}
-use Rattle.rescue_map.specs.MapText.{IsMapAnswer, map_of}
 use Rattle.rescue_files.specs.declared.fault.RescueFault.{RescueFault}
 use Rattle.rescue_files.specs.MapFiles.{IsMapUnread, most_map}
-use Rattle.rescue_files.proofs.MapFileLemmas.{missing-is, told-fault}
+use Rattle.rescue_files.proofs.MapFileLemmas.{missing-is, unread-told}
 use Rattle.rescue_files.proofs.map_file.read_map.Goals as goal
 
 pub returns-then-len-gt-MOST_TEXT-clause-err : goal.returns-then-len-gt-MOST_TEXT-clause-err
 returns-then-len-gt-MOST_TEXT-clause-err g c = (c.in-Ok.text, c.in-Ok.ensures.told, omega (arith, c.len.ensures, c.if-len-gt-MOST_TEXT.true))
 
-pub returns-in-Ok-parse_map-clause-ok : goal.returns-in-Ok-parse_map-clause-ok
-returns-in-Ok-parse_map-clause-ok g c = inl (record {
-  text = c.in-Ok.text;
-  told = c.in-Ok.ensures.told;
-  says = subst (λ (l : List ℕ). map_of c.args.sectors l ≡ Ok c.in-Ok-parse_map.map) c.as_slice.ensures.value c.in-Ok-parse_map.ensures.answer;
-})
+pub returns-else-len-gt-MOST_TEXT-clause-ok : goal.returns-else-len-gt-MOST_TEXT-clause-ok
+returns-else-len-gt-MOST_TEXT-clause-ok g c =
+    IfOk-weaker c.map_in.result _ _ (λ map says. inl (record { text = c.in-Ok.text; told = c.in-Ok.ensures.told; says = rw c.as_slice.ensures.value at says })) c.map_in.ensures.ok
 
-pub returns-in-Ok-clause-err : goal.returns-in-Ok-clause-err
-returns-in-Ok-clause-err g c = (
-  c.in-Ok.text,
-  c.in-Ok.ensures.told,
-  told-fault c.in-Err-parse_map.fault (map_of c.args.sectors c.in-Ok.text.bytes.items)
-      (subst (λ (l : List ℕ). IsMapAnswer (Err c.in-Err-parse_map.fault) (map_of c.args.sectors l)) c.as_slice.ensures.value c.in-Err-parse_map.ensures.answer),
-)
+pub returns-else-len-gt-MOST_TEXT-clause-err : goal.returns-else-len-gt-MOST_TEXT-clause-err
+returns-else-len-gt-MOST_TEXT-clause-err g c =
+    IfErr-weaker c.map_in.result _ _
+    (λ fault unread. unread-told (calls g.I.Images.relations g.I.Dev.BlockDev.state c.args.images.now c.read_text.new.self) c.args.file.path.now c.args.sectors c.in-Ok.text fault c.in-Ok.ensures.told (rw c.as_slice.ensures.value at unread))
+    c.map_in.ensures.err
 
 pub returns-then-is_missing-clause-ok : goal.returns-then-is_missing-clause-ok
 returns-then-is_missing-clause-ok g c =
     let missing = missing-is c.in-Err.fault (sym c.is_missing.ensures ∙ c.if-is_missing.true) in
-    let told = subst (λ (f : OpenFault). g.I.Images.relations.tells c.args.images.now c.args.path.now most_map (Err f) c.read_text.new.self) missing c.in-Err.ensures.told in
+    let told = subst (λ (f : OpenFault). g.I.Images.relations.tells c.args.images.now c.args.file.path.now most_map (Err f) c.read_text.new.self) missing c.in-Err.ensures.told in
     IfOk-weaker c.new_map.result _ _ (λ map is. inr (record { missing = told; unread = is })) c.new_map.ensures.ok
 
 pub returns-then-is_missing-clause-sectors : goal.returns-then-is_missing-clause-sectors
@@ -39,8 +33,8 @@ returns-then-is_missing-clause-sectors g c = IfOk-weaker c.new_map.result _ _ (�
 pub returns-then-is_missing-clause-err : goal.returns-then-is_missing-clause-err
 returns-then-is_missing-clause-err g c =
     let missing = missing-is c.in-Err.fault (sym c.is_missing.ensures ∙ c.if-is_missing.true) in
-    let told = subst (λ (f : OpenFault). g.I.Images.relations.tells c.args.images.now c.args.path.now most_map (Err f) c.read_text.new.self) missing c.in-Err.ensures.told in
-    IfErr-weaker c.new_map.result _ _ (λ fault is. subst (λ (f : RescueFault). IsMapUnread (calls g.I.Images.relations g.I.Dev.BlockDev.state c.args.images.now c.read_text.new.self) c.args.path.now c.args.sectors f) (sym is) told) c.new_map.ensures.err
+    let told = subst (λ (f : OpenFault). g.I.Images.relations.tells c.args.images.now c.args.file.path.now most_map (Err f) c.read_text.new.self) missing c.in-Err.ensures.told in
+    IfErr-weaker c.new_map.result _ _ (λ fault is. subst (λ (f : RescueFault). IsMapUnread (calls g.I.Images.relations g.I.Dev.BlockDev.state c.args.images.now c.read_text.new.self) c.args.file.path.now c.args.sectors f) (sym is) (inl told)) c.new_map.ensures.err
 
-pub returns : goal.returns
-returns g c = record { ok = tt; sectors = tt; err = (sym c.is_missing.ensures ∙ c.if-is_missing.false, c.in-Err.ensures.told) }
+pub returns-else-is_missing : goal.returns-else-is_missing
+returns-else-is_missing g c = record { ok = tt; sectors = tt; err = (sym c.is_missing.ensures ∙ c.if-is_missing.false, c.in-Err.ensures.told) }

@@ -3,6 +3,7 @@ use Rattle.stack_rules.specs.Names.{mapped, size}
 use Rattle.stack_rules.specs.Records.{Configuration}
 use Rattle.rescue_files.specs.declared.fault.RescueFault.TheVariants.{NoMemory}
 use Rattle.stack_recovery.specs.Recoveries.{sides}
+use Rattle.rescue_files.specs.MapFiles.{map_path_of}
 use Rattle.rescue_files.specs.Turns.{begins, goes_on, passes}
 use Rattle.rescue_files.proofs.TurnLemmas.{ends-as, err-from, turn-config, turn-out, whole-as}
 use Rattle.rescue_files.proofs.turns.rescue_in_turns.Goals.{then-is_had, else-is_had+in_ok-map}
@@ -25,15 +26,15 @@ pub returns-in_err-wanted-clause-err : goal.returns-in_err-wanted-clause-err
 returns-in_err-wanted-clause-err g c =
     let u = c.turns.invariant in
     err-from c.from_residual.result _ NoMemory c.from_residual.ensures.1
-    (ends-as g.I.Images.relations.replaces c.args.file.path.now c.args.d.0 c.sectors-sectors.result _ _ _ c.turns.images
-    (sides c.turns.stack (g.O.BlockDev.state c.turns.out) (g.L.Listing.told c.turns.listing)) (g.L.Listing.failed c.turns.listing) NoMemory u.all u.turns (refl, refl))
+    (ends-as g.I.Images.relations.replaces (map_path_of c.args.kept.file) c.args.d.0 c.sectors-sectors.result _ _ _ c.turns.images
+    (sides c.turns.stack (g.O.BlockDev.state c.turns.out) (g.L.Listing.told c.turns.listing)) NoMemory u.all u.turns (refl, refl))
 
 pub returns-in_err-map-clause-err : goal.returns-in_err-map-clause-err
 returns-in_err-map-clause-err g c =
     let u = c.turns.invariant in
     err-from c.from_residual-in_err-map.result _ c.in_err-map.field-0.0 c.from_residual-in_err-map.ensures.1
-    (ends-as g.I.Images.relations.replaces c.args.file.path.now c.args.d.0 c.sectors-sectors.result _ _ _ c.take_turn.new.images
-    (sides c.take_turn.new.stack (g.O.BlockDev.state c.take_turn.new.out) (g.L.Listing.told c.take_turn.new.listing)) (g.L.Listing.failed c.take_turn.new.listing) c.in_err-map.field-0.0 u.all u.turns c.in_err-map.ensures.err)
+    (ends-as g.I.Images.relations.replaces (map_path_of c.args.kept.file) c.args.d.0 c.sectors-sectors.result _ _ _ c.take_turn.new.images
+    (sides c.take_turn.new.stack (g.O.BlockDev.state c.take_turn.new.out) (g.L.Listing.told c.take_turn.new.listing)) c.in_err-map.field-0.0 u.all u.turns c.in_err-map.ensures.err)
 
 pub turns-preserved : goal.turns-preserved
 turns-preserved g c =
@@ -78,5 +79,5 @@ pub returns-clause-ok : goal.returns-clause-ok
 returns-clause-ok g c =
     let u = c.turns.invariant in
     let end : c.turns.at ≡ c.sectors-sectors.result = omega (arith, u.within, c.turns-test.false) in
-    whole-as g.I.Images.relations.replaces c.args.file.path.now c.args.d.0 c.sectors-sectors.result _ c.turns.at _ c.turns.images
+    whole-as g.I.Images.relations.replaces (map_path_of c.args.kept.file) c.args.d.0 c.sectors-sectors.result _ c.turns.at _ c.turns.images
     (sides c.turns.stack (g.O.BlockDev.state c.turns.out) (g.L.Listing.told c.turns.listing)) c.turns.map c.totals_of.result u.all end u.turns c.totals_of.ensures

@@ -2,14 +2,15 @@ use Rattle.std.proofs.Common.{◌≡◌, ◌≤◌, ◌-◌, IsTrue, length}
 use Rattle.rescue_map.specs.Maps.{marks}
 use Rattle.stack_rules.specs.Names.{mapped, size}
 use Rattle.stack_recovery.specs.Recoveries.{sides}
+use Rattle.rescue_files.specs.MapFiles.{map_path_of}
 use Rattle.rescue_files.specs.Turns.{Turns, kept, progressed}
 use Rattle.rescue_files.proofs.turns.rescue_in_turns.Given as goal
 
 -- the turns so far, and what the next one needs
 abbrev pub invariant-turns : goal.invariant-turns
 invariant-turns g l = record {
-  turns : Turns (kept g.I.Images.relations.replaces l.fn.file.path.now l.fn.d.0 l.sectors)
-      (progressed l.fn.images (sides l.fn.stack (g.O.BlockDev.state l.fn.out) (g.L.Listing.told l.fn.listing)) l.fn.file.map 0)
+  turns : Turns (kept g.I.Images.relations.replaces (map_path_of l.fn.kept.file) l.fn.d.0 l.sectors)
+      (progressed l.fn.images (sides l.fn.stack (g.O.BlockDev.state l.fn.out) (g.L.Listing.told l.fn.listing)) l.fn.kept.map 0)
       (progressed l.images (sides l.stack (g.O.BlockDev.state l.out) (g.L.Listing.told l.listing)) l.map l.at);
   map : length (marks l.map) ≡ l.sectors;
   within : l.at ≤ l.sectors;

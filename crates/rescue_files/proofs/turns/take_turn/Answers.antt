@@ -4,16 +4,16 @@ use Rattle.block_device.specs.Device.{Device}
 use Rattle.rescue_map.specs.MapText.{map_text}
 use Rattle.stack_recovery.specs.Recoveries.{Rescues, Sides, sides}
 use Rattle.rescue_files.specs.declared.fault.RescueFault.TheVariants.{NoMemory, Output}
-use Rattle.rescue_files.specs.MapFiles.{recovery_ending}
+use Rattle.rescue_files.specs.MapFiles.{map_path_of, recovery_ending}
 use Rattle.rescue_files.specs.Turns.{kept, progressed}
 use Rattle.rescue_files.proofs.TurnLemmas.{err-from, failed-behind, stops-rescue, stops-unwritten}
 use Rattle.rescue_files.proofs.turns.take_turn.Goals as goal
 
 pub returns-in_err-rescued-clause-err : goal.returns-in_err-rescued-clause-err
 returns-in_err-rescued-clause-err g c =
-    let k = kept g.I.Images.relations.replaces c.args.turn.path.now c.args.d.0 c.args.turn.sectors in
+    let k = kept g.I.Images.relations.replaces (map_path_of c.args.turn.file) c.args.d.0 c.args.turn.sectors in
     let now = progressed c.args.images.now (sides c.args.stack.now (g.O.BlockDev.state c.args.out.now) (g.L.Listing.told c.args.listing.now)) c.args.turn.map.now c.args.turn.span.first in
-    err-from c.from_residual.result _ (recovery_ending c.in_err-rescued.field-0.0) c.from_residual.ensures.1 (stops-rescue k now _ _ _ c.in_err-rescued.field-0.0 c.in_err-rescued.ensures.err)
+    err-from c.from_residual.result _ (recovery_ending c.in_err-rescued.field-0.0) c.from_residual.ensures.1 (stops-rescue k now _ _ c.in_err-rescued.field-0.0 c.in_err-rescued.ensures.err)
 
 pub returns-in_err-sync-clause-err : goal.returns-in_err-sync-clause-err
 returns-in_err-sync-clause-err g c =
@@ -28,10 +28,10 @@ returns-in_err-map-clause-err g c =
 
 pub returns-in_err-write_map-clause-err : goal.returns-in_err-write_map-clause-err
 returns-in_err-write_map-clause-err g c =
-    let k = kept g.I.Images.relations.replaces c.args.turn.path.now c.args.d.0 c.args.turn.sectors in
+    let k = kept g.I.Images.relations.replaces (map_path_of c.args.turn.file) c.args.d.0 c.args.turn.sectors in
     let now = progressed c.args.images.now (sides c.args.stack.now (g.O.BlockDev.state c.args.out.now) (g.L.Listing.told c.args.listing.now)) c.args.turn.map.now c.args.turn.span.first in
     err-from c.from_residual-in_err-write_map.result _ c.in_err-write_map.field-0.0 c.from_residual-in_err-write_map.ensures.1
-    (stops-unwritten k now (map_text c.tried_before-tried.result c.in_ok-map.map) c.write_map.new.images (sides c.rescue.new.stack (g.O.BlockDev.state c.sync.new.self) (g.L.Listing.told c.rescue.new.listing)) (g.L.Listing.failed c.rescue.new.listing) c.in_err-write_map.field-0.0
+    (stops-unwritten k now (map_text c.args.turn.file.kind c.tried_before-tried.result c.in_ok-map.map) c.write_map.new.images (sides c.rescue.new.stack (g.O.BlockDev.state c.sync.new.self) (g.L.Listing.told c.rescue.new.listing)) c.in_err-write_map.field-0.0
     (ap (λ (o : Device). o.failures) c.in_ok-sync.ensures.ok ∙ c.in_ok-rescued.ensures.ok.unfailed) c.in_err-write_map.ensures.err)
 
 pub returns-clause-ok : goal.returns-clause-ok
@@ -46,5 +46,5 @@ returns-clause-ok g c =
       rescues = subst (λ (l : List Bool). Rescues l c.args.d.0 old c.in_ok-rescued.rescued left) c.requires.wanted c.in_ok-rescued.ensures.ok;
       on_medium = ap (λ (o : Device). sides c.rescue.new.stack o (g.L.Listing.told c.rescue.new.listing)) c.in_ok-sync.ensures.ok;
       map = c.in_ok-map.ensures.marks;
-      written = subst (λ (t : Option ℕ). g.I.Images.relations.replaces c.args.images.now c.args.turn.path.now (map_text t c.in_ok-map.map) (Ok tt) c.write_map.new.images) c.tried_before-tried.ensures c.in_ok-write_map.ensures.ok;
+      written = subst (λ (t : Option ℕ). g.I.Images.relations.replaces c.args.images.now c.args.turn.file.path.now (map_text c.args.turn.file.kind t c.in_ok-map.map) (Ok tt) c.write_map.new.images) c.tried_before-tried.ensures c.in_ok-write_map.ensures.ok;
     }

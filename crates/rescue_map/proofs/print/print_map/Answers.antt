@@ -1,15 +1,17 @@
-use Rattle.std.proofs.Common.{◌+◌, ◌++◌, ◌≤◌, ◌^◌, ℕ, false, List, [], ◌∷◌, length, take, get_or, append-nil, refl, sym, ap, subst, ◌∙◌, take_all, arith}
+use Rattle.std.proofs.Common.{◌+◌, ◌++◌, ◌≤◌, ◌^◌, ℕ, false, List, [], ◌∷◌, length, take, get_or, append-nil, refl, sym, ap, ap₂, subst, ◌∙◌, take_all, arith}
 use Rattle.std.proofs.lemmas.List.{take_more}
 use Rattle.rescue_map.specs.declared.map.Run.{Run}
+use Rattle.rescue_map.specs.Kinds.{kind_of}
 use Rattle.rescue_map.specs.Maps.{marks}
 use Rattle.rescue_map.specs.MapText.{map_of, map_text, map_run_text, status_text}
-use Rattle.rescue_map.proofs.PrintedLemmas.{map-read, map_text-push}
+use Rattle.rescue_map.proofs.PrintedLemmas.{map-kind, map-read, map_text-push}
 use Rattle.rescue_map.proofs.RunLemmas.{length-take, length-within}
 use Rattle.rescue_map.proofs.print.print_map.Goals as goal
 
 pub loop-run-init : goal.loop-run-init
 unfolding map_text
-loop-run-init c = (c.in_ok-text.ensures.items ∙ c.status_line.ensures ∙ sym (append-nil (status_text c.args.tried ++ 10 ∷ [])), refl)
+loop-run-init c =
+    (c.in_ok-extend_from_slice.ensures.items ∙ ap₂ (λ (a b : List ℕ). a ++ b) (c.in_ok-text.ensures.items ∙ c.mark_line.ensures) (c.status_line.ensures ∙ sym (append-nil (status_text c.args.tried ++ 10 ∷ []))), refl)
 
 pub print_run-requires : goal.print_run-requires
 print_run-requires c =
@@ -33,14 +35,20 @@ loop-run-preserved c =
     let front : List Run = take i runs in (
       c.in_ok-print_run.ensures
           ∙ ap (λ (t : List ℕ). t ++ map_run_text c.args.tried c.loop-run.at run) c.loop-run.invariant.0
-          ∙ ap (λ (n : ℕ). map_text c.args.tried front ++ map_run_text c.args.tried n run) c.loop-run.invariant.1
-          ∙ map_text-push c.args.tried front run
-          ∙ ap (map_text c.args.tried) (sym (take_more runs i (record { count = 0; had = false }) c.loop-run-test.true)),
+          ∙ ap (λ (n : ℕ). map_text c.args.kind c.args.tried front ++ map_run_text c.args.tried n run) c.loop-run.invariant.1
+          ∙ map_text-push c.args.kind c.args.tried front run
+          ∙ ap (map_text c.args.kind c.args.tried) (sym (take_more runs i (record { count = 0; had = false }) c.loop-run-test.true)),
       ap (λ (n : ℕ). n + run.count) c.loop-run.invariant.1 ∙ sym (length-take runs i (record { count = 0; had = false }) c.loop-run-test.true),
     )
 
 pub returns-clause-reads_back : goal.returns-clause-reads_back
 returns-clause-reads_back c =
     let items = c.runs-run-items.ensures in
-    ap (map_of (length (marks c.args.map.now))) (c.loop-run.invariant.0 ∙ ap (map_text c.args.tried) (take_all _ _ c.loop-run-test.false ∙ items.value))
-    ∙ map-read c.args.tried c.args.map.now items.whole
+    ap (map_of (length (marks c.args.map.now))) (c.loop-run.invariant.0 ∙ ap (map_text c.args.kind c.args.tried) (take_all _ _ c.loop-run-test.false ∙ items.value))
+    ∙ map-read c.args.kind c.args.tried c.args.map.now items.whole
+
+pub returns-clause-kind : goal.returns-clause-kind
+returns-clause-kind c =
+    let items = c.runs-run-items.ensures in
+    ap kind_of (c.loop-run.invariant.0 ∙ ap (map_text c.args.kind c.args.tried) (take_all _ _ c.loop-run-test.false ∙ items.value))
+    ∙ map-kind c.args.kind c.args.tried c.args.map.now items.whole

@@ -1,8 +1,8 @@
-use Rattle.std.proofs.Common.{◌≡◌, ◌+◌, ◌++◌, ◌≤◌, ℕ, Bool, replicate, refl, sym, ap, ◌∙◌, arith}
+use Rattle.std.proofs.Common.{◌≡◌, ◌++◌, ◌≤◌, ℕ, Bool, replicate, refl, sym, ap, ◌∙◌, arith}
 use Rattle.rescue_map.specs.Aheads.{marks_ahead}
 use Rattle.rescue_map.specs.declared.map.Run.{Run}
 use Rattle.rescue_map.specs.Maps.{marks}
-use Rattle.rescue_map.proofs.SpliceLemmas.{enough-more, length-more, moved-all, moved-more, rest-more}
+use Rattle.rescue_map.proofs.SpliceLemmas.{enough-more, length-more, moved-more, rest-more}
 use Rattle.rescue_map.proofs.splicing.move_marks.Goals as goal
 
 pub runs-init : goal.runs-init

@@ -1,8 +1,9 @@
-use Rattle.std.proofs.Common.{inl, inr, refl, ap, ◌∙◌, arith}
+use Rattle.std.proofs.Common.{Bool, inl, inr, refl, ap, ◌∙◌, arith}
 use Rattle.stack_rules.specs.Names.{mapped, size}
 use Rattle.stack_rules.specs.Records.{Configuration}
 use Rattle.stack_config.proofs.lemmas.LoadedLineLemmas.{size-most}
 use Rattle.stack_making.specs.NamedDevices.{device_place}
+use Rattle.stack_recovery.specs.Listings.{listed}
 use Rattle.stack_commands.specs.declared.fault.CommandFault.TheVariants.{Map, Recovering, Stack}
 use Rattle.stack_commands.proofs.OpeningLemmas.{err-from}
 use Rattle.stack_commands.proofs.mapped_scan.scan_by_map.Goals as goal
@@ -25,6 +26,7 @@ returns-in_err-counts-clause-err g c =
       out = _;
       left = _;
       between = c.open_device.new.images;
+      unprinted = _;
       found = c.in_ok-stack.ensures.ok;
       fails = c.in_err-counts.ensures.err;
       same = refl;
@@ -33,6 +35,7 @@ returns-in_err-counts-clause-err g c =
 pub returns-clause-ok : goal.returns-clause-ok
 returns-clause-ok g c = record {
   counts = c.in_ok-counts.counts;
+  unprinted = _;
   printed = _;
   scanned = record {
     at = device_place c.in_ok-stack.stack c.in_ok-stack.device.0;
@@ -41,9 +44,9 @@ returns-clause-ok g c = record {
     between = c.open_device.new.images;
     found = c.in_ok-stack.ensures.ok;
     rescued = c.in_ok-counts.ensures.ok;
-    same = refl;
+    same = ap (λ (b : Bool). listed (g.W.Write.contents c.rescue_by_map.new.listing.inner) b) c.in_ok-tell_counts.ensures.ok.0;
   };
-  told = c.in_ok-tell_counts.ensures.ok;
+  told = c.in_ok-tell_counts.ensures.ok.1;
 }
 
 pub returns-in_err-tell_counts-clause-err : goal.returns-in_err-tell_counts-clause-err
@@ -51,6 +54,7 @@ returns-in_err-tell_counts-clause-err g c =
     err-from c.from_residual-in_err-tell_counts.result _ (Recovering c.in_err-tell_counts.field-0.0) c.from_residual-in_err-tell_counts.ensures.1
     (inr (inr (record {
       counts = c.in_ok-counts.counts;
+      unprinted = _;
       printed = _;
       scanned = record {
         at = device_place c.in_ok-stack.stack c.in_ok-stack.device.0;

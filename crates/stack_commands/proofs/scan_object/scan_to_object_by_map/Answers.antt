@@ -1,10 +1,12 @@
-use Rattle.std.proofs.Common.{inl, inr, refl, ap, ◌∙◌, arith}
+use Rattle.std.proofs.Common.{Bool, false, Some, inl, inr, refl, ap, ◌∙◌, arith}
 use Rattle.std.proofs.lemmas.Result.{IfErr-weaker, on_ok_weaker}
 use Rattle.image_files.specs.Opener.{calls}
 use Rattle.stack_rules.specs.Names.{mapped, size}
 use Rattle.stack_rules.specs.Records.{Configuration}
 use Rattle.stack_config.proofs.lemmas.LoadedLineLemmas.{size-most}
 use Rattle.stack_making.specs.NamedDevices.{device_place}
+use Rattle.stack_recovery.specs.Listings.{listed}
+use Rattle.stack_recovery.specs.Texts.{lost_text}
 use Rattle.stack_commands.specs.declared.fault.CommandFault.TheVariants.{Map, Stack}
 use Rattle.stack_commands.proofs.KeptLemmas.{rescued-none, unrescued-none}
 use Rattle.stack_commands.proofs.OpeningLemmas.{err-from}
@@ -25,36 +27,54 @@ returns-in_err-counts-clause-err g c =
     err-from c.from_residual-in_err-counts.result _ (Map c.in_err-counts.field-0.0) c.from_residual-in_err-counts.ensures.1
     (inl (
       refl,
-      inr (record {
+      inr (inl (record {
         kept = _;
-        failed = c.keep_runs_by_map.new.kept.refused;
-        cause = c.in_err-counts.ensures.err.0;
+        failed = _;
         cuts = record {
           at = device_place c.in_ok-stack.stack c.in_ok-stack.device.0;
           out = _;
           left = _;
           between = c.open_device.new.images;
+          unprinted = false;
           found = c.in_ok-stack.ensures.ok;
-          fails = unrescued-none (calls g.I.Images.relations g.I.Dev.BlockDev.state c.open_device.new.images c.keep_runs_by_map.new.images) _ c.in_ok-stack.device.0
-              _ _ _ _ c.keep_runs_by_map.new.kept.refused c.in_err-counts.ensures.err.0 c.new-kept.ensures.runs c.in_err-counts.ensures.err.1;
+          fails = unrescued-none (calls g.I.Images.relations g.I.Dev.BlockDev.state c.open_device.new.images c.rescue_by_map.new.images) _ c.in_ok-stack.device.0
+              _ _ _ _ _ c.in_err-counts.field-0.0 c.new-kept.ensures.runs c.new-kept.ensures.refused c.in_err-counts.ensures.err;
           same = refl;
         };
-        is = c.in_err-counts.ensures.err.2;
-      }),
+      })),
     ))
+
+pub returns-then-refused-clause-err : goal.returns-then-refused-clause-err
+returns-then-refused-clause-err g c = inl (
+  refl,
+  inr (inr (record {
+    counts = c.in_ok-counts.counts;
+    kept = _;
+    scanned = record {
+      at = device_place c.in_ok-stack.stack c.in_ok-stack.device.0;
+      out = _;
+      left = _;
+      between = c.open_device.new.images;
+      found = c.in_ok-stack.ensures.ok;
+      rescued = rescued-none _ _ _ _ _ _ _ _ _ c.new-kept.ensures.runs c.new-kept.ensures.refused c.in_ok-counts.ensures.ok;
+      same = ap (λ (b : Bool). listed (Some (lost_text c.rescue_by_map.new.listing.runs.items)) b) c.if-refused.true;
+    };
+    is = refl;
+  })),
+)
 
 pub returns-clause-ok : goal.returns-clause-ok
 returns-clause-ok g c = on_ok_weaker c.say_lost.result (λ said. record {
   counts = c.in_ok-counts.counts;
-  runs = c.keep_runs_by_map.new.kept.runs.items;
+  runs = c.rescue_by_map.new.listing.runs.items;
   gone = record {
     at = device_place c.in_ok-stack.stack c.in_ok-stack.device.0;
     out = _;
     left = _;
     between = c.open_device.new.images;
     found = c.in_ok-stack.ensures.ok;
-    rescued = rescued-none _ _ _ _ _ _ _ _ c.new-kept.ensures.runs c.in_ok-counts.ensures.ok;
-    same = refl;
+    rescued = rescued-none _ _ _ _ _ _ _ _ _ c.new-kept.ensures.runs c.new-kept.ensures.refused c.in_ok-counts.ensures.ok;
+    same = ap (λ (b : Bool). listed (Some (lost_text c.rescue_by_map.new.listing.runs.items)) b) c.if-refused.false;
   };
   none = said.0;
   printed = rw c.as_slice.ensures.value at said.1;
@@ -63,15 +83,15 @@ returns-clause-ok g c = on_ok_weaker c.say_lost.result (λ said. record {
 pub returns-clause-err : goal.returns-clause-err
 returns-clause-err g c = IfErr-weaker c.say_lost.result _ _ (λ fault ends. inr (record {
   counts = c.in_ok-counts.counts;
-  runs = c.keep_runs_by_map.new.kept.runs.items;
+  runs = c.rescue_by_map.new.listing.runs.items;
   gone = record {
     at = device_place c.in_ok-stack.stack c.in_ok-stack.device.0;
     out = _;
     left = _;
     between = c.open_device.new.images;
     found = c.in_ok-stack.ensures.ok;
-    rescued = rescued-none _ _ _ _ _ _ _ _ c.new-kept.ensures.runs c.in_ok-counts.ensures.ok;
-    same = refl;
+    rescued = rescued-none _ _ _ _ _ _ _ _ _ c.new-kept.ensures.runs c.new-kept.ensures.refused c.in_ok-counts.ensures.ok;
+    same = ap (λ (b : Bool). listed (Some (lost_text c.rescue_by_map.new.listing.runs.items)) b) c.if-refused.false;
   };
   ends = rw c.as_slice.ensures.value at ends;
 })) c.say_lost.ensures.err

@@ -34,7 +34,6 @@ pieces-init g c =
       all = all;
       few = omega (arith, all, c.requires.few);
       pace = c.new-pace.ensures;
-      kept = refl;
       unfailed = refl;
       noted = refl;
     }
@@ -53,7 +52,7 @@ returns-in_err-note-clause-err g c =
     let new : Sides = sides c.pieces.stack (g.O.BlockDev.state c.pieces.out) (g.L.Listing.told c.pieces.listing) in
     let makes_map : Bool = is_some c.args.noted.now in
     err-from c.from_residual.result _ _ c.from_residual.ensures.1
-    (subst (EndsEarly makes_map (marks_ahead c.args.ahead) c.args.d.0 old new (g.L.Listing.failed c.pieces.listing)) (sym c.in_err-note.ensures.err)
+    (subst (EndsEarly makes_map (marks_ahead c.args.ahead) c.args.d.0 old new) (sym c.in_err-note.ensures.err)
     (runs-short _ _ _ _ _ _ _ u.so_far makes_map c.pieces.stack u.unfailed (λ none. absurd (false≢true (sym none ∙ sym u.noted ∙ c.in_err-note.ensures.made)))))
 
 pub overflow_add-at : goal.overflow_add-at
@@ -71,16 +70,15 @@ pieces-preserved-then-run g c =
     let first = first-run c.pieces.ahead c.next_run-run.new.self here c.next_run-run.ensures.same c.next_run-run.ensures.first in
     let inside = ahead-inside before c.pieces.at c.sectors-sectors.result here.count here.had _ _ (c.requires.fits ∙ sym u.all) u.ahead first u.within in
     let marked : AreMarked before c.pieces.at here.count true = subst (AreMarked before c.pieces.at here.count) c.if-run.true (marked-next before c.pieces.at here.count here.count here.had _ (omega arith) (u.ahead ∙ first)) in
-    let tally : c.close.new.self ≡ record { last = None; lost = c.pieces.tally.lost } = ap₂ {C = Tally} (λ (l : Option LostRun) (m : ℕ). record { last = l; lost = m }) c.in_ok-close.ensures.last c.close.ensures.lost in
+    let tally : c.close.new.self ≡ record { last = None; lost = c.pieces.tally.lost } = ap₂ {C = Tally} (λ (l : Option LostRun) (m : ℕ). record { last = l; lost = m }) c.close.ensures.last c.close.ensures.lost in
     record {
-      so_far = underway-kept _ _ _ _ _ _ _ u.so_far here.count (g.L.Listing.told c.close.new.listing) c.close.new.self c.note.new.noted c.next_run-run.ensures.some marked c.in_ok-note.ensures.ok c.in_ok-close.ensures.text.ok tally;
+      so_far = underway-kept _ _ _ _ _ _ _ u.so_far here.count (g.L.Listing.told c.close.new.listing) c.close.new.self c.note.new.noted c.next_run-run.ensures.some marked c.in_ok-note.ensures.ok c.close.ensures.text tally;
       ahead = ahead-next before c.pieces.at here.count _ _ _ (u.ahead ∙ sym c.next_run-run.ensures.same) c.pass.ensures;
       config = u.config;
       within = inside;
       all = u.all;
       few = u.few;
       pace = u.pace;
-      kept = c.in_ok-close.ensures.text.kept ∙ u.kept;
       unfailed = u.unfailed;
       noted = notes-some c.pieces.noted c.note.new.noted _ c.in_ok-note.ensures.ok ∙ u.noted;
     }
@@ -125,7 +123,7 @@ returns-in_err-note-in-Ok-clause-err g c =
     let new : Sides = sides c.read_bytes.new.self (g.O.BlockDev.state c.pieces.out) (g.L.Listing.told c.pieces.listing) in
     let makes_map : Bool = is_some c.args.noted.now in
     err-from c.from_residual-in_err-note-in-Ok.result _ _ c.from_residual-in_err-note-in-Ok.ensures.1
-    (subst (EndsEarly makes_map (marks_ahead c.args.ahead) c.args.d.0 old new (g.L.Listing.failed c.pieces.listing)) (sym c.in_err-note-in-Ok.ensures.err)
+    (subst (EndsEarly makes_map (marks_ahead c.args.ahead) c.args.d.0 old new) (sym c.in_err-note-in-Ok.ensures.err)
     (runs-short _ _ _ _ _ _ _ u.so_far makes_map c.read_bytes.new.self u.unfailed (λ none. absurd (false≢true (sym none ∙ sym u.noted ∙ c.in_err-note-in-Ok.ensures.made)))))
 
 pub write-requires-clause-range : goal.write-requires-clause-range
@@ -167,7 +165,7 @@ pieces-preserved-in-Ok g c =
     let len : length bytes ≡ 512 * n = piece.any.may.read.run.len in
     let old : Sides = sides c.args.stack.now (g.O.BlockDev.state c.args.out.now) (g.L.Listing.told c.args.listing.now) in
     let new : Sides = sides c.read_bytes.new.self (g.O.BlockDev.state c.write.new.self) (g.L.Listing.told c.close-in-Ok.new.listing) in
-    let tally : c.close-in-Ok.new.self ≡ record { last = None; lost = c.pieces.tally.lost } = ap₂ {C = Tally} (λ (l : Option LostRun) (m : ℕ). record { last = l; lost = m }) c.in_ok-close-in-Ok.ensures.last c.close-in-Ok.ensures.lost in
+    let tally : c.close-in-Ok.new.self ≡ record { last = None; lost = c.pieces.tally.lost } = ap₂ {C = Tally} (λ (l : Option LostRun) (m : ℕ). record { last = l; lost = m }) c.close-in-Ok.ensures.last c.close-in-Ok.ensures.lost in
     let k : ℕ = length bytes / 512 in
     let count : length bytes / 512 ≡ n = omega (arith, len) in
     let same : c.from-count.result ≡ n = c.from-count.ensures in
@@ -176,14 +174,13 @@ pieces-preserved-in-Ok g c =
           (underway-had _ _ _ _ _ _ _ u.so_far n bytes c.read_bytes.new.self k _ (g.O.BlockDev.state c.write.new.self) (g.L.Listing.told c.close-in-Ok.new.listing) c.close-in-Ok.new.self c.note-in-Ok.new.noted
           c.piece_at-piece.ensures.some piece marked (rw same at c.in_ok-note-in-Ok.ensures.ok) count c.in_ok-write-in-Ok.ensures.moved
           c.in_ok-write-in-Ok.ensures.image
-          c.in_ok-close-in-Ok.ensures.text.ok tally);
+          c.close-in-Ok.ensures.text tally);
       ahead = ahead-next before c.pieces.at c.from-count.result _ _ _ (u.ahead ∙ sym c.next_run-run.ensures.same) c.pass-in-Ok.ensures;
       config = c.in-Ok.ensures.any.config ∙ u.config;
       within = omega (arith, inside, same, c.piece_at-piece.ensures.inside);
       all = u.all;
       few = u.few;
       pace = c.after_bytes-pace.ensures;
-      kept = c.in_ok-close-in-Ok.ensures.text.kept ∙ u.kept;
       unfailed = c.in_ok-write-in-Ok.ensures.moved.failures ∙ u.unfailed;
       noted = notes-some c.pieces.noted c.note-in-Ok.new.noted _ c.in_ok-note-in-Ok.ensures.ok ∙ u.noted;
     }
@@ -207,7 +204,7 @@ returns-in_err-lose_piece-in-Err-clause-err g c =
     let u = c.pieces.invariant in
     let count : ℕ = length (take (c.piece_at-piece.result.count * 512) c.pieces.room) / 512 in
     err-from c.from_residual-in_err-lose_piece-in-Err.result _ _ c.from_residual-in_err-lose_piece-in-Err.ensures.1
-    (ends-in-piece _ _ _ _ _ _ _ u.so_far g.L.Listing.told g.L.Listing.failed (is_some c.args.noted.now) c.read_bytes.new.self c.in-Err.fault c.pieces.listing c.lose_piece.new.listing c.in_err-lose_piece-in-Err.field-0.0 refl u.unfailed u.noted
+    (ends-in-piece _ _ _ _ _ _ _ u.so_far g.L.Listing.told (is_some c.args.noted.now) c.read_bytes.new.self c.in-Err.fault c.pieces.listing c.lose_piece.new.listing c.in_err-lose_piece-in-Err.field-0.0 refl u.unfailed u.noted
     (λ is. record {
       count = count;
       answered = subst (λ (f : IoFault). EachBytes c.pieces.stack c.args.d.0 c.pieces.at count (Err f) c.read_bytes.new.self) is (record { any = c.in-Err.ensures.any; steady = c.in-Err.ensures.steady });
@@ -247,7 +244,6 @@ pieces-preserved-then-branch g c =
       all = u.all;
       few = u.few;
       pace = c.after_loss-pace.ensures;
-      kept = call.ensures.kept ∙ u.kept;
       unfailed = u.unfailed;
       noted = notes-some c.pieces.noted c.lose_piece.new.noted _ noting ∙ u.noted;
     }
@@ -276,7 +272,6 @@ pieces-preserved g c =
       all = u.all;
       few = u.few;
       pace = c.after_failure-pace.ensures.pace;
-      kept = call.ensures.kept ∙ u.kept;
       unfailed = u.unfailed;
       noted = ap (λ (m : Option (List Run)). is_some m) noted ∙ u.noted;
     }
@@ -289,4 +284,4 @@ returns-clause-ok g c =
     let u = c.pieces.invariant in
     let all : c.sectors-sectors.result ≡ c.pieces.at = omega (arith, u.within, c.pieces-test.false) in
     underway-all _ _ _ _ _ _ _ u.so_far (g.L.Listing.told c.close-2.new.listing) c.sectors-sectors.result _ (sym all ∙ u.all) all
-    c.in_ok-close-2.ensures.text.ok (c.counts.ensures ∙ ap (λ m. record { read = c.sectors-sectors.result - m; lost = m }) c.close-2.ensures.lost) u.unfailed
+    c.close-2.ensures.text (c.counts.ensures ∙ ap (λ m. record { read = c.sectors-sectors.result - m; lost = m }) c.close-2.ensures.lost) u.unfailed

@@ -16,7 +16,6 @@ invariant-pieces g l = record {
   all : l.sectors ≡ size l.fn.stack.config (mapped l.d.0);
   few : l.sectors ≤ 2 ^ 54;
   pace : IsPace l.pace.most;
-  kept : g.L.Listing.failed l.listing ≡ g.L.Listing.failed l.fn.listing;
   unfailed : (g.O.BlockDev.state l.out).failures ≡ (g.O.BlockDev.state l.fn.out).failures;
   noted : is_some l.noted ≡ is_some l.fn.noted;
 }

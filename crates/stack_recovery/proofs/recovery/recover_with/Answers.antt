@@ -22,7 +22,6 @@ returns-clause-err g c =
     let d : ℕ = c.args.d.0 in
     let old : Sides = sides c.args.stack.now (g.O.BlockDev.state c.args.out.now) (g.L.Listing.told c.args.listing.now) in
     let new : Sides = sides c.go_over.new.stack (g.O.BlockDev.state c.go_over.new.out) (g.L.Listing.told c.go_over.new.listing) in
-    let failed : Bool = g.L.Listing.failed c.go_over.new.listing in
-    err-as c.go_over.result (EndsEarly false (marks_ahead c.unread-ahead.result) d old new failed) (IsRecoveryEnd d old new failed)
-    (λ fault p. ends-none c.sectors.result d old new failed fault (subst (λ (m : List Bool). EndsEarly false m d old new failed fault) c.unread-ahead.ensures p))
+    err-as c.go_over.result (EndsEarly false (marks_ahead c.unread-ahead.result) d old new) (IsRecoveryEnd d old new)
+    (λ fault p. ends-none c.sectors.result d old new fault (subst (λ (m : List Bool). EndsEarly false m d old new fault) c.unread-ahead.ensures p))
     c.go_over.ensures.err
