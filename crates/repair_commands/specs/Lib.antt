@@ -3,6 +3,7 @@ pub mod Copies
 pub mod Openings
 pub mod Mends
 pub mod Rest
+pub mod Unused
 pub mod Commands
 pub mod Parity
 pub mod ByParity

@@ -1,6 +1,5 @@
 //! `repair --fec FILE`: what no copy has is made again by the parity in a file.
 ghost use Rattle.std.specs.Prelude.{◌≤◌, ◌^◌, IfErr, IfOk, OnOk};
-ghost use Rattle.image_files.specs.Opener.{IsFresh};
 ghost use Rattle.tree_repair.specs.Repairs.{IsAllowed};
 ghost use Rattle.repair_commands.specs.ByParity.{AreRepairedByFec, AreUnrepairedByFec, IsHalfByFec, IsMendedByFec, IsPairHalfMendedByFec, IsPairMendedByFec};
 
@@ -10,7 +9,8 @@ use crate::opening::{Copies, Opened, open_all};
 use crate::pair::{Pair, RepairPlaces};
 use crate::parity::{Parity, lay_out, open_parity};
 use crate::repair::give_back;
-use crate::rest::say_rest;
+use crate::rest::{known_by, say_rest};
+use crate::unused::check_unused;
 use block_device::{BlockDev, SyncDev};
 use command_line::{FecFile, ImageCopy};
 use counted_io::Counted;
@@ -40,13 +40,15 @@ pub fn repair_by_parity<'a, I: Images, S: Watchers, W: Write>(
     ensures ok { OnOk result (AreRepairedByFec I.relations I.Dev.state images.old images.new places.entry fec.now copies.now root.now W.contents writer.old writer.new) }
     ensures err { IfErr result (AreUnrepairedByFec I.relations I.Dev.state images.old images.new places.entry fec.now copies.now root.now W.contents writer.old writer.new) }
 {
-    let opened = open_all(alloc, images, places, copies)?;
+    let mut opened = open_all(alloc, images, places, copies)?;
     let parity = match open_parity(images, places.write, &opened, fec) {
         Ok(parity) => parity,
         Err(file) => return Err(ParityRepairFault::Tree(TreeFault::Open(file))),
     };
+    let whole = check_unused(alloc, &mut opened.pair.hash_image.device, root)?;
     let outcome = mend_opened(alloc, images, places, opened, parity, root, writer)?;
-    say_rest(alloc, images, watchers, places, outcome, root, writer)?;
+    let known = known_by(whole, outcome);
+    say_rest(alloc, images, watchers, places, known, root, writer)?;
     Ok(())
 }
 
@@ -63,8 +65,7 @@ fn mend_opened<'a, I: Images, W: Write>(
     requires first { places.hash_first ≤ 2 ^ 55 }
     requires some { 2 ≤ parity.roots }
     requires few { parity.roots ≤ 24 }
-    requires data_fresh { IsFresh (I.Dev.state opened.pair.data_image.device) places.write }
-    requires hash_fresh { IsFresh (I.Dev.state opened.pair.hash_image.device) places.write }
+    requires allowed { IsAllowed places.write (I.Dev.state opened.pair.data_image.device) (I.Dev.state opened.pair.hash_image.device) }
     ensures ok { IfOk result (IsPairMendedByFec I.relations I.Dev.state images.old images.new places.entry opened parity root.now W.contents writer.old writer.new) }
     ensures err { IfErr result (IsPairHalfMendedByFec I.relations I.Dev.state images.old images.new places.entry opened parity root.now W.contents writer.old writer.new) }
 {

@@ -10,6 +10,7 @@ mod pair;
 mod parity;
 mod repair;
 mod rest;
+mod unused;
 
 pub use by_parity::repair_by_parity;
 pub use fault::ParityRepairFault;

@@ -1,6 +1,6 @@
 -- Used entries of hash blocks, computed.
-use Rattle.std.proofs.Common.{◌≡◌, ℕ, List, [], ◌∷◌, ◌++◌, Bool, true, false, refl, replicate}
-use Rattle.tree_shape.specs.Shape.{ShapeRecord, levels, level_blocks}
+use Rattle.std.proofs.Common.{◌≡◌, ℕ, [], ◌∷◌, ◌++◌, true, false, refl, replicate}
+use Rattle.tree_shape.specs.Shape.{ShapeRecord, level_blocks}
 use Rattle.tree_path.specs.Unused.{is_unused_zero, used_entries}
 
 -- blocks of 4,096 bytes, the tree at hash block 1

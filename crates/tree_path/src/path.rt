@@ -10,7 +10,7 @@ ghost use Rattle.tree_path.specs.Steps.{CanDescend, HasCome, HasReadAtMost, IsKe
 ghost use Rattle.tree_path.specs.Unused.{is_unused_zero};
 
 use crate::reading::{read_block, zero_blocks};
-use crate::unused::{are_zeros, used_entries};
+use crate::unused::{is_zero_after, used_entries};
 use block_device::{BlockDev, DeviceFault};
 use std::alloc::{AllocError, Global};
 use std::marker::Model;
@@ -92,15 +92,14 @@ impl TreePath {
 
     /// Whether the hash block of a level on the way to a data block is zero after its last used entry, as each one is that
     /// was formatted.
-    #[tactic(auto, unfolding(crate::specs::Unused::is_unused_zero))]
     pub fn is_unused_zero(&self, level: u32, index: u64) -> bool
         requires level { level < levels self.now.shape }
         requires index { index < self.now.shape.blocks }
         ensures { result ≡ is_unused_zero self.now.shape level (ancestor self.now.shape (level + 1) index) (block_of self.now level) }
     {
         let number = self.shape.block_on_path(level, index);
-        let used = used_entries(&self.shape, level, number) as usize * Digest::SIZE;
-        are_zeros(&self.blocks[level as usize][used..])
+        let used = used_entries(&self.shape, level, number);
+        is_zero_after(&self.blocks[level as usize], used)
     }
 
     /// Reads the hash block of a level on the way to a data block, and tells whether its digest stands above it. Where it

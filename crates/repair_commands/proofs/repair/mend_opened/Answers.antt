@@ -1,11 +1,4 @@
-use Rattle.std.proofs.Common.{IsTrue, subst, sym}
 use Rattle.repair_commands.proofs.repair.mend_opened.Goals as goal
-
-pub mend-ended-requires-clause-allowed : goal.mend-ended-requires-clause-allowed
-mend-ended-requires-clause-allowed g c = record {
-  data_writable = λ write. subst IsTrue (sym c.requires.data_fresh.may_write) write;
-  hash_writable = λ write. subst IsTrue (sym c.requires.hash_fresh.may_write) write;
-}
 
 pub returns-in-Ok-clause-ok : goal.returns-in-Ok-clause-ok
 returns-in-Ok-clause-ok g c = record {

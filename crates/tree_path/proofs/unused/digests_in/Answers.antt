@@ -2,7 +2,7 @@ use Rattle.std.proofs.Common.{◌≡◌, ◌-◌, suc, arith}
 use Rattle.tree_path.proofs.unused.digests_in.Goals as goal
 
 pub returns-then-level-eq0 : goal.returns-then-level-eq0
-returns-then-level-eq0 c = rw c.if-level-eq0.true c.blocks.ensures.value
+returns-then-level-eq0 c = rw c.if-level-eq0.true c.blocks-blocks.ensures.value
 
 pub returns : goal.returns
 returns c =
