@@ -1,10 +1,10 @@
 -- Hash blocks read down to the first that isn't good, and what they hold after their last used entries.
-use Rattle.std.proofs.Common.{◌≡◌, ◌≢◌, ◌≤◌, ◌<◌, ◌+◌, ◌-◌, ℕ, zero, suc, Bool, true, false, IsTrue, List, ◌⊎◌, refl, sym, ap, ◌∙◌, subst, arith, inl, inr}
+use Rattle.std.proofs.Common.{◌≡◌, ◌≤◌, ◌<◌, ◌+◌, ◌-◌, ℕ, zero, suc, Bool, true, false, IsTrue, List, ◌⊎◌, refl, sym, ap, ◌∙◌, subst, arith, inl, inr}
 use Rattle.std.proofs.lemmas.Bool.{cases_lt, false≢true}
 use Rattle.block_device.specs.Device.{Device}
 use Rattle.tree_shape.specs.Digests.{digest}
 use Rattle.tree_shape.specs.Shape.{ShapeRecord, ancestor, levels}
-use Rattle.tree_path.specs.Path.{PathRecord, IsPathOf, LeadsTo, block_of, digest_on, stored_block, stored_digest}
+use Rattle.tree_path.specs.Path.{PathRecord, LeadsTo, block_of, digest_on, stored_block, stored_digest}
 use Rattle.tree_path.specs.Steps.{IsDown, IsStopped, steps}
 use Rattle.tree_path.specs.Unused.{is_unused_zero}
 use Rattle.tree_path.proofs.lemmas.PathLemmas.{digest_on-stored, leads-down}
@@ -106,11 +106,14 @@ module _ (t : Tree) (d d' : Device) (good : ℕ) (q : PathRecord) (r : IsReadDow
           };
           nonzero = subst (λ (s : ShapeRecord). is_unused_zero s l (ancestor s (l + 1) (last_data t)) (block_of q l) ≡ false) r.way.is.shape_is nonzero;
         };
-        stored = λ steady. (l, record {
-          low = under;
-          stand = λ m over below. stands-above steady m (omega (arith, high, over)) below;
-          nonzero = sym (unused-stored steady l high under) ∙ nonzero;
-        });
+        stored = λ steady. (
+          l,
+          record {
+            low = under;
+            stand = λ m over below. stands-above steady m (omega (arith, high, over)) below;
+            nonzero = sym (unused-stored steady l high under) ∙ nonzero;
+          },
+        );
       }
 
   finds-none : AreZeroFrom q (last_data t) good true → FindsZerosAlone t d d'
@@ -124,9 +127,9 @@ module _ (t : Tree) (d d' : Device) (good : ℕ) (q : PathRecord) (r : IsReadDow
       go (inl some) = elim (r.below steady some) [
         | inr failed ↦ inr failed
         | inl bad ↦ inl (λ l u. elim (cases_lt l good) [
-            | inr high ↦ above l (omega (arith, high)) u
-            | inl low ↦ bad (u.stand (good - 1) (omega (arith, low)) (omega (arith, some, r.way.few)))
-          ])
+          | inr high ↦ above l (omega (arith, high)) u
+          | inl low ↦ bad (u.stand (good - 1) (omega (arith, low)) (omega (arith, some, r.way.few)))
+        ])
       ]
 
   way-good : good ≡ 0 → AreZeroFrom q (last_data t) good true → IsTrue d.steady → IsWayGood t d.image
