@@ -3,3 +3,4 @@ mod EndingLemmas
 mod LayingLemmas
 mod MendLemmas
 mod ReadLemmas
+mod UnusedLemmas

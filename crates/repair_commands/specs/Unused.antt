@@ -1,6 +1,6 @@
 -- What `repair` reads of an image before anything is written: what the last hash block of each level holds after its last used
 -- entry.
-use Rattle.std.specs.Prelude.{◌≡◌, ℕ, ◌+◌, ◌*◌, ◌/◌, ◌≤◌, Bool, true, IsTrue, List}
+use Rattle.std.specs.Prelude.{◌≡◌, ℕ, ◌*◌, ◌/◌, ◌≤◌, Bool, true, IsTrue, List}
 use Rattle.block_device.specs.Device.{Device}
 use Rattle.tree_commands.specs.declared.fault.TreeFault.{TreeFault}
 use Rattle.tree_commands.specs.declared.fault.TreeFault.TheVariants.{Survey, UnusedEntries}
@@ -10,7 +10,7 @@ use Rattle.tree_survey.specs.declared.fault.SurveyFault.TheVariants.{Image}
 use Rattle.tree_survey.specs.Passes.{super_tree}
 use Rattle.tree_survey.specs.Unused.{FindsNonzero, FindsZerosAlone, IsWayGood}
 use Rattle.verity_format.specs.declared.verifying.VerifyFault.TheVariants.{NoMemory}
-use Rattle.verity_format.specs.Blocks.{IsOnlyRead}
+use Rattle.verity_format.specs.Blocks.{IsFullRead}
 use Rattle.verity_format.specs.Image.{tree_sectors}
 use Rattle.verity_format.specs.Superblock.{SuperRecord, shape_of}
 use Rattle.verity_format.specs.Verifying.{IsReadCause, IsReadFrom}
@@ -21,7 +21,9 @@ pub record IsUnusedPassed (root : List ℕ) (hash_dev hash_dev' : Device) (whole
   pub super : SuperRecord
   pub sector : List ℕ
   pub from : IsReadFrom hash_dev sector super
-  pub few : HasReadAtMost hash_dev (1 + levels (shape_of super) * (super.hash_block / 512)) hash_dev'
+  pub between : Device
+  pub one : IsFullRead hash_dev 1 between
+  pub few : HasReadAtMost between (levels (shape_of super) * (super.hash_block / 512)) hash_dev'
   pub zeros : tree_sectors (shape_of super) ≤ hash_dev.size → FindsZerosAlone (super_tree super root) hash_dev hash_dev'
   pub good : whole ≡ true → IsTrue hash_dev.steady → IsWayGood (super_tree super root) hash_dev.image
 
