@@ -7,7 +7,6 @@ use Rattle.image_files.specs.Opener.{Calls, Opener, calls}
 use Rattle.tree_commands.specs.declared.fault.TreeFault.{TreeFault}
 use Rattle.tree_commands.specs.declared.fault.TreeFault.TheVariants as trees
 use Rattle.tree_survey.specs.declared.fault.SurveyFault.TheVariants as survey
-use Rattle.verity_format.specs.Blocks.{IsOnlyRead}
 use Rattle.tree_repair.specs.declared.fault.RepairFault.{RepairFault}
 use Rattle.tree_repair.specs.declared.fault.RepairFault.TheVariants.{Image, Write}
 use Rattle.tree_repair.specs.declared.outcome.Outcome.{Outcome}
@@ -21,6 +20,7 @@ use Rattle.repair_commands.specs.declared.pair.RepairPlaces.{RepairPlaces}
 use Rattle.repair_commands.specs.Pairs.{Places, places_of}
 use Rattle.repair_commands.specs.Rest.{IsRestEnd, TellsRest, known_by}
 use Rattle.repair_commands.specs.Unused.{IsUnusedCause, IsUnusedPassed}
+use Rattle.verity_format.specs.Blocks.{IsOnlyRead}
 
 abbrev pub plan_of : Places → List ℕ → Plan
 plan_of p root = record { root = root; copy_first = p.first; write = p.write }

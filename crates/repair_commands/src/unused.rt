@@ -27,7 +27,9 @@ pub(crate) fn check_unused<'a, H: BlockDev>(
     ensures err { IfErr result (IsUnusedCauseBy H.state root.now hash_dev.old hash_dev.new) }
 {
     let superblock = read_superblock(hash_dev)?;
-    if hash_dev.sectors() < tree_sectors(&superblock.shape()) {
+    let shape = superblock.shape();
+    let needed = tree_sectors(&shape);
+    if hash_dev.sectors() < needed {
         return Ok(false);
     }
     let Ok(found) = read_unused(alloc, hash_dev, &superblock, root) else {

@@ -1,4 +1,4 @@
-use Rattle.std.proofs.Common.{IsTrue, inl, inr, refl, subst, sym}
+use Rattle.std.proofs.Common.{IsTrue, inl, inr, refl, subst, sym, ◌∙◌}
 use Rattle.repair_commands.specs.declared.fault.ParityRepairFault.TheVariants.{Tree}
 use Rattle.repair_commands.specs.Commands.{with_hash}
 use Rattle.repair_commands.proofs.EndingLemmas.{err-from}
@@ -7,7 +7,7 @@ use Rattle.repair_commands.proofs.by_parity.repair_by_parity.Goals as goal
 pub mend_opened-requires-clause-allowed : goal.mend_opened-requires-clause-allowed
 mend_opened-requires-clause-allowed g c = record {
   data_writable = λ write. subst IsTrue (sym c.in_ok-opened.ensures.data_fresh.may_write) write;
-  hash_writable = λ write. subst IsTrue (sym (rw c.check_unused.ensures.read.same.may_write c.in_ok-opened.ensures.hash_fresh.may_write)) write;
+  hash_writable = λ write. subst IsTrue (sym (c.check_unused.ensures.read.same.may_write ∙ c.in_ok-opened.ensures.hash_fresh.may_write)) write;
 }
 
 pub returns-in_err-opened-clause-err : goal.returns-in_err-opened-clause-err
