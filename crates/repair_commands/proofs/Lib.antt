@@ -1,5 +1,6 @@
 mod CopyLemmas
 mod EndingLemmas
+mod GoingOnLemmas
 mod LayingLemmas
 mod MendLemmas
 mod ReadLemmas

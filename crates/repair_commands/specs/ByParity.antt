@@ -18,12 +18,14 @@ use Rattle.repair_commands.specs.declared.fault.ParityRepairFault.{ParityRepairF
 use Rattle.repair_commands.specs.declared.fault.ParityRepairFault.TheVariants.{Tree}
 use Rattle.repair_commands.specs.declared.opening.Opened.{Opened}
 use Rattle.repair_commands.specs.declared.parity.Parity.{Parity}
-use Rattle.repair_commands.specs.Commands.{GivesBackImages, PassesOpened, RefusesOpened, ending_fault, plan_of, world_of}
+use Rattle.repair_commands.specs.Commands.{GivesBackImages, PassesOpened, RefusesOpened, plan_of, world_of}
+use Rattle.repair_commands.specs.Endings.{ending_fault}
 use Rattle.repair_commands.specs.Mends.{HalfMends, MendsInPasses, MendsWhole}
 use Rattle.repair_commands.specs.Openings.{FailsToOpenCopies, OpensAll}
 use Rattle.repair_commands.specs.declared.pair.RepairPlaces.{RepairPlaces}
 use Rattle.repair_commands.specs.Pairs.{Places, places_of}
 use Rattle.repair_commands.specs.Rest.{IsRestEnd, TellsRest, known_by}
+use Rattle.repair_commands.specs.Standing.{CanStand}
 use Rattle.repair_commands.specs.Parity.{FailsToOpenParity, IsUnlaid, LaysOutParity, OpensParity}
 
 -- ---- of devices
@@ -32,25 +34,26 @@ use Rattle.repair_commands.specs.Parity.{FailsToOpenParity, IsUnlaid, LaysOutPar
 pub record MendsByParity (plan : Plan) (parity_dev : Device) (roots : ℕ) (w w' : RepairWorld) (old new : Option (List ℕ)) (outcome : Outcome) : Type 0 where
   pub layout : Layout
   pub read_dev : Device
-  pub lays : LaysOutParity w.data_dev w.hash_dev parity_dev roots read_dev layout
+  pub lays : LaysOutParity w.data_dev w.hash_dev parity_dev plan.copy_first roots read_dev layout
   pub mends : MendsWhole plan true w w' old new
   pub parity_dev' : Device
   pub passes : MendsInPasses plan layout parity_dev parity_dev' (record w { hash_dev = read_dev }) w' old new outcome
 
--- it isn't gone over to its end, or not all is on the media: good blocks alone were written all the same
+-- it isn't gone over to its end, not all lines were printed, or not all is synced: good blocks alone were written all the same
 pub record EndsHalf (plan : Plan) (w w' : RepairWorld) (old new : Option (List ℕ)) (fault : ParityRepairFault) : Type 0 where
+  pub stands : CanStand w.hash_dev plan.copy_first
   pub cause : RepairFault
   pub half : HalfMends plan true w w' old new cause
   pub is : fault ≡ Tree (ending_fault cause)
 
 -- the parity isn't laid out: the hash device alone was asked, and only read, and nothing printed
-pub record IsUnlaidEnd (parity_dev : Device) (roots : ℕ) (w w' : RepairWorld) (old new : Option (List ℕ)) (fault : ParityRepairFault) : Type 0 where
-  pub unlaid : IsUnlaid w.data_dev w.hash_dev parity_dev roots w'.hash_dev fault
+pub record IsUnlaidEnd (parity_dev : Device) (first roots : ℕ) (w w' : RepairWorld) (old new : Option (List ℕ)) (fault : ParityRepairFault) : Type 0 where
+  pub unlaid : IsUnlaid w.data_dev w.hash_dev parity_dev first roots w'.hash_dev fault
   pub read : IsHashReadAlone w w'
   pub quiet : new ≡ old
 
 abbrev pub HalfMendsByParity : Plan → Device → ℕ → RepairWorld → RepairWorld → Option (List ℕ) → Option (List ℕ) → ParityRepairFault → Type 0
-HalfMendsByParity plan parity_dev roots w w' old new fault = IsUnlaidEnd parity_dev roots w w' old new fault ⊎ EndsHalf plan w w' old new fault
+HalfMendsByParity plan parity_dev roots w w' old new fault = IsUnlaidEnd parity_dev plan.copy_first roots w w' old new fault ⊎ EndsHalf plan w w' old new fault
 
 -- the same by the open parity, and a writer before and behind
 abbrev pub IsMendedByFec : {P W : Type 0} → (P → Device) → (W → Option (List ℕ)) → Plan → Parity P → RepairWorld → RepairWorld → CountedRecord W → CountedRecord W → Outcome → Type 0

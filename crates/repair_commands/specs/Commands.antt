@@ -5,16 +5,12 @@ use Rattle.counted_io.specs.Counted.{CountedRecord}
 use Rattle.command_line.specs.declared.image_copies.ImageCopy.{ImageCopy}
 use Rattle.image_files.specs.Opener.{Calls, Opener, calls}
 use Rattle.tree_commands.specs.declared.fault.TreeFault.{TreeFault}
-use Rattle.tree_commands.specs.declared.fault.TreeFault.TheVariants as trees
-use Rattle.tree_survey.specs.declared.fault.SurveyFault.TheVariants as survey
-use Rattle.tree_repair.specs.declared.fault.RepairFault.{RepairFault}
-use Rattle.tree_repair.specs.declared.fault.RepairFault.TheVariants.{Image, Write}
 use Rattle.tree_repair.specs.declared.outcome.Outcome.{Outcome}
 use Rattle.tree_repair.specs.declared.repair.Plan.{Plan}
 use Rattle.tree_repair.specs.Worlds.{RepairWorld, repair_world}
 use Rattle.repair_commands.specs.declared.opening.Opened.{Opened}
 use Rattle.repair_commands.specs.declared.pair.Parts.{Parts}
-use Rattle.repair_commands.specs.Mends.{HalfMends, MendsInOnePass}
+use Rattle.repair_commands.specs.Mends.{HalfMendsByCopies, MendsByCopies}
 use Rattle.repair_commands.specs.Openings.{FailsToOpenCopies, OpensAll}
 use Rattle.repair_commands.specs.declared.pair.RepairPlaces.{RepairPlaces}
 use Rattle.repair_commands.specs.Pairs.{Places, places_of}
@@ -46,23 +42,16 @@ pub record MendsOpened {S D : Type 0} (w : Calls S D) (p : Places) (o : Opened D
   pub hash_dev : D
   pub data_copies : List D
   pub hash_copies : List D
-  pub mends : MendsInOnePass (plan_of p root) (world_of w o) (repair_world (w.state data_dev) (w.state hash_dev) (map w.state data_copies) (map w.state hash_copies)) old new outcome
+  pub mends : MendsByCopies (plan_of p root) (world_of w o) (repair_world (w.state data_dev) (w.state hash_dev) (map w.state data_copies) (map w.state hash_copies)) old new outcome
   pub back : GivesBackImages p.write w p o.parts data_dev hash_dev
 
--- the fault with which a repair ends that isn't one to the end
-abbrev pub ending_fault : RepairFault → TreeFault
-ending_fault (Image fault) = trees.Survey (survey.Image fault)
-ending_fault Write = trees.Write
-
--- it wasn't repaired to the end, or isn't all on the media: good blocks alone were written all the same, and both given back
+-- It wasn't repaired to the end, not all lines were printed, or not all is synced: good blocks alone were written, and both given back.
 pub record HalfMendsOpened {S D : Type 0} (w : Calls S D) (p : Places) (o : Opened D) (root : List ℕ) (old new : Option (List ℕ)) (fault : TreeFault) : Type 0 where
   pub data_dev : D
   pub hash_dev : D
   pub data_copies : List D
   pub hash_copies : List D
-  pub cause : RepairFault
-  pub is : fault ≡ ending_fault cause
-  pub half : HalfMends (plan_of p root) false (world_of w o) (repair_world (w.state data_dev) (w.state hash_dev) (map w.state data_copies) (map w.state hash_copies)) old new cause
+  pub half : HalfMendsByCopies (plan_of p root) (world_of w o) (repair_world (w.state data_dev) (w.state hash_dev) (map w.state data_copies) (map w.state hash_copies)) old new fault
   pub back : GivesBackImages p.write w p o.parts data_dev hash_dev
 
 -- ---- what is read before anything is written

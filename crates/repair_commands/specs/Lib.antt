@@ -1,6 +1,8 @@
 pub mod Pairs
 pub mod Copies
 pub mod Openings
+pub mod Endings
+pub mod Standing
 pub mod Mends
 pub mod Rest
 pub mod Unused

@@ -1,7 +1,8 @@
 //! The command `repair`: blocks that aren't good are sought in copies, and what is still lost is told.
 ghost use Rattle.std.specs.Prelude.{◌≡◌, ◌≤◌, ◌^◌, IfErr, IfOk, OnOk};
 ghost use Rattle.tree_repair.specs.Repairs.{IsAllowed};
-ghost use Rattle.repair_commands.specs.Commands.{AreRepaired, AreUnrepaired, GivesBackBoth, IsPairHalfMended, IsPairMended, ending_fault};
+ghost use Rattle.repair_commands.specs.Commands.{AreRepaired, AreUnrepaired, GivesBackBoth, IsPairHalfMended, IsPairMended};
+ghost use Rattle.repair_commands.specs.Endings.{ending_fault};
 
 use crate::mending::mend;
 use crate::opening::{Copies, Opened, open_all};
@@ -86,10 +87,7 @@ fn mend_opened<'a, I: Images, W: Write>(
         hash_copies: _,
     } = image;
     give_back(images, places, parts, data, hash);
-    match ended {
-        Ok(outcome) => Ok(outcome),
-        Err(fault) => Err(fault_of(fault)),
-    }
+    ended
 }
 
 /// Gives both parts back, where anything may be written.
