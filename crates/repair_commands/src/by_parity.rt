@@ -124,7 +124,14 @@ fn mend_laid_out<'a, D: SyncDev, H: SyncDev, C: BlockDev, P: BlockDev + Drop, W:
     let write = plan.write;
     let mut parity_open = parity;
     let layout = lay_out(&image.data, &mut image.hash, plan.copy_first, &parity_open)?;
-    let ended = repair_through(alloc, image, &layout, &mut parity_open.device, &plan, writer);
+    let ended = repair_through(
+        alloc,
+        image,
+        &layout,
+        &mut parity_open.device,
+        &plan,
+        writer,
+    );
     sync_both(image, write)?;
     Ok(ended?)
 }
