@@ -7,7 +7,9 @@ use Rattle.image_commands.specs.Places.{TwoPlaces}
 use Rattle.image_commands.proofs.lemmas.EndingLemmas.{quiet as image-quiet}
 use Rattle.verity_commands.specs.declared.fault.VerityFault.{VerityFault}
 use Rattle.verity_commands.specs.declared.fault.VerityFault.TheVariants as verity
-use Rattle.verity_commands.specs.Endings.{IsVerityQuiet}
+use Rattle.command_line.specs.declared.fault.WordsFault.{WordsFault}
+use Rattle.command_line.specs.declared.fault.WordsFault.TheVariants as words
+use Rattle.verity_commands.specs.Endings.{IsUnsaid, IsVerityQuiet, words_ending}
 use Rattle.fec_commands.specs.declared.fault.FecFault.{FecFault}
 use Rattle.fec_commands.specs.declared.fault.FecFault.TheVariants as fec
 use Rattle.fec_commands.specs.Checking.{IsCheckEnd, IsCompareEnd, IsFecQuiet}
@@ -35,3 +37,8 @@ at-fault {T} {E} r P fault is holds = subst (λ (x : Result T E). IfErr x P) is 
 pub compare-as : {S D : Type 0} {w : Calls S D} {places : TwoPlaces} {fec : FecRecord} {failed : Bool} {fault : FecFault} → IsCompareEnd w places fec fault → IsCheckEnd w places fec failed fault
 compare-as (inl unopened) = inl unopened
 compare-as (inr unchecked) = inr (inl unchecked)
+
+-- words that say no value, and memory that ran out while they were read
+pub unsaid : (fault : WordsFault) → IsUnsaid (words_ending fault)
+unsaid words.Usage = tt
+unsaid words.NoMemory = tt

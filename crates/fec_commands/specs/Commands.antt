@@ -7,7 +7,8 @@ use Rattle.command_line.specs.declared.option_words.OptionWords.{OptionWords}
 use Rattle.command_line.specs.declared.words.fec_format.FecFormatWords.{FecFormatWords}
 use Rattle.command_line.specs.declared.words.fec_verify.FecVerifyWords.{FecVerifyWords}
 use Rattle.command_line.specs.declared.words.format.FormatWords.{FormatWords}
-use Rattle.command_line.specs.FormatOptions.{OptionTexts, option_texts}
+use Rattle.command_line.specs.declared.image_options.ImageOptions.{ImageOptions}
+use Rattle.command_line.specs.FormatOptions.{AreSaid, OptionTexts, option_texts}
 use Rattle.command_line.specs.words.Format.{FormatRecord, format_record}
 use Rattle.command_line.specs.words.Verify.{VerifyRecord}
 use Rattle.counted_io.specs.Counted.{CountedRecord}
@@ -24,6 +25,7 @@ use Rattle.fec_commands.specs.Checking.{IsCheckEnd, IsFecQuiet, PrintsOk}
 use Rattle.fec_commands.specs.FecFaults.{kept_fault, unwritten}
 use Rattle.command_line.specs.words.FecFormat.{FecFormatRecord, fec_format_record}
 use Rattle.command_line.specs.words.FecVerify.{FecVerifyRecord, fec_verify_record}
+use Rattle.fec_commands.specs.Fitting.{FitsFile, IsMeasured, IsUnfit, IsUnmeasured}
 use Rattle.fec_commands.specs.Growing.{IsProtectionEnd, Protects}
 use Rattle.fec_commands.specs.Sizes.{says_two_sizes}
 
@@ -44,10 +46,12 @@ pub record IsKeptEnd {S D T G : Type 0} (texts : OptionTexts) (w : Calls S D) (d
 
 -- ---- `format --fec`
 
--- The image was formatted as without parity, with this text; then its parity was written and put on its medium.
+-- FILE will do; the image was formatted as without parity, with this text; then its parity was written and synced.
 pub record MakesFec {S D T G : Type 0} (texts : OptionTexts) (w : Calls S D) (d : Drawing T G) (f : FecFormatRecord) (text : List ℕ) : Type 0 where
+  pub measured : S
+  pub fits : FitsFile f.format.grow (record w { new = measured }) (format_places f.format) f.fec
   pub between : S
-  pub formats : FormatsAt texts (record w { new = between }) d f.format (Some []) (Some text)
+  pub formats : FormatsAt texts (record w { old = measured; new = between }) d f.format (Some []) (Some text)
   pub protects : Protects f.format.grow (record w { old = between }) (format_places f.format) f.fec
 
 -- and then the text was printed
@@ -69,17 +73,27 @@ pub record EndsUnlike {S D : Type 0} (texts : OptionTexts) (w : Calls S D) (faul
   pub is : fault ≡ BlockSizes
   pub same : w.new ≡ w.old
 
--- the image wasn't made
+-- FILE won't do for what the options say: images were opened, and none was written, made or made longer
+pub record EndsUnfit {S D : Type 0} (texts : OptionTexts) (w : Calls S D) (f : FecFormatRecord) (fault : FecFault) : Type 0 where
+  pub options : ImageOptions
+  pub said : AreSaid texts options
+  pub unfit : IsUnfit f.format.grow options w (format_places f.format) f.fec fault
+
+-- it will, and the image wasn't made
 pub record EndsUnmade {S D T G : Type 0} (texts : OptionTexts) (w : Calls S D) (d : Drawing T G) (f : FecFormatRecord) (fault : FecFault) : Type 0 where
+  pub measured : S
+  pub fits : FitsFile f.format.grow (record w { new = measured }) (format_places f.format) f.fec
   pub cause : VerityFault
-  pub ends : IsKeptEnd texts w d f.format cause
+  pub ends : IsKeptEnd texts (record w { old = measured }) d f.format cause
   pub is : fault ≡ Verity cause
 
 -- it was made, and its parity isn't on its medium
 pub record EndsUnguarded {S D T G : Type 0} (texts : OptionTexts) (w : Calls S D) (d : Drawing T G) (f : FecFormatRecord) (fault : FecFault) : Type 0 where
+  pub measured : S
+  pub fits : FitsFile f.format.grow (record w { new = measured }) (format_places f.format) f.fec
   pub between : S
   pub text : List ℕ
-  pub formats : FormatsAt texts (record w { new = between }) d f.format (Some []) (Some text)
+  pub formats : FormatsAt texts (record w { old = measured; new = between }) d f.format (Some []) (Some text)
   pub ends : IsProtectionEnd f.format.grow (record w { old = between }) (format_places f.format) f.fec fault
 
 -- both were made, and the text can't be written
@@ -92,35 +106,46 @@ pub record EndsUntold {S D T G : Type 0} (texts : OptionTexts) (w : Calls S D) (
 -- one of these; nothing is printed, unless it is the writing that fails
 abbrev pub IsFormatFecEnd : {S D T G : Type 0} → OptionTexts → Calls S D → Drawing T G → FecFormatRecord → Option (List ℕ) → Option (List ℕ) → Bool → FecFault → Type 0
 IsFormatFecEnd texts w d f old new failed fault =
-    (EndsUnsaid w fault ⊎ (EndsUnlike texts w fault ⊎ (EndsUnmade texts w d f fault ⊎ (EndsUnguarded texts w d f fault ⊎ EndsUntold texts w d f failed fault))))
+    (EndsUnsaid w fault ⊎ (EndsUnlike texts w fault ⊎ (EndsUnfit texts w f fault ⊎ (EndsUnmade texts w d f fault ⊎ (EndsUnguarded texts w d f fault ⊎ EndsUntold texts w d f failed fault)))))
     × IsFecQuiet fault old new
 
 -- ---- `verify --fec`
 
--- the image was verified as without parity, and then its parity
+-- FILE has the sectors of the parity; the image was verified as without parity, and then its parity
 pub record VerifiesFec {S D : Type 0} (w : Calls S D) (v : FecVerifyRecord) (old new : Option (List ℕ)) : Type 0 where
+  pub measured : S
+  pub measures : IsMeasured (record w { new = measured }) (verify_places v.verify) v.fec
   pub between : S
   pub told : Option (List ℕ)
-  pub verifies : VerifiesAt (record w { new = between }) v.verify old told
+  pub verifies : VerifiesAt (record w { old = measured; new = between }) v.verify old told
   pub checks : PrintsOk (record w { old = between }) (verify_places v.verify) v.fec told new
+
+-- FILE hasn't them, or isn't opened: images were opened for reading, and nothing was printed
+pub record EndsUnmeasured {S D : Type 0} (w : Calls S D) (v : FecVerifyRecord) (old new : Option (List ℕ)) (fault : FecFault) : Type 0 where
+  pub unmeasured : IsUnmeasured w (verify_places v.verify) v.fec fault
+  pub quiet : new ≡ old
 
 -- the image isn't the one under the root, or isn't compared
 pub record EndsUnverified {S D : Type 0} (w : Calls S D) (v : FecVerifyRecord) (old new : Option (List ℕ)) (failed : Bool) (fault : FecFault) : Type 0 where
+  pub measured : S
+  pub measures : IsMeasured (record w { new = measured }) (verify_places v.verify) v.fec
   pub cause : VerityFault
-  pub ends : IsSaidVerifyEnd w v.verify old new failed cause
+  pub ends : IsSaidVerifyEnd (record w { old = measured }) v.verify old new failed cause
   pub is : fault ≡ Verity cause
 
 -- it is, as is printed; its parity isn't, or isn't compared
 pub record EndsUnlikeParity {S D : Type 0} (w : Calls S D) (v : FecVerifyRecord) (old new : Option (List ℕ)) (failed : Bool) (fault : FecFault) : Type 0 where
+  pub measured : S
+  pub measures : IsMeasured (record w { new = measured }) (verify_places v.verify) v.fec
   pub between : S
   pub told : Option (List ℕ)
-  pub verifies : VerifiesAt (record w { new = between }) v.verify old told
+  pub verifies : VerifiesAt (record w { old = measured; new = between }) v.verify old told
   pub ends : IsCheckEnd (record w { old = between }) (verify_places v.verify) v.fec failed fault
   pub quiet : IsFecQuiet fault told new
 
 abbrev pub IsVerifyFecEnd : {S D : Type 0} → Calls S D → FecVerifyRecord → Option (List ℕ) → Option (List ℕ) → Bool → FecFault → Type 0
 IsVerifyFecEnd w v old new failed fault =
-    (EndsUnsaid w fault × (new ≡ old)) ⊎ (EndsUnverified w v old new failed fault ⊎ EndsUnlikeParity w v old new failed fault)
+    (EndsUnsaid w fault × (new ≡ old)) ⊎ (EndsUnmeasured w v old new fault ⊎ (EndsUnverified w v old new failed fault ⊎ EndsUnlikeParity w v old new failed fault))
 
 -- ---- the same by the program's own words, the opener and the writer, each before and after, and what makes generators
 

@@ -5,5 +5,7 @@ pub mod Layings
 pub mod Protecting
 pub mod Growing
 pub mod Checking
+pub mod Finding
+pub mod Fitting
 pub mod Sizes
 pub mod Commands

@@ -2,18 +2,21 @@
 ghost use Rattle.std.specs.Prelude.{IfErr, OnOk};
 ghost use Rattle.image_commands.specs.Drawing.{drawing};
 ghost use Rattle.fec_commands.specs.Commands.{FailsToFormatFec, FailsToVerifyFec, FormatsFecByWords, VerifiesFecByWords};
+ghost use Rattle.fec_commands.specs.Fitting.{FitsFile, IsUnfit};
 ghost use Rattle.fec_commands.specs.Growing.{FailsToProtect, Protects};
 ghost use Rattle.fec_commands.specs.Images.{Does};
 ghost use Rattle.fec_commands.specs.Layings.{IsRoots};
 
 use crate::check::compare_image;
 use crate::fault::FecFault;
+use crate::finding::find_three;
+use crate::fits::{measure_image, measure_words};
 use crate::growing::protect_growing;
 use crate::image::is_roots;
 use crate::kept::format_kept;
 use crate::protect::protect_image;
 use crate::sizes::says_two_sizes;
-use command_line::{FecFile, FecFormatWords, FecVerifyWords, OptionWords};
+use command_line::{FecFile, FecFormatWords, FecVerifyWords, ImageOptions, OptionWords, options_of};
 use counted_io::Counted;
 use image_commands::{Generators, ImagePlaces};
 use image_files::Images;
@@ -22,8 +25,8 @@ use std::io::Write;
 use verity_commands::{VerityFault, invoke_verify, sector_at};
 use watched_device::Watchers;
 
-/// `format --fec FILE [--fec-roots N] [--grow] [--progress] [OPTION..] DATA HASH`: as `format`, and then the parity, which is on its
-/// medium before anything is printed.
+/// `format --fec FILE [--fec-roots N] [--grow] [--progress] [OPTION..] DATA HASH`: as `format`, and then the parity, which is synced
+/// before anything is printed. FILE is opened and measured before anything is written.
 pub fn invoke_format_fec<'a, I: Images, G: Generators + Watchers, W: Write>(
     alloc: Global,
     images: &mut I,
@@ -41,19 +44,24 @@ pub fn invoke_format_fec<'a, I: Images, G: Generators + Watchers, W: Write>(
     if says_two_sizes(options) {
         return Err(FecFault::BlockSizes);
     }
-    let text = format_kept(alloc, images, generators, &words.format, options)?;
     let places = ImagePlaces {
         data: words.format.data_path,
         hash: words.format.hash_path,
         hash_first: sector_at(words.format.hash_offset),
     };
+    let said = match options_of(alloc, options) {
+        Ok(said) => said,
+        Err(fault) => return Err(FecFault::Verity(VerityFault::from(fault))),
+    };
+    check_file(images, &places, &words.fec, &said, words.format.grow)?;
+    let text = format_kept(alloc, images, generators, &words.format, options)?;
     protect(alloc, images, &places, &words.fec, words.format.grow)?;
     writer.put(&text)?;
     Ok(())
 }
 
 /// `verify --fec FILE [--fec-roots N] [--hash-offset BYTES] [--root-hash-file FILE] [--progress] DATA HASH [ROOT]`: as `verify`, and then
-/// the parity.
+/// the parity. FILE is opened and measured before anything is printed.
 pub fn invoke_verify_fec<'a, I: Images, S: Watchers, W: Write>(
     alloc: Global,
     images: &mut I,
@@ -67,12 +75,13 @@ pub fn invoke_verify_fec<'a, I: Images, S: Watchers, W: Write>(
     if !is_roots(words.fec.roots) {
         return Err(FecFault::Verity(VerityFault::Usage));
     }
-    invoke_verify(alloc, images, watchers, &words.verify, writer)?;
     let places = ImagePlaces {
         data: words.verify.data_path,
         hash: words.verify.hash_path,
         hash_first: sector_at(words.verify.hash_offset),
     };
+    measure_image(images, &places, &words.fec)?;
+    invoke_verify(alloc, images, watchers, &words.verify, writer)?;
     match compare_image(alloc, images, &places, &words.fec)? {
         Some(round) => Err(FecFault::Differs(round)),
         None => {
@@ -80,6 +89,25 @@ pub fn invoke_verify_fec<'a, I: Images, S: Watchers, W: Write>(
             Ok(())
         }
     }
+}
+
+// Whether the file of the parity will do for what the options say, or can be made.
+fn check_file<'a, I: Images>(
+    images: &mut I,
+    places: &ImagePlaces<'a>,
+    fec: &FecFile<'a>,
+    options: &ImageOptions,
+    grow: bool,
+) -> Result<(), FecFault<'a>>
+    requires { IsRoots fec.now.roots }
+    ensures ok { OnOk result (Does (FitsFile grow) I.relations I.Dev.state images.old images.new places.now fec.now) }
+    ensures err { IfErr result (Does (IsUnfit grow options.now) I.relations I.Dev.state images.old images.new places.now fec.now) }
+{
+    if grow {
+        find_three(images, places, fec)?;
+        return Ok(());
+    }
+    measure_words(images, places, fec, options)
 }
 
 // Writes the parity, and makes its file as long as is needed where `grow` says so.

@@ -4,6 +4,8 @@
 mod check;
 mod fault;
 mod fault_text;
+mod finding;
+mod fits;
 mod growing;
 mod image;
 mod invoke;

@@ -1,5 +1,7 @@
 mod CopyLemmas
 mod EndingLemmas
+mod GoingOnLemmas
 mod LayingLemmas
 mod MendLemmas
 mod ReadLemmas
+mod UnusedLemmas

@@ -1,5 +1,5 @@
 -- What is said behind a reading of the hash device is said of it before.
-use Rattle.std.proofs.Common.{◌⊎◌, ◌≤◌, ◌<◌, ℕ, Bool, List, [], ◌∷◌, Option, None, refl, ap, ◌∙◌, subst, arith, inl, inr}
+use Rattle.std.proofs.Common.{◌⊎◌, ◌≤◌, ◌<◌, ℕ, Bool, List, [], ◌∷◌, Option, None, Some, refl, ap, ◌∙◌, subst, arith, inl, inr}
 use Rattle.block_device.specs.Device.{Device}
 use Rattle.tree_path.proofs.lemmas.DeviceLemmas.{failed-then, only_read-then, steady-then}
 use Rattle.tree_repair.specs.declared.fault.RepairFault.{RepairFault}
@@ -14,7 +14,7 @@ use Rattle.verity_format.specs.Blocks.{IsFullRead, IsOnlyRead, block_at}
 use Rattle.verity_format.specs.Image.{tree_sectors}
 use Rattle.verity_format.specs.Superblock.{SuperRecord, shape_of}
 use Rattle.verity_format.specs.Verifying.{IsFirstSector, IsReadFrom}
-use Rattle.repair_commands.specs.Mends.{HalfMends, IsUnsyncedCause, MendsWhole}
+use Rattle.repair_commands.specs.Mends.{HalfMends, IsCutBy, IsWholeOrCut, MendsWhole}
 
 -- two devices of which one was read, and the copies
 pub hash-alone : (d h h' : Device) (cs es : List Device) → IsOnlyRead h h' → IsHashReadAlone (repair_world d h cs es) (repair_world d h' cs es)
@@ -96,16 +96,24 @@ unrepaired-behind : (plan : Plan) (parity : Bool) (d h h' : Device) (cs es : Lis
 unrepaired-behind plan parity d h h' cs es w' old new fault full (inl (behind, cause)) = inl (alone-behind w' full.read behind, cause-behind d h h' w'.hash_dev fault full cause)
 unrepaired-behind plan parity d h h' cs es w' old new fault full (inr repairs) = inr (repairs-behind plan parity w' old new _ full repairs)
 
-half-run : (plan : Plan) (parity : Bool) (d h h' : Device) (cs es : List Device) (w' after : RepairWorld) (old new : Option (List ℕ)) (fault : RepairFault) → IsFullRead h 1 h'
-    → (IsUnrepairedBy plan parity (repair_world d h' cs es) w' old new fault ⊎ (Repairs plan parity (repair_world d h' cs es) w' old new None × IsUnsyncedCause plan.write w' after fault))
-    → (IsUnrepairedBy plan parity (repair_world d h cs es) w' old new fault ⊎ (Repairs plan parity (repair_world d h cs es) w' old new None × IsUnsyncedCause plan.write w' after fault))
-half-run plan parity d h h' cs es w' after old new fault full (inl ended) = inl (unrepaired-behind plan parity d h h' cs es w' old new fault full ended)
-half-run plan parity d h h' cs es w' after old new fault full (inr (repairs, failed)) = inr (repairs-behind plan parity w' old new _ full repairs, failed)
+-- so of a run that may have gone on behind a failed writer
+cut-behind-read : (plan : Plan) (parity : Bool) (d h h' : Device) (cs es : List Device) (w' : RepairWorld) (old new : Option (List ℕ)) (fault : RepairFault) → IsFullRead h 1 h'
+    → IsCutBy plan parity (repair_world d h' cs es) w' old new fault → IsCutBy plan parity (repair_world d h cs es) w' old new fault
+cut-behind-read plan parity d h h' cs es w' old new fault full (inl (cause, (is, run))) = inl (cause, (is, unrepaired-behind plan parity d h h' cs es w' old new (Image cause) full run))
+cut-behind-read plan parity d h h' cs es w' old new fault full (inr goes) =
+    inr (record { between = goes.between; cut = unrepaired-behind plan parity d h h' cs es goes.between old new Write full goes.cut; unheard = goes.unheard })
+
+ended-behind : (plan : Plan) (parity : Bool) (d h h' : Device) (cs es : List Device) (w' : RepairWorld) (old new : Option (List ℕ)) (ended : Option RepairFault) → IsFullRead h 1 h'
+    → IsWholeOrCut plan parity (repair_world d h' cs es) w' old new ended → IsWholeOrCut plan parity (repair_world d h cs es) w' old new ended
+ended-behind plan parity d h h' cs es w' old new None full run = repairs-behind plan parity w' old new None full run
+ended-behind plan parity d h h' cs es w' old new (Some fault) full run = cut-behind-read plan parity d h h' cs es w' old new fault full run
 
 pub half-behind : (plan : Plan) (parity : Bool) (d h h' : Device) (cs es : List Device) (w' : RepairWorld) (old new : Option (List ℕ)) (fault : RepairFault) → IsFullRead h 1 h'
     → HalfMends plan parity (repair_world d h' cs es) w' old new fault → HalfMends plan parity (repair_world d h cs es) w' old new fault
 half-behind plan parity d h h' cs es w' old new fault full half = record {
   mid = half.mid;
-  run = half-run plan parity d h h' cs es half.mid w' old new fault full half.run;
+  ended = half.ended;
+  run = ended-behind plan parity d h h' cs es half.mid old new half.ended full half.run;
   kept = half.kept;
+  synced = half.synced;
 }

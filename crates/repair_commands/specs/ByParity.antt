@@ -18,12 +18,14 @@ use Rattle.repair_commands.specs.declared.fault.ParityRepairFault.{ParityRepairF
 use Rattle.repair_commands.specs.declared.fault.ParityRepairFault.TheVariants.{Tree}
 use Rattle.repair_commands.specs.declared.opening.Opened.{Opened}
 use Rattle.repair_commands.specs.declared.parity.Parity.{Parity}
-use Rattle.repair_commands.specs.Commands.{GivesBackImages, ending_fault, plan_of, world_of}
+use Rattle.repair_commands.specs.Commands.{GivesBackImages, PassesOpened, RefusesOpened, plan_of, world_of}
+use Rattle.repair_commands.specs.Endings.{ending_fault}
 use Rattle.repair_commands.specs.Mends.{HalfMends, MendsInPasses, MendsWhole}
 use Rattle.repair_commands.specs.Openings.{FailsToOpenCopies, OpensAll}
 use Rattle.repair_commands.specs.declared.pair.RepairPlaces.{RepairPlaces}
 use Rattle.repair_commands.specs.Pairs.{Places, places_of}
-use Rattle.repair_commands.specs.Rest.{IsRestEnd, TellsRest}
+use Rattle.repair_commands.specs.Rest.{IsRestEnd, TellsRest, known_by}
+use Rattle.repair_commands.specs.Standing.{CanStand}
 use Rattle.repair_commands.specs.Parity.{FailsToOpenParity, IsUnlaid, LaysOutParity, OpensParity}
 
 -- ---- of devices
@@ -32,25 +34,26 @@ use Rattle.repair_commands.specs.Parity.{FailsToOpenParity, IsUnlaid, LaysOutPar
 pub record MendsByParity (plan : Plan) (parity_dev : Device) (roots : ℕ) (w w' : RepairWorld) (old new : Option (List ℕ)) (outcome : Outcome) : Type 0 where
   pub layout : Layout
   pub read_dev : Device
-  pub lays : LaysOutParity w.data_dev w.hash_dev parity_dev roots read_dev layout
+  pub lays : LaysOutParity w.data_dev w.hash_dev parity_dev plan.copy_first roots read_dev layout
   pub mends : MendsWhole plan true w w' old new
   pub parity_dev' : Device
   pub passes : MendsInPasses plan layout parity_dev parity_dev' (record w { hash_dev = read_dev }) w' old new outcome
 
--- it isn't gone over to its end, or not all is on the media: good blocks alone were written all the same
+-- it isn't gone over to its end, not all lines were printed, or not all is synced: good blocks alone were written all the same
 pub record EndsHalf (plan : Plan) (w w' : RepairWorld) (old new : Option (List ℕ)) (fault : ParityRepairFault) : Type 0 where
+  pub stands : CanStand w.hash_dev plan.copy_first
   pub cause : RepairFault
   pub half : HalfMends plan true w w' old new cause
   pub is : fault ≡ Tree (ending_fault cause)
 
 -- the parity isn't laid out: the hash device alone was asked, and only read, and nothing printed
-pub record IsUnlaidEnd (parity_dev : Device) (roots : ℕ) (w w' : RepairWorld) (old new : Option (List ℕ)) (fault : ParityRepairFault) : Type 0 where
-  pub unlaid : IsUnlaid w.data_dev w.hash_dev parity_dev roots w'.hash_dev fault
+pub record IsUnlaidEnd (parity_dev : Device) (first roots : ℕ) (w w' : RepairWorld) (old new : Option (List ℕ)) (fault : ParityRepairFault) : Type 0 where
+  pub unlaid : IsUnlaid w.data_dev w.hash_dev parity_dev first roots w'.hash_dev fault
   pub read : IsHashReadAlone w w'
   pub quiet : new ≡ old
 
 abbrev pub HalfMendsByParity : Plan → Device → ℕ → RepairWorld → RepairWorld → Option (List ℕ) → Option (List ℕ) → ParityRepairFault → Type 0
-HalfMendsByParity plan parity_dev roots w w' old new fault = IsUnlaidEnd parity_dev roots w w' old new fault ⊎ EndsHalf plan w w' old new fault
+HalfMendsByParity plan parity_dev roots w w' old new fault = IsUnlaidEnd parity_dev plan.copy_first roots w w' old new fault ⊎ EndsHalf plan w w' old new fault
 
 -- the same by the open parity, and a writer before and behind
 abbrev pub IsMendedByFec : {P W : Type 0} → (P → Device) → (W → Option (List ℕ)) → Plan → Parity P → RepairWorld → RepairWorld → CountedRecord W → CountedRecord W → Outcome → Type 0
@@ -87,13 +90,18 @@ pub record OpensAllWithParity {S D : Type 0} (w : Calls S D) (p : Places) (fec :
   pub opens : OpensAll (record w { new = between }) p copies o
   pub parity_opens : OpensParity (record w { old = between }) p.write o fec parity
 
--- all is open, was repaired and given back
+-- all is open, the hash image's last hash blocks were looked at, and it was repaired and given back
 pub record MendsFilesByParity {S D : Type 0} (w : Calls S D) (p : Places) (fec : FecRecord) (copies : List ImageCopy) (root : List ℕ) (old new : Option (List ℕ)) (outcome : Outcome) : Type 0 where
   pub ready : S
+  pub before : Opened D
   pub opened : Opened D
   pub parity : Parity D
-  pub opens : OpensAllWithParity (record w { new = ready }) p fec copies opened parity
-  pub mends : MendsOpenedByParity (record w { old = ready }) p opened parity root old new outcome
+  pub whole : Bool
+  pub found : Outcome
+  pub opens : OpensAllWithParity (record w { new = ready }) p fec copies before parity
+  pub passes : PassesOpened w.state root before opened whole
+  pub mends : MendsOpenedByParity (record w { old = ready }) p opened parity root old new found
+  pub known : outcome ≡ known_by whole found
 
 -- and then it was told what is still lost, and that is nothing
 pub record RepairsByParity {S D : Type 0} (w : Calls S D) (p : Places) (fec : FecRecord) (copies : List ImageCopy) (root : List ℕ) (old new : Option (List ℕ)) : Type 0 where
@@ -122,12 +130,26 @@ pub record EndsWithoutParity {S D : Type 0} (w : Calls S D) (p : Places) (fec : 
   pub quiet : new ≡ old
   pub is : fault ≡ Tree (Open file)
 
--- all is open, and the image isn't repaired to the end
-pub record EndsUnmendedByParity {S D : Type 0} (w : Calls S D) (p : Places) (fec : FecRecord) (copies : List ImageCopy) (root : List ℕ) (old new : Option (List ℕ)) (fault : ParityRepairFault) : Type 0 where
-  pub ready : S
+-- all is open, and the image is refused before anything is written or printed
+pub record EndsRefusedByParity {S D : Type 0} (w : Calls S D) (p : Places) (fec : FecRecord) (copies : List ImageCopy) (root : List ℕ) (old new : Option (List ℕ)) (fault : ParityRepairFault) : Type 0 where
+  pub before : Opened D
   pub opened : Opened D
   pub parity : Parity D
-  pub opens : OpensAllWithParity (record w { new = ready }) p fec copies opened parity
+  pub opens : OpensAllWithParity w p fec copies before parity
+  pub cause : TreeFault
+  pub refuses : RefusesOpened w.state root before opened cause
+  pub quiet : new ≡ old
+  pub is : fault ≡ Tree cause
+
+-- it isn't, and not repaired to the end
+pub record EndsUnmendedByParity {S D : Type 0} (w : Calls S D) (p : Places) (fec : FecRecord) (copies : List ImageCopy) (root : List ℕ) (old new : Option (List ℕ)) (fault : ParityRepairFault) : Type 0 where
+  pub ready : S
+  pub before : Opened D
+  pub opened : Opened D
+  pub parity : Parity D
+  pub whole : Bool
+  pub opens : OpensAllWithParity (record w { new = ready }) p fec copies before parity
+  pub passes : PassesOpened w.state root before opened whole
   pub half : HalfMendsOpenedByParity (record w { old = ready }) p opened parity root old new fault
 
 -- it is, and then that isn't told to its end, or not all of it is good
@@ -142,8 +164,8 @@ pub record EndsBehindByParity {S D : Type 0} (w : Calls S D) (p : Places) (fec :
 
 abbrev pub IsParityRepairEnd : {S D : Type 0} → Calls S D → Places → FecRecord → List ImageCopy → List ℕ → Option (List ℕ) → Option (List ℕ) → Bool → ParityRepairFault → Type 0
 IsParityRepairEnd w p fec copies root old new failed fault =
-    EndsUnopenedByParity w p copies old new fault ⊎ (EndsWithoutParity w p fec copies old new fault
-    ⊎ (EndsUnmendedByParity w p fec copies root old new fault ⊎ EndsBehindByParity w p fec copies root old new failed fault))
+    EndsUnopenedByParity w p copies old new fault ⊎ (EndsWithoutParity w p fec copies old new fault ⊎ (EndsRefusedByParity w p fec copies root old new fault
+    ⊎ (EndsUnmendedByParity w p fec copies root old new fault ⊎ EndsBehindByParity w p fec copies root old new failed fault)))
 
 -- ---- the same by what an opener does, a writer before and behind, and the words
 

@@ -5,20 +5,18 @@ use Rattle.counted_io.specs.Counted.{CountedRecord}
 use Rattle.command_line.specs.declared.image_copies.ImageCopy.{ImageCopy}
 use Rattle.image_files.specs.Opener.{Calls, Opener, calls}
 use Rattle.tree_commands.specs.declared.fault.TreeFault.{TreeFault}
-use Rattle.tree_commands.specs.declared.fault.TreeFault.TheVariants as trees
-use Rattle.tree_survey.specs.declared.fault.SurveyFault.TheVariants as survey
-use Rattle.tree_repair.specs.declared.fault.RepairFault.{RepairFault}
-use Rattle.tree_repair.specs.declared.fault.RepairFault.TheVariants.{Image, Write}
 use Rattle.tree_repair.specs.declared.outcome.Outcome.{Outcome}
 use Rattle.tree_repair.specs.declared.repair.Plan.{Plan}
 use Rattle.tree_repair.specs.Worlds.{RepairWorld, repair_world}
 use Rattle.repair_commands.specs.declared.opening.Opened.{Opened}
 use Rattle.repair_commands.specs.declared.pair.Parts.{Parts}
-use Rattle.repair_commands.specs.Mends.{HalfMends, MendsInOnePass}
+use Rattle.repair_commands.specs.Mends.{HalfMendsByCopies, MendsByCopies}
 use Rattle.repair_commands.specs.Openings.{FailsToOpenCopies, OpensAll}
 use Rattle.repair_commands.specs.declared.pair.RepairPlaces.{RepairPlaces}
 use Rattle.repair_commands.specs.Pairs.{Places, places_of}
-use Rattle.repair_commands.specs.Rest.{IsRestEnd, TellsRest}
+use Rattle.repair_commands.specs.Rest.{IsRestEnd, TellsRest, known_by}
+use Rattle.repair_commands.specs.Unused.{IsUnusedCause, IsUnusedPassed}
+use Rattle.verity_format.specs.Blocks.{IsOnlyRead}
 
 abbrev pub plan_of : Places → List ℕ → Plan
 plan_of p root = record { root = root; copy_first = p.first; write = p.write }
@@ -44,48 +42,75 @@ pub record MendsOpened {S D : Type 0} (w : Calls S D) (p : Places) (o : Opened D
   pub hash_dev : D
   pub data_copies : List D
   pub hash_copies : List D
-  pub mends : MendsInOnePass (plan_of p root) (world_of w o) (repair_world (w.state data_dev) (w.state hash_dev) (map w.state data_copies) (map w.state hash_copies)) old new outcome
+  pub mends : MendsByCopies (plan_of p root) (world_of w o) (repair_world (w.state data_dev) (w.state hash_dev) (map w.state data_copies) (map w.state hash_copies)) old new outcome
   pub back : GivesBackImages p.write w p o.parts data_dev hash_dev
 
--- the fault with which a repair ends that isn't one to the end
-abbrev pub ending_fault : RepairFault → TreeFault
-ending_fault (Image fault) = trees.Survey (survey.Image fault)
-ending_fault Write = trees.Write
-
--- it wasn't repaired to the end, or isn't all on the media: good blocks alone were written all the same, and both given back
+-- It wasn't repaired to the end, not all lines were printed, or not all is synced: good blocks alone were written, and both given back.
 pub record HalfMendsOpened {S D : Type 0} (w : Calls S D) (p : Places) (o : Opened D) (root : List ℕ) (old new : Option (List ℕ)) (fault : TreeFault) : Type 0 where
   pub data_dev : D
   pub hash_dev : D
   pub data_copies : List D
   pub hash_copies : List D
-  pub cause : RepairFault
-  pub is : fault ≡ ending_fault cause
-  pub half : HalfMends (plan_of p root) false (world_of w o) (repair_world (w.state data_dev) (w.state hash_dev) (map w.state data_copies) (map w.state hash_copies)) old new cause
+  pub half : HalfMendsByCopies (plan_of p root) (world_of w o) (repair_world (w.state data_dev) (w.state hash_dev) (map w.state data_copies) (map w.state hash_copies)) old new fault
   pub back : GivesBackImages p.write w p o.parts data_dev hash_dev
+
+-- ---- what is read before anything is written
+
+-- what is open, with another hash device
+abbrev pub with_hash : {D : Type 0} → Opened D → D → Opened D
+with_hash o device = record o { pair = record o.pair { hash_image = record o.pair.hash_image { device = device } } }
+
+-- its hash device was read, and none of its good hash blocks on the way to the last data block holds anything after its last used entry
+pub record PassesOpened {D : Type 0} (state : D → Device) (root : List ℕ) (before o : Opened D) (whole : Bool) : Type 0 where
+  pub rest_is : o ≡ with_hash before o.pair.hash_image.device
+  pub read : IsOnlyRead (state before.pair.hash_image.device) (state o.pair.hash_image.device)
+  pub passed : IsUnusedPassed root (state before.pair.hash_image.device) (state o.pair.hash_image.device) whole
+
+-- or the image is refused; of the devices that one alone was asked, and only read
+pub record RefusesOpened {D : Type 0} (state : D → Device) (root : List ℕ) (before o : Opened D) (fault : TreeFault) : Type 0 where
+  pub rest_is : o ≡ with_hash before o.pair.hash_image.device
+  pub read : IsOnlyRead (state before.pair.hash_image.device) (state o.pair.hash_image.device)
+  pub cause : IsUnusedCause root (state before.pair.hash_image.device) (state o.pair.hash_image.device) fault
 
 -- ---- from the words on
 
--- the images and the copies were opened, and the images repaired and given back
+-- The images and the copies were opened, the hash image's last hash blocks looked at, and the images repaired and given back.
 pub record MendsFiles {S D : Type 0} (w : Calls S D) (p : Places) (copies : List ImageCopy) (root : List ℕ) (old new : Option (List ℕ)) (outcome : Outcome) : Type 0 where
   pub ready : S
+  pub before : Opened D
   pub opened : Opened D
-  pub opens : OpensAll (record w { new = ready }) p copies opened
-  pub mends : MendsOpened (record w { old = ready }) p opened root old new outcome
+  pub whole : Bool
+  pub found : Outcome
+  pub opens : OpensAll (record w { new = ready }) p copies before
+  pub passes : PassesOpened w.state root before opened whole
+  pub mends : MendsOpened (record w { old = ready }) p opened root old new found
+  pub known : outcome ≡ known_by whole found
 
 -- a file isn't opened, and nothing was written or printed
 pub record EndsUnopenedRepair {S D : Type 0} (w : Calls S D) (p : Places) (copies : List ImageCopy) (old new : Option (List ℕ)) (fault : TreeFault) : Type 0 where
   pub fails : FailsToOpenCopies w p copies fault
   pub quiet : new ≡ old
 
--- all are open, and the image isn't repaired to the end
+-- all are open, and the image is refused before anything is written or printed
+pub record EndsRefused {S D : Type 0} (w : Calls S D) (p : Places) (copies : List ImageCopy) (root : List ℕ) (old new : Option (List ℕ)) (fault : TreeFault) : Type 0 where
+  pub before : Opened D
+  pub opened : Opened D
+  pub opens : OpensAll w p copies before
+  pub refuses : RefusesOpened w.state root before opened fault
+  pub quiet : new ≡ old
+
+-- it isn't, and not repaired to the end
 pub record EndsUnmended {S D : Type 0} (w : Calls S D) (p : Places) (copies : List ImageCopy) (root : List ℕ) (old new : Option (List ℕ)) (fault : TreeFault) : Type 0 where
   pub ready : S
+  pub before : Opened D
   pub opened : Opened D
-  pub opens : OpensAll (record w { new = ready }) p copies opened
+  pub whole : Bool
+  pub opens : OpensAll (record w { new = ready }) p copies before
+  pub passes : PassesOpened w.state root before opened whole
   pub half : HalfMendsOpened (record w { old = ready }) p opened root old new fault
 
 abbrev pub IsMendingEnd : {S D : Type 0} → Calls S D → Places → List ImageCopy → List ℕ → Option (List ℕ) → Option (List ℕ) → TreeFault → Type 0
-IsMendingEnd w p copies root old new fault = EndsUnopenedRepair w p copies old new fault ⊎ EndsUnmended w p copies root old new fault
+IsMendingEnd w p copies root old new fault = EndsUnopenedRepair w p copies old new fault ⊎ (EndsRefused w p copies root old new fault ⊎ EndsUnmended w p copies root old new fault)
 
 -- ---- and what is still lost
 

@@ -1,8 +1,11 @@
 pub mod Pairs
 pub mod Copies
 pub mod Openings
+pub mod Endings
+pub mod Standing
 pub mod Mends
 pub mod Rest
+pub mod Unused
 pub mod Commands
 pub mod Parity
 pub mod ByParity

@@ -1,18 +1,22 @@
 -- What a repair of two devices did, up to their media.
-use Rattle.std.specs.Prelude.{◌≡◌, ◌≤◌, ◌⊎◌, ℕ, Bool, true, false, IsTrue, List, Option, None}
+use Rattle.std.specs.Prelude.{◌≡◌, ◌≤◌, ◌⊎◌, ℕ, Bool, true, false, IsTrue, List, Option, None, Some}
 use Rattle.block_device.specs.Device.{Device, HasFailed}
 use Rattle.counted_io.specs.Counted.{CountedRecord}
 use Rattle.fec_area.specs.declared.layout.Layout.{Layout}
 use Rattle.tree_repair.specs.declared.fault.RepairFault.{RepairFault}
-use Rattle.tree_repair.specs.declared.fault.RepairFault.TheVariants.{Image}
+use Rattle.tree_repair.specs.declared.fault.RepairFault.TheVariants.{Image, Write}
 use Rattle.tree_repair.specs.declared.outcome.Outcome.{Outcome}
 use Rattle.tree_repair.specs.declared.repair.Plan.{Plan}
 use Rattle.tree_repair.specs.Bounds.{RepairsInOnePass}
 use Rattle.tree_repair.specs.Outcomes.{IsOutcomeOf, IsParityOutcome}
 use Rattle.tree_repair.specs.ParityBounds.{RepairsInPasses}
 use Rattle.tree_repair.specs.Repairs.{IsUnrepairedBy, LooksAtAll, Repairs, SeeksByParity}
-use Rattle.tree_repair.specs.Worlds.{RepairWorld}
+use Rattle.tree_repair.specs.Worlds.{IsHashReadAlone, RepairWorld}
+use Rattle.tree_commands.specs.declared.fault.TreeFault.{TreeFault}
+use Rattle.verity_format.specs.declared.verifying.VerifyFault.{VerifyFault}
 use Rattle.verity_format.specs.declared.verifying.VerifyFault.TheVariants.{Device as DeviceFailed}
+use Rattle.repair_commands.specs.Endings.{ending_fault}
+use Rattle.repair_commands.specs.Standing.{IsMisplaced, IsPlaced}
 
 -- both devices hold what they held, neither takes a failure back, and the copies stay
 pub record KeepsBothImages (w w' : RepairWorld) : Type 0 where
@@ -56,16 +60,112 @@ HasFailedInSync write data_dev hash_dev data_dev' hash_dev' = IsTrue write × (H
 abbrev pub IsUnsyncedCause : Bool → RepairWorld → RepairWorld → RepairFault → Type 0
 IsUnsyncedCause write w w' fault = (fault ≡ Image DeviceFailed) × HasFailedInSync write w.data_dev w.hash_dev w'.data_dev w'.hash_dev
 
--- Or it wasn't, up to that fault, or not all is on the media, since a device failed: good blocks alone were written all the same.
+-- ---- a run that doesn't come to its end
+
+-- a run to its end, or up to a fault
+abbrev pub IsRunTo : Plan → Bool → RepairWorld → RepairWorld → Option (List ℕ) → Option (List ℕ) → Option RepairFault → Type 0
+IsRunTo plan parity w w' old new None = Repairs plan parity w w' old new None
+IsRunTo plan parity w w' old new (Some fault) = IsUnrepairedBy plan parity w w' old new fault
+
+-- the image was gone over without a writer, and `Write` says that this came to its end
+abbrev pub unheard_end : Option RepairFault → RepairFault
+unheard_end None = Write
+unheard_end (Some fault) = fault
+
+pub record IsUnheard (plan : Plan) (parity : Bool) (w w' : RepairWorld) (fault : RepairFault) : Type 0 where
+  pub ended : Option RepairFault
+  pub run : IsRunTo plan parity w w' None None ended
+  pub is : fault ≡ unheard_end ended
+
+-- what ended a repair; behind a failed writer the image was gone over anew without one
+abbrev pub IsEndBehind : Plan → Bool → RepairFault → RepairWorld → RepairWorld → RepairFault → Type 0
+IsEndBehind plan parity (Image cause) w w' fault = (fault ≡ Image cause) × (w' ≡ w)
+IsEndBehind plan parity Write w w' fault = IsUnheard plan parity w w' fault
+
+-- the writer failed, and the image was gone over anew without one
+pub record GoesOnUnheard (plan : Plan) (parity : Bool) (w w' : RepairWorld) (old new : Option (List ℕ)) (fault : RepairFault) : Type 0 where
+  pub between : RepairWorld
+  pub cut : IsUnrepairedBy plan parity w between old new Write
+  pub unheard : IsUnheard plan parity between w' fault
+
+-- So the fault `Write` says that the image was repaired to its end all the same.
+abbrev pub IsCutBy : Plan → Bool → RepairWorld → RepairWorld → Option (List ℕ) → Option (List ℕ) → RepairFault → Type 0
+IsCutBy plan parity w w' old new fault =
+    ((cause : VerifyFault) × ((fault ≡ Image cause) × IsUnrepairedBy plan parity w w' old new (Image cause))) ⊎ GoesOnUnheard plan parity w w' old new fault
+
+-- a run to its end, or one that a fault ended, with the writer or behind its failure
+abbrev pub IsWholeOrCut : Plan → Bool → RepairWorld → RepairWorld → Option (List ℕ) → Option (List ℕ) → Option RepairFault → Type 0
+IsWholeOrCut plan parity w w' old new None = Repairs plan parity w w' old new None
+IsWholeOrCut plan parity w w' old new (Some fault) = IsCutBy plan parity w w' old new fault
+
+-- Both devices were synced, and the repair ended by that fault; or a device failed in the sync, however the repair ended. Good blocks
+-- alone were written.
 pub record HalfMends (plan : Plan) (parity : Bool) (w w' : RepairWorld) (old new : Option (List ℕ)) (fault : RepairFault) : Type 0 where
   pub mid : RepairWorld
-  pub run : IsUnrepairedBy plan parity w mid old new fault ⊎ (Repairs plan parity w mid old new None × IsUnsyncedCause plan.write mid w' fault)
+  pub ended : Option RepairFault
+  pub run : IsWholeOrCut plan parity w mid old new ended
   pub kept : KeepsBothImages mid w'
+  pub synced : ((ended ≡ Some fault) × IsOnMedium plan.write w'.data_dev w'.hash_dev) ⊎ IsUnsyncedCause plan.write mid w' fault
+
+-- ---- by copies, from the superblock on
+
+-- the hash image stands where one may, and was repaired; of the pass more is said, from behind that reading of the superblock
+pub record MendsByCopies (plan : Plan) (w w' : RepairWorld) (old new : Option (List ℕ)) (outcome : Outcome) : Type 0 where
+  pub read_dev : Device
+  pub placed : IsPlaced w.hash_dev plan.copy_first read_dev
+  pub mends : MendsWhole plan false w w' old new
+  pub pass : MendsInOnePass plan (record w { hash_dev = read_dev }) w' old new outcome
+
+-- it can't stand there, or there is none: the hash device alone was asked, and only read, and nothing printed
+pub record IsRefusedPlace (plan : Plan) (w w' : RepairWorld) (old new : Option (List ℕ)) (fault : TreeFault) : Type 0 where
+  pub misplaced : IsMisplaced w.hash_dev plan.copy_first w'.hash_dev fault
+  pub read : IsHashReadAlone w w'
+  pub quiet : new ≡ old
+
+-- it does, and wasn't repaired to its end with all lines printed and all synced
+pub record HalfMendsPlaced (plan : Plan) (parity : Bool) (w w' : RepairWorld) (old new : Option (List ℕ)) (fault : TreeFault) : Type 0 where
+  pub read_dev : Device
+  pub placed : IsPlaced w.hash_dev plan.copy_first read_dev
+  pub cause : RepairFault
+  pub half : HalfMends plan parity w w' old new cause
+  pub is : fault ≡ ending_fault cause
+
+abbrev pub HalfMendsByCopies : Plan → RepairWorld → RepairWorld → Option (List ℕ) → Option (List ℕ) → TreeFault → Type 0
+HalfMendsByCopies plan w w' old new fault = IsRefusedPlace plan w w' old new fault ⊎ HalfMendsPlaced plan false w w' old new fault
 
 -- ---- the same by a writer before and behind
+
+abbrev pub IsMendedByCopies : {W : Type 0} → (W → Option (List ℕ)) → Plan → RepairWorld → RepairWorld → CountedRecord W → CountedRecord W → Outcome → Type 0
+IsMendedByCopies contents plan w w' old new outcome = MendsByCopies plan w w' (contents old.inner) (contents new.inner) outcome
+
+abbrev pub IsMendedHalf : {W : Type 0} → (W → Option (List ℕ)) → Plan → RepairWorld → RepairWorld → CountedRecord W → CountedRecord W → TreeFault → Type 0
+IsMendedHalf contents plan w w' old new fault = HalfMendsByCopies plan w w' (contents old.inner) (contents new.inner) fault
 
 abbrev pub IsMendedInOnePass : {W : Type 0} → (W → Option (List ℕ)) → Plan → RepairWorld → RepairWorld → CountedRecord W → CountedRecord W → Outcome → Type 0
 IsMendedInOnePass contents plan w w' old new outcome = MendsInOnePass plan w w' (contents old.inner) (contents new.inner) outcome
 
-abbrev pub IsMendedHalf : {W : Type 0} → (W → Option (List ℕ)) → Plan → RepairWorld → RepairWorld → CountedRecord W → CountedRecord W → RepairFault → Type 0
-IsMendedHalf contents plan w w' old new fault = HalfMends plan false w w' (contents old.inner) (contents new.inner) fault
+abbrev pub IsMendingCut : {W : Type 0} → (W → Option (List ℕ)) → Plan → Bool → RepairWorld → RepairWorld → CountedRecord W → CountedRecord W → RepairFault → Type 0
+IsMendingCut contents plan parity w w' old new fault = HalfMends plan parity w w' (contents old.inner) (contents new.inner) fault
+
+abbrev pub IsRunCut : {W : Type 0} → (W → Option (List ℕ)) → Plan → Bool → RepairWorld → RepairWorld → CountedRecord W → CountedRecord W → RepairFault → Type 0
+IsRunCut contents plan parity w w' old new fault = IsCutBy plan parity w w' (contents old.inner) (contents new.inner) fault
+
+-- each block was looked at, in one pass, and this is known of the image
+pub record RunsInOnePass (plan : Plan) (w w' : RepairWorld) (old new : Option (List ℕ)) (outcome : Outcome) : Type 0 where
+  pub repair : Repairs plan false w w' old new None
+  pub all : LooksAtAll plan w w' old new
+  pub within : RepairsInOnePass plan w w' old new None
+  pub whole : IsOutcomeOf plan w w' outcome
+
+abbrev pub IsRunWhole : {W : Type 0} → (W → Option (List ℕ)) → Plan → RepairWorld → RepairWorld → CountedRecord W → CountedRecord W → Outcome → Type 0
+IsRunWhole contents plan w w' old new outcome = RunsInOnePass plan w w' (contents old.inner) (contents new.inner) outcome
+
+-- with parity, in passes, in each of which what was found nowhere was sought by it
+pub record RunsInPasses (plan : Plan) (l : Layout) (p p' : Device) (w w' : RepairWorld) (old new : Option (List ℕ)) (outcome : Outcome) : Type 0 where
+  pub repair : Repairs plan true w w' old new None
+  pub within : RepairsInPasses plan l w w' p p' old new None
+  pub sought : SeeksByParity plan l w w' p p'
+  pub whole : IsParityOutcome plan w w' outcome
+
+abbrev pub IsRunByParity : {P W : Type 0} → (P → Device) → (W → Option (List ℕ)) → Plan → Layout → P → P → RepairWorld → RepairWorld → CountedRecord W → CountedRecord W → Outcome → Type 0
+IsRunByParity state contents plan l p p' w w' old new outcome = RunsInPasses plan l (state p) (state p') w w' (contents old.inner) (contents new.inner) outcome

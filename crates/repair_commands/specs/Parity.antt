@@ -20,6 +20,7 @@ use Rattle.repair_commands.specs.declared.fault.ParityRepairFault.TheVariants.{B
 use Rattle.repair_commands.specs.declared.opening.Opened.{Opened}
 use Rattle.repair_commands.specs.declared.parity.Parity.{Parity}
 use Rattle.repair_commands.specs.Pairs.{pair_uses}
+use Rattle.repair_commands.specs.Standing.{CanStand, IsUnaligned}
 
 -- the parity's file was opened for reading; it is none of the two that are repaired, where these may be written
 pub record OpensParity {S D : Type 0} (w : Calls S D) (write : Bool) (o : Opened D) (fec : FecRecord) (parity : Parity D) : Type 0 where
@@ -46,8 +47,9 @@ pub record LiesAcross (data_dev hash_dev : Device) (roots : ℕ) (layout : Layou
   pub is : IsLayoutOf (shape_of super) hash_dev.size roots layout
   pub laid : IsLaidOn layout data_dev hash_dev
 
--- and the parity has room on its own device; of the hash device one sector was read
-pub record LaysOutParity (data_dev hash_dev parity_dev : Device) (roots : ℕ) (hash_dev' : Device) (layout : Layout) : Type 0 where
+-- and the parity has room on its own device, and the hash image stands where one may; of the hash device one sector was read
+pub record LaysOutParity (data_dev hash_dev parity_dev : Device) (first roots : ℕ) (hash_dev' : Device) (layout : Layout) : Type 0 where
+  pub stands : CanStand hash_dev first
   pub lies : LiesAcross data_dev hash_dev roots layout
   pub room : parity_sectors layout ≤ parity_dev.size
   pub read : IsFullRead hash_dev 1 hash_dev'
@@ -65,21 +67,22 @@ pub record HaveOtherSizes (data_dev hash_dev : Device) : Type 0 where
   pub images : AreImages data_dev hash_dev super
   pub differ : super.data_block ≢ super.hash_block
 
--- why there is no layout: there is no image, or one of these
-abbrev pub IsUnlaid : Device → Device → Device → ℕ → Device → ParityRepairFault → Type 0
-IsUnlaid data_dev hash_dev parity_dev roots hash_dev' (Tree (trees.Survey fault)) = IsImageCause data_dev hash_dev hash_dev' fault
-IsUnlaid data_dev hash_dev parity_dev roots hash_dev' (Tree fault) = ⊥
-IsUnlaid data_dev hash_dev parity_dev roots hash_dev' BlockSizes = HaveOtherSizes data_dev hash_dev
-IsUnlaid data_dev hash_dev parity_dev roots hash_dev' (TooSmall needed) = IsParityShort data_dev hash_dev parity_dev roots needed
+-- why there is no layout: there is no image, no block of its tree begins at that sector, or one of these
+abbrev pub IsUnlaid : Device → Device → Device → ℕ → ℕ → Device → ParityRepairFault → Type 0
+IsUnlaid data_dev hash_dev parity_dev first roots hash_dev' (Tree (trees.Survey fault)) = IsImageCause data_dev hash_dev hash_dev' fault
+IsUnlaid data_dev hash_dev parity_dev first roots hash_dev' (Tree trees.Unaligned) = IsUnaligned hash_dev first
+IsUnlaid data_dev hash_dev parity_dev first roots hash_dev' (Tree fault) = ⊥
+IsUnlaid data_dev hash_dev parity_dev first roots hash_dev' BlockSizes = HaveOtherSizes data_dev hash_dev
+IsUnlaid data_dev hash_dev parity_dev first roots hash_dev' (TooSmall needed) = IsParityShort data_dev hash_dev parity_dev roots needed
 
 -- the same by what devices of any kind are
-abbrev pub LaysAcross : {D H P : Type 0} → (D → Device) → (H → Device) → (P → Device) → D → H → Parity P → H → Layout → Type 0
-LaysAcross data_state hash_state parity_state data_dev hash_dev parity hash_dev' layout =
-    LaysOutParity (data_state data_dev) (hash_state hash_dev) (parity_state parity.device) parity.roots (hash_state hash_dev') layout
+abbrev pub LaysAcross : {D H P : Type 0} → (D → Device) → (H → Device) → (P → Device) → D → H → ℕ → Parity P → H → Layout → Type 0
+LaysAcross data_state hash_state parity_state data_dev hash_dev first parity hash_dev' layout =
+    LaysOutParity (data_state data_dev) (hash_state hash_dev) (parity_state parity.device) first parity.roots (hash_state hash_dev') layout
 
-abbrev pub IsUnlaidBy : {D H P : Type 0} → (D → Device) → (H → Device) → (P → Device) → D → H → Parity P → H → ParityRepairFault → Type 0
-IsUnlaidBy data_state hash_state parity_state data_dev hash_dev parity hash_dev' fault =
-    IsUnlaid (data_state data_dev) (hash_state hash_dev) (parity_state parity.device) parity.roots (hash_state hash_dev') fault
+abbrev pub IsUnlaidBy : {D H P : Type 0} → (D → Device) → (H → Device) → (P → Device) → D → H → ℕ → Parity P → H → ParityRepairFault → Type 0
+IsUnlaidBy data_state hash_state parity_state data_dev hash_dev first parity hash_dev' fault =
+    IsUnlaid (data_state data_dev) (hash_state hash_dev) (parity_state parity.device) first parity.roots (hash_state hash_dev') fault
 
 -- a fault of the image
 abbrev pub unread : VerifyFault → ParityRepairFault

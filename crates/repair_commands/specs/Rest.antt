@@ -20,6 +20,12 @@ surveyed p = record { paths = record { first_path = p.data_path; second_path = p
 abbrev pub all_good_totals : ℕ → Totals
 all_good_totals count = record { good = count; changed = 0; unknown = 0 }
 
+-- What a repair lets know of an image, by whether all hash blocks on the way to the last data block were good before it: else one
+-- of them may hold something after its last used entry, which a survey tells.
+abbrev pub known_by : Bool → Outcome → Outcome
+known_by true outcome = outcome
+known_by false outcome = Partly
+
 -- How many data blocks the repair knows to be good, where all of the image is. A hash block of whatever size, up to 4,096 bytes,
 -- must be able to begin at the image's first sector, which a survey would say else.
 abbrev pub known_good : Outcome → ℕ → Option ℕ

@@ -1,24 +1,28 @@
 //! `repair --fec FILE`: what no copy has is made again by the parity in a file.
 ghost use Rattle.std.specs.Prelude.{◌≤◌, ◌^◌, IfErr, IfOk, OnOk};
-ghost use Rattle.image_files.specs.Opener.{IsFresh};
 ghost use Rattle.tree_repair.specs.Repairs.{IsAllowed};
 ghost use Rattle.repair_commands.specs.ByParity.{AreRepairedByFec, AreUnrepairedByFec, IsHalfByFec, IsMendedByFec, IsPairHalfMendedByFec, IsPairMendedByFec};
+ghost use Rattle.fec_area.specs.Layouts.{IsLaidOn};
+ghost use Rattle.repair_commands.specs.Mends.{IsEndBehind, IsRunByParity, IsRunCut, IsUnheard};
 
 use crate::fault::ParityRepairFault;
-use crate::mending::sync_both;
+use crate::nowhere::Nowhere;
 use crate::opening::{Copies, Opened, open_all};
 use crate::pair::{Pair, RepairPlaces};
 use crate::parity::{Parity, lay_out, open_parity};
 use crate::repair::give_back;
-use crate::rest::say_rest;
+use crate::rest::{known_by, say_rest};
+use crate::syncing::sync_both;
+use crate::unused::check_unused;
 use block_device::{BlockDev, SyncDev};
 use command_line::{FecFile, ImageCopy};
 use counted_io::Counted;
+use fec_area::Layout;
 use image_files::Images;
 use std::alloc::Global;
 use std::io::Write;
 use tree_commands::TreeFault;
-use tree_repair::{DamagedImage, Outcome, Plan, repair_with_parity};
+use tree_repair::{DamagedImage, Outcome, Plan, RepairFault, repair_with_parity};
 use tree_shape::Digest;
 use watched_device::Watchers;
 
@@ -40,13 +44,15 @@ pub fn repair_by_parity<'a, I: Images, S: Watchers, W: Write>(
     ensures ok { OnOk result (AreRepairedByFec I.relations I.Dev.state images.old images.new places.entry fec.now copies.now root.now W.contents writer.old writer.new) }
     ensures err { IfErr result (AreUnrepairedByFec I.relations I.Dev.state images.old images.new places.entry fec.now copies.now root.now W.contents writer.old writer.new) }
 {
-    let opened = open_all(alloc, images, places, copies)?;
+    let mut opened = open_all(alloc, images, places, copies)?;
     let parity = match open_parity(images, places.write, &opened, fec) {
         Ok(parity) => parity,
         Err(file) => return Err(ParityRepairFault::Tree(TreeFault::Open(file))),
     };
+    let whole = check_unused(alloc, &mut opened.pair.hash_image.device, root)?;
     let outcome = mend_opened(alloc, images, places, opened, parity, root, writer)?;
-    say_rest(alloc, images, watchers, places, outcome, root, writer)?;
+    let known = known_by(whole, outcome);
+    say_rest(alloc, images, watchers, places, known, root, writer)?;
     Ok(())
 }
 
@@ -63,8 +69,7 @@ fn mend_opened<'a, I: Images, W: Write>(
     requires first { places.hash_first ≤ 2 ^ 55 }
     requires some { 2 ≤ parity.roots }
     requires few { parity.roots ≤ 24 }
-    requires data_fresh { IsFresh (I.Dev.state opened.pair.data_image.device) places.write }
-    requires hash_fresh { IsFresh (I.Dev.state opened.pair.hash_image.device) places.write }
+    requires allowed { IsAllowed places.write (I.Dev.state opened.pair.data_image.device) (I.Dev.state opened.pair.hash_image.device) }
     ensures ok { IfOk result (IsPairMendedByFec I.relations I.Dev.state images.old images.new places.entry opened parity root.now W.contents writer.old writer.new) }
     ensures err { IfErr result (IsPairHalfMendedByFec I.relations I.Dev.state images.old images.new places.entry opened parity root.now W.contents writer.old writer.new) }
 {
@@ -118,8 +123,76 @@ fn mend_laid_out<'a, D: SyncDev, H: SyncDev, C: BlockDev, P: BlockDev + Drop, W:
 {
     let write = plan.write;
     let mut parity_open = parity;
-    let layout = lay_out(&image.data, &mut image.hash, &parity_open)?;
-    let outcome = repair_with_parity(alloc, image, &layout, &mut parity_open.device, plan, writer)?;
+    let layout = lay_out(&image.data, &mut image.hash, plan.copy_first, &parity_open)?;
+    let ended = repair_through(
+        alloc,
+        image,
+        &layout,
+        &mut parity_open.device,
+        &plan,
+        writer,
+    );
     sync_both(image, write)?;
-    Ok(outcome)
+    Ok(ended?)
+}
+
+// Repairs the image to its end, also if the writer fails.
+fn repair_through<D: BlockDev, H: BlockDev, C: BlockDev, P: BlockDev, W: Write>(
+    alloc: Global,
+    image: &mut DamagedImage<D, H, C>,
+    layout: &Layout,
+    parity_dev: &mut P,
+    plan: &Plan,
+    writer: &mut Counted<W>,
+) -> Result<Outcome, RepairFault>
+    requires first { plan.now.copy_first ≤ 2 ^ 55 }
+    requires allowed { IsAllowed plan.now.write image.old.data_dev image.old.hash_dev }
+    requires laid { IsLaidOn layout.now image.old.data_dev image.old.hash_dev }
+    ensures ok { IfOk result (IsRunByParity P.state W.contents plan.now layout.now parity_dev.old parity_dev.new image.old image.new writer.old writer.new) }
+    ensures err { IfErr result (IsRunCut W.contents plan.now true image.old image.new writer.old writer.new) }
+{
+    match repair_with_parity(alloc, image, layout, parity_dev, *plan, writer) {
+        Ok(outcome) => Ok(outcome),
+        Err(fault) => Err(go_on(alloc, image, layout, parity_dev, plan, fault)),
+    }
+}
+
+// What ended a repair. If that is a failed writer, it first goes over the image anew without one.
+fn go_on<D: BlockDev, H: BlockDev, C: BlockDev, P: BlockDev>(
+    alloc: Global,
+    image: &mut DamagedImage<D, H, C>,
+    layout: &Layout,
+    parity_dev: &mut P,
+    plan: &Plan,
+    fault: RepairFault,
+) -> RepairFault
+    requires first { plan.now.copy_first ≤ 2 ^ 55 }
+    requires allowed { IsAllowed plan.now.write image.old.data_dev image.old.hash_dev }
+    requires laid { IsLaidOn layout.now image.old.data_dev image.old.hash_dev }
+    ensures { IsEndBehind plan.now true fault image.old image.new result }
+{
+    match fault {
+        RepairFault::Image(fault) => RepairFault::Image(fault),
+        RepairFault::Write => repair_unheard(alloc, image, layout, parity_dev, plan),
+    }
+}
+
+// Goes over the image without a writer. `Write` says that it came to the end.
+fn repair_unheard<D: BlockDev, H: BlockDev, C: BlockDev, P: BlockDev>(
+    alloc: Global,
+    image: &mut DamagedImage<D, H, C>,
+    layout: &Layout,
+    parity_dev: &mut P,
+    plan: &Plan,
+) -> RepairFault
+    requires first { plan.now.copy_first ≤ 2 ^ 55 }
+    requires allowed { IsAllowed plan.now.write image.old.data_dev image.old.hash_dev }
+    requires laid { IsLaidOn layout.now image.old.data_dev image.old.hash_dev }
+    ensures { IsUnheard plan.now true image.old image.new result }
+{
+    let mut nowhere = Counted::new(Nowhere);
+    match repair_with_parity(alloc, image, layout, parity_dev, *plan, &mut nowhere) {
+        Ok(_outcome) => RepairFault::Write,
+        Err(fault) => fault,
+    }
 }

@@ -26,7 +26,7 @@ impl<'a> From<TreeFault<'a>> for ParityRepairFault<'a> {
 }
 
 impl From<RepairFault> for ParityRepairFault<'_> {
-    ghost use Rattle.repair_commands.specs.Commands.{ending_fault};
+    ghost use Rattle.repair_commands.specs.Endings.{ending_fault};
 
     ghost from_gives = { λ fault given. given ≡ parity_repair_fault.Tree (ending_fault fault) };
 

@@ -5,11 +5,15 @@ mod by_parity;
 mod copies;
 mod fault;
 mod mending;
+mod nowhere;
 mod opening;
 mod pair;
 mod parity;
 mod repair;
 mod rest;
+mod standing;
+mod syncing;
+mod unused;
 
 pub use by_parity::repair_by_parity;
 pub use fault::ParityRepairFault;

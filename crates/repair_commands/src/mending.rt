@@ -1,17 +1,45 @@
-//! The two devices repaired, and what was written put on their media.
-ghost use Rattle.std.specs.Prelude.{◌≡◌, ◌≤◌, ◌^◌, false, IfErr, IfOk, IsTrue, OnErr, OnOk};
-ghost use Rattle.block_device.specs.Device.{HasFailed};
+//! The two devices repaired by copies, and synced.
+ghost use Rattle.std.specs.Prelude.{◌≡◌, ◌≤◌, ◌^◌, IfErr, IfOk};
 ghost use Rattle.tree_repair.specs.Repairs.{IsAllowed};
-ghost use Rattle.repair_commands.specs.Mends.{IsMendedHalf, IsMendedInOnePass, IsOnMedium, IsUnsyncedCause, KeepsBothImages};
+ghost use Rattle.repair_commands.specs.Mends.{IsEndBehind, IsMendedByCopies, IsMendedHalf, IsMendedInOnePass, IsMendingCut, IsRunCut, IsRunWhole, IsUnheard};
 
-use block_device::{BlockDev, DeviceFault, SyncDev};
+use crate::nowhere::Nowhere;
+use crate::repair::fault_of;
+use crate::standing::check_start;
+use crate::syncing::sync_both;
+use block_device::{BlockDev, SyncDev};
 use counted_io::Counted;
 use std::alloc::Global;
 use std::io::Write;
+use tree_commands::TreeFault;
 use tree_repair::{DamagedImage, Outcome, Plan, RepairFault, repair_image};
 
-/// Repairs both, and has what was written put on their media. Tells what is known of the image by then.
-pub(crate) fn mend<D: SyncDev, H: SyncDev, C: BlockDev, W: Write>(
+/// Repairs both, and syncs them however that ends. Returns what is known of the image by then.
+///
+/// # Errors
+///
+/// `Unaligned`, or the superblock's fault, before anything is written. `Write` if the writer failed: the image is repaired
+/// to its end all the same. `Device` if a write or a sync failed. `NoMemory` if memory ran out.
+pub(crate) fn mend<'a, D: SyncDev, H: SyncDev, C: BlockDev, W: Write>(
+    alloc: Global,
+    image: &mut DamagedImage<D, H, C>,
+    plan: Plan,
+    writer: &mut Counted<W>,
+) -> Result<Outcome, TreeFault<'a>>
+    requires first { plan.copy_first ≤ 2 ^ 55 }
+    requires allowed { IsAllowed plan.write image.old.data_dev image.old.hash_dev }
+    ensures ok { IfOk result (IsMendedByCopies W.contents plan image.old image.new writer.old writer.new) }
+    ensures err { IfErr result (IsMendedHalf W.contents plan image.old image.new writer.old writer.new) }
+{
+    check_start(&mut image.hash, plan.copy_first)?;
+    match mend_placed(alloc, image, plan, writer) {
+        Ok(outcome) => Ok(outcome),
+        Err(fault) => Err(fault_of(fault)),
+    }
+}
+
+// The same, of a hash image that is known to stand where it may.
+fn mend_placed<D: SyncDev, H: SyncDev, C: BlockDev, W: Write>(
     alloc: Global,
     image: &mut DamagedImage<D, H, C>,
     plan: Plan,
@@ -20,37 +48,62 @@ pub(crate) fn mend<D: SyncDev, H: SyncDev, C: BlockDev, W: Write>(
     requires first { plan.copy_first ≤ 2 ^ 55 }
     requires allowed { IsAllowed plan.write image.old.data_dev image.old.hash_dev }
     ensures ok { IfOk result (IsMendedInOnePass W.contents plan image.old image.new writer.old writer.new) }
-    ensures err { IfErr result (IsMendedHalf W.contents plan image.old image.new writer.old writer.new) }
+    ensures err { IfErr result (IsMendingCut W.contents plan false image.old image.new writer.old writer.new) }
 {
     let write = plan.write;
-    let outcome = repair_image(alloc, image, plan, writer)?;
+    let ended = repair_through(alloc, image, &plan, writer);
     sync_both(image, write)?;
-    Ok(outcome)
+    ended
 }
 
-/// Has what was written put on the media of both.
-pub(crate) fn sync_both<D: SyncDev, H: SyncDev, C: BlockDev>(
+// Repairs the image to its end, also if the writer fails.
+fn repair_through<D: BlockDev, H: BlockDev, C: BlockDev, W: Write>(
+    alloc: Global,
     image: &mut DamagedImage<D, H, C>,
-    write: bool,
-) -> Result<(), RepairFault>
-    ensures kept { KeepsBothImages image.old image.new }
-    ensures ok { OnOk result (IsOnMedium write image.new.data_dev image.new.hash_dev) }
-    ensures err { IfErr result (IsUnsyncedCause write image.old image.new) }
+    plan: &Plan,
+    writer: &mut Counted<W>,
+) -> Result<Outcome, RepairFault>
+    requires first { plan.now.copy_first ≤ 2 ^ 55 }
+    requires allowed { IsAllowed plan.now.write image.old.data_dev image.old.hash_dev }
+    ensures ok { IfOk result (IsRunWhole W.contents plan.now image.old image.new writer.old writer.new) }
+    ensures err { IfErr result (IsRunCut W.contents plan.now false image.old image.new writer.old writer.new) }
 {
-    sync_one(&mut image.data, write)?;
-    sync_one(&mut image.hash, write)?;
-    Ok(())
+    match repair_image(alloc, image, *plan, writer) {
+        Ok(outcome) => Ok(outcome),
+        Err(fault) => Err(go_on(alloc, image, plan, fault)),
+    }
 }
 
-// Has what was written put on its medium, if anything was.
-fn sync_one<D: SyncDev>(device: &mut D, write: bool) -> Result<(), DeviceFault>
-    ensures kept { (D.state device.new).image ≡ (D.state device.old).image }
-    ensures ok { OnOk result (IsTrue write → (D.state device.new).dirty ≡ false) }
-    ensures err { OnErr result (IsTrue write × HasFailed (D.state device.old) (D.state device.new)) }
-    ensures counted { (D.state device.old).failures ≤ (D.state device.new).failures }
+// What ended a repair. If that is a failed writer, it first goes over the image anew without one.
+fn go_on<D: BlockDev, H: BlockDev, C: BlockDev>(
+    alloc: Global,
+    image: &mut DamagedImage<D, H, C>,
+    plan: &Plan,
+    fault: RepairFault,
+) -> RepairFault
+    requires first { plan.now.copy_first ≤ 2 ^ 55 }
+    requires allowed { IsAllowed plan.now.write image.old.data_dev image.old.hash_dev }
+    ensures { IsEndBehind plan.now false fault image.old image.new result }
 {
-    if !write {
-        return Ok(());
+    match fault {
+        RepairFault::Image(fault) => RepairFault::Image(fault),
+        RepairFault::Write => repair_unheard(alloc, image, plan),
     }
-    device.sync()
+}
+
+// Goes over the image without a writer. `Write` says that it came to the end.
+fn repair_unheard<D: BlockDev, H: BlockDev, C: BlockDev>(
+    alloc: Global,
+    image: &mut DamagedImage<D, H, C>,
+    plan: &Plan,
+) -> RepairFault
+    requires first { plan.now.copy_first ≤ 2 ^ 55 }
+    requires allowed { IsAllowed plan.now.write image.old.data_dev image.old.hash_dev }
+    ensures { IsUnheard plan.now false image.old image.new result }
+{
+    let mut nowhere = Counted::new(Nowhere);
+    match repair_image(alloc, image, *plan, &mut nowhere) {
+        Ok(_outcome) => RepairFault::Write,
+        Err(fault) => fault,
+    }
 }

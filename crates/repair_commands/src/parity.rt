@@ -9,7 +9,9 @@ use crate::pair::part_use;
 use block_device::BlockDev;
 use command_line::FecFile;
 use fec_area::Layout;
+use image_commands::is_aligned;
 use image_files::{Images, UnopenedFile, open_apart};
+use tree_commands::TreeFault;
 use verity_format::{VerifyFault, data_sectors, read_superblock, tree_sectors};
 
 /// The device that holds it, and how many bytes of it a codeword has.
@@ -40,19 +42,23 @@ pub(crate) fn open_parity<'a, I: Images>(
     })
 }
 
-/// How it lies across the image, whose superblock is read.
+/// How it lies across the image, whose superblock is read, and whose hash image begins at that sector of its file.
 pub(crate) fn lay_out<'a, D: BlockDev, H: BlockDev, P: BlockDev>(
     data_dev: &D,
     hash_dev: &mut H,
+    first: u64,
     parity: &Parity<P>,
 ) -> Result<Layout, ParityRepairFault<'a>>
     requires some { 2 ≤ parity.now.roots }
     requires few { parity.now.roots ≤ 24 }
     ensures read { IsOnlyRead (H.state hash_dev.old) (H.state hash_dev.new) }
-    ensures ok { IfOk result (LaysAcross D.state H.state P.state data_dev.now hash_dev.old parity.now hash_dev.new) }
-    ensures err { IfErr result (IsUnlaidBy D.state H.state P.state data_dev.now hash_dev.old parity.now hash_dev.new) }
+    ensures ok { IfOk result (LaysAcross D.state H.state P.state data_dev.now hash_dev.old first parity.now hash_dev.new) }
+    ensures err { IfErr result (IsUnlaidBy D.state H.state P.state data_dev.now hash_dev.old first parity.now hash_dev.new) }
 {
     let superblock = read_superblock(hash_dev)?;
+    if !is_aligned(first, superblock.hash_block()) {
+        return Err(ParityRepairFault::Tree(TreeFault::Unaligned));
+    }
     let shape = superblock.shape();
     if data_dev.sectors() < data_sectors(&shape) {
         return Err(ParityRepairFault::from(VerifyFault::TooSmall));

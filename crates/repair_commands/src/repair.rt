@@ -1,12 +1,14 @@
 //! The command `repair`: blocks that aren't good are sought in copies, and what is still lost is told.
 ghost use Rattle.std.specs.Prelude.{◌≡◌, ◌≤◌, ◌^◌, IfErr, IfOk, OnOk};
-ghost use Rattle.image_files.specs.Opener.{IsFresh};
-ghost use Rattle.repair_commands.specs.Commands.{AreRepaired, AreUnrepaired, GivesBackBoth, IsPairHalfMended, IsPairMended, ending_fault};
+ghost use Rattle.tree_repair.specs.Repairs.{IsAllowed};
+ghost use Rattle.repair_commands.specs.Commands.{AreRepaired, AreUnrepaired, GivesBackBoth, IsPairHalfMended, IsPairMended};
+ghost use Rattle.repair_commands.specs.Endings.{ending_fault};
 
 use crate::mending::mend;
 use crate::opening::{Copies, Opened, open_all};
 use crate::pair::{Pair, Parts, RepairPlaces};
-use crate::rest::say_rest;
+use crate::rest::{known_by, say_rest};
+use crate::unused::check_unused;
 use command_line::ImageCopy;
 use counted_io::Counted;
 use image_files::Images;
@@ -34,9 +36,11 @@ pub fn repair_images<'a, I: Images, S: Watchers, W: Write>(
     ensures ok { OnOk result (AreRepaired I.relations I.Dev.state images.old images.new places.entry copies.now root.now W.contents writer.old writer.new) }
     ensures err { IfErr result (AreUnrepaired I.relations I.Dev.state images.old images.new places.entry copies.now root.now W.contents writer.old writer.new) }
 {
-    let opened = open_all(alloc, images, places, copies)?;
+    let mut opened = open_all(alloc, images, places, copies)?;
+    let whole = check_unused(alloc, &mut opened.pair.hash_image.device, root)?;
     let outcome = mend_opened(alloc, images, places, opened, root, writer)?;
-    say_rest(alloc, images, watchers, places, outcome, root, writer)
+    let known = known_by(whole, outcome);
+    say_rest(alloc, images, watchers, places, known, root, writer)
 }
 
 // Repairs what is open, and gives the images back, however that ends.
@@ -49,8 +53,7 @@ fn mend_opened<'a, I: Images, W: Write>(
     writer: &mut Counted<W>,
 ) -> Result<Outcome, TreeFault<'a>>
     requires first { places.hash_first ≤ 2 ^ 55 }
-    requires data_fresh { IsFresh (I.Dev.state opened.pair.data_image.device) places.write }
-    requires hash_fresh { IsFresh (I.Dev.state opened.pair.hash_image.device) places.write }
+    requires allowed { IsAllowed places.write (I.Dev.state opened.pair.data_image.device) (I.Dev.state opened.pair.hash_image.device) }
     ensures ok { IfOk result (IsPairMended I.relations I.Dev.state images.old images.new places.entry opened root.now W.contents writer.old writer.new) }
     ensures err { IfErr result (IsPairHalfMended I.relations I.Dev.state images.old images.new places.entry opened root.now W.contents writer.old writer.new) }
 {
@@ -84,10 +87,7 @@ fn mend_opened<'a, I: Images, W: Write>(
         hash_copies: _,
     } = image;
     give_back(images, places, parts, data, hash);
-    match ended {
-        Ok(outcome) => Ok(outcome),
-        Err(fault) => Err(fault_of(fault)),
-    }
+    ended
 }
 
 /// Gives both parts back, where anything may be written.

@@ -2,7 +2,7 @@
 ghost use Rattle.std.specs.Prelude.{◌≡◌, IfErr, OnOk};
 ghost use Rattle.counted_io.specs.Counted.{Writes};
 ghost use Rattle.tree_commands.specs.Surveys.{survey_totals};
-ghost use Rattle.repair_commands.specs.Rest.{IsRestTold, IsRestUntold, all_good_totals, known_good};
+ghost use Rattle.repair_commands.specs.Rest.{IsRestTold, IsRestUntold, all_good_totals, known_by, known_good};
 
 use crate::pair::RepairPlaces;
 use counted_io::{Counted, WriteFault};
@@ -48,6 +48,14 @@ pub(crate) fn say_rest<'a, I: Images, S: Watchers, W: Write>(
         Some(count) => Ok(say_all_good(writer, count)?),
         None => survey_images(alloc, images, watchers, order, root, writer),
     }
+}
+
+/// What a repair lets know of an image, by whether all hash blocks on the way to the last data block were good before it: one that
+/// was brought back may hold something after its last used entry, which a survey tells.
+pub(crate) fn known_by(whole: bool, outcome: Outcome) -> Outcome
+    ensures { result ≡ known_by whole outcome }
+{
+    if whole { outcome } else { Outcome::Partly }
 }
 
 // How many data blocks are known to be good, where all of the image is, and a hash block may begin at that sector.

@@ -22,6 +22,9 @@ pub enum TreeFault<'a> {
     Survey(SurveyFault),
     /// No hash block begins at the place of the superblock.
     Unaligned,
+    /// A hash block isn't zero after its last used entry: the image that was formatted has more data blocks than the
+    /// superblock says.
+    UnusedEntries,
     /// It was gone over, and not all of it is good.
     Damaged,
     /// A line can't be written.

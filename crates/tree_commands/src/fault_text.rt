@@ -29,6 +29,7 @@ pub fn say_tree_fault<W: Write>(
         TreeFault::Differs => Ok(()),
         TreeFault::Survey(fault) => say_survey_fault(writer, fault),
         TreeFault::Unaligned => writer.put(b"refused 18 Unaligned\n"),
+        TreeFault::UnusedEntries => writer.put(b"refused 28 UnusedEntries\n"),
         TreeFault::Damaged => Ok(()),
         TreeFault::Write => Ok(()),
     }

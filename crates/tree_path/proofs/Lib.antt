@@ -1,2 +1,3 @@
 pub mod MemoryLemmas
+mod WorkedUnusedLemmas
 pub mod lemmas

@@ -3,3 +3,4 @@ pub mod Seen
 pub mod Spans
 pub mod Steps
 pub mod Laws
+pub mod Unused

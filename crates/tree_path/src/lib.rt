@@ -4,6 +4,7 @@
 mod path;
 mod reading;
 mod spans;
+mod unused;
 
 pub use path::TreePath;
 pub use spans::{span, top_at};

@@ -5,10 +5,12 @@ ghost use Rattle.block_device.specs.Device.{HasFailed};
 ghost use Rattle.tree_shape.specs.Shape.{ancestor, levels};
 ghost use Rattle.verity_format.specs.Blocks.{IsOnlyRead};
 ghost use Rattle.verity_format.specs.Image.{tree_sectors};
-ghost use Rattle.tree_path.specs.Path.{IsPathOf, digest_on};
+ghost use Rattle.tree_path.specs.Path.{IsPathOf, block_of, digest_on};
 ghost use Rattle.tree_path.specs.Steps.{CanDescend, HasCome, HasReadAtMost, IsKeptAbove, IsStepLoaded, IsUnloaded, steps};
+ghost use Rattle.tree_path.specs.Unused.{is_unused_zero};
 
 use crate::reading::{read_block, zero_blocks};
+use crate::unused::{is_zero_after, used_entries};
 use block_device::{BlockDev, DeviceFault};
 use std::alloc::{AllocError, Global};
 use std::marker::Model;
@@ -86,6 +88,18 @@ impl TreePath {
         ensures { result ≡ ancestor self.now.shape (level + 1) index }
     {
         self.shape.block_on_path(level, index)
+    }
+
+    /// Whether the hash block of a level on the way to a data block is zero after its last used entry, as each one is that
+    /// was formatted.
+    pub fn is_unused_zero(&self, level: u32, index: u64) -> bool
+        requires level { level < levels self.now.shape }
+        requires index { index < self.now.shape.blocks }
+        ensures { result ≡ is_unused_zero self.now.shape level (ancestor self.now.shape (level + 1) index) (block_of self.now level) }
+    {
+        let number = self.shape.block_on_path(level, index);
+        let used = used_entries(&self.shape, level, number);
+        is_zero_after(&self.blocks[level as usize], used)
     }
 
     /// Reads the hash block of a level on the way to a data block, and tells whether its digest stands above it. Where it

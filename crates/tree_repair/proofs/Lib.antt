@@ -17,6 +17,7 @@ mod HeightLemmas
 mod LaidOutLemmas
 mod KeepLemmas
 mod LookLemmas
+mod LosingLemmas
 mod MakeLemmas
 mod NoneLostLemmas
 mod NumberLemmas
@@ -44,3 +45,4 @@ mod VisitLemmas
 mod WayLemmas
 mod WholeLemmas
 mod WithinParityLemmas
+pub mod lemmas

@@ -15,6 +15,7 @@ pub mod ParityBounds
 pub mod Laws
 pub mod Parity
 pub mod Tries
+pub mod Losing
 pub mod Searching
 pub mod Noting
 pub mod Coverage

@@ -13,7 +13,7 @@ use Rattle.tree_survey.specs.Surveys.{IsWay}
 use Rattle.verity_format.specs.Blocks.{IsOnlyRead}
 use Rattle.verity_format.specs.Image.{data_sectors, tree_sectors}
 use Rattle.tree_repair.specs.declared.mending.Mended.TheVariants as mended
-use Rattle.tree_repair.specs.declared.parity.Losses.{Losses}
+use Rattle.tree_repair.specs.declared.losses.Losses.{Losses}
 use Rattle.tree_repair.specs.Mending.{IsBlockReplaced}
 use Rattle.tree_repair.specs.Runs.{IsVisited, Job, own, sector_at, size_at, visit}
 use Rattle.tree_repair.specs.Worlds.{IsWorldRead, RepairWorld}

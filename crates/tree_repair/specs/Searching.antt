@@ -8,7 +8,7 @@ use Rattle.tree_survey.specs.Surveys.{IsWay}
 use Rattle.tree_repair.specs.declared.bad.BadBlock.{BadBlock}
 use Rattle.tree_repair.specs.declared.fault.RepairFault.{RepairFault}
 use Rattle.tree_repair.specs.declared.parity.Came.{Came}
-use Rattle.tree_repair.specs.declared.parity.Losses.{Losses}
+use Rattle.tree_repair.specs.declared.losses.Losses.{Losses}
 use Rattle.tree_repair.specs.declared.place.Place.{Place}
 use Rattle.tree_repair.specs.declared.place.Repair.{Repair}
 use Rattle.tree_repair.specs.declared.putting.Missing.{Missing}

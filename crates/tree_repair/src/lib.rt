@@ -10,6 +10,7 @@ mod image;
 mod keeping;
 pub mod laws;
 mod levels;
+mod losses;
 mod mending;
 mod outcome;
 mod parity;

@@ -18,6 +18,7 @@ use crate::fault::RepairFault;
 use crate::image::DamagedImage;
 use crate::keeping::are_both;
 use crate::levels::{way_to, zeros};
+use crate::losses::Losses;
 use crate::place::{Place, Repair, block_size};
 use crate::putting::{Missing, put_restored};
 use crate::seeking::is_same;
@@ -32,13 +33,6 @@ use std::io::Write;
 pub(crate) struct Came {
     pub(crate) tree: bool,
     pub(crate) all: bool,
-}
-
-/// How parity lies across an image, and the covered blocks that count as lost.
-#[derive(Drop)]
-struct Losses {
-    layout: Layout,
-    lost: Vec<u64>,
 }
 
 /// Goes over the blocks that were found nowhere, from the root down, and brings back those that parity has. Tells whether
@@ -63,10 +57,7 @@ pub(crate) fn restore_bad<D: BlockDev, H: BlockDev, C: BlockDev, P: BlockDev, W:
     ensures came { TellsCame W.contents (job repair.now) image.old image.new writer.old writer.new result }
 {
     let lost = covered_of(repair, layout, blocks)?;
-    let losses = Losses {
-        layout: *layout,
-        lost,
-    };
+    let losses = Losses::of(layout, lost);
     let mut tree = false;
     let mut all = true;
     let mut kept = true;
@@ -266,10 +257,9 @@ fn restore<D: BlockDev, H: BlockDev, C: BlockDev, P: BlockDev>(
     ensures none { IfOk result (LacksBlock P.state losses.now index image.old image.new parity.old parity.new) }
     ensures within { AsksWithin P.state (round_bill losses.now.layout) image.old image.new parity.old parity.new }
 {
-    let Losses { layout, lost } = losses;
     let sought = LostBlock {
-        layout,
-        lost,
+        layout: &losses.layout,
+        lost: losses.beside(index),
         index,
     };
     match restore_block(

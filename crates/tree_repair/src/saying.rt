@@ -9,7 +9,7 @@ use crate::place::{Place, Repair};
 use counted_io::{Counted, WriteFault};
 use std::io::Write;
 
-/// The line of a block that was mended; else nothing.
+/// Prints the line of a block that was mended, and hands it on at once, since the next one may take long; of another block nothing.
 pub(crate) fn say_mended<W: Write>(
     writer: &mut Counted<W>,
     repair: &Repair,
@@ -21,9 +21,18 @@ pub(crate) fn say_mended<W: Write>(
 {
     match mended {
         Mended::Good => writer.put(b""),
-        Mended::Copy(number) => say_copy(writer, repair, place, number),
-        Mended::Remade => say_made(writer, repair, place),
-        Mended::Parity => say_parity(writer, repair, place),
+        Mended::Copy(number) => {
+            say_copy(writer, repair, place, number)?;
+            writer.flush()
+        }
+        Mended::Remade => {
+            say_made(writer, repair, place)?;
+            writer.flush()
+        }
+        Mended::Parity => {
+            say_parity(writer, repair, place)?;
+            writer.flush()
+        }
         Mended::Lost => writer.put(b""),
     }
 }

@@ -1,17 +1,18 @@
 -- Hash blocks read one after another, and those that aren't good.
-use Rattle.std.proofs.Common.{◌≡◌, ◌≢◌, ◌<◌, ◌+◌, ℕ, suc, Bool, true, false, List, None, refl, sym, ap, ◌∙◌, subst, arith, inl, inr}
+use Rattle.std.proofs.Common.{◌≡◌, ◌≢◌, ◌<◌, ◌+◌, ◌&&◌, ℕ, suc, Bool, true, false, List, None, refl, sym, ap, ◌∙◌, subst, arith, inl, inr}
 use Rattle.std.specs.Str.{bytes_eq}
 use Rattle.std.proofs.lemmas.Bool.{false≢true}
 use Rattle.std.proofs.lemmas.Slice.Eq.{bytes_eq-Decides}
 use Rattle.block_device.specs.Device.{Device}
 use Rattle.tree_shape.specs.Digests.{digest}
-use Rattle.tree_shape.specs.Shape.{ShapeRecord, levels}
+use Rattle.tree_shape.specs.Shape.{ShapeRecord, ancestor, levels}
 use Rattle.tree_path.specs.Path.{PathRecord, IsPathOf, block_of, digest_on, stored_block, stored_digest}
 use Rattle.tree_path.specs.Steps.{IsDown, IsStepLoaded, IsUnloaded, steps}
+use Rattle.tree_path.specs.Unused.{is_unused_zero}
 use Rattle.tree_path.proofs.lemmas.DeviceLemmas.{steady-then}
 use Rattle.tree_path.proofs.lemmas.PathLemmas.{digest_on-stored, down-bad, down-good, down-none, down-read}
 use Rattle.tree_survey.specs.Failing.{IsReadOver}
-use Rattle.tree_survey.specs.Hashes.{IsAbove, IsCompared}
+use Rattle.tree_survey.specs.Hashes.{IsAbove, IsCompared, has_digest_above, is_zero_after_used, tree_of_path}
 use Rattle.tree_survey.specs.Paths.{IsLoadedOr}
 use Rattle.tree_survey.proofs.FailingLemmas.{failed-later}
 
@@ -69,9 +70,10 @@ pub above-none : (p : PathRecord) (d : Device) (l i : ℕ) → l + 1 ≡ levels 
 above-none p d l i top = record { same = path-none p; stored = λ read steady low. absurd (omega (arith, low, top)); failed = λ not. absurd (false≢true (sym not)) }
 
 -- behind the one above it
-pub compared : (p q r : PathRecord) (d d' d'' : Device) (i l : ℕ) (good : Bool) → l < levels p.shape → IsReadOver d d' → IsAbove p q d d' l i true → IsStepLoaded (steps q r d' d'' i l) good → IsCompared p r d d'' l i good
-compared p q r d d' d'' i l good low over above loaded =
-    let one : IsOneRead q r d' d'' i l good = one-read q r d' d'' i l good loaded in
+pub compared : (p q r : PathRecord) (d d' d'' : Device) (i l : ℕ) (stands zeros : Bool) → l < levels p.shape → IsReadOver d d' → IsAbove p q d d' l i true → IsStepLoaded (steps q r d' d'' i l) stands
+    → zeros ≡ is_unused_zero r.shape l (ancestor r.shape (l + 1) i) (block_of r l) → IsCompared p r d d'' l i (stands && zeros)
+compared p q r d d' d'' i l stands zeros low over above loaded zeros_are =
+    let one : IsOneRead q r d' d'' i l stands = one-read q r d' d'' i l stands loaded in
     let same : IsPathOf p.shape p.salt p.root r = path-then p q r above.same one.down.same in
     record {
       same = same;
@@ -85,10 +87,16 @@ compared p q r d d' d'' i l good low over above loaded =
           (λ under. one.down.kept (l + 1) (omega arith) ∙ above.stored refl steady (omega (arith, under, ap levels same.shape_is)) ∙ ap (λ (s : ShapeRecord). stored_block s d.image (l + 1) i) (sym same.shape_is))
           ∙ ap (λ (s : ShapeRecord). stored_digest s r.root d.image i (l + 1)) same.shape_is
           ∙ ap (λ (x : List ℕ). stored_digest p.shape x d.image i (l + 1)) same.root_is in
-          inl (one.test
+          let digests : stands ≡ has_digest_above (tree_of_path p) d.image l i =
+          one.test
           ∙ ap (λ (z : List ℕ). bytes_eq (digest z (block_of r l)) (digest_on r i (l + 1))) same.salt_is
           ∙ ap (λ (b : List ℕ). bytes_eq (digest p.salt b) (digest_on r i (l + 1))) block
-          ∙ ap (bytes_eq (digest p.salt (stored_block p.shape d.image l i))) next);
+          ∙ ap (bytes_eq (digest p.salt (stored_block p.shape d.image l i))) next in
+          let unused : zeros ≡ is_zero_after_used p.shape d.image l i =
+          zeros_are
+          ∙ ap (λ (s : ShapeRecord). is_unused_zero s l (ancestor s (l + 1) i) (block_of r l)) same.shape_is
+          ∙ ap (is_unused_zero p.shape l (ancestor p.shape (l + 1) i)) block in
+          inl (ap (λ (x : Bool). x && zeros) digests ∙ ap (λ (x : Bool). has_digest_above (tree_of_path p) d.image l i && x) unused);
     }
 
 -- one of the two couldn't be read

@@ -12,3 +12,4 @@ mod SizeLemmas
 mod StateLemmas
 mod SurveyLemmas
 mod UnderwayLemmas
+mod UnusedLemmas

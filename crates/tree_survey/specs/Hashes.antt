@@ -1,5 +1,5 @@
--- Hash blocks whose digests don't stand above them.
-use Rattle.std.specs.Prelude.{◌≡◌, ◌⊎◌, ℕ, zero, suc, ◌+◌, ◌-◌, ◌*◌, ◌^◌, ◌<◌, ◌≤◌, Bool, true, false, IsTrue, List, [], ◌∷◌, ◌++◌, Contains, Option}
+-- Hash blocks that aren't good: whose digests don't stand above them, or that aren't zero after their last used entry.
+use Rattle.std.specs.Prelude.{◌≡◌, ◌⊎◌, ℕ, zero, suc, ◌+◌, ◌-◌, ◌*◌, ◌^◌, ◌<◌, ◌≤◌, ◌&&◌, Bool, true, false, IsTrue, List, [], ◌∷◌, ◌++◌, Contains, Option}
 use Rattle.std.specs.List.{flat_map}
 use Rattle.std.specs.Str.{bytes_eq}
 use Rattle.std.specs.Io.KnownBytes.{Appends}
@@ -8,6 +8,7 @@ use Rattle.tree_shape.specs.Digests.{digest}
 use Rattle.tree_shape.specs.Shape.{ShapeRecord, IsShape, ancestor, level_blocks, levels, per_block}
 use Rattle.verity_format.specs.Image.{tree_sectors}
 use Rattle.tree_path.specs.Path.{PathRecord, IsPathOf, block_of, stored_block, stored_digest}
+use Rattle.tree_path.specs.Unused.{is_unused_zero}
 use Rattle.tree_runs.specs.Texts.{hash_text}
 use Rattle.tree_survey.specs.Failing.{HasFailedRead}
 use Rattle.tree_survey.specs.Surveys.{Tree}
@@ -46,8 +47,16 @@ abbrev pub IsUnderOne : ShapeRecord → List HashBlock → ℕ → Type 0
 IsUnderOne s blocks i = (m : ℕ) × ((0 < m) × (m ≤ levels s) × Contains blocks (hash_block_beneath s m i))
 
 -- the digest of the hash block of level l on the way to data block i stands above it
+abbrev pub has_digest_above : Tree → List (List ℕ) → ℕ → ℕ → Bool
+has_digest_above t image l i = bytes_eq (digest t.salt (stored_block t.shape image l i)) (stored_digest t.shape t.root image i (l + 1))
+
+-- after the last used entry of that block are zeros alone
+abbrev pub is_zero_after_used : ShapeRecord → List (List ℕ) → ℕ → ℕ → Bool
+is_zero_after_used s image l i = is_unused_zero s l (ancestor s (l + 1) i) (stored_block s image l i)
+
+-- both, as of each hash block of a tree that was formatted
 abbrev pub is_good_on : Tree → List (List ℕ) → ℕ → ℕ → Bool
-is_good_on t image l i = bytes_eq (digest t.salt (stored_block t.shape image l i)) (stored_digest t.shape t.root image i (l + 1))
+is_good_on t image l i = has_digest_above t image l i && is_zero_after_used t.shape image l i
 
 abbrev pub with_bad : Bool → HashBlock → List HashBlock → List HashBlock
 with_bad true b blocks = blocks
@@ -75,8 +84,7 @@ pub record AreBad (bad_ones : List (List ℕ) → List HashBlock) (device device
   pub all : IsTrue device.steady → AreWithinHashes (bad_ones device.image) bad
   pub stored : IsTrue device.steady → (bad ≡ bad_ones device.image) ⊎ HasFailedRead device device'
 
--- Hash blocks of the tree. Over a steady device all are there whose digest doesn't stand above them, and no others unless a
--- read failed.
+-- Hash blocks of the tree. Over a steady device all are there that aren't good, and no others unless a read failed.
 pub record HashesFound (t : Tree) (device device' : Device) : Type 0 where
   pub bad : List HashBlock
   pub are : AreBad (λ image. bad_of_levels t image (levels t.shape)) device device' bad

@@ -7,4 +7,5 @@ pub mod Pieces
 pub mod Counts
 pub mod Causes
 pub mod Hashes
+pub mod Unused
 pub mod Passes

@@ -1,4 +1,4 @@
-//! The hash blocks of a tree, compared with the digests that stand above them.
+//! The hash blocks of a tree, compared with the digests that stand above them, and their unused parts with zeros.
 ghost use Rattle.std.specs.Prelude.{◌≡◌, ◌&&◌, ◌<◌, ◌≤◌, true, IfOk, OnErr};
 ghost use Rattle.tree_shape.specs.Shape.{levels};
 ghost use Rattle.verity_format.specs.Image.{tree_sectors};
@@ -13,8 +13,9 @@ use tree_path::{TreePath, span};
 use tree_runs::{Line, Listing};
 use tree_shape::Shape;
 
-/// Tells a line for each hash block whose digest isn't seen to stand above it, since it doesn't or since one of the two can't
-/// be read, in the order in which they lie on the device, the top level first, and tells whether there was none.
+/// Tells a line for each hash block that isn't seen to be good, in the order in which they lie on the device, the top level
+/// first, and tells whether there was none. A hash block is good if its digest is stored in its parent and the block is zero
+/// after its last used entry; it isn't seen to be good if one of the two blocks can't be read.
 pub(crate) fn say_hashes<H: BlockDev, L: Listing>(
     path: &mut TreePath,
     shape: &Shape,
@@ -68,8 +69,8 @@ fn say_level<H: BlockDev, L: Listing>(
     Ok(whole)
 }
 
-// Reads the hash block of that level on the way to a data block, behind the one above it, and tells whether its digest was
-// seen to stand there.
+// Reads the hash block of that level on the way to a data block, behind the one above it, and tells whether it was seen to be
+// good.
 fn is_good<H: BlockDev>(path: &mut TreePath, device: &mut H, level: u32, index: u64) -> bool
     requires inside { index < path.old.shape.blocks }
     requires level { level < levels path.old.shape }
@@ -82,7 +83,7 @@ fn is_good<H: BlockDev>(path: &mut TreePath, device: &mut H, level: u32, index: 
         return false;
     }
     match load(path, device, level, index) {
-        Some(good) => good,
+        Some(stands) => both(stands, path.is_unused_zero(level, index)),
         None => false,
     }
 }

@@ -10,7 +10,9 @@ mod path;
 mod pieces;
 mod sight;
 mod survey;
+mod unused;
 
 pub use counts::Totals;
 pub use fault::SurveyFault;
 pub use survey::{Survey, survey_image};
+pub use unused::{Unused, read_unused};

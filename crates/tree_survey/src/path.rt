@@ -1,8 +1,8 @@
 //! Hash blocks that are read on the way to a data block, of which some may be unreadable.
-ghost use Rattle.std.specs.Prelude.{◌≤◌, ◌<◌};
+ghost use Rattle.std.specs.Prelude.{◌≤◌, ◌<◌, ◌*◌, ◌/◌};
 ghost use Rattle.tree_shape.specs.Shape.{levels};
 ghost use Rattle.verity_format.specs.Image.{tree_sectors};
-ghost use Rattle.tree_path.specs.Steps.{CanDescend, steps};
+ghost use Rattle.tree_path.specs.Steps.{CanDescend, HasReadAtMost, steps};
 ghost use Rattle.tree_survey.specs.Failing.{IsReadOver};
 ghost use Rattle.tree_survey.specs.Paths.{HasReached, IsLoadedOr};
 
@@ -30,6 +30,7 @@ pub(crate) fn load<H: BlockDev>(
     requires index { index < path.old.shape.blocks }
     requires fits { tree_sectors path.old.shape ≤ (H.state device.old).size }
     ensures over { IsReadOver (H.state device.old) (H.state device.new) }
+    ensures asked { HasReadAtMost (H.state device.old) (path.old.shape.hash_block / 512) (H.state device.new) }
     ensures ends { IsLoadedOr (steps path.old path.new (H.state device.old) (H.state device.new) index level) result }
 {
     match path.load(device, level, index) {
@@ -47,6 +48,7 @@ pub(crate) fn descend<H: BlockDev>(
 ) -> Reach
     requires { CanDescend path.old (H.state device.old) index from 0 }
     ensures over { IsReadOver (H.state device.old) (H.state device.new) }
+    ensures asked { HasReadAtMost (H.state device.old) (from * (path.old.shape.hash_block / 512)) (H.state device.new) }
     ensures ends { HasReached (steps path.old path.new (H.state device.old) (H.state device.new) index from) result }
 {
     let mut level = from;

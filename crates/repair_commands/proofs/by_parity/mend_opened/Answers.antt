@@ -1,12 +1,5 @@
-use Rattle.std.proofs.Common.{IsTrue, subst, sym}
 use Rattle.std.proofs.lemmas.Result.{IfErr-weaker, IfOk-weaker}
 use Rattle.repair_commands.proofs.by_parity.mend_opened.Goals as goal
-
-pub mend_laid_out-ended-requires-clause-allowed : goal.mend_laid_out-ended-requires-clause-allowed
-mend_laid_out-ended-requires-clause-allowed g c = record {
-  data_writable = λ write. subst IsTrue (sym c.requires.data_fresh.may_write) write;
-  hash_writable = λ write. subst IsTrue (sym c.requires.hash_fresh.may_write) write;
-}
 
 pub returns-clause-ok : goal.returns-clause-ok
 returns-clause-ok g c =

@@ -26,6 +26,7 @@ returns-clause-ok g c =
     record {
       lies = lies-across c.in_ok-superblock.superblock c.in_ok-superblock.ensures.found.0 (g.D.BlockDev.state c.args.data_dev.now) (g.H.BlockDev.state c.args.hash_dev.now) l c.args.parity.now.roots c.sectors-3.result
           c.in_ok-superblock.ensures.found.1 size made c.in-Some.ensures.valid (omega (arith, ap data_sectors c.shape-shape.ensures.value)) (omega (arith, ap tree_sectors c.shape-shape.ensures.value, c.read_superblock.ensures.read.same.size));
+      stands = record { super = c.in_ok-superblock.superblock; sector = c.in_ok-superblock.ensures.found.0; from = c.in_ok-superblock.ensures.found.1; aligned = cc (c.if-not-is_aligned.ensures) };
       room = omega (arith, c.parity_sectors-needed.ensures);
       read = c.in_ok-superblock.ensures.full;
     }

@@ -1,10 +1,14 @@
-use Rattle.std.proofs.Common.{subst, sym, map}
+use Rattle.std.proofs.Common.{IsTrue, subst, sym, map}
+use Rattle.std.proofs.lemmas.Bool.{false≢true}
+use Rattle.fec_area.specs.Restoring.{IsMadeAgain}
 use Rattle.fec_area.specs.Layouts.{IsLaidOn}
 use Rattle.tree_repair.specs.Worlds.{RepairWorld, repair_world}
 use Rattle.std.specs.Prelude.{is_ok}
 use Rattle.tree_repair.specs.ParityBounds.{IsAskedWithin, round_bill}
 use Rattle.tree_repair.proofs.ParityBillLemmas.{asked-round}
+use Rattle.tree_repair.proofs.LosingLemmas.{made-alike}
 use Rattle.tree_repair.proofs.parity.restore.Goals as goal
+use Rattle.tree_repair.proofs.parity.restore.Goals.{in-Ok, in-Err-NoMemory, in-Err-TooManyLost, in-Err-TooSmall, in-Err-Device}
 
 pub restore_block-requires-clause-laid : goal.restore_block-requires-clause-laid
 restore_block-requires-clause-laid g c = subst (λ (w : RepairWorld). IsLaidOn c.args.losses.now.layout w.data_dev w.hash_dev) (sym c.image.view_is) c.requires.laid
@@ -19,4 +23,19 @@ returns-clause-within g c =
     let p = g.P.BlockDev.state c.args.parity.now in
     let p' = g.P.BlockDev.state c.restore_block.new.parity_dev in
     subst (λ (w : RepairWorld). IsAskedWithin (round_bill l.layout) w (repair_world d' h' a.data_copies a.hash_copies) p p') c.image.view_is
-    (asked-round l.layout c.requires.laid.layout c.deref.result.now c.args.index (is_ok c.restore_block.result) a d' h' p p' c.restore_block.ensures.read c.restore_block.ensures.parity c.restore_block.ensures.asks)
+    (asked-round l.layout c.requires.laid.layout c.beside.result.now c.args.index (is_ok c.restore_block.result) a d' h' p p' c.restore_block.ensures.read c.restore_block.ensures.parity c.restore_block.ensures.asks)
+
+pub returns-clause-bytes : goal.returns-clause-bytes
+returns-clause-bytes g c =
+    let l = c.args.losses.now in
+    let p = g.P.BlockDev.state c.args.parity.now in
+    let bytes = c.restore_block.new.block in
+    elim c.match-restore_block.branch [
+      | in-Ok w ↦ rw w.result-is (λ yes.
+          subst (λ (x : RepairWorld). IsTrue x.data_dev.steady → IsTrue x.hash_dev.steady → IsTrue p.steady → IsMadeAgain l.layout x.data_dev.image x.hash_dev.image p.image l.lost.items c.args.index bytes) c.image.view_is
+          (λ one two three. made-alike l.layout c.args.index c.beside.result.now l.lost.items bytes _ _ _ c.beside.ensures (w.in-Ok.ensures.bytes one two three)))
+      | in-Err-NoMemory w ↦ rw w.result-is tt
+      | in-Err-TooManyLost w ↦ rw w.result-is (λ yes. absurd (false≢true yes))
+      | in-Err-TooSmall w ↦ rw w.result-is (λ yes. absurd (false≢true yes))
+      | in-Err-Device w ↦ rw w.result-is (λ yes. absurd (false≢true yes))
+    ]

@@ -5,7 +5,9 @@ use Rattle.tree_path.proofs.lemmas.DeviceLemmas.{only_read-none, only_read-then}
 use Rattle.tree_repair.specs.Jobs.{job}
 use Rattle.tree_repair.specs.Passes.{AreBack}
 use Rattle.tree_repair.specs.Tries.{AreSought}
+use Rattle.fec_area.specs.declared.layout.Layout.{Layout}
 use Rattle.tree_repair.proofs.BackLemmas.{back-next, back-none}
+use Rattle.tree_repair.proofs.LosingLemmas.{all-sought-alike, alike-permuted}
 use Rattle.tree_repair.proofs.TryLemmas.{sought-next}
 use Rattle.tree_repair.proofs.RunLemmas.{can-later, ended-from, ends-read, has-none, has-then, laid-later, world-none}
 use Rattle.tree_repair.specs.ParityBounds.{IsAskedWithin, parity_bill, sought_among}
@@ -26,19 +28,19 @@ pub restore_block_at-requires-clause-can : goal.restore_block_at-requires-clause
 restore_block_at-requires-clause-can g c = can-later c.each.invariant.run c.requires.can
 
 pub restore_block_at-requires-clause-laid : goal.restore_block_at-requires-clause-laid
-restore_block_at-requires-clause-laid g c = laid-later c.each.invariant.run c.requires.laid
+restore_block_at-requires-clause-laid g c = rw c.of-losses.ensures.layout (laid-later c.each.invariant.run c.requires.laid)
 
 pub each-preserved : goal.each-preserved
 each-preserved g c = record {
-  sought = subst (λ (tree : Bool). AreSought (job c.args.repair.now) c.args.layout.now c.in_ok-lost.lost.items (take (c.each.bad-index + 1) c.args.blocks.now) c.args.image.now c.restore_block_at.new.image
+  sought = subst (λ (tree : Bool). AreSought (job c.args.repair.now) c.of-losses.result.layout c.of-losses.result.lost.items (take (c.each.bad-index + 1) c.args.blocks.now) c.args.image.now c.restore_block_at.new.image
       (g.P.BlockDev.state c.args.parity.now) (g.P.BlockDev.state c.restore_block_at.new.parity) tree)
       (sym c.is_in_tree-tree.ensures)
-      (sought-next (job c.args.repair.now) c.args.layout.now c.in_ok-lost.lost.items c.args.blocks.now c.each.bad-index _ c.args.image.now c.each.image c.restore_block_at.new.image
+      (sought-next (job c.args.repair.now) c.of-losses.result.layout c.of-losses.result.lost.items c.args.blocks.now c.each.bad-index _ c.args.image.now c.each.image c.restore_block_at.new.image
       (g.P.BlockDev.state c.args.parity.now) (g.P.BlockDev.state c.each.parity) (g.P.BlockDev.state c.restore_block_at.new.parity) c.each.tree c.in_ok-back.back c.each-test.true c.each.invariant.sought c.in_ok-back.ensures.sought);
-  back = back-next (job c.args.repair.now) c.args.layout.now c.in_ok-lost.lost.items c.args.blocks.now c.each.bad-index _ c.args.image.now c.each.image c.restore_block_at.new.image
+  back = back-next (job c.args.repair.now) c.of-losses.result.layout c.of-losses.result.lost.items c.args.blocks.now c.each.bad-index _ c.args.image.now c.each.image c.restore_block_at.new.image
       (g.P.BlockDev.state c.each.parity) (g.P.BlockDev.state c.restore_block_at.new.parity) c.each.all c.in_ok-back.back c.are_both-all.result c.each-test.true c.are_both-all.ensures c.each.invariant.back c.in_ok-back.ensures.sought;
   came = tells-then c.each.tree c.in_ok-back.back c.is_in_tree-tree.result c.is_in_tree-tree.ensures c.each.invariant.came c.in_ok-back.ensures.came;
-  within = work-next c.args.repair.now.shape c.args.layout.now c.args.blocks.now c.each.bad-index _ c.each-test.true c.each.invariant.within c.restore_block_at.ensures.within;
+  within = work-next c.args.repair.now.shape c.of-losses.result.layout c.args.blocks.now c.each.bad-index _ c.each-test.true c.each.invariant.within c.restore_block_at.ensures.within;
   parity = only_read-then c.each.invariant.parity c.restore_block_at.ensures.parity;
   run = has-then c.each.invariant.run c.in_ok-back.ensures.run;
 }
@@ -56,12 +58,20 @@ pub returns-clause-run : goal.returns-clause-run
 returns-clause-run g c = c.each.invariant.run
 
 pub returns-clause-sought : goal.returns-clause-sought
-returns-clause-sought g c = record {
-  lost = c.in_ok-lost.lost.items;
-  are = c.in_ok-lost.ensures;
-  sought = subst (λ xs. AreSought (job c.args.repair.now) c.args.layout.now c.in_ok-lost.lost.items xs c.args.image.now c.each.image (g.P.BlockDev.state c.args.parity.now) (g.P.BlockDev.state c.each.parity) c.each.tree)
-      (take_all c.each.bad-index c.args.blocks.now c.each-test.false) c.each.invariant.sought;
-}
+returns-clause-sought g c =
+    let l = c.args.layout.now in
+    let sorted = c.of-losses.result.lost.items in
+    let given = c.in_ok-lost.lost.items in
+    let p = g.P.BlockDev.state c.args.parity.now in
+    let p' = g.P.BlockDev.state c.each.parity in
+    let all : AreSought (job c.args.repair.now) c.of-losses.result.layout sorted c.args.blocks.now c.args.image.now c.each.image p p' c.each.tree =
+    subst (λ xs. AreSought (job c.args.repair.now) c.of-losses.result.layout sorted xs c.args.image.now c.each.image p p' c.each.tree) (take_all c.each.bad-index c.args.blocks.now c.each-test.false) c.each.invariant.sought in
+    record {
+      lost = given;
+      are = c.in_ok-lost.ensures;
+      sought = all-sought-alike (job c.args.repair.now) l sorted given (λ index. alike-permuted l index given sorted c.of-losses.ensures.same) c.args.blocks.now c.args.image.now c.each.image p p' c.each.tree
+          (subst (λ (x : Layout). AreSought (job c.args.repair.now) x sorted c.args.blocks.now c.args.image.now c.each.image p p' c.each.tree) c.of-losses.ensures.layout all);
+    }
 
 pub returns-clause-back : goal.returns-clause-back
 returns-clause-back g c = λ both. let yes = (and_parts c.each.all c.each.kept (subst IsTrue c.are_both-sure.ensures both)).0 in subst (λ xs. AreBack (job c.args.repair.now) xs c.args.image.now c.each.image) (take_all c.each.bad-index c.args.blocks.now c.each-test.false) (c.each.invariant.back yes)
@@ -70,12 +80,17 @@ pub returns-in_err-lost-clause-within : goal.returns-in_err-lost-clause-within
 returns-in_err-lost-clause-within g c = asked-none (parity_bill c.args.repair.now.shape c.args.layout.now 0 0 (sought_among c.args.blocks.now)) c.args.image.now (g.P.BlockDev.state c.args.parity.now)
 
 pub returns-in_err-back-clause-within : goal.returns-in_err-back-clause-within
-returns-in_err-back-clause-within g c = work-last c.args.repair.now.shape c.args.layout.now c.args.blocks.now c.each.bad-index _ c.each-test.true c.each.invariant.within c.restore_block_at.ensures.within
+returns-in_err-back-clause-within g c =
+    subst (λ (x : Layout). IsAskedWithin (parity_bill c.args.repair.now.shape x 0 0 (sought_among c.args.blocks.now)) c.args.image.now c.restore_block_at.new.image (g.P.BlockDev.state c.args.parity.now) (g.P.BlockDev.state c.restore_block_at.new.parity))
+    c.of-losses.ensures.layout
+    (work-last c.args.repair.now.shape c.of-losses.result.layout c.args.blocks.now c.each.bad-index _ c.each-test.true c.each.invariant.within c.restore_block_at.ensures.within)
 
 pub returns-clause-within : goal.returns-clause-within
 returns-clause-within g c =
-    subst (λ xs. IsAskedWithin (parity_bill c.args.repair.now.shape c.args.layout.now 0 0 (sought_among xs)) c.args.image.now c.each.image (g.P.BlockDev.state c.args.parity.now) (g.P.BlockDev.state c.each.parity))
-    (take_all c.each.bad-index c.args.blocks.now c.each-test.false) c.each.invariant.within
+    subst (λ (x : Layout). IsAskedWithin (parity_bill c.args.repair.now.shape x 0 0 (sought_among c.args.blocks.now)) c.args.image.now c.each.image (g.P.BlockDev.state c.args.parity.now) (g.P.BlockDev.state c.each.parity))
+    c.of-losses.ensures.layout
+    (subst (λ xs. IsAskedWithin (parity_bill c.args.repair.now.shape c.of-losses.result.layout 0 0 (sought_among xs)) c.args.image.now c.each.image (g.P.BlockDev.state c.args.parity.now) (g.P.BlockDev.state c.each.parity))
+    (take_all c.each.bad-index c.args.blocks.now c.each-test.false) c.each.invariant.within)
 
 pub returns-in_err-lost-clause-came : goal.returns-in_err-lost-clause-came
 returns-in_err-lost-clause-came g c = tells-came c.from_residual.result c.from_residual.ensures.1 (ends-read (world-none c.args.image.now))

@@ -2,7 +2,7 @@ use Rattle.std.proofs.Common.{ap}
 use Rattle.std.proofs.lemmas.Result.{on_ok_weaker}
 use Rattle.block_device.specs.Device.{Device}
 use Rattle.repair_commands.proofs.MendLemmas.{on_err-weaker, sync-image, sync-more}
-use Rattle.repair_commands.proofs.mending.sync_one.Goals as goal
+use Rattle.repair_commands.proofs.syncing.sync_one.Goals as goal
 
 pub returns-clause-kept : goal.returns-clause-kept
 returns-clause-kept g c = sync-image (g.D.BlockDev.state c.args.device.now) (g.D.BlockDev.state c.sync.new.self) c.sync.result c.sync.ensures.ok c.sync.ensures.err

@@ -1,0 +1,73 @@
+-- `format --grow --fec`: which files are there.
+use Rattle.std.specs.Prelude.{◌≡◌, ◌⊎◌, ℕ, Bool, true, false, List, [], ◌∷◌, Option, None, Some, Err}
+use Rattle.block_device.specs.declared.open_fault.OpenFault.TheVariants.{NotFound, SameFile}
+use Rattle.image_files.specs.declared.file_use.FileUse.{FileUse}
+use Rattle.image_files.specs.declared.images.OpenImage.{OpenImage}
+use Rattle.image_files.specs.declared.opening.UnopenedFile.{UnopenedFile}
+use Rattle.image_files.specs.FileUses.{has_clash, image_use}
+use Rattle.image_files.specs.Opened.{Opens, Refuses}
+use Rattle.image_files.specs.Opener.{Calls}
+use Rattle.image_commands.specs.Places.{TwoPlaces}
+use Rattle.command_line.specs.FecFiles.{FecRecord}
+
+-- the image under a path was opened, or there is none
+abbrev pub FindsFile : {S D : Type 0} → Calls S D → List ℕ → Bool → Option (OpenImage D) → Type 0
+FindsFile w path writable (Some image) = Opens w path writable image
+FindsFile w path writable None = w.relations.opens w.old path writable (Err NotFound) w.new
+
+-- the two that are only read
+abbrev pub uses_found : {D : Type 0} → OpenImage D → Option (OpenImage D) → List FileUse
+uses_found data_image None = image_use false data_image ∷ []
+uses_found data_image (Some hash_image) = image_use false data_image ∷ image_use false hash_image ∷ []
+
+-- the file of the parity is there, and is one of them
+abbrev pub is_used : {D : Type 0} → OpenImage D → Option (OpenImage D) → Option (OpenImage D) → Bool
+is_used data_image hash_image None = false
+is_used data_image hash_image (Some parity) = has_clash (uses_found data_image hash_image) (image_use true parity)
+
+-- DATA was opened for reading, HASH too if it is there, and the file of the parity for writing if it is there
+pub record LooksForThree {S D : Type 0} (w : Calls S D) (places : TwoPlaces) (fec : FecRecord) (data_image : OpenImage D) (hash_image parity : Option (OpenImage D)) : Type 0 where
+  pub one : S
+  pub two : S
+  pub data_opened : Opens (record w { new = one }) places.paths.data_path false data_image
+  pub hash_found : FindsFile (record w { old = one; new = two }) places.paths.hash_path false hash_image
+  pub parity_found : FindsFile (record w { old = two }) fec.path true parity
+
+-- and the last is none of the two
+pub record FindsThree {S D : Type 0} (w : Calls S D) (places : TwoPlaces) (fec : FecRecord) : Type 0 where
+  pub data_image : OpenImage D
+  pub hash_image : Option (OpenImage D)
+  pub parity : Option (OpenImage D)
+  pub looks : LooksForThree w places fec data_image hash_image parity
+  pub apart : is_used data_image hash_image parity ≡ false
+
+-- DATA was opened, and HASH is there and wasn't
+pub record RefusesFoundHash {S D : Type 0} (w : Calls S D) (places : TwoPlaces) (file : UnopenedFile) : Type 0 where
+  pub one : S
+  pub data_image : OpenImage D
+  pub data_opened : Opens (record w { new = one }) places.paths.data_path false data_image
+  pub refused : Refuses (record w { old = one }) places.paths.hash_path false file
+
+-- neither of them was refused, and the file of the parity is there and wasn't opened
+pub record RefusesFoundParity {S D : Type 0} (w : Calls S D) (places : TwoPlaces) (fec : FecRecord) (file : UnopenedFile) : Type 0 where
+  pub one : S
+  pub two : S
+  pub data_image : OpenImage D
+  pub hash_image : Option (OpenImage D)
+  pub data_opened : Opens (record w { new = one }) places.paths.data_path false data_image
+  pub hash_found : FindsFile (record w { old = one; new = two }) places.paths.hash_path false hash_image
+  pub refused : Refuses (record w { old = two }) fec.path true file
+
+-- none was refused, and the file of the parity is one of the others, or is to be made under the path under which HASH is
+pub record IsOneOfThree {S D : Type 0} (w : Calls S D) (places : TwoPlaces) (fec : FecRecord) (file : UnopenedFile) : Type 0 where
+  pub data_image : OpenImage D
+  pub hash_image : Option (OpenImage D)
+  pub parity : Option (OpenImage D)
+  pub looks : LooksForThree w places fec data_image hash_image parity
+  pub is : (file.fault ≡ SameFile) × (file.path.now ≡ fec.path)
+  pub same : (is_used data_image hash_image parity ≡ true) ⊎ ((hash_image ≡ None) × (fec.path ≡ places.paths.hash_path))
+
+-- one of the three is refused, the first; nothing was made or made longer
+abbrev pub IsUnfound : {S D : Type 0} → Calls S D → TwoPlaces → FecRecord → UnopenedFile → Type 0
+IsUnfound w places fec file =
+    Refuses w places.paths.data_path false file ⊎ (RefusesFoundHash w places file ⊎ (RefusesFoundParity w places fec file ⊎ IsOneOfThree w places fec file))

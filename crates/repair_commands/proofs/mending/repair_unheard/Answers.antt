@@ -1,0 +1,8 @@
+use Rattle.std.proofs.Common.{None, Some, refl}
+use Rattle.repair_commands.proofs.mending.repair_unheard.Goals as goal
+
+pub returns-in-Ok : goal.returns-in-Ok
+returns-in-Ok g c = record { ended = None; run = c.in-Ok.ensures.ok; is = refl }
+
+pub returns : goal.returns
+returns g c = record { ended = Some c.in-Err.fault; run = c.in-Err.ensures.err; is = refl }

@@ -1,0 +1,11 @@
+-- The faults with which a repair ends.
+use Rattle.tree_commands.specs.declared.fault.TreeFault.{TreeFault}
+use Rattle.tree_commands.specs.declared.fault.TreeFault.TheVariants as trees
+use Rattle.tree_repair.specs.declared.fault.RepairFault.{RepairFault}
+use Rattle.tree_repair.specs.declared.fault.RepairFault.TheVariants.{Image, Write}
+use Rattle.tree_survey.specs.declared.fault.SurveyFault.TheVariants as survey
+
+-- the fault with which a repair ends that isn't one to the end
+abbrev pub ending_fault : RepairFault → TreeFault
+ending_fault (Image fault) = trees.Survey (survey.Image fault)
+ending_fault Write = trees.Write

@@ -1,0 +1,43 @@
+//! What an image holds after the last used entries of its hash blocks, read before anything is written.
+ghost use Rattle.std.specs.Prelude.{IfErr, IfOk};
+ghost use Rattle.verity_format.specs.Blocks.{IsOnlyRead};
+ghost use Rattle.repair_commands.specs.Unused.{IsUnusedCauseBy, IsUnusedPassedBy};
+
+use block_device::BlockDev;
+use std::alloc::Global;
+use tree_commands::TreeFault;
+use tree_shape::Digest;
+use tree_survey::{Unused, read_unused};
+use verity_format::{VerifyFault, read_superblock, tree_sectors};
+
+/// Returns whether all hash blocks on the way to the last data block are good, and hold zeros after their last used entries. A
+/// tree that doesn't lie on the device isn't looked at: the repair refuses it.
+///
+/// # Errors
+///
+/// `UnusedEntries` if a good one holds something else: the superblock has fewer data blocks than the image that was formatted.
+/// The superblock's fault if there is none. `NoMemory` if memory ran out.
+pub(crate) fn check_unused<'a, H: BlockDev>(
+    alloc: Global,
+    hash_dev: &mut H,
+    root: &Digest,
+) -> Result<bool, TreeFault<'a>>
+    ensures read { IsOnlyRead (H.state hash_dev.old) (H.state hash_dev.new) }
+    ensures ok { IfOk result (IsUnusedPassedBy H.state root.now hash_dev.old hash_dev.new) }
+    ensures err { IfErr result (IsUnusedCauseBy H.state root.now hash_dev.old hash_dev.new) }
+{
+    let superblock = read_superblock(hash_dev)?;
+    let shape = superblock.shape();
+    let needed = tree_sectors(&shape);
+    if hash_dev.sectors() < needed {
+        return Ok(false);
+    }
+    let Ok(found) = read_unused(alloc, hash_dev, &superblock, root) else {
+        return Err(TreeFault::from(VerifyFault::NoMemory));
+    };
+    match found {
+        Unused::Zero => Ok(true),
+        Unused::Unknown => Ok(false),
+        Unused::Nonzero => Err(TreeFault::UnusedEntries),
+    }
+}

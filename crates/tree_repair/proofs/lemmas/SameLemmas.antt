@@ -1,0 +1,16 @@
+-- What a repair doesn't change of its devices: their sizes, and whether they may be written.
+use Rattle.std.proofs.Common.{ℕ, Bool, List, Option, inl, inr, subst, sym}
+use Rattle.block_device.specs.Device.{IsSameDevice}
+use Rattle.tree_path.proofs.lemmas.DeviceLemmas.{same-none}
+use Rattle.tree_repair.specs.declared.fault.RepairFault.{RepairFault}
+use Rattle.tree_repair.specs.declared.repair.Plan.{Plan}
+use Rattle.tree_repair.specs.Repairs.{IsUnrepairedBy, job_of}
+use Rattle.tree_repair.specs.Worlds.{RepairWorld}
+use Rattle.tree_repair.proofs.RunLemmas.{runs-same}
+
+-- of a repair that ended early
+pub unrepaired-same : (plan : Plan) (parity : Bool) (w w' : RepairWorld) (old new : Option (List ℕ)) (fault : RepairFault) → IsUnrepairedBy plan parity w w' old new fault
+    → IsSameDevice w.data_dev w'.data_dev × IsSameDevice w.hash_dev w'.hash_dev
+unrepaired-same plan parity w w' old new fault (inl (read, cause)) = (subst (IsSameDevice w.data_dev) (sym read.data_is) (same-none w.data_dev), read.read.same)
+unrepaired-same plan parity w w' old new fault (inr repairs) =
+    let same = runs-same (job_of repairs.s plan parity) repairs.run.visits w w' repairs.run.runs in (same.data_same, same.hash_same)

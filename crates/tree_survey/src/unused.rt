@@ -1,0 +1,96 @@
+//! What the hash blocks on the way to the last data block hold after their last used entries.
+ghost use Rattle.std.specs.Prelude.{◌≡◌, ◌*◌, ◌/◌, ◌<◌, ◌≤◌, IfOk, OnErr};
+ghost use Rattle.tree_shape.specs.Shape.{levels};
+ghost use Rattle.verity_format.specs.Image.{tree_sectors};
+ghost use Rattle.verity_format.specs.Superblock.{shape_of};
+ghost use Rattle.tree_path.specs.Steps.{HasReadAtMost};
+ghost use Rattle.tree_survey.specs.Failing.{IsReadOver};
+ghost use Rattle.tree_survey.specs.Hashes.{tree_of_path};
+ghost use Rattle.tree_survey.specs.Passes.{super_tree};
+ghost use Rattle.tree_survey.specs.Unused.{AreZeroFrom, IsReadDown, IsUnusedReadBy, found_from};
+
+use crate::path::{Reach, descend};
+use block_device::BlockDev;
+use std::alloc::{AllocError, Global};
+use tree_path::TreePath;
+use tree_shape::Digest;
+use verity_format::Superblock;
+
+/// What the hash blocks on the way to the last data block, which are the last ones of their levels, hold after their last used
+/// entries.
+#[derive(Clone, Copy, Debug, PartialEq, Eq)]
+pub enum Unused {
+    /// All of them are good, and hold zeros there.
+    Zero,
+    /// Those above one that isn't good, or can't be read, hold zeros there.
+    Unknown,
+    /// A good one holds something else there: the digests of a longer image.
+    Nonzero,
+}
+
+/// Reads the hash blocks on the way to the last data block, from the top down and as far as they are good under the root, and
+/// tells what they hold after their last used entries. Those of a tree that was formatted with this superblock hold zeros. A
+/// block that isn't good says nothing of the image that was formatted, nor do those beneath it.
+///
+/// # Errors
+///
+/// Memory ran out, and nothing was read.
+pub fn read_unused<H: BlockDev>(
+    alloc: Global,
+    hash_dev: &mut H,
+    superblock: &Superblock,
+    root: &Digest,
+) -> Result<Unused, AllocError>
+    requires { tree_sectors (shape_of superblock.now) ≤ (H.state hash_dev.old).size }
+    ensures ok { IfOk result (IsUnusedReadBy H.state (super_tree superblock.now root.now) hash_dev.old hash_dev.new) }
+    ensures err { OnErr result (H.state hash_dev.new ≡ H.state hash_dev.old) }
+{
+    let shape = superblock.shape();
+    let mut path = TreePath::new(alloc, shape, superblock.salt(), *root)?;
+    let last = shape.blocks() - 1;
+    let good = read_down(&mut path, hash_dev, last);
+    let zeros = are_zero_from(&path, last, good);
+    Ok(found_from(zeros, good))
+}
+
+// What is known by the hash blocks from a level up, which are good.
+fn found_from(zeros: bool, good: u32) -> Unused
+    ensures { result ≡ found_from zeros good }
+{
+    if !zeros {
+        return Unused::Nonzero;
+    }
+    if good > 0 {
+        return Unused::Unknown;
+    }
+    Unused::Zero
+}
+
+// Reads the hash blocks on the way to a data block from the top down, and tells from which level up they are good.
+fn read_down<H: BlockDev>(path: &mut TreePath, device: &mut H, index: u64) -> u32
+    requires inside { index < path.old.shape.blocks }
+    requires fits { tree_sectors path.old.shape ≤ (H.state device.old).size }
+    ensures over { IsReadOver (H.state device.old) (H.state device.new) }
+    ensures asked { HasReadAtMost (H.state device.old) (levels path.old.shape * (path.old.shape.hash_block / 512)) (H.state device.new) }
+    ensures down { IsReadDown (tree_of_path path.old) (H.state device.old) (H.state device.new) index result path.new }
+{
+    let levels = path.levels();
+    match descend(path, device, index, levels) {
+        Reach::All => 0,
+        Reach::Bad(level) => level + 1,
+        Reach::Unread(level) => level + 1,
+    }
+}
+
+// Whether the hash blocks of a path from that level up are zero after their last used entries.
+fn are_zero_from(path: &TreePath, index: u64, good: u32) -> bool
+    requires { index < path.now.shape.blocks }
+    ensures { AreZeroFrom path.now index good result }
+{
+    'levels: for level in good..path.levels() {
+        if !path.is_unused_zero(level, index) {
+            return false;
+        }
+    }
+    true
+}
