@@ -2,11 +2,12 @@
 // and writes and syncs, `input` reads of standard input, `output` writes of standard output, `text` other reads, and each fails
 // with EIO. `short` and `interrupted` count all of these but the syncs; such a call moves one byte, or is interrupted. The file
 // FAIL_MET then says which call it was, how many whole sectors positioned reads and writes had asked for, it included, and of
-// which file.
+// which file. With FAIL_CUT the program is killed in place of the call.
 #define _GNU_SOURCE
 #include <dlfcn.h>
 #include <errno.h>
 #include <fcntl.h>
+#include <signal.h>
 #include <stdio.h>
 #include <stdlib.h>
 #include <string.h>
@@ -40,6 +41,8 @@ static int is_the_call(const char *kind, const char *call, int fd) {
     if (!wanted || !number || strcmp(kind, wanted) || ++seen != atol(number))
         return 0;
     tell(call, fd);
+    if (getenv("FAIL_CUT"))
+        raise(SIGKILL);
     return 1;
 }
 
