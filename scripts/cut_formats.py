@@ -15,7 +15,7 @@ import tempfile
 
 HERE = os.path.dirname(os.path.realpath(__file__))
 SIGNATURE = b"verity\0\0"
-SIZES = ["--data-block", "512", "--hash-block", "512"]
+SIZES = ["--data-block", "512", "--hash-block", "512", "--uuid", "6c0b2c0e-5a0d-4b5c-9a44-1d1f6a3b2c7e"]
 BLOCKS = 700
 MOST = 10_000
 
@@ -59,7 +59,7 @@ class Formats:
         if os.path.exists("image"):
             os.remove("image")
         prepare(self.old)
-        if self.run(["--grow", "--salt", "01", *words]):
+        if self.run([*([] if "--grow" in words else ["--grow"]), "--salt", "01", *words]):
             raise Unlike(f"{name}: the older image isn't made")
         prepare(self.new)
         before = content_of("image")

@@ -1,5 +1,6 @@
 -- The text of a pin: a first line, and behind it a name and a value a line.
 use Rattle.std.specs.Prelude.{ℕ, nat_lt, List, [], ◌∷◌, ◌++◌, ◌×◌, codes, decimal, length, Option, Some, None, Result, Ok, Err, if◌then◌else◌}
+use Rattle.std.specs.Borrow.{Bor}
 use Rattle.std.specs.Str.{bytes_eq}
 use Rattle.hex.specs.Hex.{encode_lower}
 use Rattle.dm_table.specs.Reading.{◌>>=◌}
@@ -43,13 +44,26 @@ fields_behind (line ∷ more) = if bytes_eq line (codes "dmstack-pin 1") then ta
 
 -- what a text says, or its first fault in reading order
 unfoldable pub pin_of : List ℕ → Result Pin PinFault
-pin_of text = if nat_lt 4096 (length text) then Err fault.TooLong else fields_behind (text_lines text) >>= finish
+pin_of text = fields_behind (text_lines text) >>= finish
+
+-- the same of a text of at most 4,096 bytes
+abbrev pub limited_pin : List ℕ → Result Pin PinFault
+limited_pin text = if nat_lt 4096 (length text) then Err fault.TooLong else pin_of text
+
+-- the lines that are left of a text
+abbrev pub rest_lines : Option (Bor (List ℕ)) → List (List ℕ)
+rest_lines None = []
+rest_lines (Some rest) = text_lines rest.now
 
 -- ---- what is written
 
--- a name, a space, a value and a newline
+-- a name, a space and a value
+abbrev pub line_text : PinName → Word → List ℕ
+line_text name value = name_text name ++ 32 ∷ value
+
+-- and a newline
 abbrev pub pin_line : PinName → Word → List ℕ
-pin_line name value = name_text name ++ 32 ∷ value ++ 10 ∷ []
+pin_line name value = line_text name value ++ 10 ∷ []
 
 abbrev pub pin_lines : List (PinName × Word) → List ℕ
 pin_lines [] = []
@@ -62,4 +76,4 @@ pin_words pin =
     ∷ (HashBlockSize, decimal pin.hash_block) ∷ (DataBlocks, decimal pin.blocks) ∷ []
 
 unfoldable pub pin_text : Pin → List ℕ
-pin_text pin = codes "dmstack-pin 1\n" ++ pin_lines (pin_words pin)
+pin_text pin = (codes "dmstack-pin 1" ++ 10 ∷ []) ++ pin_lines (pin_words pin)

@@ -1,8 +1,9 @@
 //! Pins read.
-ghost use Rattle.std.specs.Prelude.{◌≡◌, ◌∷◌};
-ghost use Rattle.dm_table.specs.Words.{pieces_left, text_lines, words};
+ghost use Rattle.std.specs.Prelude.{◌≡◌, ◌==◌, ◌∷◌, ◌≤◌, length};
+ghost use Rattle.std.specs.List.{position_or_len};
+ghost use Rattle.dm_table.specs.Words.{text_lines, words};
 ghost use Rattle.image_pin.specs.Fields.{no_fields};
-ghost use Rattle.image_pin.specs.PinTexts.{at_end, fields_behind, pin_of, take_line, take_lines};
+ghost use Rattle.image_pin.specs.PinTexts.{at_end, fields_behind, limited_pin, pin_of, rest_lines, take_line, take_lines};
 
 use crate::fault::PinFault;
 use crate::fields::{PinFields, finish, set_field};
@@ -17,14 +18,20 @@ pub const MOST_BYTES: usize = 4096;
 ///
 /// # Errors
 ///
-/// The first fault in reading order.
-#[tactic(auto, unfolding(crate::specs::PinTexts::pin_of))]
+/// `TooLong`, or the first fault in reading order.
 pub fn parse_pin(text: &[u8]) -> Result<Pin, PinFault>
-    ensures { result ≡ pin_of text.now }
+    ensures { result ≡ limited_pin text.now }
 {
     if text.len() > MOST_BYTES {
         return Err(PinFault::TooLong);
     }
+    pin_of(text)
+}
+
+#[tactic(auto, unfolding(crate::specs::PinTexts::pin_of))]
+fn pin_of(text: &[u8]) -> Result<Pin, PinFault>
+    ensures { result ≡ pin_of text.now }
+{
     let fields = fields_behind(text)?;
     finish(fields)
 }
@@ -40,22 +47,37 @@ fn fields_behind(text: &[u8]) -> Result<PinFields, PinFault>
     Err(PinFault::Header)
 }
 
+// How many bytes stand before the first newline.
+fn line_len(text: &[u8]) -> usize
+    ensures value { result ≡ position_or_len (λ b. b == 10) text.now }
+    ensures bound { result ≤ length text.now }
+{
+    'bytes: for (at, byte) in text.iter().enumerate() {
+        if *byte == b'\n' {
+            return at;
+        }
+    }
+    text.len()
+}
+
 // The first line, and what stands behind its newline.
 fn cut_line(text: &[u8]) -> (&[u8], Option<&[u8]>)
-    ensures { text_lines text.now ≡ result.0.now ∷ pieces_left 10 result.1 }
+    ensures { text_lines text.now ≡ result.0.now ∷ rest_lines result.1 }
 {
-    match text.iter().position(|byte| *byte == b'\n') {
-        Some(end) => (&text[..end], Some(&text[end + 1..])),
-        None => (text, None),
+    let end = line_len(text);
+    if end < text.len() {
+        (&text[..end], Some(&text[end + 1..]))
+    } else {
+        (text, None)
     }
 }
 
 // The fields of all lines; nothing stands behind the last newline.
-fn take_lines(text: Option<&[u8]>) -> Result<PinFields, PinFault>
-    ensures { result ≡ take_lines no_fields (pieces_left 10 text) }
+fn take_lines(lines: Option<&[u8]>) -> Result<PinFields, PinFault>
+    ensures { result ≡ take_lines no_fields (rest_lines lines) }
 {
     let mut fields = PinFields::new();
-    let mut rest = text;
+    let mut rest = lines;
     'lines: while let Some(text) = rest {
         let (line, more) = cut_line(text);
         if line.is_empty() {
@@ -69,7 +91,7 @@ fn take_lines(text: Option<&[u8]>) -> Result<PinFields, PinFault>
 
 // The fields, where no line is left.
 fn at_end(fields: PinFields, rest: Option<&[u8]>) -> Result<PinFields, PinFault>
-    ensures { result ≡ at_end fields (pieces_left 10 rest) }
+    ensures { result ≡ at_end fields (rest_lines rest) }
 {
     match rest {
         None => Ok(fields),
