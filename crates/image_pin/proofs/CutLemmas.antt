@@ -1,9 +1,13 @@
 -- Texts cut into lines.
-use Rattle.std.proofs.Common.{◌≡◌, ℕ, ◌+◌, ◌<◌, ◌≤◌, Bool, true, false, not, eqb, List, [], ◌∷◌, length, take, drop, All, refl, sym, ap, ◌∙◌, arith}
+use Rattle.std.proofs.Common.{◌≡◌, ℕ, ◌+◌, ◌<◌, ◌≤◌, Bool, true, false, not, eqb, List, [], ◌∷◌, length, take, drop, All, Err, refl, sym, ap, ◌∙◌, inl, inr, arith}
 use Rattle.std.specs.List.{slice_split, position_or_len}
 use Rattle.std.proofs.lemmas.List.Splits.{slice_split_none, slice_split_first}
 use Rattle.std.proofs.lemmas.List.Sums.{prefix_len_passes}
+use Rattle.std.proofs.lemmas.Bool.{cases_lt}
 use Rattle.dm_table.specs.Words.{text_lines}
+use Rattle.image_pin.specs.declared.fault.PinFault.TheVariants.{Line}
+use Rattle.image_pin.specs.declared.fields.PinFields.{PinFields}
+use Rattle.image_pin.specs.PinTexts.{at_end}
 
 not_false : (b : Bool) → not b ≡ true → b ≡ false
 not_false true h = cc
@@ -24,3 +28,12 @@ lines-more text n e lt =
 pub lines-last : (text : List ℕ) (n : ℕ) → n ≡ position_or_len (λ b. eqb b 10) text → length text ≤ n → text_lines text ≡ text ∷ []
 unfolding text_lines
 lines-last text n e le = slice_split_none (λ (b : ℕ). eqb b 10) text (none_before (λ (b : ℕ). eqb b 10) text (omega arith))
+
+-- a text has a line, be it empty
+pub line-left : (fields : PinFields) (text : List ℕ) → at_end fields (text_lines text) ≡ Err Line
+line-left fields text =
+    let n : ℕ = position_or_len (λ b. eqb b 10) text in
+    elim (cases_lt n (length text)) [
+      | inl more ↦ ap (at_end fields) (lines-more text n refl more)
+      | inr last ↦ ap (at_end fields) (lines-last text n refl last)
+    ]

@@ -8,7 +8,7 @@ use Rattle.tree_shape.specs.Shape.{ShapeRecord}
 use Rattle.hash_tree.specs.Chain.{ChainRecord, IsGood, formed}
 use Rattle.hash_tree.specs.Difference.{FirstDiffer}
 use Rattle.hash_tree.specs.Laws.{FormedChainsAreGood, GoodChainsCollide}
-use Rattle.image_pin.specs.Laws.{IsPinned, PinnedImagesAreEqual, shape_of}
+use Rattle.image_pin.specs.Laws.{PinnedImagesAreEqual, shape_of}
 
 same_or_not : (xs ys : List ℕ) (b : Bool) → bytes_eq xs ys ≡ b → (xs ≡ ys) ⊎ (xs ≢ ys)
 same_or_not xs ys true is = inl ((bytes_eq-Decides xs ys).0 is)

@@ -1,13 +1,12 @@
 -- A pin that was printed reads back.
-use Rattle.std.proofs.Common.{◌≡◌, ◌≢◌, ℕ, ◌+◌, ◌-◌, ◌*◌, ◌/◌, ◌^◌, ◌<◌, ◌≤◌, Bool, true, false, not, ◌&&◌, ◌||◌, cond, eqb, ltb, leb, List, [], ◌∷◌, ◌++◌, length, map, codes, decimal, All, Option, Some, None, Ok, Err, Result, refl, ap, sym, subst, ◌∙◌, inl, inr, append_assoc, arith, filter}
-use Rattle.std.specs.Prelude.{◌⊎◌, ◌×◌, is_some}
+use Rattle.std.proofs.Common.{◌≡◌, ℕ, ◌-◌, ◌*◌, ◌/◌, ◌^◌, ◌<◌, ◌≤◌, Bool, true, false, not, ◌&&◌, ◌||◌, cond, eqb, ltb, leb, List, [], ◌∷◌, ◌++◌, length, codes, decimal, All, Option, Some, None, Ok, Result, refl, ap, sym, ◌∙◌, inl, inr, append_assoc, append-nil, arith, filter}
+use Rattle.std.specs.Prelude.{◌⊎◌, is_some}
 use Rattle.std.specs.List.{AllPass, list_all, slice_split}
 use Rattle.std.specs.Result.{result_ok}
 use Rattle.std.specs.Char.{is_ascii_digit}
 use Rattle.std.specs.Str.{bytes_eq}
 use Rattle.std.specs.Str.Parse.{digits_value, AllDigits}
 use Rattle.std.proofs.lemmas.Bool.{cond-true, cond-false, and_from, and_parts, leb-true, le-leb, le-ltb, lt-ltb, ne_eqb}
-use Rattle.std.proofs.lemmas.Bool.Decides.{not_from_Decides}
 use Rattle.std.proofs.lemmas.Slice.Eq.{bytes_eq-Decides}
 use Rattle.std.proofs.lemmas.Fmt.{decimal_is_IsNumeral}
 use Rattle.std.proofs.lemmas.Str.Parse.{digit_from_value}
@@ -139,6 +138,13 @@ plain-salt : (salt : List ℕ) → IsBytes salt → IsPlain (salt_word salt)
 plain-salt [] each = (omega arith, plain-from (codes "-") refl)
 plain-salt (byte ∷ more) each = plain-hex (byte ∷ more) (omega arith) each
 
+not_dash : (word : Word) (b : Bool) → bytes_eq word (codes "-") ≡ b → 2 ≤ length word → b ≡ false
+not_dash word true is long =
+    let same : word ≡ codes "-" = (bytes_eq-Decides word (codes "-")).0 is in
+    let one : length word ≡ 1 = ap length same in
+    absurd (omega (arith, one, long))
+not_dash word false is long = refl
+
 salt-read : (salt : List ℕ) → length salt ≤ 256 → IsBytes salt → salt_of (salt_word salt) ≡ Some salt
 unfolding salt_of
 salt-read [] few each = refl
@@ -148,8 +154,7 @@ salt-read (byte ∷ more) few each =
     let twice : length word ≡ 2 * length salt = length-encode_with lower_digits salt in
     let some : 0 < length salt = omega arith in
     let half : length word / 2 ≡ length salt = omega (arith, twice) in
-    let other : bytes_eq word (codes "-") ≡ false =
-    not_from_Decides (bytes_eq word (codes "-")) (bytes_eq-Decides word (codes "-")) (λ (same : word ≡ codes "-"). let one : length word ≡ 1 = ap length same in omega (arith, one, twice, some)) in
+    let other : bytes_eq word (codes "-") ≡ false = not_dash word (bytes_eq word (codes "-")) refl (omega (arith, twice, some)) in
     cond-false (bytes_eq word (codes "-")) _ _ other
     ∙ cond-false (ltb 512 (length word)) _ _ (le-ltb 512 (length word) (omega (arith, twice, few)))
     ∙ ap result_ok (decode_sized-encode_lower salt (length word / 2) (sym half) each)
@@ -270,3 +275,20 @@ module _ (pin : Pin) (root_size : length pin.root ≡ 32) (root_bytes : IsBytes 
       ap (λ (l : List (List ℕ)). fields_behind l >>= finish) (split-line (codes "dmstack-pin 1") (pin_lines (pin_words pin)) one-head)
       ∙ ap (λ (r : Result PinFields PinFault). r >>= finish) lines-read
       ∙ finished
+
+-- the lines one behind the other
+pub text-printed : (pin : Pin) (t0 t1 t2 t3 t4 t5 : List ℕ) → t0 ≡ codes "dmstack-pin 1\n" → t1 ≡ t0 ++ pin_line Root (encode_lower pin.root) → t2 ≡ t1 ++ pin_line Salt (salt_word pin.salt)
+    → t3 ≡ t2 ++ pin_line DataBlockSize (decimal pin.data_block) → t4 ≡ t3 ++ pin_line HashBlockSize (decimal pin.hash_block) → t5 ≡ t4 ++ pin_line DataBlocks (decimal pin.blocks) → t5 ≡ pin_text pin
+unfolding pin_text pin_words
+text-printed pin t0 t1 t2 t3 t4 t5 e0 e1 e2 e3 e4 e5 =
+    let head : List ℕ = codes "dmstack-pin 1\n" in
+    let a : List ℕ = pin_line Root (encode_lower pin.root) in
+    let b : List ℕ = pin_line Salt (salt_word pin.salt) in
+    let d : List ℕ = pin_line DataBlockSize (decimal pin.data_block) in
+    let h : List ℕ = pin_line HashBlockSize (decimal pin.hash_block) in
+    let n : List ℕ = pin_line DataBlocks (decimal pin.blocks) in
+    e5 ∙ ap (λ t. t ++ n) (e4 ∙ ap (λ t. t ++ h) (e3 ∙ ap (λ t. t ++ d) (e2 ∙ ap (λ t. t ++ b) (e1 ∙ ap (λ t. t ++ a) e0))))
+    ∙ joined head a b d h n
+  where
+    joined : (head a b d h n : List ℕ) → ((((head ++ a) ++ b) ++ d) ++ h) ++ n ≡ head ++ (a ++ (b ++ (d ++ (h ++ (n ++ [])))))
+    joined head a b d h n = simp (append_assoc, append-nil)

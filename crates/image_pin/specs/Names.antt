@@ -1,5 +1,5 @@
 -- The names of a pin's lines.
-use Rattle.std.specs.Prelude.{ℕ, List, codes, Option, Some, None, if◌then◌else◌}
+use Rattle.std.specs.Prelude.{codes, Option, Some, None, if◌then◌else◌}
 use Rattle.std.specs.Str.{bytes_eq}
 use Rattle.dm_table.specs.Words.{Word}
 use Rattle.image_pin.specs.declared.name.PinName.{PinName}

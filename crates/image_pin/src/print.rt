@@ -1,14 +1,13 @@
 //! Pins printed.
 ghost use Rattle.std.specs.Prelude.{◌≡◌, ◌++◌, Ok, IfOk, OnOk, decimal};
 ghost use Rattle.verity_format.specs.Line.{salt_word};
-ghost use Rattle.hex.specs.Hex.{encode_lower};
+ghost use Rattle.hex.specs.Hex.{IsBytes, encode_lower};
 ghost use Rattle.image_pin.specs.PinTexts.{pin_line, pin_of, pin_text};
 
 use crate::name::PinName;
 use crate::pin::Pin;
 use itoa::Buffer;
 use std::alloc::{AllocError, Global};
-use tree_shape::Salt;
 
 /// The text of a pin: its header, and a line each for root, salt, block sizes and number of data blocks.
 ///
@@ -20,9 +19,8 @@ pub fn print_pin(alloc: Global, pin: &Pin) -> Result<Vec<u8>, AllocError>
     ensures reads_back { IfOk result (λ text. pin_of text.items ≡ Ok pin.now) }
 {
     let mut text = Vec::from_slice(alloc, b"dmstack-pin 1\n")?;
-    let root = hex::encode(alloc, pin.root.as_bytes())?;
-    push_line(&mut text, PinName::Root, root.as_bytes())?;
-    push_salt(alloc, &mut text, &pin.salt)?;
+    push_hex(alloc, &mut text, PinName::Root, pin.root.as_bytes())?;
+    push_salt(alloc, &mut text, pin.salt.bytes())?;
     push_number(&mut text, PinName::DataBlockSize, u64::from(pin.data_block))?;
     push_number(&mut text, PinName::HashBlockSize, u64::from(pin.hash_block))?;
     push_number(&mut text, PinName::DataBlocks, pin.blocks)?;
@@ -40,16 +38,29 @@ fn push_line(text: &mut Vec<u8>, name: PinName, value: &[u8]) -> Result<(), Allo
     Ok(())
 }
 
-// Hexadecimal digits, or `-` where there are no bytes.
-fn push_salt(alloc: Global, text: &mut Vec<u8>, salt: &Salt) -> Result<(), AllocError>
-    ensures { OnOk result (text.new.items ≡ text.old.items ++ pin_line PinName.Salt (salt_word salt.now)) }
+// A name with hexadecimal digits.
+fn push_hex(
+    alloc: Global,
+    text: &mut Vec<u8>,
+    name: PinName,
+    bytes: &[u8],
+) -> Result<(), AllocError>
+    ensures printed { OnOk result (text.new.items ≡ text.old.items ++ pin_line name (encode_lower bytes.now)) }
+    ensures bytes { IsBytes bytes.now }
 {
-    let bytes = salt.bytes();
-    if bytes.is_empty() {
+    let digits = hex::encode(alloc, bytes)?;
+    push_line(text, name, digits.as_bytes())
+}
+
+// The salt in hexadecimal digits, or `-` where there are no bytes.
+fn push_salt(alloc: Global, text: &mut Vec<u8>, salt: &[u8]) -> Result<(), AllocError>
+    ensures printed { OnOk result (text.new.items ≡ text.old.items ++ pin_line PinName.Salt (salt_word salt.now)) }
+    ensures bytes { IsBytes salt.now }
+{
+    if salt.is_empty() {
         return push_line(text, PinName::Salt, b"-");
     }
-    let digits = hex::encode(alloc, bytes)?;
-    push_line(text, PinName::Salt, digits.as_bytes())
+    push_hex(alloc, text, PinName::Salt, salt)
 }
 
 fn push_number(text: &mut Vec<u8>, name: PinName, number: u64) -> Result<(), AllocError>

@@ -32,8 +32,10 @@ pub fn parse_pin(text: &[u8]) -> Result<Pin, PinFault>
 fn pin_of(text: &[u8]) -> Result<Pin, PinFault>
     ensures { result ≡ pin_of text.now }
 {
-    let fields = fields_behind(text)?;
-    finish(fields)
+    match fields_behind(text) {
+        Ok(fields) => finish(fields),
+        Err(fault) => Err(fault),
+    }
 }
 
 // The fields of the lines behind the first one, which has to be a pin's.
@@ -74,7 +76,7 @@ fn cut_line(text: &[u8]) -> (&[u8], Option<&[u8]>)
 
 // The fields of all lines; nothing stands behind the last newline.
 fn take_lines(lines: Option<&[u8]>) -> Result<PinFields, PinFault>
-    ensures { result ≡ take_lines no_fields (rest_lines lines) }
+    ensures { result ≡ take_lines no_fields (rest_lines lines.entry) }
 {
     let mut fields = PinFields::new();
     let mut rest = lines;
@@ -91,7 +93,7 @@ fn take_lines(lines: Option<&[u8]>) -> Result<PinFields, PinFault>
 
 // The fields, where no line is left.
 fn at_end(fields: PinFields, rest: Option<&[u8]>) -> Result<PinFields, PinFault>
-    ensures { result ≡ at_end fields (rest_lines rest) }
+    ensures { result ≡ at_end fields (rest_lines rest.entry) }
 {
     match rest {
         None => Ok(fields),
