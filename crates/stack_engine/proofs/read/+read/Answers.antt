@@ -817,8 +817,6 @@ walk_path-returns-clause-moved g t c = path-ended (block_in c.args.config.now c.
 
 pub walk_path-returns-clause-ok : goal.walk_path-returns-clause-ok
 walk_path-returns-clause-ok g t c =
-    let old = map g.D.BlockDev.state c.args.backing.now.devices.items in
-    let new = map g.D.BlockDev.state c.loop-left.backing.devices.items in
     let b = block_in c.args.config.now c.args.verity.now c.args.index in
     path-whole b c.loop-left.left (omega (arith, c.loop-left-test.false)) c.loop-left.at c.loop-left.path.items c.loop-left.invariant.within c.loop-left.invariant.walked
 
@@ -905,10 +903,6 @@ read_blocks-checks-init g t c =
     let line = c.verity_at-verity.ensures in
     let is = c.tree_at-tree.ensures.tree.on_data in
     let at = blocks-at config v p n found tree.data loaded (omega (arith, c.requires.fits.sectors.some, c.requires.fits.sectors.whole)) line c.requires.fits.holds c.requires.can_go is in
-    let sectors : c.from.result ≡ block_sectors v = c.from.ensures in
-    let whole_out : length c.args.out.now ≡ 512 * n = omega (arith, c.requires.fits.sectors.whole) in
-    let many_are : length c.args.out.now / v.data_block ≡ n / block_sectors v = digest-count config v p n tree.data found loaded line is at c.args.out.now whole_out in
-    let blocks_few = few-blocks config v p n tree.data found loaded line is at in
     record {
       size = refl;
       room = ap (λ (l : List (List ℕ)). length l) c.as_mut_slice-made.ensures.value;
@@ -930,8 +924,6 @@ read_blocks-walk_path-requires g t c κs within =
     let n : ℕ = length c.args.out.now / 512 in
     let v = c.verity_at-verity.result.now in
     let tree = c.tree_at-tree.result in
-    let state = g.D.BlockDev.state in
-    let old = map state c.args.backing.now.devices.items in
     let found = c.args.found.now.items in
     let loaded = c.requires.stack.sound.loaded in
     let line = c.verity_at-verity.ensures in
@@ -940,18 +932,11 @@ read_blocks-walk_path-requires g t c κs within =
     let sectors : c.from.result ≡ block_sectors v = c.from.ensures in
     let whole_out : length c.args.out.now ≡ 512 * n = omega (arith, c.requires.fits.sectors.whole) in
     let many_are : length c.args.out.now / v.data_block ≡ n / block_sectors v = digest-count config v p n tree.data found loaded line is at c.args.out.now whole_out in
-    let blocks_few = few-blocks config v p n tree.data found loaded line is at in
     let inv = c.checks.invariant in
     let j : ℕ = c.checks.at in
-    let r : ℕ = c.checks.read in
-    let len : length c.checks.out ≡ 512 * n = omega (arith, inv.size, whole_out) in
     let inside : j < n / block_sectors v = omega (arith, c.checks-test.true, many_are) in
-    let read : r ≤ n / block_sectors v = omega (arith, inv.most, many_are) in
     let index : p.first / c.from.result + j ≡ p.first / block_sectors v + j = ap (λ (k : ℕ). p.first / k + j) sectors in
     let there : p.first / c.from.result + j < v.blocks = omega (arith, index, at.there j inside) in
-    let did : LeafRead = record { old = old; new = map state c.checks.backing.devices.items; before = found; after = inv.after } in
-    let end_j = blocks-end config v p n tree.data found loaded line is at c.checks.out (j + 1) len (omega (arith, inside)) in
-    let size = block-size config v p n tree.data found loaded line is at in
     let depths : depth config (mapped tree.device.0) ≡ depth config (mapped p.device.0) = ap (λ (x : DevId). depth config (mapped x.0)) c.tree_at-tree.ensures.at in
     let stack = stack-later config inv.had.moved.moved.fixed c.requires.stack inv.cached in
     (omega (arith, depths), (within, (stack, (record { lies = c.tree_at-tree.ensures.tree; there = there }, inv.held))))
@@ -973,18 +958,13 @@ read_blocks-returns-in-Err-clause-reads g t c =
     let sectors : c.from.result ≡ block_sectors v = c.from.ensures in
     let whole_out : length c.args.out.now ≡ 512 * n = omega (arith, c.requires.fits.sectors.whole) in
     let many_are : length c.args.out.now / v.data_block ≡ n / block_sectors v = digest-count config v p n tree.data found loaded line is at c.args.out.now whole_out in
-    let blocks_few = few-blocks config v p n tree.data found loaded line is at in
     let inv = c.checks.invariant in
     let j : ℕ = c.checks.at in
     let r : ℕ = c.checks.read in
-    let len : length c.checks.out ≡ 512 * n = omega (arith, inv.size, whole_out) in
     let inside : j < n / block_sectors v = omega (arith, c.checks-test.true, many_are) in
     let read : r ≤ n / block_sectors v = omega (arith, inv.most, many_are) in
     let index : p.first / c.from.result + j ≡ p.first / block_sectors v + j = ap (λ (k : ℕ). p.first / k + j) sectors in
-    let there : p.first / c.from.result + j < v.blocks = omega (arith, index, at.there j inside) in
     let did : LeafRead = record { old = old; new = map state c.checks.backing.devices.items; before = found; after = inv.after } in
-    let end_j = blocks-end config v p n tree.data found loaded line is at c.checks.out (j + 1) len (omega (arith, inside)) in
-    let size = block-size config v p n tree.data found loaded line is at in
     let got = subst (λ (k : ℕ). GetsChain (block_in config v k) did.new (map state c.walk_path.new.backing.devices.items) (Err c.in-Err.first)) index c.in-Err.ensures.err in
     record { after = inv.after; out = inv.out; reads = had-fails config v p n tree.data found loaded line is at r j c.checks.out did c.in-Err.first read inside inv.had c.in-Err.ensures.moved got }
 
@@ -995,8 +975,6 @@ read_blocks-overflow_add-index g t c =
     let n : ℕ = length c.args.out.now / 512 in
     let v = c.verity_at-verity.result.now in
     let tree = c.tree_at-tree.result in
-    let state = g.D.BlockDev.state in
-    let old = map state c.args.backing.now.devices.items in
     let found = c.args.found.now.items in
     let loaded = c.requires.stack.sound.loaded in
     let line = c.verity_at-verity.ensures in
@@ -1005,18 +983,9 @@ read_blocks-overflow_add-index g t c =
     let sectors : c.from.result ≡ block_sectors v = c.from.ensures in
     let whole_out : length c.args.out.now ≡ 512 * n = omega (arith, c.requires.fits.sectors.whole) in
     let many_are : length c.args.out.now / v.data_block ≡ n / block_sectors v = digest-count config v p n tree.data found loaded line is at c.args.out.now whole_out in
-    let blocks_few = few-blocks config v p n tree.data found loaded line is at in
-    let inv = c.checks.invariant in
     let j : ℕ = c.checks.at in
-    let r : ℕ = c.checks.read in
-    let len : length c.checks.out ≡ 512 * n = omega (arith, inv.size, whole_out) in
     let inside : j < n / block_sectors v = omega (arith, c.checks-test.true, many_are) in
-    let read : r ≤ n / block_sectors v = omega (arith, inv.most, many_are) in
     let index : p.first / c.from.result + j ≡ p.first / block_sectors v + j = ap (λ (k : ℕ). p.first / k + j) sectors in
-    let there : p.first / c.from.result + j < v.blocks = omega (arith, index, at.there j inside) in
-    let did : LeafRead = record { old = old; new = map state c.checks.backing.devices.items; before = found; after = inv.after } in
-    let end_j = blocks-end config v p n tree.data found loaded line is at c.checks.out (j + 1) len (omega (arith, inside)) in
-    let size = block-size config v p n tree.data found loaded line is at in
     let small = size-small config tree.data loaded in
     let low = small-index config v p n tree.data found loaded line is at j inside in
     omega (arith, small, low, at.below, index)
@@ -1028,28 +997,18 @@ read_blocks-overflow_mul-from g t c =
     let n : ℕ = length c.args.out.now / 512 in
     let v = c.verity_at-verity.result.now in
     let tree = c.tree_at-tree.result in
-    let state = g.D.BlockDev.state in
-    let old = map state c.args.backing.now.devices.items in
     let found = c.args.found.now.items in
     let loaded = c.requires.stack.sound.loaded in
     let line = c.verity_at-verity.ensures in
     let is = c.tree_at-tree.ensures.tree.on_data in
     let at = blocks-at config v p n found tree.data loaded (omega (arith, c.requires.fits.sectors.some, c.requires.fits.sectors.whole)) line c.requires.fits.holds c.requires.can_go is in
-    let sectors : c.from.result ≡ block_sectors v = c.from.ensures in
     let whole_out : length c.args.out.now ≡ 512 * n = omega (arith, c.requires.fits.sectors.whole) in
     let many_are : length c.args.out.now / v.data_block ≡ n / block_sectors v = digest-count config v p n tree.data found loaded line is at c.args.out.now whole_out in
-    let blocks_few = few-blocks config v p n tree.data found loaded line is at in
     let inv = c.checks.invariant in
     let j : ℕ = c.checks.at in
-    let r : ℕ = c.checks.read in
     let len : length c.checks.out ≡ 512 * n = omega (arith, inv.size, whole_out) in
     let inside : j < n / block_sectors v = omega (arith, c.checks-test.true, many_are) in
-    let read : r ≤ n / block_sectors v = omega (arith, inv.most, many_are) in
-    let index : p.first / c.from.result + j ≡ p.first / block_sectors v + j = ap (λ (k : ℕ). p.first / k + j) sectors in
-    let there : p.first / c.from.result + j < v.blocks = omega (arith, index, at.there j inside) in
-    let did : LeafRead = record { old = old; new = map state c.checks.backing.devices.items; before = found; after = inv.after } in
     let end_j = blocks-end config v p n tree.data found loaded line is at c.checks.out (j + 1) len (omega (arith, inside)) in
-    let size = block-size config v p n tree.data found loaded line is at in
     omega (arith, end_j, add-mul j 1 v.data_block)
 
 pub read_blocks-read_beneath-requires : goal.read_blocks-read_beneath-requires
@@ -1059,8 +1018,6 @@ read_blocks-read_beneath-requires g t c κs within =
     let n : ℕ = length c.args.out.now / 512 in
     let v = c.verity_at-verity.result.now in
     let tree = c.tree_at-tree.result in
-    let state = g.D.BlockDev.state in
-    let old = map state c.args.backing.now.devices.items in
     let found = c.args.found.now.items in
     let loaded = c.requires.stack.sound.loaded in
     let line = c.verity_at-verity.ensures in
@@ -1069,22 +1026,10 @@ read_blocks-read_beneath-requires g t c κs within =
     let sectors : c.from.result ≡ block_sectors v = c.from.ensures in
     let whole_out : length c.args.out.now ≡ 512 * n = omega (arith, c.requires.fits.sectors.whole) in
     let many_are : length c.args.out.now / v.data_block ≡ n / block_sectors v = digest-count config v p n tree.data found loaded line is at c.args.out.now whole_out in
-    let blocks_few = few-blocks config v p n tree.data found loaded line is at in
     let inv = c.checks.invariant in
     let j : ℕ = c.checks.at in
-    let r : ℕ = c.checks.read in
     let len : length c.checks.out ≡ 512 * n = omega (arith, inv.size, whole_out) in
-    let inside : j < n / block_sectors v = omega (arith, c.checks-test.true, many_are) in
-    let read : r ≤ n / block_sectors v = omega (arith, inv.most, many_are) in
     let index : p.first / c.from.result + j ≡ p.first / block_sectors v + j = ap (λ (k : ℕ). p.first / k + j) sectors in
-    let there : p.first / c.from.result + j < v.blocks = omega (arith, index, at.there j inside) in
-    let did : LeafRead = record { old = old; new = map state c.checks.backing.devices.items; before = found; after = inv.after } in
-    let end_j = blocks-end config v p n tree.data found loaded line is at c.checks.out (j + 1) len (omega (arith, inside)) in
-    let size = block-size config v p n tree.data found loaded line is at in
-    let walk = map state c.walk_path.new.backing.devices.items in
-    let way = map block_bytes (take (levels (tree_of v)) c.walk_path.new.path.items) in
-    let expected = c.in-Ok.expected in
-    let walked = subst (λ (k : ℕ). IsWalked (block_in config v k) 0 expected way did.new walk) index c.in-Ok.ensures.ok in
     let many : ℕ = c.row_len-many.result in
     let most : j + many ≤ n / block_sectors v = omega (arith, c.row_len-many.ensures.most, many_are) in
     let end_row = blocks-end config v p n tree.data found loaded line is at c.checks.out (j + many) len most in
@@ -1117,7 +1062,6 @@ read_blocks-returns-in-Err-read_beneath-clause-reads g t c =
     let sectors : c.from.result ≡ block_sectors v = c.from.ensures in
     let whole_out : length c.args.out.now ≡ 512 * n = omega (arith, c.requires.fits.sectors.whole) in
     let many_are : length c.args.out.now / v.data_block ≡ n / block_sectors v = digest-count config v p n tree.data found loaded line is at c.args.out.now whole_out in
-    let blocks_few = few-blocks config v p n tree.data found loaded line is at in
     let inv = c.checks.invariant in
     let j : ℕ = c.checks.at in
     let r : ℕ = c.checks.read in
@@ -1125,10 +1069,7 @@ read_blocks-returns-in-Err-read_beneath-clause-reads g t c =
     let inside : j < n / block_sectors v = omega (arith, c.checks-test.true, many_are) in
     let read : r ≤ n / block_sectors v = omega (arith, inv.most, many_are) in
     let index : p.first / c.from.result + j ≡ p.first / block_sectors v + j = ap (λ (k : ℕ). p.first / k + j) sectors in
-    let there : p.first / c.from.result + j < v.blocks = omega (arith, index, at.there j inside) in
     let did : LeafRead = record { old = old; new = map state c.checks.backing.devices.items; before = found; after = inv.after } in
-    let end_j = blocks-end config v p n tree.data found loaded line is at c.checks.out (j + 1) len (omega (arith, inside)) in
-    let size = block-size config v p n tree.data found loaded line is at in
     let walk = map state c.walk_path.new.backing.devices.items in
     let way = map block_bytes (take (levels (tree_of v)) c.walk_path.new.path.items) in
     let expected = c.in-Ok.expected in
@@ -1160,31 +1101,8 @@ pub read_blocks-slice_bounds-way-end : goal.read_blocks-slice_bounds-way-end
 read_blocks-slice_bounds-way-end g t c =
     let config = c.args.config.now in
     let p = c.args.part in
-    let n : ℕ = length c.args.out.now / 512 in
     let v = c.verity_at-verity.result.now in
-    let tree = c.tree_at-tree.result in
-    let state = g.D.BlockDev.state in
-    let old = map state c.args.backing.now.devices.items in
-    let found = c.args.found.now.items in
-    let loaded = c.requires.stack.sound.loaded in
-    let line = c.verity_at-verity.ensures in
-    let is = c.tree_at-tree.ensures.tree.on_data in
-    let at = blocks-at config v p n found tree.data loaded (omega (arith, c.requires.fits.sectors.some, c.requires.fits.sectors.whole)) line c.requires.fits.holds c.requires.can_go is in
-    let sectors : c.from.result ≡ block_sectors v = c.from.ensures in
-    let whole_out : length c.args.out.now ≡ 512 * n = omega (arith, c.requires.fits.sectors.whole) in
-    let many_are : length c.args.out.now / v.data_block ≡ n / block_sectors v = digest-count config v p n tree.data found loaded line is at c.args.out.now whole_out in
-    let blocks_few = few-blocks config v p n tree.data found loaded line is at in
-    let inv = c.checks.invariant in
     let j : ℕ = c.checks.at in
-    let r : ℕ = c.checks.read in
-    let len : length c.checks.out ≡ 512 * n = omega (arith, inv.size, whole_out) in
-    let inside : j < n / block_sectors v = omega (arith, c.checks-test.true, many_are) in
-    let read : r ≤ n / block_sectors v = omega (arith, inv.most, many_are) in
-    let index : p.first / c.from.result + j ≡ p.first / block_sectors v + j = ap (λ (k : ℕ). p.first / k + j) sectors in
-    let there : p.first / c.from.result + j < v.blocks = omega (arith, index, at.there j inside) in
-    let did : LeafRead = record { old = old; new = map state c.checks.backing.devices.items; before = found; after = inv.after } in
-    let end_j = blocks-end config v p n tree.data found loaded line is at c.checks.out (j + 1) len (omega (arith, inside)) in
-    let size = block-size config v p n tree.data found loaded line is at in
     let levels_are : c.levels-levels.result ≡ levels (tree_of v) = c.levels-levels.ensures.value ∙ ap levels c.tree_at-tree.ensures.tree.shape_is in
     let long = way-whole config v (p.first / c.from.result + j) c.walk_path.new.path.items c.in-Ok.ensures.ok in
     let value : length c.as_slice.result.now ≡ length c.walk_path.new.path.items = ap (λ (l : List CachedBlock). length l) c.as_slice.ensures.value in
@@ -1213,8 +1131,6 @@ read_blocks-data_extent-extent-requires-clause-block g t c =
     let n : ℕ = length c.args.out.now / 512 in
     let v = c.verity_at-verity.result.now in
     let tree = c.tree_at-tree.result in
-    let state = g.D.BlockDev.state in
-    let old = map state c.args.backing.now.devices.items in
     let found = c.args.found.now.items in
     let loaded = c.requires.stack.sound.loaded in
     let line = c.verity_at-verity.ensures in
@@ -1223,18 +1139,10 @@ read_blocks-data_extent-extent-requires-clause-block g t c =
     let sectors : c.from.result ≡ block_sectors v = c.from.ensures in
     let whole_out : length c.args.out.now ≡ 512 * n = omega (arith, c.requires.fits.sectors.whole) in
     let many_are : length c.args.out.now / v.data_block ≡ n / block_sectors v = digest-count config v p n tree.data found loaded line is at c.args.out.now whole_out in
-    let blocks_few = few-blocks config v p n tree.data found loaded line is at in
-    let inv = c.checks.invariant in
     let j : ℕ = c.checks.at in
-    let r : ℕ = c.checks.read in
-    let len : length c.checks.out ≡ 512 * n = omega (arith, inv.size, whole_out) in
     let inside : j < n / block_sectors v = omega (arith, c.checks-test.true, many_are) in
-    let read : r ≤ n / block_sectors v = omega (arith, inv.most, many_are) in
     let index : p.first / c.from.result + j ≡ p.first / block_sectors v + j = ap (λ (k : ℕ). p.first / k + j) sectors in
     let there : p.first / c.from.result + j < v.blocks = omega (arith, index, at.there j inside) in
-    let did : LeafRead = record { old = old; new = map state c.checks.backing.devices.items; before = found; after = inv.after } in
-    let end_j = blocks-end config v p n tree.data found loaded line is at c.checks.out (j + 1) len (omega (arith, inside)) in
-    let size = block-size config v p n tree.data found loaded line is at in
     record { lies = c.tree_at-tree.ensures.tree; there = there }
 
 pub read_blocks-slice_bounds-row-end : goal.read_blocks-slice_bounds-row-end
@@ -1244,40 +1152,20 @@ read_blocks-slice_bounds-row-end g t c =
     let n : ℕ = length c.args.out.now / 512 in
     let v = c.verity_at-verity.result.now in
     let tree = c.tree_at-tree.result in
-    let state = g.D.BlockDev.state in
-    let old = map state c.args.backing.now.devices.items in
     let found = c.args.found.now.items in
     let loaded = c.requires.stack.sound.loaded in
     let line = c.verity_at-verity.ensures in
     let is = c.tree_at-tree.ensures.tree.on_data in
     let at = blocks-at config v p n found tree.data loaded (omega (arith, c.requires.fits.sectors.some, c.requires.fits.sectors.whole)) line c.requires.fits.holds c.requires.can_go is in
-    let sectors : c.from.result ≡ block_sectors v = c.from.ensures in
     let whole_out : length c.args.out.now ≡ 512 * n = omega (arith, c.requires.fits.sectors.whole) in
     let many_are : length c.args.out.now / v.data_block ≡ n / block_sectors v = digest-count config v p n tree.data found loaded line is at c.args.out.now whole_out in
-    let blocks_few = few-blocks config v p n tree.data found loaded line is at in
     let inv = c.checks.invariant in
     let j : ℕ = c.checks.at in
-    let r : ℕ = c.checks.read in
     let len : length c.checks.out ≡ 512 * n = omega (arith, inv.size, whole_out) in
-    let inside : j < n / block_sectors v = omega (arith, c.checks-test.true, many_are) in
-    let read : r ≤ n / block_sectors v = omega (arith, inv.most, many_are) in
-    let index : p.first / c.from.result + j ≡ p.first / block_sectors v + j = ap (λ (k : ℕ). p.first / k + j) sectors in
-    let there : p.first / c.from.result + j < v.blocks = omega (arith, index, at.there j inside) in
-    let did : LeafRead = record { old = old; new = map state c.checks.backing.devices.items; before = found; after = inv.after } in
-    let end_j = blocks-end config v p n tree.data found loaded line is at c.checks.out (j + 1) len (omega (arith, inside)) in
-    let size = block-size config v p n tree.data found loaded line is at in
-    let walk = map state c.walk_path.new.backing.devices.items in
-    let way = map block_bytes (take (levels (tree_of v)) c.walk_path.new.path.items) in
-    let expected = c.in-Ok.expected in
-    let walked = subst (λ (k : ℕ). IsWalked (block_in config v k) 0 expected way did.new walk) index c.in-Ok.ensures.ok in
     let many : ℕ = c.row_len-many.result in
     let most : j + many ≤ n / block_sectors v = omega (arith, c.row_len-many.ensures.most, many_are) in
     let end_row = blocks-end config v p n tree.data found loaded line is at c.checks.out (j + many) len most in
     let row_end : j * v.data_block + many * v.data_block ≤ length c.checks.out = omega (arith, end_row, add-mul j many v.data_block) in
-    let wide = block-begin config v p n tree.data found loaded line is at many in
-    let extent : c.data_extent-extent.result.first ≡ block_sectors v * (p.first / block_sectors v + j) = ap (λ (e : Extent). e.first) c.data_extent-extent.ensures.value ∙ ap (λ (k : ℕ). block_sectors v * k) index in
-    let part_len = length-take-le (j * v.data_block + many * v.data_block - j * v.data_block) (drop (j * v.data_block) c.checks.out) (omega (arith, row_end, length-drop (j * v.data_block) c.checks.out)) in
-    let row_sectors : length (take (j * v.data_block + many * v.data_block - j * v.data_block) (drop (j * v.data_block) c.checks.out)) / 512 ≡ many * block_sectors v = omega (arith, part_len, wide) in
     omega (arith, row_end)
 
 pub read_blocks-overflow_add-row-in-checks : goal.read_blocks-overflow_add-row-in-checks
@@ -1287,40 +1175,20 @@ read_blocks-overflow_add-row-in-checks g t c =
     let n : ℕ = length c.args.out.now / 512 in
     let v = c.verity_at-verity.result.now in
     let tree = c.tree_at-tree.result in
-    let state = g.D.BlockDev.state in
-    let old = map state c.args.backing.now.devices.items in
     let found = c.args.found.now.items in
     let loaded = c.requires.stack.sound.loaded in
     let line = c.verity_at-verity.ensures in
     let is = c.tree_at-tree.ensures.tree.on_data in
     let at = blocks-at config v p n found tree.data loaded (omega (arith, c.requires.fits.sectors.some, c.requires.fits.sectors.whole)) line c.requires.fits.holds c.requires.can_go is in
-    let sectors : c.from.result ≡ block_sectors v = c.from.ensures in
     let whole_out : length c.args.out.now ≡ 512 * n = omega (arith, c.requires.fits.sectors.whole) in
     let many_are : length c.args.out.now / v.data_block ≡ n / block_sectors v = digest-count config v p n tree.data found loaded line is at c.args.out.now whole_out in
-    let blocks_few = few-blocks config v p n tree.data found loaded line is at in
     let inv = c.checks.invariant in
     let j : ℕ = c.checks.at in
-    let r : ℕ = c.checks.read in
     let len : length c.checks.out ≡ 512 * n = omega (arith, inv.size, whole_out) in
-    let inside : j < n / block_sectors v = omega (arith, c.checks-test.true, many_are) in
-    let read : r ≤ n / block_sectors v = omega (arith, inv.most, many_are) in
-    let index : p.first / c.from.result + j ≡ p.first / block_sectors v + j = ap (λ (k : ℕ). p.first / k + j) sectors in
-    let there : p.first / c.from.result + j < v.blocks = omega (arith, index, at.there j inside) in
-    let did : LeafRead = record { old = old; new = map state c.checks.backing.devices.items; before = found; after = inv.after } in
-    let end_j = blocks-end config v p n tree.data found loaded line is at c.checks.out (j + 1) len (omega (arith, inside)) in
-    let size = block-size config v p n tree.data found loaded line is at in
-    let walk = map state c.walk_path.new.backing.devices.items in
-    let way = map block_bytes (take (levels (tree_of v)) c.walk_path.new.path.items) in
-    let expected = c.in-Ok.expected in
-    let walked = subst (λ (k : ℕ). IsWalked (block_in config v k) 0 expected way did.new walk) index c.in-Ok.ensures.ok in
     let many : ℕ = c.row_len-many.result in
     let most : j + many ≤ n / block_sectors v = omega (arith, c.row_len-many.ensures.most, many_are) in
     let end_row = blocks-end config v p n tree.data found loaded line is at c.checks.out (j + many) len most in
     let row_end : j * v.data_block + many * v.data_block ≤ length c.checks.out = omega (arith, end_row, add-mul j many v.data_block) in
-    let wide = block-begin config v p n tree.data found loaded line is at many in
-    let extent : c.data_extent-extent.result.first ≡ block_sectors v * (p.first / block_sectors v + j) = ap (λ (e : Extent). e.first) c.data_extent-extent.ensures.value ∙ ap (λ (k : ℕ). block_sectors v * k) index in
-    let part_len = length-take-le (j * v.data_block + many * v.data_block - j * v.data_block) (drop (j * v.data_block) c.checks.out) (omega (arith, row_end, length-drop (j * v.data_block) c.checks.out)) in
-    let row_sectors : length (take (j * v.data_block + many * v.data_block - j * v.data_block) (drop (j * v.data_block) c.checks.out)) / 512 ≡ many * block_sectors v = omega (arith, part_len, wide) in
     omega (arith, row_end, len, at.few)
 
 pub read_blocks-slice_bounds-digest_blocks-end : goal.read_blocks-slice_bounds-digest_blocks-end
@@ -1330,40 +1198,18 @@ read_blocks-slice_bounds-digest_blocks-end g t c =
     let n : ℕ = length c.args.out.now / 512 in
     let v = c.verity_at-verity.result.now in
     let tree = c.tree_at-tree.result in
-    let state = g.D.BlockDev.state in
-    let old = map state c.args.backing.now.devices.items in
     let found = c.args.found.now.items in
     let loaded = c.requires.stack.sound.loaded in
     let line = c.verity_at-verity.ensures in
     let is = c.tree_at-tree.ensures.tree.on_data in
     let at = blocks-at config v p n found tree.data loaded (omega (arith, c.requires.fits.sectors.some, c.requires.fits.sectors.whole)) line c.requires.fits.holds c.requires.can_go is in
-    let sectors : c.from.result ≡ block_sectors v = c.from.ensures in
     let whole_out : length c.args.out.now ≡ 512 * n = omega (arith, c.requires.fits.sectors.whole) in
     let many_are : length c.args.out.now / v.data_block ≡ n / block_sectors v = digest-count config v p n tree.data found loaded line is at c.args.out.now whole_out in
     let blocks_few = few-blocks config v p n tree.data found loaded line is at in
     let inv = c.checks.invariant in
     let j : ℕ = c.checks.at in
-    let r : ℕ = c.checks.read in
-    let len : length c.checks.out ≡ 512 * n = omega (arith, inv.size, whole_out) in
-    let inside : j < n / block_sectors v = omega (arith, c.checks-test.true, many_are) in
-    let read : r ≤ n / block_sectors v = omega (arith, inv.most, many_are) in
-    let index : p.first / c.from.result + j ≡ p.first / block_sectors v + j = ap (λ (k : ℕ). p.first / k + j) sectors in
-    let there : p.first / c.from.result + j < v.blocks = omega (arith, index, at.there j inside) in
-    let did : LeafRead = record { old = old; new = map state c.checks.backing.devices.items; before = found; after = inv.after } in
-    let end_j = blocks-end config v p n tree.data found loaded line is at c.checks.out (j + 1) len (omega (arith, inside)) in
-    let size = block-size config v p n tree.data found loaded line is at in
-    let walk = map state c.walk_path.new.backing.devices.items in
-    let way = map block_bytes (take (levels (tree_of v)) c.walk_path.new.path.items) in
-    let expected = c.in-Ok.expected in
-    let walked = subst (λ (k : ℕ). IsWalked (block_in config v k) 0 expected way did.new walk) index c.in-Ok.ensures.ok in
     let many : ℕ = c.row_len-many.result in
     let most : j + many ≤ n / block_sectors v = omega (arith, c.row_len-many.ensures.most, many_are) in
-    let end_row = blocks-end config v p n tree.data found loaded line is at c.checks.out (j + many) len most in
-    let row_end : j * v.data_block + many * v.data_block ≤ length c.checks.out = omega (arith, end_row, add-mul j many v.data_block) in
-    let wide = block-begin config v p n tree.data found loaded line is at many in
-    let extent : c.data_extent-extent.result.first ≡ block_sectors v * (p.first / block_sectors v + j) = ap (λ (e : Extent). e.first) c.data_extent-extent.ensures.value ∙ ap (λ (k : ℕ). block_sectors v * k) index in
-    let part_len = length-take-le (j * v.data_block + many * v.data_block - j * v.data_block) (drop (j * v.data_block) c.checks.out) (omega (arith, row_end, length-drop (j * v.data_block) c.checks.out)) in
-    let row_sectors : length (take (j * v.data_block + many * v.data_block - j * v.data_block) (drop (j * v.data_block) c.checks.out)) / 512 ≡ many * block_sectors v = omega (arith, part_len, wide) in
     omega (arith, inv.room, most, blocks_few, at.few)
 
 pub read_blocks-digest_blocks-requires-clause-whole : goal.read_blocks-digest_blocks-requires-clause-whole
@@ -1373,40 +1219,23 @@ read_blocks-digest_blocks-requires-clause-whole g t c =
     let n : ℕ = length c.args.out.now / 512 in
     let v = c.verity_at-verity.result.now in
     let tree = c.tree_at-tree.result in
-    let state = g.D.BlockDev.state in
-    let old = map state c.args.backing.now.devices.items in
     let found = c.args.found.now.items in
     let loaded = c.requires.stack.sound.loaded in
     let line = c.verity_at-verity.ensures in
     let is = c.tree_at-tree.ensures.tree.on_data in
     let at = blocks-at config v p n found tree.data loaded (omega (arith, c.requires.fits.sectors.some, c.requires.fits.sectors.whole)) line c.requires.fits.holds c.requires.can_go is in
-    let sectors : c.from.result ≡ block_sectors v = c.from.ensures in
     let whole_out : length c.args.out.now ≡ 512 * n = omega (arith, c.requires.fits.sectors.whole) in
     let many_are : length c.args.out.now / v.data_block ≡ n / block_sectors v = digest-count config v p n tree.data found loaded line is at c.args.out.now whole_out in
-    let blocks_few = few-blocks config v p n tree.data found loaded line is at in
     let inv = c.checks.invariant in
     let j : ℕ = c.checks.at in
-    let r : ℕ = c.checks.read in
     let len : length c.checks.out ≡ 512 * n = omega (arith, inv.size, whole_out) in
     let inside : j < n / block_sectors v = omega (arith, c.checks-test.true, many_are) in
-    let read : r ≤ n / block_sectors v = omega (arith, inv.most, many_are) in
-    let index : p.first / c.from.result + j ≡ p.first / block_sectors v + j = ap (λ (k : ℕ). p.first / k + j) sectors in
-    let there : p.first / c.from.result + j < v.blocks = omega (arith, index, at.there j inside) in
-    let did : LeafRead = record { old = old; new = map state c.checks.backing.devices.items; before = found; after = inv.after } in
     let end_j = blocks-end config v p n tree.data found loaded line is at c.checks.out (j + 1) len (omega (arith, inside)) in
-    let size = block-size config v p n tree.data found loaded line is at in
-    let walk = map state c.walk_path.new.backing.devices.items in
-    let way = map block_bytes (take (levels (tree_of v)) c.walk_path.new.path.items) in
-    let expected = c.in-Ok.expected in
-    let walked = subst (λ (k : ℕ). IsWalked (block_in config v k) 0 expected way did.new walk) index c.in-Ok.ensures.ok in
     let many : ℕ = c.row_len-many.result in
     let most : j + many ≤ n / block_sectors v = omega (arith, c.row_len-many.ensures.most, many_are) in
     let end_row = blocks-end config v p n tree.data found loaded line is at c.checks.out (j + many) len most in
     let row_end : j * v.data_block + many * v.data_block ≤ length c.checks.out = omega (arith, end_row, add-mul j many v.data_block) in
-    let wide = block-begin config v p n tree.data found loaded line is at many in
-    let extent : c.data_extent-extent.result.first ≡ block_sectors v * (p.first / block_sectors v + j) = ap (λ (e : Extent). e.first) c.data_extent-extent.ensures.value ∙ ap (λ (k : ℕ). block_sectors v * k) index in
     let part_len = length-take-le (j * v.data_block + many * v.data_block - j * v.data_block) (drop (j * v.data_block) c.checks.out) (omega (arith, row_end, length-drop (j * v.data_block) c.checks.out)) in
-    let row_sectors : length (take (j * v.data_block + many * v.data_block - j * v.data_block) (drop (j * v.data_block) c.checks.out)) / 512 ≡ many * block_sectors v = omega (arith, part_len, wide) in
     let row : List ℕ = c.read_beneath.new.out in
     let a : ℕ = j * v.data_block in
     let w : ℕ = j * v.data_block + many * v.data_block - j * v.data_block in
@@ -1414,11 +1243,7 @@ read_blocks-digest_blocks-requires-clause-whole g t c =
     let out1 : List ℕ = put_mid a w c.checks.out row in
     let w_is : w ≡ many * v.data_block = omega arith in
     let row_is : length row ≡ w = omega (arith, c.read_beneath.auto.out, part_len) in
-    let out1_len : length out1 ≡ 512 * n = same_len_mid a w c.checks.out row (omega (arith, row_is, part_len)) ∙ len in
     let row2_is : take w (drop a out1) ≡ row = between-put_mid a w c.checks.out row (a + many * v.data_block) fits row_is in
-    let end1 = blocks-end config v p n tree.data found loaded line is at out1 (j + 1) out1_len (omega (arith, inside)) in
-    let some_size : 0 < v.data_block = omega (arith, size, at.size.some) in
-    let made_few : j + many ≤ 128 = omega (arith, most, blocks_few, at.few) in
     ap (λ (l : List ℕ). length l % v.data_block) row2_is ∙ ap (λ (k : ℕ). k % v.data_block) (row_is ∙ w_is) ∙ mul-mod_left many v.data_block
 
 pub read_blocks-digest_blocks-requires-clause-count : goal.read_blocks-digest_blocks-requires-clause-count
@@ -1428,40 +1253,25 @@ read_blocks-digest_blocks-requires-clause-count g t c =
     let n : ℕ = length c.args.out.now / 512 in
     let v = c.verity_at-verity.result.now in
     let tree = c.tree_at-tree.result in
-    let state = g.D.BlockDev.state in
-    let old = map state c.args.backing.now.devices.items in
     let found = c.args.found.now.items in
     let loaded = c.requires.stack.sound.loaded in
     let line = c.verity_at-verity.ensures in
     let is = c.tree_at-tree.ensures.tree.on_data in
     let at = blocks-at config v p n found tree.data loaded (omega (arith, c.requires.fits.sectors.some, c.requires.fits.sectors.whole)) line c.requires.fits.holds c.requires.can_go is in
-    let sectors : c.from.result ≡ block_sectors v = c.from.ensures in
     let whole_out : length c.args.out.now ≡ 512 * n = omega (arith, c.requires.fits.sectors.whole) in
     let many_are : length c.args.out.now / v.data_block ≡ n / block_sectors v = digest-count config v p n tree.data found loaded line is at c.args.out.now whole_out in
     let blocks_few = few-blocks config v p n tree.data found loaded line is at in
     let inv = c.checks.invariant in
     let j : ℕ = c.checks.at in
-    let r : ℕ = c.checks.read in
     let len : length c.checks.out ≡ 512 * n = omega (arith, inv.size, whole_out) in
     let inside : j < n / block_sectors v = omega (arith, c.checks-test.true, many_are) in
-    let read : r ≤ n / block_sectors v = omega (arith, inv.most, many_are) in
-    let index : p.first / c.from.result + j ≡ p.first / block_sectors v + j = ap (λ (k : ℕ). p.first / k + j) sectors in
-    let there : p.first / c.from.result + j < v.blocks = omega (arith, index, at.there j inside) in
-    let did : LeafRead = record { old = old; new = map state c.checks.backing.devices.items; before = found; after = inv.after } in
     let end_j = blocks-end config v p n tree.data found loaded line is at c.checks.out (j + 1) len (omega (arith, inside)) in
     let size = block-size config v p n tree.data found loaded line is at in
-    let walk = map state c.walk_path.new.backing.devices.items in
-    let way = map block_bytes (take (levels (tree_of v)) c.walk_path.new.path.items) in
-    let expected = c.in-Ok.expected in
-    let walked = subst (λ (k : ℕ). IsWalked (block_in config v k) 0 expected way did.new walk) index c.in-Ok.ensures.ok in
     let many : ℕ = c.row_len-many.result in
     let most : j + many ≤ n / block_sectors v = omega (arith, c.row_len-many.ensures.most, many_are) in
     let end_row = blocks-end config v p n tree.data found loaded line is at c.checks.out (j + many) len most in
     let row_end : j * v.data_block + many * v.data_block ≤ length c.checks.out = omega (arith, end_row, add-mul j many v.data_block) in
-    let wide = block-begin config v p n tree.data found loaded line is at many in
-    let extent : c.data_extent-extent.result.first ≡ block_sectors v * (p.first / block_sectors v + j) = ap (λ (e : Extent). e.first) c.data_extent-extent.ensures.value ∙ ap (λ (k : ℕ). block_sectors v * k) index in
     let part_len = length-take-le (j * v.data_block + many * v.data_block - j * v.data_block) (drop (j * v.data_block) c.checks.out) (omega (arith, row_end, length-drop (j * v.data_block) c.checks.out)) in
-    let row_sectors : length (take (j * v.data_block + many * v.data_block - j * v.data_block) (drop (j * v.data_block) c.checks.out)) / 512 ≡ many * block_sectors v = omega (arith, part_len, wide) in
     let row : List ℕ = c.read_beneath.new.out in
     let a : ℕ = j * v.data_block in
     let w : ℕ = j * v.data_block + many * v.data_block - j * v.data_block in
@@ -1469,9 +1279,7 @@ read_blocks-digest_blocks-requires-clause-count g t c =
     let out1 : List ℕ = put_mid a w c.checks.out row in
     let w_is : w ≡ many * v.data_block = omega arith in
     let row_is : length row ≡ w = omega (arith, c.read_beneath.auto.out, part_len) in
-    let out1_len : length out1 ≡ 512 * n = same_len_mid a w c.checks.out row (omega (arith, row_is, part_len)) ∙ len in
     let row2_is : take w (drop a out1) ≡ row = between-put_mid a w c.checks.out row (a + many * v.data_block) fits row_is in
-    let end1 = blocks-end config v p n tree.data found loaded line is at out1 (j + 1) out1_len (omega (arith, inside)) in
     let some_size : 0 < v.data_block = omega (arith, size, at.size.some) in
     let made_few : j + many ≤ 128 = omega (arith, most, blocks_few, at.few) in
     length-take-le (j + many - j) (drop j c.checks.made) (omega (arith, inv.room, made_few, length-drop j c.checks.made))
@@ -1484,28 +1292,17 @@ read_blocks-bounds-made-at g t c =
     let n : ℕ = length c.args.out.now / 512 in
     let v = c.verity_at-verity.result.now in
     let tree = c.tree_at-tree.result in
-    let state = g.D.BlockDev.state in
-    let old = map state c.args.backing.now.devices.items in
     let found = c.args.found.now.items in
     let loaded = c.requires.stack.sound.loaded in
     let line = c.verity_at-verity.ensures in
     let is = c.tree_at-tree.ensures.tree.on_data in
     let at = blocks-at config v p n found tree.data loaded (omega (arith, c.requires.fits.sectors.some, c.requires.fits.sectors.whole)) line c.requires.fits.holds c.requires.can_go is in
-    let sectors : c.from.result ≡ block_sectors v = c.from.ensures in
     let whole_out : length c.args.out.now ≡ 512 * n = omega (arith, c.requires.fits.sectors.whole) in
     let many_are : length c.args.out.now / v.data_block ≡ n / block_sectors v = digest-count config v p n tree.data found loaded line is at c.args.out.now whole_out in
     let blocks_few = few-blocks config v p n tree.data found loaded line is at in
     let inv = c.checks.invariant in
     let j : ℕ = c.checks.at in
-    let r : ℕ = c.checks.read in
-    let len : length c.checks.out ≡ 512 * n = omega (arith, inv.size, whole_out) in
     let inside : j < n / block_sectors v = omega (arith, c.checks-test.true, many_are) in
-    let read : r ≤ n / block_sectors v = omega (arith, inv.most, many_are) in
-    let index : p.first / c.from.result + j ≡ p.first / block_sectors v + j = ap (λ (k : ℕ). p.first / k + j) sectors in
-    let there : p.first / c.from.result + j < v.blocks = omega (arith, index, at.there j inside) in
-    let did : LeafRead = record { old = old; new = map state c.checks.backing.devices.items; before = found; after = inv.after } in
-    let end_j = blocks-end config v p n tree.data found loaded line is at c.checks.out (j + 1) len (omega (arith, inside)) in
-    let size = block-size config v p n tree.data found loaded line is at in
     omega (arith, same_len_mid j (j + c.row_len-many.result - j) c.checks.made c.digest_blocks.new.out c.digest_blocks.auto.out, inv.room, inside, blocks_few, at.few)
 
 pub read_blocks-slice_bounds-settle-end : goal.read_blocks-slice_bounds-settle-end
@@ -1515,52 +1312,29 @@ read_blocks-slice_bounds-settle-end g t c =
     let n : ℕ = length c.args.out.now / 512 in
     let v = c.verity_at-verity.result.now in
     let tree = c.tree_at-tree.result in
-    let state = g.D.BlockDev.state in
-    let old = map state c.args.backing.now.devices.items in
     let found = c.args.found.now.items in
     let loaded = c.requires.stack.sound.loaded in
     let line = c.verity_at-verity.ensures in
     let is = c.tree_at-tree.ensures.tree.on_data in
     let at = blocks-at config v p n found tree.data loaded (omega (arith, c.requires.fits.sectors.some, c.requires.fits.sectors.whole)) line c.requires.fits.holds c.requires.can_go is in
-    let sectors : c.from.result ≡ block_sectors v = c.from.ensures in
     let whole_out : length c.args.out.now ≡ 512 * n = omega (arith, c.requires.fits.sectors.whole) in
     let many_are : length c.args.out.now / v.data_block ≡ n / block_sectors v = digest-count config v p n tree.data found loaded line is at c.args.out.now whole_out in
-    let blocks_few = few-blocks config v p n tree.data found loaded line is at in
     let inv = c.checks.invariant in
     let j : ℕ = c.checks.at in
-    let r : ℕ = c.checks.read in
     let len : length c.checks.out ≡ 512 * n = omega (arith, inv.size, whole_out) in
     let inside : j < n / block_sectors v = omega (arith, c.checks-test.true, many_are) in
-    let read : r ≤ n / block_sectors v = omega (arith, inv.most, many_are) in
-    let index : p.first / c.from.result + j ≡ p.first / block_sectors v + j = ap (λ (k : ℕ). p.first / k + j) sectors in
-    let there : p.first / c.from.result + j < v.blocks = omega (arith, index, at.there j inside) in
-    let did : LeafRead = record { old = old; new = map state c.checks.backing.devices.items; before = found; after = inv.after } in
-    let end_j = blocks-end config v p n tree.data found loaded line is at c.checks.out (j + 1) len (omega (arith, inside)) in
-    let size = block-size config v p n tree.data found loaded line is at in
-    let walk = map state c.walk_path.new.backing.devices.items in
-    let way = map block_bytes (take (levels (tree_of v)) c.walk_path.new.path.items) in
-    let expected = c.in-Ok.expected in
-    let walked = subst (λ (k : ℕ). IsWalked (block_in config v k) 0 expected way did.new walk) index c.in-Ok.ensures.ok in
     let many : ℕ = c.row_len-many.result in
     let most : j + many ≤ n / block_sectors v = omega (arith, c.row_len-many.ensures.most, many_are) in
     let end_row = blocks-end config v p n tree.data found loaded line is at c.checks.out (j + many) len most in
     let row_end : j * v.data_block + many * v.data_block ≤ length c.checks.out = omega (arith, end_row, add-mul j many v.data_block) in
-    let wide = block-begin config v p n tree.data found loaded line is at many in
-    let extent : c.data_extent-extent.result.first ≡ block_sectors v * (p.first / block_sectors v + j) = ap (λ (e : Extent). e.first) c.data_extent-extent.ensures.value ∙ ap (λ (k : ℕ). block_sectors v * k) index in
     let part_len = length-take-le (j * v.data_block + many * v.data_block - j * v.data_block) (drop (j * v.data_block) c.checks.out) (omega (arith, row_end, length-drop (j * v.data_block) c.checks.out)) in
-    let row_sectors : length (take (j * v.data_block + many * v.data_block - j * v.data_block) (drop (j * v.data_block) c.checks.out)) / 512 ≡ many * block_sectors v = omega (arith, part_len, wide) in
     let row : List ℕ = c.read_beneath.new.out in
     let a : ℕ = j * v.data_block in
     let w : ℕ = j * v.data_block + many * v.data_block - j * v.data_block in
-    let fits : a ≤ length c.checks.out = omega (arith, end_j, add-mul j 1 v.data_block) in
     let out1 : List ℕ = put_mid a w c.checks.out row in
-    let w_is : w ≡ many * v.data_block = omega arith in
     let row_is : length row ≡ w = omega (arith, c.read_beneath.auto.out, part_len) in
     let out1_len : length out1 ≡ 512 * n = same_len_mid a w c.checks.out row (omega (arith, row_is, part_len)) ∙ len in
-    let row2_is : take w (drop a out1) ≡ row = between-put_mid a w c.checks.out row (a + many * v.data_block) fits row_is in
     let end1 = blocks-end config v p n tree.data found loaded line is at out1 (j + 1) out1_len (omega (arith, inside)) in
-    let some_size : 0 < v.data_block = omega (arith, size, at.size.some) in
-    let made_few : j + many ≤ 128 = omega (arith, most, blocks_few, at.few) in
     omega (arith, end1, add-mul j 1 v.data_block)
 
 pub read_blocks-returns-then-not-settle-clause-reads : goal.read_blocks-returns-then-not-settle-clause-reads
@@ -1588,7 +1362,6 @@ read_blocks-returns-then-not-settle-clause-reads g t c =
     let inside : j < n / block_sectors v = omega (arith, c.checks-test.true, many_are) in
     let read : r ≤ n / block_sectors v = omega (arith, inv.most, many_are) in
     let index : p.first / c.from.result + j ≡ p.first / block_sectors v + j = ap (λ (k : ℕ). p.first / k + j) sectors in
-    let there : p.first / c.from.result + j < v.blocks = omega (arith, index, at.there j inside) in
     let did : LeafRead = record { old = old; new = map state c.checks.backing.devices.items; before = found; after = inv.after } in
     let end_j = blocks-end config v p n tree.data found loaded line is at c.checks.out (j + 1) len (omega (arith, inside)) in
     let size = block-size config v p n tree.data found loaded line is at in
@@ -1617,17 +1390,13 @@ read_blocks-returns-then-not-settle-clause-reads g t c =
     let out1 : List ℕ = put_mid a w c.checks.out row in
     let w_is : w ≡ many * v.data_block = omega arith in
     let row_is : length row ≡ w = omega (arith, c.read_beneath.auto.out, part_len) in
-    let out1_len : length out1 ≡ 512 * n = same_len_mid a w c.checks.out row (omega (arith, row_is, part_len)) ∙ len in
     let row2_is : take w (drop a out1) ≡ row = between-put_mid a w c.checks.out row (a + many * v.data_block) fits row_is in
-    let end1 = blocks-end config v p n tree.data found loaded line is at out1 (j + 1) out1_len (omega (arith, inside)) in
-    let some_size : 0 < v.data_block = omega (arith, size, at.size.some) in
     let made_few : j + many ≤ 128 = omega (arith, most, blocks_few, at.few) in
     let made_w : ℕ = j + many - j in
     let made1 : List (List ℕ) = put_mid j made_w c.checks.made c.digest_blocks.new.out in
     let made1_is : made1 ≡ put_mid j many c.checks.made (map (digest v.salt) (cut v.data_block row)) =
     ap (λ (k : ℕ). put_mid j k c.checks.made c.digest_blocks.new.out) (omega arith)
     ∙ ap (λ (l : List (List ℕ)). put_mid j many c.checks.made l) (c.digest_blocks.ensures ∙ ap (λ (l : List ℕ). map (digest v.salt) (cut v.data_block l)) row2_is) in
-    let made1_len : length made1 ≡ 128 = same_len_mid j made_w c.checks.made c.digest_blocks.new.out c.digest_blocks.auto.out ∙ inv.room in
     let ahead = row-ahead config v p n tree.data found loaded line is at r j many c.checks.out expected way did walk inside read most c.row_len-many.ensures.fresh inv.had c.in-Ok.ensures.moved to c.read_as_far-read.ensures walked new row c.checks.made made1 gets.chains
     (all-whole state g.met.D.BlockDev.whole c.walk_path.new.backing.devices.items) len inv.room made_few inv.ahead got made1_is in
     let ahead1 : AreReadAhead config v p tree.data j to out1 made1 old = subst (λ (k : ℕ). AreReadAhead config v p tree.data j to (put_mid a k c.checks.out row) made1 old) (sym w_is) ahead in
@@ -1636,7 +1405,6 @@ read_blocks-returns-then-not-settle-clause-reads g t c =
     let ws : ℕ = a + v.data_block - a in
     let ws_is : ws ≡ 512 * block_sectors v = omega (arith, size) in
     let stood : List ℕ = take ws (drop a out1) in
-    let stood_len : length stood ≡ ws = length-take-le ws (drop a out1) (omega (arith, end1, add-mul j 1 v.data_block, length-drop a out1)) in
     let begin = block-begin config v p n tree.data found loaded line is at j in
     let stood_is : stood ≡ take (512 * block_sectors v) (drop (512 * (j * block_sectors v)) out1) =
     ap (λ (k : ℕ). take k (drop a out1)) ws_is ∙ ap (λ (k : ℕ). take (512 * block_sectors v) (drop k out1)) begin in
@@ -1646,7 +1414,6 @@ read_blocks-returns-then-not-settle-clause-reads g t c =
       | inr high ↦ omega (arith, c.row_len-many.ensures.some taken high, c.read_as_far-read.ensures)
     ] in
     let was : c.is_ignored-ignored.result ≡ false → IsRead config v p tree.data old j stood made_j = λ taken. subst (λ (l : List ℕ). IsRead config v p tree.data old j l made_j) (sym stood_is) (ahead1 j (omega arith) (within_to taken) c.index-made-at.result) in
-    let cached_now : KeepsCache config new c.args.backing.now.cache c.read_beneath.new.backing.cache = record { capacity = c.in-Ok-read_beneath.ensures.cached.capacity ∙ c.in-Ok.ensures.cached.capacity ∙ inv.cached.capacity; sound = c.in-Ok-read_beneath.ensures.cached.sound } in
     let other = c.if-not-settle.ensures.other refl in
     let got_other = block-other config v p n (n / block_sectors v) loaded line at.aligned at.size at.count tree.data is j next.later next.walked stood made_j (sym c.is_ignored-ignored.ensures ∙ other.0) (was other.0) other.1 in
     record { after = inv.after; out = inv.out; reads = next-differs config v p n tree.data found loaded line is at to j c.checks.out expected way did1 inside far_to next got_other }
@@ -1684,7 +1451,6 @@ read_blocks-returns-in-Err-keep-clause-reads g t c =
     let inside : j < n / block_sectors v = omega (arith, c.checks-test.true, many_are) in
     let read : r ≤ n / block_sectors v = omega (arith, inv.most, many_are) in
     let index : p.first / c.from.result + j ≡ p.first / block_sectors v + j = ap (λ (k : ℕ). p.first / k + j) sectors in
-    let there : p.first / c.from.result + j < v.blocks = omega (arith, index, at.there j inside) in
     let did : LeafRead = record { old = old; new = map state c.checks.backing.devices.items; before = found; after = inv.after } in
     let end_j = blocks-end config v p n tree.data found loaded line is at c.checks.out (j + 1) len (omega (arith, inside)) in
     let size = block-size config v p n tree.data found loaded line is at in
@@ -1711,38 +1477,28 @@ read_blocks-returns-in-Err-keep-clause-reads g t c =
     let w : ℕ = j * v.data_block + many * v.data_block - j * v.data_block in
     let fits : a ≤ length c.checks.out = omega (arith, end_j, add-mul j 1 v.data_block) in
     let out1 : List ℕ = put_mid a w c.checks.out row in
-    let w_is : w ≡ many * v.data_block = omega arith in
     let row_is : length row ≡ w = omega (arith, c.read_beneath.auto.out, part_len) in
-    let out1_len : length out1 ≡ 512 * n = same_len_mid a w c.checks.out row (omega (arith, row_is, part_len)) ∙ len in
     let row2_is : take w (drop a out1) ≡ row = between-put_mid a w c.checks.out row (a + many * v.data_block) fits row_is in
-    let end1 = blocks-end config v p n tree.data found loaded line is at out1 (j + 1) out1_len (omega (arith, inside)) in
-    let some_size : 0 < v.data_block = omega (arith, size, at.size.some) in
     let made_few : j + many ≤ 128 = omega (arith, most, blocks_few, at.few) in
     let made_w : ℕ = j + many - j in
     let made1 : List (List ℕ) = put_mid j made_w c.checks.made c.digest_blocks.new.out in
     let made1_is : made1 ≡ put_mid j many c.checks.made (map (digest v.salt) (cut v.data_block row)) =
     ap (λ (k : ℕ). put_mid j k c.checks.made c.digest_blocks.new.out) (omega arith)
     ∙ ap (λ (l : List (List ℕ)). put_mid j many c.checks.made l) (c.digest_blocks.ensures ∙ ap (λ (l : List ℕ). map (digest v.salt) (cut v.data_block l)) row2_is) in
-    let made1_len : length made1 ≡ 128 = same_len_mid j made_w c.checks.made c.digest_blocks.new.out c.digest_blocks.auto.out ∙ inv.room in
     let ahead = row-ahead config v p n tree.data found loaded line is at r j many c.checks.out expected way did walk inside read most c.row_len-many.ensures.fresh inv.had c.in-Ok.ensures.moved to c.read_as_far-read.ensures walked new row c.checks.made made1 gets.chains
     (all-whole state g.met.D.BlockDev.whole c.walk_path.new.backing.devices.items) len inv.room made_few inv.ahead got made1_is in
-    let ahead1 : AreReadAhead config v p tree.data j to out1 made1 old = subst (λ (k : ℕ). AreReadAhead config v p tree.data j to (put_mid a k c.checks.out row) made1 old) (sym w_is) ahead in
     let far_to = far config v p n tree.data found loaded line is at r j many c.checks.out expected way did walk inside read most c.row_len-many.ensures.fresh inv.had c.in-Ok.ensures.moved to c.read_as_far-read.ensures walked in
     let did1 : LeafRead = record { old = old; new = new; before = found; after = inv.after } in
     let ws : ℕ = a + v.data_block - a in
     let ws_is : ws ≡ 512 * block_sectors v = omega (arith, size) in
     let stood : List ℕ = take ws (drop a out1) in
-    let stood_len : length stood ≡ ws = length-take-le ws (drop a out1) (omega (arith, end1, add-mul j 1 v.data_block, length-drop a out1)) in
     let begin = block-begin config v p n tree.data found loaded line is at j in
     let stood_is : stood ≡ take (512 * block_sectors v) (drop (512 * (j * block_sectors v)) out1) =
     ap (λ (k : ℕ). take k (drop a out1)) ws_is ∙ ap (λ (k : ℕ). take (512 * block_sectors v) (drop k out1)) begin in
-    let made_j : List ℕ = get_or made1 j c.index-made-at.result in
     let within_to : c.is_ignored-ignored.result ≡ false → j < to = λ taken. elim (cases_lt j r) [
       | inl low ↦ omega (arith, low, c.read_as_far-read.ensures)
       | inr high ↦ omega (arith, c.row_len-many.ensures.some taken high, c.read_as_far-read.ensures)
     ] in
-    let was : c.is_ignored-ignored.result ≡ false → IsRead config v p tree.data old j stood made_j = λ taken. subst (λ (l : List ℕ). IsRead config v p tree.data old j l made_j) (sym stood_is) (ahead1 j (omega arith) (within_to taken) c.index-made-at.result) in
-    let cached_now : KeepsCache config new c.args.backing.now.cache c.read_beneath.new.backing.cache = record { capacity = c.in-Ok-read_beneath.ensures.cached.capacity ∙ c.in-Ok.ensures.cached.capacity ∙ inv.cached.capacity; sound = c.in-Ok-read_beneath.ensures.cached.sound } in
     record {
       after = inv.after;
       out = subst (AreHandedOut c.args.chains found inv.after) (sym c.in-Err-keep.ensures.err) inv.out;
@@ -1878,10 +1634,8 @@ read_blocks-returns-clause-reads g t c =
     let line = c.verity_at-verity.ensures in
     let is = c.tree_at-tree.ensures.tree.on_data in
     let at = blocks-at config v p n found tree.data loaded (omega (arith, c.requires.fits.sectors.some, c.requires.fits.sectors.whole)) line c.requires.fits.holds c.requires.can_go is in
-    let sectors : c.from.result ≡ block_sectors v = c.from.ensures in
     let whole_out : length c.args.out.now ≡ 512 * n = omega (arith, c.requires.fits.sectors.whole) in
     let many_are : length c.args.out.now / v.data_block ≡ n / block_sectors v = digest-count config v p n tree.data found loaded line is at c.args.out.now whole_out in
-    let blocks_few = few-blocks config v p n tree.data found loaded line is at in
     let inv = c.checks.invariant in
     let len : length c.checks.out ≡ 512 * n = omega (arith, inv.size, whole_out) in
     let did : LeafRead = record { old = old; new = map state c.checks.backing.devices.items; before = found; after = inv.after } in
@@ -2058,7 +1812,6 @@ read_blocks-returns-clause-touches g t c = c.checks.invariant.touches
 pub read_device-loop-at-init : goal.read_device-loop-at-init
 read_device-loop-at-init g t c =
     let config = c.args.config.now in
-    let place = place_of config (mapped c.args.d.0) in
     let old = map g.D.BlockDev.state c.args.backing.now.devices.items in
     let found = c.args.found.now.items in
     record {
