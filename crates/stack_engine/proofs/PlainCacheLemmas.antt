@@ -1,8 +1,7 @@
 -- Where no verity line is on the way of some sectors, none is on the way of those beneath them: so a read leaves the cache as it is.
-use Rattle.std.proofs.Common.{◌≡◌, ℕ, ◌+◌, ◌<◌, ◌≤◌, [], Some, Ok, Err, refl}
-use Rattle.dm_table.specs.declared.crypt.Crypt.{Crypt}
+use Rattle.std.proofs.Common.{ℕ, ◌+◌, ◌<◌, ◌≤◌, [], Ok, Err, refl}
 use Rattle.stack_rules.specs.declared.lower.Lower.{Lower}
-use Rattle.stack_rules.specs.Names.{mapped, named}
+use Rattle.stack_rules.specs.Names.{mapped}
 use Rattle.stack_rules.specs.Records.{Configuration}
 use Rattle.stack_rules.specs.Rules.{IsLoaded}
 use Rattle.stack_meaning.specs.declared.fault.IoFault.TheVariants as io
@@ -11,10 +10,11 @@ use Rattle.stack_meaning.specs.Reading.{IsPlain, MeetVerity}
 use Rattle.stack_meaning.specs.Units.{unit_first}
 use Rattle.stack_meaning.proofs.lemmas.PlainLemmas.{plain-none}
 use Rattle.stack_lines.specs.declared.source.BlockPart.{BlockPart}
+use Rattle.stack_lines.specs.declared.source.CryptPart.{CryptPart}
 use Rattle.stack_lines.specs.declared.source.Source.{Source}
 use Rattle.stack_lines.specs.declared.source.Source.TheVariants.{Below, Units, UnitPart, Block, Blocks}
 use Rattle.stack_lines.specs.declared.units.WholeUnit.{WholeUnit}
-use Rattle.stack_lines.specs.Sources.{AreWholeBlocks, AreUnits, HasCrypt, IsServed, IsWholeOf, LieInBlock, LieInUnit, source_said}
+use Rattle.stack_lines.specs.Sources.{AreWholeBlocks, AreUnits, IsServed, IsWholeOf, LieInBlock, LieInUnit, source_said}
 use Rattle.stack_lines.proofs.lemmas.SourceLemmas.{below_plain, device_plain}
 use Rattle.stack_lines.proofs.lemmas.UnitSourceLemmas.{part-plain, units-plain}
 use Rattle.stack_engine.proofs.BlockPartLemmas.{block_plain}
@@ -36,13 +36,11 @@ module _ (c : Configuration) where
       (device_plain c d first a m n source loaded h served none (met (source_said c source) 0 m some)).memory refl
 
   -- units of a crypt line, and part of one
-  pub meets-units : (b : BlockPart) (n : ℕ) (crypt : Crypt) → IsLoaded c → HasCrypt c b.device.0 b.line crypt → AreUnits c b.device.0 b.line b.first n → (lower : Lower) → named c crypt.base.device ≡ Some lower
-      → MeetVerity (said_at c lower) (unit_first crypt b.first) n → MeetVerity (source_said c (Units b)) 0 n
-  meets-units b n crypt loaded has units lower is some = (units-plain c b n crypt loaded has units lower is (met (said_at c lower) (unit_first crypt b.first) n some)).memory refl
+  pub meets-units : (x : CryptPart) (n : ℕ) → AreUnits c x n → MeetVerity (said_at c x.lower) (unit_first x.crypt.now x.first) n → MeetVerity (source_said c (Units x)) 0 n
+  meets-units x n units some = (units-plain c x n units (met (said_at c x.lower) (unit_first x.crypt.now x.first) n some)).memory refl
 
-  pub meets-part : (b : BlockPart) (whole : WholeUnit) (n : ℕ) → IsLoaded c → IsWholeOf c b whole → LieInUnit c b.device.0 b.line b.first n → 0 < n
-      → MeetVerity (source_said c (Units whole.from)) 0 whole.sectors → MeetVerity (source_said c (UnitPart b)) 0 n
-  meets-part b whole n loaded of lies some x = (part-plain c b whole n loaded of lies some (met (source_said c (Units whole.from)) 0 whole.sectors x)).memory refl
+  pub meets-part : (x : CryptPart) (whole : WholeUnit) (n : ℕ) → IsWholeOf x whole → LieInUnit c x n → 0 < n → MeetVerity (source_said c (Units whole.from)) 0 whole.sectors → MeetVerity (source_said c (UnitPart x)) 0 n
+  meets-part x whole n of lies some y = (part-plain c x whole n of lies some (met (source_said c (Units whole.from)) 0 whole.sectors y)).memory refl
 
   -- data blocks meet their own line
   pub meets-block : (b : BlockPart) (n : ℕ) → 0 < n → LieInBlock c b.device.0 b.line b.first n → MeetVerity (source_said c (Block b)) 0 n

@@ -2,7 +2,6 @@
 use Rattle.std.proofs.Common.{◌≡◌, ℕ, ◌+◌, ◌-◌, ◌*◌, ◌/◌, ◌%◌, ◌<◌, ◌≤◌, ◌⊎◌, false, List, Some, inl, inr, sym, ap, ◌∙◌, arith}
 use Rattle.std.proofs.Math.Nat.{add-mul, mul-add, mul_assoc, mul-le-mul_right}
 use Rattle.block_device.specs.Device.{Device}
-use Rattle.dm_table.specs.declared.crypt.Crypt.{Crypt}
 use Rattle.dm_table.specs.declared.verity.Verity.{Verity}
 use Rattle.dm_table.specs.declared.table.Target.TheVariants.{Verity as verity_target}
 use Rattle.stack_rules.specs.declared.lower.Lower.{Lower}
@@ -20,14 +19,15 @@ use Rattle.stack_meaning.specs.Places.{Place}
 use Rattle.stack_meaning.specs.Puts.{in_one_run}
 use Rattle.stack_meaning.proofs.lemmas.CostLemmas.{cost-leaf}
 use Rattle.stack_lines.specs.declared.source.BlockPart.{BlockPart}
+use Rattle.stack_lines.specs.declared.source.CryptPart.{CryptPart}
 use Rattle.stack_lines.specs.declared.source.Source.{Source}
 use Rattle.stack_lines.specs.declared.source.Source.TheVariants.{Units, UnitPart}
 use Rattle.stack_lines.specs.declared.units.WholeUnit.{WholeUnit}
-use Rattle.stack_lines.specs.Budgets.{ReadsAtMost, budget, part_budget, source_budget}
-use Rattle.stack_lines.specs.Sources.{AreUnits, LieInUnit, IsWholeOf, HasCrypt, IsServed, EndsRun}
+use Rattle.stack_lines.specs.Budgets.{ReadsAtMost, budget, crypt_budget, part_budget, source_budget}
+use Rattle.stack_lines.specs.Sources.{AreUnits, LieInUnit, IsWholeOf, from_unit, IsServed, EndsRun}
 use Rattle.stack_lines.specs.Walks.{HasVerity, block_in, chain_expected}
 use Rattle.stack_lines.proofs.lemmas.BudgetLemmas.{budget-leaf, budget-apart, served-budget, units-budget, unit-budget, blocks-budget, block-budget}
-use Rattle.stack_lines.proofs.lemmas.UnitSourceLemmas.{units-aligned, units-whole, lies_in, begin-whole}
+use Rattle.stack_lines.proofs.lemmas.UnitSourceLemmas.{units-of}
 use Rattle.stack_lines.proofs.lemmas.VerityLineLemmas.{place-named}
 use Rattle.stack_engine.proofs.BlocksLemmas.{path_cost, read_cost_so_far}
 
@@ -72,25 +72,18 @@ leaf-spent c i first n read =
 
 -- ---- units
 
-pub units-spent : (c : Configuration) (b : BlockPart) (n : ℕ) (crypt : Crypt) (lower : Lower) {old new : List Device} → IsLoaded c → HasCrypt c b.device.0 b.line crypt → AreUnits c b.device.0 b.line b.first n → named c crypt.base.device ≡ Some lower
-    → AreRead old (n * read_cost c lower) new → ReadsAtMost (part_budget c b n) old new
-units-spent c b n crypt lower loaded has units is read =
-    let aligned = units-aligned c b.device.0 b.line b.first n crypt loaded has units in
-    let whole = units-whole c b.device.0 b.line b.first n crypt loaded has units in
-    let count : n / unit_sectors crypt * unit_sectors crypt ≡ n = omega (arith, div-add-mod' n (unit_sectors crypt), whole) in
-    omega (arith, read.moved.reads.sum, units-budget c b n 0 crypt (n / unit_sectors crypt) lower has is aligned count)
+pub units-spent : (c : Configuration) (x : CryptPart) (n : ℕ) {old new : List Device} → AreUnits c x n → AreRead old (n * read_cost c x.lower) new → ReadsAtMost (crypt_budget c x n) old new
+units-spent c x n units read =
+    let count : n / unit_sectors x.crypt.now * unit_sectors x.crypt.now ≡ n = omega (arith, div-add-mod' n (unit_sectors x.crypt.now), units.whole) in
+    omega (arith, read.moved.reads.sum, units-budget c x n (n / unit_sectors x.crypt.now) units.of units.aligned count)
 
-module _ (c : Configuration) (b : BlockPart) (whole : WholeUnit) (n : ℕ) (loaded : IsLoaded c) (of : IsWholeOf c b whole) (lies : LieInUnit c b.device.0 b.line b.first n) (some : 0 < n) where
-  -- a part of a unit costs what the whole one does
-  pub unit-spent : (old new : List Device) → ReadsAtMost (source_budget c (Units whole.from) whole.sectors) old new → ReadsAtMost (source_budget c (UnitPart b) n) old new
-  unit-spent old new spent =
-      let u : ℕ = unit_sectors of.crypt in
-      let from : BlockPart = record { device = b.device; line = b.line; first = b.first - b.first % u } in
-      let begin = begin-whole c b whole n loaded of lies some in
-      let all : part_budget c whole.from whole.sectors ≡ part_budget c from u = ap (λ (x : BlockPart). part_budget c x whole.sectors) of.from ∙ ap (part_budget c from) of.sectors in
-      let once = unit-budget c from u 0 of.crypt of.has (omega (arith, unit_sectors-some of.crypt)) (omega (arith, begin)) in
-      let part = unit-budget c b n 0 of.crypt of.has some (lies_in c b whole n loaded of lies some).0 in
-      omega (arith, spent, all, once, part)
+-- a part of a unit costs what the whole one does
+pub unit-spent : (c : Configuration) (x : CryptPart) (whole : WholeUnit) (n : ℕ) → IsWholeOf x whole → LieInUnit c x n → 0 < n → (old new : List Device) → ReadsAtMost (source_budget c (Units whole.from) whole.sectors) old new → ReadsAtMost (source_budget c (UnitPart x) n) old new
+unit-spent c x whole n of lies some old new spent =
+    let u : ℕ = unit_sectors x.crypt.now in
+    let units = units-of c x whole n of lies some in
+    let all : crypt_budget c whole.from whole.sectors ≡ crypt_budget c (from_unit x) u = ap (λ (y : CryptPart). crypt_budget c y whole.sectors) of.from ∙ ap (crypt_budget c (from_unit x)) of.sectors in
+    omega (arith, spent, all, unit-budget c (from_unit x) u units.of (omega (arith, unit_sectors-some x.crypt.now)) (omega (arith, units.aligned)), unit-budget c x n lies.of some lies.within)
 
 -- ---- data blocks
 

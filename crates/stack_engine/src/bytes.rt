@@ -20,16 +20,16 @@ use stack_meaning::IoFault;
 fn run_bytes<D: BlockDev>(
     config: &Config,
     backing: &mut Backing<D>,
-    source: Source,
+    source: Source<'_>,
     out: &mut [u8],
 ) -> Result<(), IoFault>
     requires { CanFill D.state config.now backing.old [] source out.old }
-    ensures reads { BytesFrom D.state config.now source out.old backing.old backing.new (buffer_answer result out.new) }
+    ensures reads { BytesFrom D.state config.now source.entry out.old backing.old backing.new (buffer_answer result out.new) }
     ensures cached { StaysSound D.state config.now backing.old backing.new }
-    ensures plain { PlainFrom D.state config.now source out.old backing.old backing.new result }
-    ensures same { SameFrom config.now source out.old backing.old backing.new }
-    ensures touches { Asks D.state (source_leaves config.now source) backing.old backing.new result }
-    ensures spent { SpentFrom D.state config.now source out.old backing.old backing.new }
+    ensures plain { PlainFrom D.state config.now source.entry out.old backing.old backing.new result }
+    ensures same { SameFrom config.now source.entry out.old backing.old backing.new }
+    ensures touches { Asks D.state (source_leaves config.now source.entry) backing.old backing.new result }
+    ensures spent { SpentFrom D.state config.now source.entry out.old backing.old backing.new }
 {
     let mut dropped = Vec::new(backing.alloc);
     match source {

@@ -31,8 +31,8 @@ use stack_lines::tree::{
     Extent, Tree, copy_part, data_extent, find, hash_extent, hash_key, is_ignored, tree_at,
     verity_at,
 };
-use stack_lines::units::{MOST, crypt_at, decrypt, take_sectors, unit_at, whole_unit};
-use stack_lines::{BlockPart, Source, run_to_read};
+use stack_lines::units::{MOST, decrypt, take_sectors, unit_at, whole_unit};
+use stack_lines::{BlockPart, CryptPart, Source, run_to_read};
 use stack_meaning::{Fault, Found, IoFault};
 use tree_shape::{Digest, Salt, digest_in};
 use verified_cache::Key;
@@ -89,19 +89,19 @@ fn read_lower<D: BlockDev>(
 pub(crate) fn read_run<D: BlockDev>(
     config: &Config,
     backing: &mut Backing<D>,
-    source: Source,
+    source: Source<'_>,
     out: &mut [u8],
     found: &mut Vec<Found>,
 ) -> Result<(), IoFault>
     requires { CanFill D.state config.now backing.old found.old.items source out.old }
-    ensures reads { ReadsSource config.now source (length out.old / 512)
+    ensures reads { ReadsSource config.now source.entry (length out.old / 512)
         (did D.state backing.old found.old.items backing.new found.new.items)
         (buffer_answer result out.new) }
     ensures cached { StaysSound D.state config.now backing.old backing.new }
-    ensures plain { PlainFrom D.state config.now source out.old backing.old backing.new result }
-    ensures same { SameFrom config.now source out.old backing.old backing.new }
-    ensures touches { Asks D.state (source_leaves config.now source) backing.old backing.new result }
-    ensures spent { SpentFrom D.state config.now source out.old backing.old backing.new }
+    ensures plain { PlainFrom D.state config.now source.entry out.old backing.old backing.new result }
+    ensures same { SameFrom config.now source.entry out.old backing.old backing.new }
+    ensures touches { Asks D.state (source_leaves config.now source.entry) backing.old backing.new result }
+    ensures spent { SpentFrom D.state config.now source.entry out.old backing.old backing.new }
 {
     match source {
         Source::Below { lower, first } => read_lower(config, backing, lower, first, out, found),
@@ -122,25 +122,24 @@ pub(crate) fn read_run<D: BlockDev>(
 pub(crate) fn read_units<D: BlockDev>(
     config: &Config,
     backing: &mut Backing<D>,
-    part: BlockPart,
+    part: CryptPart<'_>,
     out: &mut [u8],
     found: &mut Vec<Found>,
 ) -> Result<(), IoFault>
     requires { CanFill D.state config.now backing.old found.old.items (Source.Units part) out.old }
-    ensures reads { ReadsSource config.now (Source.Units part) (length out.old / 512)
+    ensures reads { ReadsSource config.now (Source.Units part.entry) (length out.old / 512)
         (did D.state backing.old found.old.items backing.new found.new.items)
         (buffer_answer result out.new) }
     ensures cached { StaysSound D.state config.now backing.old backing.new }
-    ensures plain { PlainFrom D.state config.now (Source.Units part) out.old backing.old backing.new result }
-    ensures same { SameFrom config.now (Source.Units part) out.old backing.old backing.new }
-    ensures touches { Asks D.state (leaves_of config.now (mapped part.device.0)) backing.old backing.new result }
-    ensures spent { SpentFrom D.state config.now (Source.Units part) out.old backing.old backing.new }
+    ensures plain { PlainFrom D.state config.now (Source.Units part.entry) out.old backing.old backing.new result }
+    ensures same { SameFrom config.now (Source.Units part.entry) out.old backing.old backing.new }
+    ensures touches { Asks D.state (leaves_of config.now part.entry.lower) backing.old backing.new result }
+    ensures spent { SpentFrom D.state config.now (Source.Units part.entry) out.old backing.old backing.new }
 {
-    let crypt = crypt_at(config, part.device, part.line);
-    let unit = unit_at(config, part, crypt);
-    match read_lower(config, backing, unit.lower, unit.first, out, found) {
+    let unit = unit_at(&part);
+    match read_lower(config, backing, part.lower, unit.first, out, found) {
         Ok(()) => {
-            decrypt(config, part, crypt, unit.index, out);
+            decrypt(&part, unit.index, out);
             Ok(())
         }
         Err(fault) => Err(fault),
@@ -152,21 +151,21 @@ pub(crate) fn read_units<D: BlockDev>(
 fn read_unit_part<D: BlockDev>(
     config: &Config,
     backing: &mut Backing<D>,
-    part: BlockPart,
+    part: CryptPart<'_>,
     out: &mut [u8],
     found: &mut Vec<Found>,
 ) -> Result<(), IoFault>
     requires { CanFill D.state config.now backing.old found.old.items (Source.UnitPart part) out.old }
-    ensures reads { ReadsSource config.now (Source.UnitPart part) (length out.old / 512)
+    ensures reads { ReadsSource config.now (Source.UnitPart part.entry) (length out.old / 512)
         (did D.state backing.old found.old.items backing.new found.new.items)
         (buffer_answer result out.new) }
     ensures cached { StaysSound D.state config.now backing.old backing.new }
-    ensures plain { PlainFrom D.state config.now (Source.UnitPart part) out.old backing.old backing.new result }
-    ensures same { SameFrom config.now (Source.UnitPart part) out.old backing.old backing.new }
-    ensures touches { Asks D.state (leaves_of config.now (mapped part.device.0)) backing.old backing.new result }
-    ensures spent { SpentFrom D.state config.now (Source.UnitPart part) out.old backing.old backing.new }
+    ensures plain { PlainFrom D.state config.now (Source.UnitPart part.entry) out.old backing.old backing.new result }
+    ensures same { SameFrom config.now (Source.UnitPart part.entry) out.old backing.old backing.new }
+    ensures touches { Asks D.state (leaves_of config.now part.entry.lower) backing.old backing.new result }
+    ensures spent { SpentFrom D.state config.now (Source.UnitPart part.entry) out.old backing.old backing.new }
 {
-    let whole = whole_unit(config, part);
+    let whole = whole_unit(&part);
     let mut room = [0u8; MOST];
     let all = room.as_mut_slice();
     let unit = &mut all[..whole.sectors as usize * 512];

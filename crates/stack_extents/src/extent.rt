@@ -67,11 +67,11 @@ fn verity_extent(config: &Config, part: BlockPart, most: u64) -> Extent
 
 /// The extent of so many sectors of a source at most, from its first on.
 #[cycle(extent)]
-fn source_extent(config: &Config, source: Source, most: u64) -> Extent
+fn source_extent(config: &Config, source: Source<'_>, most: u64) -> Extent
     requires loaded { IsLoaded config.now }
     requires some { 0 < most }
     requires inside { SourceHolds config.now source most }
-    ensures { IsToldExtent (source_said config.now source) (SourceIgnores config.now source) 0 most result }
+    ensures { IsToldExtent (source_said config.now source.entry) (SourceIgnores config.now source.entry) 0 most result }
 {
     match source {
         Source::Zeros => Extent {

@@ -9,7 +9,9 @@ use Rattle.stack_rules.specs.Descend.{descend, by_name}
 use Rattle.stack_meaning.specs.Puts.{together, in_one_run}
 use Rattle.stack_meaning.specs.Sectors.{OnLine, sector_rule}
 use Rattle.stack_meaning.specs.TargetMeaning.{Meant, handed, own}
+use Rattle.dm_table.specs.declared.table.Target.TheVariants.{Crypt as crypt_target}
 use Rattle.stack_lines.specs.declared.source.BlockPart.{BlockPart}
+use Rattle.stack_lines.specs.declared.source.CryptPart.{CryptPart}
 use Rattle.stack_lines.specs.declared.source.Source.{Source}
 use Rattle.stack_lines.specs.declared.source.Source.TheVariants.{Below, Units, UnitPart, Zeros, Fails, Block, Blocks}
 
@@ -65,11 +67,15 @@ price_of_line c p d l (Some line) s n = by_runs (together line.target) (p.line (
 abbrev pub part_price : Configuration → Prices → BlockPart → ℕ → ℕ
 part_price c p b n = price_of_line c p b.device.0 b.line (slice_get (lines_of c b.device.0) b.line) b.first n
 
+-- of a part of a crypt line
+abbrev pub crypt_price : Configuration → Prices → CryptPart → ℕ → ℕ
+crypt_price c p u n = by_runs (together (crypt_target u.crypt.now)) (p.line (priced_by_name c p) 0 0 (crypt_target u.crypt.now)) u.first n
+
 -- of the first n sectors of a source
 abbrev pub source_price : Configuration → Prices → Source → ℕ → ℕ
 source_price c p (Below lower first) n = priced c p lower first n
-source_price c p (Units b) n = part_price c p b n
-source_price c p (UnitPart b) n = part_price c p b n
+source_price c p (Units u) n = crypt_price c p u n
+source_price c p (UnitPart u) n = crypt_price c p u n
 source_price c p Zeros n = 0
 source_price c p Fails n = 0
 source_price c p (Block b) n = part_price c p b n

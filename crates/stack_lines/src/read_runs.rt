@@ -51,7 +51,7 @@ fn go_at_once(config: &Config, part: BlockPart, count: u64, found: &[Found]) -> 
 }
 
 /// The first of whole data blocks.
-fn first_block(config: &Config, part: BlockPart) -> Run
+fn first_block<'a>(config: &Config, part: BlockPart) -> Run<'a>
     requires loaded { IsLoaded config.now }
     requires line { IsOnVerity config.now part.device.0 part.line }
     ensures source { result.source ≡ Source.Block part }
@@ -66,7 +66,13 @@ fn first_block(config: &Config, part: BlockPart) -> Run
 
 /// A run from that sector of a device on, of at most so many sectors, where those chains were found: the longest, or
 /// the first of its data blocks, where these can't be read at once.
-pub fn run_to_read(config: &Config, d: DevId, sector: u64, most: u64, found: &[Found]) -> Run
+pub fn run_to_read<'a>(
+    config: &'a Config,
+    d: DevId,
+    sector: u64,
+    most: u64,
+    found: &[Found],
+) -> Run<'a>
     requires loaded { IsLoaded config.now }
     requires some { 0 < most }
     requires inside { sector + most ≤ size config.now (mapped d.0) }

@@ -5,15 +5,22 @@ ghost use Rattle.stack_rules.specs.Names.{mapped, size};
 ghost use Rattle.stack_rules.specs.Rules.{IsLoaded};
 ghost use Rattle.stack_rules.specs.Trees.{block_sectors};
 ghost use Rattle.stack_rules.specs.Units.{unit_sectors};
-ghost use Rattle.stack_lines.specs.Sources.{ComeFrom, HasTarget};
+ghost use Rattle.stack_lines.specs.Sources.{ComeFrom, HasTarget, IsPartOf};
 ghost use Rattle.stack_lines.specs.Runs.{HasLineSectors, IsRunOfLine, IsRunAt};
 
-use crate::source::{BlockPart, Run, Source};
+use crate::source::{BlockPart, CryptPart, Run, Source};
 use crate::unstriped::unstriped_run;
 use dm_table::{Base, Crypt, Line, Target, Verity};
 use stack_config::{Config, DevId, unit_sectors};
 
-fn linear_run(config: &Config, d: DevId, line: u32, base: &Base, within: u64, count: u64) -> Run
+fn linear_run<'a>(
+    config: &Config,
+    d: DevId,
+    line: u32,
+    base: &Base,
+    within: u64,
+    count: u64,
+) -> Run<'a>
     requires loaded { IsLoaded config.now }
     requires line { HasTarget config.now d.0 line (Target.Linear base.now) (within + count) }
     ensures come { ComeFrom config.now (d.0, line) (Target.Linear base.now) within count result.source }
@@ -28,66 +35,80 @@ fn linear_run(config: &Config, d: DevId, line: u32, base: &Base, within: u64, co
 }
 
 /// The whole units from that sector on.
-fn units_run(config: &Config, d: DevId, line: u32, crypt: &Crypt, within: u64, count: u64) -> Run
-    requires line { HasTarget config.now d.0 line (Target.Crypt crypt.now) (within + count) }
-    requires aligned { within % unit_sectors crypt.now ≡ 0 }
-    requires enough { unit_sectors crypt.now ≤ count }
-    ensures { IsRunOfLine config.now (d.0, line) (Target.Crypt crypt.now) within count result }
+fn units_run<'a>(config: &Config, at: (DevId, u32), part: CryptPart<'a>, count: u64) -> Run<'a>
+    requires loaded { IsLoaded config.now }
+    requires line { HasTarget config.now at.0.0 at.1 (Target.Crypt part.crypt.now) (part.first + count) }
+    requires part { IsPartOf config.now part }
+    requires aligned { part.first % unit_sectors part.crypt.now ≡ 0 }
+    requires enough { unit_sectors part.crypt.now ≤ count }
+    ensures { IsRunOfLine config.now (at.0.0, at.1) (Target.Crypt part.entry.crypt.now) part.entry.first count result }
 {
-    let _config = config;
-    let few = unit_sectors(crypt);
+    let (_config, _at) = (config, at);
+    let few = unit_sectors(part.crypt);
     let sectors = u64::from(few);
     let count = count - count % sectors;
-    let from = BlockPart {
-        device: d,
-        line,
-        first: within,
-    };
     Run {
-        source: Source::Units(from),
+        source: Source::Units(part),
         count,
     }
 }
 
 /// The sectors that lie in one unit and aren't all of it.
-fn unit_run(config: &Config, d: DevId, line: u32, crypt: &Crypt, within: u64, count: u64) -> Run
-    requires line { HasLineSectors config.now d.0 line (Target.Crypt crypt.now) within count }
-    requires part { within % unit_sectors crypt.now ≡ 0 → count < unit_sectors crypt.now }
-    ensures { IsRunOfLine config.now (d.0, line) (Target.Crypt crypt.now) within count result }
+fn unit_run<'a>(config: &Config, at: (DevId, u32), part: CryptPart<'a>, count: u64) -> Run<'a>
+    requires loaded { IsLoaded config.now }
+    requires line { HasLineSectors config.now at.0.0 at.1 (Target.Crypt part.crypt.now) part.first count }
+    requires part { IsPartOf config.now part }
+    requires some { part.first % unit_sectors part.crypt.now ≡ 0 → count < unit_sectors part.crypt.now }
+    ensures { IsRunOfLine config.now (at.0.0, at.1) (Target.Crypt part.entry.crypt.now) part.entry.first count result }
 {
-    let _config = config;
-    let few = unit_sectors(crypt);
+    let (_config, _at) = (config, at);
+    let few = unit_sectors(part.crypt);
     let sectors = u64::from(few);
-    let count = count.min(sectors - within % sectors);
-    let from = BlockPart {
-        device: d,
-        line,
-        first: within,
-    };
+    let count = count.min(sectors - part.first % sectors);
     Run {
-        source: Source::UnitPart(from),
+        source: Source::UnitPart(part),
         count,
     }
 }
 
 /// Whole units, or sectors of one unit.
-fn crypt_run(config: &Config, d: DevId, line: u32, crypt: &Crypt, within: u64, count: u64) -> Run
+fn crypt_run<'a>(
+    config: &'a Config,
+    d: DevId,
+    line: u32,
+    crypt: &'a Crypt,
+    within: u64,
+    count: u64,
+) -> Run<'a>
+    requires loaded { IsLoaded config.now }
     requires line { HasLineSectors config.now d.0 line (Target.Crypt crypt.now) within count }
     ensures { IsRunOfLine config.now (d.0, line) (Target.Crypt crypt.now) within count result }
 {
+    let part = CryptPart {
+        crypt,
+        key: config.key(d, line),
+        lower: config.lower(d, line, 0),
+        first: within,
+    };
     let few = unit_sectors(crypt);
     let sectors = u64::from(few);
     if within % sectors != 0 {
-        return unit_run(config, d, line, crypt, within, count);
+        return unit_run(config, (d, line), part, count);
     }
     if count < sectors {
-        return unit_run(config, d, line, crypt, within, count);
+        return unit_run(config, (d, line), part, count);
     }
-    units_run(config, d, line, crypt, within, count)
+    units_run(config, (d, line), part, count)
 }
 
 /// The sectors that lie in one chunk, from that one of the line on.
-fn striped_run(config: &Config, from: BlockPart, chunk: u64, bases: &[Base], count: u64) -> Run
+fn striped_run<'a>(
+    config: &Config,
+    from: BlockPart,
+    chunk: u64,
+    bases: &[Base],
+    count: u64,
+) -> Run<'a>
     requires loaded { IsLoaded config.now }
     requires grammar { IsStripedOfGrammar chunk bases.now }
     requires line { HasLineSectors config.now from.device.0 from.line (Target.Striped chunk bases.now) from.first count }
@@ -108,7 +129,14 @@ fn striped_run(config: &Config, from: BlockPart, chunk: u64, bases: &[Base], cou
 }
 
 /// The whole data blocks from that sector on.
-fn blocks_run(config: &Config, d: DevId, line: u32, verity: &Verity, within: u64, count: u64) -> Run
+fn blocks_run<'a>(
+    config: &Config,
+    d: DevId,
+    line: u32,
+    verity: &Verity,
+    within: u64,
+    count: u64,
+) -> Run<'a>
     requires loaded { IsLoaded config.now }
     requires line { HasTarget config.now d.0 line (Target.Verity verity.now) (within + count) }
     requires some { 0 < block_sectors verity.now }
@@ -131,7 +159,14 @@ fn blocks_run(config: &Config, d: DevId, line: u32, verity: &Verity, within: u64
 }
 
 /// The sectors that lie in one data block.
-fn block_run(config: &Config, d: DevId, line: u32, verity: &Verity, within: u64, count: u64) -> Run
+fn block_run<'a>(
+    config: &Config,
+    d: DevId,
+    line: u32,
+    verity: &Verity,
+    within: u64,
+    count: u64,
+) -> Run<'a>
     requires loaded { IsLoaded config.now }
     requires grammar { IsVerityOfGrammar verity.now }
     requires line { HasLineSectors config.now d.0 line (Target.Verity verity.now) within count }
@@ -153,7 +188,14 @@ fn block_run(config: &Config, d: DevId, line: u32, verity: &Verity, within: u64,
 }
 
 /// Whole data blocks, or sectors of one block.
-fn verity_run(config: &Config, d: DevId, line: u32, verity: &Verity, within: u64, count: u64) -> Run
+fn verity_run<'a>(
+    config: &Config,
+    d: DevId,
+    line: u32,
+    verity: &Verity,
+    within: u64,
+    count: u64,
+) -> Run<'a>
     requires loaded { IsLoaded config.now }
     requires grammar { IsVerityOfGrammar verity.now }
     requires line { HasLineSectors config.now d.0 line (Target.Verity verity.now) within count }
@@ -170,7 +212,14 @@ fn verity_run(config: &Config, d: DevId, line: u32, verity: &Verity, within: u64
 }
 
 /// The longest run of so many sectors of a line at most.
-fn line_run(config: &Config, d: DevId, number: u32, line: &Line, within: u64, count: u64) -> Run
+fn line_run<'a>(
+    config: &'a Config,
+    d: DevId,
+    number: u32,
+    line: &'a Line,
+    within: u64,
+    count: u64,
+) -> Run<'a>
     requires loaded { IsLoaded config.now }
     requires grammar { IsTargetOfGrammar line.now.target }
     requires line { HasLineSectors config.now d.0 number line.now.target within count }
@@ -201,7 +250,7 @@ fn line_run(config: &Config, d: DevId, number: u32, line: &Line, within: u64, co
 }
 
 /// The longest run from that sector of a device on, of at most so many sectors: those of one line that one source has.
-pub fn run_at(config: &Config, d: DevId, sector: u64, most: u64) -> Run
+pub fn run_at(config: &Config, d: DevId, sector: u64, most: u64) -> Run<'_>
     requires loaded { IsLoaded config.now }
     requires some { 0 < most }
     requires inside { sector + most ≤ size config.now (mapped d.0) }

@@ -7,7 +7,7 @@ use Rattle.std.proofs.lemmas.Nat.{mod-mul-add, div-add-mod'}
 use Rattle.std.proofs.Math.Nat.{add-mul}
 use Rattle.dm_table.specs.declared.table.Line.{Line}
 use Rattle.dm_table.specs.declared.table.Target.{Target}
-use Rattle.dm_table.specs.declared.table.Target.TheVariants.{Zero, Error}
+use Rattle.dm_table.specs.declared.table.Target.TheVariants.{Zero, Error, Crypt as crypt_target}
 use Rattle.stack_rules.specs.declared.lower.Lower.{Lower}
 use Rattle.stack_rules.specs.declared.lower.Lower.TheVariants.{Leaf as leaf, Device as device}
 use Rattle.stack_rules.specs.Records.{Configuration}
@@ -187,6 +187,7 @@ pub record ArePrices (p : Prices) : Type 0 where
   pub hands : (at : List ℕ → Pricing) (d l : ℕ) (target : Target) (s n : ℕ) (q : List ℕ × ℕ) → HandsOn target → beneath target s ≡ Some q → p.line at d l target s n ≡ at q.0 q.1 n
   pub zeros : (at : List ℕ → Pricing) (d l s n : ℕ) → p.line at d l Zero s n ≡ 0
   pub fails : (at : List ℕ → Pricing) (d l s n : ℕ) → p.line at d l Error s n ≡ 0
+  pub placeless : (at : List ℕ → Pricing) (d l : ℕ) (target : Target) → p.line at d l target ≡ p.line at 0 0 target
 
 pub priced-leaf : (c : Configuration) (p : Prices) (i s n : ℕ) → priced c p (leaf i) s n ≡ p.leaf n
 unfolding descend
@@ -267,8 +268,14 @@ module _ (c : Configuration) (p : Prices) (are : ArePrices p) where
         ∙ are.hands (priced_by_name c p) d l line.target w n (on.name, first + 0) come.0 (ap (beneath line.target) (sym at) ∙ on.under 0 some)
         ∙ ap (λ (o : Option Lower). known {A = Pricing} (λ (s n : ℕ). 0) (priced c p) o (first + 0) n) on.is
         ∙ ap (λ (k : ℕ). priced c p lower k n) first_is
-    come-priced (Units b) come = sym (part-priced d l w n line b is come.0)
-    come-priced (UnitPart b) come = sym (part-priced d l w n line b is come.0)
+    come-priced (Units u) come =
+        ap (λ (t : Target). by_runs (together t) (p.line (priced_by_name c p) d l t) w n) come.0
+        ∙ ap (λ (f : Pricing). by_runs (together (crypt_target u.crypt.now)) f w n) (are.placeless (priced_by_name c p) d l (crypt_target u.crypt.now))
+        ∙ ap (λ (k : ℕ). by_runs (together (crypt_target u.crypt.now)) (p.line (priced_by_name c p) 0 0 (crypt_target u.crypt.now)) k n) (sym come.1)
+    come-priced (UnitPart u) come =
+        ap (λ (t : Target). by_runs (together t) (p.line (priced_by_name c p) d l t) w n) come.0
+        ∙ ap (λ (f : Pricing). by_runs (together (crypt_target u.crypt.now)) f w n) (are.placeless (priced_by_name c p) d l (crypt_target u.crypt.now))
+        ∙ ap (λ (k : ℕ). by_runs (together (crypt_target u.crypt.now)) (p.line (priced_by_name c p) 0 0 (crypt_target u.crypt.now)) k n) (sym come.1)
     come-priced Zeros come = none Zero (λ i. refl) (are.zeros (priced_by_name c p) d l w n) come
     come-priced Fails come = none Error (λ i. refl) (are.fails (priced_by_name c p) d l w n) come
     come-priced (Block b) come = sym (part-priced d l w n line b is come.0)

@@ -41,7 +41,7 @@ use Rattle.stack_engine.proofs.PlainCacheLemmas.{meets-below, meets-device, meet
 use Rattle.stack_engine.proofs.CachedLemmas.{cached-read, cached-hit, keeps-noted, noted_key, keeps-kept, keeps-found}
 use Rattle.stack_lines.proofs.lemmas.StandingLemmas.{named-inside, knows-all}
 use Rattle.stack_engine.proofs.BlockPartLemmas.{kept_length, contains_at, part-room, part_found, part_walked, part_err, part_full, block_plain}
-use Rattle.stack_lines.specs.declared.source.BlockPart.{BlockPart}
+use Rattle.stack_lines.specs.declared.source.CryptPart.{CryptPart}
 use Rattle.stack_lines.specs.Sources.{AreUnits}
 use Rattle.stack_engine.proofs.lemmas.BlockLemmas.{length-content}
 use Rattle.stack_engine.proofs.lemmas.WalkLemmas.{checked_ok, checked_err, data_zeros, data_read, walk_full}
@@ -50,8 +50,7 @@ use Rattle.stack_meaning.proofs.lemmas.LeafLemmas.{all-whole}
 use Rattle.stack_rules.specs.Units.{unit_sectors}
 use Rattle.stack_meaning.specs.Units.{decrypted_units}
 use Rattle.stack_meaning.specs.Meaning.{said_at}
-use Rattle.stack_lines.proofs.lemmas.UnitLineLemmas.{unit-line-on}
-use Rattle.stack_lines.proofs.lemmas.UnitSourceLemmas.{units-inside, units-small, units-bytes, lies_in, whole-units, part-read, part-failed, part-plain, units-read, units-failed, units-plain}
+use Rattle.stack_lines.proofs.lemmas.UnitSourceLemmas.{units-bytes, whole-units, part-read, part-failed, part-plain, units-read, units-failed, units-plain}
 use Rattle.std.proofs.lemmas.List.{take_more, get_or_default}
 use Rattle.std.proofs.lemmas.List.Elements.{All-take, All-nil}
 use Rattle.verified_cache.specs.Cache.{CachedBlock}
@@ -69,7 +68,7 @@ use Rattle.stack_meaning.proofs.lemmas.FoundLemmas.{Grown-none}
 use Rattle.stack_meaning.proofs.lemmas.LeafListLemmas.{AreRead-none}
 use Rattle.stack_meaning.proofs.lemmas.PlainLemmas.{plain-none}
 use Rattle.stack_engine.proofs.SpentLemmas.{IsCutBehind, spent-all, spent-run, cut-behind, leaf-spent, units-spent, unit-spent, block-spent, had-spent, way-spent, row-spent}
-use Rattle.stack_lines.proofs.lemmas.TouchLemmas.{crypt-within, data-within}
+use Rattle.stack_lines.proofs.lemmas.TouchLemmas.{data-within}
 use Rattle.stack_lines.proofs.lemmas.AskLemmas.{asks-none, asks-then, asks-as, asks-up, device-asked}
 use Rattle.stack_engine.proofs.TouchedLemmas.{extent-touched, same-within, hash-touched, hash-within-device, data-touched}
 use Rattle.stack_engine.proofs.read.+read.Goals as goal
@@ -277,84 +276,71 @@ read_device-returns-in-Err-clause-plain g t c =
 
 -- ---- units of crypt lines
 
+pub read_units-unit_at-unit-requires : goal.read_units-unit_at-unit-requires
+read_units-unit_at-unit-requires g t c = let small = size-small c.args.config.now c.args.part.lower c.requires.stack.sound.loaded in omega (arith, small, c.requires.fits.holds.inside)
+
 pub read_units-read_lower-requires : goal.read_units-read_lower-requires
-read_units-read_lower-requires g t c κs within =
-    let config = c.args.config.now in
-    let p = c.args.part in
-    let n : ℕ = length c.args.out.now / 512 in
-    let crypt = c.crypt_at-crypt.result.now in
-    let unit = c.unit_at-unit in
-    let line = unit-line-on config p.device.0 p.line 0 crypt c.requires.stack.sound.loaded c.crypt_at-crypt.ensures unit.result.lower unit.ensures.lower in
-    let inside = units-inside config p.device.0 p.line p.first n crypt c.requires.stack.sound.loaded c.crypt_at-crypt.ensures c.requires.fits.holds unit.result.lower unit.ensures.lower in (
-      omega (arith, line.crypt_line.shallower),
-      (within, record { stack = c.requires.stack; kept = c.requires.kept; fits = record { sectors = c.requires.fits.sectors; holds = omega (arith, inside, unit.ensures.first) }; can_go = tt }),
-    )
+read_units-read_lower-requires g t c κs within = (
+  omega arith,
+  (within, record { stack = c.requires.stack; kept = c.requires.kept; fits = record { sectors = c.requires.fits.sectors; holds = omega (arith, c.requires.fits.holds.inside, c.unit_at-unit.ensures.first) }; can_go = tt }),
+)
 
 pub read_units-decrypt-requires-clause-fits : goal.read_units-decrypt-requires-clause-fits
 read_units-decrypt-requires-clause-fits g t c =
-    let config = c.args.config.now in
-    let p = c.args.part in
-    let n : ℕ = length c.args.out.now / 512 in
-    let crypt = c.crypt_at-crypt.result.now in
-    let small = units-small config p.device.0 p.line p.first n crypt c.requires.stack.sound.loaded c.crypt_at-crypt.ensures c.requires.fits.holds in
-    omega (arith, small, c.unit_at-unit.ensures.index, c.requires.fits.sectors.whole, c.read_lower.auto.out)
+    omega (arith, c.requires.fits.holds.small, c.unit_at-unit.ensures.index, c.requires.fits.sectors.whole, c.read_lower.auto.out)
 
 pub read_units-decrypt-requires-clause-whole : goal.read_units-decrypt-requires-clause-whole
-read_units-decrypt-requires-clause-whole g t c =
-    units-bytes c.args.config.now c.args.part.device.0 c.args.part.line c.args.part.first _ c.crypt_at-crypt.result.now c.crypt_at-crypt.ensures c.requires.fits.holds _ (omega (arith, c.read_lower.auto.out, c.requires.fits.sectors.whole))
+read_units-decrypt-requires-clause-whole g t c = units-bytes c.args.config.now c.args.part _ _ c.requires.fits.holds (omega (arith, c.read_lower.auto.out, c.requires.fits.sectors.whole))
 
 pub read_units-returns-in-Ok-clause-reads : goal.read_units-returns-in-Ok-clause-reads
 read_units-returns-in-Ok-clause-reads g t c =
     let config = c.args.config.now in
     let state = g.D.BlockDev.state in
-    let p = c.args.part in
+    let x = c.args.part in
     let n : ℕ = length c.args.out.now / 512 in
-    let crypt = c.crypt_at-crypt.result.now in
-    let unit = c.unit_at-unit in
     let did : LeafRead = record { old = map state c.args.backing.now.devices.items; new = map state c.read_lower.new.backing.devices.items; before = c.args.found.now.items; after = c.read_lower.new.found.items } in
-    subst (λ (b : List ℕ). ReadsSource config (Units p) n did (Ok b)) (sym (c.decrypt.ensures ∙ ap (λ (k : ℕ). decrypted_units crypt k c.read_lower.new.out) unit.ensures.index))
-    (units-read config p n crypt c.requires.stack.sound.loaded c.crypt_at-crypt.ensures c.requires.fits.holds unit.result.lower unit.ensures.lower did (all-whole state g.met.D.BlockDev.whole c.args.backing.now.devices.items) c.read_lower.new.out
-    (subst (λ (k : ℕ). Reads config unit.result.lower k n did (Ok c.read_lower.new.out)) unit.ensures.first c.in-Ok.ensures.reads))
+    subst (λ (b : List ℕ). ReadsSource config (Units x) n did (Ok b)) (sym (c.decrypt.ensures ∙ ap (λ (k : ℕ). decrypted_units x.crypt.now k c.read_lower.new.out) c.unit_at-unit.ensures.index))
+    (units-read config x n c.requires.stack.sound.loaded c.requires.fits.holds did (all-whole state g.met.D.BlockDev.whole c.args.backing.now.devices.items) c.read_lower.new.out
+    (subst (λ (k : ℕ). Reads config x.lower k n did (Ok c.read_lower.new.out)) c.unit_at-unit.ensures.first c.in-Ok.ensures.reads))
 
 pub read_units-returns-in-Err-clause-reads : goal.read_units-returns-in-Err-clause-reads
 read_units-returns-in-Err-clause-reads g t c =
     let config = c.args.config.now in
     let state = g.D.BlockDev.state in
-    let p = c.args.part in
+    let x = c.args.part in
     let n : ℕ = length c.args.out.now / 512 in
-    let crypt = c.crypt_at-crypt.result.now in
-    let unit = c.unit_at-unit in
     let did : LeafRead = record { old = map state c.args.backing.now.devices.items; new = map state c.read_lower.new.backing.devices.items; before = c.args.found.now.items; after = c.read_lower.new.found.items } in
-    units-failed config p n crypt c.requires.stack.sound.loaded c.crypt_at-crypt.ensures c.requires.fits.holds unit.result.lower unit.ensures.lower did (all-whole state g.met.D.BlockDev.whole c.args.backing.now.devices.items) c.in-Err.fault
-    (subst (λ (k : ℕ). Reads config unit.result.lower k n did (Err c.in-Err.fault)) unit.ensures.first c.in-Err.ensures.reads)
+    units-failed config x n c.requires.stack.sound.loaded c.requires.fits.holds did (all-whole state g.met.D.BlockDev.whole c.args.backing.now.devices.items) c.in-Err.fault
+    (subst (λ (k : ℕ). Reads config x.lower k n did (Err c.in-Err.fault)) c.unit_at-unit.ensures.first c.in-Err.ensures.reads)
 
 pub read_units-returns-in-Ok-clause-plain : goal.read_units-returns-in-Ok-clause-plain
 read_units-returns-in-Ok-clause-plain g t c =
-    let unit = c.unit_at-unit in
-    let n : ℕ = length c.args.out.now / 512 in
+    let config = c.args.config.now in
     let state = g.D.BlockDev.state in
-    units-plain c.args.config.now c.args.part n c.crypt_at-crypt.result.now c.requires.stack.sound.loaded c.crypt_at-crypt.ensures c.requires.fits.holds unit.result.lower unit.ensures.lower
-    (subst (λ (k : ℕ). IsPlain (said_at c.args.config.now unit.result.lower) k n (map state c.args.backing.now.devices.items) (map state c.read_lower.new.backing.devices.items) (Ok tt)) unit.ensures.first c.in-Ok.ensures.plain)
+    let x = c.args.part in
+    let n : ℕ = length c.args.out.now / 512 in
+    units-plain config x n c.requires.fits.holds
+    (subst (λ (k : ℕ). IsPlain (said_at config x.lower) k n (map state c.args.backing.now.devices.items) (map state c.read_lower.new.backing.devices.items) (Ok tt)) c.unit_at-unit.ensures.first c.in-Ok.ensures.plain)
 
 pub read_units-returns-in-Err-clause-plain : goal.read_units-returns-in-Err-clause-plain
 read_units-returns-in-Err-clause-plain g t c =
-    let unit = c.unit_at-unit in
-    let n : ℕ = length c.args.out.now / 512 in
+    let config = c.args.config.now in
     let state = g.D.BlockDev.state in
-    units-plain c.args.config.now c.args.part n c.crypt_at-crypt.result.now c.requires.stack.sound.loaded c.crypt_at-crypt.ensures c.requires.fits.holds unit.result.lower unit.ensures.lower
-    (subst (λ (k : ℕ). IsPlain (said_at c.args.config.now unit.result.lower) k n (map state c.args.backing.now.devices.items) (map state c.read_lower.new.backing.devices.items) (Err c.in-Err.fault)) unit.ensures.first c.in-Err.ensures.plain)
+    let x = c.args.part in
+    let n : ℕ = length c.args.out.now / 512 in
+    units-plain config x n c.requires.fits.holds
+    (subst (λ (k : ℕ). IsPlain (said_at config x.lower) k n (map state c.args.backing.now.devices.items) (map state c.read_lower.new.backing.devices.items) (Err c.in-Err.fault)) c.unit_at-unit.ensures.first c.in-Err.ensures.plain)
 
 -- ---- part of a unit
 
 pub read_unit_part-read_units-requires : goal.read_unit_part-read_units-requires
 read_unit_part-read_units-requires g t c κs within =
     let config = c.args.config.now in
-    let p = c.args.part in
+    let x = c.args.part in
     let n : ℕ = length c.args.out.now / 512 in
-    let some : 0 < n = omega (arith, c.requires.fits.sectors.some, c.requires.fits.sectors.whole) in
     let whole = c.whole_unit-whole in
-    let units = whole-units config p whole.result n c.requires.stack.sound.loaded whole.ensures.whole c.requires.fits.holds some in
-    let same : depth config (mapped whole.result.from.device.0) ≡ depth config (mapped p.device.0) = ap (λ (b : BlockPart). depth config (mapped b.device.0)) whole.ensures.whole.from in
+    let units = whole-units config x whole.result n whole.ensures.whole c.requires.fits.holds (omega (arith, c.requires.fits.sectors.some, c.requires.fits.sectors.whole)) in
+    let same : depth config whole.result.from.lower ≡ depth config x.lower = ap (λ (y : CryptPart). depth config y.lower) whole.ensures.whole.from in
     let room : length c.as_mut_slice-all.result.now ≡ 4096 = ap (λ (l : List ℕ). length l) c.as_mut_slice-all.ensures.value in
     let size : length (take (whole.result.sectors * 512) c.as_mut_slice-all.result.now) ≡ whole.result.sectors * 512 = omega (arith, room, whole.ensures.few, length-take (whole.result.sectors * 512) c.as_mut_slice-all.result.now) in
     let count : length (take (whole.result.sectors * 512) c.as_mut_slice-all.result.now) / 512 ≡ whole.result.sectors = omega (arith, size) in (
@@ -364,10 +350,7 @@ read_unit_part-read_units-requires g t c κs within =
         record {
           stack = c.requires.stack;
           kept = c.requires.kept;
-          fits = record {
-            sectors = record { some = omega (arith, size, whole.ensures.some); whole = omega (arith, size) };
-            holds = subst (λ (k : ℕ). AreUnits config whole.result.from.device.0 whole.result.from.line whole.result.from.first k) (sym count) units;
-          };
+          fits = record { sectors = record { some = omega (arith, size, whole.ensures.some); whole = omega (arith, size) }; holds = subst (AreUnits config whole.result.from) (sym count) units };
           can_go = tt;
         },
       ),
@@ -375,63 +358,60 @@ read_unit_part-read_units-requires g t c κs within =
 
 pub read_unit_part-take_sectors-requires : goal.read_unit_part-take_sectors-requires
 read_unit_part-take_sectors-requires g t c =
-    let p = c.args.part in
-    let n : ℕ = length c.args.out.now / 512 in
     let whole = c.whole_unit-whole in
     let of = whole.ensures.whole in
-    let lies = lies_in c.args.config.now p whole.result n c.requires.stack.sound.loaded of c.requires.fits.holds (omega (arith, c.requires.fits.sectors.some, c.requires.fits.sectors.whole)) in
     let room : length c.as_mut_slice-all.result.now ≡ 4096 = ap (λ (l : List ℕ). length l) c.as_mut_slice-all.ensures.value in
-    omega (arith, lies.0, of.within, of.sectors, c.requires.fits.sectors.whole, room, whole.ensures.few, c.read_units.auto.out, length-take (whole.result.sectors * 512) c.as_mut_slice-all.result.now)
+    omega (arith, c.requires.fits.holds.within, of.within, of.sectors, c.requires.fits.sectors.whole, room, whole.ensures.few, c.read_units.auto.out, length-take (whole.result.sectors * 512) c.as_mut_slice-all.result.now)
 
 pub read_unit_part-returns-in-Ok-clause-reads : goal.read_unit_part-returns-in-Ok-clause-reads
 read_unit_part-returns-in-Ok-clause-reads g t c =
     let config = c.args.config.now in
     let state = g.D.BlockDev.state in
-    let p = c.args.part in
+    let x = c.args.part in
     let n : ℕ = length c.args.out.now / 512 in
-    let some : 0 < n = omega (arith, c.requires.fits.sectors.some, c.requires.fits.sectors.whole) in
     let whole = c.whole_unit-whole in
     let of = whole.ensures.whole in
     let count = room_sectors c.as_mut_slice-all.result.now whole.result.sectors (ap (λ (l : List ℕ). length l) c.as_mut_slice-all.ensures.value) whole.ensures.few in
     let did : LeafRead = record { old = map state c.args.backing.now.devices.items; new = map state c.read_units.new.backing.devices.items; before = c.args.found.now.items; after = c.read_units.new.found.items } in
     let one = subst (λ (k : ℕ). ReadsSource config (Units whole.result.from) k did (Ok c.read_units.new.out)) count c.in-Ok.ensures.reads in
     let len : length c.args.out.now ≡ 512 * n = omega (arith, c.requires.fits.sectors.whole) in
-    let is : c.take_sectors.new.out ≡ take (512 * n) (drop (512 * (p.first % unit_sectors of.crypt)) c.read_units.new.out) =
+    let is : c.take_sectors.new.out ≡ take (512 * n) (drop (512 * (x.first % unit_sectors x.crypt.now)) c.read_units.new.out) =
     c.take_sectors.ensures ∙ ap (λ (k : ℕ). take k (drop (512 * whole.result.within) c.read_units.new.out)) len ∙ ap (λ (k : ℕ). take (512 * n) (drop (512 * k) c.read_units.new.out)) of.within in
-    subst (λ (b : List ℕ). ReadsSource config (UnitPart p) n did (Ok b)) (sym is)
-    (part-read config p whole.result n c.requires.stack.sound.loaded of c.requires.fits.holds some did (all-whole state g.met.D.BlockDev.whole c.args.backing.now.devices.items) c.read_units.new.out one)
+    subst (λ (b : List ℕ). ReadsSource config (UnitPart x) n did (Ok b)) (sym is)
+    (part-read config x whole.result n of c.requires.fits.holds (omega (arith, c.requires.fits.sectors.some, c.requires.fits.sectors.whole)) c.requires.stack.sound.loaded did (all-whole state g.met.D.BlockDev.whole c.args.backing.now.devices.items) c.read_units.new.out one)
 
 pub read_unit_part-returns-in-Err-clause-reads : goal.read_unit_part-returns-in-Err-clause-reads
 read_unit_part-returns-in-Err-clause-reads g t c =
     let config = c.args.config.now in
     let state = g.D.BlockDev.state in
-    let p = c.args.part in
+    let x = c.args.part in
     let n : ℕ = length c.args.out.now / 512 in
-    let some : 0 < n = omega (arith, c.requires.fits.sectors.some, c.requires.fits.sectors.whole) in
     let whole = c.whole_unit-whole in
     let count = room_sectors c.as_mut_slice-all.result.now whole.result.sectors (ap (λ (l : List ℕ). length l) c.as_mut_slice-all.ensures.value) whole.ensures.few in
     let did : LeafRead = record { old = map state c.args.backing.now.devices.items; new = map state c.read_units.new.backing.devices.items; before = c.args.found.now.items; after = c.read_units.new.found.items } in
-    part-failed config p whole.result n c.requires.stack.sound.loaded whole.ensures.whole c.requires.fits.holds some did (all-whole state g.met.D.BlockDev.whole c.args.backing.now.devices.items) c.in-Err.fault
+    part-failed config x whole.result n whole.ensures.whole c.requires.fits.holds (omega (arith, c.requires.fits.sectors.some, c.requires.fits.sectors.whole)) c.requires.stack.sound.loaded did (all-whole state g.met.D.BlockDev.whole c.args.backing.now.devices.items) c.in-Err.fault
     (subst (λ (k : ℕ). ReadsSource config (Units whole.result.from) k did (Err c.in-Err.fault)) count c.in-Err.ensures.reads)
 
 pub read_unit_part-returns-in-Ok-clause-plain : goal.read_unit_part-returns-in-Ok-clause-plain
 read_unit_part-returns-in-Ok-clause-plain g t c =
     let config = c.args.config.now in
     let state = g.D.BlockDev.state in
+    let x = c.args.part in
     let n : ℕ = length c.args.out.now / 512 in
     let whole = c.whole_unit-whole in
     let count = room_sectors c.as_mut_slice-all.result.now whole.result.sectors (ap (λ (l : List ℕ). length l) c.as_mut_slice-all.ensures.value) whole.ensures.few in
-    part-plain config c.args.part whole.result n c.requires.stack.sound.loaded whole.ensures.whole c.requires.fits.holds (omega (arith, c.requires.fits.sectors.some, c.requires.fits.sectors.whole))
+    part-plain config x whole.result n whole.ensures.whole c.requires.fits.holds (omega (arith, c.requires.fits.sectors.some, c.requires.fits.sectors.whole))
     (subst (λ (k : ℕ). IsPlain (source_said config (Units whole.result.from)) 0 k (map state c.args.backing.now.devices.items) (map state c.read_units.new.backing.devices.items) (Ok tt)) count c.in-Ok.ensures.plain)
 
 pub read_unit_part-returns-in-Err-clause-plain : goal.read_unit_part-returns-in-Err-clause-plain
 read_unit_part-returns-in-Err-clause-plain g t c =
     let config = c.args.config.now in
     let state = g.D.BlockDev.state in
+    let x = c.args.part in
     let n : ℕ = length c.args.out.now / 512 in
     let whole = c.whole_unit-whole in
     let count = room_sectors c.as_mut_slice-all.result.now whole.result.sectors (ap (λ (l : List ℕ). length l) c.as_mut_slice-all.ensures.value) whole.ensures.few in
-    part-plain config c.args.part whole.result n c.requires.stack.sound.loaded whole.ensures.whole c.requires.fits.holds (omega (arith, c.requires.fits.sectors.some, c.requires.fits.sectors.whole))
+    part-plain config x whole.result n whole.ensures.whole c.requires.fits.holds (omega (arith, c.requires.fits.sectors.some, c.requires.fits.sectors.whole))
     (subst (λ (k : ℕ). IsPlain (source_said config (Units whole.result.from)) 0 k (map state c.args.backing.now.devices.items) (map state c.read_units.new.backing.devices.items) (Err c.in-Err.fault)) count c.in-Err.ensures.plain)
 
 -- ---- data blocks of verity lines
@@ -1698,25 +1678,15 @@ read_run-returns-in-Block-clause-touches g t c = rw c.in-Block.is c.read_block.e
 pub read_run-returns-in-Blocks-clause-touches : goal.read_run-returns-in-Blocks-clause-touches
 read_run-returns-in-Blocks-clause-touches g t c = rw c.in-Blocks.is c.read_blocks.ensures.touches
 
-pub read_units-returns-in-Ok-clause-touches : goal.read_units-returns-in-Ok-clause-touches
-read_units-returns-in-Ok-clause-touches g t c =
-    let unit = c.unit_at-unit in
-    asks-up (crypt-within c.args.config.now c.args.part.device.0 c.args.part.line 0 c.crypt_at-crypt.result.now unit.result.lower c.requires.stack.sound.loaded c.crypt_at-crypt.ensures unit.ensures.lower) c.in-Ok.ensures.touches
-
-pub read_units-returns-in-Err-clause-touches : goal.read_units-returns-in-Err-clause-touches
-read_units-returns-in-Err-clause-touches g t c =
-    let unit = c.unit_at-unit in
-    asks-up (crypt-within c.args.config.now c.args.part.device.0 c.args.part.line 0 c.crypt_at-crypt.result.now unit.result.lower c.requires.stack.sound.loaded c.crypt_at-crypt.ensures unit.ensures.lower) c.in-Err.ensures.touches
-
 pub read_unit_part-returns-in-Ok-clause-touches : goal.read_unit_part-returns-in-Ok-clause-touches
 read_unit_part-returns-in-Ok-clause-touches g t c =
     let state = g.D.BlockDev.state in
-    subst (λ (b : BlockPart). AsksOnly {A = Unit {0}} (leaves_of c.args.config.now (mapped b.device.0)) (map state c.args.backing.now.devices.items) (map state c.read_units.new.backing.devices.items) (Ok tt)) c.whole_unit-whole.ensures.whole.from c.in-Ok.ensures.touches
+    subst (λ (x : CryptPart). AsksOnly {A = Unit {0}} (leaves_of c.args.config.now x.lower) (map state c.args.backing.now.devices.items) (map state c.read_units.new.backing.devices.items) (Ok tt)) c.whole_unit-whole.ensures.whole.from c.in-Ok.ensures.touches
 
 pub read_unit_part-returns-in-Err-clause-touches : goal.read_unit_part-returns-in-Err-clause-touches
 read_unit_part-returns-in-Err-clause-touches g t c =
     let state = g.D.BlockDev.state in
-    subst (λ (b : BlockPart). AsksOnly {A = Unit {0}} (leaves_of c.args.config.now (mapped b.device.0)) (map state c.args.backing.now.devices.items) (map state c.read_units.new.backing.devices.items) (Err c.in-Err.fault)) c.whole_unit-whole.ensures.whole.from c.in-Err.ensures.touches
+    subst (λ (x : CryptPart). AsksOnly {A = Unit {0}} (leaves_of c.args.config.now x.lower) (map state c.args.backing.now.devices.items) (map state c.read_units.new.backing.devices.items) (Err c.in-Err.fault)) c.whole_unit-whole.ensures.whole.from c.in-Err.ensures.touches
 
 pub read_block-returns-in-Err-clause-touches : goal.read_block-returns-in-Err-clause-touches
 read_block-returns-in-Err-clause-touches g t c =
@@ -1893,33 +1863,31 @@ pub read_run-returns-in-Fails-clause-spent : goal.read_run-returns-in-Fails-clau
 read_run-returns-in-Fails-clause-spent g t c = omega arith
 
 pub read_units-returns-in-Ok-clause-spent : goal.read_units-returns-in-Ok-clause-spent
-read_units-returns-in-Ok-clause-spent g t c =
-    let unit = c.unit_at-unit in
-    units-spent c.args.config.now c.args.part (length c.args.out.now / 512) c.crypt_at-crypt.result.now unit.result.lower c.requires.stack.sound.loaded c.crypt_at-crypt.ensures c.requires.fits.holds unit.ensures.lower c.in-Ok.ensures.reads.got.moved
+read_units-returns-in-Ok-clause-spent g t c = units-spent c.args.config.now c.args.part (length c.args.out.now / 512) c.requires.fits.holds c.in-Ok.ensures.reads.got.moved
 
 pub read_units-returns-in-Err-clause-spent : goal.read_units-returns-in-Err-clause-spent
-read_units-returns-in-Err-clause-spent g t c =
-    let unit = c.unit_at-unit in
-    units-spent c.args.config.now c.args.part (length c.args.out.now / 512) c.crypt_at-crypt.result.now unit.result.lower c.requires.stack.sound.loaded c.crypt_at-crypt.ensures c.requires.fits.holds unit.ensures.lower c.in-Err.ensures.reads.got.moved
+read_units-returns-in-Err-clause-spent g t c = units-spent c.args.config.now c.args.part (length c.args.out.now / 512) c.requires.fits.holds c.in-Err.ensures.reads.got.moved
 
 pub read_unit_part-returns-in-Ok-clause-spent : goal.read_unit_part-returns-in-Ok-clause-spent
 read_unit_part-returns-in-Ok-clause-spent g t c =
     let config = c.args.config.now in
     let state = g.D.BlockDev.state in
+    let x = c.args.part in
     let n : ℕ = length c.args.out.now / 512 in
     let whole = c.whole_unit-whole in
     let count = room_sectors c.as_mut_slice-all.result.now whole.result.sectors (ap (λ (l : List ℕ). length l) c.as_mut_slice-all.ensures.value) whole.ensures.few in
-    unit-spent config c.args.part whole.result n c.requires.stack.sound.loaded whole.ensures.whole c.requires.fits.holds (omega (arith, c.requires.fits.sectors.some, c.requires.fits.sectors.whole)) (map state c.args.backing.now.devices.items) (map state c.read_units.new.backing.devices.items)
+    unit-spent config x whole.result n whole.ensures.whole c.requires.fits.holds (omega (arith, c.requires.fits.sectors.some, c.requires.fits.sectors.whole)) (map state c.args.backing.now.devices.items) (map state c.read_units.new.backing.devices.items)
     (subst (λ (k : ℕ). ReadsAtMost (source_budget config (Units whole.result.from) k) (map state c.args.backing.now.devices.items) (map state c.read_units.new.backing.devices.items)) count c.in-Ok.ensures.spent)
 
 pub read_unit_part-returns-in-Err-clause-spent : goal.read_unit_part-returns-in-Err-clause-spent
 read_unit_part-returns-in-Err-clause-spent g t c =
     let config = c.args.config.now in
     let state = g.D.BlockDev.state in
+    let x = c.args.part in
     let n : ℕ = length c.args.out.now / 512 in
     let whole = c.whole_unit-whole in
     let count = room_sectors c.as_mut_slice-all.result.now whole.result.sectors (ap (λ (l : List ℕ). length l) c.as_mut_slice-all.ensures.value) whole.ensures.few in
-    unit-spent config c.args.part whole.result n c.requires.stack.sound.loaded whole.ensures.whole c.requires.fits.holds (omega (arith, c.requires.fits.sectors.some, c.requires.fits.sectors.whole)) (map state c.args.backing.now.devices.items) (map state c.read_units.new.backing.devices.items)
+    unit-spent config x whole.result n whole.ensures.whole c.requires.fits.holds (omega (arith, c.requires.fits.sectors.some, c.requires.fits.sectors.whole)) (map state c.args.backing.now.devices.items) (map state c.read_units.new.backing.devices.items)
     (subst (λ (k : ℕ). ReadsAtMost (source_budget config (Units whole.result.from) k) (map state c.args.backing.now.devices.items) (map state c.read_units.new.backing.devices.items)) count c.in-Err.ensures.spent)
 
 pub read_block-returns-in-Some-clause-spent : goal.read_block-returns-in-Some-clause-spent
@@ -2114,34 +2082,28 @@ read_run-returns-in-Fails-clause-same g t c = λ none. refl
 pub read_units-returns-in-Ok-clause-same : goal.read_units-returns-in-Ok-clause-same
 read_units-returns-in-Ok-clause-same g t c =
     let config = c.args.config.now in
-    let unit = c.unit_at-unit in
     let n : ℕ = length c.args.out.now / 512 in
-    λ none. c.in-Ok.ensures.same (λ some. none (meets-units config c.args.part n c.crypt_at-crypt.result.now c.requires.stack.sound.loaded c.crypt_at-crypt.ensures c.requires.fits.holds unit.result.lower unit.ensures.lower
-    (subst (λ (k : ℕ). MeetVerity (said_at config unit.result.lower) k n) unit.ensures.first some)))
+    λ none. c.in-Ok.ensures.same (λ some. none (meets-units config c.args.part n c.requires.fits.holds (subst (λ (k : ℕ). MeetVerity (said_at config c.args.part.lower) k n) c.unit_at-unit.ensures.first some)))
 
 pub read_units-returns-in-Err-clause-same : goal.read_units-returns-in-Err-clause-same
 read_units-returns-in-Err-clause-same g t c =
     let config = c.args.config.now in
-    let unit = c.unit_at-unit in
     let n : ℕ = length c.args.out.now / 512 in
-    λ none. c.in-Err.ensures.same (λ some. none (meets-units config c.args.part n c.crypt_at-crypt.result.now c.requires.stack.sound.loaded c.crypt_at-crypt.ensures c.requires.fits.holds unit.result.lower unit.ensures.lower
-    (subst (λ (k : ℕ). MeetVerity (said_at config unit.result.lower) k n) unit.ensures.first some)))
+    λ none. c.in-Err.ensures.same (λ some. none (meets-units config c.args.part n c.requires.fits.holds (subst (λ (k : ℕ). MeetVerity (said_at config c.args.part.lower) k n) c.unit_at-unit.ensures.first some)))
 
 pub read_unit_part-returns-in-Ok-clause-same : goal.read_unit_part-returns-in-Ok-clause-same
 read_unit_part-returns-in-Ok-clause-same g t c =
     let config = c.args.config.now in
     let whole = c.whole_unit-whole in
     let count = room_sectors c.as_mut_slice-all.result.now whole.result.sectors (ap (λ (l : List ℕ). length l) c.as_mut_slice-all.ensures.value) whole.ensures.few in
-    λ none. c.in-Ok.ensures.same (λ some. none (meets-part config c.args.part whole.result (length c.args.out.now / 512) c.requires.stack.sound.loaded whole.ensures.whole c.requires.fits.holds (omega (arith, c.requires.fits.sectors.some, c.requires.fits.sectors.whole))
-    (subst (λ (k : ℕ). MeetVerity (source_said config (Units whole.result.from)) 0 k) count some)))
+    λ none. c.in-Ok.ensures.same (λ some. none (meets-part config c.args.part whole.result (length c.args.out.now / 512) whole.ensures.whole c.requires.fits.holds (omega (arith, c.requires.fits.sectors.some, c.requires.fits.sectors.whole)) (subst (λ (k : ℕ). MeetVerity (source_said config (Units whole.result.from)) 0 k) count some)))
 
 pub read_unit_part-returns-in-Err-clause-same : goal.read_unit_part-returns-in-Err-clause-same
 read_unit_part-returns-in-Err-clause-same g t c =
     let config = c.args.config.now in
     let whole = c.whole_unit-whole in
     let count = room_sectors c.as_mut_slice-all.result.now whole.result.sectors (ap (λ (l : List ℕ). length l) c.as_mut_slice-all.ensures.value) whole.ensures.few in
-    λ none. c.in-Err.ensures.same (λ some. none (meets-part config c.args.part whole.result (length c.args.out.now / 512) c.requires.stack.sound.loaded whole.ensures.whole c.requires.fits.holds (omega (arith, c.requires.fits.sectors.some, c.requires.fits.sectors.whole))
-    (subst (λ (k : ℕ). MeetVerity (source_said config (Units whole.result.from)) 0 k) count some)))
+    λ none. c.in-Err.ensures.same (λ some. none (meets-part config c.args.part whole.result (length c.args.out.now / 512) whole.ensures.whole c.requires.fits.holds (omega (arith, c.requires.fits.sectors.some, c.requires.fits.sectors.whole)) (subst (λ (k : ℕ). MeetVerity (source_said config (Units whole.result.from)) 0 k) count some)))
 
 pub read_block-returns-in-Some-clause-same : goal.read_block-returns-in-Some-clause-same
 read_block-returns-in-Some-clause-same g t c = λ none. refl

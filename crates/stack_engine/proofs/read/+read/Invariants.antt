@@ -46,10 +46,10 @@ abbrev pub decreases-read_device-loop-at : goal.decreases-read_device-loop-at
 decreases-read_device-loop-at g l = length l.initial.out - l.at
 
 abbrev pub decreases-read_unit_part : goal.decreases-read_unit_part
-decreases-read_unit_part g l = 8 * depth l.config.now (mapped l.part.device.0) + 4
+decreases-read_unit_part g l = 8 * (depth l.config.now l.part.lower + 1) + 4
 
 abbrev pub decreases-read_units : goal.decreases-read_units
-decreases-read_units g l = 8 * depth l.config.now (mapped l.part.device.0) + 3
+decreases-read_units g l = 8 * (depth l.config.now l.part.lower + 1) + 3
 
 abbrev pub decreases-read_block : goal.decreases-read_block
 decreases-read_block g l = 8 * depth l.config.now (mapped l.part.device.0) + 4

@@ -15,14 +15,14 @@ use Rattle.stack_engine.proofs.SpentLemmas.{IsCutBehind, cut-behind}
 use Rattle.stack_engine.proofs.UncutLemmas.{device-uncut, leaf-plain, units-plain-below, unread-then}
 use Rattle.stack_engine.specs.Uncut.{SourceCutsNone}
 use Rattle.stack_lines.specs.Budgets.{ReadsAtMost, source_budget}
-use Rattle.stack_lines.specs.WriteBudgets.{CountsAtMost, write_budget, part_write_budget, source_write_budget}
+use Rattle.stack_lines.specs.WriteBudgets.{CountsAtMost, write_budget, crypt_write_budget, source_write_budget}
 use Rattle.stack_engine.proofs.PaidLemmas.{paid-all, paid-run, once-paid, step-paid, units-paid, part-unpaid, part-paid}
 use Rattle.stack_engine.proofs.StackLemmas.{stack-later}
 use Rattle.stack_lines.specs.Caches.{StackCache}
 use Rattle.stack_lines.specs.Forgetting.{Forgets}
 use Rattle.stack_lines.specs.Touches.{leaves_of}
 use Rattle.stack_lines.proofs.lemmas.KeptLemmas.{forgets-none, forgets-then, forgets-up}
-use Rattle.stack_lines.proofs.lemmas.TouchLemmas.{crypt-within, served-within}
+use Rattle.stack_lines.proofs.lemmas.TouchLemmas.{served-within}
 use Rattle.stack_meaning.specs.Reading.{MeetVerity}
 use Rattle.stack_meaning.proofs.lemmas.LeafListLemmas.{AreRead-none}
 use Rattle.stack_meaning.proofs.lemmas.LoadedLemmas.{size-small}
@@ -34,15 +34,14 @@ use Rattle.dm_table.specs.declared.crypt.Crypt.{Crypt}
 use Rattle.stack_rules.specs.declared.lower.Lower.TheVariants.{Leaf}
 use Rattle.stack_rules.specs.Units.{unit_sectors}
 use Rattle.stack_meaning.specs.Units.{encrypted_units}
-use Rattle.stack_lines.proofs.lemmas.UnitSourceLemmas.{units-small, units-bytes}
+use Rattle.stack_lines.proofs.lemmas.UnitSourceLemmas.{units-bytes}
 use Rattle.std.proofs.lemmas.Slice.{drop-put_mid}
 use Rattle.stack_rules.proofs.lemmas.UnitLemmas.{unit_sectors-some, unit-bytes}
 use Rattle.stack_meaning.specs.Units.{unit_first}
-use Rattle.stack_lines.proofs.lemmas.UnitLineLemmas.{unit-line-on}
-use Rattle.stack_lines.proofs.lemmas.UnitSourceLemmas.{units-inside, units-whole, lies_in, whole-units}
+use Rattle.stack_lines.proofs.lemmas.UnitSourceLemmas.{whole-units}
 use Rattle.std.proofs.Common.{IsTrue}
 use Rattle.stack_rules.specs.Names.{may_write}
-use Rattle.stack_lines.specs.declared.source.BlockPart.{BlockPart}
+use Rattle.stack_lines.specs.declared.source.CryptPart.{CryptPart}
 use Rattle.stack_meaning.specs.Places.{LeafRead}
 use Rattle.stack_meaning.specs.Reading.{IsPlain}
 use Rattle.stack_lines.specs.Sources.{ReadsSource}
@@ -232,7 +231,7 @@ write_run-write_units-requires g t c κs within =
     let config = c.args.config.now in
     let backing = c.args.backing.now in
     let Can : Source → List ℕ → Type 0 = λ from bytes. CanWrite config (map g.D.BlockDev.state backing.devices.items) backing.cache from bytes in
-    let deep : source_depth config c.args.source ≡ depth config (mapped run.part.device.0) = ap (source_depth config) run.is in
+    let deep : source_depth config c.args.source ≡ depth config run.part.lower + 1 = ap (source_depth config) run.is in
     (omega (arith, deep), (within, subst (λ (p : List ℕ). Can (Units run.part) (p ++ buffer)) none (subst (λ (from : Source). Can from (plain ++ buffer)) run.is c.requires.can)))
 
 pub write_run-write_unit_part-requires : goal.write_run-write_unit_part-requires
@@ -244,7 +243,7 @@ write_run-write_unit_part-requires g t c κs within =
     let config = c.args.config.now in
     let backing = c.args.backing.now in
     let Can : Source → List ℕ → Type 0 = λ from bytes. CanWrite config (map g.D.BlockDev.state backing.devices.items) backing.cache from bytes in
-    let deep : source_depth config c.args.source ≡ depth config (mapped run.part.device.0) = ap (source_depth config) run.is in
+    let deep : source_depth config c.args.source ≡ depth config run.part.lower + 1 = ap (source_depth config) run.is in
     (omega (arith, deep), (within, subst (λ (p : List ℕ). Can (UnitPart run.part) (p ++ buffer)) none (subst (λ (from : Source). Can from (plain ++ buffer)) run.is c.requires.can)))
 
 pub write_run-returns-in-Units-clause-writes : goal.write_run-returns-in-Units-clause-writes
@@ -275,16 +274,18 @@ write_run-returns-in-Fails-clause-writes g t c =
 
 -- ---- units of crypt lines
 
+pub write_units-unit_at-unit-requires : goal.write_units-unit_at-unit-requires
+write_units-unit_at-unit-requires g t c = let small = size-small c.args.config.now c.args.part.lower c.requires.stack.sound.loaded in omega (arith, small, c.requires.fits.holds.inside)
+
 pub write_units-encrypt-requires-clause-fits : goal.write_units-encrypt-requires-clause-fits
 write_units-encrypt-requires-clause-fits g t c =
     let p = c.args.part in
     let n : ℕ = length c.args.units.now / 512 in
-    let small = units-small c.args.config.now p.device.0 p.line p.first n c.crypt_at-crypt.result.now c.requires.stack.sound.loaded c.crypt_at-crypt.ensures c.requires.fits.holds in
-    omega (arith, small, c.unit_at-unit.ensures.index, c.requires.fits.sectors.whole)
+    omega (arith, c.requires.fits.holds.small, c.unit_at-unit.ensures.index, c.requires.fits.sectors.whole)
 
 pub write_units-encrypt-requires-clause-whole : goal.write_units-encrypt-requires-clause-whole
 write_units-encrypt-requires-clause-whole g t c =
-    units-bytes c.args.config.now c.args.part.device.0 c.args.part.line c.args.part.first _ c.crypt_at-crypt.result.now c.crypt_at-crypt.ensures c.requires.fits.holds _ (omega (arith, c.requires.fits.sectors.whole))
+    units-bytes c.args.config.now c.args.part _ _ c.requires.fits.holds (omega (arith, c.requires.fits.sectors.whole))
 
 -- the bytes, encrypted
 encrypted-is : (crypt : Crypt) (k k' : ℕ) (bytes new : List ℕ) → new ≡ encrypted_units crypt k bytes → k ≡ k' → new ≡ encrypted_units crypt k' bytes
@@ -295,12 +296,11 @@ write_units-lower_cuts-requires-clause-sectors g t c =
     let config = c.args.config.now in
     let p = c.args.part in
     let n : ℕ = length c.args.units.now / 512 in
-    let crypt = c.crypt_at-crypt.result.now in
+    let crypt = c.args.part.crypt.now in
     let unit = c.unit_at-unit in
-    let line = unit-line-on config p.device.0 p.line 0 crypt c.requires.stack.sound.loaded c.crypt_at-crypt.ensures unit.result.lower unit.ensures.lower in
-    let inside = units-inside config p.device.0 p.line p.first n crypt c.requires.stack.sound.loaded c.crypt_at-crypt.ensures c.requires.fits.holds unit.result.lower unit.ensures.lower in
+    let inside = c.requires.fits.holds.inside in
     record {
-      allowed = line.crypt_line.writable c.requires.allowed;
+      allowed = c.requires.allowed;
       holds = omega (arith, inside, unit.ensures.first, c.encrypt.auto.units);
       steps = search rules;
     }
@@ -310,18 +310,17 @@ write_units-write_lower-requires g t c κs within =
     let config = c.args.config.now in
     let p = c.args.part in
     let n : ℕ = length c.args.units.now / 512 in
-    let crypt = c.crypt_at-crypt.result.now in
+    let crypt = c.args.part.crypt.now in
     let unit = c.unit_at-unit in
-    let line = unit-line-on config p.device.0 p.line 0 crypt c.requires.stack.sound.loaded c.crypt_at-crypt.ensures unit.result.lower unit.ensures.lower in
-    let inside = units-inside config p.device.0 p.line p.first n crypt c.requires.stack.sound.loaded c.crypt_at-crypt.ensures c.requires.fits.holds unit.result.lower unit.ensures.lower in
+    let inside = c.requires.fits.holds.inside in
     let same = c.encrypt.auto.units in (
-      omega (arith, line.crypt_line.shallower),
+      omega arith,
       (
         within,
         (
           record {
             stack = c.requires.stack;
-            allowed = line.crypt_line.writable c.requires.allowed;
+            allowed = c.requires.allowed;
             fits = record {
               sectors = record { some = omega (arith, same, c.requires.fits.sectors.some); whole = omega (arith, same, c.requires.fits.sectors.whole) };
               holds = omega (arith, inside, unit.ensures.first, same);
@@ -339,9 +338,9 @@ write_units-returns-then-lower_cuts-clause-writes g t c =
     let p = c.args.part in
     let bytes = c.args.units.now in
     let n : ℕ = length bytes / 512 in
-    let crypt = c.crypt_at-crypt.result.now in
+    let crypt = c.args.part.crypt.now in
     let unit = c.unit_at-unit in
-    let lower = unit.result.lower in
+    let lower = c.args.part.lower in
     let enc = encrypted-is crypt unit.result.index (p.first / unit_sectors crypt) bytes c.encrypt.new.units c.encrypt.ensures unit.ensures.index in
     let old = map state c.args.backing.now.devices.items in
     let new = map state c.write_lower.new.backing.devices.items in
@@ -350,7 +349,7 @@ write_units-returns-then-lower_cuts-clause-writes g t c =
     subst (λ (k : ℕ). PutsInSteps (put_on config lower) (unit_first crypt p.first) n (record { size = k; skip = 0 })) (c.from.ensures ∙ c.unit_sectors-sectors.ensures.value)
     (subst (λ (k : ℕ). PutsInSteps (put_on config lower) (unit_first crypt p.first) k (record { size = c.from.result; skip = 0 })) count
     (subst (λ (k : ℕ). PutsInSteps (put_on config lower) k (length c.encrypt.new.units / 512) (record { size = c.from.result; skip = 0 })) unit.ensures.first (c.lower_cuts.ensures c.if-lower_cuts.true))) in
-    lower-written config p bytes n crypt c.requires.stack.sound.loaded c.crypt_at-crypt.ensures c.requires.fits.holds lower unit.ensures.lower (omega (arith, c.requires.fits.sectors.whole)) cut
+    lower-written config p bytes n c.requires.fits.holds (omega (arith, c.requires.fits.sectors.whole)) cut
     (subst (λ (k : ℕ). WritesSectors (destination_of config lower) k (sectors_in (encrypted_units crypt (p.first / unit_sectors crypt) bytes)) old new c.write_lower.result) unit.ensures.first
     (subst (λ (b : List ℕ). WritesSectors (destination_of config lower) unit.result.first (sectors_in b) old new c.write_lower.result) enc c.write_lower.ensures.writes))
 
@@ -360,24 +359,22 @@ write_units-write_lower-requires-in-loop-at g t c κs within =
     let p = c.args.part in
     let bytes = c.args.units.now in
     let n : ℕ = length bytes / 512 in
-    let crypt = c.crypt_at-crypt.result.now in
-    let has = c.crypt_at-crypt.ensures in
+    let crypt = c.args.part.crypt.now in
     let unit = c.unit_at-unit in
     let size : ℕ = c.unit_sectors-sectors.result * 512 in
     let at = c.loop-at.at in
     let long : length bytes ≡ 512 * n = omega (arith, c.requires.fits.sectors.whole) in
     let step = step-at crypt (length bytes) n at size c.min-end.result (omega (arith, c.unit_sectors-sectors.ensures.value, unit-bytes crypt)) long
-    (units-whole config p.device.0 p.line p.first n crypt c.requires.stack.sound.loaded has c.requires.fits.holds) c.loop-at.invariant.even (omega (arith, c.loop-at-test.true, c.encrypt.auto.units)) (omega (arith, c.min-end.ensures, c.encrypt.auto.units)) in
-    let line = unit-line-on config p.device.0 p.line 0 crypt c.requires.stack.sound.loaded has unit.result.lower unit.ensures.lower in
-    let inside = units-inside config p.device.0 p.line p.first n crypt c.requires.stack.sound.loaded has c.requires.fits.holds unit.result.lower unit.ensures.lower in
+    c.requires.fits.holds.whole c.loop-at.invariant.even (omega (arith, c.loop-at-test.true, c.encrypt.auto.units)) (omega (arith, c.min-end.ensures, c.encrypt.auto.units)) in
+    let inside = c.requires.fits.holds.inside in
     let width = step-width step c.loop-at.units (omega (arith, long, c.loop-at.auto.units, c.encrypt.auto.units)) in (
-      omega (arith, line.crypt_line.shallower),
+      omega arith,
       (
         within,
         (
           record {
             stack = stack-later config c.loop-at.invariant.so_far.moved.moved.fixed c.requires.stack c.loop-at.invariant.cached;
-            allowed = line.crypt_line.writable c.requires.allowed;
+            allowed = c.requires.allowed;
             fits = record {
               sectors = record { some = omega (arith, width, step.is, unit-bytes crypt, unit_sectors-some crypt); whole = omega (arith, width) };
               holds = omega (arith, width, inside, unit.ensures.first, step.place, step.fits, step.is, unit-bytes crypt);
@@ -410,28 +407,27 @@ write_units-loop-at-preserved g t c =
     let p = c.args.part in
     let bytes = c.args.units.now in
     let n : ℕ = length bytes / 512 in
-    let crypt = c.crypt_at-crypt.result.now in
-    let has = c.crypt_at-crypt.ensures in
+    let crypt = c.args.part.crypt.now in
     let unit = c.unit_at-unit in
     let size : ℕ = c.unit_sectors-sectors.result * 512 in
     let at = c.loop-at.at in
     let long : length bytes ≡ 512 * n = omega (arith, c.requires.fits.sectors.whole) in
     let step = step-at crypt (length bytes) n at size c.min-end.result (omega (arith, c.unit_sectors-sectors.ensures.value, unit-bytes crypt)) long
-    (units-whole config p.device.0 p.line p.first n crypt c.requires.stack.sound.loaded has c.requires.fits.holds) c.loop-at.invariant.even (omega (arith, c.loop-at-test.true, c.encrypt.auto.units)) (omega (arith, c.min-end.ensures, c.encrypt.auto.units)) in
-    let lower = unit.result.lower in
+    c.requires.fits.holds.whole c.loop-at.invariant.even (omega (arith, c.loop-at-test.true, c.encrypt.auto.units)) (omega (arith, c.min-end.ensures, c.encrypt.auto.units)) in
+    let lower = c.args.part.lower in
     let now = c.loop-at.units in
     let enc = encrypted-is crypt unit.result.index (p.first / unit_sectors crypt) bytes c.encrypt.new.units c.encrypt.ensures unit.ensures.index in
     let old = map state c.args.backing.now.devices.items in
     let wrote = step-written step config lower unit.result.first (unit_first crypt p.first) now c.encrypt.new.units (encrypted_units crypt (p.first / unit_sectors crypt) bytes) unit.ensures.first c.loop-at.invariant.rest enc c.in-Ok.ensures.writes in
     let so_far = subst (λ (k : ℕ). WritesSectors (source_destination config (Units p)) 0 (sectors_in (take k bytes)) old (map state c.loop-at.backing.devices.items) (Ok tt)) step.place c.loop-at.invariant.so_far in
-    let all = units-more config p bytes n crypt c.requires.stack.sound.loaded has c.requires.fits.holds lower unit.ensures.lower long (at / size) step.fits so_far wrote in
+    let all = units-more config p bytes n c.requires.fits.holds long (at / size) step.fits so_far wrote in
     record {
       even = ap (λ (k : ℕ). k % size) step.end_is ∙ step.even;
-      paid = λ k. subst (λ (j : ℕ). CountsAtMost k (part_write_budget config k p j) old (map state c.write_lower-in-loop-at.new.backing.devices.items)) (step-behind step)
-          (step-paid config k p n crypt lower c.requires.stack.sound.loaded has c.requires.fits.holds unit.ensures.lower (at / 512) (unit.result.first + at / 512) (length (take (c.min-end.result - at) (drop at now)) / 512) old (map state c.loop-at.backing.devices.items) (map state c.write_lower-in-loop-at.new.backing.devices.items)
+      paid = λ k. subst (λ (j : ℕ). CountsAtMost k (crypt_write_budget config k p j) old (map state c.write_lower-in-loop-at.new.backing.devices.items)) (step-behind step)
+          (step-paid config k p n c.requires.stack.sound.loaded c.requires.fits.holds (at / 512) (unit.result.first + at / 512) (length (take (c.min-end.result - at) (drop at now)) / 512) old (map state c.loop-at.backing.devices.items) (map state c.write_lower-in-loop-at.new.backing.devices.items)
           (step-sectors step) (omega (arith, unit.ensures.first)) (step-one step now (omega (arith, long, c.loop-at.auto.units, c.encrypt.auto.units))) (c.loop-at.invariant.paid k) (c.in-Ok.ensures.paid k));
-      forgets = forgets-then c.loop-at.invariant.forgets (forgets-up (crypt-within config p.device.0 p.line 0 crypt lower c.requires.stack.sound.loaded has unit.ensures.lower) c.in-Ok.ensures.forgets);
-      uncut = λ cuts. unread-then (map g.D.BlockDev.state c.args.backing.now.devices.items) (map g.D.BlockDev.state c.loop-at.backing.devices.items) (map g.D.BlockDev.state c.write_lower-in-loop-at.new.backing.devices.items) (c.loop-at.invariant.uncut cuts) (c.in-Ok.ensures.writes.unread (units-plain-below config p n crypt lower (unit.result.first + at / 512) has unit.ensures.lower cuts (at / 512) (length (sectors_in (take (c.min-end.result - at) (drop at now)))) (omega (arith, unit.ensures.first))
+      forgets = forgets-then c.loop-at.invariant.forgets c.in-Ok.ensures.forgets;
+      uncut = λ cuts. unread-then (map g.D.BlockDev.state c.args.backing.now.devices.items) (map g.D.BlockDev.state c.loop-at.backing.devices.items) (map g.D.BlockDev.state c.write_lower-in-loop-at.new.backing.devices.items) (c.loop-at.invariant.uncut cuts) (c.in-Ok.ensures.writes.unread (units-plain-below config p n (unit.result.first + at / 512) cuts (at / 512) (length (sectors_in (take (c.min-end.result - at) (drop at now)))) (omega (arith, unit.ensures.first))
           (omega (arith, long, c.min-end.ensures, c.loop-at.auto.units, c.encrypt.auto.units, length-sectors_in (take (c.min-end.result - at) (drop at now)), length-take (c.min-end.result - at) (drop at now), length-drop at now))));
       within = omega (arith, c.min-end.ensures, c.encrypt.auto.units);
       rest = drop-put_mid at (c.min-end.result - at) now c.write_lower-in-loop-at.new.buffer c.min-end.result (omega (arith, step.end_is)) (omega (arith, c.loop-at-test.true, c.loop-at.auto.units))
@@ -448,30 +444,29 @@ write_units-returns-in-Err-clause-writes g t c =
     let p = c.args.part in
     let bytes = c.args.units.now in
     let n : ℕ = length bytes / 512 in
-    let crypt = c.crypt_at-crypt.result.now in
-    let has = c.crypt_at-crypt.ensures in
+    let crypt = c.args.part.crypt.now in
     let unit = c.unit_at-unit in
     let size : ℕ = c.unit_sectors-sectors.result * 512 in
     let at = c.loop-at.at in
     let long : length bytes ≡ 512 * n = omega (arith, c.requires.fits.sectors.whole) in
     let step = step-at crypt (length bytes) n at size c.min-end.result (omega (arith, c.unit_sectors-sectors.ensures.value, unit-bytes crypt)) long
-    (units-whole config p.device.0 p.line p.first n crypt c.requires.stack.sound.loaded has c.requires.fits.holds) c.loop-at.invariant.even (omega (arith, c.loop-at-test.true, c.encrypt.auto.units)) (omega (arith, c.min-end.ensures, c.encrypt.auto.units)) in
-    let lower = unit.result.lower in
+    c.requires.fits.holds.whole c.loop-at.invariant.even (omega (arith, c.loop-at-test.true, c.encrypt.auto.units)) (omega (arith, c.min-end.ensures, c.encrypt.auto.units)) in
+    let lower = c.args.part.lower in
     let now = c.loop-at.units in
     let enc = encrypted-is crypt unit.result.index (p.first / unit_sectors crypt) bytes c.encrypt.new.units c.encrypt.ensures unit.ensures.index in
     let old = map state c.args.backing.now.devices.items in
     let wrote = step-written step config lower unit.result.first (unit_first crypt p.first) now c.encrypt.new.units (encrypted_units crypt (p.first / unit_sectors crypt) bytes) unit.ensures.first c.loop-at.invariant.rest enc c.in-Err.ensures.writes in
     let so_far = subst (λ (k : ℕ). WritesSectors (source_destination config (Units p)) 0 (sectors_in (take k bytes)) old (map state c.loop-at.backing.devices.items) (Ok tt)) step.place c.loop-at.invariant.so_far in
-    units-ended config p bytes n crypt c.requires.stack.sound.loaded has c.requires.fits.holds lower unit.ensures.lower long (at / size) step.fits so_far c.in-Err.fault wrote
+    units-ended config p bytes n c.requires.fits.holds long (at / size) step.fits so_far c.in-Err.fault wrote
 
 pub write_units-overflow_add-first : goal.write_units-overflow_add-first
 write_units-overflow_add-first g t c =
     let config = c.args.config.now in
     let p = c.args.part in
     let n : ℕ = length c.args.units.now / 512 in
-    let crypt = c.crypt_at-crypt.result.now in
-    let inside = units-inside config p.device.0 p.line p.first n crypt c.requires.stack.sound.loaded c.crypt_at-crypt.ensures c.requires.fits.holds c.unit_at-unit.result.lower c.unit_at-unit.ensures.lower in
-    let small = size-small config c.unit_at-unit.result.lower c.requires.stack.sound.loaded in
+    let crypt = c.args.part.crypt.now in
+    let inside = c.requires.fits.holds.inside in
+    let small = size-small config c.args.part.lower c.requires.stack.sound.loaded in
     omega (arith, inside, small, c.unit_at-unit.ensures.first, c.encrypt.auto.units, c.loop-at-test.true)
 
 pub write_units-returns-clause-writes : goal.write_units-returns-clause-writes
@@ -490,7 +485,7 @@ write_unit_part-read_units-requires g t c =
     let p = c.args.part in
     let n : ℕ = length c.args.bytes.now / 512 in
     let whole = c.whole_unit-whole in
-    let units = whole-units config p whole.result n c.requires.stack.sound.loaded whole.ensures.whole c.requires.fits.holds (omega (arith, c.requires.fits.sectors.some, c.requires.fits.sectors.whole)) in
+    let units = whole-units config p whole.result n whole.ensures.whole c.requires.fits.holds (omega (arith, c.requires.fits.sectors.some, c.requires.fits.sectors.whole)) in
     let size = room_length c.as_mut_slice-all.result.now whole.result.sectors (ap (λ (l : List ℕ). length l) c.as_mut_slice-all.ensures.value) whole.ensures.few in
     let count = room_sectors c.as_mut_slice-all.result.now whole.result.sectors (ap (λ (l : List ℕ). length l) c.as_mut_slice-all.ensures.value) whole.ensures.few in
     record {
@@ -498,7 +493,7 @@ write_unit_part-read_units-requires g t c =
       kept = search rules;
       fits = record {
         sectors = record { some = omega (arith, size, whole.ensures.some); whole = omega (arith, size) };
-        holds = subst (λ (k : ℕ). AreUnits config whole.result.from.device.0 whole.result.from.line whole.result.from.first k) (sym count) units;
+        holds = subst (AreUnits config whole.result.from) (sym count) units;
       };
       can_go = tt;
     }
@@ -527,9 +522,8 @@ write_unit_part-put_sectors-requires g t c =
     let n : ℕ = length c.args.bytes.now / 512 in
     let whole = c.whole_unit-whole in
     let of = whole.ensures.whole in
-    let lies = lies_in c.args.config.now p whole.result n c.requires.stack.sound.loaded of c.requires.fits.holds (omega (arith, c.requires.fits.sectors.some, c.requires.fits.sectors.whole)) in
     let room : length c.as_mut_slice-all.result.now ≡ 4096 = ap (λ (l : List ℕ). length l) c.as_mut_slice-all.ensures.value in
-    omega (arith, lies.0, of.within, of.sectors, c.requires.fits.sectors.whole, room, whole.ensures.few, c.read_units.auto.out, length-take (whole.result.sectors * 512) c.as_mut_slice-all.result.now)
+    omega (arith, c.requires.fits.holds.within, of.within, of.sectors, c.requires.fits.sectors.whole, room, whole.ensures.few, c.read_units.auto.out, length-take (whole.result.sectors * 512) c.as_mut_slice-all.result.now)
 
 pub write_unit_part-write_units-requires : goal.write_unit_part-write_units-requires
 write_unit_part-write_units-requires g t c κs within =
@@ -538,8 +532,8 @@ write_unit_part-write_units-requires g t c κs within =
     let n : ℕ = length c.args.bytes.now / 512 in
     let whole = c.whole_unit-whole in
     let of = whole.ensures.whole in
-    let units = whole-units config p whole.result n c.requires.stack.sound.loaded of c.requires.fits.holds (omega (arith, c.requires.fits.sectors.some, c.requires.fits.sectors.whole)) in
-    let same : depth config (mapped whole.result.from.device.0) ≡ depth config (mapped p.device.0) = ap (λ (b : BlockPart). depth config (mapped b.device.0)) of.from in
+    let units = whole-units config p whole.result n of c.requires.fits.holds (omega (arith, c.requires.fits.sectors.some, c.requires.fits.sectors.whole)) in
+    let same : depth config whole.result.from.lower ≡ depth config p.lower = ap (λ (x : CryptPart). depth config x.lower) of.from in
     let room : length c.as_mut_slice-all.result.now ≡ 4096 = ap (λ (l : List ℕ). length l) c.as_mut_slice-all.ensures.value in
     let size : length c.put_sectors.new.unit ≡ whole.result.sectors * 512 = omega (arith, room, whole.ensures.few, c.read_units.auto.out, c.put_sectors.auto.unit, length-take (whole.result.sectors * 512) c.as_mut_slice-all.result.now) in
     let count : length c.put_sectors.new.unit / 512 ≡ whole.result.sectors = omega (arith, size) in (
@@ -548,10 +542,10 @@ write_unit_part-write_units-requires g t c κs within =
         within,
         record {
           stack = stack-later config c.in-Ok.ensures.reads.got.moved.moved.fixed c.requires.stack c.in-Ok.ensures.cached;
-          allowed = subst (λ (b : BlockPart). IsTrue (may_write config (mapped b.device.0))) (sym of.from) c.requires.allowed;
+          allowed = subst (λ (x : CryptPart). IsTrue (may_write config x.lower)) (sym of.from) c.requires.allowed;
           fits = record {
             sectors = record { some = omega (arith, size, whole.ensures.some); whole = omega (arith, size) };
-            holds = subst (λ (k : ℕ). AreUnits config whole.result.from.device.0 whole.result.from.line whole.result.from.first k) (sym count) units;
+            holds = subst (AreUnits config whole.result.from) (sym count) units;
           };
         },
       ),
@@ -613,7 +607,7 @@ pub write_units-returns-then-lower_cuts-clause-uncut : goal.write_units-returns-
 write_units-returns-then-lower_cuts-clause-uncut g t c =
     let unit = c.unit_at-unit in
     λ cuts. c.write_lower.ensures.writes.unread
-    (units-plain-below c.args.config.now c.args.part (length c.args.units.now / 512) c.crypt_at-crypt.result.now unit.result.lower unit.result.first c.crypt_at-crypt.ensures unit.ensures.lower cuts 0 (length (sectors_in c.encrypt.new.units)) (omega (arith, unit.ensures.first))
+    (units-plain-below c.args.config.now c.args.part (length c.args.units.now / 512) unit.result.first cuts 0 (length (sectors_in c.encrypt.new.units)) (omega (arith, unit.ensures.first))
     (omega (arith, length-sectors_in c.encrypt.new.units, c.encrypt.auto.units)))
 
 pub write_units-returns-in-Err-clause-uncut : goal.write_units-returns-in-Err-clause-uncut
@@ -622,14 +616,13 @@ write_units-returns-in-Err-clause-uncut g t c =
     let p = c.args.part in
     let bytes = c.args.units.now in
     let n : ℕ = length bytes / 512 in
-    let crypt = c.crypt_at-crypt.result.now in
-    let has = c.crypt_at-crypt.ensures in
+    let crypt = c.args.part.crypt.now in
     let unit = c.unit_at-unit in
-    let lower = unit.result.lower in
+    let lower = c.args.part.lower in
     let at = c.loop-at.at in
     let now = c.loop-at.units in
     let long : length bytes ≡ 512 * n = omega (arith, c.requires.fits.sectors.whole) in
-    λ cuts. unread-then (map g.D.BlockDev.state c.args.backing.now.devices.items) (map g.D.BlockDev.state c.loop-at.backing.devices.items) (map g.D.BlockDev.state c.write_lower-in-loop-at.new.backing.devices.items) (c.loop-at.invariant.uncut cuts) (c.in-Err.ensures.writes.unread (units-plain-below config p n crypt lower (unit.result.first + at / 512) has unit.ensures.lower cuts (at / 512) (length (sectors_in (take (c.min-end.result - at) (drop at now)))) (omega (arith, unit.ensures.first))
+    λ cuts. unread-then (map g.D.BlockDev.state c.args.backing.now.devices.items) (map g.D.BlockDev.state c.loop-at.backing.devices.items) (map g.D.BlockDev.state c.write_lower-in-loop-at.new.backing.devices.items) (c.loop-at.invariant.uncut cuts) (c.in-Err.ensures.writes.unread (units-plain-below config p n (unit.result.first + at / 512) cuts (at / 512) (length (sectors_in (take (c.min-end.result - at) (drop at now)))) (omega (arith, unit.ensures.first))
     (omega (arith, long, c.min-end.ensures, c.loop-at.auto.units, c.encrypt.auto.units, length-sectors_in (take (c.min-end.result - at) (drop at now)), length-take (c.min-end.result - at) (drop at now), length-drop at now))))
 
 pub write_units-returns-clause-uncut : goal.write_units-returns-clause-uncut
@@ -683,13 +676,13 @@ write_run-returns-in-Fails-clause-forgets g t c = forgets-none c.args.backing.no
 pub write_units-returns-then-lower_cuts-clause-forgets : goal.write_units-returns-then-lower_cuts-clause-forgets
 write_units-returns-then-lower_cuts-clause-forgets g t c =
     let p = c.args.part in
-    forgets-up (crypt-within c.args.config.now p.device.0 p.line 0 c.crypt_at-crypt.result.now c.unit_at-unit.result.lower c.requires.stack.sound.loaded c.crypt_at-crypt.ensures c.unit_at-unit.ensures.lower) c.write_lower.ensures.forgets
+    c.write_lower.ensures.forgets
 
 pub write_units-returns-in-Err-clause-forgets : goal.write_units-returns-in-Err-clause-forgets
 write_units-returns-in-Err-clause-forgets g t c =
     let p = c.args.part in
     forgets-then c.loop-at.invariant.forgets
-    (forgets-up (crypt-within c.args.config.now p.device.0 p.line 0 c.crypt_at-crypt.result.now c.unit_at-unit.result.lower c.requires.stack.sound.loaded c.crypt_at-crypt.ensures c.unit_at-unit.ensures.lower) c.in-Err.ensures.forgets)
+    c.in-Err.ensures.forgets
 
 pub write_units-returns-clause-forgets : goal.write_units-returns-clause-forgets
 write_units-returns-clause-forgets g t c = c.loop-at.invariant.forgets
@@ -706,8 +699,8 @@ write_unit_part-returns-in-Err-clause-forgets g t c =
     let before = c.args.backing.now.cache.blocks.blocks in
     let same : c.read_units.new.backing.cache ≡ c.args.backing.now.cache =
     c.in-Err.ensures.same (λ x. none (subst (λ (k : ℕ). MeetVerity (source_said config (Units whole.result.from)) 0 k) count x)) in
-    let read : Forgets config (leaves_of config (mapped p.device.0)) (map state c.args.backing.now.devices.items) (map state c.read_units.new.backing.devices.items) before c.read_units.new.backing.cache.blocks.blocks =
-    subst (λ (k : StackCache). Forgets config (leaves_of config (mapped p.device.0)) (map state c.args.backing.now.devices.items) (map state c.read_units.new.backing.devices.items) before k.blocks.blocks) (sym same)
+    let read : Forgets config (leaves_of config p.lower) (map state c.args.backing.now.devices.items) (map state c.read_units.new.backing.devices.items) before c.read_units.new.backing.cache.blocks.blocks =
+    subst (λ (k : StackCache). Forgets config (leaves_of config p.lower) (map state c.args.backing.now.devices.items) (map state c.read_units.new.backing.devices.items) before k.blocks.blocks) (sym same)
     (forgets-none before c.in-Err.ensures.reads.got.moved) in
     read
 
@@ -723,10 +716,10 @@ write_unit_part-returns-clause-forgets g t c =
     let before = c.args.backing.now.cache.blocks.blocks in
     let same : c.read_units.new.backing.cache ≡ c.args.backing.now.cache =
     c.in-Ok.ensures.same (λ x. none (subst (λ (k : ℕ). MeetVerity (source_said config (Units whole.result.from)) 0 k) count x)) in
-    let read : Forgets config (leaves_of config (mapped p.device.0)) (map state c.args.backing.now.devices.items) (map state c.read_units.new.backing.devices.items) before c.read_units.new.backing.cache.blocks.blocks =
-    subst (λ (k : StackCache). Forgets config (leaves_of config (mapped p.device.0)) (map state c.args.backing.now.devices.items) (map state c.read_units.new.backing.devices.items) before k.blocks.blocks) (sym same)
+    let read : Forgets config (leaves_of config p.lower) (map state c.args.backing.now.devices.items) (map state c.read_units.new.backing.devices.items) before c.read_units.new.backing.cache.blocks.blocks =
+    subst (λ (k : StackCache). Forgets config (leaves_of config p.lower) (map state c.args.backing.now.devices.items) (map state c.read_units.new.backing.devices.items) before k.blocks.blocks) (sym same)
     (forgets-none before c.in-Ok.ensures.reads.got.moved) in
-    forgets-then read (subst (λ (b : BlockPart). Forgets config (leaves_of config (mapped b.device.0)) (map state c.read_units.new.backing.devices.items) (map state c.write_units.new.backing.devices.items)
+    forgets-then read (subst (λ (x : CryptPart). Forgets config (leaves_of config x.lower) (map state c.read_units.new.backing.devices.items) (map state c.write_units.new.backing.devices.items)
     c.read_units.new.backing.cache.blocks.blocks c.write_units.new.backing.cache.blocks.blocks) whole.ensures.whole.from c.write_units.ensures.forgets)
 
 pub write_device-returns-in-Err-clause-forgets : goal.write_device-returns-in-Err-clause-forgets
@@ -776,7 +769,7 @@ pub write_units-returns-then-lower_cuts-clause-paid : goal.write_units-returns-t
 write_units-returns-then-lower_cuts-clause-paid g t c =
     let n : ℕ = length c.args.units.now / 512 in
     let unit = c.unit_at-unit in
-    λ k. once-paid c.args.config.now k c.args.part n c.crypt_at-crypt.result.now unit.result.lower c.requires.stack.sound.loaded c.crypt_at-crypt.ensures c.requires.fits.holds unit.ensures.lower unit.result.first (length c.encrypt.new.units / 512)
+    λ k. once-paid c.args.config.now k c.args.part n c.requires.stack.sound.loaded c.requires.fits.holds unit.result.first (length c.encrypt.new.units / 512)
     (map g.D.BlockDev.state c.args.backing.now.devices.items) (map g.D.BlockDev.state c.write_lower.new.backing.devices.items) unit.ensures.first (omega (arith, c.encrypt.auto.units)) (omega (arith, c.requires.fits.sectors.some, c.requires.fits.sectors.whole)) (c.write_lower.ensures.paid k)
 
 pub write_units-returns-in-Err-clause-paid : goal.write_units-returns-in-Err-clause-paid
@@ -786,20 +779,19 @@ write_units-returns-in-Err-clause-paid g t c =
     let p = c.args.part in
     let bytes = c.args.units.now in
     let n : ℕ = length bytes / 512 in
-    let crypt = c.crypt_at-crypt.result.now in
-    let has = c.crypt_at-crypt.ensures in
+    let crypt = c.args.part.crypt.now in
     let unit = c.unit_at-unit in
     let size : ℕ = c.unit_sectors-sectors.result * 512 in
     let at = c.loop-at.at in
     let long : length bytes ≡ 512 * n = omega (arith, c.requires.fits.sectors.whole) in
     let step = step-at crypt (length bytes) n at size c.min-end.result (omega (arith, c.unit_sectors-sectors.ensures.value, unit-bytes crypt)) long
-    (units-whole config p.device.0 p.line p.first n crypt c.requires.stack.sound.loaded has c.requires.fits.holds) c.loop-at.invariant.even (omega (arith, c.loop-at-test.true, c.encrypt.auto.units)) (omega (arith, c.min-end.ensures, c.encrypt.auto.units)) in
-    let lower = unit.result.lower in
+    c.requires.fits.holds.whole c.loop-at.invariant.even (omega (arith, c.loop-at-test.true, c.encrypt.auto.units)) (omega (arith, c.min-end.ensures, c.encrypt.auto.units)) in
+    let lower = c.args.part.lower in
     let now = c.loop-at.units in
     let old = map state c.args.backing.now.devices.items in
     let new = map state c.write_lower-in-loop-at.new.backing.devices.items in
-    λ k. units-paid config k p n crypt lower c.requires.stack.sound.loaded has c.requires.fits.holds unit.ensures.lower (at / 512 + unit_sectors crypt) old new (step-sectors-behind step) (step-within step)
-    (step-paid config k p n crypt lower c.requires.stack.sound.loaded has c.requires.fits.holds unit.ensures.lower (at / 512) (unit.result.first + at / 512) (length (take (c.min-end.result - at) (drop at now)) / 512) old (map state c.loop-at.backing.devices.items) new
+    λ k. units-paid config k p n c.requires.stack.sound.loaded c.requires.fits.holds (at / 512 + unit_sectors crypt) old new (step-sectors-behind step) (step-within step)
+    (step-paid config k p n c.requires.stack.sound.loaded c.requires.fits.holds (at / 512) (unit.result.first + at / 512) (length (take (c.min-end.result - at) (drop at now)) / 512) old (map state c.loop-at.backing.devices.items) new
     (step-sectors step) (omega (arith, unit.ensures.first)) (step-one step now (omega (arith, long, c.loop-at.auto.units, c.encrypt.auto.units))) (c.loop-at.invariant.paid k) (c.in-Err.ensures.paid k))
 
 pub write_units-returns-clause-paid : goal.write_units-returns-clause-paid
@@ -808,7 +800,7 @@ write_units-returns-clause-paid g t c =
     let config = c.args.config.now in
     let n : ℕ = length c.args.units.now / 512 in
     let all : c.loop-at.at / 512 ≡ n = omega (arith, c.loop-at-test.false, c.loop-at.invariant.within, c.encrypt.auto.units) in
-    λ k. subst (λ (j : ℕ). CountsAtMost k (part_write_budget config k c.args.part j) (map state c.args.backing.now.devices.items) (map state c.loop-at.backing.devices.items)) all (c.loop-at.invariant.paid k)
+    λ k. subst (λ (j : ℕ). CountsAtMost k (crypt_write_budget config k c.args.part j) (map state c.args.backing.now.devices.items) (map state c.loop-at.backing.devices.items)) all (c.loop-at.invariant.paid k)
 
 pub write_unit_part-returns-in-Err-clause-paid : goal.write_unit_part-returns-in-Err-clause-paid
 write_unit_part-returns-in-Err-clause-paid g t c =
@@ -818,7 +810,7 @@ write_unit_part-returns-in-Err-clause-paid g t c =
     let count = room_sectors c.as_mut_slice-all.result.now whole.result.sectors (ap (λ (l : List ℕ). length l) c.as_mut_slice-all.ensures.value) whole.ensures.few in
     let old = map state c.args.backing.now.devices.items in
     let mid = map state c.read_units.new.backing.devices.items in
-    λ k. part-unpaid config c.args.part whole.result (length c.args.bytes.now / 512) c.requires.stack.sound.loaded whole.ensures.whole c.requires.fits.holds (omega (arith, c.requires.fits.sectors.some, c.requires.fits.sectors.whole)) k old mid c.in-Err.ensures.reads.got.moved
+    λ k. part-unpaid config c.args.part whole.result (length c.args.bytes.now / 512) whole.ensures.whole c.requires.fits.holds (omega (arith, c.requires.fits.sectors.some, c.requires.fits.sectors.whole)) k old mid c.in-Err.ensures.reads.got.moved
     (subst (λ (j : ℕ). ReadsAtMost (source_budget config (Units whole.result.from) j) old mid) count c.in-Err.ensures.spent)
 
 pub write_unit_part-returns-clause-paid : goal.write_unit_part-returns-clause-paid
@@ -831,7 +823,7 @@ write_unit_part-returns-clause-paid g t c =
     let mid = map state c.read_units.new.backing.devices.items in
     let new = map state c.write_units.new.backing.devices.items in
     let same : length c.put_sectors.new.unit / 512 ≡ whole.result.sectors = ap (λ (j : ℕ). j / 512) (c.put_sectors.auto.unit ∙ c.read_units.auto.out) ∙ count in
-    λ k. part-paid config c.args.part whole.result (length c.args.bytes.now / 512) c.requires.stack.sound.loaded whole.ensures.whole c.requires.fits.holds (omega (arith, c.requires.fits.sectors.some, c.requires.fits.sectors.whole)) k old mid new c.in-Ok.ensures.reads.got.moved
+    λ k. part-paid config c.args.part whole.result (length c.args.bytes.now / 512) whole.ensures.whole c.requires.fits.holds (omega (arith, c.requires.fits.sectors.some, c.requires.fits.sectors.whole)) k old mid new c.in-Ok.ensures.reads.got.moved
     (subst (λ (j : ℕ). ReadsAtMost (source_budget config (Units whole.result.from) j) old mid) count c.in-Ok.ensures.spent)
     (subst (λ (j : ℕ). CountsAtMost k (source_write_budget config k (Units whole.result.from) j) mid new) same (c.write_units.ensures.paid k))
 

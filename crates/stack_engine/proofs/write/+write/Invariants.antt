@@ -8,7 +8,7 @@ use Rattle.stack_lines.specs.Sources.{source_depth}
 use Rattle.stack_lines.specs.Caches.{KeepsCache}
 use Rattle.stack_lines.specs.Forgetting.{Forgets}
 use Rattle.stack_lines.specs.Touches.{leaves_of}
-use Rattle.stack_lines.specs.WriteBudgets.{Counter, CountsAtMost, write_budget, part_write_budget}
+use Rattle.stack_lines.specs.WriteBudgets.{Counter, CountsAtMost, write_budget, crypt_write_budget}
 use Rattle.stack_engine.specs.Uncut.{CutsNone, SourceCutsNone}
 use Rattle.stack_meaning.specs.Changes.{NoneRead}
 use Rattle.stack_engine.proofs.SpentLemmas.{IsCutBehind}
@@ -44,10 +44,10 @@ abbrev pub decreases-write_device-loop-at : goal.decreases-write_device-loop-at
 decreases-write_device-loop-at g l = l.initial.len - l.at
 
 abbrev pub decreases-write_unit_part : goal.decreases-write_unit_part
-decreases-write_unit_part g l = 8 * depth l.config.now (mapped l.part.device.0) + 4
+decreases-write_unit_part g l = 8 * (depth l.config.now l.part.lower + 1) + 4
 
 abbrev pub decreases-write_units : goal.decreases-write_units
-decreases-write_units g l = 8 * depth l.config.now (mapped l.part.device.0) + 3
+decreases-write_units g l = 8 * (depth l.config.now l.part.lower + 1) + 3
 
 -- the units so far are written, and the others are encrypted
 abbrev pub invariant-write_units-loop-at : goal.invariant-write_units-loop-at
@@ -56,8 +56,8 @@ invariant-write_units-loop-at g l = record {
   within : l.at ≤ length l.fn.units;
   rest : drop l.at l.units ≡ drop l.at l.initial.units;
   uncut : SourceCutsNone l.config (Units l.fn.part) (length l.fn.units / 512) → NoneRead (map g.D.BlockDev.state l.fn.backing.devices.items) (map g.D.BlockDev.state l.backing.devices.items);
-  paid : (k : Counter) → CountsAtMost k (part_write_budget l.config k l.fn.part (l.at / 512)) (map g.D.BlockDev.state l.fn.backing.devices.items) (map g.D.BlockDev.state l.backing.devices.items);
-  forgets : Forgets l.config (leaves_of l.config (mapped l.fn.part.device.0)) (map g.D.BlockDev.state l.fn.backing.devices.items) (map g.D.BlockDev.state l.backing.devices.items) l.fn.backing.cache.blocks.blocks l.backing.cache.blocks.blocks;
+  paid : (k : Counter) → CountsAtMost k (crypt_write_budget l.config k l.fn.part (l.at / 512)) (map g.D.BlockDev.state l.fn.backing.devices.items) (map g.D.BlockDev.state l.backing.devices.items);
+  forgets : Forgets l.config (leaves_of l.config l.fn.part.lower) (map g.D.BlockDev.state l.fn.backing.devices.items) (map g.D.BlockDev.state l.backing.devices.items) l.fn.backing.cache.blocks.blocks l.backing.cache.blocks.blocks;
   so_far : WritesSectors (source_destination l.config (Units l.fn.part)) 0 (sectors_in (take l.at l.fn.units)) (map g.D.BlockDev.state l.fn.backing.devices.items) (map g.D.BlockDev.state l.backing.devices.items) (Ok tt);
   cached : KeepsCache l.config (map g.D.BlockDev.state l.backing.devices.items) l.fn.backing.cache l.backing.cache;
 }

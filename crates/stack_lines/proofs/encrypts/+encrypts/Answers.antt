@@ -72,13 +72,9 @@ run_encrypts-returns-in-Blocks t c =
 pub run_encrypts-returns-in-Units : goal.run_encrypts-returns-in-Units
 run_encrypts-returns-in-Units t c =
     let config = c.args.config.now in
-    let b = c.in-Units.field-0 in
-    let inside = subst (λ (s : Source). SourceHolds config s c.args.count) c.in-Units.is c.requires.inside in
-    (λ yes. subst (λ (s : Source). SomeEncrypt (source_said config s) 0 c.args.count) (sym c.in-Units.is) (units-some config b c.args.count inside c.requires.some), λ some. refl)
+    (λ yes. subst (λ (s : Source). SomeEncrypt (source_said config s) 0 c.args.count) (sym c.in-Units.is) (units-some config c.in-Units.field-0 c.args.count c.requires.some), λ some. refl)
 
 pub run_encrypts-returns-in-UnitPart : goal.run_encrypts-returns-in-UnitPart
 run_encrypts-returns-in-UnitPart t c =
     let config = c.args.config.now in
-    let b = c.in-UnitPart.field-0 in
-    let inside = subst (λ (s : Source). SourceHolds config s c.args.count) c.in-UnitPart.is c.requires.inside in
-    (λ yes. subst (λ (s : Source). SomeEncrypt (source_said config s) 0 c.args.count) (sym c.in-UnitPart.is) (unit_part-some config b c.args.count inside c.requires.some), λ some. refl)
+    (λ yes. subst (λ (s : Source). SomeEncrypt (source_said config s) 0 c.args.count) (sym c.in-UnitPart.is) (unit_part-some config c.in-UnitPart.field-0 c.args.count c.requires.some), λ some. refl)
