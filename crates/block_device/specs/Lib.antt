@@ -5,6 +5,7 @@ pub mod OpenFault
 pub mod File
 pub mod FileId
 pub mod Identity
+pub mod LostWrites
 pub mod Memory
 pub mod Any
 pub mod Script

@@ -1,12 +1,13 @@
 //! A device in a file.
-ghost use Rattle.std.specs.Prelude.{◌≡◌, ◌≤◌, ◌^◌, ◌/◌, ◌↔◌, length, false, refl, IfOk, IfErr, IfSome, IsOk, IsTrue, OnErr, OnOk, Ok};
+ghost use Rattle.std.specs.Prelude.{◌≡◌, ◌≤◌, ◌^◌, ◌/◌, ◌↔◌, length, false, refl, is_ok, IfOk, IfErr, IfSome, IsOk, IsTrue, OnErr, OnOk, Ok};
 ghost use Rattle.std.specs.Fs.{metadata_len, file_type, IsFile};
-ghost use Rattle.block_device.specs.Calls.{DeviceFailsToSync, DeviceSyncs};
-ghost use Rattle.block_device.specs.Device.{zeros_image};
+ghost use Rattle.block_device.specs.Calls.{DeviceFails, DeviceFailsToSync, DeviceGives, DevicePuts, DeviceReads, DeviceSyncs, DeviceWrites};
+ghost use Rattle.block_device.specs.Device.{IsInside, zeros_image};
 ghost use Rattle.block_device.specs.File.{opened, HasSectors, IsRefused, IsImage, IsBlockDevice};
 ghost use Rattle.block_device.specs.Identity.{IsIdOf};
 ghost use Rattle.block_device.specs.Whole.{whole_zeros};
 
+use crate::file_lock::FileLock;
 use crate::{BlockDev, DeviceFault, FileId, OpenFault, SyncDev};
 use std::fs;
 use std::fs::{File, Metadata, OpenFile, OpenOptions};
@@ -24,6 +25,8 @@ const BLOCK_DEVICE: u32 = 0o060_000;
 /// A file or a block device as sectors, of which a trailing part of a sector isn't seen. The size is taken when
 /// it is opened.
 ///
+/// A device whose sync failed stays failed: later syncs fail too, since the system reports once that writes were lost.
+///
 /// Reads and writes are positioned: no call moves a position that another one uses. Short ones are continued
 /// by the standard library. That the file holds what was written until it is read is not proved, since no
 /// contract says what a file gives: this device is never called steady. Tests over real files show that bytes
@@ -35,6 +38,7 @@ pub struct FileDev {
     sectors: u64,
     writable: bool,
     dirty: bool,
+    has_lost_writes: bool,
     reads: u64,
     writes: u64,
     failures: u64,
@@ -81,6 +85,15 @@ impl FileDev {
         ensures { result ≡ file_id self.now }
     {
         self.id
+    }
+
+    /// Locks the file against other processes that lock it, until the lock is dropped.
+    ///
+    /// # Errors
+    ///
+    /// `InUse` if another open of the file holds a lock, else the fault of what the system answered.
+    pub fn try_lock(&self) -> Result<FileLock, OpenFault> {
+        FileLock::of(&self.file)
     }
 }
 
@@ -130,6 +143,7 @@ fn device_of(file: File, metadata: &Metadata, sectors: u64, writable: bool) -> F
         sectors,
         writable,
         dirty: false,
+        has_lost_writes: false,
         reads: 0,
         writes: 0,
         failures: 0,
@@ -137,6 +151,8 @@ fn device_of(file: File, metadata: &Metadata, sectors: u64, writable: bool) -> F
 }
 
 impl BlockDev for FileDev {
+    ghost use Rattle.block_device.specs.LostWrites.{has_lost_writes};
+
     ghost state = { λ f. record {
       size = f.sectors;
       may_write = f.writable;
@@ -161,7 +177,15 @@ impl BlockDev for FileDev {
         self.writable
     }
 
-    fn read(&mut self, first: u64, out: &mut [u8]) -> Result<(), DeviceFault> {
+    fn read(&mut self, first: u64, out: &mut [u8]) -> Result<(), DeviceFault>
+        requires { IsInside (⟦<FileDev as BlockDev>⟧.state self.old) first (length out.old) }
+        ensures moved { DeviceReads ⟦<FileDev as BlockDev>⟧.state self.old self.new out.old (is_ok result) }
+        ensures bytes { OnOk result (DeviceGives ⟦<FileDev as BlockDev>⟧.state self.old first out.old out.new) }
+        ensures given { OnOk result (⟦<FileDev as BlockDev>⟧.gives self.old first out.new) }
+        ensures sure { IsTrue (⟦<FileDev as BlockDev>⟧.state self.old).never_fails → IsOk result }
+        ensures fault { OnErr result (DeviceFails ⟦<FileDev as BlockDev>⟧.state self.old self.new) }
+        ensures lost { has_lost_writes self.new ≡ has_lost_writes self.old }
+    {
         self.reads = self.reads.saturating_add(out.len() as u64 / 512);
         match self.file.read_exact_at(out, first * 512) {
             Ok(()) => Ok(()),
@@ -172,7 +196,15 @@ impl BlockDev for FileDev {
         }
     }
 
-    fn write(&mut self, first: u64, bytes: &[u8]) -> Result<(), DeviceFault> {
+    fn write(&mut self, first: u64, bytes: &[u8]) -> Result<(), DeviceFault>
+        requires range { IsInside (⟦<FileDev as BlockDev>⟧.state self.old) first (length bytes.now) }
+        requires allowed { IsTrue (⟦<FileDev as BlockDev>⟧.state self.old).may_write }
+        ensures moved { DeviceWrites ⟦<FileDev as BlockDev>⟧.state self.old self.new first bytes.now (is_ok result) }
+        ensures image { OnOk result (DevicePuts ⟦<FileDev as BlockDev>⟧.state self.old self.new first bytes.now) }
+        ensures sure { IsTrue (⟦<FileDev as BlockDev>⟧.state self.old).never_fails → IsOk result }
+        ensures fault { OnErr result (DeviceFails ⟦<FileDev as BlockDev>⟧.state self.old self.new) }
+        ensures lost { has_lost_writes self.new ≡ has_lost_writes self.old }
+    {
         self.dirty = true;
         self.writes = self.writes.saturating_add(bytes.len() as u64 / 512);
         match self.file.write_all_at(bytes, first * 512) {
@@ -199,27 +231,26 @@ impl BlockDev for FileDev {
 
 impl SyncDev for FileDev {
     ghost use Rattle.block_device.specs.FileId.{file_id};
+    ghost use Rattle.block_device.specs.LostWrites.{FailsForGood};
 
     fn is_dirty(&self) -> bool {
         self.dirty
     }
 
-    // It stays the file that it is.
+    // The system reports once that writes were lost, so no sync after a failed one is taken for a good one.
     fn sync(&mut self) -> Result<(), DeviceFault>
         ensures ok { OnOk result (DeviceSyncs ⟦<FileDev as BlockDev>⟧.state self.old self.new) }
         ensures err { OnErr result (DeviceFailsToSync ⟦<FileDev as BlockDev>⟧.state self.old self.new) }
         ensures sure { IsTrue (⟦<FileDev as BlockDev>⟧.state self.old).never_fails → IsOk result }
         ensures same { file_id self.new ≡ file_id self.old }
+        ensures lost { FailsForGood self.old self.new result }
     {
-        match self.file.sync_all() {
-            Ok(()) => {
-                self.dirty = false;
-                Ok(())
-            }
-            Err(_) => {
-                self.failures = self.failures.saturating_add(1);
-                Err(DeviceFault)
-            }
+        if !self.has_lost_writes && self.file.sync_all().is_ok() {
+            self.dirty = false;
+            return Ok(());
         }
+        self.has_lost_writes = true;
+        self.failures = self.failures.saturating_add(1);
+        Err(DeviceFault)
     }
 }
