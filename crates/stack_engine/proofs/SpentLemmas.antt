@@ -1,5 +1,5 @@
 -- What a read has spent of its budget: run by run, of units, and of data blocks.
-use Rattle.std.proofs.Common.{◌≡◌, ℕ, ◌+◌, ◌-◌, ◌*◌, ◌/◌, ◌%◌, ◌<◌, ◌≤◌, ◌⊎◌, false, List, Some, inl, inr, sym, ap, ◌∙◌, arith}
+use Rattle.std.proofs.Common.{◌≡◌, ℕ, ◌+◌, ◌-◌, ◌*◌, ◌/◌, ◌<◌, ◌≤◌, ◌⊎◌, false, List, inl, inr, sym, ap, ◌∙◌, arith}
 use Rattle.std.proofs.Math.Nat.{add-mul, mul-add, mul_assoc, mul-le-mul_right}
 use Rattle.block_device.specs.Device.{Device}
 use Rattle.dm_table.specs.declared.verity.Verity.{Verity}
@@ -7,13 +7,14 @@ use Rattle.dm_table.specs.declared.table.Target.TheVariants.{Verity as verity_ta
 use Rattle.stack_rules.specs.declared.lower.Lower.{Lower}
 use Rattle.stack_rules.specs.declared.lower.Lower.TheVariants.{Leaf as leaf}
 use Rattle.stack_rules.specs.Records.{Configuration}
-use Rattle.stack_rules.specs.Names.{mapped, named}
+use Rattle.stack_rules.specs.Names.{mapped}
 use Rattle.stack_rules.specs.Descend.{by_name, line_read_cost, read_cost}
 use Rattle.stack_rules.specs.Rules.{IsLoaded}
 use Rattle.stack_rules.specs.Trees.{block_sectors}
 use Rattle.stack_rules.specs.Units.{unit_sectors}
 use Rattle.stack_rules.proofs.lemmas.UnitLemmas.{unit_sectors-some}
 use Rattle.std.proofs.lemmas.Nat.{div-add-mod'}
+use Rattle.stack_meaning.specs.Found.{FoundRecord}
 use Rattle.stack_meaning.specs.Leaves.{AreRead}
 use Rattle.stack_meaning.specs.Places.{Place}
 use Rattle.stack_meaning.specs.Puts.{in_one_run}
@@ -25,11 +26,12 @@ use Rattle.stack_lines.specs.declared.source.Source.TheVariants.{Units, UnitPart
 use Rattle.stack_lines.specs.declared.units.WholeUnit.{WholeUnit}
 use Rattle.stack_lines.specs.Budgets.{ReadsAtMost, budget, crypt_budget, part_budget, source_budget}
 use Rattle.stack_lines.specs.Sources.{AreUnits, LieInUnit, IsWholeOf, from_unit, IsServed, EndsRun}
-use Rattle.stack_lines.specs.Walks.{HasVerity, block_in, chain_expected}
+use Rattle.stack_lines.specs.Walks.{block_in, chain_expected}
 use Rattle.stack_lines.proofs.lemmas.BudgetLemmas.{budget-leaf, budget-apart, served-budget, units-budget, unit-budget, blocks-budget, block-budget}
 use Rattle.stack_lines.proofs.lemmas.UnitSourceLemmas.{units-of}
 use Rattle.stack_lines.proofs.lemmas.VerityLineLemmas.{place-named}
-use Rattle.stack_engine.proofs.BlocksLemmas.{path_cost, read_cost_so_far}
+use Rattle.stack_engine.proofs.BlockPartLemmas.{BlockAt}
+use Rattle.stack_engine.proofs.BlocksLemmas.{BlocksAt, path_cost, read_cost_so_far}
 
 -- ---- run by run
 
@@ -88,11 +90,10 @@ unit-spent c x whole n of lies some old new spent =
 -- ---- data blocks
 
 -- a part of one
-pub block-spent : (c : Configuration) (v : Verity) (b : BlockPart) (n i : ℕ) {old new : List Device} → HasVerity c b.device.0 b.line v → 0 < n → b.first % block_sectors v + n ≤ block_sectors v
-    → AreRead old ((chain_expected (block_in c v i)).cost) new → ReadsAtMost (part_budget c b n) old new
-block-spent c v b n i {old = old} {new = new} line some within read =
+pub block-spent : {c : Configuration} {v : Verity} {p : BlockPart} {n : ℕ} (i : ℕ) {old new : List Device} → BlockAt c v p n → AreRead old ((chain_expected (block_in c v i)).cost) new → ReadsAtMost (part_budget c p n) old new
+block-spent {c = c} {v = v} {p = p} {n = n} i {old = old} {new = new} b read =
     let most : ReadsAtMost (line_read_cost (by_name c 0 (read_cost c)) (verity_target v)) old new = read.moved.reads.sum in
-    omega (arith, most, block-budget c b n 0 v line some within)
+    omega (arith, most, block-budget c p n 0 v b.line b.some b.within)
 
 -- what r blocks and many more cost, with the ways to j of m blocks
 rows-cost : (m u price way r j many : ℕ) → r + many ≤ m → j ≤ m → r * u * price + many * u * price + j * way ≤ m * (u * price + way)
@@ -111,27 +112,30 @@ few-cost m u price way r j read ways =
     let each : j * way ≤ m * way = mul-le-mul_right way ways in
     omega (arith, all, each, mul-add m (u * price) way, mul_assoc m u price)
 
-module _ (c : Configuration) (v : Verity) (p : BlockPart) (n m : ℕ) (line : HasVerity c p.device.0 p.line v) (aligned : p.first % block_sectors v ≡ 0) (several : 0 < block_sectors v) (count : m * block_sectors v ≡ n) where
+module _ {c : Configuration} {v : Verity} {p : BlockPart} {n : ℕ} {found : List FoundRecord} {lower : Lower} (b : BlocksAt c v p n found lower) where
+  abbrev m : ℕ
+  m = n / block_sectors v
+
   abbrev data_cost : ℕ
   data_cost = (block_in c v 0).on_data.cost
 
   all-is : part_budget c p n ≡ m * (block_sectors v * data_cost + path_cost c v)
-  all-is = blocks-budget c p n 0 v m line several aligned count ∙ ap (λ (k : ℕ). m * (block_sectors v * data_cost + k)) (mul_assoc _ _ (block_in c v 0).on_hash.cost)
+  all-is = blocks-budget c p n 0 v m b.line b.size.some b.aligned b.count ∙ ap (λ (k : ℕ). m * (block_sectors v * data_cost + k)) (mul_assoc _ _ (block_in c v 0).on_hash.cost)
 
   -- so many blocks, of which data were read as far as block r
-  pub had-spent : (r j : ℕ) {old mid : List Device} → r ≤ m → j ≤ m → AreRead old (read_cost_so_far c v (r * block_sectors v) j) mid → ReadsAtMost (part_budget c p n) old mid
+  pub had-spent : (r j : ℕ) {old mid : List Device} → r ≤ n / block_sectors v → j ≤ n / block_sectors v → AreRead old (read_cost_so_far c v (r * block_sectors v) j) mid → ReadsAtMost (part_budget c p n) old mid
   had-spent r j read ways had = omega (arith, had.moved.reads.sum, all-is, few-cost m (block_sectors v) data_cost (path_cost c v) r j read ways)
 
   -- and the way to one more
-  pub way-spent : (r j : ℕ) {old mid walk : List Device} → r ≤ m → j < m → AreRead old (read_cost_so_far c v (r * block_sectors v) j) mid → AreRead mid (path_cost c v) walk → ReadsAtMost (part_budget c p n) old walk
+  pub way-spent : (r j : ℕ) {old mid walk : List Device} → r ≤ n / block_sectors v → j < n / block_sectors v → AreRead old (read_cost_so_far c v (r * block_sectors v) j) mid → AreRead mid (path_cost c v) walk → ReadsAtMost (part_budget c p n) old walk
   way-spent r j read inside had moved =
       omega (arith, had.moved.reads.sum, moved.moved.reads.sum, all-is, add-mul j 1 (path_cost c v), few-cost m (block_sectors v) data_cost (path_cost c v) r (j + 1) read (omega (arith, inside)))
 
   -- and the data of some more
-  pub row-spent : (r j many : ℕ) (lower : Lower) {old mid walk new : List Device} → named c v.data ≡ Some lower → r ≤ m → j < m → j + many ≤ m → (many ≡ 0) ⊎ (r ≤ j) → AreRead old (read_cost_so_far c v (r * block_sectors v) j) mid → AreRead mid (path_cost c v) walk
+  pub row-spent : (r j many : ℕ) {old mid walk new : List Device} → r ≤ n / block_sectors v → j < n / block_sectors v → j + many ≤ n / block_sectors v → (many ≡ 0) ⊎ (r ≤ j) → AreRead old (read_cost_so_far c v (r * block_sectors v) j) mid → AreRead mid (path_cost c v) walk
       → AreRead walk (many * block_sectors v * read_cost c lower) new → ReadsAtMost (part_budget c p n) old new
-  row-spent r j many lower is read inside most fresh had moved got =
+  row-spent r j many read inside most fresh had moved got =
       let rows : r + many ≤ m = elim fresh [ inl none ↦ omega (arith, none, read) | inr behind ↦ omega (arith, behind, most) ] in
-      let one : data_cost ≡ read_cost c lower = ap (λ (q : Place). q.cost) (place-named c v.data lower is) in
+      let one : data_cost ≡ read_cost c lower = ap (λ (q : Place). q.cost) (place-named c v.data lower b.is) in
       let same : many * block_sectors v * data_cost ≡ many * block_sectors v * read_cost c lower = ap (λ (k : ℕ). many * block_sectors v * k) one in
       omega (arith, had.moved.reads.sum, moved.moved.reads.sum, got.moved.reads.sum, same, all-is, add-mul j 1 (path_cost c v), rows-cost m (block_sectors v) data_cost (path_cost c v) r (j + 1) many rows (omega (arith, inside)))

@@ -1,22 +1,20 @@
 //! Reads through the lines of a stack, down to its leaves.
-ghost use Rattle.std.specs.Prelude.{◌≡◌, ◌≤◌, ◌<◌, ◌+◌, ◌*◌, ◌/◌, ◌%◌, List, length, map, take, get_or, All, OnOk, IfOk, IfErr, Err};
+ghost use Rattle.std.specs.Prelude.{◌≡◌, ◌≤◌, ◌<◌, ◌+◌, ◌*◌, ◌/◌, ◌%◌, length, map, take, get_or, All, OnOk, IfOk, IfErr, Err};
 ghost use Rattle.tree_shape.specs.Shape.{levels};
 ghost use Rattle.stack_rules.specs.Trees.{tree_of};
 ghost use Rattle.stack_rules.specs.Names.{mapped, size};
 ghost use Rattle.stack_lines.specs.declared.source.Source.TheVariants.{Below};
-ghost use Rattle.stack_meaning.specs.Found.{FoundRecord};
-ghost use Rattle.stack_meaning.specs.Meaning.{said_at};
-ghost use Rattle.stack_meaning.specs.Reading.{Gets, Reads, IsPlain, buffer_answer};
+ghost use Rattle.stack_meaning.specs.Reading.{Reads, buffer_answer};
 ghost use Rattle.stack_lines.specs.Sources.{ReadsSource};
 ghost use Rattle.stack_lines.specs.Extents.{LiesInsideLower};
-ghost use Rattle.stack_lines.specs.Touches.{AsksOnly, leaves_of, source_leaves};
+ghost use Rattle.stack_lines.specs.Touches.{leaves_of};
 ghost use Rattle.stack_lines.specs.Walks.{HasDataBlock};
 ghost use Rattle.stack_lines.specs.Caches.{IsCached, IsPlaceOf};
 ghost use Rattle.verified_cache.specs.Cache.{CachedBlock};
 ghost use Rattle.stack_engine.specs.Stacks.{IsSound};
 ghost use Rattle.stack_engine.specs.Premises.{FitsIn};
 ghost use Rattle.stack_engine.specs.Backings.{leaves_in, IsBacking, Asks, StaysSound, did};
-ghost use Rattle.stack_engine.specs.ReadSteps.{CanFill, PlainFrom, SameFrom, SpentFrom, PlainAt, SameAt, SpentAt, GotAt, leaf_sectors, GetsBy, extent_wanted, data_wanted, way_wanted, ChainBy, WalkedBy, ReadsWay};
+ghost use Rattle.stack_engine.specs.ReadSteps.{CanFill, ReadsLeaf, StepFrom, StepAt, GotAt, GetsBy, extent_wanted, data_wanted, way_wanted, ChainBy, WalkedBy, ReadsWay};
 ghost use Rattle.stack_engine.specs.Keeping.{ReadsBlocks};
 
 use crate::backing::Backing;
@@ -47,10 +45,7 @@ fn read_leaf<D: BlockDev>(
 ) -> Result<(), IoFault>
     requires sound { IsSound config.now (map D.state devices.old) }
     requires fits { FitsIn config.now (Below (Lower.Leaf leaf) first) out.old }
-    ensures got { (chains : List FoundRecord) → Gets (leaf_sectors config.now leaf first out.old chains)
-        (map D.state devices.old) (map D.state devices.new) (buffer_answer result out.new) }
-    ensures plain { IsPlain (said_at config.now (Lower.Leaf leaf)) first (length out.old / 512) (map D.state devices.old) (map D.state devices.new) result }
-    ensures touches { AsksOnly (leaves_of config.now (Lower.Leaf leaf)) (map D.state devices.old) (map D.state devices.new) result }
+    ensures { ReadsLeaf config.now leaf first (length out.old / 512) (map D.state devices.old) (map D.state devices.new) result out.new }
 {
     match devices[leaf as usize].read(first, out) {
         Ok(()) => Ok(()),
@@ -72,11 +67,7 @@ fn read_lower<D: BlockDev>(
     ensures reads { Reads config.now lower first (length out.old / 512)
         (did D.state backing.old found.old.items backing.new found.new.items)
         (buffer_answer result out.new) }
-    ensures cached { StaysSound D.state config.now backing.old backing.new }
-    ensures plain { PlainAt D.state config.now lower first out.old backing.old backing.new result }
-    ensures same { SameAt config.now lower first out.old backing.old backing.new }
-    ensures touches { Asks D.state (leaves_of config.now lower) backing.old backing.new result }
-    ensures spent { SpentAt D.state config.now lower first out.old backing.old backing.new }
+    ensures step { StepAt D.state config.now lower first out.old backing.old backing.new result }
 {
     match lower {
         Lower::Leaf(leaf) => read_leaf(config, backing.devices.as_mut_slice(), leaf, first, out),
@@ -97,11 +88,7 @@ pub(crate) fn read_run<D: BlockDev>(
     ensures reads { ReadsSource config.now source.entry (length out.old / 512)
         (did D.state backing.old found.old.items backing.new found.new.items)
         (buffer_answer result out.new) }
-    ensures cached { StaysSound D.state config.now backing.old backing.new }
-    ensures plain { PlainFrom D.state config.now source.entry out.old backing.old backing.new result }
-    ensures same { SameFrom config.now source.entry out.old backing.old backing.new }
-    ensures touches { Asks D.state (source_leaves config.now source.entry) backing.old backing.new result }
-    ensures spent { SpentFrom D.state config.now source.entry out.old backing.old backing.new }
+    ensures step { StepFrom D.state config.now source.entry out.old backing.old backing.new result }
 {
     match source {
         Source::Below { lower, first } => read_lower(config, backing, lower, first, out, found),
@@ -130,11 +117,7 @@ pub(crate) fn read_units<D: BlockDev>(
     ensures reads { ReadsSource config.now (Source.Units part.entry) (length out.old / 512)
         (did D.state backing.old found.old.items backing.new found.new.items)
         (buffer_answer result out.new) }
-    ensures cached { StaysSound D.state config.now backing.old backing.new }
-    ensures plain { PlainFrom D.state config.now (Source.Units part.entry) out.old backing.old backing.new result }
-    ensures same { SameFrom config.now (Source.Units part.entry) out.old backing.old backing.new }
-    ensures touches { Asks D.state (leaves_of config.now part.entry.lower) backing.old backing.new result }
-    ensures spent { SpentFrom D.state config.now (Source.Units part.entry) out.old backing.old backing.new }
+    ensures step { StepFrom D.state config.now (Source.Units part.entry) out.old backing.old backing.new result }
 {
     let unit = unit_at(&part);
     match read_lower(config, backing, part.lower, unit.first, out, found) {
@@ -159,11 +142,7 @@ fn read_unit_part<D: BlockDev>(
     ensures reads { ReadsSource config.now (Source.UnitPart part.entry) (length out.old / 512)
         (did D.state backing.old found.old.items backing.new found.new.items)
         (buffer_answer result out.new) }
-    ensures cached { StaysSound D.state config.now backing.old backing.new }
-    ensures plain { PlainFrom D.state config.now (Source.UnitPart part.entry) out.old backing.old backing.new result }
-    ensures same { SameFrom config.now (Source.UnitPart part.entry) out.old backing.old backing.new }
-    ensures touches { Asks D.state (leaves_of config.now part.entry.lower) backing.old backing.new result }
-    ensures spent { SpentFrom D.state config.now (Source.UnitPart part.entry) out.old backing.old backing.new }
+    ensures step { StepFrom D.state config.now (Source.UnitPart part.entry) out.old backing.old backing.new result }
 {
     let whole = whole_unit(&part);
     let mut room = [0u8; MOST];
@@ -191,11 +170,7 @@ fn read_block<D: BlockDev>(
     ensures reads { ReadsSource config.now (Source.Block part) (length out.old / 512)
         (did D.state backing.old found.old.items backing.new found.new.items)
         (buffer_answer result out.new) }
-    ensures cached { StaysSound D.state config.now backing.old backing.new }
-    ensures plain { PlainFrom D.state config.now (Source.Block part) out.old backing.old backing.new result }
-    ensures same { SameFrom config.now (Source.Block part) out.old backing.old backing.new }
-    ensures touches { Asks D.state (leaves_of config.now (mapped part.device.0)) backing.old backing.new result }
-    ensures spent { SpentFrom D.state config.now (Source.Block part) out.old backing.old backing.new }
+    ensures step { StepFrom D.state config.now (Source.Block part) out.old backing.old backing.new result }
 {
     let verity = verity_at(config, part.device, part.line);
     let sectors = u64::from(verity.data_block / 512);
@@ -245,11 +220,7 @@ pub(crate) fn read_blocks<D: BlockDev>(
     ensures reads { ReadsBlocks config.now part (length out.old / 512) chains
         (did D.state backing.old found.old.items backing.new found.new.items)
         (buffer_answer result out.new) }
-    ensures cached { StaysSound D.state config.now backing.old backing.new }
-    ensures plain { PlainFrom D.state config.now (Source.Blocks part) out.old backing.old backing.new result }
-    ensures same { SameFrom config.now (Source.Blocks part) out.old backing.old backing.new }
-    ensures touches { Asks D.state (leaves_of config.now (mapped part.device.0)) backing.old backing.new result }
-    ensures spent { SpentFrom D.state config.now (Source.Blocks part) out.old backing.old backing.new }
+    ensures step { StepFrom D.state config.now (Source.Blocks part) out.old backing.old backing.new result }
 {
     let verity = verity_at(config, part.device, part.line);
     let tree = tree_at(config, part.device, part.line, verity);
@@ -558,11 +529,7 @@ pub(crate) fn read_device<D: BlockDev>(
     ensures reads { Reads config.now (mapped d.0) first (length out.old / 512)
         (did D.state backing.old found.old.items backing.new found.new.items)
         (buffer_answer result out.new) }
-    ensures cached { StaysSound D.state config.now backing.old backing.new }
-    ensures plain { PlainAt D.state config.now (mapped d.0) first out.old backing.old backing.new result }
-    ensures same { SameAt config.now (mapped d.0) first out.old backing.old backing.new }
-    ensures touches { Asks D.state (leaves_of config.now (mapped d.0)) backing.old backing.new result }
-    ensures spent { SpentAt D.state config.now (mapped d.0) first out.old backing.old backing.new }
+    ensures step { StepAt D.state config.now (mapped d.0) first out.old backing.old backing.new result }
 {
     let mut at = 0;
     while at < out.len() {

@@ -5,11 +5,9 @@ ghost use Rattle.stack_lines.specs.declared.source.Source.TheVariants.{Below};
 ghost use Rattle.stack_meaning.specs.Meaning.{said_at};
 ghost use Rattle.stack_lines.specs.Sources.{source_said};
 ghost use Rattle.stack_lines.specs.Writing.{AreHeld, sectors_in, destination_of, WritesSectors};
-ghost use Rattle.stack_lines.specs.Touches.{leaves_of, source_leaves};
 ghost use Rattle.stack_engine.specs.Stacks.{IsSound};
 ghost use Rattle.stack_engine.specs.Premises.{FitsIn};
-ghost use Rattle.stack_engine.specs.Backings.{StaysSound, ForgetsOn};
-ghost use Rattle.stack_engine.specs.WriteSteps.{CanPut, PutTo, UncutTo, PaidTo, PutAt, UncutAt, PaidAt};
+ghost use Rattle.stack_engine.specs.WriteSteps.{CanPut, PutTo, WriteStepTo, PutAt, WriteStepAt};
 
 use crate::backing::Backing;
 use crate::read::read_units;
@@ -49,9 +47,7 @@ fn write_leaf<D: BlockDev>(
 ) -> Result<(), IoFault>
     requires { CanPut D.state config.now backing.old (Below (Lower.Leaf leaf) first) bytes.now }
     ensures writes { PutAt D.state config.now (Lower.Leaf leaf) first bytes.now backing.old backing.new result }
-    ensures paid { PaidAt D.state config.now (Lower.Leaf leaf) first bytes.now backing.old backing.new }
-    ensures cached { StaysSound D.state config.now backing.old backing.new }
-    ensures forgets { ForgetsOn D.state config.now (leaves_of config.now (Lower.Leaf leaf)) backing.old backing.new }
+    ensures step { WriteStepAt D.state config.now (Lower.Leaf leaf) first bytes.now backing.old backing.new }
 {
     backing.cache.forget_leaf(config, leaf);
     write_sectors(config, backing.devices.as_mut_slice(), leaf, first, bytes)
@@ -89,10 +85,7 @@ fn write_lower<D: BlockDev>(
     requires can { CanPut D.state config.now backing.old (Below lower first) (plain.now ++ buffer.old) }
     requires bytes { AreHeld (said_at config.now lower) first plain.now buffer.old }
     ensures writes { PutAt D.state config.now lower first (plain.now ++ buffer.old) backing.old backing.new result }
-    ensures uncut { UncutAt D.state config.now lower first (plain.now ++ buffer.old) backing.old backing.new }
-    ensures paid { PaidAt D.state config.now lower first (plain.now ++ buffer.old) backing.old backing.new }
-    ensures cached { StaysSound D.state config.now backing.old backing.new }
-    ensures forgets { ForgetsOn D.state config.now (leaves_of config.now lower) backing.old backing.new }
+    ensures step { WriteStepAt D.state config.now lower first (plain.now ++ buffer.old) backing.old backing.new }
 {
     match lower {
         Lower::Leaf(leaf) => write_leaf(config, backing, leaf, first, held(plain, buffer)),
@@ -112,10 +105,7 @@ fn write_run<D: BlockDev>(
     requires can { CanPut D.state config.now backing.old source (plain.now ++ buffer.old) }
     requires bytes { AreHeld (source_said config.now source) 0 plain.now buffer.old }
     ensures writes { PutTo D.state config.now source.entry (plain.now ++ buffer.old) backing.old backing.new result }
-    ensures uncut { UncutTo D.state config.now source.entry (plain.now ++ buffer.old) backing.old backing.new }
-    ensures paid { PaidTo D.state config.now source.entry (plain.now ++ buffer.old) backing.old backing.new }
-    ensures cached { StaysSound D.state config.now backing.old backing.new }
-    ensures forgets { ForgetsOn D.state config.now (source_leaves config.now source.entry) backing.old backing.new }
+    ensures step { WriteStepTo D.state config.now source.entry (plain.now ++ buffer.old) backing.old backing.new }
 {
     match source {
         Source::Below { lower, first } => write_lower(config, backing, lower, first, plain, buffer),
@@ -138,10 +128,7 @@ fn write_units<D: BlockDev>(
 ) -> Result<(), IoFault>
     requires { CanPut D.state config.now backing.old (Source.Units part) units.old }
     ensures writes { PutTo D.state config.now (Source.Units part.entry) units.old backing.old backing.new result }
-    ensures uncut { UncutTo D.state config.now (Source.Units part.entry) units.old backing.old backing.new }
-    ensures paid { PaidTo D.state config.now (Source.Units part.entry) units.old backing.old backing.new }
-    ensures cached { StaysSound D.state config.now backing.old backing.new }
-    ensures forgets { ForgetsOn D.state config.now (leaves_of config.now part.entry.lower) backing.old backing.new }
+    ensures step { WriteStepTo D.state config.now (Source.Units part.entry) units.old backing.old backing.new }
 {
     let unit = unit_at(&part);
     let sectors = unit_sectors(part.crypt);
@@ -185,9 +172,7 @@ fn write_unit_part<D: BlockDev>(
 ) -> Result<(), IoFault>
     requires { CanPut D.state config.now backing.old (Source.UnitPart part) bytes.now }
     ensures writes { PutTo D.state config.now (Source.UnitPart part.entry) bytes.now backing.old backing.new result }
-    ensures paid { PaidTo D.state config.now (Source.UnitPart part.entry) bytes.now backing.old backing.new }
-    ensures cached { StaysSound D.state config.now backing.old backing.new }
-    ensures forgets { ForgetsOn D.state config.now (leaves_of config.now part.entry.lower) backing.old backing.new }
+    ensures step { WriteStepTo D.state config.now (Source.UnitPart part.entry) bytes.now backing.old backing.new }
 {
     let whole = whole_unit(&part);
     let mut room = [0u8; MOST];
@@ -215,10 +200,7 @@ pub(crate) fn write_device<D: BlockDev>(
     requires can { CanPut D.state config.now backing.old (Below (mapped d.0) first) (plain.now ++ buffer.old) }
     requires bytes { AreHeld (said_at config.now (mapped d.0)) first plain.now buffer.old }
     ensures writes { PutAt D.state config.now (mapped d.0) first (plain.now ++ buffer.old) backing.old backing.new result }
-    ensures uncut { UncutAt D.state config.now (mapped d.0) first (plain.now ++ buffer.old) backing.old backing.new }
-    ensures paid { PaidAt D.state config.now (mapped d.0) first (plain.now ++ buffer.old) backing.old backing.new }
-    ensures cached { StaysSound D.state config.now backing.old backing.new }
-    ensures forgets { ForgetsOn D.state config.now (leaves_of config.now (mapped d.0)) backing.old backing.new }
+    ensures step { WriteStepAt D.state config.now (mapped d.0) first (plain.now ++ buffer.old) backing.old backing.new }
 {
     let room = buffer.len();
     let len = held(plain, buffer).len();
