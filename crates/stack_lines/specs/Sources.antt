@@ -1,28 +1,28 @@
 -- Where the sectors of a device come from, as the engine reads them: from a lower device, as they are or encrypted
 -- there in units, as zeros, not at all, or from a data block that is checked.
-use Rattle.std.specs.Prelude.{◌≡◌, ◌⊎◌, ℕ, suc, ◌+◌, ◌-◌, ◌*◌, ◌/◌, ◌%◌, ◌^◌, ◌<◌, ◌≤◌, Bool, false, IsTrue, List, slice_get, Option, Some, None, Result}
+use Rattle.std.specs.Prelude.{◌≡◌, ◌⊎◌, ℕ, suc, ◌+◌, ◌-◌, ◌*◌, ◌/◌, ◌%◌, ◌^◌, ◌<◌, ◌≤◌, Bool, false, IsTrue, List, Some, Result}
 use Rattle.dm_table.specs.declared.verity.Verity.{Verity}
 use Rattle.dm_table.specs.declared.table.Line.{Line}
 use Rattle.dm_table.specs.declared.table.Target.{Target}
 use Rattle.dm_table.specs.declared.table.Target.TheVariants.{Zero, Error, Crypt as crypt_target, Verity as verity_target}
 use Rattle.stack_rules.specs.declared.lower.Lower.{Lower}
 use Rattle.stack_rules.specs.Records.{Configuration}
-use Rattle.stack_rules.specs.Names.{mapped, named, lines_of, size}
+use Rattle.stack_rules.specs.Names.{mapped, named, size}
 use Rattle.stack_rules.specs.Descend.{depth, read_cost}
 use Rattle.stack_rules.specs.Lines.{line_at, IsLine}
-use Rattle.stack_rules.specs.Trees.{block_sectors}
+use Rattle.stack_rules.specs.Trees.{block_sectors, line_data_sectors}
 use Rattle.stack_rules.specs.Units.{unit_sectors}
 use Rattle.stack_meaning.specs.declared.fault.IoFault.{IoFault}
-use Rattle.stack_lines.specs.declared.source.BlockPart.{BlockPart}
 use Rattle.stack_lines.specs.declared.source.CryptPart.{CryptPart}
 use Rattle.stack_lines.specs.declared.source.Source.{Source}
+use Rattle.stack_lines.specs.declared.source.VerityPart.{VerityPart}
 use Rattle.stack_lines.specs.declared.units.UnitAt.{UnitAt}
 use Rattle.stack_lines.specs.declared.units.WholeUnit.{WholeUnit}
 use Rattle.stack_lines.specs.declared.source.Source.TheVariants.{Below, Units, UnitPart, Zeros, Fails, Block, Blocks}
 use Rattle.stack_meaning.specs.Units.{unit_first}
 use Rattle.stack_meaning.specs.Puts.{together}
 use Rattle.stack_meaning.specs.Beneath.{beneath, HandsOn}
-use Rattle.stack_meaning.specs.Meaning.{Said, none_said, zero_said, error_said, crypt_said, line_said, said_at, said_by_name}
+use Rattle.stack_meaning.specs.Meaning.{Said, zero_said, error_said, crypt_said, line_said, said_at, said_by_name}
 use Rattle.stack_meaning.specs.Places.{Place, LeafRead}
 use Rattle.stack_lines.specs.Touches.{source_leaves}
 use Rattle.stack_meaning.specs.Reading.{Finds}
@@ -41,18 +41,28 @@ pub record HasTarget (c : Configuration) (d l : ℕ) (target : Target) (n : ℕ)
   pub has : line.target ≡ target
   pub fits : n ≤ line.length
 
--- n sectors of a verity line, the l-th of device d, from its sector w on lie in one data block
-pub record LieInBlock (c : Configuration) (d l w n : ℕ) : Type 0 where
-  pub verity : Verity
-  pub has : HasTarget c d l (verity_target verity) (w + n)
-  pub within : w % block_sectors verity + n ≤ block_sectors verity
+-- line l of device d is a verity line of these arguments
+abbrev pub HasVerity : Configuration → ℕ → ℕ → Verity → Type 0
+HasVerity c d l v = HasTarget c d l (verity_target v) 0
 
--- n sectors of a verity line, the l-th of device d, from its sector w on are whole data blocks
-pub record AreWholeBlocks (c : Configuration) (d l w n : ℕ) : Type 0 where
-  pub verity : Verity
-  pub has : HasTarget c d l (verity_target verity) (w + n)
-  pub aligned : w % block_sectors verity ≡ 0
-  pub whole : n % block_sectors verity ≡ 0
+-- a part of a verity line: what its devices mean
+pub record IsVerityPart (c : Configuration) (x : VerityPart) : Type 0 where
+  pub is : HasVerity c x.device.0 x.line x.verity.now
+  pub on_data : named c x.verity.now.data ≡ Some x.data
+  pub on_hash : named c x.verity.now.hash ≡ Some x.hash
+
+-- its first n sectors lie in one data block
+pub record LieInBlock (c : Configuration) (x : VerityPart) (n : ℕ) : Type 0 where
+  pub of : IsVerityPart c x
+  pub within : x.first % block_sectors x.verity.now + n ≤ block_sectors x.verity.now
+  pub inside : x.first + n ≤ line_data_sectors x.verity.now
+
+-- its first n sectors are whole data blocks
+pub record AreWholeBlocks (c : Configuration) (x : VerityPart) (n : ℕ) : Type 0 where
+  pub of : IsVerityPart c x
+  pub aligned : x.first % block_sectors x.verity.now ≡ 0
+  pub whole : n % block_sectors x.verity.now ≡ 0
+  pub inside : x.first + n ≤ line_data_sectors x.verity.now
 
 -- a part of a crypt line: what its device means, and its key
 pub record IsPartOf (c : Configuration) (u : CryptPart) : Type 0 where
@@ -90,9 +100,9 @@ pub record IsWholeOf (u : CryptPart) (whole : WholeUnit) : Type 0 where
   pub sectors : whole.sectors ≡ unit_sectors u.crypt.now
   pub within : whole.within ≡ u.first % unit_sectors u.crypt.now
 
--- the part begins at sector w of line l of device d
-abbrev pub BeginsAt : ℕ → ℕ → ℕ → BlockPart → Type 0
-BeginsAt d l w b = (b.device.0 ≡ d) × (b.line ≡ l) × (b.first ≡ w)
+-- the part is one of line l of device d
+abbrev pub IsPlacedAt : ℕ → ℕ → VerityPart → Type 0
+IsPlacedAt d l x = (x.device.0 ≡ d) × (x.line ≡ l)
 
 -- n sectors of a line from its sector w on go down together
 abbrev pub AreTogether : Target → ℕ → ℕ → Type 0
@@ -110,8 +120,8 @@ ComeFrom c at target w n (Units u) = (target ≡ crypt_target u.crypt.now) × (u
 ComeFrom c at target w n (UnitPart u) = (target ≡ crypt_target u.crypt.now) × (u.first ≡ w) × LieInUnit c u n
 ComeFrom c at target w n Zeros = target ≡ Zero
 ComeFrom c at target w n Fails = target ≡ Error
-ComeFrom c at target w n (Block b) = BeginsAt at.0 at.1 w b × LieInBlock c at.0 at.1 w n
-ComeFrom c at target w n (Blocks b) = BeginsAt at.0 at.1 w b × AreWholeBlocks c at.0 at.1 w n
+ComeFrom c at target w n (Block x) = (target ≡ verity_target x.verity.now) × IsPlacedAt at.0 at.1 x × (x.first ≡ w) × LieInBlock c x n
+ComeFrom c at target w n (Blocks x) = (target ≡ verity_target x.verity.now) × IsPlacedAt at.0 at.1 x × (x.first ≡ w) × AreWholeBlocks c x n
 
 -- n sectors of device d from s on lie in one line, and come from there
 pub record IsServed (c : Configuration) (d s n : ℕ) (source : Source) : Type 0 where
@@ -123,13 +133,8 @@ pub record IsServed (c : Configuration) (d s n : ℕ) (source : Source) : Type 0
   pub fits : s + n ≤ line.start + line.length
   pub come : ComeFrom c (d, number) line.target (s - line.start) n source
 
--- what is said of sector s of line l of device d, where the line was looked for
-abbrev pub said_of_line : Configuration → ℕ → ℕ → Option Line → ℕ → Said
-said_of_line c d l None s = none_said
-said_of_line c d l (Some line) s = line_said (said_by_name c) d l line.target s
-
-abbrev pub part_said : Configuration → BlockPart → ℕ → Said
-part_said c b j = said_of_line c b.device.0 b.line (slice_get (lines_of c b.device.0) b.line) (b.first + j)
+abbrev pub part_said : Configuration → VerityPart → ℕ → Said
+part_said c x j = line_said (said_by_name c) x.device.0 x.line (verity_target x.verity.now) (x.first + j)
 
 -- what is said of its sector j
 abbrev pub source_said : Configuration → Source → ℕ → Said
@@ -138,8 +143,8 @@ source_said c (Units u) j = crypt_said (said_at c u.lower) u.crypt.now (u.first 
 source_said c (UnitPart u) j = crypt_said (said_at c u.lower) u.crypt.now (u.first + j)
 source_said c Zeros j = zero_said
 source_said c Fails j = error_said
-source_said c (Block b) j = part_said c b j
-source_said c (Blocks b) j = part_said c b j
+source_said c (Block x) j = part_said c x j
+source_said c (Blocks x) j = part_said c x j
 
 -- the leaf sectors that are read for one of its sectors at most
 abbrev pub source_cost : Configuration → Source → ℕ
@@ -148,8 +153,8 @@ source_cost c (Units u) = read_cost c u.lower
 source_cost c (UnitPart u) = unit_sectors u.crypt.now * read_cost c u.lower
 source_cost c Zeros = 0
 source_cost c Fails = 0
-source_cost c (Block b) = read_cost c (mapped b.device.0)
-source_cost c (Blocks b) = read_cost c (mapped b.device.0)
+source_cost c (Block x) = read_cost c (mapped x.device.0)
+source_cost c (Blocks x) = read_cost c (mapped x.device.0)
 
 abbrev pub source_place : Configuration → Source → Place
 source_place c source = record { said = source_said c source; cost = source_cost c source; leaves = source_leaves c source }
@@ -161,8 +166,8 @@ source_depth c (Units u) = depth c u.lower + 1
 source_depth c (UnitPart u) = depth c u.lower + 1
 source_depth c Zeros = 0
 source_depth c Fails = 0
-source_depth c (Block b) = depth c (mapped b.device.0)
-source_depth c (Blocks b) = depth c (mapped b.device.0)
+source_depth c (Block x) = depth c (mapped x.device.0)
+source_depth c (Blocks x) = depth c (mapped x.device.0)
 
 -- n sectors of it lie inside the lower device, are units or data blocks, or lie in one of these
 abbrev pub SourceHolds : Configuration → Source → ℕ → Type 0
@@ -171,8 +176,8 @@ SourceHolds c (Units u) n = AreUnits c u n
 SourceHolds c (UnitPart u) n = LieInUnit c u n
 SourceHolds c Zeros n = Unit {0}
 SourceHolds c Fails n = Unit {0}
-SourceHolds c (Block b) n = LieInBlock c b.device.0 b.line b.first n
-SourceHolds c (Blocks b) n = AreWholeBlocks c b.device.0 b.line b.first n
+SourceHolds c (Block x) n = LieInBlock c x n
+SourceHolds c (Blocks x) n = AreWholeBlocks c x n
 
 -- a read of its first n sectors
 abbrev pub ReadsSource : Configuration → Source → ℕ → LeafRead → Result (List ℕ) IoFault → Type 0

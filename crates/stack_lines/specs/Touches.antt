@@ -65,5 +65,5 @@ source_leaves c (Units u) = leaves_of c u.lower
 source_leaves c (UnitPart u) = leaves_of c u.lower
 source_leaves c Zeros = λ i. false
 source_leaves c Fails = λ i. false
-source_leaves c (Block b) = leaves_of c (mapped b.device.0)
-source_leaves c (Blocks b) = leaves_of c (mapped b.device.0)
+source_leaves c (Block x) = leaves_of c (mapped x.device.0)
+source_leaves c (Blocks x) = leaves_of c (mapped x.device.0)

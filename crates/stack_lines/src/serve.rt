@@ -5,10 +5,10 @@ ghost use Rattle.stack_rules.specs.Names.{mapped, size};
 ghost use Rattle.stack_rules.specs.Rules.{IsLoaded};
 ghost use Rattle.stack_rules.specs.Trees.{block_sectors};
 ghost use Rattle.stack_rules.specs.Units.{unit_sectors};
-ghost use Rattle.stack_lines.specs.Sources.{ComeFrom, HasTarget, IsPartOf};
+ghost use Rattle.stack_lines.specs.Sources.{ComeFrom, HasTarget, IsPartOf, IsPlacedAt, IsVerityPart};
 ghost use Rattle.stack_lines.specs.Runs.{HasLineSectors, IsRunOfLine, IsRunAt};
 
-use crate::source::{BlockPart, CryptPart, Run, Source};
+use crate::source::{CryptPart, Run, Source, VerityPart};
 use crate::unstriped::unstriped_run;
 use dm_table::{Base, Crypt, Line, Target, Verity};
 use stack_config::{Config, DevId, unit_sectors};
@@ -104,24 +104,25 @@ fn crypt_run<'a>(
 /// The sectors that lie in one chunk, from that one of the line on.
 fn striped_run<'a>(
     config: &Config,
-    from: BlockPart,
+    at: (DevId, u32),
     chunk: u64,
     bases: &[Base],
+    within: u64,
     count: u64,
 ) -> Run<'a>
     requires loaded { IsLoaded config.now }
     requires grammar { IsStripedOfGrammar chunk bases.now }
-    requires line { HasLineSectors config.now from.device.0 from.line (Target.Striped chunk bases.now) from.first count }
-    ensures { IsRunOfLine config.now (from.device.0, from.line) (Target.Striped chunk bases.now) from.first count result }
+    requires line { HasLineSectors config.now at.0.0 at.1 (Target.Striped chunk bases.now) within count }
+    ensures { IsRunOfLine config.now (at.0.0, at.1) (Target.Striped chunk bases.now) within count result }
 {
-    let number = from.first / chunk;
-    let part = from.first % chunk;
+    let number = within / chunk;
+    let part = within % chunk;
     let stripes = bases.len() as u64;
     let stripe = number % stripes;
     let base = &bases[stripe as usize];
     let count = count.min(chunk - part);
     let first = base.offset + number / stripes * chunk + part;
-    let lower = config.lower(from.device, from.line, stripe as u32);
+    let lower = config.lower(at.0, at.1, stripe as u32);
     Run {
         source: Source::Below { lower, first },
         count,
@@ -129,29 +130,19 @@ fn striped_run<'a>(
 }
 
 /// The whole data blocks from that sector on.
-fn blocks_run<'a>(
-    config: &Config,
-    d: DevId,
-    line: u32,
-    verity: &Verity,
-    within: u64,
-    count: u64,
-) -> Run<'a>
+fn blocks_run<'a>(config: &Config, at: (DevId, u32), part: VerityPart<'a>, count: u64) -> Run<'a>
     requires loaded { IsLoaded config.now }
-    requires line { HasTarget config.now d.0 line (Target.Verity verity.now) (within + count) }
-    requires some { 0 < block_sectors verity.now }
-    requires aligned { within % block_sectors verity.now ≡ 0 }
-    requires enough { block_sectors verity.now ≤ count }
-    ensures { IsRunOfLine config.now (d.0, line) (Target.Verity verity.now) within count result }
+    requires line { HasTarget config.now at.0.0 at.1 (Target.Verity part.verity.now) (part.first + count) }
+    requires part { IsVerityPart config.now part }
+    requires place { IsPlacedAt at.0.0 at.1 part }
+    requires some { 0 < block_sectors part.verity.now }
+    requires aligned { part.first % block_sectors part.verity.now ≡ 0 }
+    requires enough { block_sectors part.verity.now ≤ count }
+    ensures { IsRunOfLine config.now (at.0.0, at.1) (Target.Verity part.entry.verity.now) part.entry.first count result }
 {
-    let _config = config;
-    let sectors = u64::from(verity.data_block / 512);
+    let (_config, _at) = (config, at);
+    let sectors = u64::from(part.verity.data_block / 512);
     let count = count - count % sectors;
-    let part = BlockPart {
-        device: d,
-        line,
-        first: within,
-    };
     Run {
         source: Source::Blocks(part),
         count,
@@ -159,28 +150,18 @@ fn blocks_run<'a>(
 }
 
 /// The sectors that lie in one data block.
-fn block_run<'a>(
-    config: &Config,
-    d: DevId,
-    line: u32,
-    verity: &Verity,
-    within: u64,
-    count: u64,
-) -> Run<'a>
+fn block_run<'a>(config: &Config, at: (DevId, u32), part: VerityPart<'a>, count: u64) -> Run<'a>
     requires loaded { IsLoaded config.now }
-    requires grammar { IsVerityOfGrammar verity.now }
-    requires line { HasLineSectors config.now d.0 line (Target.Verity verity.now) within count }
-    ensures { IsRunOfLine config.now (d.0, line) (Target.Verity verity.now) within count result }
+    requires grammar { IsVerityOfGrammar part.verity.now }
+    requires line { HasLineSectors config.now at.0.0 at.1 (Target.Verity part.verity.now) part.first count }
+    requires part { IsVerityPart config.now part }
+    requires place { IsPlacedAt at.0.0 at.1 part }
+    ensures { IsRunOfLine config.now (at.0.0, at.1) (Target.Verity part.entry.verity.now) part.entry.first count result }
 {
-    let _config = config;
-    let few = verity.data_block / 512;
+    let (_config, _at) = (config, at);
+    let few = part.verity.data_block / 512;
     let sectors = u64::from(few);
-    let count = count.min(sectors - within % sectors);
-    let part = BlockPart {
-        device: d,
-        line,
-        first: within,
-    };
+    let count = count.min(sectors - part.first % sectors);
     Run {
         source: Source::Block(part),
         count,
@@ -192,7 +173,7 @@ fn verity_run<'a>(
     config: &Config,
     d: DevId,
     line: u32,
-    verity: &Verity,
+    verity: &'a Verity,
     within: u64,
     count: u64,
 ) -> Run<'a>
@@ -201,14 +182,22 @@ fn verity_run<'a>(
     requires line { HasLineSectors config.now d.0 line (Target.Verity verity.now) within count }
     ensures { IsRunOfLine config.now (d.0, line) (Target.Verity verity.now) within count result }
 {
+    let part = VerityPart {
+        device: d,
+        line,
+        verity,
+        data: config.lower(d, line, 0),
+        hash: config.lower(d, line, 1),
+        first: within,
+    };
     let sectors = u64::from(verity.data_block / 512);
     if within % sectors != 0 {
-        return block_run(config, d, line, verity, within, count);
+        return block_run(config, (d, line), part, count);
     }
     if count < sectors {
-        return block_run(config, d, line, verity, within, count);
+        return block_run(config, (d, line), part, count);
     }
-    blocks_run(config, d, line, verity, within, count)
+    blocks_run(config, (d, line), part, count)
 }
 
 /// The longest run of so many sectors of a line at most.
@@ -228,12 +217,8 @@ fn line_run<'a>(
     match &line.target {
         Target::Linear(base) => linear_run(config, d, number, base, within, count),
         Target::Striped { chunk, bases } => {
-            let from = BlockPart {
-                device: d,
-                line: number,
-                first: within,
-            };
-            striped_run(config, from, *chunk, bases.as_slice(), count)
+            let at = (d, number);
+            striped_run(config, at, *chunk, bases.as_slice(), within, count)
         }
         Target::Zero => Run {
             source: Source::Zeros,

@@ -1,5 +1,5 @@
 //! Where the sectors of a device come from and go to.
-use dm_table::Crypt;
+use dm_table::{Crypt, Verity};
 use stack_config::{DevId, Lower};
 use xts_sector::XtsKey;
 
@@ -17,9 +17,9 @@ pub enum Source<'a> {
     /// No sectors: an `error` line, where writes fail too.
     Fails,
     /// Sectors of one data block of a `verity` line, which is never written.
-    Block(BlockPart),
+    Block(VerityPart<'a>),
     /// Whole data blocks of a `verity` line, which are never written.
-    Blocks(BlockPart),
+    Blocks(VerityPart<'a>),
 }
 
 /// The sectors of a `crypt` line from that one on, with all of the line that a run uses: its arguments, its key made ready,
@@ -32,12 +32,15 @@ pub struct CryptPart<'a> {
     pub first: u64,
 }
 
-/// The sectors of a line from that one on, in the data block that has them. Lines of a device and sectors of a line count
-/// from 0.
+/// The sectors of a `verity` line from that one on, with what a read uses of the line: its place, its arguments, and the
+/// devices of its data blocks and of its hash blocks. Lines of a device and sectors of a line count from 0.
 #[derive(Clone, Copy)]
-pub struct BlockPart {
+pub struct VerityPart<'a> {
     pub device: DevId,
     pub line: u32,
+    pub verity: &'a Verity,
+    pub data: Lower,
+    pub hash: Lower,
     pub first: u64,
 }
 

@@ -96,11 +96,11 @@ served-may_write c d s n (Units x) loaded some writable r = (served-line c d s n
 served-may_write c d s n (UnitPart x) loaded some writable r = (served-line c d s n (UnitPart x) x loaded r r.come.0 r.come.2.of).crypt_line.writable writable
 served-may_write c d s n Zeros loaded some writable r = tt
 served-may_write c d s n Fails loaded some writable r = tt
-served-may_write c d s n (Block b) loaded some writable r =
-    let none = line-read_only c d r.number (s - r.line.start + n) r.come.1.verity loaded r.come.1.has in
+served-may_write c d s n (Block x) loaded some writable r =
+    let none = line-read_only c d r.number 0 x.verity.now loaded (record { line = r.line; is = r.is; has = r.come.0; fits = omega arith }) in
     let clash : true ≡ false = sym writable ∙ none in cc
-served-may_write c d s n (Blocks b) loaded some writable r =
-    let none = line-read_only c d r.number (s - r.line.start + n) r.come.1.verity loaded r.come.1.has in
+served-may_write c d s n (Blocks x) loaded some writable r =
+    let none = line-read_only c d r.number 0 x.verity.now loaded (record { line = r.line; is = r.is; has = r.come.0; fits = omega arith }) in
     let clash : true ≡ false = sym writable ∙ none in cc
 
 served-alike : (c : Configuration) (d s : ℕ) (source : Source) (sectors : List (List ℕ)) → IsLoaded c → 0 < length sectors → SourceMayWrite c source → IsServed c d s (length sectors) source
