@@ -22,7 +22,7 @@ use Rattle.stack_rules.specs.Descend.{read_cost}
 use Rattle.stack_rules.specs.Trees.{tree_of, block_sectors}
 use Rattle.stack_meaning.specs.declared.fault.IoFault.{IoFault}
 use Rattle.stack_meaning.specs.declared.fault.IoFault.TheVariants as io
-use Rattle.stack_lines.specs.declared.source.BlockPart.{BlockPart}
+use Rattle.stack_lines.specs.declared.source.VerityPart.{VerityPart}
 use Rattle.stack_lines.specs.declared.source.Source.TheVariants.{Blocks}
 use Rattle.stack_meaning.specs.Changes.{AllWhole}
 use Rattle.stack_meaning.specs.Blocks.{is_ignored}
@@ -92,27 +92,27 @@ module _ (bytes : List ℕ) (u m : ℕ) (some : 0 < u) (len : length bytes ≡ 5
 -- ---- where the read stands
 
 -- the blocks before block j were had, where data were read as far as block r
-pub record WereHad (c : Configuration) (v : Verity) (p : BlockPart) (n r j : ℕ) (bytes : List ℕ) (did : LeafRead) : Type 0 where
-  pub so_far : Finds (blocks_place c p n) c 0 (j * block_sectors v) did (Ok (take (512 * (j * block_sectors v)) bytes))
-  pub moved : AreRead did.old (read_cost_so_far c v (r * block_sectors v) j) did.new
-  pub before : AreBefore p.device.0 p.line (p.first / block_sectors v + j) did.after
+pub record WereHad (c : Configuration) (p : VerityPart) (n r j : ℕ) (bytes : List ℕ) (did : LeafRead) : Type 0 where
+  pub so_far : Finds (blocks_place c p n) c 0 (j * block_sectors p.verity.now) did (Ok (take (512 * (j * block_sectors p.verity.now)) bytes))
+  pub moved : AreRead did.old (read_cost_so_far c p.verity.now (r * block_sectors p.verity.now) j) did.new
+  pub before : AreBefore p.device.0 p.line (p.first / block_sectors p.verity.now + j) did.after
 
 -- the blocks from block j on, as far as block r, stand in the bytes as they were read, and their digests were made
-abbrev pub AreReadAhead : Configuration → Verity → BlockPart → Lower → ℕ → ℕ → List ℕ → List (List ℕ) → List Device → Type 0
-AreReadAhead c v p lower j r bytes made old = (k : ℕ) → j ≤ k → k < r → (x : List ℕ)
-    → IsRead c v p lower old k (take (512 * block_sectors v) (drop (512 * (k * block_sectors v)) bytes)) (get_or made k x)
+abbrev pub AreReadAhead : Configuration → VerityPart → ℕ → ℕ → List ℕ → List (List ℕ) → List Device → Type 0
+AreReadAhead c p j r bytes made old = (k : ℕ) → j ≤ k → k < r → (x : List ℕ)
+    → IsRead c p old k (take (512 * block_sectors p.verity.now) (drop (512 * (k * block_sectors p.verity.now)) bytes)) (get_or made k x)
 
 -- block j is the next one: those before it were had, the way to it was walked, and data were read as far as block r
-pub record IsNext (c : Configuration) (v : Verity) (p : BlockPart) (n r j : ℕ) (bytes expected : List ℕ) (path : List (List ℕ)) (did : LeafRead) : Type 0 where
+pub record IsNext (c : Configuration) (p : VerityPart) (n r j : ℕ) (bytes expected : List ℕ) (path : List (List ℕ)) (did : LeafRead) : Type 0 where
   pub mid : List Device
   pub here : List Device
   pub ways : ℕ
-  pub so_far : Finds (blocks_place c p n) c 0 (j * block_sectors v) (record { old = did.old; new = mid; before = did.before; after = did.after }) (Ok (take (512 * (j * block_sectors v)) bytes))
-  pub walked : IsWalked (block_in c v (p.first / block_sectors v + j)) 0 expected path mid here
+  pub so_far : Finds (blocks_place c p n) c 0 (j * block_sectors p.verity.now) (record { old = did.old; new = mid; before = did.before; after = did.after }) (Ok (take (512 * (j * block_sectors p.verity.now)) bytes))
+  pub walked : IsWalked (block_in c p.verity.now (p.first / block_sectors p.verity.now + j)) 0 expected path mid here
   pub later : AreRead did.old ways here
-  pub moved : AreRead did.old (read_cost_so_far c v (r * block_sectors v) (j + 1)) did.new
-  pub rest : AreRead mid (read_cost_so_far c v (r * block_sectors v) (j + 1)) did.new
-  pub before : AreBefore p.device.0 p.line (p.first / block_sectors v + j) did.after
+  pub moved : AreRead did.old (read_cost_so_far c p.verity.now (r * block_sectors p.verity.now) (j + 1)) did.new
+  pub rest : AreRead mid (read_cost_so_far c p.verity.now (r * block_sectors p.verity.now) (j + 1)) did.new
+  pub before : AreBefore p.device.0 p.line (p.first / block_sectors p.verity.now + j) did.after
 
 -- ---- costs
 
@@ -171,65 +171,65 @@ way-whole c v index path walked =
 
 -- ---- how many bytes blocks have
 
-module _ {c : Configuration} {v : Verity} {p : BlockPart} {n : ℕ} {found : List FoundRecord} {lower : Lower} (b : BlocksAt c v p n found lower) where
+module _ {c : Configuration} {p : VerityPart} {n : ℕ} {found : List FoundRecord} (b : BlocksAt c p n found) where
   abbrev m : ℕ
-  m = n / block_sectors v
+  m = n / block_sectors p.verity.now
 
   abbrev first : ℕ
-  first = p.first / block_sectors v
+  first = p.first / block_sectors p.verity.now
 
   -- how many they are
   few-blocks : m ≤ n
-  few-blocks = let each : m * 1 ≤ m * block_sectors v = mul-le-mul_left m b.size.some in omega (arith, each, b.count)
+  few-blocks = let each : m * 1 ≤ m * block_sectors p.verity.now = mul-le-mul_left m b.size.some in omega (arith, each, b.count)
 
-  block-size : block_sectors v * 512 ≡ v.data_block
+  block-size : block_sectors p.verity.now * 512 ≡ p.verity.now.data_block
   block-size = omega (arith, b.size.whole)
 
-  pub digest-count : (bytes : List ℕ) → length bytes ≡ 512 * n → length bytes / v.data_block ≡ n / block_sectors v
+  pub digest-count : (bytes : List ℕ) → length bytes ≡ 512 * n → length bytes / p.verity.now.data_block ≡ n / block_sectors p.verity.now
   digest-count bytes len =
-      ap (λ (k : ℕ). length bytes / k) (sym block-size) ∙ cut-count bytes (block_sectors v) m (omega (arith, b.size.some)) (len ∙ ap (λ (k : ℕ). 512 * k) (sym b.count))
+      ap (λ (k : ℕ). length bytes / k) (sym block-size) ∙ cut-count bytes (block_sectors p.verity.now) m (omega (arith, b.size.some)) (len ∙ ap (λ (k : ℕ). 512 * k) (sym b.count))
 
   -- block j begins there
-  pub block-begin : (j : ℕ) → j * v.data_block ≡ 512 * (j * block_sectors v)
-  block-begin j = ap (λ (k : ℕ). j * k) (sym block-size) ∙ sym (mul_assoc j (block_sectors v) 512) ∙ mul_comm (j * block_sectors v) 512
+  pub block-begin : (j : ℕ) → j * p.verity.now.data_block ≡ 512 * (j * block_sectors p.verity.now)
+  block-begin j = ap (λ (k : ℕ). j * k) (sym block-size) ∙ sym (mul_assoc j (block_sectors p.verity.now) 512) ∙ mul_comm (j * block_sectors p.verity.now) 512
 
   -- so many blocks end within the bytes
-  blocks-end : (bytes : List ℕ) (j : ℕ) → length bytes ≡ 512 * n → j ≤ m → j * v.data_block ≤ length bytes
+  blocks-end : (bytes : List ℕ) (j : ℕ) → length bytes ≡ 512 * n → j ≤ m → j * p.verity.now.data_block ≤ length bytes
   blocks-end bytes j len most =
-      let below : j * block_sectors v ≤ m * block_sectors v = mul-le-mul_right (block_sectors v) most in
+      let below : j * block_sectors p.verity.now ≤ m * block_sectors p.verity.now = mul-le-mul_right (block_sectors p.verity.now) most in
       omega (arith, below, block-begin j, b.count, len)
 
   small-index : (j : ℕ) → j < m → first + (j + 1) ≤ p.first + n
   small-index j inside =
-      let part : first * 1 ≤ first * block_sectors v = mul-le-mul_left first b.size.some in
-      omega (arith, part, div-add-mod' p.first (block_sectors v), inside, few-blocks)
+      let part : first * 1 ≤ first * block_sectors p.verity.now = mul-le-mul_left first b.size.some in
+      omega (arith, part, div-add-mod' p.first (block_sectors p.verity.now), inside, few-blocks)
 
   -- where block j begins on the device beneath, and that so many from there on lie inside it
-  place : (j : ℕ) → block_sectors v * (first + j) ≡ p.first + j * block_sectors v
-  place j = let all : first * block_sectors v ≡ p.first = omega (arith, div-add-mod' p.first (block_sectors v), b.aligned) in omega (arith, mul_comm (block_sectors v) (first + j), add-mul first j (block_sectors v), all)
+  place : (j : ℕ) → block_sectors p.verity.now * (first + j) ≡ p.first + j * block_sectors p.verity.now
+  place j = let all : first * block_sectors p.verity.now ≡ p.first = omega (arith, div-add-mod' p.first (block_sectors p.verity.now), b.aligned) in omega (arith, mul_comm (block_sectors p.verity.now) (first + j), add-mul first j (block_sectors p.verity.now), all)
 
-  inner : (j many : ℕ) → j + many ≤ m → j * block_sectors v + many * block_sectors v ≤ n
+  inner : (j many : ℕ) → j + many ≤ m → j * block_sectors p.verity.now + many * block_sectors p.verity.now ≤ n
   inner j many most =
-      let below : (j + many) * block_sectors v ≤ m * block_sectors v = mul-le-mul_right (block_sectors v) most in
-      omega (arith, below, add-mul j many (block_sectors v), b.count)
+      let below : (j + many) * block_sectors p.verity.now ≤ m * block_sectors p.verity.now = mul-le-mul_right (block_sectors p.verity.now) most in
+      omega (arith, below, add-mul j many (block_sectors p.verity.now), b.count)
 
-  row-inside : (j many : ℕ) → j + many ≤ m → block_sectors v * (first + j) + many * block_sectors v ≤ size c lower
+  row-inside : (j many : ℕ) → j + many ≤ m → block_sectors p.verity.now * (first + j) + many * block_sectors p.verity.now ≤ size c p.data
   row-inside j many most = omega (arith, place j, inner j many most, b.below)
 
   -- none of them yet
-  none-had : {old : List Device} (bytes : List ℕ) → AllKept c old found → WereHad c v p n 0 0 bytes (record { old = old; new = old; before = found; after = found })
+  none-had : {old : List Device} (bytes : List ℕ) → AllKept c old found → WereHad c p n 0 0 bytes (record { old = old; new = old; before = found; after = found })
   none-had {old = old} bytes kept =
-      let nothing : 0 ≡ 512 * (0 * block_sectors v) = omega arith in
-      let front : [] ≡ take (512 * (0 * block_sectors v)) bytes = ap (λ (k : ℕ). take k bytes) nothing in
+      let nothing : 0 ≡ 512 * (0 * block_sectors p.verity.now) = omega arith in
+      let front : [] ≡ take (512 * (0 * block_sectors p.verity.now)) bytes = ap (λ (k : ℕ). take k bytes) nothing in
       let start : first ≡ first + 0 = omega arith in
       record {
-        so_far = subst (λ (l : List ℕ). Finds (blocks_place c p n) c 0 (0 * block_sectors v) (record { old = old; new = old; before = found; after = found }) (Ok l)) front (none-read b found kept);
+        so_far = subst (λ (l : List ℕ). Finds (blocks_place c p n) c 0 (0 * block_sectors p.verity.now) (record { old = old; new = old; before = found; after = found }) (Ok l)) front (none-read b found kept);
         moved = AreRead-none _ old;
         before = subst (λ (k : ℕ). AreBefore p.device.0 p.line k found) start b.before;
       }
 
-  cost : (block_in c v 0).on_data.cost ≡ read_cost c lower
-  cost = ap (λ (q : Place). q.cost) (place-named c v.data lower b.is)
+  cost : (block_in c p.verity.now 0).on_data.cost ≡ read_cost c p.data
+  cost = ap (λ (q : Place). q.cost) (place-named c p.verity.now.data p.data b.is)
 
 -- a row covers block j, unless the line ignores it
 pub row-covers : {ignored : Bool} {r j many : ℕ} → (ignored ≡ false → r ≤ j → 0 < many) → ignored ≡ false → j < max r (j + many)
@@ -238,57 +238,57 @@ row-covers {r = r} {j = j} some taken = elim (cases_lt j r) [ inl low ↦ omega 
 -- ---- before a turn
 
 -- The blocks before block j were had, data were read as far as block r, and the bytes are as many as those of the buffer `start`.
-pub record AreChecked (c : Configuration) (v : Verity) (p : BlockPart) (lower : Lower) (chains : Chains) (start : List ℕ) (r j : ℕ) (bytes : List ℕ) (made : List (List ℕ)) (path : List CachedBlock) (old new : List Device) (before now : List FoundRecord) : Type 0 where
+pub record AreChecked (c : Configuration) (p : VerityPart) (chains : Chains) (start : List ℕ) (r j : ℕ) (bytes : List ℕ) (made : List (List ℕ)) (path : List CachedBlock) (old new : List Device) (before now : List FoundRecord) : Type 0 where
   pub size : length bytes ≡ length start
   pub room : length made ≡ 128
-  pub within : j ≤ length start / 512 / block_sectors v
-  pub most : r ≤ length start / 512 / block_sectors v
+  pub within : j ≤ length start / 512 / block_sectors p.verity.now
+  pub most : r ≤ length start / 512 / block_sectors p.verity.now
   pub after : List FoundRecord
   pub out : AreHandedOut chains before after now
   pub held : All (IsCached c new) path
-  pub had : WereHad c v p (length start / 512) r j bytes (record { old = old; new = new; before = before; after = after })
-  pub ahead : AreReadAhead c v p lower j r bytes made old
+  pub had : WereHad c p (length start / 512) r j bytes (record { old = old; new = new; before = before; after = after })
+  pub ahead : AreReadAhead c p j r bytes made old
 
-pub checked-as : {c : Configuration} {v : Verity} {p : BlockPart} {lower : Lower} {chains : Chains} {start : List ℕ} {r to j : ℕ} {bytes : List ℕ} {made : List (List ℕ)} {path : List CachedBlock} {old new : List Device} {before now : List FoundRecord} → to ≡ r
-    → AreChecked c v p lower chains start r j bytes made path old new before now → AreChecked c v p lower chains start to j bytes made path old new before now
-checked-as {c = c} {v = v} {p = p} {lower = lower} {chains = chains} {start = start} {j = j} {bytes = bytes} {made = made} {path = path} {old = old} {new = new} {before = before} {now = now} same checked =
-    subst (λ (k : ℕ). AreChecked c v p lower chains start k j bytes made path old new before now) (sym same) checked
+pub checked-as : {c : Configuration} {p : VerityPart} {chains : Chains} {start : List ℕ} {r to j : ℕ} {bytes : List ℕ} {made : List (List ℕ)} {path : List CachedBlock} {old new : List Device} {before now : List FoundRecord} → to ≡ r
+    → AreChecked c p chains start r j bytes made path old new before now → AreChecked c p chains start to j bytes made path old new before now
+checked-as {c = c} {p = p} {chains = chains} {start = start} {j = j} {bytes = bytes} {made = made} {path = path} {old = old} {new = new} {before = before} {now = now} same checked =
+    subst (λ (k : ℕ). AreChecked c p chains start k j bytes made path old new before now) (sym same) checked
 
 -- block j, whose number in the line is counted from the part's first sector by s sectors a block
-pub record IsTurn (v : Verity) (p : BlockPart) (start : List ℕ) (s r j : ℕ) (bytes : List ℕ) : Type 0 where
-  pub inside : j < length start / 512 / block_sectors v
-  pub read : r ≤ length start / 512 / block_sectors v
-  pub few : length start / 512 / block_sectors v ≤ 128
+pub record IsTurn (p : VerityPart) (start : List ℕ) (s r j : ℕ) (bytes : List ℕ) : Type 0 where
+  pub inside : j < length start / 512 / block_sectors p.verity.now
+  pub read : r ≤ length start / 512 / block_sectors p.verity.now
+  pub few : length start / 512 / block_sectors p.verity.now ≤ 128
   pub len : length bytes ≡ 512 * (length start / 512)
-  pub count : length start / v.data_block ≡ length start / 512 / block_sectors v
-  pub index : p.first / s + j ≡ p.first / block_sectors v + j
-  pub there : p.first / s + j < v.blocks
+  pub count : length start / p.verity.now.data_block ≡ length start / 512 / block_sectors p.verity.now
+  pub index : p.first / s + j ≡ p.first / block_sectors p.verity.now + j
+  pub there : p.first / s + j < p.verity.now.blocks
   pub small : p.first / s + j < 2 ^ 64
-  pub end : j * v.data_block + v.data_block ≤ length bytes
+  pub end : j * p.verity.now.data_block + p.verity.now.data_block ≤ length bytes
 
 -- the row of `many` blocks from block j on
-pub record IsRow (c : Configuration) (v : Verity) (p : BlockPart) (lower : Lower) (start : List ℕ) (j many : ℕ) (bytes : List ℕ) : Type 0 where
-  pub most : j + many ≤ length start / 512 / block_sectors v
+pub record IsRow (c : Configuration) (p : VerityPart) (start : List ℕ) (j many : ℕ) (bytes : List ℕ) : Type 0 where
+  pub most : j + many ≤ length start / 512 / block_sectors p.verity.now
   pub few : j + many ≤ 128
-  pub end : j * v.data_block + many * v.data_block ≤ length bytes
-  pub len : length (take (j * v.data_block + many * v.data_block - j * v.data_block) (drop (j * v.data_block) bytes)) ≡ many * v.data_block
-  pub sectors : length (take (j * v.data_block + many * v.data_block - j * v.data_block) (drop (j * v.data_block) bytes)) / 512 ≡ many * block_sectors v
-  pub whole : length (take (j * v.data_block + many * v.data_block - j * v.data_block) (drop (j * v.data_block) bytes)) % 512 ≡ 0
-  pub inside : block_sectors v * (p.first / block_sectors v + j) + many * block_sectors v ≤ size c lower
+  pub end : j * p.verity.now.data_block + many * p.verity.now.data_block ≤ length bytes
+  pub len : length (take (j * p.verity.now.data_block + many * p.verity.now.data_block - j * p.verity.now.data_block) (drop (j * p.verity.now.data_block) bytes)) ≡ many * p.verity.now.data_block
+  pub sectors : length (take (j * p.verity.now.data_block + many * p.verity.now.data_block - j * p.verity.now.data_block) (drop (j * p.verity.now.data_block) bytes)) / 512 ≡ many * block_sectors p.verity.now
+  pub whole : length (take (j * p.verity.now.data_block + many * p.verity.now.data_block - j * p.verity.now.data_block) (drop (j * p.verity.now.data_block) bytes)) % 512 ≡ 0
+  pub inside : block_sectors p.verity.now * (p.first / block_sectors p.verity.now + j) + many * block_sectors p.verity.now ≤ size c p.data
 
 -- the bytes, where the row stands as it was read
-pub record IsPut (v : Verity) (start : List ℕ) (j many : ℕ) (bytes row : List ℕ) : Type 0 where
-  pub wide : length row ≡ many * v.data_block
-  pub len : length (put_mid (j * v.data_block) (j * v.data_block + many * v.data_block - j * v.data_block) bytes row) ≡ 512 * (length start / 512)
-  pub row_is : take (j * v.data_block + many * v.data_block - j * v.data_block) (drop (j * v.data_block) (put_mid (j * v.data_block) (j * v.data_block + many * v.data_block - j * v.data_block) bytes row)) ≡ row
-  pub end : j * v.data_block + v.data_block ≤ length (put_mid (j * v.data_block) (j * v.data_block + many * v.data_block - j * v.data_block) bytes row)
-  pub front : (k : ℕ) → k ≤ j * v.data_block → take k (put_mid (j * v.data_block) (j * v.data_block + many * v.data_block - j * v.data_block) bytes row) ≡ take k bytes
-  pub row_even : length row % v.data_block ≡ 0
-  pub row_count : length row / v.data_block ≡ many
+pub record IsPut (p : VerityPart) (start : List ℕ) (j many : ℕ) (bytes row : List ℕ) : Type 0 where
+  pub wide : length row ≡ many * p.verity.now.data_block
+  pub len : length (put_mid (j * p.verity.now.data_block) (j * p.verity.now.data_block + many * p.verity.now.data_block - j * p.verity.now.data_block) bytes row) ≡ 512 * (length start / 512)
+  pub row_is : take (j * p.verity.now.data_block + many * p.verity.now.data_block - j * p.verity.now.data_block) (drop (j * p.verity.now.data_block) (put_mid (j * p.verity.now.data_block) (j * p.verity.now.data_block + many * p.verity.now.data_block - j * p.verity.now.data_block) bytes row)) ≡ row
+  pub end : j * p.verity.now.data_block + p.verity.now.data_block ≤ length (put_mid (j * p.verity.now.data_block) (j * p.verity.now.data_block + many * p.verity.now.data_block - j * p.verity.now.data_block) bytes row)
+  pub front : (k : ℕ) → k ≤ j * p.verity.now.data_block → take k (put_mid (j * p.verity.now.data_block) (j * p.verity.now.data_block + many * p.verity.now.data_block - j * p.verity.now.data_block) bytes row) ≡ take k bytes
+  pub row_even : length row % p.verity.now.data_block ≡ 0
+  pub row_count : length row / p.verity.now.data_block ≡ many
 
-module _ {c : Configuration} {v : Verity} {p : BlockPart} {found : List FoundRecord} {lower : Lower} {start : List ℕ} (b : BlocksAt c v p (length start / 512) found lower) where
+module _ {c : Configuration} {p : VerityPart} {found : List FoundRecord} {start : List ℕ} (b : BlocksAt c p (length start / 512) found) where
   -- none of them yet
-  pub checked-none : (chains : Chains) {old : List Device} (made : List (List ℕ)) (path : List CachedBlock) → length made ≡ 128 → path ≡ [] → AllKept c old found → AreChecked c v p lower chains start 0 0 start made path old old found found
+  pub checked-none : (chains : Chains) {old : List Device} (made : List (List ℕ)) (path : List CachedBlock) → length made ≡ 128 → path ≡ [] → AllKept c old found → AreChecked c p chains start 0 0 start made path old old found found
   checked-none chains {old = old} made path room none kept = record {
     size = refl;
     room = room;
@@ -301,13 +301,13 @@ module _ {c : Configuration} {v : Verity} {p : BlockPart} {found : List FoundRec
     ahead = λ k low below. absurd (omega (arith, below));
   }
 
-  pub turn-at : {chains : Chains} {s r j : ℕ} {bytes : List ℕ} {made : List (List ℕ)} {path : List CachedBlock} {old new : List Device} {before now : List FoundRecord} → AreChecked c v p lower chains start r j bytes made path old new before now
-      → length start % 512 ≡ 0 → s ≡ block_sectors v → j < length start / v.data_block → IsTurn v p start s r j bytes
+  pub turn-at : {chains : Chains} {s r j : ℕ} {bytes : List ℕ} {made : List (List ℕ)} {path : List CachedBlock} {old new : List Device} {before now : List FoundRecord} → AreChecked c p chains start r j bytes made path old new before now
+      → length start % 512 ≡ 0 → s ≡ block_sectors p.verity.now → j < length start / p.verity.now.data_block → IsTurn p start s r j bytes
   turn-at {s = s} {j = j} {bytes = bytes} inv whole from more =
       let count = digest-count b start (omega (arith, whole)) in
-      let inside : j < (length start / 512) / block_sectors v = omega (arith, more, count) in
+      let inside : j < (length start / 512) / block_sectors p.verity.now = omega (arith, more, count) in
       let len : length bytes ≡ 512 * (length start / 512) = omega (arith, inv.size, whole) in
-      let index : p.first / s + j ≡ p.first / block_sectors v + j = ap (λ (k : ℕ). p.first / k + j) from in
+      let index : p.first / s + j ≡ p.first / block_sectors p.verity.now + j = ap (λ (k : ℕ). p.first / k + j) from in
       record {
         inside = inside;
         read = inv.most;
@@ -316,34 +316,34 @@ module _ {c : Configuration} {v : Verity} {p : BlockPart} {found : List FoundRec
         count = count;
         index = index;
         there = omega (arith, index, b.there j inside);
-        small = omega (arith, size-small c lower b.loaded, small-index b j inside, b.below, index);
-        end = omega (arith, blocks-end b bytes (j + 1) len (omega (arith, inside)), add-mul j 1 v.data_block);
+        small = omega (arith, size-small c p.data b.loaded, small-index b j inside, b.below, index);
+        end = omega (arith, blocks-end b bytes (j + 1) len (omega (arith, inside)), add-mul j 1 p.verity.now.data_block);
       }
 
   -- after the last one
-  pub checked-all : {chains : Chains} {r j : ℕ} {bytes : List ℕ} {made : List (List ℕ)} {path : List CachedBlock} {old new : List Device} {before now : List FoundRecord} → AreChecked c v p lower chains start r j bytes made path old new before now
-      → length start % 512 ≡ 0 → (j < length start / v.data_block → ⊥) → ReadsBlocks c p (length start / 512) chains (record { old = old; new = new; before = before; after = now }) (Ok bytes)
+  pub checked-all : {chains : Chains} {r j : ℕ} {bytes : List ℕ} {made : List (List ℕ)} {path : List CachedBlock} {old new : List Device} {before now : List FoundRecord} → AreChecked c p chains start r j bytes made path old new before now
+      → length start % 512 ≡ 0 → (j < length start / p.verity.now.data_block → ⊥) → ReadsBlocks c p (length start / 512) chains (record { old = old; new = new; before = before; after = now }) (Ok bytes)
   checked-all {r = r} {j = j} {bytes = bytes} {old = old} {new = new} {before = before} inv whole last =
-      let all : j ≡ (length start / 512) / block_sectors v = omega (arith, last, inv.within, digest-count b start (omega (arith, whole))) in
-      let count : j * block_sectors v ≡ (length start / 512) = ap (λ (k : ℕ). k * block_sectors v) all ∙ b.count in
-      let front : take (512 * (j * block_sectors v)) bytes ≡ bytes = take_all (512 * (j * block_sectors v)) bytes (omega (arith, inv.size, whole, count)) in
+      let all : j ≡ (length start / 512) / block_sectors p.verity.now = omega (arith, last, inv.within, digest-count b start (omega (arith, whole))) in
+      let count : j * block_sectors p.verity.now ≡ (length start / 512) = ap (λ (k : ℕ). k * block_sectors p.verity.now) all ∙ b.count in
+      let front : take (512 * (j * block_sectors p.verity.now)) bytes ≡ bytes = take_all (512 * (j * block_sectors p.verity.now)) bytes (omega (arith, inv.size, whole, count)) in
       let did : LeafRead = record { old = old; new = new; before = before; after = inv.after } in
       record {
         after = inv.after;
         out = inv.out;
         reads = blocks-read b did (Ok bytes) r j inv.most inv.within inv.had.moved
-            (subst (λ (k : ℕ). Finds (blocks_place c p (length start / 512)) c 0 k did (Ok bytes)) count (subst (λ (l : List ℕ). Finds (blocks_place c p (length start / 512)) c 0 (j * block_sectors v) did (Ok l)) front inv.had.so_far));
+            (subst (λ (k : ℕ). Finds (blocks_place c p (length start / 512)) c 0 k did (Ok bytes)) count (subst (λ (l : List ℕ). Finds (blocks_place c p (length start / 512)) c 0 (j * block_sectors p.verity.now) did (Ok l)) front inv.had.so_far));
       }
 
   -- ---- a turn
 
-  module _ {s r j : ℕ} {bytes : List ℕ} (turn : IsTurn v p start s r j bytes) where
-    pub row-at : (many : ℕ) → j + many ≤ length start / v.data_block → IsRow c v p lower start j many bytes
+  module _ {s r j : ℕ} {bytes : List ℕ} (turn : IsTurn p start s r j bytes) where
+    pub row-at : (many : ℕ) → j + many ≤ length start / p.verity.now.data_block → IsRow c p start j many bytes
     row-at many h =
-        let a : ℕ = j * v.data_block in
-        let most : j + many ≤ (length start / 512) / block_sectors v = omega (arith, h, turn.count) in
-        let end : a + many * v.data_block ≤ length bytes = omega (arith, blocks-end b bytes (j + many) turn.len most, add-mul j many v.data_block) in
-        let len : length (take (a + many * v.data_block - a) (drop a bytes)) ≡ many * v.data_block = length-take-le (a + many * v.data_block - a) (drop a bytes) (omega (arith, end, length-drop a bytes)) ∙ sub-same a (many * v.data_block) in
+        let a : ℕ = j * p.verity.now.data_block in
+        let most : j + many ≤ (length start / 512) / block_sectors p.verity.now = omega (arith, h, turn.count) in
+        let end : a + many * p.verity.now.data_block ≤ length bytes = omega (arith, blocks-end b bytes (j + many) turn.len most, add-mul j many p.verity.now.data_block) in
+        let len : length (take (a + many * p.verity.now.data_block - a) (drop a bytes)) ≡ many * p.verity.now.data_block = length-take-le (a + many * p.verity.now.data_block - a) (drop a bytes) (omega (arith, end, length-drop a bytes)) ∙ sub-same a (many * p.verity.now.data_block) in
         record {
           most = most;
           few = omega (arith, most, turn.few);
@@ -355,86 +355,87 @@ module _ {c : Configuration} {v : Verity} {p : BlockPart} {found : List FoundRec
         }
 
     -- it ended in a fault on the way to the block
-    pub way-fails : {did : LeafRead} {new : List Device} (fault : IoFault) → WereHad c v p (length start / 512) r j bytes did → AreRead did.new (path_cost c v) new → GetsChain (block_in c v (p.first / s + j)) did.new new (Err fault)
+    pub way-fails : {did : LeafRead} {new : List Device} (fault : IoFault) → WereHad c p (length start / 512) r j bytes did → AreRead did.new (path_cost c p.verity.now) new → GetsChain (block_in c p.verity.now (p.first / s + j)) did.new new (Err fault)
         → ReadsSource c (Blocks p) (length start / 512) (record { old = did.old; new = new; before = did.before; after = did.after }) (Err fault)
     way-fails {did = did} {new = new} fault had moved got =
-        let next : j + 1 ≤ (length start / 512) / block_sectors v = omega (arith, turn.inside) in
+        let next : j + 1 ≤ (length start / 512) / block_sectors p.verity.now = omega (arith, turn.inside) in
         let most = total-cost b r (j + 1) turn.read next in
-        let way = sum-way (r * block_sectors v * (block_in c v 0).on_data.cost) (path_cost c v) j in
-        let few : path_cost c v ≤ (length start / 512) * read_cost c (mapped p.device.0) =
-        le-sum (r * block_sectors v * (block_in c v 0).on_data.cost + j * path_cost c v) (path_cost c v) ((length start / 512) * read_cost c (mapped p.device.0)) (subst (λ (k : ℕ). k ≤ (length start / 512) * read_cost c (mapped p.device.0)) (sym way) most) in
-        let both : AreRead did.old (read_cost_so_far c v (r * block_sectors v) (j + 1)) new = subst (λ (k : ℕ). AreRead did.old k new) way (AreRead-then had.moved moved) in
+        let way = sum-way (r * block_sectors p.verity.now * (block_in c p.verity.now 0).on_data.cost) (path_cost c p.verity.now) j in
+        let few : path_cost c p.verity.now ≤ (length start / 512) * read_cost c (mapped p.device.0) =
+        le-sum (r * block_sectors p.verity.now * (block_in c p.verity.now 0).on_data.cost + j * path_cost c p.verity.now) (path_cost c p.verity.now) ((length start / 512) * read_cost c (mapped p.device.0)) (subst (λ (k : ℕ). k ≤ (length start / 512) * read_cost c (mapped p.device.0)) (sym way) most) in
+        let both : AreRead did.old (read_cost_so_far c p.verity.now (r * block_sectors p.verity.now) (j + 1)) new = subst (λ (k : ℕ). AreRead did.old k new) way (AreRead-then had.moved moved) in
         blocks-read b (record { old = did.old; new = new; before = did.before; after = did.after }) (Err fault) r (j + 1) turn.read next both
-        (blocks-stop b j turn.inside had.so_far moved few fault (subst (λ (k : ℕ). GetsChain (block_in c v k) did.new new (Err fault)) turn.index got))
+        (blocks-stop b j turn.inside had.so_far moved few fault (subst (λ (k : ℕ). GetsChain (block_in c p.verity.now k) did.new new (Err fault)) turn.index got))
 
-    pub way-costs : {did : LeafRead} {new : List Device} → WereHad c v p (length start / 512) r j bytes did → AreRead did.new (path_cost c v) new → ReadsAtMost (part_budget c p (length start / 512)) did.old new
+    pub way-costs : {did : LeafRead} {new : List Device} → WereHad c p (length start / 512) r j bytes did → AreRead did.new (path_cost c p.verity.now) new → ReadsAtMost (part_budget c p (length start / 512)) did.old new
     way-costs had moved = way-spent b r j turn.read turn.inside had.moved moved
 
-    module _ {many : ℕ} (row : IsRow c v p lower start j many bytes) where
-      pub put-at : (bytes_of : List ℕ) → length bytes_of ≡ length (take (j * v.data_block + many * v.data_block - j * v.data_block) (drop (j * v.data_block) bytes)) → IsPut v start j many bytes bytes_of
+    module _ {many : ℕ} (row : IsRow c p start j many bytes) where
+      pub put-at : (bytes_of : List ℕ) → length bytes_of ≡ length (take (j * p.verity.now.data_block + many * p.verity.now.data_block - j * p.verity.now.data_block) (drop (j * p.verity.now.data_block) bytes)) → IsPut p start j many bytes bytes_of
       put-at bytes_of same =
-          let a : ℕ = j * v.data_block in
-          let w : ℕ = a + many * v.data_block - a in
+          let a : ℕ = j * p.verity.now.data_block in
+          let w : ℕ = a + many * p.verity.now.data_block - a in
           let fits : a ≤ length bytes = omega (arith, turn.end) in
-          let wide : length bytes_of ≡ many * v.data_block = same ∙ row.len in
+          let wide : length bytes_of ≡ many * p.verity.now.data_block = same ∙ row.len in
           let len : length (put_mid a w bytes bytes_of) ≡ 512 * (length start / 512) = same_len_mid a w bytes bytes_of same ∙ turn.len in
-          let some : 0 < v.data_block = omega (arith, block-size b, b.size.some) in
+          let some : 0 < p.verity.now.data_block = omega (arith, block-size b, b.size.some) in
           record {
             wide = wide;
             len = len;
-            row_is = between-put_mid a w bytes bytes_of (a + many * v.data_block) fits (wide ∙ sym (sub-same a (many * v.data_block)));
-            end = omega (arith, blocks-end b (put_mid a w bytes bytes_of) (j + 1) len (omega (arith, turn.inside)), add-mul j 1 v.data_block);
+            row_is = between-put_mid a w bytes bytes_of (a + many * p.verity.now.data_block) fits (wide ∙ sym (sub-same a (many * p.verity.now.data_block)));
+            end = omega (arith, blocks-end b (put_mid a w bytes bytes_of) (j + 1) len (omega (arith, turn.inside)), add-mul j 1 p.verity.now.data_block);
             front = λ k low. take-put_mid_below a w bytes bytes_of k low fits;
-            row_even = ap (λ (k : ℕ). k % v.data_block) wide ∙ mul-mod_left many v.data_block;
-            row_count = ap (λ (k : ℕ). k / v.data_block) wide ∙ mul-div_cancel many some;
+            row_even = ap (λ (k : ℕ). k % p.verity.now.data_block) wide ∙ mul-mod_left many p.verity.now.data_block;
+            row_count = ap (λ (k : ℕ). k / p.verity.now.data_block) wide ∙ mul-div_cancel many some;
           }
 
       -- what was read beneath, by its place and number
-      pub row-got : {e : Extent} {at new : List Device} {answer : Result (List ℕ) IoFault} → IsExtent c lower (block_sectors v * (p.first / s + j)) (block_sectors v) e
-          → GetsBytes c lower e.first (length (take (j * v.data_block + many * v.data_block - j * v.data_block) (drop (j * v.data_block) bytes)) / 512) at new answer
-          → GetsBytes c lower (block_sectors v * (p.first / block_sectors v + j)) (many * block_sectors v) at new answer
-      row-got {e = e} {at = at} {new = new} {answer = answer} extent gets =
-          let begin : e.first ≡ block_sectors v * (p.first / block_sectors v + j) = ap (λ (x : Extent). x.first) extent.value ∙ ap (λ (k : ℕ). block_sectors v * k) turn.index in
-          subst (λ (k : ℕ). GetsBytes c lower (block_sectors v * (p.first / block_sectors v + j)) k at new answer) row.sectors
-          (subst (λ (k : ℕ). GetsBytes c lower k (length (take (j * v.data_block + many * v.data_block - j * v.data_block) (drop (j * v.data_block) bytes)) / 512) at new answer) begin gets)
+      pub row-got : {on : Lower} {e : Extent} {at new : List Device} {answer : Result (List ℕ) IoFault} → on ≡ p.data → IsExtent c on (block_sectors p.verity.now * (p.first / s + j)) (block_sectors p.verity.now) e
+          → GetsBytes c on e.first (length (take (j * p.verity.now.data_block + many * p.verity.now.data_block - j * p.verity.now.data_block) (drop (j * p.verity.now.data_block) bytes)) / 512) at new answer
+          → GetsBytes c p.data (block_sectors p.verity.now * (p.first / block_sectors p.verity.now + j)) (many * block_sectors p.verity.now) at new answer
+      row-got {e = e} {at = at} {new = new} {answer = answer} same extent gets =
+          let begin : e.first ≡ block_sectors p.verity.now * (p.first / block_sectors p.verity.now + j) = ap (λ (x : Extent). x.first) extent.value ∙ ap (λ (k : ℕ). block_sectors p.verity.now * k) turn.index in
+          subst (λ (k : ℕ). GetsBytes c p.data (block_sectors p.verity.now * (p.first / block_sectors p.verity.now + j)) k at new answer) row.sectors
+          (subst (λ (k : ℕ). GetsBytes c p.data k (length (take (j * p.verity.now.data_block + many * p.verity.now.data_block - j * p.verity.now.data_block) (drop (j * p.verity.now.data_block) bytes)) / 512) at new answer) begin
+          (subst (λ (y : Lower). GetsBytes c y e.first (length (take (j * p.verity.now.data_block + many * p.verity.now.data_block - j * p.verity.now.data_block) (drop (j * p.verity.now.data_block) bytes)) / 512) at new answer) same gets))
 
       -- the way to the block was walked
-      module _ (fresh : (many ≡ 0) ⊎ (r ≤ j)) {expected : List ℕ} {way : List (List ℕ)} {did : LeafRead} {walk : List Device} (had : WereHad c v p (length start / 512) r j bytes did) (moved : AreRead did.new (path_cost c v) walk)
-          (walked : IsWalked (block_in c v (p.first / s + j)) 0 expected way did.new walk) {new : List Device} {answer : Result (List ℕ) IoFault}
-          (gets : GetsBytes c lower (block_sectors v * (p.first / block_sectors v + j)) (many * block_sectors v) walk new answer) where
+      module _ (fresh : (many ≡ 0) ⊎ (r ≤ j)) {expected : List ℕ} {way : List (List ℕ)} {did : LeafRead} {walk : List Device} (had : WereHad c p (length start / 512) r j bytes did) (moved : AreRead did.new (path_cost c p.verity.now) walk)
+          (walked : IsWalked (block_in c p.verity.now (p.first / s + j)) 0 expected way did.new walk) {new : List Device} {answer : Result (List ℕ) IoFault}
+          (gets : GetsBytes c p.data (block_sectors p.verity.now * (p.first / block_sectors p.verity.now + j)) (many * block_sectors p.verity.now) walk new answer) where
         abbrev next_read : ℕ
         next_read = max r (j + many)
 
         more : r + many ≤ next_read
         more = elim fresh [ inl none ↦ omega (arith, none) | inr old ↦ omega (arith, old) ]
 
-        pub far : next_read ≤ (length start / 512) / block_sectors v
+        pub far : next_read ≤ (length start / 512) / block_sectors p.verity.now
         far = omega (arith, turn.read, row.most)
 
-        both-cost : read_cost_so_far c v (r * block_sectors v) j + (path_cost c v + many * block_sectors v * read_cost c lower) ≤ read_cost_so_far c v (next_read * block_sectors v) (j + 1)
+        both-cost : read_cost_so_far c p.verity.now (r * block_sectors p.verity.now) j + (path_cost c p.verity.now + many * block_sectors p.verity.now * read_cost c p.data) ≤ read_cost_so_far c p.verity.now (next_read * block_sectors p.verity.now) (j + 1)
         both-cost =
-            sum-row (r * block_sectors v * (block_in c v 0).on_data.cost) (many * block_sectors v * (block_in c v 0).on_data.cost) (next_read * block_sectors v * (block_in c v 0).on_data.cost) (path_cost c v) j (many * block_sectors v * read_cost c lower)
-            (cost-row r many next_read (block_sectors v) (block_in c v 0).on_data.cost more) (ap (λ (k : ℕ). many * block_sectors v * k) (sym (cost b)))
+            sum-row (r * block_sectors p.verity.now * (block_in c p.verity.now 0).on_data.cost) (many * block_sectors p.verity.now * (block_in c p.verity.now 0).on_data.cost) (next_read * block_sectors p.verity.now * (block_in c p.verity.now 0).on_data.cost) (path_cost c p.verity.now) j (many * block_sectors p.verity.now * read_cost c p.data)
+            (cost-row r many next_read (block_sectors p.verity.now) (block_in c p.verity.now 0).on_data.cost more) (ap (λ (k : ℕ). many * block_sectors p.verity.now * k) (sym (cost b)))
 
-        rest-cost : path_cost c v + many * block_sectors v * read_cost c lower ≤ read_cost_so_far c v (next_read * block_sectors v) (j + 1)
-        rest-cost = le-sum (read_cost_so_far c v (r * block_sectors v) j) (path_cost c v + many * block_sectors v * read_cost c lower) (read_cost_so_far c v (next_read * block_sectors v) (j + 1)) both-cost
+        rest-cost : path_cost c p.verity.now + many * block_sectors p.verity.now * read_cost c p.data ≤ read_cost_so_far c p.verity.now (next_read * block_sectors p.verity.now) (j + 1)
+        rest-cost = le-sum (read_cost_so_far c p.verity.now (r * block_sectors p.verity.now) j) (path_cost c p.verity.now + many * block_sectors p.verity.now * read_cost c p.data) (read_cost_so_far c p.verity.now (next_read * block_sectors p.verity.now) (j + 1)) both-cost
 
-        all-moved : AreRead did.old (read_cost_so_far c v (next_read * block_sectors v) (j + 1)) new
+        all-moved : AreRead did.old (read_cost_so_far c p.verity.now (next_read * block_sectors p.verity.now) (j + 1)) new
         all-moved = AreRead-more both-cost (AreRead-then had.moved (AreRead-then moved gets.got.moved))
 
-        rest-moved : AreRead did.new (read_cost_so_far c v (next_read * block_sectors v) (j + 1)) new
+        rest-moved : AreRead did.new (read_cost_so_far c p.verity.now (next_read * block_sectors p.verity.now) (j + 1)) new
         rest-moved = AreRead-more rest-cost (AreRead-then moved gets.got.moved)
 
         pub row-costs : ReadsAtMost (part_budget c p (length start / 512)) did.old new
         row-costs = row-spent b r j many turn.read turn.inside row.most fresh had.moved moved gets.got.moved
 
-        pub row-next : IsNext c v p (length start / 512) next_read j bytes expected way (record { old = did.old; new = new; before = did.before; after = did.after })
+        pub row-next : IsNext c p (length start / 512) next_read j bytes expected way (record { old = did.old; new = new; before = did.before; after = did.after })
         row-next = record {
           mid = did.new;
           here = walk;
-          ways = read_cost_so_far c v (r * block_sectors v) j + path_cost c v;
+          ways = read_cost_so_far c p.verity.now (r * block_sectors p.verity.now) j + path_cost c p.verity.now;
           so_far = had.so_far;
-          walked = subst (λ (k : ℕ). IsWalked (block_in c v k) 0 expected way did.new walk) turn.index walked;
+          walked = subst (λ (k : ℕ). IsWalked (block_in c p.verity.now k) 0 expected way did.new walk) turn.index walked;
           later = AreRead-then had.moved moved;
           moved = all-moved;
           rest = rest-moved;
@@ -442,47 +443,47 @@ module _ {c : Configuration} {v : Verity} {p : BlockPart} {found : List FoundRec
         }
 
       -- and the read of the data after it failed
-      pub row-fails : (fresh : (many ≡ 0) ⊎ (r ≤ j)) {expected : List ℕ} {way : List (List ℕ)} {did : LeafRead} {walk new : List Device} (fault : IoFault) (had : WereHad c v p (length start / 512) r j bytes did) (moved : AreRead did.new (path_cost c v) walk)
-          (walked : IsWalked (block_in c v (p.first / s + j)) 0 expected way did.new walk) → GetsBytes c lower (block_sectors v * (p.first / block_sectors v + j)) (many * block_sectors v) walk new (Err fault)
+      pub row-fails : (fresh : (many ≡ 0) ⊎ (r ≤ j)) {expected : List ℕ} {way : List (List ℕ)} {did : LeafRead} {walk new : List Device} (fault : IoFault) (had : WereHad c p (length start / 512) r j bytes did) (moved : AreRead did.new (path_cost c p.verity.now) walk)
+          (walked : IsWalked (block_in c p.verity.now (p.first / s + j)) 0 expected way did.new walk) → GetsBytes c p.data (block_sectors p.verity.now * (p.first / block_sectors p.verity.now + j)) (many * block_sectors p.verity.now) walk new (Err fault)
           → ReadsSource c (Blocks p) (length start / 512) (record { old = did.old; new = new; before = did.before; after = did.after }) (Err fault)
       row-fails fresh {did = did} {new = new} fault had moved walked gets =
           let to : ℕ = max r (j + many) in
-          let next : j + 1 ≤ (length start / 512) / block_sectors v = omega (arith, turn.inside) in
+          let next : j + 1 ≤ (length start / 512) / block_sectors p.verity.now = omega (arith, turn.inside) in
           let end = far fresh had moved walked gets in
-          let none : MeetNone (place_of c lower).said (block_sectors v * (p.first / block_sectors v + j)) (many * block_sectors v) =
-          λ f some. b.clear f (j * block_sectors v + some.0, omega (arith, some.1, inner b j many row.most), subst (λ (k : ℕ). ((place_of c lower).said k).meets f) (omega (arith, place b j)) some.2) in
+          let none : MeetNone (place_of c p.data).said (block_sectors p.verity.now * (p.first / block_sectors p.verity.now + j)) (many * block_sectors p.verity.now) =
+          λ f some. b.clear f (j * block_sectors p.verity.now + some.0, omega (arith, some.1, inner b j many row.most), subst (λ (k : ℕ). ((place_of c p.data).said k).meets f) (omega (arith, place b j)) some.2) in
           blocks-read b (record { old = did.old; new = new; before = did.before; after = did.after }) (Err fault) to (j + 1) end next (all-moved fresh had moved walked gets)
-          (row-stops b j turn.inside had.so_far (rest-moved fresh had moved walked gets) (total-cost b to (j + 1) end next) lower gets.chains fault none moved gets.got)
+          (row-stops b j turn.inside had.so_far (rest-moved fresh had moved walked gets) (total-cost b to (j + 1) end next) gets.chains fault none moved gets.got)
 
       -- the blocks as far as that stand there as they were read
-      module _ (fresh : (many ≡ 0) ⊎ (r ≤ j)) {did : LeafRead} {walk new : List Device} {content_of : List ℕ} {digests : List (List ℕ)} (made : List (List ℕ)) (had : WereHad c v p (length start / 512) r j bytes did) (moved : AreRead did.new (path_cost c v) walk)
-          (gets : GetsBytes c lower (block_sectors v * (p.first / block_sectors v + j)) (many * block_sectors v) walk new (Ok content_of)) (whole : AllWhole walk) (room : length made ≡ 128) (ahead : AreReadAhead c v p lower j r bytes made did.old)
-          (put : IsPut v start j many bytes content_of) (are : digests ≡ map (digest v.salt) (cut v.data_block (take (j * v.data_block + many * v.data_block - j * v.data_block) (drop (j * v.data_block) (put_mid (j * v.data_block) (j * v.data_block + many * v.data_block - j * v.data_block) bytes content_of))))) where
+      module _ (fresh : (many ≡ 0) ⊎ (r ≤ j)) {did : LeafRead} {walk new : List Device} {content_of : List ℕ} {digests : List (List ℕ)} (made : List (List ℕ)) (had : WereHad c p (length start / 512) r j bytes did) (moved : AreRead did.new (path_cost c p.verity.now) walk)
+          (gets : GetsBytes c p.data (block_sectors p.verity.now * (p.first / block_sectors p.verity.now + j)) (many * block_sectors p.verity.now) walk new (Ok content_of)) (whole : AllWhole walk) (room : length made ≡ 128) (ahead : AreReadAhead c p j r bytes made did.old)
+          (put : IsPut p start j many bytes content_of) (are : digests ≡ map (digest p.verity.now.salt) (cut p.verity.now.data_block (take (j * p.verity.now.data_block + many * p.verity.now.data_block - j * p.verity.now.data_block) (drop (j * p.verity.now.data_block) (put_mid (j * p.verity.now.data_block) (j * p.verity.now.data_block + many * p.verity.now.data_block - j * p.verity.now.data_block) bytes content_of))))) where
         abbrev u : ℕ
-        u = block_sectors v
+        u = block_sectors p.verity.now
 
         abbrev a : ℕ
-        a = j * v.data_block
+        a = j * p.verity.now.data_block
 
         abbrev w : ℕ
-        w = j * v.data_block + many * v.data_block - j * v.data_block
+        w = j * p.verity.now.data_block + many * p.verity.now.data_block - j * p.verity.now.data_block
 
-        row-some : 0 < block_sectors v
+        row-some : 0 < block_sectors p.verity.now
         row-some = omega (arith, b.size.some)
 
-        row-fits : j * v.data_block ≤ length bytes
+        row-fits : j * p.verity.now.data_block ≤ length bytes
         row-fits = omega (arith, turn.end)
 
         wide : length content_of ≡ w
-        wide = put.wide ∙ sym (sub-same (j * v.data_block) (many * v.data_block))
+        wide = put.wide ∙ sym (sub-same (j * p.verity.now.data_block) (many * p.verity.now.data_block))
 
-        digests-are : digests ≡ map (digest v.salt) (cut v.data_block content_of)
-        digests-are = are ∙ ap (λ (l : List ℕ). map (digest v.salt) (cut v.data_block l)) put.row_is
+        digests-are : digests ≡ map (digest p.verity.now.salt) (cut p.verity.now.data_block content_of)
+        digests-are = are ∙ ap (λ (l : List ℕ). map (digest p.verity.now.salt) (cut p.verity.now.data_block l)) put.row_is
 
         digests-count : length digests ≡ many
-        digests-count = ap (λ (l : List (List ℕ)). length l) digests-are ∙ ap (λ (s : ℕ). length (map (digest v.salt) (cut s content_of))) (sym (block-size b)) ∙ cell-count content_of (block_sectors v) many row-some gets.got.may.len v.salt
+        digests-count = ap (λ (l : List (List ℕ)). length l) digests-are ∙ ap (λ (s : ℕ). length (map (digest p.verity.now.salt) (cut s content_of))) (sym (block-size b)) ∙ cell-count content_of (block_sectors p.verity.now) many row-some gets.got.may.len p.verity.now.salt
 
-        of-row : (k : ℕ) → j ≤ k → k < j + many → (x : List ℕ) → IsRead c v p lower did.old k (take (512 * block_sectors v) (drop (512 * (k * block_sectors v)) (put_mid a w bytes content_of))) (get_or (put_mid j (j + many - j) made digests) k x)
+        of-row : (k : ℕ) → j ≤ k → k < j + many → (x : List ℕ) → IsRead c p did.old k (take (512 * block_sectors p.verity.now) (drop (512 * (k * block_sectors p.verity.now)) (put_mid a w bytes content_of))) (get_or (put_mid j (j + many - j) made digests) k x)
         of-row k low near x =
             let t : ℕ = k - j in
             let at_k : k ≡ j + t = omega (arith, low) in
@@ -492,36 +493,36 @@ module _ {c : Configuration} {v : Verity} {p : BlockPart} {found : List FoundRec
             let begin : 512 * (k * u) ≡ a + 512 * (t * u) = omega (arith, block-begin b j, ap (λ (i : ℕ). i * u) at_k, add-mul j t u) in
             let block : take (512 * u) (drop (512 * (k * u)) (put_mid a w bytes content_of)) ≡ take (512 * u) (drop (512 * (t * u)) content_of) =
             ap (λ (i : ℕ). take (512 * u) (drop i (put_mid a w bytes content_of))) begin ∙ part-put a w bytes content_of row-fits (512 * (t * u)) (512 * u) (omega (arith, room_in, gets.got.may.len)) in
-            let made_k : get_or (put_mid j (j + many - j) made digests) k x ≡ digest v.salt (take (512 * u) (drop (512 * (t * u)) content_of)) =
+            let made_k : get_or (put_mid j (j + many - j) made digests) k x ≡ digest p.verity.now.salt (take (512 * u) (drop (512 * (t * u)) content_of)) =
             ap (λ (i : ℕ). get_or (put_mid j (j + many - j) made digests) i x) at_k
             ∙ item-put j (j + many - j) made digests (omega (arith, room, row.few)) t x (omega (arith, here, digests-count))
-            ∙ ap (λ (l : List (List ℕ)). get_or l t x) digests-are ∙ ap (λ (s : ℕ). get_or (map (digest v.salt) (cut s content_of)) t x) (sym (block-size b)) ∙ cell-digest content_of u many row-some gets.got.may.len v.salt t x here in
-            let is_read : IsRead c v p lower did.old k (take (512 * u) (drop (512 * (t * u)) content_of)) (get_or (put_mid j (j + many - j) made digests) k x) = record {
+            ∙ ap (λ (l : List (List ℕ)). get_or l t x) digests-are ∙ ap (λ (s : ℕ). get_or (map (digest p.verity.now.salt) (cut s content_of)) t x) (sym (block-size b)) ∙ cell-digest content_of u many row-some gets.got.may.len p.verity.now.salt t x here in
+            let is_read : IsRead c p did.old k (take (512 * u) (drop (512 * (t * u)) content_of)) (get_or (put_mid j (j + many - j) made digests) k x) = record {
               from = walk;
               ways = _;
               first = AreRead-then had.moved moved;
               means = λ steady.
-                  let f : ℕ → Outcome = λ s. ((place_of c lower).said s).means (steady_images walk) in
-                  let sized : AreSized f = λ s. sector-size c (steady_images walk) b.loaded (images-whole walk whole) lower s in
+                  let f : ℕ → Outcome = λ s. ((place_of c p.data).said s).means (steady_images walk) in
+                  let sized : AreSized f = λ s. sector-size c (steady_images walk) b.loaded (images-whole walk whole) p.data s in
                   let all : t * u + (u + (many * u - (t * u + u))) ≡ many * u = omega (arith, room_in) in
-                  let begins : block_sectors v * (p.first / block_sectors v + j) + t * u ≡ p.first + k * u = omega (arith, place b j, ap (λ (i : ℕ). i * u) at_k, add-mul j t u) in
+                  let begins : block_sectors p.verity.now * (p.first / block_sectors p.verity.now + j) + t * u ≡ p.first + k * u = omega (arith, place b j, ap (λ (i : ℕ). i * u) at_k, add-mul j t u) in
                   ap (λ (i : ℕ). span f i u) (sym begins)
-                  ∙ span-part f sized (block_sectors v * (p.first / block_sectors v + j)) (t * u) u (many * u - (t * u + u)) content_of (ap (span f (block_sectors v * (p.first / block_sectors v + j))) all ∙ gets.got.exact steady);
+                  ∙ span-part f sized (block_sectors p.verity.now * (p.first / block_sectors p.verity.now + j)) (t * u) u (many * u - (t * u + u)) content_of (ap (span f (block_sectors p.verity.now * (p.first / block_sectors p.verity.now + j))) all ∙ gets.got.exact steady);
               made_is = made_k;
             } in
-            subst (λ (l : List ℕ). IsRead c v p lower did.old k l (get_or (put_mid j (j + many - j) made digests) k x)) (sym block) is_read
+            subst (λ (l : List ℕ). IsRead c p did.old k l (get_or (put_mid j (j + many - j) made digests) k x)) (sym block) is_read
 
-        of-before : (k : ℕ) → j + many ≤ k → k < max r (j + many) → (x : List ℕ) → IsRead c v p lower did.old k (take (512 * block_sectors v) (drop (512 * (k * block_sectors v)) (put_mid a w bytes content_of))) (get_or (put_mid j (j + many - j) made digests) k x)
+        of-before : (k : ℕ) → j + many ≤ k → k < max r (j + many) → (x : List ℕ) → IsRead c p did.old k (take (512 * block_sectors p.verity.now) (drop (512 * (k * block_sectors p.verity.now)) (put_mid a w bytes content_of))) (get_or (put_mid j (j + many - j) made digests) k x)
         of-before k high below x =
             let up : (j + many) * u ≤ k * u = mul-le-mul_right u high in
             let past : a + w ≤ 512 * (k * u) = omega (arith, block-begin b j, block-begin b many, up, add-mul j many u) in
             let block = rest-put a w bytes content_of row-fits (512 * (k * u)) (512 * u) past wide in
             let count : length digests ≡ j + many - j = digests-count ∙ sym (sub-same j many) in
             let same : get_or (put_mid j (j + many - j) made digests) k x ≡ get_or made k x = item-rest j (j + many - j) made digests (omega (arith, room, row.few)) k x (omega (arith, high)) count in
-            subst (λ (l : List ℕ). IsRead c v p lower did.old k l (get_or (put_mid j (j + many - j) made digests) k x)) (sym block)
-            (subst (λ (y : List ℕ). IsRead c v p lower did.old k (take (512 * u) (drop (512 * (k * u)) bytes)) y) (sym same) (ahead k (omega (arith, high)) (omega (arith, below, high)) x))
+            subst (λ (l : List ℕ). IsRead c p did.old k l (get_or (put_mid j (j + many - j) made digests) k x)) (sym block)
+            (subst (λ (y : List ℕ). IsRead c p did.old k (take (512 * u) (drop (512 * (k * u)) bytes)) y) (sym same) (ahead k (omega (arith, high)) (omega (arith, below, high)) x))
 
-        pub row-ahead : AreReadAhead c v p lower j (max r (j + many)) (put_mid a w bytes content_of) (put_mid j (j + many - j) made digests) did.old
+        pub row-ahead : AreReadAhead c p j (max r (j + many)) (put_mid a w bytes content_of) (put_mid j (j + many - j) made digests) did.old
         row-ahead k low below x = elim (cases_lt k (j + many)) [
           | inl near ↦ of-row k low near x
           | inr high ↦ of-before k high below x
@@ -529,28 +530,28 @@ module _ {c : Configuration} {v : Verity} {p : BlockPart} {found : List FoundRec
 
 -- ---- the block itself
 
-module _ {c : Configuration} {v : Verity} {p : BlockPart} {n : ℕ} {found : List FoundRecord} {lower : Lower} (b : BlocksAt c v p n found lower) where
+module _ {c : Configuration} {p : VerityPart} {n : ℕ} {found : List FoundRecord} (b : BlocksAt c p n found) where
   -- what settles it: the bytes that stood there, and those that stand there written
-  module _ {r j : ℕ} {bytes expected : List ℕ} {path : List (List ℕ)} {did : LeafRead} (out : List ℕ) (inside : j < n / block_sectors v) (read : r ≤ n / block_sectors v) (next : IsNext c v p n r j bytes expected path did)
-      (len : length out ≡ 512 * n) (end : j * v.data_block + v.data_block ≤ length out) where
-    few : read_cost_so_far c v (r * block_sectors v) (j + 1) ≤ n * read_cost c (mapped p.device.0)
+  module _ {r j : ℕ} {bytes expected : List ℕ} {path : List (List ℕ)} {did : LeafRead} (out : List ℕ) (inside : j < n / block_sectors p.verity.now) (read : r ≤ n / block_sectors p.verity.now) (next : IsNext c p n r j bytes expected path did)
+      (len : length out ≡ 512 * n) (end : j * p.verity.now.data_block + p.verity.now.data_block ≤ length out) where
+    few : read_cost_so_far c p.verity.now (r * block_sectors p.verity.now) (j + 1) ≤ n * read_cost c (mapped p.device.0)
     few = total-cost b r (j + 1) read (omega (arith, inside))
 
-    width : j * v.data_block + v.data_block - j * v.data_block ≡ 512 * block_sectors v
-    width = sub-same (j * v.data_block) v.data_block ∙ sym (block-size b) ∙ mul_comm (block_sectors v) 512
+    width : j * p.verity.now.data_block + p.verity.now.data_block - j * p.verity.now.data_block ≡ 512 * block_sectors p.verity.now
+    width = sub-same (j * p.verity.now.data_block) p.verity.now.data_block ∙ sym (block-size b) ∙ mul_comm (block_sectors p.verity.now) 512
 
-    part-is : (l : List ℕ) → take (j * v.data_block + v.data_block - j * v.data_block) (drop (j * v.data_block) l) ≡ take (512 * block_sectors v) (drop (512 * (j * block_sectors v)) l)
-    part-is l = ap (λ (k : ℕ). take k (drop (j * v.data_block) l)) width ∙ ap (λ (k : ℕ). take (512 * block_sectors v) (drop k l)) (block-begin b j)
+    part-is : (l : List ℕ) → take (j * p.verity.now.data_block + p.verity.now.data_block - j * p.verity.now.data_block) (drop (j * p.verity.now.data_block) l) ≡ take (512 * block_sectors p.verity.now) (drop (512 * (j * block_sectors p.verity.now)) l)
+    part-is l = ap (λ (k : ℕ). take k (drop (j * p.verity.now.data_block) l)) width ∙ ap (λ (k : ℕ). take (512 * block_sectors p.verity.now) (drop k l)) (block-begin b j)
 
-    stood-len : length (take (j * v.data_block + v.data_block - j * v.data_block) (drop (j * v.data_block) out)) ≡ j * v.data_block + v.data_block - j * v.data_block
-    stood-len = length-take-le (j * v.data_block + v.data_block - j * v.data_block) (drop (j * v.data_block) out) (omega (arith, end, length-drop (j * v.data_block) out))
+    stood-len : length (take (j * p.verity.now.data_block + p.verity.now.data_block - j * p.verity.now.data_block) (drop (j * p.verity.now.data_block) out)) ≡ j * p.verity.now.data_block + p.verity.now.data_block - j * p.verity.now.data_block
+    stood-len = length-take-le (j * p.verity.now.data_block + p.verity.now.data_block - j * p.verity.now.data_block) (drop (j * p.verity.now.data_block) out) (omega (arith, end, length-drop (j * p.verity.now.data_block) out))
 
     -- it was read, unless the line ignores it
-    was-read : (made : List (List ℕ)) (x : List ℕ) → AreReadAhead c v p lower j r out made did.old → j < r → IsRead c v p lower did.old j (take (j * v.data_block + v.data_block - j * v.data_block) (drop (j * v.data_block) out)) (get_or made j x)
-    was-read made x ahead within = subst (λ (l : List ℕ). IsRead c v p lower did.old j l (get_or made j x)) (sym (part-is out)) (ahead j (omega arith) within x)
+    was-read : (made : List (List ℕ)) (x : List ℕ) → AreReadAhead c p j r out made did.old → j < r → IsRead c p did.old j (take (j * p.verity.now.data_block + p.verity.now.data_block - j * p.verity.now.data_block) (drop (j * p.verity.now.data_block) out)) (get_or made j x)
+    was-read made x ahead within = subst (λ (l : List ℕ). IsRead c p did.old j l (get_or made j x)) (sym (part-is out)) (ahead j (omega arith) within x)
 
     -- it has another digest
-    pub block-differs : {ignored : Bool} (made : List (List ℕ)) (x : List ℕ) → ignored ≡ is_ignored v expected → AreReadAhead c v p lower j r out made did.old → (ignored ≡ false → j < r) → (ignored ≡ false) × (get_or made j x ≡ expected → ⊥)
+    pub block-differs : {ignored : Bool} (made : List (List ℕ)) (x : List ℕ) → ignored ≡ is_ignored p.verity.now expected → AreReadAhead c p j r out made did.old → (ignored ≡ false → j < r) → (ignored ≡ false) × (get_or made j x ≡ expected → ⊥)
         → ReadsSource c (Blocks p) n did (Err (io.Stack mismatch))
     block-differs made x same ahead within other =
         blocks-read b did (Err (io.Stack mismatch)) r (j + 1) read (omega (arith, inside)) next.moved
@@ -561,40 +562,40 @@ module _ {c : Configuration} {v : Verity} {p : BlockPart} {n : ℕ} {found : Lis
     block-full = blocks-read b did (Err io.NoMemory) r (j + 1) read (omega (arith, inside)) next.moved (blocks-full b j inside next.so_far next.rest few)
 
     -- it is ignored, or has the digest: its chain is there
-    module _ {ignored : Bool} (made : List (List ℕ)) (block x : List ℕ) (front : take (512 * (j * block_sectors v)) out ≡ take (512 * (j * block_sectors v)) bytes)
-        (same : ignored ≡ is_ignored v expected) (ahead : AreReadAhead c v p lower j r out made did.old) (within : ignored ≡ false → j < r)
-        (wide : length block ≡ length (take (j * v.data_block + v.data_block - j * v.data_block) (drop (j * v.data_block) out)))
-        (zeros : ignored ≡ true → block ≡ replicate (length (take (j * v.data_block + v.data_block - j * v.data_block) (drop (j * v.data_block) out))) 0)
-        (good : ignored ≡ false → (get_or made j x ≡ expected) × (block ≡ take (j * v.data_block + v.data_block - j * v.data_block) (drop (j * v.data_block) out))) where
+    module _ {ignored : Bool} (made : List (List ℕ)) (block x : List ℕ) (front : take (512 * (j * block_sectors p.verity.now)) out ≡ take (512 * (j * block_sectors p.verity.now)) bytes)
+        (same : ignored ≡ is_ignored p.verity.now expected) (ahead : AreReadAhead c p j r out made did.old) (within : ignored ≡ false → j < r)
+        (wide : length block ≡ length (take (j * p.verity.now.data_block + p.verity.now.data_block - j * p.verity.now.data_block) (drop (j * p.verity.now.data_block) out)))
+        (zeros : ignored ≡ true → block ≡ replicate (length (take (j * p.verity.now.data_block + p.verity.now.data_block - j * p.verity.now.data_block) (drop (j * p.verity.now.data_block) out))) 0)
+        (good : ignored ≡ false → (get_or made j x ≡ expected) × (block ≡ take (j * p.verity.now.data_block + p.verity.now.data_block - j * p.verity.now.data_block) (drop (j * p.verity.now.data_block) out))) where
       abbrev written : List ℕ
-      written = put_mid (j * v.data_block) (j * v.data_block + v.data_block - j * v.data_block) out block
+      written = put_mid (j * p.verity.now.data_block) (j * p.verity.now.data_block + p.verity.now.data_block - j * p.verity.now.data_block) out block
 
       abbrev content : List ℕ
-      content = take (j * v.data_block + v.data_block - j * v.data_block) (drop (j * v.data_block) written)
+      content = take (j * p.verity.now.data_block + p.verity.now.data_block - j * p.verity.now.data_block) (drop (j * p.verity.now.data_block) written)
 
-      block-fits : j * v.data_block ≤ length out
+      block-fits : j * p.verity.now.data_block ≤ length out
       block-fits = omega (arith, end)
 
       content-is : content ≡ block
-      content-is = between-put_mid (j * v.data_block) (j * v.data_block + v.data_block - j * v.data_block) out block (j * v.data_block + v.data_block) block-fits (wide ∙ stood-len)
+      content-is = between-put_mid (j * p.verity.now.data_block) (j * p.verity.now.data_block + p.verity.now.data_block - j * p.verity.now.data_block) out block (j * p.verity.now.data_block + p.verity.now.data_block) block-fits (wide ∙ stood-len)
 
-      content-len : length content ≡ 512 * block_sectors v
+      content-len : length content ≡ 512 * block_sectors p.verity.now
       content-len = ap (λ (l : List ℕ). length l) content-is ∙ wide ∙ stood-len ∙ width
 
-      got : (i : Bool) → ignored ≡ i → GetsChain (block_in c v (p.first / block_sectors v + j)) next.mid next.here (Ok (record { index = p.first / block_sectors v + j; content = block; path = path }))
-      got true is = block-zeros b j next.later next.walked block (get_or made j x) (sym same ∙ is) (zeros is ∙ ap (λ (k : ℕ). replicate k 0) (stood-len ∙ sub-same (j * v.data_block) v.data_block)) (b.there j inside)
+      got : (i : Bool) → ignored ≡ i → GetsChain (block_in c p.verity.now (p.first / block_sectors p.verity.now + j)) next.mid next.here (Ok (record { index = p.first / block_sectors p.verity.now + j; content = block; path = path }))
+      got true is = block-zeros b j next.later next.walked block (get_or made j x) (sym same ∙ is) (zeros is ∙ ap (λ (k : ℕ). replicate k 0) (stood-len ∙ sub-same (j * p.verity.now.data_block) p.verity.now.data_block)) (b.there j inside)
       got false is =
           let own = good is in
-          subst (λ (l : List ℕ). GetsChain (block_in c v (p.first / block_sectors v + j)) next.mid next.here (Ok (record { index = p.first / block_sectors v + j; content = l; path = path }))) (sym own.1)
+          subst (λ (l : List ℕ). GetsChain (block_in c p.verity.now (p.first / block_sectors p.verity.now + j)) next.mid next.here (Ok (record { index = p.first / block_sectors p.verity.now + j; content = l; path = path }))) (sym own.1)
           (block-had b j next.later next.walked _ _ (sym same ∙ is) (was-read made x ahead (within is)) (stood-len ∙ width) (b.there j inside) own.0)
 
-      got-content : GetsChain (block_in c v (p.first / block_sectors v + j)) next.mid next.here (Ok (record { index = p.first / block_sectors v + j; content = content; path = path }))
-      got-content = subst (λ (l : List ℕ). GetsChain (block_in c v (p.first / block_sectors v + j)) next.mid next.here (Ok (record { index = p.first / block_sectors v + j; content = l; path = path }))) (sym content-is) (got ignored refl)
+      got-content : GetsChain (block_in c p.verity.now (p.first / block_sectors p.verity.now + j)) next.mid next.here (Ok (record { index = p.first / block_sectors p.verity.now + j; content = content; path = path }))
+      got-content = subst (λ (l : List ℕ). GetsChain (block_in c p.verity.now (p.first / block_sectors p.verity.now + j)) next.mid next.here (Ok (record { index = p.first / block_sectors p.verity.now + j; content = l; path = path }))) (sym content-is) (got ignored refl)
 
-      pub block-checked : {number : ℕ} {way : List (List ℕ)} → number ≡ p.first / block_sectors v + j → way ≡ path
-          → WereHad c v p n r (j + 1) written (record { old = did.old; new = did.new; before = did.before; after = did.after ++ (record { device = p.device.0; line = p.line; chain = record { index = number; content = content; path = way } } ∷ []) })
+      pub block-checked : {number : ℕ} {way : List (List ℕ)} → number ≡ p.first / block_sectors p.verity.now + j → way ≡ path
+          → WereHad c p n r (j + 1) written (record { old = did.old; new = did.new; before = did.before; after = did.after ++ (record { device = p.device.0; line = p.line; chain = record { index = number; content = content; path = way } } ∷ []) })
       block-checked {number = number} {way = way} here goes =
-          let u : ℕ = block_sectors v in
+          let u : ℕ = block_sectors p.verity.now in
           let more = blocks-more b j inside next.so_far next.rest few content path content-len next.before got-content in
           let count : j * u + u ≡ (j + 1) * u = omega (arith, add-mul j 1 u) in
           let one : FoundRecord = record { device = p.device.0; line = p.line; chain = record { index = p.first / u + j; content = content; path = path } } in
@@ -603,11 +604,11 @@ module _ {c : Configuration} {v : Verity} {p : BlockPart} {n : ℕ} {found : Lis
           ∙ ap {B = FoundRecord} (λ (l : List (List ℕ)). record { device = p.device.0; line = p.line; chain = record { index = p.first / u + j; content = content; path = l } }) goes in
           let after : LeafRead = record { old = did.old; new = did.new; before = did.before; after = did.after ++ (one ∷ []) } in
           let before : take (512 * (j * u)) written ≡ take (512 * (j * u)) bytes =
-          take-put_mid_below (j * v.data_block) (j * v.data_block + v.data_block - j * v.data_block) out block (512 * (j * u)) (omega (arith, block-begin b j)) block-fits ∙ front in
+          take-put_mid_below (j * p.verity.now.data_block) (j * p.verity.now.data_block + p.verity.now.data_block - j * p.verity.now.data_block) out block (512 * (j * u)) (omega (arith, block-begin b j)) block-fits ∙ front in
           let e : 512 * (j * u) + 512 * u ≡ 512 * (j * u + u) = omega arith in
           let longer : take (512 * (j * u)) bytes ++ content ≡ take (512 * (j * u + u)) written =
           ap (λ (l : List ℕ). l ++ content) (sym before) ∙ ap (λ (l : List ℕ). take (512 * (j * u)) written ++ l) (part-is written) ∙ sym (take-add (512 * (j * u)) (512 * u) written) ∙ ap (λ (k : ℕ). take k written) e in
-          subst (λ (y : FoundRecord). WereHad c v p n r (j + 1) written (record { old = did.old; new = did.new; before = did.before; after = did.after ++ (y ∷ []) })) (sym own) (record {
+          subst (λ (y : FoundRecord). WereHad c p n r (j + 1) written (record { old = did.old; new = did.new; before = did.before; after = did.after ++ (y ∷ []) })) (sym own) (record {
             so_far = subst (λ (k : ℕ). Finds (blocks_place c p n) c 0 k after (Ok (take (512 * k) written))) count
                 (subst (λ (l : List ℕ). Finds (blocks_place c p n) c 0 (j * u + u) after (Ok l)) longer more);
             moved = next.moved;
@@ -615,10 +616,10 @@ module _ {c : Configuration} {v : Verity} {p : BlockPart} {n : ℕ} {found : Lis
           })
 
       -- those after it stay
-      pub rest-ahead : AreReadAhead c v p lower (j + 1) r written made did.old
+      pub rest-ahead : AreReadAhead c p (j + 1) r written made did.old
       rest-ahead k low below y =
-          let u : ℕ = block_sectors v in
+          let u : ℕ = block_sectors p.verity.now in
           let up : (j + 1) * u ≤ k * u = mul-le-mul_right u low in
-          let past : j * v.data_block + (j * v.data_block + v.data_block - j * v.data_block) ≤ 512 * (k * u) = omega (arith, block-begin b j, block-size b, up, add-mul j 1 u) in
-          subst (λ (l : List ℕ). IsRead c v p lower did.old k l (get_or made k y)) (sym (rest-put (j * v.data_block) (j * v.data_block + v.data_block - j * v.data_block) out block block-fits (512 * (k * u)) (512 * u) past (wide ∙ stood-len)))
+          let past : j * p.verity.now.data_block + (j * p.verity.now.data_block + p.verity.now.data_block - j * p.verity.now.data_block) ≤ 512 * (k * u) = omega (arith, block-begin b j, block-size b, up, add-mul j 1 u) in
+          subst (λ (l : List ℕ). IsRead c p did.old k l (get_or made k y)) (sym (rest-put (j * p.verity.now.data_block) (j * p.verity.now.data_block + p.verity.now.data_block - j * p.verity.now.data_block) out block block-fits (512 * (k * u)) (512 * u) past (wide ∙ stood-len)))
           (ahead k (omega (arith, low)) below y)

@@ -2,9 +2,7 @@
 use Rattle.std.proofs.Common.{◌≡◌, ℕ, ◌+◌, ◌-◌, ◌*◌, ◌/◌, ◌<◌, ◌≤◌, ◌⊎◌, false, List, inl, inr, sym, ap, ◌∙◌, arith}
 use Rattle.std.proofs.Math.Nat.{add-mul, mul-add, mul_assoc, mul-le-mul_right}
 use Rattle.block_device.specs.Device.{Device}
-use Rattle.dm_table.specs.declared.verity.Verity.{Verity}
 use Rattle.dm_table.specs.declared.table.Target.TheVariants.{Verity as verity_target}
-use Rattle.stack_rules.specs.declared.lower.Lower.{Lower}
 use Rattle.stack_rules.specs.declared.lower.Lower.TheVariants.{Leaf as leaf}
 use Rattle.stack_rules.specs.Records.{Configuration}
 use Rattle.stack_rules.specs.Names.{mapped}
@@ -19,7 +17,7 @@ use Rattle.stack_meaning.specs.Leaves.{AreRead}
 use Rattle.stack_meaning.specs.Places.{Place}
 use Rattle.stack_meaning.specs.Puts.{in_one_run}
 use Rattle.stack_meaning.proofs.lemmas.CostLemmas.{cost-leaf}
-use Rattle.stack_lines.specs.declared.source.BlockPart.{BlockPart}
+use Rattle.stack_lines.specs.declared.source.VerityPart.{VerityPart}
 use Rattle.stack_lines.specs.declared.source.CryptPart.{CryptPart}
 use Rattle.stack_lines.specs.declared.source.Source.{Source}
 use Rattle.stack_lines.specs.declared.source.Source.TheVariants.{Units, UnitPart}
@@ -90,10 +88,10 @@ unit-spent c x whole n of lies some old new spent =
 -- ---- data blocks
 
 -- a part of one
-pub block-spent : {c : Configuration} {v : Verity} {p : BlockPart} {n : ℕ} (i : ℕ) {old new : List Device} → BlockAt c v p n → AreRead old ((chain_expected (block_in c v i)).cost) new → ReadsAtMost (part_budget c p n) old new
-block-spent {c = c} {v = v} {p = p} {n = n} i {old = old} {new = new} b read =
-    let most : ReadsAtMost (line_read_cost (by_name c 0 (read_cost c)) (verity_target v)) old new = read.moved.reads.sum in
-    omega (arith, most, block-budget c p n 0 v b.line b.some b.within)
+pub block-spent : {c : Configuration} {p : VerityPart} {n : ℕ} (i : ℕ) {old new : List Device} → BlockAt c p n → AreRead old ((chain_expected (block_in c p.verity.now i)).cost) new → ReadsAtMost (part_budget c p n) old new
+block-spent {c = c} {p = p} {n = n} i {old = old} {new = new} b read =
+    let most : ReadsAtMost (line_read_cost (by_name c 0 (read_cost c)) (verity_target p.verity.now)) old new = read.moved.reads.sum in
+    omega (arith, most, block-budget c p n b.some b.within)
 
 -- what r blocks and many more cost, with the ways to j of m blocks
 rows-cost : (m u price way r j many : ℕ) → r + many ≤ m → j ≤ m → r * u * price + many * u * price + j * way ≤ m * (u * price + way)
@@ -112,30 +110,30 @@ few-cost m u price way r j read ways =
     let each : j * way ≤ m * way = mul-le-mul_right way ways in
     omega (arith, all, each, mul-add m (u * price) way, mul_assoc m u price)
 
-module _ {c : Configuration} {v : Verity} {p : BlockPart} {n : ℕ} {found : List FoundRecord} {lower : Lower} (b : BlocksAt c v p n found lower) where
+module _ {c : Configuration} {p : VerityPart} {n : ℕ} {found : List FoundRecord} (b : BlocksAt c p n found) where
   abbrev m : ℕ
-  m = n / block_sectors v
+  m = n / block_sectors p.verity.now
 
   abbrev data_cost : ℕ
-  data_cost = (block_in c v 0).on_data.cost
+  data_cost = (block_in c p.verity.now 0).on_data.cost
 
-  all-is : part_budget c p n ≡ m * (block_sectors v * data_cost + path_cost c v)
-  all-is = blocks-budget c p n 0 v m b.line b.size.some b.aligned b.count ∙ ap (λ (k : ℕ). m * (block_sectors v * data_cost + k)) (mul_assoc _ _ (block_in c v 0).on_hash.cost)
+  all-is : part_budget c p n ≡ m * (block_sectors p.verity.now * data_cost + path_cost c p.verity.now)
+  all-is = blocks-budget c p n m b.size.some b.aligned b.count ∙ ap (λ (k : ℕ). m * (block_sectors p.verity.now * data_cost + k)) (mul_assoc _ _ (block_in c p.verity.now 0).on_hash.cost)
 
   -- so many blocks, of which data were read as far as block r
-  pub had-spent : (r j : ℕ) {old mid : List Device} → r ≤ n / block_sectors v → j ≤ n / block_sectors v → AreRead old (read_cost_so_far c v (r * block_sectors v) j) mid → ReadsAtMost (part_budget c p n) old mid
-  had-spent r j read ways had = omega (arith, had.moved.reads.sum, all-is, few-cost m (block_sectors v) data_cost (path_cost c v) r j read ways)
+  pub had-spent : (r j : ℕ) {old mid : List Device} → r ≤ n / block_sectors p.verity.now → j ≤ n / block_sectors p.verity.now → AreRead old (read_cost_so_far c p.verity.now (r * block_sectors p.verity.now) j) mid → ReadsAtMost (part_budget c p n) old mid
+  had-spent r j read ways had = omega (arith, had.moved.reads.sum, all-is, few-cost m (block_sectors p.verity.now) data_cost (path_cost c p.verity.now) r j read ways)
 
   -- and the way to one more
-  pub way-spent : (r j : ℕ) {old mid walk : List Device} → r ≤ n / block_sectors v → j < n / block_sectors v → AreRead old (read_cost_so_far c v (r * block_sectors v) j) mid → AreRead mid (path_cost c v) walk → ReadsAtMost (part_budget c p n) old walk
+  pub way-spent : (r j : ℕ) {old mid walk : List Device} → r ≤ n / block_sectors p.verity.now → j < n / block_sectors p.verity.now → AreRead old (read_cost_so_far c p.verity.now (r * block_sectors p.verity.now) j) mid → AreRead mid (path_cost c p.verity.now) walk → ReadsAtMost (part_budget c p n) old walk
   way-spent r j read inside had moved =
-      omega (arith, had.moved.reads.sum, moved.moved.reads.sum, all-is, add-mul j 1 (path_cost c v), few-cost m (block_sectors v) data_cost (path_cost c v) r (j + 1) read (omega (arith, inside)))
+      omega (arith, had.moved.reads.sum, moved.moved.reads.sum, all-is, add-mul j 1 (path_cost c p.verity.now), few-cost m (block_sectors p.verity.now) data_cost (path_cost c p.verity.now) r (j + 1) read (omega (arith, inside)))
 
   -- and the data of some more
-  pub row-spent : (r j many : ℕ) {old mid walk new : List Device} → r ≤ n / block_sectors v → j < n / block_sectors v → j + many ≤ n / block_sectors v → (many ≡ 0) ⊎ (r ≤ j) → AreRead old (read_cost_so_far c v (r * block_sectors v) j) mid → AreRead mid (path_cost c v) walk
-      → AreRead walk (many * block_sectors v * read_cost c lower) new → ReadsAtMost (part_budget c p n) old new
+  pub row-spent : (r j many : ℕ) {old mid walk new : List Device} → r ≤ n / block_sectors p.verity.now → j < n / block_sectors p.verity.now → j + many ≤ n / block_sectors p.verity.now → (many ≡ 0) ⊎ (r ≤ j) → AreRead old (read_cost_so_far c p.verity.now (r * block_sectors p.verity.now) j) mid → AreRead mid (path_cost c p.verity.now) walk
+      → AreRead walk (many * block_sectors p.verity.now * read_cost c p.data) new → ReadsAtMost (part_budget c p n) old new
   row-spent r j many read inside most fresh had moved got =
       let rows : r + many ≤ m = elim fresh [ inl none ↦ omega (arith, none, read) | inr behind ↦ omega (arith, behind, most) ] in
-      let one : data_cost ≡ read_cost c lower = ap (λ (q : Place). q.cost) (place-named c v.data lower b.is) in
-      let same : many * block_sectors v * data_cost ≡ many * block_sectors v * read_cost c lower = ap (λ (k : ℕ). many * block_sectors v * k) one in
-      omega (arith, had.moved.reads.sum, moved.moved.reads.sum, got.moved.reads.sum, same, all-is, add-mul j 1 (path_cost c v), rows-cost m (block_sectors v) data_cost (path_cost c v) r (j + 1) many rows (omega (arith, inside)))
+      let one : data_cost ≡ read_cost c p.data = ap (λ (q : Place). q.cost) (place-named c p.verity.now.data p.data b.is) in
+      let same : many * block_sectors p.verity.now * data_cost ≡ many * block_sectors p.verity.now * read_cost c p.data = ap (λ (k : ℕ). many * block_sectors p.verity.now * k) one in
+      omega (arith, had.moved.reads.sum, moved.moved.reads.sum, got.moved.reads.sum, same, all-is, add-mul j 1 (path_cost c p.verity.now), rows-cost m (block_sectors p.verity.now) data_cost (path_cost c p.verity.now) r (j + 1) many rows (omega (arith, inside)))

@@ -26,11 +26,10 @@ use dm_table::Verity;
 use hash_tree::{Chain, digest_blocks};
 use stack_config::{Config, DevId, Lower};
 use stack_lines::tree::{
-    Extent, Tree, copy_part, data_extent, find, hash_extent, hash_key, is_ignored, tree_at,
-    verity_at,
+    Extent, Tree, copy_part, data_extent, find, hash_extent, hash_key, is_ignored, tree_of,
 };
 use stack_lines::units::{MOST, decrypt, take_sectors, unit_at, whole_unit};
-use stack_lines::{BlockPart, CryptPart, Source, run_to_read};
+use stack_lines::{CryptPart, Source, VerityPart, run_to_read};
 use stack_meaning::{Fault, Found, IoFault};
 use tree_shape::{Digest, Salt, digest_in};
 use verified_cache::Key;
@@ -162,17 +161,17 @@ fn read_unit_part<D: BlockDev>(
 fn read_block<D: BlockDev>(
     config: &Config,
     backing: &mut Backing<D>,
-    part: BlockPart,
+    part: VerityPart<'_>,
     out: &mut [u8],
     found: &mut Vec<Found>,
 ) -> Result<(), IoFault>
     requires { CanFill D.state config.now backing.old found.old.items (Source.Block part) out.old }
-    ensures reads { ReadsSource config.now (Source.Block part) (length out.old / 512)
+    ensures reads { ReadsSource config.now (Source.Block part.entry) (length out.old / 512)
         (did D.state backing.old found.old.items backing.new found.new.items)
         (buffer_answer result out.new) }
-    ensures step { StepFrom D.state config.now (Source.Block part) out.old backing.old backing.new result }
+    ensures step { StepFrom D.state config.now (Source.Block part.entry) out.old backing.old backing.new result }
 {
-    let verity = verity_at(config, part.device, part.line);
+    let verity = part.verity;
     let sectors = u64::from(verity.data_block / 512);
     let index = part.first / sectors;
     let within = part.first % sectors;
@@ -182,7 +181,7 @@ fn read_block<D: BlockDev>(
             Ok(())
         }
         None => {
-            let tree = tree_at(config, part.device, part.line, verity);
+            let tree = tree_of(config, &part);
             match walk(config, backing, verity, &tree, index) {
                 Err(fault) => Err(fault),
                 Ok(chain) => {
@@ -211,19 +210,19 @@ fn read_block<D: BlockDev>(
 pub(crate) fn read_blocks<D: BlockDev>(
     config: &Config,
     backing: &mut Backing<D>,
-    part: BlockPart,
+    part: VerityPart<'_>,
     out: &mut [u8],
     chains: Chains,
     found: &mut Vec<Found>,
 ) -> Result<(), IoFault>
     requires { CanFill D.state config.now backing.old found.old.items (Source.Blocks part) out.old }
-    ensures reads { ReadsBlocks config.now part (length out.old / 512) chains
+    ensures reads { ReadsBlocks config.now part.entry (length out.old / 512) chains
         (did D.state backing.old found.old.items backing.new found.new.items)
         (buffer_answer result out.new) }
-    ensures step { StepFrom D.state config.now (Source.Blocks part) out.old backing.old backing.new result }
+    ensures step { StepFrom D.state config.now (Source.Blocks part.entry) out.old backing.old backing.new result }
 {
-    let verity = verity_at(config, part.device, part.line);
-    let tree = tree_at(config, part.device, part.line, verity);
+    let verity = part.verity;
+    let tree = tree_of(config, &part);
     let levels = tree.shape.levels() as usize;
     let size = verity.data_block as usize;
     let first = part.first / u64::from(verity.data_block / 512);
@@ -263,7 +262,7 @@ pub(crate) fn read_blocks<D: BlockDev>(
         if !settle(ignored, digest, &expected, &mut out[from..from + size]) {
             return Err(IoFault::Stack(Fault::Mismatch));
         }
-        match chains.keep(part, index, way, &out[from..from + size], found) {
+        match chains.keep(&part, index, way, &out[from..from + size], found) {
             Err(_) => return Err(IoFault::NoMemory),
             Ok(()) => at += 1,
         }

@@ -10,7 +10,7 @@ use Rattle.std.specs.Vec.{with_items}
 use borrow.Rule.Slice.PartMut.{put_mid, same_len_mid}
 use Rattle.tree_shape.specs.Digests.{digest, digest_in}
 use Rattle.tree_shape.specs.Shape.{ShapeRecord, slot, ancestor, levels}
-use Rattle.stack_rules.specs.Names.{mapped}
+use Rattle.stack_rules.specs.Names.{mapped, size}
 use Rattle.stack_rules.specs.Descend.{depth}
 use Rattle.stack_rules.specs.Trees.{tree_of, block_sectors}
 use Rattle.stack_rules.specs.declared.lower.DevId.{DevId}
@@ -308,10 +308,10 @@ read_run-returns-in-Block-clause-reads g t c = rw c.in-Block.is c.read_block.ens
 pub read_block-copy_part-requires-clause-inside : goal.read_block-copy_part-requires-clause-inside
 read_block-copy_part-requires-clause-inside g t c =
     λ x.
-    let v = c.verity_at-verity.result.now in
+    let v = c.args.part.verity.now in
     let p = c.args.part in
     let found = c.args.found.now.items in
-    let b = block-at c.requires c.verity_at-verity.ensures in
+    let b = block-at c.requires in
     let sectors : c.from-sectors.result ≡ block_sectors v = c.from-sectors.ensures in
     let there : c.in-Some.at < length found = omega (arith, c.in-Some.ensures.some.0, ap (λ (l : List FoundRecord). length l) c.as_slice.ensures.value) in
     let at : found_entry (get_or found c.in-Some.at x) ≡ (p.device.0, p.line, p.first / block_sectors v) =
@@ -323,20 +323,20 @@ read_block-copy_part-requires-clause-inside g t c =
 
 pub read_block-walk-requires : goal.read_block-walk-requires
 read_block-walk-requires g t c κs within =
-    let v = c.verity_at-verity.result.now in
+    let v = c.args.part.verity.now in
     let config = c.args.config.now in
-    let depths : depth config (mapped c.tree_at-tree.result.device.0) ≡ depth config (mapped c.args.part.device.0) = ap (λ (x : DevId). depth config (mapped x.0)) c.tree_at-tree.ensures.at in
-    let b = block-at c.requires c.verity_at-verity.ensures in
+    let depths : depth config (mapped c.tree_of-tree.result.device.0) ≡ depth config (mapped c.args.part.device.0) = ap (λ (x : DevId). depth config (mapped x.0)) c.tree_of-tree.ensures.device in
+    let b = block-at c.requires in
     let index : c.args.part.first / c.from-sectors.result < v.blocks = subst (λ (k : ℕ). c.args.part.first / k < v.blocks) (sym c.from-sectors.ensures) b.there in
-    (omega (arith, depths), (within, (c.requires.stack, record { lies = c.tree_at-tree.ensures.tree; there = index })))
+    (omega (arith, depths), (within, (c.requires.stack, record { lies = c.tree_of-tree.ensures.tree; there = index })))
 
 pub read_block-copy_part-requires-in-Ok-push-clause-inside : goal.read_block-copy_part-requires-in-Ok-push-clause-inside
 read_block-copy_part-requires-in-Ok-push-clause-inside g t c =
     λ x.
-    let v = c.verity_at-verity.result.now in
+    let v = c.args.part.verity.now in
     let p = c.args.part in
     let found = c.args.found.now.items in
-    let b = block-at c.requires c.verity_at-verity.ensures in
+    let b = block-at c.requires in
     let one : FoundRecord = record { device = p.device.0; line = p.line; chain = c.in-Ok.chain } in
     let value : c.as_slice-in-Ok-push.result.now ≡ found ++ (one ∷ []) = c.as_slice-in-Ok-push.ensures.value ∙ c.in-Ok-push.ensures.items in
     let at : c.len-at.result ≡ length found = c.len-at.ensures ∙ c.args.found.now.ok.0 in
@@ -347,7 +347,7 @@ read_block-copy_part-requires-in-Ok-push-clause-inside g t c =
 
 pub read_block-returns-in-Some-clause-reads : goal.read_block-returns-in-Some-clause-reads
 read_block-returns-in-Some-clause-reads g t c =
-    let v = c.verity_at-verity.result.now in
+    let v = c.args.part.verity.now in
     let p = c.args.part in
     let n : ℕ = length c.args.out.now / 512 in
     let found = c.args.found.now.items in
@@ -362,25 +362,25 @@ read_block-returns-in-Some-clause-reads g t c =
     ∙ ap (λ (l : List FoundRecord). take (length c.args.out.now) (drop (512 * (p.first % c.from-sectors.result)) ((get_or l c.in-Some.at any_found).chain.content))) c.as_slice-in-Some.ensures.value
     ∙ ap (λ (k : ℕ). take k (drop (512 * (p.first % c.from-sectors.result)) x.chain.content)) len
     ∙ ap (λ (k : ℕ). take (512 * n) (drop (512 * (p.first % k)) x.chain.content)) sectors in
-    part_found (block-at c.requires c.verity_at-verity.ensures) _ found x at (contains_at found c.in-Some.at any_found there) c.requires.kept is
+    part_found (block-at c.requires) _ found x at (contains_at found c.in-Some.at any_found there) c.requires.kept is
 
 pub read_block-returns-in-Err-clause-reads : goal.read_block-returns-in-Err-clause-reads
 read_block-returns-in-Err-clause-reads g t c =
-    let v = c.verity_at-verity.result.now in
+    let v = c.args.part.verity.now in
     let p = c.args.part in
     let q = subst (λ (k : ℕ). GetsChain (block_in c.args.config.now v (p.first / k)) (map g.D.BlockDev.state c.args.backing.now.devices.items) (map g.D.BlockDev.state c.walk.new.backing.devices.items) (Err c.in-Err.fault)) c.from-sectors.ensures c.in-Err.ensures.reads in
-    part_err (block-at c.requires c.verity_at-verity.ensures) c.args.found.now.items c.in-Err.fault c.requires.kept q
+    part_err (block-at c.requires) c.args.found.now.items c.in-Err.fault c.requires.kept q
 
 pub read_block-returns-after-push-clause-reads : goal.read_block-returns-after-push-clause-reads
 read_block-returns-after-push-clause-reads g t c =
-    let v = c.verity_at-verity.result.now in
+    let v = c.args.part.verity.now in
     let p = c.args.part in
     let n : ℕ = length c.args.out.now / 512 in
     let config = c.args.config.now in
     let old = map g.D.BlockDev.state c.args.backing.now.devices.items in
     let new = map g.D.BlockDev.state c.walk.new.backing.devices.items in
     let found = c.args.found.now.items in
-    let b = block-at c.requires c.verity_at-verity.ensures in
+    let b = block-at c.requires in
     let sectors : c.from-sectors.result ≡ block_sectors v = c.from-sectors.ensures in
     let q = subst (λ (k : ℕ). GetsChain (block_in config v (p.first / k)) old new (Ok c.in-Ok.chain)) sectors c.in-Ok.ensures.reads in
     let Does : List FoundRecord → Result (List ℕ) IoFault → Type 0 = λ u r. ReadsSource config (Block p) n (record { old = old; new = new; before = found; after = u }) r in
@@ -413,20 +413,20 @@ pub read_block-returns-in-Some-clause-step : goal.read_block-returns-in-Some-cla
 read_block-returns-in-Some-clause-step g t c =
     let config = c.args.config.now in
     let leaves = map g.D.BlockDev.state c.args.backing.now.devices.items in
-    let meets = block-meets config c.args.part (length c.args.out.now / 512) (omega (arith, c.requires.fits.sectors.some, c.requires.fits.sectors.whole)) c.requires.fits.holds in
+    let meets = block-meets config c.args.part (length c.args.out.now / 512) (omega (arith, c.requires.fits.sectors.some, c.requires.fits.sectors.whole)) in
     step-none c.requires.stack.cached (met meets) (asks-none (leaves_of config (mapped c.args.part.device.0)) leaves (Ok tt) tt refl)
 
 pub read_block-returns-in-Err-clause-step : goal.read_block-returns-in-Err-clause-step
 read_block-returns-in-Err-clause-step g t c =
     let config = c.args.config.now in
-    let b = block-at c.requires c.verity_at-verity.ensures in
-    let walked = asks-up (same-within config c.tree_at-tree.ensures.at) c.in-Err.ensures.touches in
-    step-met (block-meets config c.args.part (length c.args.out.now / 512) b.some c.requires.fits.holds) c.in-Err.ensures.cached (asks-as (Err c.in-Err.fault) walked.fault (λ failures. refl) walked) (block-spent (c.args.part.first / c.from-sectors.result) b c.in-Err.ensures.reads.moved)
+    let b = block-at c.requires in
+    let walked = asks-up (same-within config c.tree_of-tree.ensures.device) c.in-Err.ensures.touches in
+    step-met (block-meets config c.args.part (length c.args.out.now / 512) b.some) c.in-Err.ensures.cached (asks-as (Err c.in-Err.fault) walked.fault (λ failures. refl) walked) (block-spent (c.args.part.first / c.from-sectors.result) b c.in-Err.ensures.reads.moved)
 
 pub read_block-returns-after-push-clause-step : goal.read_block-returns-after-push-clause-step
 read_block-returns-after-push-clause-step g t c =
     let config = c.args.config.now in
-    let b = block-at c.requires c.verity_at-verity.ensures in
+    let b = block-at c.requires in
     let these = leaves_of config (mapped c.args.part.device.0) in
     let Names : Result Unit IoFault → Type 0 = λ r. IfErr r (NamesOneOf these) in
     let fault : Names c.match-push.result = elim c.match-push.branch [
@@ -438,8 +438,8 @@ read_block-returns-after-push-clause-step g t c =
       | read_block-in-Err-push w ↦ subst Alike (sym w.result-is) (λ failures. refl)
       | read_block-in-Ok-push w ↦ subst Alike (sym w.result-is) (λ failures. refl)
     ] in
-    step-met (block-meets config c.args.part (length c.args.out.now / 512) b.some c.requires.fits.holds) c.in-Ok.ensures.cached
-    (asks-as c.match-push.result fault alike (asks-up (same-within config c.tree_at-tree.ensures.at) c.in-Ok.ensures.touches)) (block-spent (c.args.part.first / c.from-sectors.result) b c.in-Ok.ensures.reads.moved)
+    step-met (block-meets config c.args.part (length c.args.out.now / 512) b.some) c.in-Ok.ensures.cached
+    (asks-as c.match-push.result fault alike (asks-up (same-within config c.tree_of-tree.ensures.device) c.in-Ok.ensures.touches)) (block-spent (c.args.part.first / c.from-sectors.result) b c.in-Ok.ensures.reads.moved)
 
 -- ---- one block that is checked
 
@@ -495,7 +495,7 @@ walk-digest_in-expected-requires g t c =
     let v = c.args.verity.now in
     let tree = c.args.tree.now in
     let is = c.requires.block.lies in
-    let size = hash-whole c.args.config.now tree.device.0 tree.line 0 0 v c.requires.stack.sound.loaded is.is in
+    let size = hash-whole c.args.config.now tree.device.0 tree.line v c.requires.stack.sound.loaded is.is in
     let sectors : c.hash_extent-extent.result.sectors ≡ hash_sectors v = ap (λ (e : Extent). e.sectors) c.hash_extent-extent.ensures.value in
     let len : length c.as_slice.result.now ≡ 512 * c.hash_extent-extent.result.sectors = ap (λ (l : List ℕ). length l) c.as_slice.ensures.value ∙ c.in-Ok.ensures.reads.may.0 in
     let block : tree.shape.hash_block ≡ v.hash_block = ap (λ (t : ShapeRecord). t.hash_block) is.shape_is in
@@ -547,7 +547,7 @@ walk-returns-in-Ok-read_data-clause-reads g t c =
 pub read_data-zero_block-requires : goal.read_data-zero_block-requires
 read_data-zero_block-requires g t c =
     let tree = c.args.tree.now in
-    let size = data-whole c.args.config.now tree.device.0 tree.line 0 0 c.args.verity.now c.requires.stack.sound.loaded c.requires.block.lies.is in
+    let size = data-whole c.args.config.now tree.device.0 tree.line c.args.verity.now c.requires.stack.sound.loaded c.requires.block.lies.is in
     omega (arith, size.whole, size.most)
 
 pub read_data-returns-in-Ok-clause-reads : goal.read_data-returns-in-Ok-clause-reads
@@ -555,7 +555,7 @@ read_data-returns-in-Ok-clause-reads g t c =
     let v = c.args.verity.now in
     let config = c.args.config.now in
     let tree = c.args.tree.now in
-    let size = data-whole config tree.device.0 tree.line 0 0 v c.requires.stack.sound.loaded c.requires.block.lies.is in
+    let size = data-whole config tree.device.0 tree.line v c.requires.stack.sound.loaded c.requires.block.lies.is in
     data_zeros bytes (block_in config v c.args.index) c.args.expected.now (map g.D.BlockDev.state c.args.backing.now.devices.items) c.in-Ok.block size.whole (sym c.is_ignored.ensures ∙ c.if-is_ignored.true) c.in-Ok.ensures
 
 pub read_data-read_checked-requires : goal.read_data-read_checked-requires
@@ -704,7 +704,7 @@ walk_path-digest_in-digest-requires g t c =
     let v = c.args.verity.now in
     let tree = c.args.tree.now in
     let is = c.requires.block.lies in
-    let size = hash-whole c.args.config.now tree.device.0 tree.line 0 0 v c.requires.stack.sound.loaded is.is in
+    let size = hash-whole c.args.config.now tree.device.0 tree.line v c.requires.stack.sound.loaded is.is in
     let one = c.in-Ok.ensures.reads no_block in
     let here : c.as_slice-in-Ok.result.now ≡ (get_or c.path_block.new.path.items c.loop-left.at no_block).bytes =
     c.as_slice-in-Ok.ensures.value ∙ ap (λ (b : CachedBlock). b.bytes) (c.block.view_is ∙ c.index-as_slice-at.is
@@ -784,7 +784,7 @@ read_run-returns-in-Blocks-clause-step g t c = rw c.in-Blocks.is c.read_blocks.e
 pub read_blocks-checks-init : goal.read_blocks-checks-init
 read_blocks-checks-init g t c =
     let config = c.args.config.now in
-    let b = blocks-at c.requires c.verity_at-verity.ensures c.tree_at-tree.ensures.tree in
+    let b = blocks-at c.requires in
     record {
       checked = checked-none b c.args.chains _ _ (ap (λ (l : List (List ℕ)). length l) c.as_mut_slice-made.ensures.value) c.new-path.ensures.items c.requires.kept;
       cached = record { capacity = refl; sound = c.requires.stack.cached };
@@ -795,50 +795,50 @@ pub read_blocks-walk_path-requires : goal.read_blocks-walk_path-requires
 read_blocks-walk_path-requires g t c κs within =
     let config = c.args.config.now in
     let inv = c.checks.invariant in
-    let tree = c.tree_at-tree in
-    let turn = turn-at (blocks-at c.requires c.verity_at-verity.ensures tree.ensures.tree) inv.checked c.requires.fits.sectors.whole c.from.ensures c.checks-test.true in
-    let depths : depth config (mapped tree.result.device.0) ≡ depth config (mapped c.args.part.device.0) = ap (λ (x : DevId). depth config (mapped x.0)) tree.ensures.at in
+    let tree = c.tree_of-tree in
+    let turn = turn-at (blocks-at c.requires) inv.checked c.requires.fits.sectors.whole c.from.ensures c.checks-test.true in
+    let depths : depth config (mapped tree.result.device.0) ≡ depth config (mapped c.args.part.device.0) = ap (λ (x : DevId). depth config (mapped x.0)) tree.ensures.device in
     let stack = stack-later config inv.checked.had.moved.moved.fixed c.requires.stack inv.cached in
     (omega (arith, depths), (within, (stack, (record { lies = tree.ensures.tree; there = turn.there }, inv.checked.held))))
 
 pub read_blocks-returns-in-Err-clause-reads : goal.read_blocks-returns-in-Err-clause-reads
 read_blocks-returns-in-Err-clause-reads g t c =
     let inv = c.checks.invariant.checked in
-    let b = blocks-at c.requires c.verity_at-verity.ensures c.tree_at-tree.ensures.tree in
+    let b = blocks-at c.requires in
     let turn = turn-at b inv c.requires.fits.sectors.whole c.from.ensures c.checks-test.true in
     record { after = inv.after; out = inv.out; reads = way-fails b turn c.in-Err.first inv.had c.in-Err.ensures.moved c.in-Err.ensures.err }
 
 pub read_blocks-overflow_add-index : goal.read_blocks-overflow_add-index
 read_blocks-overflow_add-index g t c =
-    let turn = turn-at (blocks-at c.requires c.verity_at-verity.ensures c.tree_at-tree.ensures.tree) c.checks.invariant.checked c.requires.fits.sectors.whole c.from.ensures c.checks-test.true in omega (arith, turn.small)
+    let turn = turn-at (blocks-at c.requires) c.checks.invariant.checked c.requires.fits.sectors.whole c.from.ensures c.checks-test.true in omega (arith, turn.small)
 
 pub read_blocks-overflow_mul-from : goal.read_blocks-overflow_mul-from
 read_blocks-overflow_mul-from g t c =
-    let turn = turn-at (blocks-at c.requires c.verity_at-verity.ensures c.tree_at-tree.ensures.tree) c.checks.invariant.checked c.requires.fits.sectors.whole c.from.ensures c.checks-test.true in omega (arith, turn.end)
+    let turn = turn-at (blocks-at c.requires) c.checks.invariant.checked c.requires.fits.sectors.whole c.from.ensures c.checks-test.true in omega (arith, turn.end)
 
 pub read_blocks-read_beneath-requires : goal.read_blocks-read_beneath-requires
 read_blocks-read_beneath-requires g t c κs within =
     let config = c.args.config.now in
     let inv = c.checks.invariant in
-    let tree = c.tree_at-tree in
-    let b = blocks-at c.requires c.verity_at-verity.ensures tree.ensures.tree in
+    let tree = c.tree_of-tree in
+    let b = blocks-at c.requires in
     let turn = turn-at b inv.checked c.requires.fits.sectors.whole c.from.ensures c.checks-test.true in
     let row = row-at b turn c.row_len-many.result c.row_len-many.ensures.most in
-    let v = c.verity_at-verity.result.now in
+    let v = c.args.part.verity.now in
     let extent : c.data_extent-extent.result.first ≡ block_sectors v * (c.args.part.first / block_sectors v + c.checks.at) = ap (λ (e : Extent). e.first) c.data_extent-extent.ensures.value ∙ ap (λ (k : ℕ). block_sectors v * k) turn.index in
-    let depths : depth config (mapped tree.result.device.0) ≡ depth config (mapped c.args.part.device.0) = ap (λ (x : DevId). depth config (mapped x.0)) tree.ensures.at in
+    let depths : depth config (mapped tree.result.device.0) ≡ depth config (mapped c.args.part.device.0) = ap (λ (x : DevId). depth config (mapped x.0)) tree.ensures.device in
     let deep = data-depth config v tree.result b.loaded tree.ensures.tree in
     let before = stack-later config inv.checked.had.moved.moved.fixed c.requires.stack inv.cached in
     let stack = stack-later config c.in-Ok.ensures.moved.moved.fixed before c.in-Ok.ensures.cached in
-    (omega (arith, deep, depths), (within, (stack, (row.whole, omega (arith, row.inside, extent, row.sectors)))))
+    (omega (arith, deep, depths), (within, (stack, (row.whole, omega (arith, row.inside, extent, row.sectors, ap (λ (y : Lower). size config y) tree.ensures.data)))))
 
 pub read_blocks-returns-in-Err-read_beneath-clause-reads : goal.read_blocks-returns-in-Err-read_beneath-clause-reads
 read_blocks-returns-in-Err-read_beneath-clause-reads g t c =
     let inv = c.checks.invariant.checked in
-    let b = blocks-at c.requires c.verity_at-verity.ensures c.tree_at-tree.ensures.tree in
+    let b = blocks-at c.requires in
     let turn = turn-at b inv c.requires.fits.sectors.whole c.from.ensures c.checks-test.true in
     let row = row-at b turn c.row_len-many.result c.row_len-many.ensures.most in
-    let gets = row-got b turn row c.data_extent-extent.ensures c.in-Err-read_beneath.ensures.reads in
+    let gets = row-got b turn row c.tree_of-tree.ensures.data c.data_extent-extent.ensures c.in-Err-read_beneath.ensures.reads in
     record { after = inv.after; out = inv.out; reads = row-fails b turn row c.row_len-many.ensures.fresh c.in-Err-read_beneath.met inv.had c.in-Ok.ensures.moved c.in-Ok.ensures.ok gets }
 
 pub read_blocks-shape_of-out-in-Err : goal.read_blocks-shape_of-out-in-Err
@@ -846,8 +846,8 @@ read_blocks-shape_of-out-in-Err g t c = c.checks.invariant.checked.size
 
 pub read_blocks-slice_bounds-way-end : goal.read_blocks-slice_bounds-way-end
 read_blocks-slice_bounds-way-end g t c =
-    let v = c.verity_at-verity.result.now in
-    let levels_are : c.levels-levels.result ≡ levels (tree_of v) = c.levels-levels.ensures.value ∙ ap levels c.tree_at-tree.ensures.tree.shape_is in
+    let v = c.args.part.verity.now in
+    let levels_are : c.levels-levels.result ≡ levels (tree_of v) = c.levels-levels.ensures.value ∙ ap levels c.tree_of-tree.ensures.tree.shape_is in
     let long = way-whole c.args.config.now v (c.args.part.first / c.from.result + c.checks.at) c.walk_path.new.path.items c.in-Ok.ensures.ok in
     let value : length c.as_slice.result.now ≡ length c.walk_path.new.path.items = ap (λ (l : List CachedBlock). length l) c.as_slice.ensures.value in
     sym (length-take-le c.levels-levels.result c.as_slice.result.now (omega (arith, long, levels_are, value)))
@@ -866,27 +866,27 @@ read_blocks-shape_of-out-in-Err-keep g t c = same_len_mid _ _ _ _ c.settle.auto.
 
 pub read_blocks-data_extent-extent-requires-clause-block : goal.read_blocks-data_extent-extent-requires-clause-block
 read_blocks-data_extent-extent-requires-clause-block g t c =
-    let lies = c.tree_at-tree.ensures.tree in
-    let turn = turn-at (blocks-at c.requires c.verity_at-verity.ensures lies) c.checks.invariant.checked c.requires.fits.sectors.whole c.from.ensures c.checks-test.true in
+    let lies = c.tree_of-tree.ensures.tree in
+    let turn = turn-at (blocks-at c.requires) c.checks.invariant.checked c.requires.fits.sectors.whole c.from.ensures c.checks-test.true in
     record { lies = lies; there = turn.there }
 
 pub read_blocks-slice_bounds-row-end : goal.read_blocks-slice_bounds-row-end
 read_blocks-slice_bounds-row-end g t c =
-    let b = blocks-at c.requires c.verity_at-verity.ensures c.tree_at-tree.ensures.tree in
+    let b = blocks-at c.requires in
     let turn = turn-at b c.checks.invariant.checked c.requires.fits.sectors.whole c.from.ensures c.checks-test.true in
     let row = row-at b turn c.row_len-many.result c.row_len-many.ensures.most in
     omega (arith, row.end)
 
 pub read_blocks-overflow_add-row-in-checks : goal.read_blocks-overflow_add-row-in-checks
 read_blocks-overflow_add-row-in-checks g t c =
-    let b = blocks-at c.requires c.verity_at-verity.ensures c.tree_at-tree.ensures.tree in
+    let b = blocks-at c.requires in
     let turn = turn-at b c.checks.invariant.checked c.requires.fits.sectors.whole c.from.ensures c.checks-test.true in
     let row = row-at b turn c.row_len-many.result c.row_len-many.ensures.most in
     omega (arith, row.end, turn.len, b.few)
 
 pub read_blocks-slice_bounds-digest_blocks-end : goal.read_blocks-slice_bounds-digest_blocks-end
 read_blocks-slice_bounds-digest_blocks-end g t c =
-    let b = blocks-at c.requires c.verity_at-verity.ensures c.tree_at-tree.ensures.tree in
+    let b = blocks-at c.requires in
     let inv = c.checks.invariant.checked in
     let turn = turn-at b inv c.requires.fits.sectors.whole c.from.ensures c.checks-test.true in
     let row = row-at b turn c.row_len-many.result c.row_len-many.ensures.most in
@@ -894,34 +894,34 @@ read_blocks-slice_bounds-digest_blocks-end g t c =
 
 pub read_blocks-digest_blocks-requires-clause-whole : goal.read_blocks-digest_blocks-requires-clause-whole
 read_blocks-digest_blocks-requires-clause-whole g t c =
-    let b = blocks-at c.requires c.verity_at-verity.ensures c.tree_at-tree.ensures.tree in
+    let b = blocks-at c.requires in
     let turn = turn-at b c.checks.invariant.checked c.requires.fits.sectors.whole c.from.ensures c.checks-test.true in
     let row = row-at b turn c.row_len-many.result c.row_len-many.ensures.most in
     let put = put-at b turn row c.read_beneath.new.out c.read_beneath.auto.out in
-    ap (λ (l : List ℕ). length l % c.verity_at-verity.result.now.data_block) put.row_is ∙ put.row_even
+    ap (λ (l : List ℕ). length l % c.args.part.verity.now.data_block) put.row_is ∙ put.row_even
 
 pub read_blocks-digest_blocks-requires-clause-count : goal.read_blocks-digest_blocks-requires-clause-count
 read_blocks-digest_blocks-requires-clause-count g t c =
     let j : ℕ = c.checks.at in
     let many : ℕ = c.row_len-many.result in
-    let b = blocks-at c.requires c.verity_at-verity.ensures c.tree_at-tree.ensures.tree in
+    let b = blocks-at c.requires in
     let inv = c.checks.invariant.checked in
     let turn = turn-at b inv c.requires.fits.sectors.whole c.from.ensures c.checks-test.true in
     let row = row-at b turn many c.row_len-many.ensures.most in
     let put = put-at b turn row c.read_beneath.new.out c.read_beneath.auto.out in
     length-take-le (j + many - j) (drop j c.checks.made) (omega (arith, inv.room, row.few, length-drop j c.checks.made)) ∙ sub-same j many
-    ∙ sym (ap (λ (l : List ℕ). length l / c.verity_at-verity.result.now.data_block) put.row_is ∙ put.row_count)
+    ∙ sym (ap (λ (l : List ℕ). length l / c.args.part.verity.now.data_block) put.row_is ∙ put.row_count)
 
 pub read_blocks-bounds-made-at : goal.read_blocks-bounds-made-at
 read_blocks-bounds-made-at g t c =
     let j : ℕ = c.checks.at in
     let inv = c.checks.invariant.checked in
-    let turn = turn-at (blocks-at c.requires c.verity_at-verity.ensures c.tree_at-tree.ensures.tree) inv c.requires.fits.sectors.whole c.from.ensures c.checks-test.true in
+    let turn = turn-at (blocks-at c.requires) inv c.requires.fits.sectors.whole c.from.ensures c.checks-test.true in
     omega (arith, same_len_mid j (j + c.row_len-many.result - j) c.checks.made c.digest_blocks.new.out c.digest_blocks.auto.out, inv.room, turn.inside, turn.few)
 
 pub read_blocks-slice_bounds-settle-end : goal.read_blocks-slice_bounds-settle-end
 read_blocks-slice_bounds-settle-end g t c =
-    let b = blocks-at c.requires c.verity_at-verity.ensures c.tree_at-tree.ensures.tree in
+    let b = blocks-at c.requires in
     let turn = turn-at b c.checks.invariant.checked c.requires.fits.sectors.whole c.from.ensures c.checks-test.true in
     let row = row-at b turn c.row_len-many.result c.row_len-many.ensures.most in
     let put = put-at b turn row c.read_beneath.new.out c.read_beneath.auto.out in
@@ -931,11 +931,11 @@ pub read_blocks-returns-then-not-settle-clause-reads : goal.read_blocks-returns-
 read_blocks-returns-then-not-settle-clause-reads g t c =
     let inv = c.checks.invariant.checked in
     let many = c.row_len-many in
-    let b = blocks-at c.requires c.verity_at-verity.ensures c.tree_at-tree.ensures.tree in
+    let b = blocks-at c.requires in
     let turn = turn-at b inv c.requires.fits.sectors.whole c.from.ensures c.checks-test.true in
     let row = row-at b turn many.result many.ensures.most in
     let put = put-at b turn row c.read_beneath.new.out c.read_beneath.auto.out in
-    let gets = row-got b turn row c.data_extent-extent.ensures c.in-Ok-read_beneath.ensures.reads in
+    let gets = row-got b turn row c.tree_of-tree.ensures.data c.data_extent-extent.ensures c.in-Ok-read_beneath.ensures.reads in
     let next = row-next b turn row many.ensures.fresh inv.had c.in-Ok.ensures.moved c.in-Ok.ensures.ok gets in
     let far_to = far b turn row many.ensures.fresh inv.had c.in-Ok.ensures.moved c.in-Ok.ensures.ok gets in
     let ahead = row-ahead b turn row many.ensures.fresh c.checks.made inv.had c.in-Ok.ensures.moved gets (all-whole g.D.BlockDev.state g.met.D.BlockDev.whole c.walk_path.new.backing.devices.items) inv.room inv.ahead put c.digest_blocks.ensures in
@@ -949,11 +949,11 @@ pub read_blocks-returns-in-Err-keep-clause-reads : goal.read_blocks-returns-in-E
 read_blocks-returns-in-Err-keep-clause-reads g t c =
     let inv = c.checks.invariant.checked in
     let many = c.row_len-many in
-    let b = blocks-at c.requires c.verity_at-verity.ensures c.tree_at-tree.ensures.tree in
+    let b = blocks-at c.requires in
     let turn = turn-at b inv c.requires.fits.sectors.whole c.from.ensures c.checks-test.true in
     let row = row-at b turn many.result many.ensures.most in
     let put = put-at b turn row c.read_beneath.new.out c.read_beneath.auto.out in
-    let gets = row-got b turn row c.data_extent-extent.ensures c.in-Ok-read_beneath.ensures.reads in
+    let gets = row-got b turn row c.tree_of-tree.ensures.data c.data_extent-extent.ensures c.in-Ok-read_beneath.ensures.reads in
     let next = row-next b turn row many.ensures.fresh inv.had c.in-Ok.ensures.moved c.in-Ok.ensures.ok gets in
     let far_to = far b turn row many.ensures.fresh inv.had c.in-Ok.ensures.moved c.in-Ok.ensures.ok gets in
     record {
@@ -966,17 +966,17 @@ pub read_blocks-checks-preserved : goal.read_blocks-checks-preserved
 read_blocks-checks-preserved g t c =
     let config = c.args.config.now in
     let p = c.args.part in
-    let v = c.verity_at-verity.result.now in
-    let tree = c.tree_at-tree in
+    let v = c.args.part.verity.now in
+    let tree = c.tree_of-tree in
     let all = c.checks.invariant in
     let inv = all.checked in
     let j : ℕ = c.checks.at in
     let many = c.row_len-many in
-    let b = blocks-at c.requires c.verity_at-verity.ensures tree.ensures.tree in
+    let b = blocks-at c.requires in
     let turn = turn-at b inv c.requires.fits.sectors.whole c.from.ensures c.checks-test.true in
     let row = row-at b turn many.result many.ensures.most in
     let put = put-at b turn row c.read_beneath.new.out c.read_beneath.auto.out in
-    let gets = row-got b turn row c.data_extent-extent.ensures c.in-Ok-read_beneath.ensures.reads in
+    let gets = row-got b turn row c.tree_of-tree.ensures.data c.data_extent-extent.ensures c.in-Ok-read_beneath.ensures.reads in
     let next = row-next b turn row many.ensures.fresh inv.had c.in-Ok.ensures.moved c.in-Ok.ensures.ok gets in
     let far_to = far b turn row many.ensures.fresh inv.had c.in-Ok.ensures.moved c.in-Ok.ensures.ok gets in
     let ahead = row-ahead b turn row many.ensures.fresh c.checks.made inv.had c.in-Ok.ensures.moved gets (all-whole g.D.BlockDev.state g.met.D.BlockDev.whole c.walk_path.new.backing.devices.items) inv.room inv.ahead put c.digest_blocks.ensures in
@@ -1004,74 +1004,74 @@ read_blocks-checks-preserved g t c =
         ahead = rest;
       });
       cached = record { capacity = c.in-Ok-read_beneath.ensures.cached.capacity ∙ c.in-Ok.ensures.cached.capacity ∙ all.cached.capacity; sound = c.in-Ok-read_beneath.ensures.cached.sound };
-      touches = data-touched config v tree.result b.loaded tree.ensures.tree p.device tree.ensures.at all.touches c.in-Ok.ensures.touches c.in-Ok-read_beneath.ensures.touches;
+      touches = data-touched config v tree.result b.loaded tree.ensures.tree p.device tree.ensures.device all.touches c.in-Ok.ensures.touches c.in-Ok-read_beneath.ensures.touches;
     }
 
 pub read_blocks-returns-clause-reads : goal.read_blocks-returns-clause-reads
-read_blocks-returns-clause-reads g t c = checked-all (blocks-at c.requires c.verity_at-verity.ensures c.tree_at-tree.ensures.tree) c.checks.invariant.checked c.requires.fits.sectors.whole (λ more. absurd (omega (arith, more, c.checks-test.false)))
+read_blocks-returns-clause-reads g t c = checked-all (blocks-at c.requires) c.checks.invariant.checked c.requires.fits.sectors.whole (λ more. absurd (omega (arith, more, c.checks-test.false)))
 
 pub read_blocks-returns-in-Err-clause-step : goal.read_blocks-returns-in-Err-clause-step
 read_blocks-returns-in-Err-clause-step g t c =
     let config = c.args.config.now in
-    let tree = c.tree_at-tree in
+    let tree = c.tree_of-tree in
     let all = c.checks.invariant in
-    let b = blocks-at c.requires c.verity_at-verity.ensures tree.ensures.tree in
+    let b = blocks-at c.requires in
     let turn = turn-at b all.checked c.requires.fits.sectors.whole c.from.ensures c.checks-test.true in
-    let walked = asks-up (hash-within-device config c.verity_at-verity.result.now tree.result b.loaded tree.ensures.tree c.args.part.device tree.ensures.at) c.in-Err.ensures.touches in
-    step-met (blocks-meet config c.args.part (length c.args.out.now / 512) (omega (arith, c.requires.fits.sectors.some, c.requires.fits.sectors.whole)) c.requires.fits.holds)
+    let walked = asks-up (hash-within-device config c.args.part.verity.now tree.result b.loaded tree.ensures.tree c.args.part.device tree.ensures.device) c.in-Err.ensures.touches in
+    step-met (blocks-meet config c.args.part (length c.args.out.now / 512) (omega (arith, c.requires.fits.sectors.some, c.requires.fits.sectors.whole)))
     (record { capacity = c.in-Err.ensures.cached.capacity ∙ all.cached.capacity; sound = c.in-Err.ensures.cached.sound })
     (asks-then all.touches (asks-as (Err c.in-Err.first) walked.fault (λ failures. refl) walked)) (way-costs b turn all.checked.had c.in-Err.ensures.moved)
 
 pub read_blocks-returns-in-Err-read_beneath-clause-step : goal.read_blocks-returns-in-Err-read_beneath-clause-step
 read_blocks-returns-in-Err-read_beneath-clause-step g t c =
     let config = c.args.config.now in
-    let tree = c.tree_at-tree in
+    let tree = c.tree_of-tree in
     let all = c.checks.invariant in
     let many = c.row_len-many in
     let read = c.in-Err-read_beneath.ensures in
-    let b = blocks-at c.requires c.verity_at-verity.ensures tree.ensures.tree in
+    let b = blocks-at c.requires in
     let turn = turn-at b all.checked c.requires.fits.sectors.whole c.from.ensures c.checks-test.true in
     let row = row-at b turn many.result many.ensures.most in
-    step-met (blocks-meet config c.args.part (length c.args.out.now / 512) (omega (arith, c.requires.fits.sectors.some, c.requires.fits.sectors.whole)) c.requires.fits.holds)
+    step-met (blocks-meet config c.args.part (length c.args.out.now / 512) (omega (arith, c.requires.fits.sectors.some, c.requires.fits.sectors.whole)))
     (record { capacity = read.cached.capacity ∙ c.in-Ok.ensures.cached.capacity ∙ all.cached.capacity; sound = read.cached.sound })
-    (data-touched config c.verity_at-verity.result.now tree.result b.loaded tree.ensures.tree c.args.part.device tree.ensures.at all.touches c.in-Ok.ensures.touches read.touches)
-    (row-costs b turn row many.ensures.fresh all.checked.had c.in-Ok.ensures.moved c.in-Ok.ensures.ok (row-got b turn row c.data_extent-extent.ensures read.reads))
+    (data-touched config c.args.part.verity.now tree.result b.loaded tree.ensures.tree c.args.part.device tree.ensures.device all.touches c.in-Ok.ensures.touches read.touches)
+    (row-costs b turn row many.ensures.fresh all.checked.had c.in-Ok.ensures.moved c.in-Ok.ensures.ok (row-got b turn row c.tree_of-tree.ensures.data c.data_extent-extent.ensures read.reads))
 
 pub read_blocks-returns-then-not-settle-clause-step : goal.read_blocks-returns-then-not-settle-clause-step
 read_blocks-returns-then-not-settle-clause-step g t c =
     let config = c.args.config.now in
-    let tree = c.tree_at-tree in
+    let tree = c.tree_of-tree in
     let all = c.checks.invariant in
     let many = c.row_len-many in
     let read = c.in-Ok-read_beneath.ensures in
-    let b = blocks-at c.requires c.verity_at-verity.ensures tree.ensures.tree in
+    let b = blocks-at c.requires in
     let turn = turn-at b all.checked c.requires.fits.sectors.whole c.from.ensures c.checks-test.true in
     let row = row-at b turn many.result many.ensures.most in
-    step-met (blocks-meet config c.args.part (length c.args.out.now / 512) (omega (arith, c.requires.fits.sectors.some, c.requires.fits.sectors.whole)) c.requires.fits.holds)
+    step-met (blocks-meet config c.args.part (length c.args.out.now / 512) (omega (arith, c.requires.fits.sectors.some, c.requires.fits.sectors.whole)))
     (record { capacity = read.cached.capacity ∙ c.in-Ok.ensures.cached.capacity ∙ all.cached.capacity; sound = read.cached.sound })
-    (asks-as (Err (Stack Mismatch)) tt (λ failures. refl) (data-touched config c.verity_at-verity.result.now tree.result b.loaded tree.ensures.tree c.args.part.device tree.ensures.at all.touches c.in-Ok.ensures.touches read.touches))
-    (row-costs b turn row many.ensures.fresh all.checked.had c.in-Ok.ensures.moved c.in-Ok.ensures.ok (row-got b turn row c.data_extent-extent.ensures read.reads))
+    (asks-as (Err (Stack Mismatch)) tt (λ failures. refl) (data-touched config c.args.part.verity.now tree.result b.loaded tree.ensures.tree c.args.part.device tree.ensures.device all.touches c.in-Ok.ensures.touches read.touches))
+    (row-costs b turn row many.ensures.fresh all.checked.had c.in-Ok.ensures.moved c.in-Ok.ensures.ok (row-got b turn row c.tree_of-tree.ensures.data c.data_extent-extent.ensures read.reads))
 
 pub read_blocks-returns-in-Err-keep-clause-step : goal.read_blocks-returns-in-Err-keep-clause-step
 read_blocks-returns-in-Err-keep-clause-step g t c =
     let config = c.args.config.now in
-    let tree = c.tree_at-tree in
+    let tree = c.tree_of-tree in
     let all = c.checks.invariant in
     let many = c.row_len-many in
     let read = c.in-Ok-read_beneath.ensures in
-    let b = blocks-at c.requires c.verity_at-verity.ensures tree.ensures.tree in
+    let b = blocks-at c.requires in
     let turn = turn-at b all.checked c.requires.fits.sectors.whole c.from.ensures c.checks-test.true in
     let row = row-at b turn many.result many.ensures.most in
-    step-met (blocks-meet config c.args.part (length c.args.out.now / 512) (omega (arith, c.requires.fits.sectors.some, c.requires.fits.sectors.whole)) c.requires.fits.holds)
+    step-met (blocks-meet config c.args.part (length c.args.out.now / 512) (omega (arith, c.requires.fits.sectors.some, c.requires.fits.sectors.whole)))
     (record { capacity = read.cached.capacity ∙ c.in-Ok.ensures.cached.capacity ∙ all.cached.capacity; sound = read.cached.sound })
-    (asks-as (Err NoMemory) tt (λ failures. refl) (data-touched config c.verity_at-verity.result.now tree.result b.loaded tree.ensures.tree c.args.part.device tree.ensures.at all.touches c.in-Ok.ensures.touches read.touches))
-    (row-costs b turn row many.ensures.fresh all.checked.had c.in-Ok.ensures.moved c.in-Ok.ensures.ok (row-got b turn row c.data_extent-extent.ensures read.reads))
+    (asks-as (Err NoMemory) tt (λ failures. refl) (data-touched config c.args.part.verity.now tree.result b.loaded tree.ensures.tree c.args.part.device tree.ensures.device all.touches c.in-Ok.ensures.touches read.touches))
+    (row-costs b turn row many.ensures.fresh all.checked.had c.in-Ok.ensures.moved c.in-Ok.ensures.ok (row-got b turn row c.tree_of-tree.ensures.data c.data_extent-extent.ensures read.reads))
 
 pub read_blocks-returns-clause-step : goal.read_blocks-returns-clause-step
 read_blocks-returns-clause-step g t c =
     let all = c.checks.invariant in
-    step-met (blocks-meet c.args.config.now c.args.part (length c.args.out.now / 512) (omega (arith, c.requires.fits.sectors.some, c.requires.fits.sectors.whole)) c.requires.fits.holds) all.cached all.touches
-    (had-spent (blocks-at c.requires c.verity_at-verity.ensures c.tree_at-tree.ensures.tree) c.checks.read c.checks.at all.checked.most all.checked.within all.checked.had.moved)
+    step-met (blocks-meet c.args.config.now c.args.part (length c.args.out.now / 512) (omega (arith, c.requires.fits.sectors.some, c.requires.fits.sectors.whole))) all.cached all.touches
+    (had-spent (blocks-at c.requires) c.checks.read c.checks.at all.checked.most all.checked.within all.checked.had.moved)
 
 pub read_beneath-returns-then-is_empty-clause-reads : goal.read_beneath-returns-then-is_empty-clause-reads
 read_beneath-returns-then-is_empty-clause-reads g t c =

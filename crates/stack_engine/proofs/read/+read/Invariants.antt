@@ -101,7 +101,7 @@ decreases-read_beneath g l = 8 * depth l.config.now l.lower + 8
 -- the blocks so far were had, and those behind them stand as they were read last
 abbrev pub invariant-read_blocks-checks : goal.invariant-read_blocks-checks
 invariant-read_blocks-checks g l = record {
-  checked : AreChecked l.config l.verity l.fn.part l.tree.data l.fn.chains l.fn.out l.read l.at l.out l.made l.path.items
+  checked : AreChecked l.config l.fn.part l.fn.chains l.fn.out l.read l.at l.out l.made l.path.items
       (map g.D.BlockDev.state l.fn.backing.devices.items) (map g.D.BlockDev.state l.backing.devices.items) l.fn.found.items l.found.items;
   cached : KeepsCache l.config (map g.D.BlockDev.state l.backing.devices.items) l.fn.backing.cache l.backing.cache;
   touches : AsksOnly {A = Unit {0}} (leaves_of l.config (mapped l.fn.part.device.0)) (map g.D.BlockDev.state l.fn.backing.devices.items) (map g.D.BlockDev.state l.backing.devices.items) (Ok tt);
