@@ -1,5 +1,5 @@
 -- Sectors of one data block of a verity line of a configuration, read from its chain.
-use Rattle.std.proofs.Common.{◌≡◌, ℕ, ◌+◌, ◌*◌, ◌/◌, ◌%◌, ◌<◌, ◌≤◌, IsTrue, List, [], ◌∷◌, ◌++◌, length, get_or, Contains, take, drop, Option, Some, Result, Ok, Err, inl, refl, sym, ap, ◌∙◌, subst, arith}
+use Rattle.std.proofs.Common.{◌≡◌, ℕ, ◌+◌, ◌*◌, ◌/◌, ◌%◌, ◌<◌, ◌≤◌, IsTrue, List, [], ◌∷◌, ◌++◌, length, get_or, Contains, take, drop, Some, Ok, Err, inl, refl, sym, ap, ◌∙◌, subst, arith}
 use Rattle.std.specs.Prelude.{slice_get}
 use Rattle.std.proofs.lemmas.List.Elements.{Contains-push}
 use Rattle.std.proofs.lemmas.List.{get_or_default}
@@ -18,20 +18,23 @@ use Rattle.stack_rules.specs.Trees.{block_sectors}
 use Rattle.stack_config.proofs.lemmas.LoadedLineLemmas.{line-read-cost}
 use Rattle.stack_meaning.specs.declared.fault.IoFault.{IoFault}
 use Rattle.stack_meaning.specs.declared.fault.IoFault.TheVariants as io
-use Rattle.stack_lines.specs.declared.source.BlockPart.{BlockPart}
+use Rattle.stack_lines.specs.declared.source.VerityPart.{VerityPart}
 use Rattle.stack_lines.specs.declared.source.Source.TheVariants.{Block}
-use Rattle.stack_meaning.specs.Outcomes.{Images, mismatch}
+use Rattle.stack_meaning.specs.Outcomes.{Images}
 use Rattle.stack_meaning.specs.Found.{FoundRecord, Entry, found_entry}
-use Rattle.stack_meaning.specs.Meaning.{Said, line_said, said_by_name}
-use Rattle.stack_meaning.specs.Reading.{MeetVerity, IsPlain}
+use Rattle.stack_meaning.specs.Meaning.{said_by_name}
+use Rattle.stack_meaning.specs.Reading.{MeetVerity}
 use Rattle.stack_meaning.specs.Kept.{target_leaves, verity_block, LineKeeps, IsOfVerity, IsKept, AllKept}
 use Rattle.stack_meaning.specs.Leaves.{steady_images, AreSteady}
-use Rattle.stack_lines.specs.Sources.{LieInBlock, said_of_line, source_said, source_place, ReadsSource}
+use Rattle.stack_lines.specs.Caches.{StackCache}
+use Rattle.stack_lines.specs.Sources.{LieInBlock, source_said, source_place, ReadsSource}
 use Rattle.stack_lines.specs.Walks.{HasVerity, block_in, chain_expected, GetsChain}
 use Rattle.stack_meaning.proofs.lemmas.LeafListLemmas.{AreRead-none, AreRead-more, AreSteady-kept, AreSteady-within, images-kept}
 use Rattle.stack_lines.proofs.lemmas.TouchLemmas.{verity-leaves, verity-names}
+use Rattle.stack_lines.proofs.lemmas.VerityLineLemmas.{IsWholeSectors, data-whole, part-index}
 use Rattle.stack_meaning.proofs.lemmas.FoundLemmas.{Grown-none, kept-later}
 use Rattle.stack_meaning.proofs.lemmas.RunLemmas.{Passes, pass}
+use Rattle.stack_engine.specs.Premises.{CanRead}
 use Rattle.stack_engine.proofs.lemmas.BlockLemmas.{block_place, chain_fills, block_fails, length-content, AllKept-push, Grown-push}
 
 -- what was found for an entry of a verity line
@@ -60,73 +63,94 @@ kept_length c leaves d l i v found k x line kept h here =
 pub part-room : (v : Verity) (w sectors len : ℕ) → sectors ≡ block_sectors v → 512 * block_sectors v ≡ v.data_block → w % block_sectors v + len / 512 ≤ block_sectors v → len % 512 ≡ 0 → 512 * (w % sectors) + len ≤ v.data_block
 part-room v w sectors len is whole within even = let same : w % sectors ≡ w % block_sectors v = ap (λ (k : ℕ). w % k) is in omega (arith, same, whole, within, even)
 
-module _ (c : Configuration) (v : Verity) (p : BlockPart) (n : ℕ) (loaded : IsLoaded c) (line : HasVerity c p.device.0 p.line v) (some : 0 < n)
-    (within : p.first % block_sectors v + n ≤ block_sectors v) (whole : 512 * block_sectors v ≡ v.data_block) where
-  passes : Passes (block_place (block_in c v (p.first / block_sectors v)) (p.device.0, p.line) p.first (read_cost c (mapped p.device.0))) (source_place c (Block p)) 0 0 n
+-- what is known of sectors of one data block
+pub record BlockAt (c : Configuration) (p : VerityPart) (n : ℕ) : Type 0 where
+  pub loaded : IsLoaded c
+  pub line : HasVerity c p.device.0 p.line p.verity.now
+  pub some : 0 < n
+  pub within : p.first % block_sectors p.verity.now + n ≤ block_sectors p.verity.now
+  pub size : IsWholeSectors p.verity.now.data_block
+  pub there : p.first / block_sectors p.verity.now < p.verity.now.blocks
+
+pub block-at : {c : Configuration} {p : VerityPart} {leaves : List Device} {cache : StackCache} {found : List FoundRecord} {out : List ℕ} → CanRead c leaves cache found (Block p) out → BlockAt c p (length out / 512)
+block-at {c = c} {p = p} {out = out} can =
+    let loaded = can.stack.sound.loaded in
+    let lies : LieInBlock c p (length out / 512) = can.fits.holds in
+    let some : 0 < length out / 512 = omega (arith, can.fits.sectors.some, can.fits.sectors.whole) in
+    record {
+      loaded = loaded;
+      line = lies.of.is;
+      some = some;
+      within = lies.within;
+      size = data-whole c p.device.0 p.line p.verity.now loaded lies.of.is;
+      there = part-index c p (length out / 512) loaded lies some;
+    }
+
+module _ {c : Configuration} {p : VerityPart} {n : ℕ} (b : BlockAt c p n) where
+  passes : Passes (block_place (block_in c p.verity.now (p.first / block_sectors p.verity.now)) (p.device.0, p.line) p.first (read_cost c (mapped p.device.0))) (source_place c (Block p)) 0 0 n
   passes = record {
     said = λ j h.
-        sym (ap (λ (o : Option Line). said_of_line c p.device.0 p.line o (p.first + (0 + j))) line.is
-        ∙ ap (λ (t : Target). line_said (said_by_name c) p.device.0 p.line t (p.first + (0 + j))) line.has);
+        refl;
     cost = omega arith;
-    leaves = λ i is. verity-names c p.device.0 p.line 0 v loaded line i (subst IsTrue (sym (verity-leaves c v i)) is);
+    leaves = λ i is. verity-names c p.device.0 p.line 0 p.verity.now b.loaded b.line i (subst IsTrue (sym (verity-leaves c p.verity.now i)) is);
   }
 
-  block-cost : (chain_expected (block_in c v (p.first / block_sectors v))).cost ≤ read_cost c (mapped p.device.0)
-  block-cost = subst (λ (t : Target). line_read_cost (by_name c 0 (read_cost c)) t ≤ read_cost c (mapped p.device.0)) line.has (line-read-cost c p.device.0 p.line line.line loaded.valid line.is)
+  block-cost : (chain_expected (block_in c p.verity.now (p.first / block_sectors p.verity.now))).cost ≤ read_cost c (mapped p.device.0)
+  block-cost = subst (λ (t : Target). line_read_cost (by_name c 0 (read_cost c)) t ≤ read_cost c (mapped p.device.0)) b.line.has (line-read-cost c p.device.0 p.line b.line.line b.loaded.valid b.line.is)
 
   -- from a chain that is there
-  pub part_found : (leaves : List Device) (found : List FoundRecord) (x : FoundRecord) {bytes : List ℕ} → found_entry x ≡ (p.device.0, p.line, p.first / block_sectors v) → Contains found x → AllKept c leaves found
-      → bytes ≡ take (512 * n) (drop (512 * (p.first % block_sectors v)) x.chain.content)
+  pub part_found : (leaves : List Device) (found : List FoundRecord) (x : FoundRecord) {bytes : List ℕ} → found_entry x ≡ (p.device.0, p.line, p.first / block_sectors p.verity.now) → Contains found x → AllKept c leaves found
+      → bytes ≡ take (512 * n) (drop (512 * (p.first % block_sectors p.verity.now)) x.chain.content)
       → ReadsSource c (Block p) n (record { old = leaves; new = leaves; before = found; after = found }) (Ok bytes)
   part_found leaves found x here given kept is =
-      let one = kept_for c leaves p.device.0 p.line (p.first / block_sectors v) v x line here (kept_at c leaves found x kept given) in
-      let number : x.chain.index ≡ p.first / block_sectors v = ap (λ (e : Entry). e.2) here in
+      let one = kept_for c leaves p.device.0 p.line (p.first / block_sectors p.verity.now) p.verity.now x b.line here (kept_at c leaves found x kept given) in
+      let number : x.chain.index ≡ p.first / block_sectors p.verity.now = ap (λ (e : Entry). e.2) here in
       pass passes (record { old = leaves; new = leaves; before = found; after = found }) (Ok _) (record {
-        got = chain_fills (block_in c v (p.first / block_sectors v)) (p.device.0, p.line) p.first n (read_cost c (mapped p.device.0)) refl within whole found x (AreRead-none _ leaves)
-            (λ steady. ap (verity_block c (steady_images leaves) v) (sym number) ∙ one.exact (AreSteady-within leaves (λ i is. subst IsTrue (verity-leaves c v i) is) steady)) one.good here given is;
+        got = chain_fills (block_in c p.verity.now (p.first / block_sectors p.verity.now)) (p.device.0, p.line) p.first n (read_cost c (mapped p.device.0)) refl b.within b.size.whole found x (AreRead-none _ leaves)
+            (λ steady. ap (verity_block c (steady_images leaves) p.verity.now) (sym number) ∙ one.exact (AreSteady-within leaves (λ i is. subst IsTrue (verity-leaves c p.verity.now i) is) steady)) one.good here given is;
         grown = Grown-none _ 0 n found;
         kept = kept;
       })
 
   -- from a chain that was walked
   pub part_walked : {old new : List Device} (found : List FoundRecord) (chain : ChainRecord) {bytes : List ℕ} → AllKept c old found
-      → ((k : ℕ) → k < length found → (y : FoundRecord) → found_entry (get_or found k y) ≡ (p.device.0, p.line, p.first / block_sectors v) → ⊥)
-      → GetsChain (block_in c v (p.first / block_sectors v)) old new (Ok chain)
-      → bytes ≡ take (512 * n) (drop (512 * (p.first % block_sectors v)) chain.content)
+      → ((k : ℕ) → k < length found → (y : FoundRecord) → found_entry (get_or found k y) ≡ (p.device.0, p.line, p.first / block_sectors p.verity.now) → ⊥)
+      → GetsChain (block_in c p.verity.now (p.first / block_sectors p.verity.now)) old new (Ok chain)
+      → bytes ≡ take (512 * n) (drop (512 * (p.first % block_sectors p.verity.now)) chain.content)
       → ReadsSource c (Block p) n (record { old = old; new = new; before = found; after = found ++ (record { device = p.device.0; line = p.line; chain = chain } ∷ []) }) (Ok bytes)
   part_walked {old = old} {new = new} found chain kept none q is =
       let x : FoundRecord = record { device = p.device.0; line = p.line; chain = chain } in
-      let here : found_entry x ≡ (p.device.0, p.line, p.first / block_sectors v) = ap (λ (k : ℕ). (p.device.0, p.line, k)) q.may.0 in
-      let one : IsOfVerity (said_by_name c v.data) (said_by_name c v.hash) (target_leaves c (verity_target v)) new v chain = record {
+      let here : found_entry x ≡ (p.device.0, p.line, p.first / block_sectors p.verity.now) = ap (λ (k : ℕ). (p.device.0, p.line, k)) q.may.0 in
+      let one : IsOfVerity (said_by_name c p.verity.now.data) (said_by_name c p.verity.now.hash) (target_leaves c (verity_target p.verity.now)) new p.verity.now chain = record {
         good = q.may.1;
         exact = λ steady.
-            let before : AreSteady (chain_expected (block_in c v (p.first / block_sectors v))).leaves old =
-            AreSteady-kept new old (sym q.moved.moved.fixed) (AreSteady-within new (λ i is. subst IsTrue (sym (verity-leaves c v i)) is) steady) in
-            ap (verity_block c (steady_images new) v) q.may.0 ∙ ap (λ (m : Images). verity_block c m v (p.first / block_sectors v)) (images-kept q.moved) ∙ q.exact before;
+            let before : AreSteady (chain_expected (block_in c p.verity.now (p.first / block_sectors p.verity.now))).leaves old =
+            AreSteady-kept new old (sym q.moved.moved.fixed) (AreSteady-within new (λ i is. subst IsTrue (sym (verity-leaves c p.verity.now i)) is) steady) in
+            ap (verity_block c (steady_images new) p.verity.now) q.may.0 ∙ ap (λ (m : Images). verity_block c m p.verity.now (p.first / block_sectors p.verity.now)) (images-kept q.moved) ∙ q.exact before;
       } in
       pass passes (record { old = old; new = new; before = found; after = found ++ (x ∷ []) }) (Ok _) (record {
-        got = chain_fills (block_in c v (p.first / block_sectors v)) (p.device.0, p.line) p.first n (read_cost c (mapped p.device.0)) refl within whole (found ++ (x ∷ [])) x
-            (AreRead-more (let most = mul-le-mul_right (read_cost c (mapped p.device.0)) some in omega (arith, most, block-cost)) q.moved) q.exact q.may.1 here (Contains-push found x) is;
-        grown = Grown-push _ 0 n found x some (0, omega arith, (let e : p.first + 0 ≡ p.first = omega arith in ap (λ (k : ℕ). (p.device.0, p.line, k / block_sectors v)) e ∙ sym here)) (λ k h y same. none k h y (same ∙ here));
-        kept = AllKept-push c new found x (kept-later c found q.moved kept) (record { line = line.line; is = line.is; keeps = subst (λ (t : Target). LineKeeps c new t chain) (sym line.has) one });
+        got = chain_fills (block_in c p.verity.now (p.first / block_sectors p.verity.now)) (p.device.0, p.line) p.first n (read_cost c (mapped p.device.0)) refl b.within b.size.whole (found ++ (x ∷ [])) x
+            (AreRead-more (let most = mul-le-mul_right (read_cost c (mapped p.device.0)) b.some in omega (arith, most, block-cost)) q.moved) q.exact q.may.1 here (Contains-push found x) is;
+        grown = Grown-push _ 0 n found x b.some (0, omega arith, (let e : p.first + 0 ≡ p.first = omega arith in ap (λ (k : ℕ). (p.device.0, p.line, k / block_sectors p.verity.now)) e ∙ sym here)) (λ k h y same. none k h y (same ∙ here));
+        kept = AllKept-push c new found x (kept-later c found q.moved kept) (record { line = b.line.line; is = b.line.is; keeps = subst (λ (t : Target). LineKeeps c new t chain) (sym b.line.has) one });
       })
 
   -- a walk that ended by a fault
-  pub part_err : {old new : List Device} (found : List FoundRecord) (fault : IoFault) → AllKept c old found → GetsChain (block_in c v (p.first / block_sectors v)) old new (Err fault)
+  pub part_err : {old new : List Device} (found : List FoundRecord) (fault : IoFault) → AllKept c old found → GetsChain (block_in c p.verity.now (p.first / block_sectors p.verity.now)) old new (Err fault)
       → ReadsSource c (Block p) n (record { old = old; new = new; before = found; after = found }) (Err fault)
   part_err {old = old} {new = new} found fault kept q =
       pass passes (record { old = old; new = new; before = found; after = found }) (Err fault) (record {
-        got = block_fails (block_in c v (p.first / block_sectors v)) (p.device.0, p.line) p.first n (read_cost c (mapped p.device.0)) refl within whole found fault some block-cost q;
+        got = block_fails (block_in c p.verity.now (p.first / block_sectors p.verity.now)) (p.device.0, p.line) p.first n (read_cost c (mapped p.device.0)) refl b.within b.size.whole found fault b.some block-cost q;
         grown = Grown-none _ 0 n found;
         kept = kept-later c found q.moved kept;
       })
 
   -- no memory for the chain
-  pub part_full : {old new : List Device} (found : List FoundRecord) (chain : ChainRecord) → AllKept c old found → GetsChain (block_in c v (p.first / block_sectors v)) old new (Ok chain)
+  pub part_full : {old new : List Device} (found : List FoundRecord) (chain : ChainRecord) → AllKept c old found → GetsChain (block_in c p.verity.now (p.first / block_sectors p.verity.now)) old new (Ok chain)
       → ReadsSource c (Block p) n (record { old = old; new = new; before = found; after = found }) (Err io.NoMemory)
   part_full {old = old} {new = new} found chain kept q = record {
     got = record {
-      moved = AreRead-more (let most = mul-le-mul_right (read_cost c (mapped p.device.0)) some in omega (arith, most, block-cost)) q.moved;
+      moved = AreRead-more (let most = mul-le-mul_right (read_cost c (mapped p.device.0)) b.some in omega (arith, most, block-cost)) q.moved;
       may = tt;
       exact = λ steady. tt;
     };
@@ -135,10 +159,5 @@ module _ (c : Configuration) (v : Verity) (p : BlockPart) (n : ℕ) (loaded : Is
   }
 
 -- a verity line is on the way
-pub block_plain : (c : Configuration) (p : BlockPart) (n : ℕ) {old new : List Device} {result : Result Unit IoFault} → 0 < n → LieInBlock c p.device.0 p.line p.first n → IsPlain (source_said c (Block p)) 0 n old new result
-block_plain c p n some lies =
-    let same : source_said c (Block p) (0 + 0) ≡ line_said (said_by_name c) p.device.0 p.line (verity_target lies.verity) (p.first + (0 + 0)) =
-    ap (λ (o : Option Line). said_of_line c p.device.0 p.line o (p.first + (0 + 0))) lies.has.is
-    ∙ ap (λ (t : Target). line_said (said_by_name c) p.device.0 p.line t (p.first + (0 + 0))) lies.has.has in
-    let meets : MeetVerity (source_said c (Block p)) 0 n = (0, some, subst (λ (x : Said). x.meets mismatch) (sym same) (inl refl)) in
-    record { memory = λ is. meets; leaf = λ none. absurd (none meets); stops = λ none. absurd (none meets) }
+pub block-meets : (c : Configuration) (p : VerityPart) (n : ℕ) → 0 < n → MeetVerity (source_said c (Block p)) 0 n
+block-meets c p n some = (0, some, inl refl)

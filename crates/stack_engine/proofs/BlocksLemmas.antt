@@ -1,5 +1,5 @@
 -- Whole data blocks of a verity line of a configuration, which are read at once.
-use Rattle.std.proofs.Common.{◌≡◌, ℕ, zero, suc, ◌+◌, ◌*◌, ◌/◌, ◌%◌, ◌<◌, ◌≤◌, IsTrue, Bool, true, false, cond, List, [], ◌∷◌, ◌++◌, length, get_or, take, drop, Option, Some, Result, Ok, Err, inl, inr, refl, sym, ap, ◌∙◌, subst, arith}
+use Rattle.std.proofs.Common.{◌≡◌, ℕ, zero, suc, ◌+◌, ◌*◌, ◌/◌, ◌%◌, ◌<◌, ◌≤◌, IsTrue, Bool, true, false, cond, List, [], ◌∷◌, ◌++◌, length, get_or, take, drop, Some, Result, Ok, Err, inl, inr, refl, sym, ap, ◌∙◌, subst, arith}
 use Rattle.std.proofs.lemmas.Bool.{cases_lt}
 use Rattle.std.proofs.lemmas.List.{take_all, length-take-le, length-drop}
 use Rattle.std.proofs.lemmas.List.Elements.{All-cons, All-nil, All-append, Contains-push}
@@ -12,10 +12,8 @@ use Rattle.tree_shape.specs.Digests.{digest}
 use Rattle.tree_shape.specs.Shape.{levels}
 use Rattle.block_device.specs.Device.{Device}
 use Rattle.dm_table.specs.declared.verity.Verity.{Verity}
-use Rattle.dm_table.specs.declared.table.Line.{Line}
 use Rattle.dm_table.specs.declared.table.Target.{Target}
 use Rattle.dm_table.specs.declared.table.Target.TheVariants.{Verity as verity_target}
-use Rattle.stack_rules.specs.declared.lower.Lower.{Lower}
 use Rattle.stack_rules.specs.Records.{Configuration}
 use Rattle.stack_rules.specs.Names.{mapped, named, size as lower_size}
 use Rattle.stack_rules.specs.Descend.{by_name, read_cost, line_read_cost}
@@ -24,32 +22,33 @@ use Rattle.stack_rules.specs.Trees.{tree_of, block_sectors, zero_block}
 use Rattle.stack_config.proofs.lemmas.LoadedLineLemmas.{line-read-cost}
 use Rattle.stack_meaning.specs.declared.fault.IoFault.{IoFault}
 use Rattle.stack_meaning.specs.declared.fault.IoFault.TheVariants as io
-use Rattle.stack_lines.specs.declared.source.BlockPart.{BlockPart}
+use Rattle.stack_lines.specs.declared.source.VerityPart.{VerityPart}
 use Rattle.stack_lines.specs.declared.source.Source.TheVariants.{Blocks}
 use Rattle.stack_meaning.specs.Outcomes.{Images, Outcome, mismatch, span, then_outcome}
 use Rattle.stack_meaning.specs.Blocks.{hash_sectors, checked, is_ignored}
 use Rattle.stack_meaning.specs.Found.{FoundRecord, Entry, found_entry}
-use Rattle.stack_meaning.specs.Meaning.{Said, line_said, said_by_name}
+use Rattle.stack_meaning.specs.Meaning.{line_said, said_by_name}
 use Rattle.stack_meaning.specs.Places.{Place, place_of, run_expected, LeafRead}
-use Rattle.stack_meaning.specs.Reading.{Gets, Finds, MeetVerity, IsPlain}
+use Rattle.stack_meaning.specs.Reading.{Gets, Finds, MeetVerity}
 use Rattle.stack_meaning.specs.Kept.{target_leaves, verity_block, LineKeeps, IsOfVerity, AllKept}
 use Rattle.stack_meaning.specs.Leaves.{steady_images, AreSteady, AreRead}
 use Rattle.stack_lines.specs.AtOnce.{AreBefore, GoAtOnce, MeetNone}
-use Rattle.stack_lines.specs.Sources.{AreWholeBlocks, said_of_line, source_said, ReadsSource}
+use Rattle.stack_lines.specs.Caches.{StackCache}
+use Rattle.stack_lines.specs.Sources.{AreWholeBlocks, source_said, ReadsSource}
 use Rattle.stack_lines.proofs.lemmas.TouchLemmas.{verity-leaves, verity-names}
 use Rattle.stack_lines.specs.Touches.{leaves_of}
 use Rattle.stack_lines.specs.Walks.{HasVerity, block_in, checked_expected, chain_expected, GetsChain, IsWalked}
 use Rattle.stack_meaning.proofs.lemmas.LeafListLemmas.{AreRead-none, AreRead-more, AreSteady-kept, AreSteady-within, images-kept, failed_later}
-use Rattle.stack_meaning.proofs.lemmas.FoundLemmas.{IsMono, Grown-none, kept-later}
+use Rattle.stack_meaning.proofs.lemmas.FoundLemmas.{Grown-none, kept-later}
 use Rattle.stack_meaning.proofs.lemmas.RunLemmas.{Passes, pass, AllMono, run_ok, run_err}
-use Rattle.stack_lines.proofs.lemmas.VerityLineLemmas.{IsWholeSectors, same-verity, data-whole, place-named}
-use Rattle.stack_lines.proofs.lemmas.ReadRunLemmas.{blocks-aligned, blocks-whole, blocks-inside, blocks-below}
+use Rattle.stack_lines.proofs.lemmas.VerityLineLemmas.{IsWholeSectors, data-whole, blocks-below}
 use Rattle.stack_engine.proofs.lemmas.WalkLemmas.{checked-same, data_zeros, data_read, walk_ends, walk_fails}
 use Rattle.stack_engine.proofs.lemmas.BlockLemmas.{block_place, chain_fills, block_fails, AllKept-push, Grown-push}
+use Rattle.stack_engine.specs.Premises.{CanRead}
 use Rattle.stack_engine.proofs.PathLemmas.{checked-at}
 
 -- n sectors of a part, where so much is read for each as for all together at most
-abbrev pub blocks_place : Configuration → BlockPart → ℕ → Place
+abbrev pub blocks_place : Configuration → VerityPart → ℕ → Place
 blocks_place c p n = record { said = source_said c (Blocks p); cost = n * read_cost c (mapped p.device.0); leaves = leaves_of c (mapped p.device.0) }
 
 -- what the way to a block costs
@@ -74,121 +73,174 @@ same-images {old = old} {a = a} {b = b} x y {these = these} steady =
     (AreSteady-kept old a x.moved.fixed before, images-kept y ∙ sym (images-kept x))
 
 -- data block k of a part was read from the device beneath, since when no image changed, and its digest was made
-pub record IsRead (c : Configuration) (v : Verity) (p : BlockPart) (lower : Lower) (old : List Device) (k : ℕ) (block made : List ℕ) : Type 0 where
+pub record IsRead (c : Configuration) (p : VerityPart) (old : List Device) (k : ℕ) (block made : List ℕ) : Type 0 where
   pub from : List Device
   pub ways : ℕ
   pub first : AreRead old ways from
-  pub means : AreSteady (leaves_of c lower) from → span (λ s. ((place_of c lower).said s).means (steady_images from)) (p.first + k * block_sectors v) (block_sectors v) ≡ Ok block
-  pub made_is : made ≡ digest v.salt block
+  pub means : AreSteady (leaves_of c p.data) from → span (λ s. ((place_of c p.data).said s).means (steady_images from)) (p.first + k * block_sectors p.verity.now) (block_sectors p.verity.now) ≡ Ok block
+  pub made_is : made ≡ digest p.verity.now.salt block
 
-module _ (c : Configuration) (v : Verity) (p : BlockPart) (n m : ℕ) (loaded : IsLoaded c) (line : HasVerity c p.device.0 p.line v) (aligned : p.first % block_sectors v ≡ 0) (size : IsWholeSectors v.data_block) (count : m * block_sectors v ≡ n) where
+-- what is known of whole data blocks that are read at once
+pub record BlocksAt (c : Configuration) (p : VerityPart) (n : ℕ) (found : List FoundRecord) : Type 0 where
+  pub loaded : IsLoaded c
+  pub line : HasVerity c p.device.0 p.line p.verity.now
+  pub is : named c p.verity.now.data ≡ Some p.data
+  pub aligned : p.first % block_sectors p.verity.now ≡ 0
+  pub size : IsWholeSectors p.verity.now.data_block
+  pub count : n / block_sectors p.verity.now * block_sectors p.verity.now ≡ n
+  pub some : 0 < n / block_sectors p.verity.now
+  pub few : n ≤ 128
+  pub clear : MeetNone (place_of c p.data).said p.first n
+  pub before : AreBefore p.device.0 p.line (p.first / block_sectors p.verity.now) found
+  pub below : p.first + n ≤ lower_size c p.data
+  pub there : (j : ℕ) → j < n / block_sectors p.verity.now → p.first / block_sectors p.verity.now + j < p.verity.now.blocks
+
+pub blocks-at : {c : Configuration} {p : VerityPart} {leaves : List Device} {cache : StackCache} {found : List FoundRecord} {out : List ℕ} → CanRead c leaves cache found (Blocks p) out → BlocksAt c p (length out / 512) found
+blocks-at {c = c} {p = p} {found = found} {out = out} can =
+    let n : ℕ = length out / 512 in
+    let v : Verity = p.verity.now in
+    let loaded = can.stack.sound.loaded in
+    let blocks : AreWholeBlocks c p n = can.fits.holds in
+    let go : GoAtOnce c p n found = can.can_go in
+    let some : 0 < n = omega (arith, can.fits.sectors.some, can.fits.sectors.whole) in
+    let size = data-whole c p.device.0 p.line v loaded blocks.of.is in
+    let count : n / block_sectors v * block_sectors v ≡ n = omega (arith, div-add-mod' n (block_sectors v), blocks.whole) in
+    record {
+      loaded = loaded;
+      line = blocks.of.is;
+      is = blocks.of.on_data;
+      aligned = blocks.aligned;
+      size = size;
+      count = count;
+      some = quotient-some (n / block_sectors v) (block_sectors v) n count some;
+      few = go.few;
+      clear = go.clear;
+      before = go.before;
+      below = blocks-below c p n loaded blocks;
+      there = λ j inside.
+          let all : p.first / block_sectors v * block_sectors v ≡ p.first = omega (arith, div-add-mod' p.first (block_sectors v), blocks.aligned) in
+          let next : (j + 1) * block_sectors v ≤ n / block_sectors v * block_sectors v = mul-le-mul_right (block_sectors v) (omega (arith, inside)) in
+          let fits : (p.first / block_sectors v + j + 1) * block_sectors v ≤ v.blocks * block_sectors v = omega (arith, blocks.inside, all, next, count, add-mul (p.first / block_sectors v) (j + 1) (block_sectors v)) in
+          no-more (p.first / block_sectors v + j) v.blocks (block_sectors v) size.some fits;
+    }
+  where
+    quotient-some : (q u n : ℕ) → q * u ≡ n → 0 < n → 0 < q
+    quotient-some zero u n e some = let none : 0 * u ≡ 0 = omega arith in absurd (omega (arith, e, some, none))
+    quotient-some (suc q) u n e some = omega arith
+
+    no-more : (a b u : ℕ) → 1 ≤ u → (a + 1) * u ≤ b * u → a < b
+    no-more a b u some fits = elim (cases_lt a b) [
+      | inl low ↦ low
+      | inr high ↦ let more : (b + 1) * u ≤ (a + 1) * u = mul-le-mul_right u (omega (arith, high)) in absurd (omega (arith, more, fits, some, add-mul b 1 u))
+    ]
+
+module _ {c : Configuration} {p : VerityPart} {n : ℕ} {found : List FoundRecord} (b : BlocksAt c p n found) where
+  abbrev m : ℕ
+  m = n / block_sectors p.verity.now
+
   abbrev pub index : ℕ
-  index = p.first / block_sectors v
+  index = p.first / block_sectors p.verity.now
 
-  start : index * block_sectors v ≡ p.first
-  start = omega (arith, div-add-mod' p.first (block_sectors v), aligned)
+  start : index * block_sectors p.verity.now ≡ p.first
+  start = omega (arith, div-add-mod' p.first (block_sectors p.verity.now), b.aligned)
 
   -- block j begins where it does
-  at-index : (j : ℕ) → (p.first + j * block_sectors v) / block_sectors v ≡ index + j
+  at-index : (j : ℕ) → (p.first + j * block_sectors p.verity.now) / block_sectors p.verity.now ≡ index + j
   at-index j =
-      let e : p.first + j * block_sectors v ≡ (index + j) * block_sectors v + 0 = omega (arith, start, add-mul index j (block_sectors v)) in
-      ap (λ (k : ℕ). k / block_sectors v) e ∙ div-mul-add (index + j) (block_sectors v) 0 (omega (arith, size.some))
+      let e : p.first + j * block_sectors p.verity.now ≡ (index + j) * block_sectors p.verity.now + 0 = omega (arith, start, add-mul index j (block_sectors p.verity.now)) in
+      ap (λ (k : ℕ). k / block_sectors p.verity.now) e ∙ div-mul-add (index + j) (block_sectors p.verity.now) 0 (omega (arith, b.size.some))
 
-  at-begin : (j : ℕ) → (p.first + j * block_sectors v) % block_sectors v ≡ 0
+  at-begin : (j : ℕ) → (p.first + j * block_sectors p.verity.now) % block_sectors p.verity.now ≡ 0
   at-begin j =
-      let e : p.first + j * block_sectors v ≡ (index + j) * block_sectors v + 0 = omega (arith, start, add-mul index j (block_sectors v)) in
-      ap (λ (k : ℕ). k % block_sectors v) e ∙ mod-mul-add (index + j) (block_sectors v) 0 (omega (arith, size.some))
+      let e : p.first + j * block_sectors p.verity.now ≡ (index + j) * block_sectors p.verity.now + 0 = omega (arith, start, add-mul index j (block_sectors p.verity.now)) in
+      ap (λ (k : ℕ). k % block_sectors p.verity.now) e ∙ mod-mul-add (index + j) (block_sectors p.verity.now) 0 (omega (arith, b.size.some))
 
-  passes : (j k : ℕ) → Passes (block_place (block_in c v (index + j)) (p.device.0, p.line) (p.first + j * block_sectors v) k) (record { said = source_said c (Blocks p); cost = k; leaves = leaves_of c (mapped p.device.0) }) 0 (0 + j * block_sectors v) (block_sectors v)
+  passes : (j k : ℕ) → Passes (block_place (block_in c p.verity.now (index + j)) (p.device.0, p.line) (p.first + j * block_sectors p.verity.now) k) (record { said = source_said c (Blocks p); cost = k; leaves = leaves_of c (mapped p.device.0) }) 0 (0 + j * block_sectors p.verity.now) (block_sectors p.verity.now)
   passes j k = record {
     said = λ t h.
-        let e : p.first + (0 + j * block_sectors v + t) ≡ p.first + j * block_sectors v + (0 + t) = omega arith in
-        sym (ap (λ (o : Option Line). said_of_line c p.device.0 p.line o (p.first + (0 + j * block_sectors v + t))) line.is
-        ∙ ap (λ (u : Target). line_said (said_by_name c) p.device.0 p.line u (p.first + (0 + j * block_sectors v + t))) line.has
-        ∙ ap (λ (s : ℕ). line_said (said_by_name c) p.device.0 p.line (verity_target v) s) e);
+        let e : p.first + (0 + j * block_sectors p.verity.now + t) ≡ p.first + j * block_sectors p.verity.now + (0 + t) = omega arith in
+        sym (ap (λ (s : ℕ). line_said (said_by_name c) p.device.0 p.line (verity_target p.verity.now) s) e);
     cost = omega arith;
-    leaves = λ i is. verity-names c p.device.0 p.line 0 v loaded line i (subst IsTrue (sym (verity-leaves c v i)) is);
+    leaves = λ i is. verity-names c p.device.0 p.line 0 p.verity.now b.loaded b.line i (subst IsTrue (sym (verity-leaves c p.verity.now i)) is);
   }
 
   -- ---- a block that was read with others
 
-  fits : (j : ℕ) → j < m → j * block_sectors v + block_sectors v ≤ n
+  fits : (j : ℕ) → j < m → j * block_sectors p.verity.now + block_sectors p.verity.now ≤ n
   fits j inside =
-      let below : (j + 1) * block_sectors v ≤ m * block_sectors v = mul-le-mul_right (block_sectors v) (omega (arith, inside)) in
-      omega (arith, below, count, add-mul j 1 (block_sectors v))
+      let below : (j + 1) * block_sectors p.verity.now ≤ m * block_sectors p.verity.now = mul-le-mul_right (block_sectors p.verity.now) (omega (arith, inside)) in
+      omega (arith, below, b.count, add-mul j 1 (block_sectors p.verity.now))
 
-  pub block-length : (j : ℕ) (bytes : List ℕ) → j < m → length bytes ≡ 512 * n → length (take (512 * block_sectors v) (drop (512 * (j * block_sectors v)) bytes)) ≡ 512 * block_sectors v
-  block-length j bytes inside len = length-take-le (512 * block_sectors v) (drop (512 * (j * block_sectors v)) bytes) (omega (arith, fits j inside, len, length-drop (512 * (j * block_sectors v)) bytes))
+  pub block-length : (j : ℕ) (bytes : List ℕ) → j < m → length bytes ≡ 512 * n → length (take (512 * block_sectors p.verity.now) (drop (512 * (j * block_sectors p.verity.now)) bytes)) ≡ 512 * block_sectors p.verity.now
+  block-length j bytes inside len = length-take-le (512 * block_sectors p.verity.now) (drop (512 * (j * block_sectors p.verity.now)) bytes) (omega (arith, fits j inside, len, length-drop (512 * (j * block_sectors p.verity.now)) bytes))
 
-  module _ (lower : Lower) (is : named c v.data ≡ Some lower) (j : ℕ) {old mid now : List Device} {r : ℕ} (later : AreRead old r now) {expected : List ℕ} {path : List (List ℕ)} (walked : IsWalked (block_in c v (index + j)) 0 expected path mid now)
+  module _ (j : ℕ) {old mid now : List Device} {r : ℕ} (later : AreRead old r now) {expected : List ℕ} {path : List (List ℕ)} (walked : IsWalked (block_in c p.verity.now (index + j)) 0 expected path mid now)
       (block made : List ℕ) where
-    here : IsRead c v p lower old j block made → AreSteady (leaves_of c lower) now → span (λ s. ((place_of c lower).said s).means (steady_images now)) (p.first + j * block_sectors v) (block_sectors v) ≡ Ok block
+    here : IsRead c p old j block made → AreSteady (leaves_of c p.data) now → span (λ s. ((place_of c p.data).said s).means (steady_images now)) (p.first + j * block_sectors p.verity.now) (block_sectors p.verity.now) ≡ Ok block
     here was steady =
         let same = same-images was.first later steady in
-        ap (λ (i : Images). span (λ s. ((place_of c lower).said s).means i) (p.first + j * block_sectors v) (block_sectors v)) same.1 ∙ was.means same.0
+        ap (λ (i : Images). span (λ s. ((place_of c p.data).said s).means i) (p.first + j * block_sectors p.verity.now) (block_sectors p.verity.now)) same.1 ∙ was.means same.0
 
-    at-place : (result : Result (List ℕ) IoFault) → Gets (checked_expected (λ (x : List ℕ). x) (place_of c lower) (p.first + j * block_sectors v) (block_sectors v) v.salt expected) now now result
-        → Gets (checked_expected (λ (x : List ℕ). x) (block_in c v (index + j)).on_data (block_sectors v * (index + j)) (block_sectors v) v.salt expected) now now result
+    at-place : (result : Result (List ℕ) IoFault) → Gets (checked_expected (λ (x : List ℕ). x) (place_of c p.data) (p.first + j * block_sectors p.verity.now) (block_sectors p.verity.now) p.verity.now.salt expected) now now result
+        → Gets (checked_expected (λ (x : List ℕ). x) (block_in c p.verity.now (index + j)).on_data (block_sectors p.verity.now * (index + j)) (block_sectors p.verity.now) p.verity.now.salt expected) now now result
     at-place result one =
-        let e : p.first + j * block_sectors v ≡ block_sectors v * (index + j) = omega (arith, start, add-mul index j (block_sectors v), mul_comm (block_sectors v) (index + j)) in
-        checked-at c v.data lower (block_sectors v * (index + j)) (block_sectors v) v.salt expected result (record { lower = lower; first = block_sectors v * (index + j); sectors = block_sectors v }) is refl
-        (subst (λ (k : ℕ). Gets (checked_expected (λ (x : List ℕ). x) (place_of c lower) k (block_sectors v) v.salt expected) now now result) e one)
+        let e : p.first + j * block_sectors p.verity.now ≡ block_sectors p.verity.now * (index + j) = omega (arith, start, add-mul index j (block_sectors p.verity.now), mul_comm (block_sectors p.verity.now) (index + j)) in
+        checked-at c p.verity.now.data p.data (block_sectors p.verity.now * (index + j)) (block_sectors p.verity.now) p.verity.now.salt expected result (record { lower = p.data; first = block_sectors p.verity.now * (index + j); sectors = block_sectors p.verity.now }) b.is refl
+        (subst (λ (k : ℕ). Gets (checked_expected (λ (x : List ℕ). x) (place_of c p.data) k (block_sectors p.verity.now) p.verity.now.salt expected) now now result) e one)
 
     -- it has the digest
-    pub block-had : is_ignored v expected ≡ false → IsRead c v p lower old j block made → length block ≡ 512 * block_sectors v → index + j < v.blocks → made ≡ expected
-        → GetsChain (block_in c v (index + j)) mid now (Ok (record { index = index + j; content = block; path = path }))
+    pub block-had : is_ignored p.verity.now expected ≡ false → IsRead c p old j block made → length block ≡ 512 * block_sectors p.verity.now → index + j < p.verity.now.blocks → made ≡ expected
+        → GetsChain (block_in c p.verity.now (index + j)) mid now (Ok (record { index = index + j; content = block; path = path }))
     block-had taken was len there same =
-        let good : digest v.salt block ≡ expected = sym was.made_is ∙ same in
-        walk_ends (λ (x : List ℕ). x) (block_in c v (index + j)) size.whole walked block there
-        (data_read (λ (x : List ℕ). x) (block_in c v (index + j)) expected (Ok block) taken
+        let good : digest p.verity.now.salt block ≡ expected = sym was.made_is ∙ same in
+        walk_ends (λ (x : List ℕ). x) (block_in c p.verity.now (index + j)) b.size.whole walked block there
+        (data_read (λ (x : List ℕ). x) (block_in c p.verity.now (index + j)) expected (Ok block) taken
         (at-place (Ok block) (record {
           moved = AreRead-none _ now;
           may = (len, good);
-          exact = λ steady. ap (λ (s : Outcome). then_outcome s (checked v.salt expected)) (here was steady) ∙ checked-same v.salt expected block good;
+          exact = λ steady. ap (λ (s : Outcome). then_outcome s (checked p.verity.now.salt expected)) (here was steady) ∙ checked-same p.verity.now.salt expected block good;
         })))
 
     -- it is ignored
-    pub block-zeros : is_ignored v expected ≡ true → block ≡ zero_block v → index + j < v.blocks → GetsChain (block_in c v (index + j)) mid now (Ok (record { index = index + j; content = block; path = path }))
+    pub block-zeros : is_ignored p.verity.now expected ≡ true → block ≡ zero_block p.verity.now → index + j < p.verity.now.blocks → GetsChain (block_in c p.verity.now (index + j)) mid now (Ok (record { index = index + j; content = block; path = path }))
     block-zeros ignored zeros there =
-        walk_ends (λ (x : List ℕ). x) (block_in c v (index + j)) size.whole walked block there
-        (data_zeros (λ (x : List ℕ). x) (block_in c v (index + j)) expected now block size.whole ignored zeros)
+        walk_ends (λ (x : List ℕ). x) (block_in c p.verity.now (index + j)) b.size.whole walked block there
+        (data_zeros (λ (x : List ℕ). x) (block_in c p.verity.now (index + j)) expected now block b.size.whole ignored zeros)
 
     -- it has another one
-    pub block-other : is_ignored v expected ≡ false → IsRead c v p lower old j block made → (made ≡ expected → ⊥) → GetsChain (block_in c v (index + j)) mid now (Err (io.Stack mismatch))
+    pub block-other : is_ignored p.verity.now expected ≡ false → IsRead c p old j block made → (made ≡ expected → ⊥) → GetsChain (block_in c p.verity.now (index + j)) mid now (Err (io.Stack mismatch))
     block-other taken was different =
-        let other : digest v.salt block ≡ expected → ⊥ = λ good. different (was.made_is ∙ good) in
-        walk_fails (λ (x : List ℕ). x) (block_in c v (index + j)) size.whole walked (io.Stack mismatch)
-        (data_read (λ (x : List ℕ). x) (block_in c v (index + j)) expected (Err (io.Stack mismatch)) taken
+        let other : digest p.verity.now.salt block ≡ expected → ⊥ = λ good. different (was.made_is ∙ good) in
+        walk_fails (λ (x : List ℕ). x) (block_in c p.verity.now (index + j)) b.size.whole walked (io.Stack mismatch)
+        (data_read (λ (x : List ℕ). x) (block_in c p.verity.now (index + j)) expected (Err (io.Stack mismatch)) taken
         (at-place (Err (io.Stack mismatch)) (record {
           moved = AreRead-none _ now;
           may = inl refl;
-          exact = λ steady. ap (λ (s : Outcome). then_outcome s (checked v.salt expected)) (here was steady) ∙ checked-other v.salt expected block other;
+          exact = λ steady. ap (λ (s : Outcome). then_outcome s (checked p.verity.now.salt expected)) (here was steady) ∙ checked-other p.verity.now.salt expected block other;
         })))
 
   -- ---- the read goes on
 
   mono : AllMono (blocks_place c p n)
-  mono s =
-      subst IsMono (sym (ap (λ (o : Option Line). said_of_line c p.device.0 p.line o (p.first + s)) line.is ∙ ap (λ (u : Target). line_said (said_by_name c) p.device.0 p.line u (p.first + s)) line.has))
-      (λ u w more b h. (h.0, record { given = more h.0 h.1.given; at = h.1.at; good = h.1.good }, h.2))
+  mono s = λ u w more b h. (h.0, record { given = more h.0 h.1.given; at = h.1.at; good = h.1.good }, h.2)
 
   -- ---- costs
 
-  chain-cost : (i : ℕ) → (chain_expected (block_in c v i)).cost ≤ read_cost c (mapped p.device.0)
-  chain-cost i = subst (λ (t : Target). line_read_cost (by_name c 0 (read_cost c)) t ≤ read_cost c (mapped p.device.0)) line.has (line-read-cost c p.device.0 p.line line.line loaded.valid line.is)
+  chain-cost : (i : ℕ) → (chain_expected (block_in c p.verity.now i)).cost ≤ read_cost c (mapped p.device.0)
+  chain-cost i = subst (λ (t : Target). line_read_cost (by_name c 0 (read_cost c)) t ≤ read_cost c (mapped p.device.0)) b.line.has (line-read-cost c p.device.0 p.line b.line.line b.loaded.valid b.line.is)
 
-  pub total-cost : (r j : ℕ) → r ≤ m → j ≤ m → read_cost_so_far c v (r * block_sectors v) j ≤ n * read_cost c (mapped p.device.0)
+  pub total-cost : (r j : ℕ) → r ≤ m → j ≤ m → read_cost_so_far c p.verity.now (r * block_sectors p.verity.now) j ≤ n * read_cost c (mapped p.device.0)
   total-cost r j read most =
-      let dc : ℕ = (block_in c v 0).on_data.cost in
-      let path : ℕ = path_cost c v in
-      let one : block_sectors v * dc + path ≤ read_cost c (mapped p.device.0) = omega (arith, chain-cost 0, mul_assoc (levels (tree_of v)) (hash_sectors v) (block_in c v 0).on_hash.cost) in
-      let all : n * (block_sectors v * dc + path) ≤ n * read_cost c (mapped p.device.0) = mul-le-mul_left n one in
-      let once : 1 * dc ≤ block_sectors v * dc = mul-le-mul_right dc size.some in
-      let blocks_cost : n * dc ≤ n * (block_sectors v * dc) = mul-le-mul_left n (omega (arith, once)) in
-      let few : r * block_sectors v ≤ m * block_sectors v = mul-le-mul_right (block_sectors v) read in
-      let read_cost : r * block_sectors v * dc ≤ n * dc = mul-le-mul_right dc (omega (arith, few, count)) in
-      let each : m * 1 ≤ m * block_sectors v = mul-le-mul_left m size.some in
-      let ways : j * path ≤ n * path = mul-le-mul_right path (omega (arith, most, each, count)) in
+      let dc : ℕ = (block_in c p.verity.now 0).on_data.cost in
+      let path : ℕ = path_cost c p.verity.now in
+      let one : block_sectors p.verity.now * dc + path ≤ read_cost c (mapped p.device.0) = omega (arith, chain-cost 0, mul_assoc (levels (tree_of p.verity.now)) (hash_sectors p.verity.now) (block_in c p.verity.now 0).on_hash.cost) in
+      let all : n * (block_sectors p.verity.now * dc + path) ≤ n * read_cost c (mapped p.device.0) = mul-le-mul_left n one in
+      let once : 1 * dc ≤ block_sectors p.verity.now * dc = mul-le-mul_right dc b.size.some in
+      let blocks_cost : n * dc ≤ n * (block_sectors p.verity.now * dc) = mul-le-mul_left n (omega (arith, once)) in
+      let few : r * block_sectors p.verity.now ≤ m * block_sectors p.verity.now = mul-le-mul_right (block_sectors p.verity.now) read in
+      let read_cost : r * block_sectors p.verity.now * dc ≤ n * dc = mul-le-mul_right dc (omega (arith, few, b.count)) in
+      let each : m * 1 ≤ m * block_sectors p.verity.now = mul-le-mul_left m b.size.some in
+      let ways : j * path ≤ n * path = mul-le-mul_right path (omega (arith, most, each, b.count)) in
       omega (arith, all, blocks_cost, read_cost, ways)
 
   -- ---- the read goes on
@@ -205,9 +257,9 @@ module _ (c : Configuration) (v : Verity) (p : BlockPart) (n m : ℕ) (loaded : 
       All-append Before now _ (λ k d below e f. let low = before k d below e f in omega (arith, low)) (All-cons Before _ [] (λ e f. omega arith) (All-nil Before))
 
   -- none of them yet
-  pub none-read : {old : List Device} (w : List FoundRecord) → AllKept c old w → Finds (blocks_place c p n) c 0 (0 * block_sectors v) (record { old = old; new = old; before = w; after = w }) (Ok [])
+  pub none-read : {old : List Device} (w : List FoundRecord) → AllKept c old w → Finds (blocks_place c p n) c 0 (0 * block_sectors p.verity.now) (record { old = old; new = old; before = w; after = w }) (Ok [])
   none-read {old = old} w kept =
-      let zero_is : 0 ≡ 0 * block_sectors v = omega arith in
+      let zero_is : 0 ≡ 0 * block_sectors p.verity.now = omega arith in
       subst (λ (k : ℕ). Finds (blocks_place c p n) c 0 k (record { old = old; new = old; before = w; after = w }) (Ok [])) zero_is (record {
         got = record {
           moved = AreRead-none _ old;
@@ -218,67 +270,67 @@ module _ (c : Configuration) (v : Verity) (p : BlockPart) (n m : ℕ) (loaded : 
         kept = kept;
       })
 
-  module _ {old mid new : List Device} {u w : List FoundRecord} {k : ℕ} {x : List ℕ} (j : ℕ) (inside : j < m) (so_far : Finds (blocks_place c p n) c 0 (j * block_sectors v) (record { old = old; new = mid; before = u; after = w }) (Ok x))
+  module _ {old mid new : List Device} {u w : List FoundRecord} {k : ℕ} {x : List ℕ} (j : ℕ) (inside : j < m) (so_far : Finds (blocks_place c p n) c 0 (j * block_sectors p.verity.now) (record { old = old; new = mid; before = u; after = w }) (Ok x))
       (moved : AreRead mid k new) (few : k ≤ n * read_cost c (mapped p.device.0)) where
-    step-cost : k ≤ block_sectors v * (n * read_cost c (mapped p.device.0))
-    step-cost = let once : 1 * (n * read_cost c (mapped p.device.0)) ≤ block_sectors v * (n * read_cost c (mapped p.device.0)) = mul-le-mul_right (n * read_cost c (mapped p.device.0)) size.some in omega (arith, once, few)
+    step-cost : k ≤ block_sectors p.verity.now * (n * read_cost c (mapped p.device.0))
+    step-cost = let once : 1 * (n * read_cost c (mapped p.device.0)) ≤ block_sectors p.verity.now * (n * read_cost c (mapped p.device.0)) = mul-le-mul_right (n * read_cost c (mapped p.device.0)) b.size.some in omega (arith, once, few)
 
-    within : (p.first + j * block_sectors v) % block_sectors v + block_sectors v ≤ block_sectors v
+    within : (p.first + j * block_sectors p.verity.now) % block_sectors p.verity.now + block_sectors p.verity.now ≤ block_sectors p.verity.now
     within = omega (arith, at-begin j)
 
     -- by one block
-    pub blocks-more : (content : List ℕ) (path : List (List ℕ)) {now : List Device} → length content ≡ 512 * block_sectors v → AreBefore p.device.0 p.line (index + j) w
-        → GetsChain (block_in c v (index + j)) mid now (Ok (record { index = index + j; content = content; path = path }))
-        → Finds (blocks_place c p n) c 0 (j * block_sectors v + block_sectors v)
+    pub blocks-more : (content : List ℕ) (path : List (List ℕ)) {now : List Device} → length content ≡ 512 * block_sectors p.verity.now → AreBefore p.device.0 p.line (index + j) w
+        → GetsChain (block_in c p.verity.now (index + j)) mid now (Ok (record { index = index + j; content = content; path = path }))
+        → Finds (blocks_place c p n) c 0 (j * block_sectors p.verity.now + block_sectors p.verity.now)
         (record { old = old; new = new; before = u; after = w ++ (record { device = p.device.0; line = p.line; chain = record { index = index + j; content = content; path = path } } ∷ []) }) (Ok (x ++ content))
     blocks-more content path len before got =
         let chain : ChainRecord = record { index = index + j; content = content; path = path } in
         let one : FoundRecord = record { device = p.device.0; line = p.line; chain = chain } in
-        let whole : IsOfVerity (said_by_name c v.data) (said_by_name c v.hash) (target_leaves c (verity_target v)) new v chain = record {
+        let whole : IsOfVerity (said_by_name c p.verity.now.data) (said_by_name c p.verity.now.hash) (target_leaves c (verity_target p.verity.now)) new p.verity.now chain = record {
           good = got.may.1;
           exact = λ steady.
-              let before : AreSteady (chain_expected (block_in c v (index + j))).leaves mid =
-              AreSteady-kept new mid (sym moved.moved.fixed) (AreSteady-within new (λ i is. subst IsTrue (sym (verity-leaves c v i)) is) steady) in
-              ap (λ (i : Images). verity_block c i v (index + j)) (images-kept moved) ∙ got.exact before;
+              let before : AreSteady (chain_expected (block_in c p.verity.now (index + j))).leaves mid =
+              AreSteady-kept new mid (sym moved.moved.fixed) (AreSteady-within new (λ i is. subst IsTrue (sym (verity-leaves c p.verity.now i)) is) steady) in
+              ap (λ (i : Images). verity_block c i p.verity.now (index + j)) (images-kept moved) ∙ got.exact before;
         } in
-        let is : content ≡ take (512 * block_sectors v) (drop (512 * ((p.first + j * block_sectors v) % block_sectors v)) content) =
-        sym (ap (λ (r : ℕ). take (512 * block_sectors v) (drop (512 * r) content)) (at-begin j) ∙ take_all (512 * block_sectors v) content (omega (arith, len))) in
-        run_ok (blocks_place c p n) c mono 0 (j * block_sectors v) (block_sectors v) so_far
+        let is : content ≡ take (512 * block_sectors p.verity.now) (drop (512 * ((p.first + j * block_sectors p.verity.now) % block_sectors p.verity.now)) content) =
+        sym (ap (λ (r : ℕ). take (512 * block_sectors p.verity.now) (drop (512 * r) content)) (at-begin j) ∙ take_all (512 * block_sectors p.verity.now) content (omega (arith, len))) in
+        run_ok (blocks_place c p n) c mono 0 (j * block_sectors p.verity.now) (block_sectors p.verity.now) so_far
         (pass (passes j (n * read_cost c (mapped p.device.0))) (record { old = mid; new = new; before = w; after = w ++ (one ∷ []) }) (Ok content) (record {
-          got = chain_fills (block_in c v (index + j)) (p.device.0, p.line) (p.first + j * block_sectors v) (block_sectors v) (n * read_cost c (mapped p.device.0)) (sym (at-index j)) within size.whole (w ++ (one ∷ [])) one
+          got = chain_fills (block_in c p.verity.now (index + j)) (p.device.0, p.line) (p.first + j * block_sectors p.verity.now) (block_sectors p.verity.now) (n * read_cost c (mapped p.device.0)) (sym (at-index j)) within b.size.whole (w ++ (one ∷ [])) one
               (AreRead-more step-cost moved) got.exact got.may.1 refl (Contains-push w one) is;
-          grown = Grown-push _ 0 (block_sectors v) w one size.some
-              (0, omega arith, (let e : p.first + j * block_sectors v + 0 ≡ p.first + j * block_sectors v = omega arith in ap (λ (s : ℕ). (p.device.0, p.line, s / block_sectors v)) e ∙ ap (λ (i : ℕ). (p.device.0, p.line, i)) (at-index j)))
+          grown = Grown-push _ 0 (block_sectors p.verity.now) w one b.size.some
+              (0, omega arith, (let e : p.first + j * block_sectors p.verity.now + 0 ≡ p.first + j * block_sectors p.verity.now = omega arith in ap (λ (s : ℕ). (p.device.0, p.line, s / block_sectors p.verity.now)) e ∙ ap (λ (i : ℕ). (p.device.0, p.line, i)) (at-index j)))
               (none-more w j before);
-          kept = AllKept-push c new w one (kept-later c w moved so_far.kept) (record { line = line.line; is = line.is; keeps = subst (λ (t : Target). LineKeeps c new t chain) (sym line.has) whole });
+          kept = AllKept-push c new w one (kept-later c w moved so_far.kept) (record { line = b.line.line; is = b.line.is; keeps = subst (λ (t : Target). LineKeeps c new t chain) (sym b.line.has) whole });
         }))
 
     -- to a fault of the next one
-    stops : (fault : IoFault) → Gets (run_expected (block_place (block_in c v (index + j)) (p.device.0, p.line) (p.first + j * block_sectors v) (n * read_cost c (mapped p.device.0))) w 0 (block_sectors v)) mid new (Err fault)
+    stops : (fault : IoFault) → Gets (run_expected (block_place (block_in c p.verity.now (index + j)) (p.device.0, p.line) (p.first + j * block_sectors p.verity.now) (n * read_cost c (mapped p.device.0))) w 0 (block_sectors p.verity.now)) mid new (Err fault)
         → Finds (blocks_place c p n) c 0 n (record { old = old; new = new; before = u; after = w }) (Err fault)
     stops fault got =
-        run_err (blocks_place c p n) c mono 0 (j * block_sectors v) (block_sectors v) so_far n fault (fits j inside)
-        (pass (passes j (n * read_cost c (mapped p.device.0))) (record { old = mid; new = new; before = w; after = w }) (Err fault) (record { got = got; grown = Grown-none _ 0 (block_sectors v) w; kept = kept-later c w moved so_far.kept }))
+        run_err (blocks_place c p n) c mono 0 (j * block_sectors p.verity.now) (block_sectors p.verity.now) so_far n fault (fits j inside)
+        (pass (passes j (n * read_cost c (mapped p.device.0))) (record { old = mid; new = new; before = w; after = w }) (Err fault) (record { got = got; grown = Grown-none _ 0 (block_sectors p.verity.now) w; kept = kept-later c w moved so_far.kept }))
 
-    block-stops : (fault : IoFault) {now : List Device} → GetsChain (block_in c v (index + j)) mid now (Err fault)
-        → Gets (run_expected (block_place (block_in c v (index + j)) (p.device.0, p.line) (p.first + j * block_sectors v) (n * read_cost c (mapped p.device.0))) w 0 (block_sectors v)) mid now (Err fault)
+    block-stops : (fault : IoFault) {now : List Device} → GetsChain (block_in c p.verity.now (index + j)) mid now (Err fault)
+        → Gets (run_expected (block_place (block_in c p.verity.now (index + j)) (p.device.0, p.line) (p.first + j * block_sectors p.verity.now) (n * read_cost c (mapped p.device.0))) w 0 (block_sectors p.verity.now)) mid now (Err fault)
     block-stops fault got =
-        let one : 1 * read_cost c (mapped p.device.0) ≤ n * read_cost c (mapped p.device.0) = mul-le-mul_right (read_cost c (mapped p.device.0)) (omega (arith, fits j inside, size.some)) in
-        block_fails (block_in c v (index + j)) (p.device.0, p.line) (p.first + j * block_sectors v) (block_sectors v) (n * read_cost c (mapped p.device.0)) (sym (at-index j)) within size.whole w fault size.some (omega (arith, chain-cost (index + j), one)) got
+        let one : 1 * read_cost c (mapped p.device.0) ≤ n * read_cost c (mapped p.device.0) = mul-le-mul_right (read_cost c (mapped p.device.0)) (omega (arith, fits j inside, b.size.some)) in
+        block_fails (block_in c p.verity.now (index + j)) (p.device.0, p.line) (p.first + j * block_sectors p.verity.now) (block_sectors p.verity.now) (n * read_cost c (mapped p.device.0)) (sym (at-index j)) within b.size.whole w fault b.size.some (omega (arith, chain-cost (index + j), one)) got
 
-    pub blocks-stop : (fault : IoFault) → GetsChain (block_in c v (index + j)) mid new (Err fault) → Finds (blocks_place c p n) c 0 n (record { old = old; new = new; before = u; after = w }) (Err fault)
+    pub blocks-stop : (fault : IoFault) → GetsChain (block_in c p.verity.now (index + j)) mid new (Err fault) → Finds (blocks_place c p n) c 0 n (record { old = old; new = new; before = u; after = w }) (Err fault)
     blocks-stop fault got = stops fault (block-stops fault got)
 
     -- of its digest
-    pub blocks-differ : {now : List Device} → GetsChain (block_in c v (index + j)) mid now (Err (io.Stack mismatch)) → Finds (blocks_place c p n) c 0 n (record { old = old; new = new; before = u; after = w }) (Err (io.Stack mismatch))
+    pub blocks-differ : {now : List Device} → GetsChain (block_in c p.verity.now (index + j)) mid now (Err (io.Stack mismatch)) → Finds (blocks_place c p n) c 0 n (record { old = old; new = new; before = u; after = w }) (Err (io.Stack mismatch))
     blocks-differ got = let end = block-stops (io.Stack mismatch) got in stops (io.Stack mismatch) (record { moved = AreRead-more step-cost moved; may = end.may; exact = end.exact })
 
     -- of the data, beneath which no fault of a line is met
-    pub row-stops : {at : List Device} {q first rows : ℕ} (lower : Lower) (chains : List FoundRecord) (fault : IoFault) → MeetNone (place_of c lower).said first rows → AreRead mid q at
-        → Gets (run_expected (place_of c lower) chains first rows) at new (Err fault) → Finds (blocks_place c p n) c 0 n (record { old = old; new = new; before = u; after = w }) (Err fault)
-    row-stops lower chains (io.Stack fault) clear walked got = absurd (clear fault got.may)
-    row-stops lower chains (io.Device i) clear walked got = stops (io.Device i) (record { moved = AreRead-more step-cost moved; may = (got.may.0, failed_later walked.moved got.moved.moved got.may.1); exact = λ steady. tt })
-    row-stops lower chains io.NoMemory clear walked got = stops io.NoMemory (record { moved = AreRead-more step-cost moved; may = tt; exact = λ steady. tt })
+    pub row-stops : {at : List Device} {q first rows : ℕ} (chains : List FoundRecord) (fault : IoFault) → MeetNone (place_of c p.data).said first rows → AreRead mid q at
+        → Gets (run_expected (place_of c p.data) chains first rows) at new (Err fault) → Finds (blocks_place c p n) c 0 n (record { old = old; new = new; before = u; after = w }) (Err fault)
+    row-stops chains (io.Stack fault) clear walked got = absurd (clear fault got.may)
+    row-stops chains (io.Device i) clear walked got = stops (io.Device i) (record { moved = AreRead-more step-cost moved; may = (got.may.0, failed_later walked.moved got.moved.moved got.may.1); exact = λ steady. tt })
+    row-stops chains io.NoMemory clear walked got = stops io.NoMemory (record { moved = AreRead-more step-cost moved; may = tt; exact = λ steady. tt })
 
     -- or where memory is short
     pub blocks-full : Finds (blocks_place c p n) c 0 n (record { old = old; new = new; before = u; after = w }) (Err io.NoMemory)
@@ -286,7 +338,7 @@ module _ (c : Configuration) (v : Verity) (p : BlockPart) (n m : ℕ) (loaded : 
 
   -- ---- the whole read
 
-  pub blocks-read : (did : LeafRead) (answer : Result (List ℕ) IoFault) (r j : ℕ) → r ≤ m → j ≤ m → AreRead did.old (read_cost_so_far c v (r * block_sectors v) j) did.new → Finds (blocks_place c p n) c 0 n did answer → ReadsSource c (Blocks p) n did answer
+  pub blocks-read : (did : LeafRead) (answer : Result (List ℕ) IoFault) (r j : ℕ) → r ≤ m → j ≤ m → AreRead did.old (read_cost_so_far c p.verity.now (r * block_sectors p.verity.now) j) did.new → Finds (blocks_place c p n) c 0 n did answer → ReadsSource c (Blocks p) n did answer
   blocks-read did answer r j read most moved found = record {
     got = record { moved = AreRead-more (total-cost r j read most) moved; may = found.got.may; exact = found.got.exact };
     grown = found.grown;
@@ -294,57 +346,5 @@ module _ (c : Configuration) (v : Verity) (p : BlockPart) (n m : ℕ) (loaded : 
   }
 
 -- a verity line is on the way
-pub blocks_plain : (c : Configuration) (p : BlockPart) (n : ℕ) {old new : List Device} {result : Result Unit IoFault} → 0 < n → AreWholeBlocks c p.device.0 p.line p.first n → IsPlain (source_said c (Blocks p)) 0 n old new result
-blocks_plain c p n some blocks =
-    let same : source_said c (Blocks p) (0 + 0) ≡ line_said (said_by_name c) p.device.0 p.line (verity_target blocks.verity) (p.first + (0 + 0)) =
-    ap (λ (o : Option Line). said_of_line c p.device.0 p.line o (p.first + (0 + 0))) blocks.has.is
-    ∙ ap (λ (t : Target). line_said (said_by_name c) p.device.0 p.line t (p.first + (0 + 0))) blocks.has.has in
-    let meets : MeetVerity (source_said c (Blocks p)) 0 n = (0, some, subst (λ (x : Said). x.meets mismatch) (sym same) (inl refl)) in
-    record { memory = λ is. meets; leaf = λ none. absurd (none meets); stops = λ none. absurd (none meets) }
-
--- what is known of whole data blocks that are read at once
-pub record BlocksAt (c : Configuration) (v : Verity) (p : BlockPart) (n m : ℕ) (found : List FoundRecord) (lower : Lower) : Type 0 where
-  pub aligned : p.first % block_sectors v ≡ 0
-  pub size : IsWholeSectors v.data_block
-  pub count : m * block_sectors v ≡ n
-  pub some : 0 < m
-  pub few : n ≤ 128
-  pub clear : MeetNone (place_of c lower).said p.first n
-  pub before : AreBefore p.device.0 p.line (p.first / block_sectors v) found
-  pub below : p.first + n ≤ lower_size c lower
-  pub there : (j : ℕ) → j < m → p.first / block_sectors v + j < v.blocks
-
-pub blocks-at : (c : Configuration) (v : Verity) (p : BlockPart) (n : ℕ) (found : List FoundRecord) (lower : Lower) → IsLoaded c → 0 < n → HasVerity c p.device.0 p.line v → AreWholeBlocks c p.device.0 p.line p.first n → GoAtOnce c p n found
-    → named c v.data ≡ Some lower → BlocksAt c v p n (n / block_sectors v) found lower
-blocks-at c v p n found lower loaded some line blocks go is =
-    let same : go.verity ≡ v = same-verity c p.device.0 p.line 0 0 go.verity v go.line line in
-    let size = data-whole c p.device.0 p.line p.first n v loaded line in
-    let whole = blocks-whole c p.device.0 p.line p.first n v loaded line blocks in
-    let aligned = blocks-aligned c p.device.0 p.line p.first n v loaded line blocks in
-    let count : n / block_sectors v * block_sectors v ≡ n = omega (arith, div-add-mod' n (block_sectors v), whole) in
-    record {
-      aligned = aligned;
-      size = size;
-      count = count;
-      some = quotient-some (n / block_sectors v) (block_sectors v) n count some;
-      few = go.few;
-      clear = subst (λ (q : Place). MeetNone q.said p.first n) (place-named c v.data lower is) (subst (λ (u : Verity). MeetNone (said_by_name c u.data) p.first n) same go.clear);
-      before = subst (λ (u : Verity). AreBefore p.device.0 p.line (p.first / block_sectors u) found) same go.before;
-      below = blocks-below c p.device.0 p.line p.first n v loaded line blocks lower is;
-      there = λ j inside.
-          let inner = blocks-inside c p.device.0 p.line p.first n v loaded line blocks in
-          let all : p.first / block_sectors v * block_sectors v ≡ p.first = omega (arith, div-add-mod' p.first (block_sectors v), aligned) in
-          let next : (j + 1) * block_sectors v ≤ n / block_sectors v * block_sectors v = mul-le-mul_right (block_sectors v) (omega (arith, inside)) in
-          let fits : (p.first / block_sectors v + j + 1) * block_sectors v ≤ v.blocks * block_sectors v = omega (arith, inner, all, next, count, add-mul (p.first / block_sectors v) (j + 1) (block_sectors v)) in
-          no-more (p.first / block_sectors v + j) v.blocks (block_sectors v) size.some fits;
-    }
-  where
-    quotient-some : (q u n : ℕ) → q * u ≡ n → 0 < n → 0 < q
-    quotient-some zero u n e some = let none : 0 * u ≡ 0 = omega arith in absurd (omega (arith, e, some, none))
-    quotient-some (suc q) u n e some = omega arith
-
-    no-more : (a b u : ℕ) → 1 ≤ u → (a + 1) * u ≤ b * u → a < b
-    no-more a b u some fits = elim (cases_lt a b) [
-      | inl low ↦ low
-      | inr high ↦ let more : (b + 1) * u ≤ (a + 1) * u = mul-le-mul_right u (omega (arith, high)) in absurd (omega (arith, more, fits, some, add-mul b 1 u))
-    ]
+pub blocks-meet : (c : Configuration) (p : VerityPart) (n : ℕ) → 0 < n → MeetVerity (source_said c (Blocks p)) 0 n
+blocks-meet c p n some = (0, some, inl refl)

@@ -16,7 +16,7 @@ use Rattle.stack_meaning.specs.May.{MayFault}
 use Rattle.stack_meaning.specs.Meaning.{Said, said_at}
 use Rattle.stack_meaning.specs.Places.{Place, place_of, run_expected}
 use Rattle.stack_meaning.specs.Reading.{Ends, Gets, Finds}
-use Rattle.stack_lines.specs.declared.source.BlockPart.{BlockPart}
+use Rattle.stack_lines.specs.declared.source.VerityPart.{VerityPart}
 use Rattle.stack_lines.specs.declared.source.Source.{Source}
 use Rattle.stack_lines.specs.declared.source.Source.TheVariants.{Below, Blocks}
 use Rattle.stack_lines.specs.Sources.{IsServed, source_said, source_place}
@@ -41,7 +41,7 @@ pub found-bytes : (place : Place) (c : Configuration) (first n : ℕ) {old new :
 found-bytes place c first n {after = after} answer p = record { chains = after; got = p.got; used = rw p.grown.is p.grown.used; kept = p.kept }
 
 -- the chains of whole data blocks, which were dropped
-pub dropped-bytes : (c : Configuration) (part : BlockPart) (n : ℕ) {old new : List Device} {out : List FoundRecord} (answer : Result (List ℕ) IoFault)
+pub dropped-bytes : (c : Configuration) (part : VerityPart) (n : ℕ) {old new : List Device} {out : List FoundRecord} (answer : Result (List ℕ) IoFault)
     → ReadsBlocks c part n Dropped (record { old = old; new = new; before = []; after = out }) answer → FindsBytes (source_place c (Blocks part)) c 0 n old new answer
 dropped-bytes c part n answer r = found-bytes (source_place c (Blocks part)) c 0 n answer r.reads
 

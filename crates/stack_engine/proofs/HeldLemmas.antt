@@ -8,7 +8,7 @@ use borrow.Rule.Slice.PartMut.{put_mid}
 use Rattle.stack_rules.specs.Records.{Configuration}
 use Rattle.stack_rules.specs.Names.{mapped}
 use Rattle.stack_rules.specs.Rules.{IsLoaded}
-use Rattle.stack_lines.specs.declared.source.BlockPart.{BlockPart}
+use Rattle.stack_lines.specs.declared.source.CryptPart.{CryptPart}
 use Rattle.stack_lines.specs.declared.source.Source.{Source}
 use Rattle.stack_lines.specs.declared.source.Source.TheVariants.{Units, UnitPart}
 use Rattle.stack_meaning.specs.Meaning.{Said, said_at}
@@ -84,7 +84,7 @@ none-plain said plain buffer sectors held some = elim held [
 ]
 
 -- the bytes of a run through a crypt line are a buffer's
-module _ (c : Configuration) (b : BlockPart) (source : Source) (plain buffer : List ℕ) (fits : FitsIn c source (plain ++ buffer)) (held : AreHeld (source_said c source) 0 plain buffer) where
+module _ (c : Configuration) (x : CryptPart) (source : Source) (plain buffer : List ℕ) (fits : FitsIn c source (plain ++ buffer)) (held : AreHeld (source_said c source) 0 plain buffer) where
   abbrev Encrypts : Source → Type 0
   Encrypts from = (n : ℕ) → 0 < n → SourceHolds c from n → SomeEncrypt (source_said c from) 0 n
 
@@ -93,11 +93,11 @@ module _ (c : Configuration) (b : BlockPart) (source : Source) (plain buffer : L
       none-plain (source_said c source) plain buffer fits.sectors held
       (λ n same more. subst (λ (s : Source). SomeEncrypt (source_said c s) 0 n) (sym is) (some n more (subst (SourceHolds c from) (sym same) (subst (λ (s : Source). SourceHolds c s (length (plain ++ buffer) / 512)) is fits.holds))))
 
-  pub none-of_units : source ≡ Units b → plain ≡ []
-  none-of_units is = none-of (Units b) is (λ n more holds. units-some c b n holds more)
+  pub none-of_units : source ≡ Units x → plain ≡ []
+  none-of_units is = none-of (Units x) is (λ n more holds. units-some c x n more)
 
-  pub none-of_part : source ≡ UnitPart b → plain ≡ []
-  none-of_part is = none-of (UnitPart b) is (λ n more holds. unit_part-some c b n holds more)
+  pub none-of_part : source ≡ UnitPart x → plain ≡ []
+  none-of_part is = none-of (UnitPart x) is (λ n more holds. unit_part-some c x n more)
 
 -- the bytes of one run of a device
 module _ (c : Configuration) (d first at count : ℕ) (plain buffer : List ℕ) (source : Source) (loaded : IsLoaded c) (some : 0 < count) (whole : at % 512 ≡ 0) (fits : at + count * 512 ≤ length (plain ++ buffer)) where

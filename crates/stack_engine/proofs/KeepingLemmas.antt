@@ -6,7 +6,7 @@ use Rattle.stack_rules.specs.Records.{Configuration}
 use Rattle.stack_meaning.specs.declared.fault.IoFault.{IoFault}
 use Rattle.stack_meaning.specs.Found.{FoundRecord}
 use Rattle.stack_meaning.specs.Places.{LeafRead}
-use Rattle.stack_lines.specs.declared.source.BlockPart.{BlockPart}
+use Rattle.stack_lines.specs.declared.source.VerityPart.{VerityPart}
 use Rattle.stack_lines.specs.declared.source.Source.TheVariants.{Blocks}
 use Rattle.stack_lines.specs.Sources.{ReadsSource}
 use Rattle.stack_engine.specs.declared.path.Chains.{Chains}
@@ -16,7 +16,7 @@ use Rattle.stack_engine.specs.Bytes.{GetsBytes}
 use Rattle.stack_engine.specs.Keeping.{handed_out, AreHandedOut, ReadsBlocks}
 
 -- where all are handed out
-pub kept-reads : {c : Configuration} {part : BlockPart} {n : ℕ} {did : LeafRead} {answer : Result (List ℕ) IoFault} → ReadsBlocks c part n Kept did answer → ReadsSource c (Blocks part) n did answer
+pub kept-reads : {c : Configuration} {part : VerityPart} {n : ℕ} {did : LeafRead} {answer : Result (List ℕ) IoFault} → ReadsBlocks c part n Kept did answer → ReadsSource c (Blocks part) n did answer
 kept-reads {c = c} {part = part} {n = n} {did = did} {answer = answer} r =
     subst (λ (u : List FoundRecord). ReadsSource c (Blocks part) n (record { old = did.old; new = did.new; before = did.before; after = u }) answer) (sym r.out) r.reads
 

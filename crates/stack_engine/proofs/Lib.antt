@@ -1,7 +1,8 @@
 pub mod lemmas
 pub mod PathBlockLemmas
 pub mod CachedLemmas
-pub mod PlainCacheLemmas
+pub mod StepLemmas
+pub mod WriteStepLemmas
 pub mod PathLemmas
 pub mod TouchedLemmas
 pub mod BlocksLemmas

@@ -1,13 +1,14 @@
 -- Whole data blocks that were read at once, gone through one after another.
-use Rattle.std.proofs.Common.{◌≡◌, ℕ, ◌+◌, ◌-◌, ◌*◌, ◌/◌, ◌%◌, ◌<◌, ◌≤◌, max, ◌⊎◌, Bool, true, false, List, [], ◌∷◌, ◌++◌, length, get_or, map, take, drop, Some, Result, Ok, Err, inl, inr, refl, sym, ap, ◌∙◌, subst, arith}
+use Rattle.std.proofs.Common.{◌≡◌, ℕ, ◌+◌, ◌-◌, ◌*◌, ◌/◌, ◌%◌, ◌<◌, ◌≤◌, ◌^◌, max, ◌⊎◌, All, Bool, true, false, replicate, List, [], ◌∷◌, ◌++◌, length, get_or, map, take, drop, Result, Ok, Err, inl, inr, refl, sym, ap, ◌∙◌, subst, arith}
 use Rattle.std.proofs.lemmas.Bool.{cases_lt}
 use Rattle.std.proofs.lemmas.List.{take_all, length-map, length-take, length-take-le, length-drop, drop-drop, drop-append-le, take-append-le, get_or-drop, get_or-map}
-use Rattle.std.proofs.lemmas.Slice.{drop-put_mid}
+use Rattle.std.proofs.lemmas.List.Elements.{All-nil}
+use Rattle.std.proofs.lemmas.Slice.{drop-put_mid, take-put_mid_below, between-put_mid}
 use Rattle.std.proofs.Math.ListN.{get_or-append}
 use Rattle.std.proofs.Math.Seq.{take-add, drop-append_seam}
 use Rattle.std.proofs.Math.Nat.{add-mul, mul_comm, mul_assoc, mul-le-mul_left, mul-le-mul_right, mul-mod_left, mul-div_cancel}
 use Rattle.std.proofs.lemmas.Nat.{div-add-mod'}
-use borrow.Rule.Slice.PartMut.{put_mid}
+use borrow.Rule.Slice.PartMut.{put_mid, same_len_mid}
 use Rattle.tree_shape.specs.Digests.{digest}
 use Rattle.tree_shape.specs.Shape.{levels}
 use Rattle.hash_tree.specs.Tree.{cut}
@@ -16,13 +17,12 @@ use Rattle.block_device.specs.Device.{Device}
 use Rattle.dm_table.specs.declared.verity.Verity.{Verity}
 use Rattle.stack_rules.specs.declared.lower.Lower.{Lower}
 use Rattle.stack_rules.specs.Records.{Configuration}
-use Rattle.stack_rules.specs.Names.{mapped, named, size}
+use Rattle.stack_rules.specs.Names.{mapped, size}
 use Rattle.stack_rules.specs.Descend.{read_cost}
-use Rattle.stack_rules.specs.Rules.{IsLoaded}
-use Rattle.stack_rules.specs.Trees.{tree_of, block_sectors, zero_block}
+use Rattle.stack_rules.specs.Trees.{tree_of, block_sectors}
 use Rattle.stack_meaning.specs.declared.fault.IoFault.{IoFault}
 use Rattle.stack_meaning.specs.declared.fault.IoFault.TheVariants as io
-use Rattle.stack_lines.specs.declared.source.BlockPart.{BlockPart}
+use Rattle.stack_lines.specs.declared.source.VerityPart.{VerityPart}
 use Rattle.stack_lines.specs.declared.source.Source.TheVariants.{Blocks}
 use Rattle.stack_meaning.specs.Changes.{AllWhole}
 use Rattle.stack_meaning.specs.Blocks.{is_ignored}
@@ -30,18 +30,28 @@ use Rattle.stack_meaning.specs.Outcomes.{Outcome, mismatch, span}
 use Rattle.stack_meaning.specs.Found.{FoundRecord}
 use Rattle.stack_meaning.specs.Kept.{AllKept}
 use Rattle.stack_meaning.specs.Leaves.{steady_images, AreRead}
-use Rattle.stack_meaning.specs.Places.{Place, place_of, run_expected, LeafRead}
-use Rattle.stack_meaning.specs.Reading.{Gets, Finds}
+use Rattle.stack_meaning.specs.Places.{Place, place_of, LeafRead}
+use Rattle.stack_meaning.specs.Reading.{Finds}
 use Rattle.stack_lines.specs.AtOnce.{AreBefore, MeetNone}
+use Rattle.stack_lines.specs.declared.tree.Extent.{Extent}
+use Rattle.stack_lines.specs.Budgets.{ReadsAtMost, part_budget}
+use Rattle.stack_lines.specs.Caches.{IsCached}
+use Rattle.stack_lines.specs.Extents.{IsExtent}
 use Rattle.stack_lines.specs.Sources.{ReadsSource}
-use Rattle.stack_lines.specs.Walks.{HasVerity, block_in, GetsChain, IsWalked}
+use Rattle.stack_lines.specs.Walks.{block_in, GetsChain, IsWalked}
 use Rattle.verified_cache.specs.Cache.{CachedBlock}
 use Rattle.stack_meaning.proofs.lemmas.LeafListLemmas.{AreRead-none, AreRead-more, AreRead-then}
+use Rattle.stack_meaning.proofs.lemmas.LoadedLemmas.{size-small}
 use Rattle.stack_meaning.proofs.lemmas.SizedLemmas.{AreSized, span-part}
 use Rattle.stack_lines.proofs.lemmas.SizeLemmas.{sector-size}
 use Rattle.stack_lines.proofs.lemmas.UnitReadLemmas.{images-whole}
 use Rattle.stack_lines.proofs.lemmas.VerityLineLemmas.{place-named}
-use Rattle.stack_engine.proofs.BlocksLemmas.{blocks_place, path_cost, read_cost_so_far, BlocksAt, IsRead, block-had, block-zeros, total-cost, before-more, none-read, blocks-more, blocks-stop, blocks-differ, blocks-full, row-stops, blocks-read}
+use Rattle.stack_engine.specs.declared.path.Chains.{Chains}
+use Rattle.stack_engine.specs.Bytes.{GetsBytes}
+use Rattle.stack_engine.specs.Keeping.{AreHandedOut, ReadsBlocks}
+use Rattle.stack_engine.proofs.KeepingLemmas.{none-out}
+use Rattle.stack_engine.proofs.BlocksLemmas.{blocks_place, path_cost, read_cost_so_far, BlocksAt, IsRead, block-had, block-zeros, block-other, total-cost, before-more, none-read, blocks-more, blocks-stop, blocks-differ, blocks-full, row-stops, blocks-read}
+use Rattle.stack_engine.proofs.SpentLemmas.{way-spent, row-spent}
 
 -- ---- digests of blocks that stand one after another
 
@@ -53,10 +63,10 @@ module _ (bytes : List ℕ) (u m : ℕ) (some : 0 < u) (len : length bytes ≡ 5
   len-is : length bytes ≡ m * (u * 512)
   len-is = len ∙ mul_comm 512 (m * u) ∙ mul_assoc m u 512
 
-  pub cut-whole : length bytes % (u * 512) ≡ 0
+  cut-whole : length bytes % (u * 512) ≡ 0
   cut-whole = ap (λ (k : ℕ). k % (u * 512)) len-is ∙ mul-mod_left m (u * 512)
 
-  pub cut-count : length bytes / (u * 512) ≡ m
+  cut-count : length bytes / (u * 512) ≡ m
   cut-count = ap (λ (k : ℕ). k / (u * 512)) len-is ∙ mul-div_cancel m size-some
 
   cells : length (cut (u * 512) bytes) ≡ m
@@ -70,11 +80,11 @@ module _ (bytes : List ℕ) (u m : ℕ) (some : 0 < u) (len : length bytes ≡ 5
       ∙ ap (λ (k : ℕ). take k (drop (u * 512 * j) bytes)) (mul_comm u 512)
       ∙ ap (λ (k : ℕ). take (512 * u) (drop k bytes)) place
 
-  pub cell-count : (salt : List ℕ) → length (map (digest salt) (cut (u * 512) bytes)) ≡ m
+  cell-count : (salt : List ℕ) → length (map (digest salt) (cut (u * 512) bytes)) ≡ m
   cell-count salt = length-map (cut (u * 512) bytes) (digest salt) ∙ cells
 
   -- the digest of one of them
-  pub cell-digest : (salt : List ℕ) (j : ℕ) (x : List ℕ) → j < m → get_or (map (digest salt) (cut (u * 512) bytes)) j x ≡ digest salt (take (512 * u) (drop (512 * (j * u)) bytes))
+  cell-digest : (salt : List ℕ) (j : ℕ) (x : List ℕ) → j < m → get_or (map (digest salt) (cut (u * 512) bytes)) j x ≡ digest salt (take (512 * u) (drop (512 * (j * u)) bytes))
   cell-digest salt j x inside =
       let there : j < length (cut (u * 512) bytes) = omega (arith, inside, cells) in
       get_or-map (digest salt) (cut (u * 512) bytes) j [] x there ∙ ap (digest salt) (cell j inside)
@@ -82,27 +92,27 @@ module _ (bytes : List ℕ) (u m : ℕ) (some : 0 < u) (len : length bytes ≡ 5
 -- ---- where the read stands
 
 -- the blocks before block j were had, where data were read as far as block r
-pub record WereHad (c : Configuration) (v : Verity) (p : BlockPart) (n r j : ℕ) (bytes : List ℕ) (did : LeafRead) : Type 0 where
-  pub so_far : Finds (blocks_place c p n) c 0 (j * block_sectors v) did (Ok (take (512 * (j * block_sectors v)) bytes))
-  pub moved : AreRead did.old (read_cost_so_far c v (r * block_sectors v) j) did.new
-  pub before : AreBefore p.device.0 p.line (p.first / block_sectors v + j) did.after
+pub record WereHad (c : Configuration) (p : VerityPart) (n r j : ℕ) (bytes : List ℕ) (did : LeafRead) : Type 0 where
+  pub so_far : Finds (blocks_place c p n) c 0 (j * block_sectors p.verity.now) did (Ok (take (512 * (j * block_sectors p.verity.now)) bytes))
+  pub moved : AreRead did.old (read_cost_so_far c p.verity.now (r * block_sectors p.verity.now) j) did.new
+  pub before : AreBefore p.device.0 p.line (p.first / block_sectors p.verity.now + j) did.after
 
 -- the blocks from block j on, as far as block r, stand in the bytes as they were read, and their digests were made
-abbrev pub AreReadAhead : Configuration → Verity → BlockPart → Lower → ℕ → ℕ → List ℕ → List (List ℕ) → List Device → Type 0
-AreReadAhead c v p lower j r bytes made old = (k : ℕ) → j ≤ k → k < r → (x : List ℕ)
-    → IsRead c v p lower old k (take (512 * block_sectors v) (drop (512 * (k * block_sectors v)) bytes)) (get_or made k x)
+abbrev pub AreReadAhead : Configuration → VerityPart → ℕ → ℕ → List ℕ → List (List ℕ) → List Device → Type 0
+AreReadAhead c p j r bytes made old = (k : ℕ) → j ≤ k → k < r → (x : List ℕ)
+    → IsRead c p old k (take (512 * block_sectors p.verity.now) (drop (512 * (k * block_sectors p.verity.now)) bytes)) (get_or made k x)
 
 -- block j is the next one: those before it were had, the way to it was walked, and data were read as far as block r
-pub record IsNext (c : Configuration) (v : Verity) (p : BlockPart) (n r j : ℕ) (bytes expected : List ℕ) (path : List (List ℕ)) (did : LeafRead) : Type 0 where
+pub record IsNext (c : Configuration) (p : VerityPart) (n r j : ℕ) (bytes expected : List ℕ) (path : List (List ℕ)) (did : LeafRead) : Type 0 where
   pub mid : List Device
   pub here : List Device
   pub ways : ℕ
-  pub so_far : Finds (blocks_place c p n) c 0 (j * block_sectors v) (record { old = did.old; new = mid; before = did.before; after = did.after }) (Ok (take (512 * (j * block_sectors v)) bytes))
-  pub walked : IsWalked (block_in c v (p.first / block_sectors v + j)) 0 expected path mid here
+  pub so_far : Finds (blocks_place c p n) c 0 (j * block_sectors p.verity.now) (record { old = did.old; new = mid; before = did.before; after = did.after }) (Ok (take (512 * (j * block_sectors p.verity.now)) bytes))
+  pub walked : IsWalked (block_in c p.verity.now (p.first / block_sectors p.verity.now + j)) 0 expected path mid here
   pub later : AreRead did.old ways here
-  pub moved : AreRead did.old (read_cost_so_far c v (r * block_sectors v) (j + 1)) did.new
-  pub rest : AreRead mid (read_cost_so_far c v (r * block_sectors v) (j + 1)) did.new
-  pub before : AreBefore p.device.0 p.line (p.first / block_sectors v + j) did.after
+  pub moved : AreRead did.old (read_cost_so_far c p.verity.now (r * block_sectors p.verity.now) (j + 1)) did.new
+  pub rest : AreRead mid (read_cost_so_far c p.verity.now (r * block_sectors p.verity.now) (j + 1)) did.new
+  pub before : AreBefore p.device.0 p.line (p.first / block_sectors p.verity.now + j) did.after
 
 -- ---- costs
 
@@ -135,19 +145,19 @@ module _ {X : Type 0} (a w : ℕ) (xs ys : List X) (fits : a ≤ length xs) wher
       ap (λ (k : ℕ). drop k (put_mid a w xs ys)) len ∙ drop-append_seam (take a xs) (ys ++ drop w (drop a xs)) ∙ ap (λ (l : List X). ys ++ l) (drop-drop w a xs)
 
   -- it holds what was written
-  pub part-put : (n m : ℕ) → n + m ≤ length ys → take m (drop (a + n) (put_mid a w xs ys)) ≡ take m (drop n ys)
+  part-put : (n m : ℕ) → n + m ≤ length ys → take m (drop (a + n) (put_mid a w xs ys)) ≡ take m (drop n ys)
   part-put n m inside =
       ap (take m) (sym (drop-drop n a (put_mid a w xs ys)) ∙ ap (drop n) behind-put ∙ drop-append-le n ys (drop (a + w) xs) (omega (arith, inside)))
       ∙ take-append-le m (drop n ys) (drop (a + w) xs) (omega (arith, inside, length-drop n ys))
 
-  pub item-put : (n : ℕ) (d : X) → n < length ys → get_or (put_mid a w xs ys) (a + n) d ≡ get_or ys n d
+  item-put : (n : ℕ) (d : X) → n < length ys → get_or (put_mid a w xs ys) (a + n) d ≡ get_or ys n d
   item-put n d inside = sym (get_or-drop a (put_mid a w xs ys) n d) ∙ ap (λ (l : List X). get_or l n d) behind-put ∙ get_or-append ys (drop (a + w) xs) d n inside
 
   -- what stands behind it stays
-  pub rest-put : (n m : ℕ) → a + w ≤ n → length ys ≡ w → take m (drop n (put_mid a w xs ys)) ≡ take m (drop n xs)
+  rest-put : (n m : ℕ) → a + w ≤ n → length ys ≡ w → take m (drop n (put_mid a w xs ys)) ≡ take m (drop n xs)
   rest-put n m past same = ap (take m) (drop-put_mid a w xs ys n past fits same)
 
-  pub item-rest : (n : ℕ) (d : X) → a + w ≤ n → length ys ≡ w → get_or (put_mid a w xs ys) n d ≡ get_or xs n d
+  item-rest : (n : ℕ) (d : X) → a + w ≤ n → length ys ≡ w → get_or (put_mid a w xs ys) n d ≡ get_or xs n d
   item-rest n d past same =
       let on : n + 0 ≡ n = omega arith in
       ap (λ (k : ℕ). get_or (put_mid a w xs ys) k d) (sym on) ∙ sym (get_or-drop n (put_mid a w xs ys) 0 d)
@@ -159,269 +169,457 @@ way-whole c v index path walked =
     let most : levels (tree_of v) ≡ length (take (levels (tree_of v)) path) = omega (arith, walked.count, length-map (take (levels (tree_of v)) path) (λ (b : CachedBlock). b.bytes)) in
     omega (arith, most, length-take (levels (tree_of v)) path)
 
-module _ (c : Configuration) (v : Verity) (p : BlockPart) (n : ℕ) (lower : Lower) (found : List FoundRecord) (loaded : IsLoaded c) (line : HasVerity c p.device.0 p.line v) (is : named c v.data ≡ Some lower) (at : BlocksAt c v p n (n / block_sectors v) found lower) where
+-- ---- how many bytes blocks have
+
+module _ {c : Configuration} {p : VerityPart} {n : ℕ} {found : List FoundRecord} (b : BlocksAt c p n found) where
   abbrev m : ℕ
-  m = n / block_sectors v
+  m = n / block_sectors p.verity.now
 
   abbrev first : ℕ
-  first = p.first / block_sectors v
+  first = p.first / block_sectors p.verity.now
 
   -- how many they are
-  pub few-blocks : n / block_sectors v ≤ n
-  few-blocks = let each : m * 1 ≤ m * block_sectors v = mul-le-mul_left m at.size.some in omega (arith, each, at.count)
+  few-blocks : m ≤ n
+  few-blocks = let each : m * 1 ≤ m * block_sectors p.verity.now = mul-le-mul_left m b.size.some in omega (arith, each, b.count)
 
-  pub block-size : block_sectors v * 512 ≡ v.data_block
-  block-size = omega (arith, at.size.whole)
+  block-size : block_sectors p.verity.now * 512 ≡ p.verity.now.data_block
+  block-size = omega (arith, b.size.whole)
 
-  pub digest-count : (bytes : List ℕ) → length bytes ≡ 512 * n → length bytes / v.data_block ≡ n / block_sectors v
+  pub digest-count : (bytes : List ℕ) → length bytes ≡ 512 * n → length bytes / p.verity.now.data_block ≡ n / block_sectors p.verity.now
   digest-count bytes len =
-      ap (λ (k : ℕ). length bytes / k) (sym block-size) ∙ cut-count bytes (block_sectors v) m (omega (arith, at.size.some)) (len ∙ ap (λ (k : ℕ). 512 * k) (sym at.count))
+      ap (λ (k : ℕ). length bytes / k) (sym block-size) ∙ cut-count bytes (block_sectors p.verity.now) m (omega (arith, b.size.some)) (len ∙ ap (λ (k : ℕ). 512 * k) (sym b.count))
 
   -- block j begins there
-  pub block-begin : (j : ℕ) → j * v.data_block ≡ 512 * (j * block_sectors v)
-  block-begin j = ap (λ (k : ℕ). j * k) (sym block-size) ∙ sym (mul_assoc j (block_sectors v) 512) ∙ mul_comm (j * block_sectors v) 512
+  pub block-begin : (j : ℕ) → j * p.verity.now.data_block ≡ 512 * (j * block_sectors p.verity.now)
+  block-begin j = ap (λ (k : ℕ). j * k) (sym block-size) ∙ sym (mul_assoc j (block_sectors p.verity.now) 512) ∙ mul_comm (j * block_sectors p.verity.now) 512
 
   -- so many blocks end within the bytes
-  pub blocks-end : (bytes : List ℕ) (j : ℕ) → length bytes ≡ 512 * n → j ≤ n / block_sectors v → j * v.data_block ≤ length bytes
+  blocks-end : (bytes : List ℕ) (j : ℕ) → length bytes ≡ 512 * n → j ≤ m → j * p.verity.now.data_block ≤ length bytes
   blocks-end bytes j len most =
-      let below : j * block_sectors v ≤ m * block_sectors v = mul-le-mul_right (block_sectors v) most in
-      omega (arith, below, block-begin j, at.count, len)
+      let below : j * block_sectors p.verity.now ≤ m * block_sectors p.verity.now = mul-le-mul_right (block_sectors p.verity.now) most in
+      omega (arith, below, block-begin j, b.count, len)
 
-  pub small-index : (j : ℕ) → j < n / block_sectors v → p.first / block_sectors v + (j + 1) ≤ p.first + n
+  small-index : (j : ℕ) → j < m → first + (j + 1) ≤ p.first + n
   small-index j inside =
-      let part : first * 1 ≤ first * block_sectors v = mul-le-mul_left first at.size.some in
-      omega (arith, part, div-add-mod' p.first (block_sectors v), inside, few-blocks)
+      let part : first * 1 ≤ first * block_sectors p.verity.now = mul-le-mul_left first b.size.some in
+      omega (arith, part, div-add-mod' p.first (block_sectors p.verity.now), inside, few-blocks)
 
   -- where block j begins on the device beneath, and that so many from there on lie inside it
-  place : (j : ℕ) → block_sectors v * (first + j) ≡ p.first + j * block_sectors v
-  place j = let all : first * block_sectors v ≡ p.first = omega (arith, div-add-mod' p.first (block_sectors v), at.aligned) in omega (arith, mul_comm (block_sectors v) (first + j), add-mul first j (block_sectors v), all)
+  place : (j : ℕ) → block_sectors p.verity.now * (first + j) ≡ p.first + j * block_sectors p.verity.now
+  place j = let all : first * block_sectors p.verity.now ≡ p.first = omega (arith, div-add-mod' p.first (block_sectors p.verity.now), b.aligned) in omega (arith, mul_comm (block_sectors p.verity.now) (first + j), add-mul first j (block_sectors p.verity.now), all)
 
-  inner : (j many : ℕ) → j + many ≤ m → j * block_sectors v + many * block_sectors v ≤ n
+  inner : (j many : ℕ) → j + many ≤ m → j * block_sectors p.verity.now + many * block_sectors p.verity.now ≤ n
   inner j many most =
-      let below : (j + many) * block_sectors v ≤ m * block_sectors v = mul-le-mul_right (block_sectors v) most in
-      omega (arith, below, add-mul j many (block_sectors v), at.count)
+      let below : (j + many) * block_sectors p.verity.now ≤ m * block_sectors p.verity.now = mul-le-mul_right (block_sectors p.verity.now) most in
+      omega (arith, below, add-mul j many (block_sectors p.verity.now), b.count)
 
-  pub row-inside : (j many : ℕ) → j + many ≤ n / block_sectors v → block_sectors v * (p.first / block_sectors v + j) + many * block_sectors v ≤ size c lower
-  row-inside j many most = omega (arith, place j, inner j many most, at.below)
-
-  -- ---- the way to a block
+  row-inside : (j many : ℕ) → j + many ≤ m → block_sectors p.verity.now * (first + j) + many * block_sectors p.verity.now ≤ size c p.data
+  row-inside j many most = omega (arith, place j, inner j many most, b.below)
 
   -- none of them yet
-  pub none-had : {old : List Device} (bytes : List ℕ) → AllKept c old found → WereHad c v p n 0 0 bytes (record { old = old; new = old; before = found; after = found })
+  none-had : {old : List Device} (bytes : List ℕ) → AllKept c old found → WereHad c p n 0 0 bytes (record { old = old; new = old; before = found; after = found })
   none-had {old = old} bytes kept =
-      let nothing : 0 ≡ 512 * (0 * block_sectors v) = omega arith in
-      let front : [] ≡ take (512 * (0 * block_sectors v)) bytes = ap (λ (k : ℕ). take k bytes) nothing in
+      let nothing : 0 ≡ 512 * (0 * block_sectors p.verity.now) = omega arith in
+      let front : [] ≡ take (512 * (0 * block_sectors p.verity.now)) bytes = ap (λ (k : ℕ). take k bytes) nothing in
       let start : first ≡ first + 0 = omega arith in
       record {
-        so_far = subst (λ (l : List ℕ). Finds (blocks_place c p n) c 0 (0 * block_sectors v) (record { old = old; new = old; before = found; after = found }) (Ok l)) front
-            (none-read c v p n m loaded line at.aligned at.size at.count found kept);
+        so_far = subst (λ (l : List ℕ). Finds (blocks_place c p n) c 0 (0 * block_sectors p.verity.now) (record { old = old; new = old; before = found; after = found }) (Ok l)) front (none-read b found kept);
         moved = AreRead-none _ old;
-        before = subst (λ (k : ℕ). AreBefore p.device.0 p.line k found) start at.before;
+        before = subst (λ (k : ℕ). AreBefore p.device.0 p.line k found) start b.before;
       }
 
-  cost : (block_in c v 0).on_data.cost ≡ read_cost c lower
-  cost = ap (λ (q : Place). q.cost) (place-named c v.data lower is)
+  cost : (block_in c p.verity.now 0).on_data.cost ≡ read_cost c p.data
+  cost = ap (λ (q : Place). q.cost) (place-named c p.verity.now.data p.data b.is)
 
-  -- it ended in a fault
-  pub had-fails : (r j : ℕ) (bytes : List ℕ) (did : LeafRead) {new : List Device} (fault : IoFault) → r ≤ n / block_sectors v → j < n / block_sectors v → WereHad c v p n r j bytes did → AreRead did.new (path_cost c v) new
-      → GetsChain (block_in c v (p.first / block_sectors v + j)) did.new new (Err fault) → ReadsSource c (Blocks p) n (record { old = did.old; new = new; before = did.before; after = did.after }) (Err fault)
-  had-fails r j bytes did {new = new} fault read inside had moved got =
-      let most = total-cost c v p n m loaded line at.aligned at.size at.count r (j + 1) read (omega (arith, inside)) in
-      let way = sum-way (r * block_sectors v * (block_in c v 0).on_data.cost) (path_cost c v) j in
-      let few : path_cost c v ≤ n * read_cost c (mapped p.device.0) =
-      le-sum (r * block_sectors v * (block_in c v 0).on_data.cost + j * path_cost c v) (path_cost c v) (n * read_cost c (mapped p.device.0)) (subst (λ (k : ℕ). k ≤ n * read_cost c (mapped p.device.0)) (sym way) most) in
-      let both : AreRead did.old (read_cost_so_far c v (r * block_sectors v) (j + 1)) new = subst (λ (k : ℕ). AreRead did.old k new) way (AreRead-then had.moved moved) in
-      blocks-read c v p n m loaded line at.aligned at.size at.count (record { old = did.old; new = new; before = did.before; after = did.after }) (Err fault) r (j + 1) read (omega (arith, inside)) both
-      (blocks-stop c v p n m loaded line at.aligned at.size at.count j inside had.so_far moved few fault got)
+-- a row covers block j, unless the line ignores it
+pub row-covers : {ignored : Bool} {r j many : ℕ} → (ignored ≡ false → r ≤ j → 0 < many) → ignored ≡ false → j < max r (j + many)
+row-covers {r = r} {j = j} some taken = elim (cases_lt j r) [ inl low ↦ omega (arith, low) | inr high ↦ omega (arith, some taken high) ]
 
-  module _ (r j many : ℕ) (bytes expected : List ℕ) (path : List (List ℕ)) (did : LeafRead) (walk : List Device) (inside : j < n / block_sectors v) (read : r ≤ n / block_sectors v) (most : j + many ≤ n / block_sectors v) (fresh : (many ≡ 0) ⊎ (r ≤ j))
-      (had : WereHad c v p n r j bytes did) (moved : AreRead did.new (path_cost c v) walk) (to : ℕ) (as_far : to ≡ max r (j + many)) (walked : IsWalked (block_in c v (p.first / block_sectors v + j)) 0 expected path did.new walk) where
-    more : r + many ≤ to
-    more = elim fresh [ inl none ↦ omega (arith, none, as_far) | inr old ↦ omega (arith, old, as_far) ]
+-- ---- before a turn
 
-    pub far : to ≤ n / block_sectors v
-    far = omega (arith, as_far, read, most)
+-- The blocks before block j were had, data were read as far as block r, and the bytes are as many as those of the buffer `start`.
+pub record AreChecked (c : Configuration) (p : VerityPart) (chains : Chains) (start : List ℕ) (r j : ℕ) (bytes : List ℕ) (made : List (List ℕ)) (path : List CachedBlock) (old new : List Device) (before now : List FoundRecord) : Type 0 where
+  pub size : length bytes ≡ length start
+  pub room : length made ≡ 128
+  pub within : j ≤ length start / 512 / block_sectors p.verity.now
+  pub most : r ≤ length start / 512 / block_sectors p.verity.now
+  pub after : List FoundRecord
+  pub out : AreHandedOut chains before after now
+  pub held : All (IsCached c new) path
+  pub had : WereHad c p (length start / 512) r j bytes (record { old = old; new = new; before = before; after = after })
+  pub ahead : AreReadAhead c p j r bytes made old
 
-    row-cost : r * block_sectors v * (block_in c v 0).on_data.cost + many * block_sectors v * (block_in c v 0).on_data.cost ≤ to * block_sectors v * (block_in c v 0).on_data.cost
-    row-cost = cost-row r many to (block_sectors v) (block_in c v 0).on_data.cost more
+pub checked-as : {c : Configuration} {p : VerityPart} {chains : Chains} {start : List ℕ} {r to j : ℕ} {bytes : List ℕ} {made : List (List ℕ)} {path : List CachedBlock} {old new : List Device} {before now : List FoundRecord} → to ≡ r
+    → AreChecked c p chains start r j bytes made path old new before now → AreChecked c p chains start to j bytes made path old new before now
+checked-as {c = c} {p = p} {chains = chains} {start = start} {j = j} {bytes = bytes} {made = made} {path = path} {old = old} {new = new} {before = before} {now = now} same checked =
+    subst (λ (k : ℕ). AreChecked c p chains start k j bytes made path old new before now) (sym same) checked
 
-    same-cost : many * block_sectors v * read_cost c lower ≡ many * block_sectors v * (block_in c v 0).on_data.cost
-    same-cost = ap (λ (k : ℕ). many * block_sectors v * k) (sym cost)
+-- block j, whose number in the line is counted from the part's first sector by s sectors a block
+pub record IsTurn (p : VerityPart) (start : List ℕ) (s r j : ℕ) (bytes : List ℕ) : Type 0 where
+  pub inside : j < length start / 512 / block_sectors p.verity.now
+  pub read : r ≤ length start / 512 / block_sectors p.verity.now
+  pub few : length start / 512 / block_sectors p.verity.now ≤ 128
+  pub len : length bytes ≡ 512 * (length start / 512)
+  pub count : length start / p.verity.now.data_block ≡ length start / 512 / block_sectors p.verity.now
+  pub index : p.first / s + j ≡ p.first / block_sectors p.verity.now + j
+  pub there : p.first / s + j < p.verity.now.blocks
+  pub small : p.first / s + j < 2 ^ 64
+  pub end : j * p.verity.now.data_block + p.verity.now.data_block ≤ length bytes
 
-    both-cost : read_cost_so_far c v (r * block_sectors v) j + (path_cost c v + many * block_sectors v * read_cost c lower) ≤ read_cost_so_far c v (to * block_sectors v) (j + 1)
-    both-cost = sum-row (r * block_sectors v * (block_in c v 0).on_data.cost) (many * block_sectors v * (block_in c v 0).on_data.cost) (to * block_sectors v * (block_in c v 0).on_data.cost) (path_cost c v) j (many * block_sectors v * read_cost c lower) row-cost same-cost
+-- the row of `many` blocks from block j on
+pub record IsRow (c : Configuration) (p : VerityPart) (start : List ℕ) (j many : ℕ) (bytes : List ℕ) : Type 0 where
+  pub most : j + many ≤ length start / 512 / block_sectors p.verity.now
+  pub few : j + many ≤ 128
+  pub end : j * p.verity.now.data_block + many * p.verity.now.data_block ≤ length bytes
+  pub len : length (take (j * p.verity.now.data_block + many * p.verity.now.data_block - j * p.verity.now.data_block) (drop (j * p.verity.now.data_block) bytes)) ≡ many * p.verity.now.data_block
+  pub sectors : length (take (j * p.verity.now.data_block + many * p.verity.now.data_block - j * p.verity.now.data_block) (drop (j * p.verity.now.data_block) bytes)) / 512 ≡ many * block_sectors p.verity.now
+  pub whole : length (take (j * p.verity.now.data_block + many * p.verity.now.data_block - j * p.verity.now.data_block) (drop (j * p.verity.now.data_block) bytes)) % 512 ≡ 0
+  pub inside : block_sectors p.verity.now * (p.first / block_sectors p.verity.now + j) + many * block_sectors p.verity.now ≤ size c p.data
 
-    last-cost : path_cost c v + many * block_sectors v * read_cost c lower ≤ read_cost_so_far c v (to * block_sectors v) (j + 1)
-    last-cost = le-sum (read_cost_so_far c v (r * block_sectors v) j) (path_cost c v + many * block_sectors v * read_cost c lower) (read_cost_so_far c v (to * block_sectors v) (j + 1)) both-cost
+-- the bytes, where the row stands as it was read
+pub record IsPut (p : VerityPart) (start : List ℕ) (j many : ℕ) (bytes row : List ℕ) : Type 0 where
+  pub wide : length row ≡ many * p.verity.now.data_block
+  pub len : length (put_mid (j * p.verity.now.data_block) (j * p.verity.now.data_block + many * p.verity.now.data_block - j * p.verity.now.data_block) bytes row) ≡ 512 * (length start / 512)
+  pub row_is : take (j * p.verity.now.data_block + many * p.verity.now.data_block - j * p.verity.now.data_block) (drop (j * p.verity.now.data_block) (put_mid (j * p.verity.now.data_block) (j * p.verity.now.data_block + many * p.verity.now.data_block - j * p.verity.now.data_block) bytes row)) ≡ row
+  pub end : j * p.verity.now.data_block + p.verity.now.data_block ≤ length (put_mid (j * p.verity.now.data_block) (j * p.verity.now.data_block + many * p.verity.now.data_block - j * p.verity.now.data_block) bytes row)
+  pub front : (k : ℕ) → k ≤ j * p.verity.now.data_block → take k (put_mid (j * p.verity.now.data_block) (j * p.verity.now.data_block + many * p.verity.now.data_block - j * p.verity.now.data_block) bytes row) ≡ take k bytes
+  pub row_even : length row % p.verity.now.data_block ≡ 0
+  pub row_count : length row / p.verity.now.data_block ≡ many
 
-    -- and the read of the data behind it did
-    module _ (new : List Device) (chains : List FoundRecord) (answer : Result (List ℕ) IoFault) (got : Gets (run_expected (place_of c lower) chains (block_sectors v * (p.first / block_sectors v + j)) (many * block_sectors v)) walk new answer) where
-      all-moved : AreRead did.old (read_cost_so_far c v (to * block_sectors v) (j + 1)) new
-      all-moved = AreRead-more both-cost (AreRead-then had.moved (AreRead-then moved got.moved))
+module _ {c : Configuration} {p : VerityPart} {found : List FoundRecord} {start : List ℕ} (b : BlocksAt c p (length start / 512) found) where
+  -- none of them yet
+  pub checked-none : (chains : Chains) {old : List Device} (made : List (List ℕ)) (path : List CachedBlock) → length made ≡ 128 → path ≡ [] → AllKept c old found → AreChecked c p chains start 0 0 start made path old old found found
+  checked-none chains {old = old} made path room none kept = record {
+    size = refl;
+    room = room;
+    within = omega arith;
+    most = omega arith;
+    after = found;
+    out = none-out chains found;
+    held = subst (All (IsCached c old)) (sym none) (All-nil (IsCached c old));
+    had = none-had b start kept;
+    ahead = λ k low below. absurd (omega (arith, below));
+  }
 
-      rest-moved : AreRead did.new (read_cost_so_far c v (to * block_sectors v) (j + 1)) new
-      rest-moved = AreRead-more last-cost (AreRead-then moved got.moved)
-
-      pub row-next : IsNext c v p n to j bytes expected path (record { old = did.old; new = new; before = did.before; after = did.after })
-      row-next = record {
-        mid = did.new;
-        here = walk;
-        ways = read_cost_so_far c v (r * block_sectors v) j + path_cost c v;
-        so_far = had.so_far;
-        walked = walked;
-        later = AreRead-then had.moved moved;
-        moved = all-moved;
-        rest = rest-moved;
-        before = had.before;
+  pub turn-at : {chains : Chains} {s r j : ℕ} {bytes : List ℕ} {made : List (List ℕ)} {path : List CachedBlock} {old new : List Device} {before now : List FoundRecord} → AreChecked c p chains start r j bytes made path old new before now
+      → length start % 512 ≡ 0 → s ≡ block_sectors p.verity.now → j < length start / p.verity.now.data_block → IsTurn p start s r j bytes
+  turn-at {s = s} {j = j} {bytes = bytes} inv whole from more =
+      let count = digest-count b start (omega (arith, whole)) in
+      let inside : j < (length start / 512) / block_sectors p.verity.now = omega (arith, more, count) in
+      let len : length bytes ≡ 512 * (length start / 512) = omega (arith, inv.size, whole) in
+      let index : p.first / s + j ≡ p.first / block_sectors p.verity.now + j = ap (λ (k : ℕ). p.first / k + j) from in
+      record {
+        inside = inside;
+        read = inv.most;
+        few = omega (arith, few-blocks b, b.few);
+        len = len;
+        count = count;
+        index = index;
+        there = omega (arith, index, b.there j inside);
+        small = omega (arith, size-small c p.data b.loaded, small-index b j inside, b.below, index);
+        end = omega (arith, blocks-end b bytes (j + 1) len (omega (arith, inside)), add-mul j 1 p.verity.now.data_block);
       }
 
-    pub row-fails : (new : List Device) (chains : List FoundRecord) (fault : IoFault) → Gets (run_expected (place_of c lower) chains (block_sectors v * (p.first / block_sectors v + j)) (many * block_sectors v)) walk new (Err fault)
-        → ReadsSource c (Blocks p) n (record { old = did.old; new = new; before = did.before; after = did.after }) (Err fault)
-    row-fails new chains fault got =
-        let total = total-cost c v p n m loaded line at.aligned at.size at.count to (j + 1) far (omega (arith, inside)) in
-        let none : MeetNone (place_of c lower).said (block_sectors v * (first + j)) (many * block_sectors v) =
-        λ f some. at.clear f (j * block_sectors v + some.0, omega (arith, some.1, inner j many most), subst (λ (k : ℕ). ((place_of c lower).said k).meets f) (omega (arith, place j)) some.2) in
-        blocks-read c v p n m loaded line at.aligned at.size at.count (record { old = did.old; new = new; before = did.before; after = did.after }) (Err fault) to (j + 1) far (omega (arith, inside)) (all-moved new chains (Err fault) got)
-        (row-stops c v p n m loaded line at.aligned at.size at.count j inside had.so_far (rest-moved new chains (Err fault) got) total lower chains fault none moved got)
+  -- after the last one
+  pub checked-all : {chains : Chains} {r j : ℕ} {bytes : List ℕ} {made : List (List ℕ)} {path : List CachedBlock} {old new : List Device} {before now : List FoundRecord} → AreChecked c p chains start r j bytes made path old new before now
+      → length start % 512 ≡ 0 → (j < length start / p.verity.now.data_block → ⊥) → ReadsBlocks c p (length start / 512) chains (record { old = old; new = new; before = before; after = now }) (Ok bytes)
+  checked-all {r = r} {j = j} {bytes = bytes} {old = old} {new = new} {before = before} inv whole last =
+      let all : j ≡ (length start / 512) / block_sectors p.verity.now = omega (arith, last, inv.within, digest-count b start (omega (arith, whole))) in
+      let count : j * block_sectors p.verity.now ≡ (length start / 512) = ap (λ (k : ℕ). k * block_sectors p.verity.now) all ∙ b.count in
+      let front : take (512 * (j * block_sectors p.verity.now)) bytes ≡ bytes = take_all (512 * (j * block_sectors p.verity.now)) bytes (omega (arith, inv.size, whole, count)) in
+      let did : LeafRead = record { old = old; new = new; before = before; after = inv.after } in
+      record {
+        after = inv.after;
+        out = inv.out;
+        reads = blocks-read b did (Ok bytes) r j inv.most inv.within inv.had.moved
+            (subst (λ (k : ℕ). Finds (blocks_place c p (length start / 512)) c 0 k did (Ok bytes)) count (subst (λ (l : List ℕ). Finds (blocks_place c p (length start / 512)) c 0 (j * block_sectors p.verity.now) did (Ok l)) front inv.had.so_far));
+      }
 
-    -- those that were read
-    pub row-ahead : (new : List Device) (row : List ℕ) (made made' : List (List ℕ)) (chains : List FoundRecord) → AllWhole walk → length bytes ≡ 512 * n → length made ≡ 128 → j + many ≤ 128 → AreReadAhead c v p lower j r bytes made did.old
-        → Gets (run_expected (place_of c lower) chains (block_sectors v * (p.first / block_sectors v + j)) (many * block_sectors v)) walk new (Ok row)
-        → made' ≡ put_mid j many made (map (digest v.salt) (cut v.data_block row))
-        → AreReadAhead c v p lower j to (put_mid (j * v.data_block) (many * v.data_block) bytes row) made' did.old
-    row-ahead new row made made' chains whole len room few ahead got is k low below x = elim (cases_lt k (j + many)) [
-      | inl near ↦ in-row near
-      | inr high ↦ behind high
-    ]
-      where
-        u : ℕ
-        u = block_sectors v
+  -- ---- a turn
 
-        a : ℕ
-        a = j * v.data_block
+  module _ {s r j : ℕ} {bytes : List ℕ} (turn : IsTurn p start s r j bytes) where
+    pub row-at : (many : ℕ) → j + many ≤ length start / p.verity.now.data_block → IsRow c p start j many bytes
+    row-at many h =
+        let a : ℕ = j * p.verity.now.data_block in
+        let most : j + many ≤ (length start / 512) / block_sectors p.verity.now = omega (arith, h, turn.count) in
+        let end : a + many * p.verity.now.data_block ≤ length bytes = omega (arith, blocks-end b bytes (j + many) turn.len most, add-mul j many p.verity.now.data_block) in
+        let len : length (take (a + many * p.verity.now.data_block - a) (drop a bytes)) ≡ many * p.verity.now.data_block = length-take-le (a + many * p.verity.now.data_block - a) (drop a bytes) (omega (arith, end, length-drop a bytes)) ∙ sub-same a (many * p.verity.now.data_block) in
+        record {
+          most = most;
+          few = omega (arith, most, turn.few);
+          end = end;
+          len = len;
+          sectors = omega (arith, len, block-begin b many);
+          whole = omega (arith, len, block-begin b many);
+          inside = row-inside b j many most;
+        }
 
-        out : List ℕ
-        out = put_mid (j * v.data_block) (many * v.data_block) bytes row
+    -- it ended in a fault on the way to the block
+    pub way-fails : {did : LeafRead} {new : List Device} (fault : IoFault) → WereHad c p (length start / 512) r j bytes did → AreRead did.new (path_cost c p.verity.now) new → GetsChain (block_in c p.verity.now (p.first / s + j)) did.new new (Err fault)
+        → ReadsSource c (Blocks p) (length start / 512) (record { old = did.old; new = new; before = did.before; after = did.after }) (Err fault)
+    way-fails {did = did} {new = new} fault had moved got =
+        let next : j + 1 ≤ (length start / 512) / block_sectors p.verity.now = omega (arith, turn.inside) in
+        let most = total-cost b r (j + 1) turn.read next in
+        let way = sum-way (r * block_sectors p.verity.now * (block_in c p.verity.now 0).on_data.cost) (path_cost c p.verity.now) j in
+        let few : path_cost c p.verity.now ≤ (length start / 512) * read_cost c (mapped p.device.0) =
+        le-sum (r * block_sectors p.verity.now * (block_in c p.verity.now 0).on_data.cost + j * path_cost c p.verity.now) (path_cost c p.verity.now) ((length start / 512) * read_cost c (mapped p.device.0)) (subst (λ (k : ℕ). k ≤ (length start / 512) * read_cost c (mapped p.device.0)) (sym way) most) in
+        let both : AreRead did.old (read_cost_so_far c p.verity.now (r * block_sectors p.verity.now) (j + 1)) new = subst (λ (k : ℕ). AreRead did.old k new) way (AreRead-then had.moved moved) in
+        blocks-read b (record { old = did.old; new = new; before = did.before; after = did.after }) (Err fault) r (j + 1) turn.read next both
+        (blocks-stop b j turn.inside had.so_far moved few fault (subst (λ (k : ℕ). GetsChain (block_in c p.verity.now k) did.new new (Err fault)) turn.index got))
 
-        some : 0 < block_sectors v
-        some = omega (arith, at.size.some)
+    pub way-costs : {did : LeafRead} {new : List Device} → WereHad c p (length start / 512) r j bytes did → AreRead did.new (path_cost c p.verity.now) new → ReadsAtMost (part_budget c p (length start / 512)) did.old new
+    way-costs had moved = way-spent b r j turn.read turn.inside had.moved moved
 
-        fits : j * v.data_block ≤ length bytes
-        fits = blocks-end bytes j len (omega (arith, inside))
+    module _ {many : ℕ} (row : IsRow c p start j many bytes) where
+      pub put-at : (bytes_of : List ℕ) → length bytes_of ≡ length (take (j * p.verity.now.data_block + many * p.verity.now.data_block - j * p.verity.now.data_block) (drop (j * p.verity.now.data_block) bytes)) → IsPut p start j many bytes bytes_of
+      put-at bytes_of same =
+          let a : ℕ = j * p.verity.now.data_block in
+          let w : ℕ = a + many * p.verity.now.data_block - a in
+          let fits : a ≤ length bytes = omega (arith, turn.end) in
+          let wide : length bytes_of ≡ many * p.verity.now.data_block = same ∙ row.len in
+          let len : length (put_mid a w bytes bytes_of) ≡ 512 * (length start / 512) = same_len_mid a w bytes bytes_of same ∙ turn.len in
+          let some : 0 < p.verity.now.data_block = omega (arith, block-size b, b.size.some) in
+          record {
+            wide = wide;
+            len = len;
+            row_is = between-put_mid a w bytes bytes_of (a + many * p.verity.now.data_block) fits (wide ∙ sym (sub-same a (many * p.verity.now.data_block)));
+            end = omega (arith, blocks-end b (put_mid a w bytes bytes_of) (j + 1) len (omega (arith, turn.inside)), add-mul j 1 p.verity.now.data_block);
+            front = λ k low. take-put_mid_below a w bytes bytes_of k low fits;
+            row_even = ap (λ (k : ℕ). k % p.verity.now.data_block) wide ∙ mul-mod_left many p.verity.now.data_block;
+            row_count = ap (λ (k : ℕ). k / p.verity.now.data_block) wide ∙ mul-div_cancel many some;
+          }
 
-        row-len : length row ≡ 512 * (many * block_sectors v)
-        row-len = got.may.len
+      -- what was read beneath, by its place and number
+      pub row-got : {on : Lower} {e : Extent} {at new : List Device} {answer : Result (List ℕ) IoFault} → on ≡ p.data → IsExtent c on (block_sectors p.verity.now * (p.first / s + j)) (block_sectors p.verity.now) e
+          → GetsBytes c on e.first (length (take (j * p.verity.now.data_block + many * p.verity.now.data_block - j * p.verity.now.data_block) (drop (j * p.verity.now.data_block) bytes)) / 512) at new answer
+          → GetsBytes c p.data (block_sectors p.verity.now * (p.first / block_sectors p.verity.now + j)) (many * block_sectors p.verity.now) at new answer
+      row-got {e = e} {at = at} {new = new} {answer = answer} same extent gets =
+          let begin : e.first ≡ block_sectors p.verity.now * (p.first / block_sectors p.verity.now + j) = ap (λ (x : Extent). x.first) extent.value ∙ ap (λ (k : ℕ). block_sectors p.verity.now * k) turn.index in
+          subst (λ (k : ℕ). GetsBytes c p.data (block_sectors p.verity.now * (p.first / block_sectors p.verity.now + j)) k at new answer) row.sectors
+          (subst (λ (k : ℕ). GetsBytes c p.data k (length (take (j * p.verity.now.data_block + many * p.verity.now.data_block - j * p.verity.now.data_block) (drop (j * p.verity.now.data_block) bytes)) / 512) at new answer) begin
+          (subst (λ (y : Lower). GetsBytes c y e.first (length (take (j * p.verity.now.data_block + many * p.verity.now.data_block - j * p.verity.now.data_block) (drop (j * p.verity.now.data_block) bytes)) / 512) at new answer) same gets))
 
-        wide : length row ≡ many * v.data_block
-        wide = got.may.len ∙ sym (block-begin many)
+      -- the way to the block was walked
+      module _ (fresh : (many ≡ 0) ⊎ (r ≤ j)) {expected : List ℕ} {way : List (List ℕ)} {did : LeafRead} {walk : List Device} (had : WereHad c p (length start / 512) r j bytes did) (moved : AreRead did.new (path_cost c p.verity.now) walk)
+          (walked : IsWalked (block_in c p.verity.now (p.first / s + j)) 0 expected way did.new walk) {new : List Device} {answer : Result (List ℕ) IoFault}
+          (gets : GetsBytes c p.data (block_sectors p.verity.now * (p.first / block_sectors p.verity.now + j)) (many * block_sectors p.verity.now) walk new answer) where
+        abbrev next_read : ℕ
+        next_read = max r (j + many)
 
-        digests : length (map (digest v.salt) (cut v.data_block row)) ≡ many
-        digests = ap (λ (s : ℕ). length (map (digest v.salt) (cut s row))) (sym block-size) ∙ cell-count row (block_sectors v) many some row-len v.salt
+        more : r + many ≤ next_read
+        more = elim fresh [ inl none ↦ omega (arith, none) | inr old ↦ omega (arith, old) ]
 
-        in-row : k < j + many → IsRead c v p lower did.old k (take (512 * block_sectors v) (drop (512 * (k * block_sectors v)) out)) (get_or made' k x)
-        in-row near =
+        pub far : next_read ≤ (length start / 512) / block_sectors p.verity.now
+        far = omega (arith, turn.read, row.most)
+
+        both-cost : read_cost_so_far c p.verity.now (r * block_sectors p.verity.now) j + (path_cost c p.verity.now + many * block_sectors p.verity.now * read_cost c p.data) ≤ read_cost_so_far c p.verity.now (next_read * block_sectors p.verity.now) (j + 1)
+        both-cost =
+            sum-row (r * block_sectors p.verity.now * (block_in c p.verity.now 0).on_data.cost) (many * block_sectors p.verity.now * (block_in c p.verity.now 0).on_data.cost) (next_read * block_sectors p.verity.now * (block_in c p.verity.now 0).on_data.cost) (path_cost c p.verity.now) j (many * block_sectors p.verity.now * read_cost c p.data)
+            (cost-row r many next_read (block_sectors p.verity.now) (block_in c p.verity.now 0).on_data.cost more) (ap (λ (k : ℕ). many * block_sectors p.verity.now * k) (sym (cost b)))
+
+        rest-cost : path_cost c p.verity.now + many * block_sectors p.verity.now * read_cost c p.data ≤ read_cost_so_far c p.verity.now (next_read * block_sectors p.verity.now) (j + 1)
+        rest-cost = le-sum (read_cost_so_far c p.verity.now (r * block_sectors p.verity.now) j) (path_cost c p.verity.now + many * block_sectors p.verity.now * read_cost c p.data) (read_cost_so_far c p.verity.now (next_read * block_sectors p.verity.now) (j + 1)) both-cost
+
+        all-moved : AreRead did.old (read_cost_so_far c p.verity.now (next_read * block_sectors p.verity.now) (j + 1)) new
+        all-moved = AreRead-more both-cost (AreRead-then had.moved (AreRead-then moved gets.got.moved))
+
+        rest-moved : AreRead did.new (read_cost_so_far c p.verity.now (next_read * block_sectors p.verity.now) (j + 1)) new
+        rest-moved = AreRead-more rest-cost (AreRead-then moved gets.got.moved)
+
+        pub row-costs : ReadsAtMost (part_budget c p (length start / 512)) did.old new
+        row-costs = row-spent b r j many turn.read turn.inside row.most fresh had.moved moved gets.got.moved
+
+        pub row-next : IsNext c p (length start / 512) next_read j bytes expected way (record { old = did.old; new = new; before = did.before; after = did.after })
+        row-next = record {
+          mid = did.new;
+          here = walk;
+          ways = read_cost_so_far c p.verity.now (r * block_sectors p.verity.now) j + path_cost c p.verity.now;
+          so_far = had.so_far;
+          walked = subst (λ (k : ℕ). IsWalked (block_in c p.verity.now k) 0 expected way did.new walk) turn.index walked;
+          later = AreRead-then had.moved moved;
+          moved = all-moved;
+          rest = rest-moved;
+          before = had.before;
+        }
+
+      -- and the read of the data after it failed
+      pub row-fails : (fresh : (many ≡ 0) ⊎ (r ≤ j)) {expected : List ℕ} {way : List (List ℕ)} {did : LeafRead} {walk new : List Device} (fault : IoFault) (had : WereHad c p (length start / 512) r j bytes did) (moved : AreRead did.new (path_cost c p.verity.now) walk)
+          (walked : IsWalked (block_in c p.verity.now (p.first / s + j)) 0 expected way did.new walk) → GetsBytes c p.data (block_sectors p.verity.now * (p.first / block_sectors p.verity.now + j)) (many * block_sectors p.verity.now) walk new (Err fault)
+          → ReadsSource c (Blocks p) (length start / 512) (record { old = did.old; new = new; before = did.before; after = did.after }) (Err fault)
+      row-fails fresh {did = did} {new = new} fault had moved walked gets =
+          let to : ℕ = max r (j + many) in
+          let next : j + 1 ≤ (length start / 512) / block_sectors p.verity.now = omega (arith, turn.inside) in
+          let end = far fresh had moved walked gets in
+          let none : MeetNone (place_of c p.data).said (block_sectors p.verity.now * (p.first / block_sectors p.verity.now + j)) (many * block_sectors p.verity.now) =
+          λ f some. b.clear f (j * block_sectors p.verity.now + some.0, omega (arith, some.1, inner b j many row.most), subst (λ (k : ℕ). ((place_of c p.data).said k).meets f) (omega (arith, place b j)) some.2) in
+          blocks-read b (record { old = did.old; new = new; before = did.before; after = did.after }) (Err fault) to (j + 1) end next (all-moved fresh had moved walked gets)
+          (row-stops b j turn.inside had.so_far (rest-moved fresh had moved walked gets) (total-cost b to (j + 1) end next) gets.chains fault none moved gets.got)
+
+      -- the blocks as far as that stand there as they were read
+      module _ (fresh : (many ≡ 0) ⊎ (r ≤ j)) {did : LeafRead} {walk new : List Device} {content_of : List ℕ} {digests : List (List ℕ)} (made : List (List ℕ)) (had : WereHad c p (length start / 512) r j bytes did) (moved : AreRead did.new (path_cost c p.verity.now) walk)
+          (gets : GetsBytes c p.data (block_sectors p.verity.now * (p.first / block_sectors p.verity.now + j)) (many * block_sectors p.verity.now) walk new (Ok content_of)) (whole : AllWhole walk) (room : length made ≡ 128) (ahead : AreReadAhead c p j r bytes made did.old)
+          (put : IsPut p start j many bytes content_of) (are : digests ≡ map (digest p.verity.now.salt) (cut p.verity.now.data_block (take (j * p.verity.now.data_block + many * p.verity.now.data_block - j * p.verity.now.data_block) (drop (j * p.verity.now.data_block) (put_mid (j * p.verity.now.data_block) (j * p.verity.now.data_block + many * p.verity.now.data_block - j * p.verity.now.data_block) bytes content_of))))) where
+        abbrev u : ℕ
+        u = block_sectors p.verity.now
+
+        abbrev a : ℕ
+        a = j * p.verity.now.data_block
+
+        abbrev w : ℕ
+        w = j * p.verity.now.data_block + many * p.verity.now.data_block - j * p.verity.now.data_block
+
+        row-some : 0 < block_sectors p.verity.now
+        row-some = omega (arith, b.size.some)
+
+        row-fits : j * p.verity.now.data_block ≤ length bytes
+        row-fits = omega (arith, turn.end)
+
+        wide : length content_of ≡ w
+        wide = put.wide ∙ sym (sub-same (j * p.verity.now.data_block) (many * p.verity.now.data_block))
+
+        digests-are : digests ≡ map (digest p.verity.now.salt) (cut p.verity.now.data_block content_of)
+        digests-are = are ∙ ap (λ (l : List ℕ). map (digest p.verity.now.salt) (cut p.verity.now.data_block l)) put.row_is
+
+        digests-count : length digests ≡ many
+        digests-count = ap (λ (l : List (List ℕ)). length l) digests-are ∙ ap (λ (s : ℕ). length (map (digest p.verity.now.salt) (cut s content_of))) (sym (block-size b)) ∙ cell-count content_of (block_sectors p.verity.now) many row-some gets.got.may.len p.verity.now.salt
+
+        of-row : (k : ℕ) → j ≤ k → k < j + many → (x : List ℕ) → IsRead c p did.old k (take (512 * block_sectors p.verity.now) (drop (512 * (k * block_sectors p.verity.now)) (put_mid a w bytes content_of))) (get_or (put_mid j (j + many - j) made digests) k x)
+        of-row k low near x =
             let t : ℕ = k - j in
             let at_k : k ≡ j + t = omega (arith, low) in
             let here : t < many = omega (arith, near, low) in
             let up : (t + 1) * u ≤ many * u = mul-le-mul_right u (omega (arith, here)) in
             let room_in : t * u + u ≤ many * u = omega (arith, up, add-mul t 1 u) in
-            let begin : 512 * (k * u) ≡ a + 512 * (t * u) = omega (arith, block-begin j, ap (λ (i : ℕ). i * u) at_k, add-mul j t u) in
-            let block : take (512 * u) (drop (512 * (k * u)) out) ≡ take (512 * u) (drop (512 * (t * u)) row) =
-            ap (λ (i : ℕ). take (512 * u) (drop i out)) begin ∙ part-put a (many * v.data_block) bytes row fits (512 * (t * u)) (512 * u) (omega (arith, room_in, got.may.len)) in
-            let made_k : get_or made' k x ≡ digest v.salt (take (512 * u) (drop (512 * (t * u)) row)) =
-            ap (λ (l : List (List ℕ)). get_or l k x) is ∙ ap (λ (i : ℕ). get_or (put_mid j many made (map (digest v.salt) (cut v.data_block row))) i x) at_k
-            ∙ item-put j many made (map (digest v.salt) (cut v.data_block row)) (omega (arith, room, few)) t x (omega (arith, here, digests))
-            ∙ ap (λ (s : ℕ). get_or (map (digest v.salt) (cut s row)) t x) (sym block-size) ∙ cell-digest row u many some row-len v.salt t x here in
-            let is_read : IsRead c v p lower did.old k (take (512 * u) (drop (512 * (t * u)) row)) (get_or made' k x) = record {
+            let begin : 512 * (k * u) ≡ a + 512 * (t * u) = omega (arith, block-begin b j, ap (λ (i : ℕ). i * u) at_k, add-mul j t u) in
+            let block : take (512 * u) (drop (512 * (k * u)) (put_mid a w bytes content_of)) ≡ take (512 * u) (drop (512 * (t * u)) content_of) =
+            ap (λ (i : ℕ). take (512 * u) (drop i (put_mid a w bytes content_of))) begin ∙ part-put a w bytes content_of row-fits (512 * (t * u)) (512 * u) (omega (arith, room_in, gets.got.may.len)) in
+            let made_k : get_or (put_mid j (j + many - j) made digests) k x ≡ digest p.verity.now.salt (take (512 * u) (drop (512 * (t * u)) content_of)) =
+            ap (λ (i : ℕ). get_or (put_mid j (j + many - j) made digests) i x) at_k
+            ∙ item-put j (j + many - j) made digests (omega (arith, room, row.few)) t x (omega (arith, here, digests-count))
+            ∙ ap (λ (l : List (List ℕ)). get_or l t x) digests-are ∙ ap (λ (s : ℕ). get_or (map (digest p.verity.now.salt) (cut s content_of)) t x) (sym (block-size b)) ∙ cell-digest content_of u many row-some gets.got.may.len p.verity.now.salt t x here in
+            let is_read : IsRead c p did.old k (take (512 * u) (drop (512 * (t * u)) content_of)) (get_or (put_mid j (j + many - j) made digests) k x) = record {
               from = walk;
               ways = _;
               first = AreRead-then had.moved moved;
               means = λ steady.
-                  let f : ℕ → Outcome = λ s. ((place_of c lower).said s).means (steady_images walk) in
-                  let sized : AreSized f = λ s. sector-size c (steady_images walk) loaded (images-whole walk whole) lower s in
+                  let f : ℕ → Outcome = λ s. ((place_of c p.data).said s).means (steady_images walk) in
+                  let sized : AreSized f = λ s. sector-size c (steady_images walk) b.loaded (images-whole walk whole) p.data s in
                   let all : t * u + (u + (many * u - (t * u + u))) ≡ many * u = omega (arith, room_in) in
-                  let begins : block_sectors v * (first + j) + t * u ≡ p.first + k * u = omega (arith, place j, ap (λ (i : ℕ). i * u) at_k, add-mul j t u) in
-                  ap (λ (i : ℕ). span f i u) (sym begins) ∙ span-part f sized (block_sectors v * (first + j)) (t * u) u (many * u - (t * u + u)) row (ap (span f (block_sectors v * (first + j))) all ∙ got.exact steady);
+                  let begins : block_sectors p.verity.now * (p.first / block_sectors p.verity.now + j) + t * u ≡ p.first + k * u = omega (arith, place b j, ap (λ (i : ℕ). i * u) at_k, add-mul j t u) in
+                  ap (λ (i : ℕ). span f i u) (sym begins)
+                  ∙ span-part f sized (block_sectors p.verity.now * (p.first / block_sectors p.verity.now + j)) (t * u) u (many * u - (t * u + u)) content_of (ap (span f (block_sectors p.verity.now * (p.first / block_sectors p.verity.now + j))) all ∙ gets.got.exact steady);
               made_is = made_k;
             } in
-            subst (λ (l : List ℕ). IsRead c v p lower did.old k l (get_or made' k x)) (sym block) is_read
+            subst (λ (l : List ℕ). IsRead c p did.old k l (get_or (put_mid j (j + many - j) made digests) k x)) (sym block) is_read
 
-        behind : j + many ≤ k → IsRead c v p lower did.old k (take (512 * block_sectors v) (drop (512 * (k * block_sectors v)) out)) (get_or made' k x)
-        behind high =
+        of-before : (k : ℕ) → j + many ≤ k → k < max r (j + many) → (x : List ℕ) → IsRead c p did.old k (take (512 * block_sectors p.verity.now) (drop (512 * (k * block_sectors p.verity.now)) (put_mid a w bytes content_of))) (get_or (put_mid j (j + many - j) made digests) k x)
+        of-before k high below x =
             let up : (j + many) * u ≤ k * u = mul-le-mul_right u high in
-            let past : a + many * v.data_block ≤ 512 * (k * u) = omega (arith, block-begin j, block-begin many, up, add-mul j many u) in
-            let block = rest-put a (many * v.data_block) bytes row fits (512 * (k * u)) (512 * u) past wide in
-            let same : get_or made' k x ≡ get_or made k x =
-            ap (λ (l : List (List ℕ)). get_or l k x) is ∙ item-rest j many made (map (digest v.salt) (cut v.data_block row)) (omega (arith, room, few)) k x high digests in
-            subst (λ (l : List ℕ). IsRead c v p lower did.old k l (get_or made' k x)) (sym block)
-            (subst (λ (y : List ℕ). IsRead c v p lower did.old k (take (512 * u) (drop (512 * (k * u)) bytes)) y) (sym same) (ahead k low (omega (arith, below, high, as_far)) x))
+            let past : a + w ≤ 512 * (k * u) = omega (arith, block-begin b j, block-begin b many, up, add-mul j many u) in
+            let block = rest-put a w bytes content_of row-fits (512 * (k * u)) (512 * u) past wide in
+            let count : length digests ≡ j + many - j = digests-count ∙ sym (sub-same j many) in
+            let same : get_or (put_mid j (j + many - j) made digests) k x ≡ get_or made k x = item-rest j (j + many - j) made digests (omega (arith, room, row.few)) k x (omega (arith, high)) count in
+            subst (λ (l : List ℕ). IsRead c p did.old k l (get_or (put_mid j (j + many - j) made digests) k x)) (sym block)
+            (subst (λ (y : List ℕ). IsRead c p did.old k (take (512 * u) (drop (512 * (k * u)) bytes)) y) (sym same) (ahead k (omega (arith, high)) (omega (arith, below, high)) x))
 
-  -- those behind block j stay, where it is written
-  pub ahead-rest : (j r : ℕ) (bytes block : List ℕ) (made : List (List ℕ)) (old : List Device) (w : ℕ) → w ≡ v.data_block → length block ≡ w → length bytes ≡ 512 * n → j < n / block_sectors v → AreReadAhead c v p lower j r bytes made old
-      → AreReadAhead c v p lower (j + 1) r (put_mid (j * v.data_block) w bytes block) made old
-  ahead-rest j r bytes block made old w wide long len inside ahead k low below x =
-      let u : ℕ = block_sectors v in
-      let up : (j + 1) * u ≤ k * u = mul-le-mul_right u low in
-      let past : j * v.data_block + w ≤ 512 * (k * u) = omega (arith, block-begin j, block-size, wide, up, add-mul j 1 u) in
-      subst (λ (l : List ℕ). IsRead c v p lower old k l (get_or made k x)) (sym (rest-put (j * v.data_block) w bytes block (blocks-end bytes j len (omega (arith, inside))) (512 * (k * u)) (512 * u) past long))
-      (ahead k (omega (arith, low)) below x)
+        pub row-ahead : AreReadAhead c p j (max r (j + many)) (put_mid a w bytes content_of) (put_mid j (j + many - j) made digests) did.old
+        row-ahead k low below x = elim (cases_lt k (j + many)) [
+          | inl near ↦ of-row k low near x
+          | inr high ↦ of-before k high below x
+        ]
 
-  -- ---- the next block
+-- ---- the block itself
 
-  module _ (r j : ℕ) (bytes expected : List ℕ) (path : List (List ℕ)) (did : LeafRead) (inside : j < n / block_sectors v) (read : r ≤ n / block_sectors v) (next : IsNext c v p n r j bytes expected path did) where
-    few : read_cost_so_far c v (r * block_sectors v) (j + 1) ≤ n * read_cost c (mapped p.device.0)
-    few = total-cost c v p n m loaded line at.aligned at.size at.count r (j + 1) read (omega (arith, inside))
+module _ {c : Configuration} {p : VerityPart} {n : ℕ} {found : List FoundRecord} (b : BlocksAt c p n found) where
+  -- what settles it: the bytes that stood there, and those that stand there written
+  module _ {r j : ℕ} {bytes expected : List ℕ} {path : List (List ℕ)} {did : LeafRead} (out : List ℕ) (inside : j < n / block_sectors p.verity.now) (read : r ≤ n / block_sectors p.verity.now) (next : IsNext c p n r j bytes expected path did)
+      (len : length out ≡ 512 * n) (end : j * p.verity.now.data_block + p.verity.now.data_block ≤ length out) where
+    few : read_cost_so_far c p.verity.now (r * block_sectors p.verity.now) (j + 1) ≤ n * read_cost c (mapped p.device.0)
+    few = total-cost b r (j + 1) read (omega (arith, inside))
 
-    -- its chain is there
-    pub next-had : (bytes' block : List ℕ) (number : ℕ) (way : List (List ℕ)) → take (512 * (j * block_sectors v)) bytes' ≡ take (512 * (j * block_sectors v)) bytes → block ≡ take (512 * block_sectors v) (drop (512 * (j * block_sectors v)) bytes')
-        → length block ≡ 512 * block_sectors v → number ≡ p.first / block_sectors v + j → way ≡ path
-        → GetsChain (block_in c v (p.first / block_sectors v + j)) next.mid next.here (Ok (record { index = p.first / block_sectors v + j; content = block; path = path }))
-        → WereHad c v p n r (j + 1) bytes' (record { old = did.old; new = did.new; before = did.before; after = did.after ++ (record { device = p.device.0; line = p.line; chain = record { index = number; content = block; path = way } } ∷ []) })
-    next-had bytes' block number way front holds len here goes got =
-        let u : ℕ = block_sectors v in
-        let more = blocks-more c v p n m loaded line at.aligned at.size at.count j inside next.so_far next.rest few block path len next.before got in
-        let count : j * u + u ≡ (j + 1) * u = omega (arith, add-mul j 1 u) in
-        let one : FoundRecord = record { device = p.device.0; line = p.line; chain = record { index = first + j; content = block; path = path } } in
-        let same : record { device = p.device.0; line = p.line; chain = record { index = number; content = block; path = way } } ≡ one =
-        ap {B = FoundRecord} (λ (i : ℕ). record { device = p.device.0; line = p.line; chain = record { index = i; content = block; path = way } }) here
-        ∙ ap {B = FoundRecord} (λ (w : List (List ℕ)). record { device = p.device.0; line = p.line; chain = record { index = first + j; content = block; path = w } }) goes in
-        let now : LeafRead = record { old = did.old; new = did.new; before = did.before; after = did.after ++ (one ∷ []) } in
-        let e : 512 * (j * u) + 512 * u ≡ 512 * (j * u + u) = omega arith in
-        let longer : take (512 * (j * u)) bytes ++ block ≡ take (512 * (j * u + u)) bytes' =
-        ap (λ (l : List ℕ). l ++ block) (sym front) ∙ ap (λ (l : List ℕ). take (512 * (j * u)) bytes' ++ l) holds ∙ sym (take-add (512 * (j * u)) (512 * u) bytes') ∙ ap (λ (k : ℕ). take k bytes') e in
-        subst (λ (x : FoundRecord). WereHad c v p n r (j + 1) bytes' (record { old = did.old; new = did.new; before = did.before; after = did.after ++ (x ∷ []) })) (sym same) (record {
-          so_far = subst (λ (k : ℕ). Finds (blocks_place c p n) c 0 k now (Ok (take (512 * k) bytes'))) count
-              (subst (λ (l : List ℕ). Finds (blocks_place c p n) c 0 (j * u + u) now (Ok l)) longer more);
-          moved = next.moved;
-          before = before-more c v p n m loaded line at.aligned at.size at.count did.after j block path next.before;
-        })
+    width : j * p.verity.now.data_block + p.verity.now.data_block - j * p.verity.now.data_block ≡ 512 * block_sectors p.verity.now
+    width = sub-same (j * p.verity.now.data_block) p.verity.now.data_block ∙ sym (block-size b) ∙ mul_comm (block_sectors p.verity.now) 512
 
-    -- it is ignored, or has the digest
-    pub settled : (ignored : Bool) (stood block made : List ℕ) → ignored ≡ is_ignored v expected → length stood ≡ 512 * block_sectors v → (ignored ≡ true → block ≡ zero_block v) → (ignored ≡ false → (made ≡ expected) × (block ≡ stood))
-        → (ignored ≡ false → IsRead c v p lower did.old j stood made) → GetsChain (block_in c v (p.first / block_sectors v + j)) next.mid next.here (Ok (record { index = p.first / block_sectors v + j; content = block; path = path }))
-    settled true stood block made same len zeros other was = block-zeros c v p n m loaded line at.aligned at.size at.count lower is j next.later next.walked block made (sym same) (zeros refl) (at.there j inside)
-    settled false stood block made same len zeros other was =
-        let good = other refl in
-        subst (λ (b : List ℕ). GetsChain (block_in c v (first + j)) next.mid next.here (Ok (record { index = first + j; content = b; path = path }))) (sym good.1)
-        (block-had c v p n m loaded line at.aligned at.size at.count lower is j next.later next.walked stood made (sym same) (was refl) len (at.there j inside) good.0)
+    part-is : (l : List ℕ) → take (j * p.verity.now.data_block + p.verity.now.data_block - j * p.verity.now.data_block) (drop (j * p.verity.now.data_block) l) ≡ take (512 * block_sectors p.verity.now) (drop (512 * (j * block_sectors p.verity.now)) l)
+    part-is l = ap (λ (k : ℕ). take k (drop (j * p.verity.now.data_block) l)) width ∙ ap (λ (k : ℕ). take (512 * block_sectors p.verity.now) (drop k l)) (block-begin b j)
+
+    stood-len : length (take (j * p.verity.now.data_block + p.verity.now.data_block - j * p.verity.now.data_block) (drop (j * p.verity.now.data_block) out)) ≡ j * p.verity.now.data_block + p.verity.now.data_block - j * p.verity.now.data_block
+    stood-len = length-take-le (j * p.verity.now.data_block + p.verity.now.data_block - j * p.verity.now.data_block) (drop (j * p.verity.now.data_block) out) (omega (arith, end, length-drop (j * p.verity.now.data_block) out))
+
+    -- it was read, unless the line ignores it
+    was-read : (made : List (List ℕ)) (x : List ℕ) → AreReadAhead c p j r out made did.old → j < r → IsRead c p did.old j (take (j * p.verity.now.data_block + p.verity.now.data_block - j * p.verity.now.data_block) (drop (j * p.verity.now.data_block) out)) (get_or made j x)
+    was-read made x ahead within = subst (λ (l : List ℕ). IsRead c p did.old j l (get_or made j x)) (sym (part-is out)) (ahead j (omega arith) within x)
 
     -- it has another digest
-    pub next-differs : GetsChain (block_in c v (p.first / block_sectors v + j)) next.mid next.here (Err (io.Stack mismatch)) → ReadsSource c (Blocks p) n did (Err (io.Stack mismatch))
-    next-differs got =
-        blocks-read c v p n m loaded line at.aligned at.size at.count did (Err (io.Stack mismatch)) r (j + 1) read (omega (arith, inside)) next.moved
-        (blocks-differ c v p n m loaded line at.aligned at.size at.count j inside next.so_far next.rest few got)
+    pub block-differs : {ignored : Bool} (made : List (List ℕ)) (x : List ℕ) → ignored ≡ is_ignored p.verity.now expected → AreReadAhead c p j r out made did.old → (ignored ≡ false → j < r) → (ignored ≡ false) × (get_or made j x ≡ expected → ⊥)
+        → ReadsSource c (Blocks p) n did (Err (io.Stack mismatch))
+    block-differs made x same ahead within other =
+        blocks-read b did (Err (io.Stack mismatch)) r (j + 1) read (omega (arith, inside)) next.moved
+        (blocks-differ b j inside next.so_far next.rest few (block-other b j next.later next.walked _ _ (sym same ∙ other.0) (was-read made x ahead (within other.0)) other.1))
 
     -- no memory for its chain
-    pub next-full : ReadsSource c (Blocks p) n did (Err io.NoMemory)
-    next-full =
-        blocks-read c v p n m loaded line at.aligned at.size at.count did (Err io.NoMemory) r (j + 1) read (omega (arith, inside)) next.moved
-        (blocks-full c v p n m loaded line at.aligned at.size at.count j inside next.so_far next.rest few)
+    pub block-full : ReadsSource c (Blocks p) n did (Err io.NoMemory)
+    block-full = blocks-read b did (Err io.NoMemory) r (j + 1) read (omega (arith, inside)) next.moved (blocks-full b j inside next.so_far next.rest few)
 
-  -- all of them
-  pub had-all : (r j : ℕ) (bytes : List ℕ) (did : LeafRead) → r ≤ n / block_sectors v → j ≡ n / block_sectors v → length bytes ≡ 512 * n → WereHad c v p n r j bytes did → ReadsSource c (Blocks p) n did (Ok bytes)
-  had-all r j bytes did read all len had =
-      let count : j * block_sectors v ≡ n = ap (λ (k : ℕ). k * block_sectors v) all ∙ at.count in
-      let whole : take (512 * (j * block_sectors v)) bytes ≡ bytes = take_all (512 * (j * block_sectors v)) bytes (omega (arith, len, count)) in
-      blocks-read c v p n m loaded line at.aligned at.size at.count did (Ok bytes) r j read (omega (arith, all)) had.moved
-      (subst (λ (k : ℕ). Finds (blocks_place c p n) c 0 k did (Ok bytes)) count
-      (subst (λ (l : List ℕ). Finds (blocks_place c p n) c 0 (j * block_sectors v) did (Ok l)) whole had.so_far))
+    -- it is ignored, or has the digest: its chain is there
+    module _ {ignored : Bool} (made : List (List ℕ)) (block x : List ℕ) (front : take (512 * (j * block_sectors p.verity.now)) out ≡ take (512 * (j * block_sectors p.verity.now)) bytes)
+        (same : ignored ≡ is_ignored p.verity.now expected) (ahead : AreReadAhead c p j r out made did.old) (within : ignored ≡ false → j < r)
+        (wide : length block ≡ length (take (j * p.verity.now.data_block + p.verity.now.data_block - j * p.verity.now.data_block) (drop (j * p.verity.now.data_block) out)))
+        (zeros : ignored ≡ true → block ≡ replicate (length (take (j * p.verity.now.data_block + p.verity.now.data_block - j * p.verity.now.data_block) (drop (j * p.verity.now.data_block) out))) 0)
+        (good : ignored ≡ false → (get_or made j x ≡ expected) × (block ≡ take (j * p.verity.now.data_block + p.verity.now.data_block - j * p.verity.now.data_block) (drop (j * p.verity.now.data_block) out))) where
+      abbrev written : List ℕ
+      written = put_mid (j * p.verity.now.data_block) (j * p.verity.now.data_block + p.verity.now.data_block - j * p.verity.now.data_block) out block
+
+      abbrev content : List ℕ
+      content = take (j * p.verity.now.data_block + p.verity.now.data_block - j * p.verity.now.data_block) (drop (j * p.verity.now.data_block) written)
+
+      block-fits : j * p.verity.now.data_block ≤ length out
+      block-fits = omega (arith, end)
+
+      content-is : content ≡ block
+      content-is = between-put_mid (j * p.verity.now.data_block) (j * p.verity.now.data_block + p.verity.now.data_block - j * p.verity.now.data_block) out block (j * p.verity.now.data_block + p.verity.now.data_block) block-fits (wide ∙ stood-len)
+
+      content-len : length content ≡ 512 * block_sectors p.verity.now
+      content-len = ap (λ (l : List ℕ). length l) content-is ∙ wide ∙ stood-len ∙ width
+
+      got : (i : Bool) → ignored ≡ i → GetsChain (block_in c p.verity.now (p.first / block_sectors p.verity.now + j)) next.mid next.here (Ok (record { index = p.first / block_sectors p.verity.now + j; content = block; path = path }))
+      got true is = block-zeros b j next.later next.walked block (get_or made j x) (sym same ∙ is) (zeros is ∙ ap (λ (k : ℕ). replicate k 0) (stood-len ∙ sub-same (j * p.verity.now.data_block) p.verity.now.data_block)) (b.there j inside)
+      got false is =
+          let own = good is in
+          subst (λ (l : List ℕ). GetsChain (block_in c p.verity.now (p.first / block_sectors p.verity.now + j)) next.mid next.here (Ok (record { index = p.first / block_sectors p.verity.now + j; content = l; path = path }))) (sym own.1)
+          (block-had b j next.later next.walked _ _ (sym same ∙ is) (was-read made x ahead (within is)) (stood-len ∙ width) (b.there j inside) own.0)
+
+      got-content : GetsChain (block_in c p.verity.now (p.first / block_sectors p.verity.now + j)) next.mid next.here (Ok (record { index = p.first / block_sectors p.verity.now + j; content = content; path = path }))
+      got-content = subst (λ (l : List ℕ). GetsChain (block_in c p.verity.now (p.first / block_sectors p.verity.now + j)) next.mid next.here (Ok (record { index = p.first / block_sectors p.verity.now + j; content = l; path = path }))) (sym content-is) (got ignored refl)
+
+      pub block-checked : {number : ℕ} {way : List (List ℕ)} → number ≡ p.first / block_sectors p.verity.now + j → way ≡ path
+          → WereHad c p n r (j + 1) written (record { old = did.old; new = did.new; before = did.before; after = did.after ++ (record { device = p.device.0; line = p.line; chain = record { index = number; content = content; path = way } } ∷ []) })
+      block-checked {number = number} {way = way} here goes =
+          let u : ℕ = block_sectors p.verity.now in
+          let more = blocks-more b j inside next.so_far next.rest few content path content-len next.before got-content in
+          let count : j * u + u ≡ (j + 1) * u = omega (arith, add-mul j 1 u) in
+          let one : FoundRecord = record { device = p.device.0; line = p.line; chain = record { index = p.first / u + j; content = content; path = path } } in
+          let own : record { device = p.device.0; line = p.line; chain = record { index = number; content = content; path = way } } ≡ one =
+          ap {B = FoundRecord} (λ (i : ℕ). record { device = p.device.0; line = p.line; chain = record { index = i; content = content; path = way } }) here
+          ∙ ap {B = FoundRecord} (λ (l : List (List ℕ)). record { device = p.device.0; line = p.line; chain = record { index = p.first / u + j; content = content; path = l } }) goes in
+          let after : LeafRead = record { old = did.old; new = did.new; before = did.before; after = did.after ++ (one ∷ []) } in
+          let before : take (512 * (j * u)) written ≡ take (512 * (j * u)) bytes =
+          take-put_mid_below (j * p.verity.now.data_block) (j * p.verity.now.data_block + p.verity.now.data_block - j * p.verity.now.data_block) out block (512 * (j * u)) (omega (arith, block-begin b j)) block-fits ∙ front in
+          let e : 512 * (j * u) + 512 * u ≡ 512 * (j * u + u) = omega arith in
+          let longer : take (512 * (j * u)) bytes ++ content ≡ take (512 * (j * u + u)) written =
+          ap (λ (l : List ℕ). l ++ content) (sym before) ∙ ap (λ (l : List ℕ). take (512 * (j * u)) written ++ l) (part-is written) ∙ sym (take-add (512 * (j * u)) (512 * u) written) ∙ ap (λ (k : ℕ). take k written) e in
+          subst (λ (y : FoundRecord). WereHad c p n r (j + 1) written (record { old = did.old; new = did.new; before = did.before; after = did.after ++ (y ∷ []) })) (sym own) (record {
+            so_far = subst (λ (k : ℕ). Finds (blocks_place c p n) c 0 k after (Ok (take (512 * k) written))) count
+                (subst (λ (l : List ℕ). Finds (blocks_place c p n) c 0 (j * u + u) after (Ok l)) longer more);
+            moved = next.moved;
+            before = before-more b did.after j content path next.before;
+          })
+
+      -- those after it stay
+      pub rest-ahead : AreReadAhead c p (j + 1) r written made did.old
+      rest-ahead k low below y =
+          let u : ℕ = block_sectors p.verity.now in
+          let up : (j + 1) * u ≤ k * u = mul-le-mul_right u low in
+          let past : j * p.verity.now.data_block + (j * p.verity.now.data_block + p.verity.now.data_block - j * p.verity.now.data_block) ≤ 512 * (k * u) = omega (arith, block-begin b j, block-size b, up, add-mul j 1 u) in
+          subst (λ (l : List ℕ). IsRead c p did.old k l (get_or made k y)) (sym (rest-put (j * p.verity.now.data_block) (j * p.verity.now.data_block + p.verity.now.data_block - j * p.verity.now.data_block) out block block-fits (512 * (k * u)) (512 * u) past (wide ∙ stood-len)))
+          (ahead k (omega (arith, low)) below y)

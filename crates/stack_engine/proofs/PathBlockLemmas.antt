@@ -40,7 +40,7 @@ hash_place_of v tree level index = record { lower = tree.hash; first = hash_star
 pub hash-lies : (c : Configuration) (v : Verity) (tree : Tree) (level index : ℕ) → IsLoaded c → IsTreeOf c v tree → index < v.blocks → level < levels (tree_of v)
     → IsExtent c tree.hash (hash_start v level index) (hash_sectors v) (hash_place_of v tree level index)
 hash-lies c v tree level index loaded is there low =
-    let size = hash-whole c tree.device.0 tree.line 0 0 v loaded is.is in
+    let size = hash-whole c tree.device.0 tree.line v loaded is.is in
     let valid = (line-facts c tree.device.0 tree.line v loaded is.is).2.shape in
     let place : ℕ = position (tree_of v) level (ancestor (tree_of v) (level + 1) index) in
     let room = hash-inside c v tree loaded is place (position-lt (tree_of v) valid level (ancestor (tree_of v) (level + 1) index) low (ancestor-lt (tree_of v) valid level index there)) in
@@ -71,12 +71,12 @@ module _ (c : Configuration) (v : Verity) (tree : Tree) (index : ℕ) (loaded : 
   pub hash_read : (block : Vec ℕ Global) → Gets (checked_expected bytes (place_of c extent.lower) extent.first extent.sectors v.salt expected) mid new (Ok block)
       → IsWalked (block_in c v index) level (next_digest v level index block.items) (path ++ (block.items ∷ [])) old new
   hash_read block q =
-      walk_down bytes (block_in c v index) level (hash-whole c tree.device.0 tree.line 0 0 v loaded is.is).whole (subst (λ (k : ℕ). IsWalked (block_in c v index) k expected path old mid) above walked) block
+      walk_down bytes (block_in c v index) level (hash-whole c tree.device.0 tree.line v loaded is.is).whole (subst (λ (k : ℕ). IsWalked (block_in c v index) k expected path old mid) above walked) block
       (checked_as c v.hash tree.hash (hash_start v level index) (hash_sectors v) v.salt expected (Ok block) extent is.on_hash at.value q)
 
   pub hash_failed : (fault : IoFault) → Gets (checked_expected bytes (place_of c extent.lower) extent.first extent.sectors v.salt expected) mid new (Err fault) → GetsChain (block_in c v index) old new (Err fault)
   hash_failed fault q =
-      walk_stops bytes (block_in c v index) level (hash-whole c tree.device.0 tree.line 0 0 v loaded is.is).whole (subst (λ (k : ℕ). IsWalked (block_in c v index) k expected path old mid) above walked) fault
+      walk_stops bytes (block_in c v index) level (hash-whole c tree.device.0 tree.line v loaded is.is).whole (subst (λ (k : ℕ). IsWalked (block_in c v index) k expected path old mid) above walked) fault
       (checked_as c v.hash tree.hash (hash_start v level index) (hash_sectors v) v.salt expected (Err fault) extent is.on_hash at.value q)
 
 -- the data block was read, where no level is left
@@ -85,8 +85,8 @@ module _ (c : Configuration) (v : Verity) (tree : Tree) (index : ℕ) (loaded : 
   pub data_had : (block : Vec ℕ Global) → index < v.blocks → Gets (data_expected bytes (block_in c v index) expected) mid new (Ok block)
       → GetsChain (block_in c v index) old new (Ok (record { index = index; content = block.items; path = path }))
   data_had block there q =
-      walk_ends bytes (block_in c v index) (data-whole c tree.device.0 tree.line 0 0 v loaded is.is).whole (subst (λ (k : ℕ). IsWalked (block_in c v index) k expected path old mid) none walked) block there q
+      walk_ends bytes (block_in c v index) (data-whole c tree.device.0 tree.line v loaded is.is).whole (subst (λ (k : ℕ). IsWalked (block_in c v index) k expected path old mid) none walked) block there q
 
   pub data_failed : (fault : IoFault) → Gets (data_expected bytes (block_in c v index) expected) mid new (Err fault) → GetsChain (block_in c v index) old new (Err fault)
   data_failed fault q =
-      walk_fails bytes (block_in c v index) (data-whole c tree.device.0 tree.line 0 0 v loaded is.is).whole (subst (λ (k : ℕ). IsWalked (block_in c v index) k expected path old mid) none walked) fault q
+      walk_fails bytes (block_in c v index) (data-whole c tree.device.0 tree.line v loaded is.is).whole (subst (λ (k : ℕ). IsWalked (block_in c v index) k expected path old mid) none walked) fault q

@@ -58,7 +58,7 @@ module _ (c : Configuration) (v : Verity) (tree : Tree) (index : ℕ) (loaded : 
   pub path-down : (block : List ℕ) → Gets (checked_expected (λ (block : List ℕ). block) (place_of c extent.lower) extent.first extent.sectors v.salt expected) mid new (Ok block)
       → IsWalked (block_in c v index) level (next_digest v level index block) (path ++ (block ∷ [])) old new
   path-down block q =
-      walk_down (λ (block : List ℕ). block) (block_in c v index) level (hash-whole c tree.device.0 tree.line 0 0 v loaded is.is).whole (subst (λ (k : ℕ). IsWalked (block_in c v index) k expected path old mid) above walked) block
+      walk_down (λ (block : List ℕ). block) (block_in c v index) level (hash-whole c tree.device.0 tree.line v loaded is.is).whole (subst (λ (k : ℕ). IsWalked (block_in c v index) k expected path old mid) above walked) block
       (checked-at c v.hash tree.hash (hash_start v level index) (hash_sectors v) v.salt expected (Ok block) extent is.on_hash at.value q)
 
   -- what was read up to a fault in its place
@@ -73,7 +73,7 @@ module _ (c : Configuration) (v : Verity) (tree : Tree) (index : ℕ) (loaded : 
   -- or a fault in its place
   pub path-failed : (fault : IoFault) → Gets (checked_expected (λ (block : List ℕ). block) (place_of c extent.lower) extent.first extent.sectors v.salt expected) mid new (Err fault) → GetsChain (block_in c v index) old new (Err fault)
   path-failed fault q =
-      walk_stops (λ (block : List ℕ). block) (block_in c v index) level (hash-whole c tree.device.0 tree.line 0 0 v loaded is.is).whole (subst (λ (k : ℕ). IsWalked (block_in c v index) k expected path old mid) above walked) fault
+      walk_stops (λ (block : List ℕ). block) (block_in c v index) level (hash-whole c tree.device.0 tree.line v loaded is.is).whole (subst (λ (k : ℕ). IsWalked (block_in c v index) k expected path old mid) above walked) fault
       (checked-at c v.hash tree.hash (hash_start v level index) (hash_sectors v) v.salt expected (Err fault) extent is.on_hash at.value q)
 
 -- a block of no line

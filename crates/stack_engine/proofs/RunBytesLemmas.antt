@@ -4,9 +4,18 @@ use Rattle.std.proofs.lemmas.List.{length-take, length-drop, take-append-drop, n
 use Rattle.std.proofs.Math.Seq.{take-add}
 use Rattle.stack_rules.specs.Records.{Configuration}
 use Rattle.stack_lines.specs.declared.source.Source.{Source}
+use Rattle.block_device.specs.Device.{Device}
+use Rattle.stack_meaning.specs.Found.{FoundRecord}
+use Rattle.stack_meaning.specs.Kept.{AllKept}
 use Rattle.stack_meaning.specs.Puts.{in_one_run}
-use Rattle.stack_lines.specs.Sources.{IsServed, EndsRun}
+use Rattle.stack_lines.specs.AtOnce.{CanGo}
+use Rattle.stack_lines.specs.Caches.{StackCache}
+use Rattle.stack_lines.specs.Sources.{SourceHolds, IsServed, EndsRun}
+use Rattle.stack_lines.proofs.lemmas.SourceLemmas.{served-holds}
 use Rattle.stack_lines.proofs.lemmas.WriteSourceLemmas.{EndsBefore}
+use Rattle.stack_engine.specs.Premises.{FitsIn, CanRead}
+use Rattle.stack_engine.specs.Stacks.{IsStack}
+use Rattle.stack_engine.proofs.SpentLemmas.{IsCutBehind, cut-behind}
 
 -- the front of a room for the sectors of one unit
 module _ (room : List ℕ) (sectors : ℕ) (size : length room ≡ 4096) (few : sectors ≤ 8) where
@@ -43,6 +52,50 @@ module _ (bytes : List ℕ) (at count : ℕ) (fits : at + count * 512 ≤ length
   run_served c d first source served =
       subst (λ (k : ℕ). IsServed c d (first + k) (length (take (at + count * 512 - at) (drop at bytes)) / 512) source) (sym front_sectors)
       (subst (λ (k : ℕ). IsServed c d (first + at / 512) k source) (sym run_sectors) served)
+
+-- ---- the next run of a device
+
+-- It has `count` sectors, from byte `at` of the bytes on. These begin with sector `first` of the device, and have `all` sectors.
+pub record IsNextRun (c : Configuration) (d first at all : ℕ) (bytes : List ℕ) (count : ℕ) (source : Source) : Type 0 where
+  pub served : IsServed c d (first + at / 512) count source
+  pub some : 0 < count
+  pub fits : at + count * 512 ≤ length bytes
+  pub len : length (take (at + count * 512 - at) (drop at bytes)) ≡ count * 512
+  pub sectors : length (take (at + count * 512 - at) (drop at bytes)) / 512 ≡ count
+  pub next : at / 512 + count ≡ (at + count * 512) / 512
+  pub inside : at / 512 + count ≤ all
+  pub behind : IsCutBehind c d first (at / 512 + count) all
+  pub left : at / 512 + (length bytes - at) / 512 ≡ all
+  pub longest : EndsRun (in_one_run c d) (first + at / 512) ((length bytes - at) / 512) count
+
+pub next-run : {c : Configuration} {d count : ℕ} {source : Source} (first at all : ℕ) (bytes : List ℕ) → at % 512 ≡ 0 → at < length bytes → length bytes / 512 ≡ all → IsServed c d (first + at / 512) count source → 0 < count
+    → count ≤ (length bytes - at) / 512 → EndsRun (in_one_run c d) (first + at / 512) ((length bytes - at) / 512) count → IsNextRun c d first at all bytes count source
+next-run {c = c} {d = d} {count = count} first at all bytes whole low same served some most ends =
+    let fits : at + count * 512 ≤ length bytes = omega (arith, most, low) in
+    let left : at / 512 + (length bytes - at) / 512 ≡ all = omega (arith, whole, low, same) in
+    record {
+      served = served;
+      some = some;
+      fits = fits;
+      len = run_length bytes at count fits;
+      sectors = run_sectors bytes at count fits;
+      next = omega (arith, whole);
+      inside = omega (arith, fits, same);
+      behind = cut-behind c d first (at / 512) count ((length bytes - at) / 512) all left some ends;
+      left = left;
+      longest = ends;
+    }
+
+pub run-fits : {c : Configuration} {d first at all count : ℕ} {source : Source} {bytes : List ℕ} → IsNextRun c d first at all bytes count source → FitsIn c source (take (at + count * 512 - at) (drop at bytes))
+run-fits {c = c} {d = d} {first = first} {at = at} {count = count} {source = source} run = record {
+  sectors = record { some = omega (arith, run.len, run.some); whole = omega (arith, run.len) };
+  holds = subst (SourceHolds c source) (sym run.sectors) (served-holds c d (first + at / 512) count source run.served);
+}
+
+-- it can be read, where so much can go at once
+pub run-can : {c : Configuration} {d first at all count : ℕ} {source : Source} {bytes : List ℕ} {leaves : List Device} {cache : StackCache} {found : List FoundRecord} → IsNextRun c d first at all bytes count source
+    → IsStack c leaves cache → AllKept c leaves found → CanGo c source count found → CanRead c leaves cache found source (take (at + count * 512 - at) (drop at bytes))
+run-can {c = c} {source = source} {found = found} run stack kept go = record { stack = stack; kept = kept; fits = run-fits run; can_go = subst (λ (k : ℕ). CanGo c source k found) (sym run.sectors) go }
 
 -- ---- where runs end
 

@@ -1,35 +1,35 @@
 -- What a read has spent of its budget: run by run, of units, and of data blocks.
-use Rattle.std.proofs.Common.{◌≡◌, ℕ, ◌+◌, ◌-◌, ◌*◌, ◌/◌, ◌%◌, ◌<◌, ◌≤◌, ◌⊎◌, false, List, Some, inl, inr, sym, ap, ◌∙◌, arith}
+use Rattle.std.proofs.Common.{◌≡◌, ℕ, ◌+◌, ◌-◌, ◌*◌, ◌/◌, ◌<◌, ◌≤◌, ◌⊎◌, false, List, inl, inr, sym, ap, ◌∙◌, arith}
 use Rattle.std.proofs.Math.Nat.{add-mul, mul-add, mul_assoc, mul-le-mul_right}
 use Rattle.block_device.specs.Device.{Device}
-use Rattle.dm_table.specs.declared.crypt.Crypt.{Crypt}
-use Rattle.dm_table.specs.declared.verity.Verity.{Verity}
 use Rattle.dm_table.specs.declared.table.Target.TheVariants.{Verity as verity_target}
-use Rattle.stack_rules.specs.declared.lower.Lower.{Lower}
 use Rattle.stack_rules.specs.declared.lower.Lower.TheVariants.{Leaf as leaf}
 use Rattle.stack_rules.specs.Records.{Configuration}
-use Rattle.stack_rules.specs.Names.{mapped, named}
+use Rattle.stack_rules.specs.Names.{mapped}
 use Rattle.stack_rules.specs.Descend.{by_name, line_read_cost, read_cost}
 use Rattle.stack_rules.specs.Rules.{IsLoaded}
 use Rattle.stack_rules.specs.Trees.{block_sectors}
 use Rattle.stack_rules.specs.Units.{unit_sectors}
 use Rattle.stack_rules.proofs.lemmas.UnitLemmas.{unit_sectors-some}
 use Rattle.std.proofs.lemmas.Nat.{div-add-mod'}
+use Rattle.stack_meaning.specs.Found.{FoundRecord}
 use Rattle.stack_meaning.specs.Leaves.{AreRead}
 use Rattle.stack_meaning.specs.Places.{Place}
 use Rattle.stack_meaning.specs.Puts.{in_one_run}
 use Rattle.stack_meaning.proofs.lemmas.CostLemmas.{cost-leaf}
-use Rattle.stack_lines.specs.declared.source.BlockPart.{BlockPart}
+use Rattle.stack_lines.specs.declared.source.VerityPart.{VerityPart}
+use Rattle.stack_lines.specs.declared.source.CryptPart.{CryptPart}
 use Rattle.stack_lines.specs.declared.source.Source.{Source}
 use Rattle.stack_lines.specs.declared.source.Source.TheVariants.{Units, UnitPart}
 use Rattle.stack_lines.specs.declared.units.WholeUnit.{WholeUnit}
-use Rattle.stack_lines.specs.Budgets.{ReadsAtMost, budget, part_budget, source_budget}
-use Rattle.stack_lines.specs.Sources.{AreUnits, LieInUnit, IsWholeOf, HasCrypt, IsServed, EndsRun}
-use Rattle.stack_lines.specs.Walks.{HasVerity, block_in, chain_expected}
+use Rattle.stack_lines.specs.Budgets.{ReadsAtMost, budget, crypt_budget, part_budget, source_budget}
+use Rattle.stack_lines.specs.Sources.{AreUnits, LieInUnit, IsWholeOf, from_unit, IsServed, EndsRun}
+use Rattle.stack_lines.specs.Walks.{block_in, chain_expected}
 use Rattle.stack_lines.proofs.lemmas.BudgetLemmas.{budget-leaf, budget-apart, served-budget, units-budget, unit-budget, blocks-budget, block-budget}
-use Rattle.stack_lines.proofs.lemmas.UnitSourceLemmas.{units-aligned, units-whole, lies_in, begin-whole}
+use Rattle.stack_lines.proofs.lemmas.UnitSourceLemmas.{units-of}
 use Rattle.stack_lines.proofs.lemmas.VerityLineLemmas.{place-named}
-use Rattle.stack_engine.proofs.BlocksLemmas.{path_cost, read_cost_so_far}
+use Rattle.stack_engine.proofs.BlockPartLemmas.{BlockAt}
+use Rattle.stack_engine.proofs.BlocksLemmas.{BlocksAt, path_cost, read_cost_so_far}
 
 -- ---- run by run
 
@@ -72,34 +72,26 @@ leaf-spent c i first n read =
 
 -- ---- units
 
-pub units-spent : (c : Configuration) (b : BlockPart) (n : ℕ) (crypt : Crypt) (lower : Lower) {old new : List Device} → IsLoaded c → HasCrypt c b.device.0 b.line crypt → AreUnits c b.device.0 b.line b.first n → named c crypt.base.device ≡ Some lower
-    → AreRead old (n * read_cost c lower) new → ReadsAtMost (part_budget c b n) old new
-units-spent c b n crypt lower loaded has units is read =
-    let aligned = units-aligned c b.device.0 b.line b.first n crypt loaded has units in
-    let whole = units-whole c b.device.0 b.line b.first n crypt loaded has units in
-    let count : n / unit_sectors crypt * unit_sectors crypt ≡ n = omega (arith, div-add-mod' n (unit_sectors crypt), whole) in
-    omega (arith, read.moved.reads.sum, units-budget c b n 0 crypt (n / unit_sectors crypt) lower has is aligned count)
+pub units-spent : (c : Configuration) (x : CryptPart) (n : ℕ) {old new : List Device} → AreUnits c x n → AreRead old (n * read_cost c x.lower) new → ReadsAtMost (crypt_budget c x n) old new
+units-spent c x n units read =
+    let count : n / unit_sectors x.crypt.now * unit_sectors x.crypt.now ≡ n = omega (arith, div-add-mod' n (unit_sectors x.crypt.now), units.whole) in
+    omega (arith, read.moved.reads.sum, units-budget c x n (n / unit_sectors x.crypt.now) units.of units.aligned count)
 
-module _ (c : Configuration) (b : BlockPart) (whole : WholeUnit) (n : ℕ) (loaded : IsLoaded c) (of : IsWholeOf c b whole) (lies : LieInUnit c b.device.0 b.line b.first n) (some : 0 < n) where
-  -- a part of a unit costs what the whole one does
-  pub unit-spent : (old new : List Device) → ReadsAtMost (source_budget c (Units whole.from) whole.sectors) old new → ReadsAtMost (source_budget c (UnitPart b) n) old new
-  unit-spent old new spent =
-      let u : ℕ = unit_sectors of.crypt in
-      let from : BlockPart = record { device = b.device; line = b.line; first = b.first - b.first % u } in
-      let begin = begin-whole c b whole n loaded of lies some in
-      let all : part_budget c whole.from whole.sectors ≡ part_budget c from u = ap (λ (x : BlockPart). part_budget c x whole.sectors) of.from ∙ ap (part_budget c from) of.sectors in
-      let once = unit-budget c from u 0 of.crypt of.has (omega (arith, unit_sectors-some of.crypt)) (omega (arith, begin)) in
-      let part = unit-budget c b n 0 of.crypt of.has some (lies_in c b whole n loaded of lies some).0 in
-      omega (arith, spent, all, once, part)
+-- a part of a unit costs what the whole one does
+pub unit-spent : (c : Configuration) (x : CryptPart) (whole : WholeUnit) (n : ℕ) → IsWholeOf x whole → LieInUnit c x n → 0 < n → (old new : List Device) → ReadsAtMost (source_budget c (Units whole.from) whole.sectors) old new → ReadsAtMost (source_budget c (UnitPart x) n) old new
+unit-spent c x whole n of lies some old new spent =
+    let u : ℕ = unit_sectors x.crypt.now in
+    let units = units-of c x whole n of lies some in
+    let all : crypt_budget c whole.from whole.sectors ≡ crypt_budget c (from_unit x) u = ap (λ (y : CryptPart). crypt_budget c y whole.sectors) of.from ∙ ap (crypt_budget c (from_unit x)) of.sectors in
+    omega (arith, spent, all, unit-budget c (from_unit x) u units.of (omega (arith, unit_sectors-some x.crypt.now)) (omega (arith, units.aligned)), unit-budget c x n lies.of some lies.within)
 
 -- ---- data blocks
 
 -- a part of one
-pub block-spent : (c : Configuration) (v : Verity) (b : BlockPart) (n i : ℕ) {old new : List Device} → HasVerity c b.device.0 b.line v → 0 < n → b.first % block_sectors v + n ≤ block_sectors v
-    → AreRead old ((chain_expected (block_in c v i)).cost) new → ReadsAtMost (part_budget c b n) old new
-block-spent c v b n i {old = old} {new = new} line some within read =
-    let most : ReadsAtMost (line_read_cost (by_name c 0 (read_cost c)) (verity_target v)) old new = read.moved.reads.sum in
-    omega (arith, most, block-budget c b n 0 v line some within)
+pub block-spent : {c : Configuration} {p : VerityPart} {n : ℕ} (i : ℕ) {old new : List Device} → BlockAt c p n → AreRead old ((chain_expected (block_in c p.verity.now i)).cost) new → ReadsAtMost (part_budget c p n) old new
+block-spent {c = c} {p = p} {n = n} i {old = old} {new = new} b read =
+    let most : ReadsAtMost (line_read_cost (by_name c 0 (read_cost c)) (verity_target p.verity.now)) old new = read.moved.reads.sum in
+    omega (arith, most, block-budget c p n b.some b.within)
 
 -- what r blocks and many more cost, with the ways to j of m blocks
 rows-cost : (m u price way r j many : ℕ) → r + many ≤ m → j ≤ m → r * u * price + many * u * price + j * way ≤ m * (u * price + way)
@@ -118,27 +110,30 @@ few-cost m u price way r j read ways =
     let each : j * way ≤ m * way = mul-le-mul_right way ways in
     omega (arith, all, each, mul-add m (u * price) way, mul_assoc m u price)
 
-module _ (c : Configuration) (v : Verity) (p : BlockPart) (n m : ℕ) (line : HasVerity c p.device.0 p.line v) (aligned : p.first % block_sectors v ≡ 0) (several : 0 < block_sectors v) (count : m * block_sectors v ≡ n) where
-  abbrev data_cost : ℕ
-  data_cost = (block_in c v 0).on_data.cost
+module _ {c : Configuration} {p : VerityPart} {n : ℕ} {found : List FoundRecord} (b : BlocksAt c p n found) where
+  abbrev m : ℕ
+  m = n / block_sectors p.verity.now
 
-  all-is : part_budget c p n ≡ m * (block_sectors v * data_cost + path_cost c v)
-  all-is = blocks-budget c p n 0 v m line several aligned count ∙ ap (λ (k : ℕ). m * (block_sectors v * data_cost + k)) (mul_assoc _ _ (block_in c v 0).on_hash.cost)
+  abbrev data_cost : ℕ
+  data_cost = (block_in c p.verity.now 0).on_data.cost
+
+  all-is : part_budget c p n ≡ m * (block_sectors p.verity.now * data_cost + path_cost c p.verity.now)
+  all-is = blocks-budget c p n m b.size.some b.aligned b.count ∙ ap (λ (k : ℕ). m * (block_sectors p.verity.now * data_cost + k)) (mul_assoc _ _ (block_in c p.verity.now 0).on_hash.cost)
 
   -- so many blocks, of which data were read as far as block r
-  pub had-spent : (r j : ℕ) {old mid : List Device} → r ≤ m → j ≤ m → AreRead old (read_cost_so_far c v (r * block_sectors v) j) mid → ReadsAtMost (part_budget c p n) old mid
-  had-spent r j read ways had = omega (arith, had.moved.reads.sum, all-is, few-cost m (block_sectors v) data_cost (path_cost c v) r j read ways)
+  pub had-spent : (r j : ℕ) {old mid : List Device} → r ≤ n / block_sectors p.verity.now → j ≤ n / block_sectors p.verity.now → AreRead old (read_cost_so_far c p.verity.now (r * block_sectors p.verity.now) j) mid → ReadsAtMost (part_budget c p n) old mid
+  had-spent r j read ways had = omega (arith, had.moved.reads.sum, all-is, few-cost m (block_sectors p.verity.now) data_cost (path_cost c p.verity.now) r j read ways)
 
   -- and the way to one more
-  pub way-spent : (r j : ℕ) {old mid walk : List Device} → r ≤ m → j < m → AreRead old (read_cost_so_far c v (r * block_sectors v) j) mid → AreRead mid (path_cost c v) walk → ReadsAtMost (part_budget c p n) old walk
+  pub way-spent : (r j : ℕ) {old mid walk : List Device} → r ≤ n / block_sectors p.verity.now → j < n / block_sectors p.verity.now → AreRead old (read_cost_so_far c p.verity.now (r * block_sectors p.verity.now) j) mid → AreRead mid (path_cost c p.verity.now) walk → ReadsAtMost (part_budget c p n) old walk
   way-spent r j read inside had moved =
-      omega (arith, had.moved.reads.sum, moved.moved.reads.sum, all-is, add-mul j 1 (path_cost c v), few-cost m (block_sectors v) data_cost (path_cost c v) r (j + 1) read (omega (arith, inside)))
+      omega (arith, had.moved.reads.sum, moved.moved.reads.sum, all-is, add-mul j 1 (path_cost c p.verity.now), few-cost m (block_sectors p.verity.now) data_cost (path_cost c p.verity.now) r (j + 1) read (omega (arith, inside)))
 
   -- and the data of some more
-  pub row-spent : (r j many : ℕ) (lower : Lower) {old mid walk new : List Device} → named c v.data ≡ Some lower → r ≤ m → j < m → j + many ≤ m → (many ≡ 0) ⊎ (r ≤ j) → AreRead old (read_cost_so_far c v (r * block_sectors v) j) mid → AreRead mid (path_cost c v) walk
-      → AreRead walk (many * block_sectors v * read_cost c lower) new → ReadsAtMost (part_budget c p n) old new
-  row-spent r j many lower is read inside most fresh had moved got =
+  pub row-spent : (r j many : ℕ) {old mid walk new : List Device} → r ≤ n / block_sectors p.verity.now → j < n / block_sectors p.verity.now → j + many ≤ n / block_sectors p.verity.now → (many ≡ 0) ⊎ (r ≤ j) → AreRead old (read_cost_so_far c p.verity.now (r * block_sectors p.verity.now) j) mid → AreRead mid (path_cost c p.verity.now) walk
+      → AreRead walk (many * block_sectors p.verity.now * read_cost c p.data) new → ReadsAtMost (part_budget c p n) old new
+  row-spent r j many read inside most fresh had moved got =
       let rows : r + many ≤ m = elim fresh [ inl none ↦ omega (arith, none, read) | inr behind ↦ omega (arith, behind, most) ] in
-      let one : data_cost ≡ read_cost c lower = ap (λ (q : Place). q.cost) (place-named c v.data lower is) in
-      let same : many * block_sectors v * data_cost ≡ many * block_sectors v * read_cost c lower = ap (λ (k : ℕ). many * block_sectors v * k) one in
-      omega (arith, had.moved.reads.sum, moved.moved.reads.sum, got.moved.reads.sum, same, all-is, add-mul j 1 (path_cost c v), rows-cost m (block_sectors v) data_cost (path_cost c v) r (j + 1) many rows (omega (arith, inside)))
+      let one : data_cost ≡ read_cost c p.data = ap (λ (q : Place). q.cost) (place-named c p.verity.now.data p.data b.is) in
+      let same : many * block_sectors p.verity.now * data_cost ≡ many * block_sectors p.verity.now * read_cost c p.data = ap (λ (k : ℕ). many * block_sectors p.verity.now * k) one in
+      omega (arith, had.moved.reads.sum, moved.moved.reads.sum, got.moved.reads.sum, same, all-is, add-mul j 1 (path_cost c p.verity.now), rows-cost m (block_sectors p.verity.now) data_cost (path_cost c p.verity.now) r (j + 1) many rows (omega (arith, inside)))

@@ -12,9 +12,9 @@ use Rattle.dm_table.specs.declared.table.Target.TheVariants.{Crypt as crypt_targ
 use Rattle.stack_rules.specs.declared.lower.Lower.{Lower}
 use Rattle.stack_rules.specs.declared.lower.Lower.TheVariants.{Leaf as leaf, Device as device}
 use Rattle.stack_rules.specs.Records.{Configuration}
-use Rattle.stack_rules.specs.Names.{mapped, named, lines_of}
+use Rattle.stack_rules.specs.Names.{mapped, lines_of}
 use Rattle.stack_rules.specs.Descend.{by_name, known, most_devices, depth}
-use Rattle.stack_rules.specs.Lines.{line_at, IsLine}
+use Rattle.stack_rules.specs.Lines.{line_at}
 use Rattle.stack_rules.specs.Rules.{IsLoaded, IsValid, most_depth}
 use Rattle.stack_rules.specs.Units.{unit_sectors, crypt_of}
 use Rattle.stack_rules.proofs.lemmas.UnitLemmas.{unit_sectors-some}
@@ -30,10 +30,10 @@ use Rattle.stack_meaning.specs.TargetMeaning.{Meant, handed, own, IsHanded}
 use Rattle.stack_meaning.specs.Units.{unit_first}
 use Rattle.stack_meaning.proofs.lemmas.LineLemmas.{found-more}
 use Rattle.stack_meaning.proofs.lemmas.SectorLemmas.{AsksOfNames, said_or-same, sector_rule-local, said_at-leaf}
-use Rattle.stack_lines.specs.declared.source.BlockPart.{BlockPart}
+use Rattle.stack_lines.specs.declared.source.CryptPart.{CryptPart}
 use Rattle.stack_lines.specs.declared.source.Source.{Source}
 use Rattle.stack_lines.specs.declared.source.Source.TheVariants.{Below, Units, UnitPart, Zeros, Fails, Block, Blocks}
-use Rattle.stack_lines.specs.Sources.{HasCrypt, IsServed, EndsRun}
+use Rattle.stack_lines.specs.Sources.{IsServed, EndsRun}
 use Rattle.stack_lines.specs.Writing.{SomeEncrypt}
 use Rattle.stack_engine.specs.Uncut.{Seam, plain_seam, IsLast, unit_seam, seam_of, seam_as, line_seam, seam_rule, seam_at, CutsNone, SourceCutsNone}
 use Rattle.stack_engine.proofs.SpentLemmas.{IsCutBehind}
@@ -223,24 +223,13 @@ module _ (c : Configuration) (d s n : ℕ) (loaded : IsLoaded c) (some : 0 < n) 
         let at : unit_first crypt w + t ≡ unit_first crypt (w + k) + t % u = omega (arith, split, sum, from, here, there) in
         each-last k (t / u) refl (omega (arith, split, some_at.1)) (t % u, mod_below t u several, subst (λ (m : ℕ). (said_by_name c crypt.base.device m).encrypts) at some_at.2)
 
-  -- the line of a part
-  same-line : (l : ℕ) (line : Line) (b : BlockPart) → IsLine c d l line → b.device.0 ≡ d → b.line ≡ l → (crypt : Crypt) → HasCrypt c b.device.0 b.line crypt → line.target ≡ crypt_target crypt
-  same-line l line b is on at crypt has =
-      let here : HasCrypt c d l crypt = subst (λ (k : ℕ). HasCrypt c k l crypt) on (subst (λ (k : ℕ). HasCrypt c b.device.0 k crypt) at has) in
-      let both : Some here.line ≡ Some line = sym here.is ∙ is in
-      let lines : here.line ≡ line = cc in
-      ap (λ (x : Line). x.target) (sym lines) ∙ here.has
-
   pub served-cuts : (source : Source) → IsServed c d s n source → SourceCutsNone c source n
   served-cuts (Below lower first) r = below-cuts lower first r
-  served-cuts (Units b) r = λ crypt has some_at.
-      let target = same-line r.number r.line b r.is r.come.0.0 r.come.0.1 crypt has in
-      none-beneath r.number r.line r.found r.start r.fits crypt target (subst (λ (k : ℕ). SomeEncrypt (said_by_name c crypt.base.device) (unit_first crypt k) n) r.come.0.2 some_at)
-  served-cuts (UnitPart b) r =
-      let lies = r.come.1 in
-      let both : Some lies.has.line ≡ Some r.line = sym lies.has.is ∙ r.is in
-      let lines : lies.has.line ≡ r.line = cc in
-      not-part r.number r.line r.found r.start r.fits lies.crypt (ap (λ (x : Line). x.target) (sym lines) ∙ lies.has.has) lies.part
+  served-cuts (Units x) r = λ some_at.
+      let by : (t : ℕ) → said_by_name c x.crypt.now.base.device t ≡ said_at c x.lower t = λ t. ap (λ (o : Option Lower). known {A = ℕ → Said} (λ s. none_said) (said_at c) o t) r.come.2.of.named in
+      let here : SomeEncrypt (said_by_name c x.crypt.now.base.device) (unit_first x.crypt.now x.first) n = (some_at.0, some_at.1, subst (λ (y : Said). y.encrypts) (sym (by (unit_first x.crypt.now x.first + some_at.0))) some_at.2) in
+      none-beneath r.number r.line r.found r.start r.fits x.crypt.now r.come.0 (subst (λ (k : ℕ). SomeEncrypt (said_by_name c x.crypt.now.base.device) (unit_first x.crypt.now k) n) r.come.1 here)
+  served-cuts (UnitPart x) r = not-part r.number r.line r.found r.start r.fits x.crypt.now r.come.0 r.come.2.part
   served-cuts Zeros r = tt
   served-cuts Fails r = tt
   served-cuts (Block b) r = tt
@@ -253,12 +242,10 @@ pub leaf-plain : (c : Configuration) (i first n : ℕ) → SomeEncrypt (said_at 
 leaf-plain c i first n some = subst (λ (x : Said). x.encrypts) (said_at-leaf c i (first + some.0)) some.2
 
 -- units beneath which none encrypts
-pub units-plain-below : (c : Configuration) (b : BlockPart) (n : ℕ) (crypt : Crypt) (lower : Lower) (first : ℕ) → HasCrypt c b.device.0 b.line crypt → named c crypt.base.device ≡ Some lower → SourceCutsNone c (Units b) n
-    → (k m : ℕ) → first ≡ unit_first crypt b.first + k → k + m ≤ n → SomeEncrypt (said_at c lower) first m → ⊥
-units-plain-below c b n crypt lower first has is cuts k m at fits some =
-    let by : (t : ℕ) → said_by_name c crypt.base.device t ≡ said_at c lower t = λ t. ap (λ (o : Option Lower). known {A = ℕ → Said} (λ s. none_said) (said_at c) o t) is in
-    let place : first + some.0 ≡ unit_first crypt b.first + (k + some.0) = omega (arith, at) in
-    cuts crypt has (k + some.0, omega (arith, fits, some.1), subst (λ (x : Said). x.encrypts) (sym (by (unit_first crypt b.first + (k + some.0)))) (subst (λ (t : ℕ). (said_at c lower t).encrypts) place some.2))
+pub units-plain-below : (c : Configuration) (x : CryptPart) (n first : ℕ) → SourceCutsNone c (Units x) n → (k m : ℕ) → first ≡ unit_first x.crypt.now x.first + k → k + m ≤ n → SomeEncrypt (said_at c x.lower) first m → ⊥
+units-plain-below c x n first cuts k m at fits some =
+    let place : first + some.0 ≡ unit_first x.crypt.now x.first + (k + some.0) = omega (arith, at) in
+    cuts (k + some.0, omega (arith, fits, some.1), subst (λ (t : ℕ). (said_at c x.lower t).encrypts) place some.2)
 
 pub unread-then : (old mid new : List Device) → NoneRead old mid → NoneRead mid new → NoneRead old new
 unread-then old mid new p q = q ∙ p

@@ -5,8 +5,7 @@ use Rattle.stack_rules.specs.Records.{Configuration}
 use Rattle.stack_meaning.specs.declared.fault.IoFault.{IoFault}
 use Rattle.stack_meaning.specs.Found.{FoundRecord}
 use Rattle.stack_meaning.specs.Places.{LeafRead}
-use Rattle.stack_lines.specs.Caches.{KeepsCache}
-use Rattle.stack_lines.specs.Forgetting.{Forgets}
+use Rattle.stack_lines.specs.Caches.{StackCache, KeepsCache}
 use Rattle.stack_lines.specs.Touches.{AsksOnly}
 use Rattle.stack_engine.specs.Stacks.{IsStack}
 use Rattle.stack_engine.specs.declared.backing.Backing.{Backing}
@@ -14,6 +13,14 @@ use Rattle.stack_engine.specs.declared.backing.Backing.{Backing}
 -- the leaves, where a device's state is what a proof sees of it
 abbrev pub leaves_in : {D : Type 0} → (D → Device) → Backing D → List Device
 leaves_in state backing = map state backing.devices.items
+
+-- the leaves, and what is kept of hash blocks
+pub record BackingRecord : Type 0 where
+  pub leaves : List Device
+  pub cache : StackCache
+
+abbrev pub backing_of : {D : Type 0} → (D → Device) → Backing D → BackingRecord
+backing_of state backing = record { leaves = leaves_in state backing; cache = backing.cache }
 
 -- it serves the configuration, and what is kept of hash blocks is sound
 abbrev pub IsBacking : {D : Type 0} → (D → Device) → Configuration → Backing D → Type 0
@@ -28,10 +35,6 @@ StaysSound state c old new = KeepsCache c (leaves_in state new) old.cache new.ca
 -- it ends at the first device call that fails, and asks only these leaves
 abbrev pub Asks : {D A : Type 0} → (D → Device) → (ℕ → Bool) → Backing D → Backing D → Result A IoFault → Type 0
 Asks state these old new result = AsksOnly these (leaves_in state old) (leaves_in state new) result
-
--- kept hash blocks are forgotten only of lines whose hash device is one of these leaves or stands on one
-abbrev pub ForgetsOn : {D : Type 0} → (D → Device) → Configuration → (ℕ → Bool) → Backing D → Backing D → Type 0
-ForgetsOn state c these old new = Forgets c these (leaves_in state old) (leaves_in state new) old.cache.blocks.blocks new.cache.blocks.blocks
 
 -- a read: the leaves and the chains that were found, before and behind it
 abbrev pub did : {D : Type 0} → (D → Device) → Backing D → List FoundRecord → Backing D → List FoundRecord → LeafRead

@@ -4,7 +4,7 @@ use Rattle.stack_rules.specs.Records.{Configuration}
 use Rattle.stack_meaning.specs.declared.fault.IoFault.{IoFault}
 use Rattle.stack_meaning.specs.Found.{FoundRecord}
 use Rattle.stack_meaning.specs.Places.{LeafRead}
-use Rattle.stack_lines.specs.declared.source.BlockPart.{BlockPart}
+use Rattle.stack_lines.specs.declared.source.VerityPart.{VerityPart}
 use Rattle.stack_lines.specs.declared.source.Source.TheVariants.{Blocks}
 use Rattle.stack_lines.specs.Sources.{ReadsSource}
 use Rattle.verified_cache.specs.Cache.{CachedBlock}
@@ -12,7 +12,7 @@ use Rattle.stack_engine.specs.declared.path.Chains.{Chains}
 use Rattle.stack_engine.specs.declared.path.Chains.TheVariants.{Kept, Dropped}
 
 -- a data block of a part's line that was found, with its path from the root down
-abbrev pub one_found : BlockPart → ℕ → List ℕ → List CachedBlock → FoundRecord
+abbrev pub one_found : VerityPart → ℕ → List ℕ → List CachedBlock → FoundRecord
 one_found part index content path = record { device = part.device.0; line = part.line; chain = record { index = index; content = content; path = map (λ b. b.bytes) path } }
 
 -- what is handed out with one more chain
@@ -26,7 +26,7 @@ AreHandedOut Kept before after out = out ≡ after
 AreHandedOut Dropped before after out = out ≡ before
 
 -- A read of n sectors, which are whole data blocks: some chains were found, and are handed out or dropped.
-pub record ReadsBlocks (c : Configuration) (part : BlockPart) (n : ℕ) (chains : Chains) (did : LeafRead) (answer : Result (List ℕ) IoFault) : Type 0 where
+pub record ReadsBlocks (c : Configuration) (part : VerityPart) (n : ℕ) (chains : Chains) (did : LeafRead) (answer : Result (List ℕ) IoFault) : Type 0 where
   pub after : List FoundRecord
   pub out : AreHandedOut chains did.before after did.after
   pub reads : ReadsSource c (Blocks part) n (record { old = did.old; new = did.new; before = did.before; after = after }) answer

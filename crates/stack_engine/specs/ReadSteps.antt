@@ -1,6 +1,6 @@
 -- What the steps of a read say: of a source, from its first sector on; of a leaf or a device, from sector `first` on; and of blocks.
 -- They fill the buffer `out`, as it was before.
-use Rattle.std.specs.Prelude.{◌≡◌, ℕ, ◌*◌, ◌/◌, List, Vec, Result, length, map, take}
+use Rattle.std.specs.Prelude.{◌≡◌, ℕ, ◌*◌, ◌/◌, Bool, List, Vec, Result, length, map, take}
 use Rattle.std.specs.Global.{Global}
 use Rattle.block_device.specs.Device.{Device}
 use Rattle.dm_table.specs.declared.verity.Verity.{Verity}
@@ -13,20 +13,22 @@ use Rattle.stack_meaning.specs.declared.fault.IoFault.{IoFault}
 use Rattle.stack_meaning.specs.Blocks.{hash_sectors, hash_start}
 use Rattle.stack_meaning.specs.Found.{FoundRecord}
 use Rattle.stack_meaning.specs.Leaves.{AreRead}
-use Rattle.stack_meaning.specs.Meaning.{said_at}
+use Rattle.stack_meaning.specs.Meaning.{Said, said_at}
 use Rattle.stack_meaning.specs.Places.{Expected, place_of, run_expected}
 use Rattle.stack_meaning.specs.Reading.{Gets, IsPlain, MeetVerity, buffer_answer}
 use Rattle.stack_lines.specs.declared.source.Source.{Source}
 use Rattle.stack_lines.specs.declared.tree.Extent.{Extent}
 use Rattle.stack_lines.specs.declared.tree.Tree.{Tree}
 use Rattle.stack_lines.specs.Budgets.{ReadsAtMost, budget, source_budget}
+use Rattle.stack_lines.specs.Caches.{KeepsCache}
 use Rattle.stack_lines.specs.Sources.{source_place, source_said}
+use Rattle.stack_lines.specs.Touches.{AsksOnly, leaves_of, source_leaves}
 use Rattle.stack_lines.specs.Walks.{block_in, checked_expected, data_expected, GetsChain, IsWalked}
 use Rattle.hash_tree.specs.Chain.{ChainRecord}
 use Rattle.verified_cache.specs.Cache.{CachedBlock}
 use Rattle.stack_engine.specs.declared.backing.Backing.{Backing}
 use Rattle.stack_engine.specs.declared.path.WantedBlock.{WantedBlock}
-use Rattle.stack_engine.specs.Backings.{leaves_in}
+use Rattle.stack_engine.specs.Backings.{BackingRecord, backing_of, leaves_in}
 use Rattle.stack_engine.specs.Bytes.{FindsBytes, GetsBytes}
 use Rattle.stack_engine.specs.Premises.{CanRead}
 
@@ -34,33 +36,44 @@ use Rattle.stack_engine.specs.Premises.{CanRead}
 abbrev pub CanFill : {D : Type 0} → (D → Device) → Configuration → Backing D → List FoundRecord → Source → List ℕ → Type 0
 CanFill state c backing found source out = CanRead c (leaves_in state backing) backing.cache found source out
 
--- ---- of a source
+-- ---- what any read leaves
 
-abbrev pub PlainFrom : {D : Type 0} → (D → Device) → Configuration → Source → List ℕ → Backing D → Backing D → Result Unit IoFault → Type 0
-PlainFrom state c source out old new result = IsPlain (source_said c source) 0 (length out / 512) (leaves_in state old) (leaves_in state new) result
+-- n sectors: what is said of each, from the first on, the leaves beneath them, and what a read of them costs
+pub record SectorRun : Type 1 where
+  pub said : ℕ → Said
+  pub first : ℕ
+  pub count : ℕ
+  pub leaves : ℕ → Bool
+  pub most : ℕ
 
--- where no `verity` line is on the way the kept hash blocks stay
-abbrev pub SameFrom : {D : Type 0} → Configuration → Source → List ℕ → Backing D → Backing D → Type 0
-SameFrom c source out old new = (MeetVerity (source_said c source) 0 (length out / 512) → ⊥) → new.cache ≡ old.cache
+-- of a source, from its first sector on
+abbrev pub run_of : Configuration → Source → ℕ → SectorRun
+run_of c source n = record { said = source_said c source; first = 0; count = n; leaves = source_leaves c source; most = source_budget c source n }
 
--- no more is read than what it costs
-abbrev pub SpentFrom : {D : Type 0} → (D → Device) → Configuration → Source → List ℕ → Backing D → Backing D → Type 0
-SpentFrom state c source out old new = ReadsAtMost (source_budget c source (length out / 512)) (leaves_in state old) (leaves_in state new)
+-- of a leaf or a device
+abbrev pub run_beneath : Configuration → Lower → ℕ → ℕ → SectorRun
+run_beneath c lower first n = record { said = said_at c lower; first = first; count = n; leaves = leaves_of c lower; most = budget c lower first n }
+
+-- What a read of a run leaves, whatever it answers. It ends at the first device call that fails, and keeps hash blocks only
+-- that are sound. Without a `verity` line on the way it is plain, and the kept hash blocks stay.
+pub record IsReadStep (c : Configuration) (run : SectorRun) (old new : BackingRecord) (result : Result Unit IoFault) : Type 0 where
+  pub cached : KeepsCache c new.leaves old.cache new.cache
+  pub plain : IsPlain run.said run.first run.count old.leaves new.leaves result
+  pub same : (MeetVerity run.said run.first run.count → ⊥) → new.cache ≡ old.cache
+  pub touches : AsksOnly run.leaves old.leaves new.leaves result
+  pub spent : ReadsAtMost run.most old.leaves new.leaves
+
+abbrev pub StepFrom : {D : Type 0} → (D → Device) → Configuration → Source → List ℕ → Backing D → Backing D → Result Unit IoFault → Type 0
+StepFrom state c source out old new result = IsReadStep c (run_of c source (length out / 512)) (backing_of state old) (backing_of state new) result
+
+abbrev pub StepAt : {D : Type 0} → (D → Device) → Configuration → Lower → ℕ → List ℕ → Backing D → Backing D → Result Unit IoFault → Type 0
+StepAt state c lower first out old new result = IsReadStep c (run_beneath c lower first (length out / 512)) (backing_of state old) (backing_of state new) result
+
+-- ---- of a source, or of a leaf or a device
 
 -- its bytes, or a fault; the chains that show them aren't handed out
 abbrev pub BytesFrom : {D : Type 0} → (D → Device) → Configuration → Source → List ℕ → Backing D → Backing D → Result (List ℕ) IoFault → Type 0
 BytesFrom state c source out old new answer = FindsBytes (source_place c source) c 0 (length out / 512) (leaves_in state old) (leaves_in state new) answer
-
--- ---- of a leaf or a device
-
-abbrev pub PlainAt : {D : Type 0} → (D → Device) → Configuration → Lower → ℕ → List ℕ → Backing D → Backing D → Result Unit IoFault → Type 0
-PlainAt state c lower first out old new result = IsPlain (said_at c lower) first (length out / 512) (leaves_in state old) (leaves_in state new) result
-
-abbrev pub SameAt : {D : Type 0} → Configuration → Lower → ℕ → List ℕ → Backing D → Backing D → Type 0
-SameAt c lower first out old new = (MeetVerity (said_at c lower) first (length out / 512) → ⊥) → new.cache ≡ old.cache
-
-abbrev pub SpentAt : {D : Type 0} → (D → Device) → Configuration → Lower → ℕ → List ℕ → Backing D → Backing D → Type 0
-SpentAt state c lower first out old new = ReadsAtMost (budget c lower first (length out / 512)) (leaves_in state old) (leaves_in state new)
 
 abbrev pub BytesAt : {D : Type 0} → (D → Device) → Configuration → Lower → ℕ → List ℕ → Backing D → Backing D → Result (List ℕ) IoFault → Type 0
 BytesAt state c lower first out old new answer = FindsBytes (place_of c lower) c first (length out / 512) (leaves_in state old) (leaves_in state new) answer
@@ -69,9 +82,11 @@ BytesAt state c lower first out old new answer = FindsBytes (place_of c lower) c
 abbrev pub GotAt : {D : Type 0} → (D → Device) → Configuration → Lower → ℕ → List ℕ → Backing D → Backing D → Result (List ℕ) IoFault → Type 0
 GotAt state c lower first out old new answer = GetsBytes c lower first (length out / 512) (leaves_in state old) (leaves_in state new) answer
 
--- the sectors of a leaf that fill a buffer, with whatever chains
-abbrev pub leaf_sectors : Configuration → ℕ → ℕ → List ℕ → List FoundRecord → Expected (List ℕ)
-leaf_sectors c leaf first out chains = run_expected (place_of c (Leaf leaf)) chains first (length out / 512)
+-- n sectors of a leaf were read by one call, with whatever chains
+pub record ReadsLeaf (c : Configuration) (leaf first n : ℕ) (old new : List Device) (result : Result Unit IoFault) (bytes : List ℕ) : Type 0 where
+  pub got : (chains : List FoundRecord) → Gets (run_expected (place_of c (Leaf leaf)) chains first n) old new (buffer_answer result bytes)
+  pub plain : IsPlain (said_at c (Leaf leaf)) first n old new result
+  pub touches : AsksOnly (leaves_of c (Leaf leaf)) old new result
 
 -- ---- of blocks
 

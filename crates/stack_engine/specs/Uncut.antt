@@ -7,7 +7,7 @@ use Rattle.stack_rules.specs.Records.{Configuration}
 use Rattle.stack_rules.specs.Descend.{descend}
 use Rattle.stack_rules.specs.Units.{unit_sectors, crypt_of}
 use Rattle.stack_meaning.specs.Beneath.{beneath, said_or}
-use Rattle.stack_meaning.specs.Meaning.{said_by_name}
+use Rattle.stack_meaning.specs.Meaning.{said_at, said_by_name}
 use Rattle.stack_meaning.specs.MeaningOf.{meaning_of}
 use Rattle.stack_meaning.specs.Puts.{in_one_run}
 use Rattle.stack_meaning.specs.Sectors.{OnLine, sector_rule}
@@ -15,7 +15,6 @@ use Rattle.stack_meaning.specs.TargetMeaning.{Meant, handed, own}
 use Rattle.stack_meaning.specs.Units.{unit_first}
 use Rattle.stack_lines.specs.declared.source.Source.{Source}
 use Rattle.stack_lines.specs.declared.source.Source.TheVariants.{Below, Units, UnitPart, Zeros, Fails, Block, Blocks}
-use Rattle.stack_lines.specs.Sources.{HasCrypt}
 use Rattle.stack_lines.specs.Writing.{SomeEncrypt}
 
 -- Of a sector: that a write which begins with it cuts no unit there, and one which ends with it; and whether it goes down
@@ -72,7 +71,7 @@ pub record CutsNone (c : Configuration) (lower : Lower) (s n : ℕ) : Type 0 whe
 -- n sectors of a source, of which whole units are no longer cut unless a line beneath encrypts them once more
 abbrev pub SourceCutsNone : Configuration → Source → ℕ → Type 0
 SourceCutsNone c (Below lower first) n = CutsNone c lower first n
-SourceCutsNone c (Units b) n = (crypt : Crypt) → HasCrypt c b.device.0 b.line crypt → SomeEncrypt (said_by_name c crypt.base.device) (unit_first crypt b.first) n → ⊥
+SourceCutsNone c (Units x) n = SomeEncrypt (said_at c x.lower) (unit_first x.crypt.now x.first) n → ⊥
 SourceCutsNone c (UnitPart b) n = ⊥
 SourceCutsNone c Zeros n = Unit {0}
 SourceCutsNone c Fails n = Unit {0}

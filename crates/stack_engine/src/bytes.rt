@@ -1,11 +1,9 @@
 //! Reads that hand out no chains.
-ghost use Rattle.std.specs.Prelude.{◌/◌, []};
+ghost use Rattle.std.specs.Prelude.{[]};
 ghost use Rattle.stack_rules.specs.Names.{mapped};
 ghost use Rattle.stack_meaning.specs.Reading.{buffer_answer};
 ghost use Rattle.stack_lines.specs.declared.source.Source.TheVariants.{Below};
-ghost use Rattle.stack_lines.specs.Touches.{leaves_of, source_leaves};
-ghost use Rattle.stack_engine.specs.Backings.{Asks, StaysSound};
-ghost use Rattle.stack_engine.specs.ReadSteps.{CanFill, PlainFrom, SameFrom, SpentFrom, BytesFrom, PlainAt, SameAt, SpentAt, BytesAt};
+ghost use Rattle.stack_engine.specs.ReadSteps.{CanFill, StepFrom, StepAt, BytesFrom, BytesAt};
 
 use crate::backing::Backing;
 use crate::path::Chains;
@@ -20,16 +18,12 @@ use stack_meaning::IoFault;
 fn run_bytes<D: BlockDev>(
     config: &Config,
     backing: &mut Backing<D>,
-    source: Source,
+    source: Source<'_>,
     out: &mut [u8],
 ) -> Result<(), IoFault>
     requires { CanFill D.state config.now backing.old [] source out.old }
-    ensures reads { BytesFrom D.state config.now source out.old backing.old backing.new (buffer_answer result out.new) }
-    ensures cached { StaysSound D.state config.now backing.old backing.new }
-    ensures plain { PlainFrom D.state config.now source out.old backing.old backing.new result }
-    ensures same { SameFrom config.now source out.old backing.old backing.new }
-    ensures touches { Asks D.state (source_leaves config.now source) backing.old backing.new result }
-    ensures spent { SpentFrom D.state config.now source out.old backing.old backing.new }
+    ensures reads { BytesFrom D.state config.now source.entry out.old backing.old backing.new (buffer_answer result out.new) }
+    ensures step { StepFrom D.state config.now source.entry out.old backing.old backing.new result }
 {
     let mut dropped = Vec::new(backing.alloc);
     match source {
@@ -55,11 +49,7 @@ pub(crate) fn device_bytes<D: BlockDev>(
 ) -> Result<(), IoFault>
     requires { CanFill D.state config.now backing.old [] (Below (mapped d.0) first) out.old }
     ensures reads { BytesAt D.state config.now (mapped d.0) first out.old backing.old backing.new (buffer_answer result out.new) }
-    ensures cached { StaysSound D.state config.now backing.old backing.new }
-    ensures plain { PlainAt D.state config.now (mapped d.0) first out.old backing.old backing.new result }
-    ensures same { SameAt config.now (mapped d.0) first out.old backing.old backing.new }
-    ensures touches { Asks D.state (leaves_of config.now (mapped d.0)) backing.old backing.new result }
-    ensures spent { SpentAt D.state config.now (mapped d.0) first out.old backing.old backing.new }
+    ensures step { StepAt D.state config.now (mapped d.0) first out.old backing.old backing.new result }
 {
     let none = Vec::new(backing.alloc);
     let mut at = 0;

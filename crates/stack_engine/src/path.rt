@@ -4,7 +4,7 @@ ghost use Rattle.verified_cache.specs.Cache.{CachedBlock};
 ghost use Rattle.stack_engine.specs.Keeping.{handed_out, one_found};
 
 use hash_tree::Chain;
-use stack_lines::BlockPart;
+use stack_lines::VerityPart;
 use stack_meaning::Found;
 use std::alloc::AllocError;
 use std::marker::Model;
@@ -71,13 +71,13 @@ impl Chains {
     /// before; or none.
     pub(crate) fn keep(
         self,
-        part: BlockPart,
+        part: &VerityPart<'_>,
         index: u64,
         path: &[PathBlock],
         content: &[u8],
         found: &mut Vec<Found>,
     ) -> Result<(), AllocError>
-        ensures ok { OnOk result (found.new.items ≡ handed_out self found.old.items (one_found part index content.now path.now)) }
+        ensures ok { OnOk result (found.new.items ≡ handed_out self found.old.items (one_found part.now index content.now path.now)) }
         ensures err { OnErr result (found.new.items ≡ found.old.items) }
     {
         match self {
@@ -89,13 +89,13 @@ impl Chains {
 
 /// The chain of a data block of a part's line, by its number in the line from 0, behind those that were found before.
 fn keep_chain(
-    part: BlockPart,
+    part: &VerityPart<'_>,
     index: u64,
     path: &[PathBlock],
     content: &[u8],
     found: &mut Vec<Found>,
 ) -> Result<(), AllocError>
-    ensures ok { OnOk result (found.new.items ≡ found.old.items ++ (one_found part index content.now path.now ∷ [])) }
+    ensures ok { OnOk result (found.new.items ≡ found.old.items ++ (one_found part.now index content.now path.now ∷ [])) }
     ensures err { OnErr result (found.new.items ≡ found.old.items) }
 {
     let alloc = *found.allocator();

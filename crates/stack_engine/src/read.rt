@@ -1,22 +1,20 @@
 //! Reads through the lines of a stack, down to its leaves.
-ghost use Rattle.std.specs.Prelude.{◌≡◌, ◌≤◌, ◌<◌, ◌+◌, ◌*◌, ◌/◌, ◌%◌, List, length, map, take, get_or, All, OnOk, IfOk, IfErr, Err};
+ghost use Rattle.std.specs.Prelude.{◌≡◌, ◌≤◌, ◌<◌, ◌+◌, ◌*◌, ◌/◌, ◌%◌, length, map, take, get_or, All, OnOk, IfOk, IfErr, Err};
 ghost use Rattle.tree_shape.specs.Shape.{levels};
 ghost use Rattle.stack_rules.specs.Trees.{tree_of};
 ghost use Rattle.stack_rules.specs.Names.{mapped, size};
 ghost use Rattle.stack_lines.specs.declared.source.Source.TheVariants.{Below};
-ghost use Rattle.stack_meaning.specs.Found.{FoundRecord};
-ghost use Rattle.stack_meaning.specs.Meaning.{said_at};
-ghost use Rattle.stack_meaning.specs.Reading.{Gets, Reads, IsPlain, buffer_answer};
+ghost use Rattle.stack_meaning.specs.Reading.{Reads, buffer_answer};
 ghost use Rattle.stack_lines.specs.Sources.{ReadsSource};
 ghost use Rattle.stack_lines.specs.Extents.{LiesInsideLower};
-ghost use Rattle.stack_lines.specs.Touches.{AsksOnly, leaves_of, source_leaves};
+ghost use Rattle.stack_lines.specs.Touches.{leaves_of};
 ghost use Rattle.stack_lines.specs.Walks.{HasDataBlock};
 ghost use Rattle.stack_lines.specs.Caches.{IsCached, IsPlaceOf};
 ghost use Rattle.verified_cache.specs.Cache.{CachedBlock};
 ghost use Rattle.stack_engine.specs.Stacks.{IsSound};
 ghost use Rattle.stack_engine.specs.Premises.{FitsIn};
 ghost use Rattle.stack_engine.specs.Backings.{leaves_in, IsBacking, Asks, StaysSound, did};
-ghost use Rattle.stack_engine.specs.ReadSteps.{CanFill, PlainFrom, SameFrom, SpentFrom, PlainAt, SameAt, SpentAt, GotAt, leaf_sectors, GetsBy, extent_wanted, data_wanted, way_wanted, ChainBy, WalkedBy, ReadsWay};
+ghost use Rattle.stack_engine.specs.ReadSteps.{CanFill, ReadsLeaf, StepFrom, StepAt, GotAt, GetsBy, extent_wanted, data_wanted, way_wanted, ChainBy, WalkedBy, ReadsWay};
 ghost use Rattle.stack_engine.specs.Keeping.{ReadsBlocks};
 
 use crate::backing::Backing;
@@ -28,11 +26,10 @@ use dm_table::Verity;
 use hash_tree::{Chain, digest_blocks};
 use stack_config::{Config, DevId, Lower};
 use stack_lines::tree::{
-    Extent, Tree, copy_part, data_extent, find, hash_extent, hash_key, is_ignored, tree_at,
-    verity_at,
+    Extent, Tree, copy_part, data_extent, find, hash_extent, hash_key, is_ignored, tree_of,
 };
-use stack_lines::units::{MOST, crypt_at, decrypt, take_sectors, unit_at, whole_unit};
-use stack_lines::{BlockPart, Source, run_to_read};
+use stack_lines::units::{MOST, decrypt, take_sectors, unit_at, whole_unit};
+use stack_lines::{CryptPart, Source, VerityPart, run_to_read};
 use stack_meaning::{Fault, Found, IoFault};
 use tree_shape::{Digest, Salt, digest_in};
 use verified_cache::Key;
@@ -47,10 +44,7 @@ fn read_leaf<D: BlockDev>(
 ) -> Result<(), IoFault>
     requires sound { IsSound config.now (map D.state devices.old) }
     requires fits { FitsIn config.now (Below (Lower.Leaf leaf) first) out.old }
-    ensures got { (chains : List FoundRecord) → Gets (leaf_sectors config.now leaf first out.old chains)
-        (map D.state devices.old) (map D.state devices.new) (buffer_answer result out.new) }
-    ensures plain { IsPlain (said_at config.now (Lower.Leaf leaf)) first (length out.old / 512) (map D.state devices.old) (map D.state devices.new) result }
-    ensures touches { AsksOnly (leaves_of config.now (Lower.Leaf leaf)) (map D.state devices.old) (map D.state devices.new) result }
+    ensures { ReadsLeaf config.now leaf first (length out.old / 512) (map D.state devices.old) (map D.state devices.new) result out.new }
 {
     match devices[leaf as usize].read(first, out) {
         Ok(()) => Ok(()),
@@ -72,11 +66,7 @@ fn read_lower<D: BlockDev>(
     ensures reads { Reads config.now lower first (length out.old / 512)
         (did D.state backing.old found.old.items backing.new found.new.items)
         (buffer_answer result out.new) }
-    ensures cached { StaysSound D.state config.now backing.old backing.new }
-    ensures plain { PlainAt D.state config.now lower first out.old backing.old backing.new result }
-    ensures same { SameAt config.now lower first out.old backing.old backing.new }
-    ensures touches { Asks D.state (leaves_of config.now lower) backing.old backing.new result }
-    ensures spent { SpentAt D.state config.now lower first out.old backing.old backing.new }
+    ensures step { StepAt D.state config.now lower first out.old backing.old backing.new result }
 {
     match lower {
         Lower::Leaf(leaf) => read_leaf(config, backing.devices.as_mut_slice(), leaf, first, out),
@@ -89,19 +79,15 @@ fn read_lower<D: BlockDev>(
 pub(crate) fn read_run<D: BlockDev>(
     config: &Config,
     backing: &mut Backing<D>,
-    source: Source,
+    source: Source<'_>,
     out: &mut [u8],
     found: &mut Vec<Found>,
 ) -> Result<(), IoFault>
     requires { CanFill D.state config.now backing.old found.old.items source out.old }
-    ensures reads { ReadsSource config.now source (length out.old / 512)
+    ensures reads { ReadsSource config.now source.entry (length out.old / 512)
         (did D.state backing.old found.old.items backing.new found.new.items)
         (buffer_answer result out.new) }
-    ensures cached { StaysSound D.state config.now backing.old backing.new }
-    ensures plain { PlainFrom D.state config.now source out.old backing.old backing.new result }
-    ensures same { SameFrom config.now source out.old backing.old backing.new }
-    ensures touches { Asks D.state (source_leaves config.now source) backing.old backing.new result }
-    ensures spent { SpentFrom D.state config.now source out.old backing.old backing.new }
+    ensures step { StepFrom D.state config.now source.entry out.old backing.old backing.new result }
 {
     match source {
         Source::Below { lower, first } => read_lower(config, backing, lower, first, out, found),
@@ -122,25 +108,20 @@ pub(crate) fn read_run<D: BlockDev>(
 pub(crate) fn read_units<D: BlockDev>(
     config: &Config,
     backing: &mut Backing<D>,
-    part: BlockPart,
+    part: CryptPart<'_>,
     out: &mut [u8],
     found: &mut Vec<Found>,
 ) -> Result<(), IoFault>
     requires { CanFill D.state config.now backing.old found.old.items (Source.Units part) out.old }
-    ensures reads { ReadsSource config.now (Source.Units part) (length out.old / 512)
+    ensures reads { ReadsSource config.now (Source.Units part.entry) (length out.old / 512)
         (did D.state backing.old found.old.items backing.new found.new.items)
         (buffer_answer result out.new) }
-    ensures cached { StaysSound D.state config.now backing.old backing.new }
-    ensures plain { PlainFrom D.state config.now (Source.Units part) out.old backing.old backing.new result }
-    ensures same { SameFrom config.now (Source.Units part) out.old backing.old backing.new }
-    ensures touches { Asks D.state (leaves_of config.now (mapped part.device.0)) backing.old backing.new result }
-    ensures spent { SpentFrom D.state config.now (Source.Units part) out.old backing.old backing.new }
+    ensures step { StepFrom D.state config.now (Source.Units part.entry) out.old backing.old backing.new result }
 {
-    let crypt = crypt_at(config, part.device, part.line);
-    let unit = unit_at(config, part, crypt);
-    match read_lower(config, backing, unit.lower, unit.first, out, found) {
+    let unit = unit_at(&part);
+    match read_lower(config, backing, part.lower, unit.first, out, found) {
         Ok(()) => {
-            decrypt(config, part, crypt, unit.index, out);
+            decrypt(&part, unit.index, out);
             Ok(())
         }
         Err(fault) => Err(fault),
@@ -152,21 +133,17 @@ pub(crate) fn read_units<D: BlockDev>(
 fn read_unit_part<D: BlockDev>(
     config: &Config,
     backing: &mut Backing<D>,
-    part: BlockPart,
+    part: CryptPart<'_>,
     out: &mut [u8],
     found: &mut Vec<Found>,
 ) -> Result<(), IoFault>
     requires { CanFill D.state config.now backing.old found.old.items (Source.UnitPart part) out.old }
-    ensures reads { ReadsSource config.now (Source.UnitPart part) (length out.old / 512)
+    ensures reads { ReadsSource config.now (Source.UnitPart part.entry) (length out.old / 512)
         (did D.state backing.old found.old.items backing.new found.new.items)
         (buffer_answer result out.new) }
-    ensures cached { StaysSound D.state config.now backing.old backing.new }
-    ensures plain { PlainFrom D.state config.now (Source.UnitPart part) out.old backing.old backing.new result }
-    ensures same { SameFrom config.now (Source.UnitPart part) out.old backing.old backing.new }
-    ensures touches { Asks D.state (leaves_of config.now (mapped part.device.0)) backing.old backing.new result }
-    ensures spent { SpentFrom D.state config.now (Source.UnitPart part) out.old backing.old backing.new }
+    ensures step { StepFrom D.state config.now (Source.UnitPart part.entry) out.old backing.old backing.new result }
 {
-    let whole = whole_unit(config, part);
+    let whole = whole_unit(&part);
     let mut room = [0u8; MOST];
     let all = room.as_mut_slice();
     let unit = &mut all[..whole.sectors as usize * 512];
@@ -184,21 +161,17 @@ fn read_unit_part<D: BlockDev>(
 fn read_block<D: BlockDev>(
     config: &Config,
     backing: &mut Backing<D>,
-    part: BlockPart,
+    part: VerityPart<'_>,
     out: &mut [u8],
     found: &mut Vec<Found>,
 ) -> Result<(), IoFault>
     requires { CanFill D.state config.now backing.old found.old.items (Source.Block part) out.old }
-    ensures reads { ReadsSource config.now (Source.Block part) (length out.old / 512)
+    ensures reads { ReadsSource config.now (Source.Block part.entry) (length out.old / 512)
         (did D.state backing.old found.old.items backing.new found.new.items)
         (buffer_answer result out.new) }
-    ensures cached { StaysSound D.state config.now backing.old backing.new }
-    ensures plain { PlainFrom D.state config.now (Source.Block part) out.old backing.old backing.new result }
-    ensures same { SameFrom config.now (Source.Block part) out.old backing.old backing.new }
-    ensures touches { Asks D.state (leaves_of config.now (mapped part.device.0)) backing.old backing.new result }
-    ensures spent { SpentFrom D.state config.now (Source.Block part) out.old backing.old backing.new }
+    ensures step { StepFrom D.state config.now (Source.Block part.entry) out.old backing.old backing.new result }
 {
-    let verity = verity_at(config, part.device, part.line);
+    let verity = part.verity;
     let sectors = u64::from(verity.data_block / 512);
     let index = part.first / sectors;
     let within = part.first % sectors;
@@ -208,7 +181,7 @@ fn read_block<D: BlockDev>(
             Ok(())
         }
         None => {
-            let tree = tree_at(config, part.device, part.line, verity);
+            let tree = tree_of(config, &part);
             match walk(config, backing, verity, &tree, index) {
                 Err(fault) => Err(fault),
                 Ok(chain) => {
@@ -237,23 +210,19 @@ fn read_block<D: BlockDev>(
 pub(crate) fn read_blocks<D: BlockDev>(
     config: &Config,
     backing: &mut Backing<D>,
-    part: BlockPart,
+    part: VerityPart<'_>,
     out: &mut [u8],
     chains: Chains,
     found: &mut Vec<Found>,
 ) -> Result<(), IoFault>
     requires { CanFill D.state config.now backing.old found.old.items (Source.Blocks part) out.old }
-    ensures reads { ReadsBlocks config.now part (length out.old / 512) chains
+    ensures reads { ReadsBlocks config.now part.entry (length out.old / 512) chains
         (did D.state backing.old found.old.items backing.new found.new.items)
         (buffer_answer result out.new) }
-    ensures cached { StaysSound D.state config.now backing.old backing.new }
-    ensures plain { PlainFrom D.state config.now (Source.Blocks part) out.old backing.old backing.new result }
-    ensures same { SameFrom config.now (Source.Blocks part) out.old backing.old backing.new }
-    ensures touches { Asks D.state (leaves_of config.now (mapped part.device.0)) backing.old backing.new result }
-    ensures spent { SpentFrom D.state config.now (Source.Blocks part) out.old backing.old backing.new }
+    ensures step { StepFrom D.state config.now (Source.Blocks part.entry) out.old backing.old backing.new result }
 {
-    let verity = verity_at(config, part.device, part.line);
-    let tree = tree_at(config, part.device, part.line, verity);
+    let verity = part.verity;
+    let tree = tree_of(config, &part);
     let levels = tree.shape.levels() as usize;
     let size = verity.data_block as usize;
     let first = part.first / u64::from(verity.data_block / 512);
@@ -293,7 +262,7 @@ pub(crate) fn read_blocks<D: BlockDev>(
         if !settle(ignored, digest, &expected, &mut out[from..from + size]) {
             return Err(IoFault::Stack(Fault::Mismatch));
         }
-        match chains.keep(part, index, way, &out[from..from + size], found) {
+        match chains.keep(&part, index, way, &out[from..from + size], found) {
             Err(_) => return Err(IoFault::NoMemory),
             Ok(()) => at += 1,
         }
@@ -559,11 +528,7 @@ pub(crate) fn read_device<D: BlockDev>(
     ensures reads { Reads config.now (mapped d.0) first (length out.old / 512)
         (did D.state backing.old found.old.items backing.new found.new.items)
         (buffer_answer result out.new) }
-    ensures cached { StaysSound D.state config.now backing.old backing.new }
-    ensures plain { PlainAt D.state config.now (mapped d.0) first out.old backing.old backing.new result }
-    ensures same { SameAt config.now (mapped d.0) first out.old backing.old backing.new }
-    ensures touches { Asks D.state (leaves_of config.now (mapped d.0)) backing.old backing.new result }
-    ensures spent { SpentAt D.state config.now (mapped d.0) first out.old backing.old backing.new }
+    ensures step { StepAt D.state config.now (mapped d.0) first out.old backing.old backing.new result }
 {
     let mut at = 0;
     while at < out.len() {

@@ -5,18 +5,16 @@ ghost use Rattle.stack_lines.specs.declared.source.Source.TheVariants.{Below};
 ghost use Rattle.stack_meaning.specs.Meaning.{said_at};
 ghost use Rattle.stack_lines.specs.Sources.{source_said};
 ghost use Rattle.stack_lines.specs.Writing.{AreHeld, sectors_in, destination_of, WritesSectors};
-ghost use Rattle.stack_lines.specs.Touches.{leaves_of, source_leaves};
 ghost use Rattle.stack_engine.specs.Stacks.{IsSound};
 ghost use Rattle.stack_engine.specs.Premises.{FitsIn};
-ghost use Rattle.stack_engine.specs.Backings.{StaysSound, ForgetsOn};
-ghost use Rattle.stack_engine.specs.WriteSteps.{CanPut, PutTo, UncutTo, PaidTo, PutAt, UncutAt, PaidAt};
+ghost use Rattle.stack_engine.specs.WriteSteps.{CanPut, PutTo, WriteStepTo, PutAt, WriteStepAt};
 
 use crate::backing::Backing;
 use crate::read::read_units;
 use block_device::BlockDev;
 use stack_config::{Config, DevId, Lower, unit_sectors};
-use stack_lines::units::{MOST, crypt_at, encrypt, put_sectors, unit_at, whole_unit};
-use stack_lines::{BlockPart, Source, Steps, lower_cuts, run_at};
+use stack_lines::units::{MOST, encrypt, put_sectors, unit_at, whole_unit};
+use stack_lines::{CryptPart, Source, Steps, lower_cuts, run_at};
 use stack_meaning::{Fault, IoFault};
 
 /// The sectors of a leaf, by one call of its device.
@@ -49,9 +47,7 @@ fn write_leaf<D: BlockDev>(
 ) -> Result<(), IoFault>
     requires { CanPut D.state config.now backing.old (Below (Lower.Leaf leaf) first) bytes.now }
     ensures writes { PutAt D.state config.now (Lower.Leaf leaf) first bytes.now backing.old backing.new result }
-    ensures paid { PaidAt D.state config.now (Lower.Leaf leaf) first bytes.now backing.old backing.new }
-    ensures cached { StaysSound D.state config.now backing.old backing.new }
-    ensures forgets { ForgetsOn D.state config.now (leaves_of config.now (Lower.Leaf leaf)) backing.old backing.new }
+    ensures step { WriteStepAt D.state config.now (Lower.Leaf leaf) first bytes.now backing.old backing.new }
 {
     backing.cache.forget_leaf(config, leaf);
     write_sectors(config, backing.devices.as_mut_slice(), leaf, first, bytes)
@@ -89,10 +85,7 @@ fn write_lower<D: BlockDev>(
     requires can { CanPut D.state config.now backing.old (Below lower first) (plain.now ++ buffer.old) }
     requires bytes { AreHeld (said_at config.now lower) first plain.now buffer.old }
     ensures writes { PutAt D.state config.now lower first (plain.now ++ buffer.old) backing.old backing.new result }
-    ensures uncut { UncutAt D.state config.now lower first (plain.now ++ buffer.old) backing.old backing.new }
-    ensures paid { PaidAt D.state config.now lower first (plain.now ++ buffer.old) backing.old backing.new }
-    ensures cached { StaysSound D.state config.now backing.old backing.new }
-    ensures forgets { ForgetsOn D.state config.now (leaves_of config.now lower) backing.old backing.new }
+    ensures step { WriteStepAt D.state config.now lower first (plain.now ++ buffer.old) backing.old backing.new }
 {
     match lower {
         Lower::Leaf(leaf) => write_leaf(config, backing, leaf, first, held(plain, buffer)),
@@ -105,17 +98,14 @@ fn write_lower<D: BlockDev>(
 fn write_run<D: BlockDev>(
     config: &Config,
     backing: &mut Backing<D>,
-    source: Source,
+    source: Source<'_>,
     plain: &[u8],
     buffer: &mut [u8],
 ) -> Result<(), IoFault>
     requires can { CanPut D.state config.now backing.old source (plain.now ++ buffer.old) }
     requires bytes { AreHeld (source_said config.now source) 0 plain.now buffer.old }
-    ensures writes { PutTo D.state config.now source (plain.now ++ buffer.old) backing.old backing.new result }
-    ensures uncut { UncutTo D.state config.now source (plain.now ++ buffer.old) backing.old backing.new }
-    ensures paid { PaidTo D.state config.now source (plain.now ++ buffer.old) backing.old backing.new }
-    ensures cached { StaysSound D.state config.now backing.old backing.new }
-    ensures forgets { ForgetsOn D.state config.now (source_leaves config.now source) backing.old backing.new }
+    ensures writes { PutTo D.state config.now source.entry (plain.now ++ buffer.old) backing.old backing.new result }
+    ensures step { WriteStepTo D.state config.now source.entry (plain.now ++ buffer.old) backing.old backing.new }
 {
     match source {
         Source::Below { lower, first } => write_lower(config, backing, lower, first, plain, buffer),
@@ -133,29 +123,25 @@ fn write_run<D: BlockDev>(
 fn write_units<D: BlockDev>(
     config: &Config,
     backing: &mut Backing<D>,
-    part: BlockPart,
+    part: CryptPart<'_>,
     units: &mut [u8],
 ) -> Result<(), IoFault>
     requires { CanPut D.state config.now backing.old (Source.Units part) units.old }
-    ensures writes { PutTo D.state config.now (Source.Units part) units.old backing.old backing.new result }
-    ensures uncut { UncutTo D.state config.now (Source.Units part) units.old backing.old backing.new }
-    ensures paid { PaidTo D.state config.now (Source.Units part) units.old backing.old backing.new }
-    ensures cached { StaysSound D.state config.now backing.old backing.new }
-    ensures forgets { ForgetsOn D.state config.now (leaves_of config.now (mapped part.device.0)) backing.old backing.new }
+    ensures writes { PutTo D.state config.now (Source.Units part.entry) units.old backing.old backing.new result }
+    ensures step { WriteStepTo D.state config.now (Source.Units part.entry) units.old backing.old backing.new }
 {
-    let crypt = crypt_at(config, part.device, part.line);
-    let unit = unit_at(config, part, crypt);
-    let sectors = unit_sectors(crypt);
+    let unit = unit_at(&part);
+    let sectors = unit_sectors(part.crypt);
     let size = sectors as usize * 512;
-    encrypt(config, part, crypt, unit.index, units);
+    encrypt(&part, unit.index, units);
     let none: &[u8] = &[];
     let len = units.len();
     let steps = Steps {
         size: u64::from(sectors),
         skip: 0,
     };
-    if lower_cuts(config, unit.lower, unit.first, len as u64 / 512, steps) {
-        return write_lower(config, backing, unit.lower, unit.first, none, units);
+    if lower_cuts(config, part.lower, unit.first, len as u64 / 512, steps) {
+        return write_lower(config, backing, part.lower, unit.first, none, units);
     }
     let mut at = 0;
     while at < len {
@@ -164,7 +150,7 @@ fn write_units<D: BlockDev>(
         match write_lower(
             config,
             backing,
-            unit.lower,
+            part.lower,
             first,
             none,
             &mut units[at..end],
@@ -181,16 +167,14 @@ fn write_units<D: BlockDev>(
 fn write_unit_part<D: BlockDev>(
     config: &Config,
     backing: &mut Backing<D>,
-    part: BlockPart,
+    part: CryptPart<'_>,
     bytes: &[u8],
 ) -> Result<(), IoFault>
     requires { CanPut D.state config.now backing.old (Source.UnitPart part) bytes.now }
-    ensures writes { PutTo D.state config.now (Source.UnitPart part) bytes.now backing.old backing.new result }
-    ensures paid { PaidTo D.state config.now (Source.UnitPart part) bytes.now backing.old backing.new }
-    ensures cached { StaysSound D.state config.now backing.old backing.new }
-    ensures forgets { ForgetsOn D.state config.now (leaves_of config.now (mapped part.device.0)) backing.old backing.new }
+    ensures writes { PutTo D.state config.now (Source.UnitPart part.entry) bytes.now backing.old backing.new result }
+    ensures step { WriteStepTo D.state config.now (Source.UnitPart part.entry) bytes.now backing.old backing.new }
 {
-    let whole = whole_unit(config, part);
+    let whole = whole_unit(&part);
     let mut room = [0u8; MOST];
     let all = room.as_mut_slice();
     let unit = &mut all[..whole.sectors as usize * 512];
@@ -216,10 +200,7 @@ pub(crate) fn write_device<D: BlockDev>(
     requires can { CanPut D.state config.now backing.old (Below (mapped d.0) first) (plain.now ++ buffer.old) }
     requires bytes { AreHeld (said_at config.now (mapped d.0)) first plain.now buffer.old }
     ensures writes { PutAt D.state config.now (mapped d.0) first (plain.now ++ buffer.old) backing.old backing.new result }
-    ensures uncut { UncutAt D.state config.now (mapped d.0) first (plain.now ++ buffer.old) backing.old backing.new }
-    ensures paid { PaidAt D.state config.now (mapped d.0) first (plain.now ++ buffer.old) backing.old backing.new }
-    ensures cached { StaysSound D.state config.now backing.old backing.new }
-    ensures forgets { ForgetsOn D.state config.now (leaves_of config.now (mapped d.0)) backing.old backing.new }
+    ensures step { WriteStepAt D.state config.now (mapped d.0) first (plain.now ++ buffer.old) backing.old backing.new }
 {
     let room = buffer.len();
     let len = held(plain, buffer).len();

@@ -1,26 +1,22 @@
 -- Extents of a source, of what is beneath it, and of the device that it is of.
-use Rattle.std.proofs.Common.{◌≡◌, ℕ, ◌+◌, ◌-◌, ◌<◌, ◌≤◌, Some, refl, sym, ap, ◌∙◌, subst, arith, inl, inr}
+use Rattle.std.proofs.Common.{IsTrue, ◌≡◌, ℕ, ◌+◌, ◌-◌, ◌<◌, ◌≤◌, Some, refl, sym, ap, ◌∙◌, subst, arith, inl, inr}
 use Rattle.std.specs.Prelude.{false, true}
 use Rattle.std.proofs.lemmas.Bool.{cases_lt}
-use Rattle.std.proofs.lemmas.Option.{same_Some}
-use Rattle.dm_table.specs.declared.table.Line.{Line}
 use Rattle.stack_rules.specs.declared.lower.Lower.{Lower}
 use Rattle.stack_rules.specs.Records.{Configuration}
 use Rattle.stack_rules.specs.Names.{mapped}
-use Rattle.stack_rules.specs.Lines.{IsLine}
 use Rattle.stack_rules.specs.Rules.{IsLoaded}
 use Rattle.stack_meaning.specs.Beneath.{beneath}
 use Rattle.stack_meaning.specs.Meaning.{Said, said_at}
-use Rattle.stack_lines.specs.declared.source.BlockPart.{BlockPart}
+use Rattle.stack_lines.specs.declared.source.VerityPart.{VerityPart}
 use Rattle.stack_lines.specs.declared.source.Source.{Source}
 use Rattle.stack_lines.specs.declared.source.Source.TheVariants.{Below, Units, UnitPart, Zeros, Fails, Block, Blocks}
-use Rattle.stack_lines.specs.Sources.{AreWholeBlocks, BeginsAt, IsServed, LieInBlock, source_said}
-use Rattle.stack_lines.specs.Walks.{IsOnVerity}
+use Rattle.stack_lines.specs.Sources.{IsServed, source_said}
 use Rattle.stack_lines.proofs.lemmas.SourceLemmas.{served-said}
 use Rattle.stack_extents.specs.declared.extent.Extent.{Extent}
 use Rattle.stack_extents.specs.declared.extent.ExtentKind.{ExtentKind}
 use Rattle.stack_extents.specs.declared.extent.ExtentKind.TheVariants as known
-use Rattle.stack_extents.specs.Extents.{IgnoresZeros, by_line, by_lower, is_same_kind, IsToldExtent, IsIgnoringLine, ReadsAsZeros, SourceIgnores}
+use Rattle.stack_extents.specs.Extents.{IgnoresZeros, by_line, by_lower, is_same_kind, IsToldExtent, ReadsAsZeros, SourceIgnores}
 
 zeros-other : known.Zeros ≡ known.IgnoresZeros → ⊥
 zeros-other is = cc
@@ -50,21 +46,14 @@ unknown-extent said Ignores first most some = record {
 ignores-zeros : known.IgnoresZeros ≡ known.Zeros → ⊥
 ignores-zeros is = cc
 
-pub ignoring-extent : (c : Configuration) (b : BlockPart) (most : ℕ) → 0 < most → IsIgnoringLine c b.device.0 b.line
-    → IsToldExtent (source_said c (Block b)) (SourceIgnores c (Block b)) 0 most (record { count = most; kind = known.IgnoresZeros })
-ignoring-extent c b most some line = record {
+pub ignoring-extent : (c : Configuration) (x : VerityPart) (most : ℕ) → 0 < most → IsTrue x.verity.now.ignore_zero_blocks
+    → IsToldExtent (source_said c (Block x)) (SourceIgnores c (Block x)) 0 most (record { count = most; kind = known.IgnoresZeros })
+ignoring-extent c x most some ignores = record {
   some = some;
   few = omega arith;
   zeros = λ is j below. absurd (ignores-zeros is);
-  ignores = λ is j below. line;
+  ignores = λ is j below. ignores;
 }
-
--- the line of a part of one block, or of whole blocks
-pub block-line : (c : Configuration) (b : BlockPart) (n : ℕ) → LieInBlock c b.device.0 b.line b.first n → IsOnVerity c b.device.0 b.line
-block-line c b n p = (p.verity, record { line = p.has.line; is = p.has.is; has = p.has.has; fits = omega arith })
-
-pub blocks-line : (c : Configuration) (b : BlockPart) (n : ℕ) → AreWholeBlocks c b.device.0 b.line b.first n → IsOnVerity c b.device.0 b.line
-blocks-line c b n p = (p.verity, record { line = p.has.line; is = p.has.is; has = p.has.has; fits = omega arith })
 
 pub below-extent : (c : Configuration) (lower : Lower) (first most : ℕ) (extent : Extent) → IsToldExtent (said_at c lower) (IgnoresZeros c lower) first most extent
     → IsToldExtent (source_said c (Below lower first)) (SourceIgnores c (Below lower first)) 0 most extent
@@ -77,14 +66,6 @@ below-extent c lower first most extent p = record {
 
 -- ---- the sectors of a device
 
--- a sector of an ignoring line
-line-ignores : (c : Configuration) (d number s : ℕ) (line : Line) (b : BlockPart) (w : ℕ) → BeginsAt d number w b → IsLine c d number line → line.start ≤ s → s < line.start + line.length
-    → IsIgnoringLine c b.device.0 b.line → IgnoresZeros c (mapped d) s
-line-ignores c d number s line b w begins is start ends p =
-    let on : IsIgnoringLine c d number = subst (λ (k : ℕ). IsIgnoringLine c d k) begins.1 (subst (λ (k : ℕ). IsIgnoringLine c k b.line) begins.0 p) in
-    let same : on.is.line ≡ line = same_Some on.is.line line (sym on.is.is ∙ is) in
-    by_line on.verity (record { number = number; is = is; start = start; ends = ends }) (ap (λ (x : Line). x.target) (sym same) ∙ on.is.has) on.ignores
-
 pub served-ignores : (c : Configuration) (d s n j : ℕ) (source : Source) → j < n → IsServed c d s n source → SourceIgnores c source j → IgnoresZeros c (mapped d) (s + j)
 served-ignores c d s n j (Below lower first) below r p =
     let on = r.come.1 in
@@ -95,8 +76,8 @@ served-ignores c d s n j (Units b) below r p = absurd p
 served-ignores c d s n j (UnitPart b) below r p = absurd p
 served-ignores c d s n j Zeros below r p = absurd p
 served-ignores c d s n j Fails below r p = absurd p
-served-ignores c d s n j (Block b) below r p = line-ignores c d r.number (s + j) r.line b (s - r.line.start) r.come.0 r.is (omega (arith, r.start)) (omega (arith, below, r.fits)) p
-served-ignores c d s n j (Blocks b) below r p = line-ignores c d r.number (s + j) r.line b (s - r.line.start) r.come.0 r.is (omega (arith, r.start)) (omega (arith, below, r.fits)) p
+served-ignores c d s n j (Block x) below r p = by_line x.verity.now (record { number = r.number; is = r.is; start = omega (arith, r.start); ends = omega (arith, below, r.fits) }) r.come.0 p
+served-ignores c d s n j (Blocks x) below r p = by_line x.verity.now (record { number = r.number; is = r.is; start = omega (arith, r.start); ends = omega (arith, below, r.fits) }) r.come.0 p
 
 pub device-extent : (c : Configuration) (d first most n : ℕ) (source : Source) (extent : Extent) → IsLoaded c → IsServed c d first n source → n ≤ most → IsToldExtent (source_said c source) (SourceIgnores c source) 0 n extent
     → IsToldExtent (said_at c (mapped d)) (IgnoresZeros c (mapped d)) first most extent

@@ -11,7 +11,6 @@ use Rattle.stack_meaning.specs.Beneath.{HandsOn, beneath}
 use Rattle.stack_meaning.specs.Found.{FoundRecord}
 use Rattle.stack_meaning.specs.Meaning.{Said}
 use Rattle.stack_meaning.specs.Outcomes.{Images, zero_sector}
-use Rattle.stack_lines.specs.Walks.{HasVerity}
 use Rattle.stack_lines.specs.declared.source.Source.{Source}
 use Rattle.stack_lines.specs.declared.source.Source.TheVariants.{Below, Units, UnitPart, Zeros, Fails, Block, Blocks}
 use Rattle.stack_extents.specs.declared.extent.Extent.{Extent}
@@ -56,12 +55,6 @@ pub record IsToldExtent (said : ℕ → Said) (Ignores : ℕ → Type 0) (first 
 
 -- ---- the sectors of a source
 
--- line l of device d is a verity line that ignores blocks of zeros
-pub record IsIgnoringLine (c : Configuration) (d l : ℕ) : Type 0 where
-  pub verity : Verity
-  pub is : HasVerity c d l verity
-  pub ignores : IsTrue verity.ignore_zero_blocks
-
 -- sector j of a source is one that ignores blocks of zeros
 abbrev pub SourceIgnores : Configuration → Source → ℕ → Type 0
 SourceIgnores c (Below lower first) j = IgnoresZeros c lower (first + j)
@@ -69,5 +62,5 @@ SourceIgnores c (Units b) j = ⊥
 SourceIgnores c (UnitPart b) j = ⊥
 SourceIgnores c Zeros j = ⊥
 SourceIgnores c Fails j = ⊥
-SourceIgnores c (Block b) j = IsIgnoringLine c b.device.0 b.line
-SourceIgnores c (Blocks b) j = IsIgnoringLine c b.device.0 b.line
+SourceIgnores c (Block x) j = IsTrue x.verity.now.ignore_zero_blocks
+SourceIgnores c (Blocks x) j = IsTrue x.verity.now.ignore_zero_blocks

@@ -4,13 +4,11 @@ ghost use Rattle.stack_rules.specs.Names.{mapped, size};
 ghost use Rattle.stack_rules.specs.Rules.{IsLoaded};
 ghost use Rattle.stack_meaning.specs.Meaning.{said_at};
 ghost use Rattle.stack_lines.specs.Sources.{SourceHolds, source_said};
-ghost use Rattle.stack_lines.specs.Walks.{IsOnVerity};
 ghost use Rattle.stack_lines.specs.declared.source.Source.TheVariants.{Block};
 ghost use Rattle.stack_extents.specs.Extents.{IgnoresZeros, IsToldExtent, SourceIgnores, is_same_kind};
 
 use stack_config::{Config, DevId, Lower};
-use stack_lines::tree::verity_at;
-use stack_lines::{BlockPart, Source, run_at};
+use stack_lines::{Source, VerityPart, run_at};
 
 // The most runs that are joined in one extent.
 const MOST_RUNS: u32 = 4096;
@@ -46,14 +44,12 @@ fn is_same_kind(a: ExtentKind, b: ExtentKind) -> bool
 }
 
 /// The extent of so many sectors of a `verity` line.
-fn verity_extent(config: &Config, part: BlockPart, most: u64) -> Extent
-    requires loaded { IsLoaded config.now }
-    requires some { 0 < most }
-    requires line { IsOnVerity config.now part.device.0 part.line }
-    ensures { IsToldExtent (source_said config.now (Block part)) (SourceIgnores config.now (Block part)) 0 most result }
+fn verity_extent(config: &Config, part: VerityPart<'_>, most: u64) -> Extent
+    requires { 0 < most }
+    ensures { IsToldExtent (source_said config.now (Block part.entry)) (SourceIgnores config.now (Block part.entry)) 0 most result }
 {
-    let verity = verity_at(config, part.device, part.line);
-    if verity.ignore_zero_blocks {
+    let _config = config;
+    if part.verity.ignore_zero_blocks {
         return Extent {
             count: most,
             kind: ExtentKind::IgnoresZeros,
@@ -67,11 +63,11 @@ fn verity_extent(config: &Config, part: BlockPart, most: u64) -> Extent
 
 /// The extent of so many sectors of a source at most, from its first on.
 #[cycle(extent)]
-fn source_extent(config: &Config, source: Source, most: u64) -> Extent
+fn source_extent(config: &Config, source: Source<'_>, most: u64) -> Extent
     requires loaded { IsLoaded config.now }
     requires some { 0 < most }
     requires inside { SourceHolds config.now source most }
-    ensures { IsToldExtent (source_said config.now source) (SourceIgnores config.now source) 0 most result }
+    ensures { IsToldExtent (source_said config.now source.entry) (SourceIgnores config.now source.entry) 0 most result }
 {
     match source {
         Source::Zeros => Extent {

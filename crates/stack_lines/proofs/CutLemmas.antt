@@ -1,33 +1,28 @@
 -- Where the puts of runs and of devices may be cut in two.
 use Rattle.std.proofs.Common.{◌≡◌, ℕ, ◌+◌, ◌-◌, ◌*◌, ◌/◌, ◌%◌, ◌<◌, ◌≤◌, ◌⊎◌, Bool, false, List, ◌++◌, length, take, drop, sym, ap, ◌∙◌, inl, inr, arith}
-use Rattle.std.specs.Prelude.{slice_get}
 use Rattle.std.proofs.lemmas.Bool.{cases_lt}
 use Rattle.std.proofs.lemmas.List.{length-append, length-take-le, length-drop, take-append-drop, append_assoc, nil_from_length}
 use Rattle.std.proofs.lemmas.Nat.{div-add-mod', mod-mul-add, mod_below}
 use Rattle.std.proofs.Math.Nat.{add-mul, mul_assoc}
-use Rattle.dm_table.specs.declared.crypt.Crypt.{Crypt}
 use Rattle.dm_table.specs.declared.table.Target.TheVariants.{Crypt as crypt_target}
 use Rattle.stack_rules.specs.declared.lower.Lower.TheVariants.{Leaf as leaf}
 use Rattle.stack_rules.specs.Descend.{descend}
 use Rattle.stack_rules.specs.Records.{Configuration}
-use Rattle.stack_rules.specs.Names.{mapped, lines_of}
+use Rattle.stack_rules.specs.Names.{mapped}
 use Rattle.stack_rules.specs.Rules.{IsLoaded}
 use Rattle.stack_rules.specs.Units.{unit_sectors}
 use Rattle.stack_rules.proofs.lemmas.UnitLemmas.{unit_sectors-some}
 use Rattle.stack_lines.specs.declared.cuts.Steps.{Steps}
-use Rattle.stack_lines.specs.declared.source.BlockPart.{BlockPart}
+use Rattle.stack_lines.specs.declared.source.CryptPart.{CryptPart}
 use Rattle.stack_lines.specs.declared.source.Source.{Source}
 use Rattle.stack_lines.specs.declared.source.Source.TheVariants.{Units}
 use Rattle.stack_lines.specs.Cuts.{EndsStep, PutsInSteps}
 use Rattle.stack_meaning.specs.Outcomes.{Images}
 use Rattle.stack_meaning.specs.Meaning.{said_at}
-use Rattle.stack_meaning.specs.Puts.{Put, then_put, Putting, runs_from, put_runs, together, in_one_run, unit_put, put_on}
-use Rattle.stack_lines.specs.Sources.{HasCrypt, AreUnits, IsServed}
-use Rattle.stack_lines.specs.Writing.{put_on_line, source_put, SourceMayWrite}
+use Rattle.stack_meaning.specs.Puts.{Put, then_put, Putting, together, in_one_run, unit_put, put_on}
+use Rattle.stack_lines.specs.Sources.{AreUnits, IsServed}
+use Rattle.stack_lines.specs.Writing.{crypt_put, source_put, SourceMayWrite}
 use Rattle.stack_lines.proofs.StripeLemmas.{part-ends}
-use Rattle.stack_lines.proofs.lemmas.UnitLineLemmas.{unit-line}
-use Rattle.stack_lines.proofs.lemmas.UnitPutLemmas.{line-put}
-use Rattle.stack_lines.proofs.lemmas.UnitSourceLemmas.{units-aligned}
 use Rattle.stack_lines.proofs.lemmas.WriteSourceLemmas.{served-put}
 use Rattle.stack_lines.proofs.lemmas.PutLemmas.{then_assoc, then_same, put-apart, device-apart, leaf-append}
 use Rattle.stack_meaning.proofs.lemmas.UnitLemmas.{unit-more}
@@ -59,29 +54,19 @@ pub leaf-cut : (c : Configuration) (i first n : ℕ) (steps : Steps) → PutsInS
 unfolding descend
 leaf-cut c i first n steps xs ys images some more fits ends = leaf-append i first xs ys images
 
-pub units-cut : (c : Configuration) (b : BlockPart) (n : ℕ) (steps : Steps) (crypt : Crypt) → IsLoaded c → HasCrypt c b.device.0 b.line crypt → AreUnits c b.device.0 b.line b.first n
-    → steps.size % unit_sectors crypt ≡ 0 → steps.skip % unit_sectors crypt ≡ 0 → PutsInSteps (source_put c (Units b)) 0 n steps
-units-cut c b n steps crypt loaded has units even begins xs ys images some more fits ends =
-    let u : ℕ = unit_sectors crypt in
-    let some_u : 0 < u = omega (arith, unit_sectors-some crypt) in
-    let d : ℕ = b.device.0 in
-    let line = unit-line c d b.line 0 crypt loaded has in
-    let lower = line.0 in
-    let is = line.1.crypt_line.named in
-    let g : ℕ → Putting = unit_put (λ i t. (said_at c lower t).means i) (put_on c lower) crypt in
-    let tog : ℕ → Bool = together (crypt_target crypt) in
-    let on_line : ℕ → Putting = put_on_line c d b.line (slice_get (lines_of c d) b.line) in
-    let w : ℕ = b.first + 0 in
+pub units-cut : (c : Configuration) (x : CryptPart) (n : ℕ) (steps : Steps) → AreUnits c x n → steps.size % unit_sectors x.crypt.now ≡ 0 → steps.skip % unit_sectors x.crypt.now ≡ 0 → PutsInSteps (source_put c (Units x)) 0 n steps
+units-cut c x n steps units even begins xs ys images some more fits ends =
+    let u : ℕ = unit_sectors x.crypt.now in
+    let some_u : 0 < u = omega (arith, unit_sectors-some x.crypt.now) in
+    let g : ℕ → Putting = unit_put (λ i t. (said_at c x.lower t).means i) (put_on c x.lower) x.crypt.now in
+    let tog : ℕ → Bool = together (crypt_target x.crypt.now) in
+    let w : ℕ = x.first + 0 in
     let whole : length xs % u ≡ 0 = step-unit steps.size steps.skip u (length xs) some_u even begins ends in
-    let place = unit-more u b.first (length xs) some_u (units-aligned c d b.line b.first n crypt loaded has units) in
-    let end : w + length xs ≡ b.first + length xs = omega arith in
+    let place = unit-more u x.first (length xs) some_u units.aligned in
+    let end : w + length xs ≡ x.first + length xs = omega arith in
     let cut : tog (w + length xs - 1) ≡ false = part-ends u (w + length xs) some_u (omega (arith, some)) (ap (λ (k : ℕ). k % u) end ∙ place.1 ∙ whole) in
-    let at : w + length xs ≡ b.first + (0 + length xs) = omega arith in
-    line-put c d b.line crypt has lower is w (xs ++ ys) images
-    ∙ put-apart g tog w xs ys images (inr (inr cut))
-    ∙ ap (λ (p : Put). then_put p (put_runs g (runs_from tog (w + length xs) ys))) (sym (line-put c d b.line crypt has lower is w xs images))
-    ∙ then_same (on_line w xs images) _ _ (λ j. sym (line-put c d b.line crypt has lower is (w + length xs) ys j))
-    ∙ ap (λ (k : ℕ). then_put (on_line w xs images) (on_line k ys)) at
+    let at : w + length xs ≡ x.first + (0 + length xs) = omega arith in
+    put-apart g tog w xs ys images (inr (inr cut)) ∙ ap (λ (k : ℕ). then_put (crypt_put c x.lower x.crypt.now w xs images) (crypt_put c x.lower x.crypt.now k ys)) at
 
 -- ---- devices
 

@@ -8,9 +8,10 @@ use Rattle.stack_meaning.specs.Beneath.{beneath, said_or}
 use Rattle.stack_meaning.specs.Leaves.{reads_of}
 use Rattle.stack_meaning.specs.MeaningOf.{meaning_of}
 use Rattle.stack_meaning.specs.Sectors.{OnLine}
-use Rattle.stack_lines.specs.declared.source.BlockPart.{BlockPart}
+use Rattle.stack_lines.specs.declared.source.CryptPart.{CryptPart}
 use Rattle.stack_lines.specs.declared.source.Source.{Source}
-use Rattle.stack_lines.specs.Prices.{Pricing, Prices, price_as, priced, part_price, source_price}
+use Rattle.stack_lines.specs.declared.source.VerityPart.{VerityPart}
+use Rattle.stack_lines.specs.Prices.{Pricing, Prices, price_as, priced, crypt_price, part_price, source_price}
 
 -- what a run costs that is handed on, by what it costs beneath; of another line it costs once what one of its sectors does
 abbrev pub line_price : Configuration → OnLine (ℕ → ℕ)
@@ -32,8 +33,11 @@ ReadsAtMost most old new = reads_of new ≤ reads_of old + most
 
 -- ---- where the sectors come from
 
-abbrev pub part_budget : Configuration → BlockPart → ℕ → ℕ
+abbrev pub part_budget : Configuration → VerityPart → ℕ → ℕ
 part_budget c = part_price c (read_prices c)
+
+abbrev pub crypt_budget : Configuration → CryptPart → ℕ → ℕ
+crypt_budget c = crypt_price c (read_prices c)
 
 -- of the first n sectors of a source
 abbrev pub source_budget : Configuration → Source → ℕ → ℕ

@@ -1,16 +1,16 @@
 -- What some sectors of a device cost, where each run of them has a price.
-use Rattle.std.specs.Prelude.{ℕ, zero, suc, ◌+◌, Bool, List, slice_get, Option, Some, None, if◌then◌else◌}
-use Rattle.dm_table.specs.declared.table.Line.{Line}
+use Rattle.std.specs.Prelude.{ℕ, zero, suc, ◌+◌, Bool, List, if◌then◌else◌}
 use Rattle.stack_rules.specs.declared.lower.Lower.{Lower}
 use Rattle.stack_rules.specs.declared.lower.Lower.TheVariants.{Leaf as leaf, Device as device}
 use Rattle.stack_rules.specs.Records.{Configuration}
-use Rattle.stack_rules.specs.Names.{lines_of}
 use Rattle.stack_rules.specs.Descend.{descend, by_name}
 use Rattle.stack_meaning.specs.Puts.{together, in_one_run}
 use Rattle.stack_meaning.specs.Sectors.{OnLine, sector_rule}
 use Rattle.stack_meaning.specs.TargetMeaning.{Meant, handed, own}
-use Rattle.stack_lines.specs.declared.source.BlockPart.{BlockPart}
+use Rattle.dm_table.specs.declared.table.Target.TheVariants.{Crypt as crypt_target, Verity as verity_target}
+use Rattle.stack_lines.specs.declared.source.CryptPart.{CryptPart}
 use Rattle.stack_lines.specs.declared.source.Source.{Source}
+use Rattle.stack_lines.specs.declared.source.VerityPart.{VerityPart}
 use Rattle.stack_lines.specs.declared.source.Source.TheVariants.{Below, Units, UnitPart, Zeros, Fails, Block, Blocks}
 
 -- ---- runs
@@ -57,20 +57,20 @@ priced_by_name c p = by_name c (λ s n. 0) (priced c p)
 
 -- ---- where the sectors come from and go to
 
--- of line l of device d, where the line was looked for
-abbrev pub price_of_line : Configuration → Prices → ℕ → ℕ → Option Line → Pricing
-price_of_line c p d l None s n = 0
-price_of_line c p d l (Some line) s n = by_runs (together line.target) (p.line (priced_by_name c p) d l line.target) s n
+-- of a part of a verity line
+abbrev pub part_price : Configuration → Prices → VerityPart → ℕ → ℕ
+part_price c p x n = by_runs (together (verity_target x.verity.now)) (p.line (priced_by_name c p) x.device.0 x.line (verity_target x.verity.now)) x.first n
 
-abbrev pub part_price : Configuration → Prices → BlockPart → ℕ → ℕ
-part_price c p b n = price_of_line c p b.device.0 b.line (slice_get (lines_of c b.device.0) b.line) b.first n
+-- of a part of a crypt line
+abbrev pub crypt_price : Configuration → Prices → CryptPart → ℕ → ℕ
+crypt_price c p u n = by_runs (together (crypt_target u.crypt.now)) (p.line (priced_by_name c p) 0 0 (crypt_target u.crypt.now)) u.first n
 
 -- of the first n sectors of a source
 abbrev pub source_price : Configuration → Prices → Source → ℕ → ℕ
 source_price c p (Below lower first) n = priced c p lower first n
-source_price c p (Units b) n = part_price c p b n
-source_price c p (UnitPart b) n = part_price c p b n
+source_price c p (Units u) n = crypt_price c p u n
+source_price c p (UnitPart u) n = crypt_price c p u n
 source_price c p Zeros n = 0
 source_price c p Fails n = 0
-source_price c p (Block b) n = part_price c p b n
-source_price c p (Blocks b) n = part_price c p b n
+source_price c p (Block x) n = part_price c p x n
+source_price c p (Blocks x) n = part_price c p x n

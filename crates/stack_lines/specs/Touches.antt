@@ -61,9 +61,9 @@ leaves_of c lower i = stands_on c i lower
 -- those on which what a source reads stands: the lower device, or the one that has the line
 abbrev pub source_leaves : Configuration → Source → ℕ → Bool
 source_leaves c (Below lower first) = leaves_of c lower
-source_leaves c (Units b) = leaves_of c (mapped b.device.0)
-source_leaves c (UnitPart b) = leaves_of c (mapped b.device.0)
+source_leaves c (Units u) = leaves_of c u.lower
+source_leaves c (UnitPart u) = leaves_of c u.lower
 source_leaves c Zeros = λ i. false
 source_leaves c Fails = λ i. false
-source_leaves c (Block b) = leaves_of c (mapped b.device.0)
-source_leaves c (Blocks b) = leaves_of c (mapped b.device.0)
+source_leaves c (Block x) = leaves_of c (mapped x.device.0)
+source_leaves c (Blocks x) = leaves_of c (mapped x.device.0)

@@ -5,7 +5,6 @@ use Rattle.tree_shape.specs.Digests.{digest}
 use Rattle.tree_shape.specs.Shape.{levels}
 use Rattle.block_device.specs.Device.{Device}
 use Rattle.dm_table.specs.declared.verity.Verity.{Verity}
-use Rattle.dm_table.specs.declared.table.Target.TheVariants.{Verity as verity_target}
 use Rattle.stack_rules.specs.Records.{Configuration}
 use Rattle.stack_rules.specs.Names.{named}
 use Rattle.stack_rules.specs.Descend.{by_name, read_cost}
@@ -21,16 +20,9 @@ use Rattle.stack_meaning.specs.Meaning.{said_by_name}
 use Rattle.stack_meaning.specs.Places.{Place, Expected}
 use Rattle.stack_meaning.specs.Reading.{Gets}
 use Rattle.stack_lines.specs.Standing.{name_stands_on}
-use Rattle.stack_lines.specs.Sources.{HasTarget}
+pub use Rattle.stack_lines.specs.Sources.{HasVerity}
 
 -- ---- lines
-
--- line l of device d is a verity line of these arguments
-abbrev pub HasVerity : Configuration → ℕ → ℕ → Verity → Type 0
-HasVerity c d l v = HasTarget c d l (verity_target v) 0
-
-abbrev pub IsOnVerity : Configuration → ℕ → ℕ → Type 0
-IsOnVerity c d l = (v : Verity) × HasVerity c d l v
 
 -- where its blocks lie
 pub record IsTreeOf (c : Configuration) (v : Verity) (tree : Tree) : Type 0 where

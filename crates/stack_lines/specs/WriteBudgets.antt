@@ -12,9 +12,9 @@ use Rattle.stack_meaning.specs.Leaves.{reads_of, writes_of}
 use Rattle.stack_meaning.specs.MeaningOf.{meaning_of}
 use Rattle.stack_meaning.specs.Sectors.{OnLine}
 use Rattle.stack_meaning.specs.Units.{unit_first}
-use Rattle.stack_lines.specs.declared.source.BlockPart.{BlockPart}
+use Rattle.stack_lines.specs.declared.source.CryptPart.{CryptPart}
 use Rattle.stack_lines.specs.declared.source.Source.{Source}
-use Rattle.stack_lines.specs.Prices.{Pricing, Prices, price_as, priced, part_price, source_price}
+use Rattle.stack_lines.specs.Prices.{Pricing, Prices, price_as, priced, crypt_price, source_price}
 
 -- which of the leaves' counters is meant
 pub data Counter : Type 0 where
@@ -62,8 +62,8 @@ write_budget c k = priced c (write_prices c k)
 
 -- ---- where the sectors go
 
-abbrev pub part_write_budget : Configuration → Counter → BlockPart → ℕ → ℕ
-part_write_budget c k = part_price c (write_prices c k)
+abbrev pub crypt_write_budget : Configuration → Counter → CryptPart → ℕ → ℕ
+crypt_write_budget c k = crypt_price c (write_prices c k)
 
 -- of the first n sectors of a source
 abbrev pub source_write_budget : Configuration → Counter → Source → ℕ → ℕ

@@ -1,27 +1,27 @@
 -- Contracts of writes.
 pub use Rattle.stack_meaning.specs.Stops.{AreOneCall, FailedBy, IsCounted}
-use Rattle.std.specs.Prelude.{Bool, ◌≡◌, ℕ, ◌+◌, ◌-◌, ◌*◌, ◌/◌, ◌%◌, ◌^◌, ◌<◌, ◌≤◌, ◌⊎◌, IsTrue, List, [], ◌∷◌, ◌++◌, length, take, drop, slice_get, Contains, Option, Some, None, Result, Ok, Err, IfErr}
-use Rattle.std.specs.List.{slice_index_or}
+use Rattle.std.specs.Prelude.{Bool, ◌≡◌, ℕ, ◌+◌, ◌-◌, ◌*◌, ◌/◌, ◌%◌, ◌<◌, ◌≤◌, ◌⊎◌, IsTrue, List, [], ◌∷◌, ◌++◌, length, take, drop, Result, Ok, Err, IfErr}
 use Rattle.block_device.specs.Device.{Device, sectors_of}
-use Rattle.dm_table.specs.declared.table.Line.{Line}
+use Rattle.dm_table.specs.declared.crypt.Crypt.{Crypt}
+use Rattle.dm_table.specs.declared.table.Target.TheVariants.{Crypt as crypt_target}
 use Rattle.stack_rules.specs.declared.lower.Lower.{Lower}
 use Rattle.stack_rules.specs.Records.{Configuration}
-use Rattle.stack_rules.specs.Names.{mapped, lines_of, may_write}
-use Rattle.stack_rules.specs.Descend.{by_name, write_cost}
+use Rattle.stack_rules.specs.Names.{may_write}
+use Rattle.stack_rules.specs.Descend.{by_name, read_cost, write_cost}
+use Rattle.stack_rules.specs.Units.{unit_sectors}
 use Rattle.stack_meaning.specs.declared.fault.IoFault.{IoFault}
 use Rattle.stack_meaning.specs.declared.fault.Fault.TheVariants as why
 use Rattle.stack_meaning.specs.declared.fault.IoFault.TheVariants as io
-use Rattle.stack_lines.specs.declared.source.BlockPart.{BlockPart}
 use Rattle.stack_lines.specs.declared.source.Source.{Source}
 use Rattle.stack_lines.specs.declared.source.Source.TheVariants.{Below, Units, UnitPart, Zeros, Fails, Block, Blocks}
 use Rattle.stack_meaning.specs.Sectors.{SomeOf}
 use Rattle.stack_meaning.specs.declared.fault.Fault.{Fault}
-use Rattle.stack_meaning.specs.Outcomes.{error_target, Images, LeafSector}
+use Rattle.stack_meaning.specs.Outcomes.{error_target, Images}
 use Rattle.stack_meaning.specs.Meaning.{Said, said_at}
-use Rattle.stack_meaning.specs.Puts.{Put, done, stopped, Putting, none_put, runs_from, put_runs, together, line_put, put_on}
+use Rattle.stack_meaning.specs.Puts.{Put, done, stopped, Putting, none_put, runs_from, put_runs, together, unit_put, put_on}
 use Rattle.stack_meaning.specs.Leaves.{steady_images, AreSteady, LeafFailed}
 use Rattle.stack_meaning.specs.Changes.{reached, KeepsOthers, AreWritten, NoneRead, DifferWithin}
-use Rattle.stack_lines.specs.Sources.{source_said, cost_beneath}
+use Rattle.stack_lines.specs.Sources.{source_said}
 use Rattle.stack_lines.specs.Touches.{EndsAtFailure, leaves_of, source_leaves}
 
 -- the bytes of whole sectors, at least one
@@ -132,19 +132,15 @@ pub record WritesSectors (to : Destination) (first : ℕ) (sectors : List (List 
 abbrev pub put_by_name : Configuration → List ℕ → ℕ → Putting
 put_by_name c = by_name c (λ t. none_put) (put_on c)
 
--- what a put of sectors from s of line l of device d on does, where the line was looked for
-abbrev pub put_on_line : Configuration → ℕ → ℕ → Option Line → ℕ → Putting
-put_on_line c d l None s sectors images = done images
-put_on_line c d l (Some line) s sectors images = put_runs (line_put c (put_by_name c) d l line.target) (runs_from (together line.target) s sectors) images
-
-abbrev pub part_put : Configuration → BlockPart → ℕ → Putting
-part_put c b j sectors images = put_on_line c b.device.0 b.line (slice_get (lines_of c b.device.0) b.line) (b.first + j) sectors images
+-- what a put of sectors from s on does to a crypt line over that device
+abbrev pub crypt_put : Configuration → Lower → Crypt → ℕ → Putting
+crypt_put c lower crypt s sectors images = put_runs (unit_put (λ i t. (said_at c lower t).means i) (put_on c lower) crypt) (runs_from (together (crypt_target crypt)) s sectors) images
 
 -- what a put of sectors from its j-th on does
 abbrev pub source_put : Configuration → Source → ℕ → Putting
 source_put c (Below lower first) j sectors images = put_on c lower (first + j) sectors images
-source_put c (Units b) j sectors images = part_put c b j sectors images
-source_put c (UnitPart b) j sectors images = part_put c b j sectors images
+source_put c (Units u) j sectors images = crypt_put c u.lower u.crypt.now (u.first + j) sectors images
+source_put c (UnitPart u) j sectors images = crypt_put c u.lower u.crypt.now (u.first + j) sectors images
 source_put c Zeros j sectors images = done images
 source_put c Fails j sectors images = stopped error_target images
 source_put c (Block b) j sectors images = done images
@@ -153,8 +149,8 @@ source_put c (Blocks b) j sectors images = done images
 -- the leaf sectors that are written for one of its sectors at most
 abbrev pub source_write_cost : Configuration → Source → ℕ
 source_write_cost c (Below lower first) = write_cost c lower
-source_write_cost c (Units b) = cost_beneath c (write_cost c) b
-source_write_cost c (UnitPart b) = write_cost c (mapped b.device.0)
+source_write_cost c (Units u) = write_cost c u.lower
+source_write_cost c (UnitPart u) = unit_sectors u.crypt.now * (read_cost c u.lower + write_cost c u.lower)
 source_write_cost c Zeros = 0
 source_write_cost c Fails = 0
 source_write_cost c (Block b) = 0
@@ -163,8 +159,8 @@ source_write_cost c (Blocks b) = 0
 -- what it lies on may be written; a verity line's block never is
 abbrev pub SourceMayWrite : Configuration → Source → Type 0
 SourceMayWrite c (Below lower first) = IsTrue (may_write c lower)
-SourceMayWrite c (Units b) = IsTrue (may_write c (mapped b.device.0))
-SourceMayWrite c (UnitPart b) = IsTrue (may_write c (mapped b.device.0))
+SourceMayWrite c (Units u) = IsTrue (may_write c u.lower)
+SourceMayWrite c (UnitPart u) = IsTrue (may_write c u.lower)
 SourceMayWrite c Zeros = Unit {0}
 SourceMayWrite c Fails = Unit {0}
 SourceMayWrite c (Block b) = ⊥

@@ -7,8 +7,8 @@ ghost use Rattle.stack_lines.specs.AtOnce.{MeetNone};
 ghost use Rattle.stack_lines.specs.Sources.{AreUnits, SourceHolds, source_said};
 
 use crate::serve::run_at;
-use crate::source::{BlockPart, Source};
-use crate::units::{crypt_at, unit_at};
+use crate::source::{CryptPart, Source};
+use crate::units::unit_at;
 use stack_config::{Config, DevId, Lower};
 
 /// Whether no fault is met by some sectors of a leaf or a mapped device. Where nothing is known, the answer is `false`.
@@ -26,11 +26,11 @@ pub fn lower_is_clear(config: &Config, lower: Lower, first: u64, count: u64) -> 
 
 /// Whether no fault is met by a run.
 #[cycle(clear)]
-fn run_is_clear(config: &Config, source: Source, count: u64) -> bool
+fn run_is_clear(config: &Config, source: Source<'_>, count: u64) -> bool
     requires loaded { IsLoaded config.now }
     requires some { 0 < count }
     requires inside { SourceHolds config.now source count }
-    ensures { IsTrue result → MeetNone (source_said config.now source) 0 count }
+    ensures { IsTrue result → MeetNone (source_said config.now source.entry) 0 count }
 {
     match source {
         Source::Below { lower, first } => lower_is_clear(config, lower, first, count),
@@ -44,15 +44,14 @@ fn run_is_clear(config: &Config, source: Source, count: u64) -> bool
 
 /// Whether no fault is met by whole units of a `crypt` line: none beneath them.
 #[cycle(clear)]
-fn units_are_clear(config: &Config, part: BlockPart, count: u64) -> bool
+fn units_are_clear(config: &Config, part: CryptPart<'_>, count: u64) -> bool
     requires loaded { IsLoaded config.now }
     requires some { 0 < count }
-    requires inside { AreUnits config.now part.device.0 part.line part.first count }
-    ensures { IsTrue result → MeetNone (source_said config.now (Source.Units part)) 0 count }
+    requires inside { AreUnits config.now part count }
+    ensures { IsTrue result → MeetNone (source_said config.now (Source.Units part.entry)) 0 count }
 {
-    let crypt = crypt_at(config, part.device, part.line);
-    let unit = unit_at(config, part, crypt);
-    lower_is_clear(config, unit.lower, unit.first, count)
+    let unit = unit_at(&part);
+    lower_is_clear(config, part.lower, unit.first, count)
 }
 
 /// Whether no fault is met by so many sectors of a mapped device, from that one on.

@@ -9,8 +9,7 @@ ghost use Rattle.stack_lines.specs.Sources.{AreUnits};
 ghost use Rattle.stack_lines.specs.Writing.{source_put};
 
 use crate::serve::run_at;
-use crate::source::{BlockPart, Source};
-use crate::units::crypt_at;
+use crate::source::{CryptPart, Source};
 use stack_config::{Config, DevId, Lower, unit_sectors};
 
 /// Steps of so many sectors, one after another. Of the first one, `skip` sectors lie before those that are asked for.
@@ -21,15 +20,14 @@ pub struct Steps {
 }
 
 /// Whole units of a `crypt` line, behind each step.
-fn units_cut(config: &Config, part: BlockPart, count: u64, steps: Steps) -> bool
+fn units_cut(config: &Config, part: CryptPart<'_>, count: u64, steps: Steps) -> bool
     requires loaded { IsLoaded config.now }
-    requires inside { AreUnits config.now part.device.0 part.line part.first count }
+    requires inside { AreUnits config.now part count }
     requires steps { AreSteps steps }
-    ensures { IsTrue result → PutsInSteps (source_put config.now (Source.Units part)) 0 count steps }
+    ensures { IsTrue result → PutsInSteps (source_put config.now (Source.Units part.entry)) 0 count steps }
 {
-    let _count = count;
-    let crypt = crypt_at(config, part.device, part.line);
-    let few = unit_sectors(crypt);
+    let (_config, _count) = (config, count);
+    let few = unit_sectors(part.crypt);
     let sectors = u64::from(few);
     if steps.size % sectors != 0 {
         return false;
@@ -53,10 +51,10 @@ pub fn lower_cuts(config: &Config, lower: Lower, first: u64, count: u64, steps: 
 
 /// The sectors of one run, behind each step.
 #[cycle(cuts)]
-fn run_cuts(config: &Config, source: Source, count: u64, steps: Steps) -> bool
+fn run_cuts(config: &Config, source: Source<'_>, count: u64, steps: Steps) -> bool
     requires loaded { IsLoaded config.now }
     requires sectors { AreInSteps config.now source count steps }
-    ensures { IsTrue result → PutsInSteps (source_put config.now source) 0 count steps }
+    ensures { IsTrue result → PutsInSteps (source_put config.now source.entry) 0 count steps }
 {
     if count <= steps.size - steps.skip {
         return true;

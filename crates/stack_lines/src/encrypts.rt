@@ -25,11 +25,11 @@ fn lower_encrypts(config: &Config, lower: Lower, first: u64, count: u64) -> bool
 
 /// Whether a write of a run encrypts one of its sectors.
 #[cycle(encrypts)]
-fn run_encrypts(config: &Config, source: Source, count: u64) -> bool
+fn run_encrypts(config: &Config, source: Source<'_>, count: u64) -> bool
     requires loaded { IsLoaded config.now }
     requires some { 0 < count }
     requires inside { SourceHolds config.now source count }
-    ensures { IsTrue result ↔ SomeEncrypt (source_said config.now source) 0 count }
+    ensures { IsTrue result ↔ SomeEncrypt (source_said config.now source.entry) 0 count }
 {
     match source {
         Source::Below { lower, first } => lower_encrypts(config, lower, first, count),

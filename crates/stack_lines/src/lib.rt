@@ -20,4 +20,4 @@ pub use cuts::{Steps, lower_cuts};
 pub use encrypts::device_encrypts;
 pub use read_runs::run_to_read;
 pub use serve::run_at;
-pub use source::{BlockPart, Run, Source};
+pub use source::{CryptPart, Run, Source, VerityPart};

@@ -2,17 +2,13 @@
 ghost use Rattle.std.specs.Prelude.{◌≡◌, ◌<◌, ◌≤◌, ◌+◌, IsTrue, length};
 ghost use Rattle.stack_rules.specs.Names.{mapped, size};
 ghost use Rattle.stack_rules.specs.Rules.{IsLoaded};
-ghost use Rattle.stack_rules.specs.Trees.{block_sectors};
 ghost use Rattle.stack_lines.specs.AtOnce.{AreBefore, CanGo, GoAtOnce};
 ghost use Rattle.stack_meaning.specs.Puts.{in_one_run};
 ghost use Rattle.stack_lines.specs.Sources.{AreWholeBlocks, EndsRun, IsServed};
-ghost use Rattle.dm_table.specs.declared.verity.Verity.{Verity};
-ghost use Rattle.stack_lines.specs.Walks.{HasVerity, IsOnVerity};
 
 use crate::clear::lower_is_clear;
 use crate::serve::run_at;
-use crate::source::{BlockPart, Run, Source};
-use crate::tree::{tree_at, verity_at};
+use crate::source::{Run, Source, VerityPart};
 use stack_config::{Config, DevId};
 use stack_meaning::Found;
 
@@ -33,40 +29,30 @@ fn are_before(found: &[Found], device: u32, line: u32, index: u64) -> bool
 }
 
 /// Whether whole data blocks can be read at once.
-fn go_at_once(config: &Config, part: BlockPart, count: u64, found: &[Found]) -> bool
+fn go_at_once(config: &Config, part: &VerityPart<'_>, count: u64, found: &[Found]) -> bool
     requires loaded { IsLoaded config.now }
-    requires blocks { AreWholeBlocks config.now part.device.0 part.line part.first count }
-    ensures { IsTrue result → GoAtOnce config.now part count found.now }
+    requires blocks { AreWholeBlocks config.now part.now count }
+    ensures { IsTrue result → GoAtOnce config.now part.now count found.now }
 {
     if count > MOST {
         return false;
     }
-    let verity = verity_at(config, part.device, part.line);
-    let sectors = u64::from(verity.data_block / 512);
+    let sectors = u64::from(part.verity.data_block / 512);
     if !are_before(found, part.device.0, part.line, part.first / sectors) {
         return false;
     }
-    let tree = tree_at(config, part.device, part.line, verity);
-    lower_is_clear(config, tree.data, part.first, count)
-}
-
-/// The first of whole data blocks.
-fn first_block(config: &Config, part: BlockPart) -> Run
-    requires loaded { IsLoaded config.now }
-    requires line { IsOnVerity config.now part.device.0 part.line }
-    ensures source { result.source ≡ Source.Block part }
-    ensures count { (v : Verity) → HasVerity config.now part.device.0 part.line v → result.count ≡ block_sectors v }
-{
-    let verity = verity_at(config, part.device, part.line);
-    Run {
-        source: Source::Block(part),
-        count: u64::from(verity.data_block / 512),
-    }
+    lower_is_clear(config, part.data, part.first, count)
 }
 
 /// A run from that sector of a device on, of at most so many sectors, where those chains were found: the longest, or
 /// the first of its data blocks, where these can't be read at once.
-pub fn run_to_read(config: &Config, d: DevId, sector: u64, most: u64, found: &[Found]) -> Run
+pub fn run_to_read<'a>(
+    config: &'a Config,
+    d: DevId,
+    sector: u64,
+    most: u64,
+    found: &[Found],
+) -> Run<'a>
     requires loaded { IsLoaded config.now }
     requires some { 0 < most }
     requires inside { sector + most ≤ size config.now (mapped d.0) }
@@ -77,12 +63,19 @@ pub fn run_to_read(config: &Config, d: DevId, sector: u64, most: u64, found: &[F
     ensures can_go { CanGo config.now result.source result.count found.now }
 {
     let run = run_at(config, d, sector, most);
+    let count = run.count;
     match run.source {
         Source::Blocks(part) => {
-            if go_at_once(config, part, run.count, found) {
-                run
+            if go_at_once(config, &part, count, found) {
+                Run {
+                    source: Source::Blocks(part),
+                    count,
+                }
             } else {
-                first_block(config, part)
+                Run {
+                    count: u64::from(part.verity.data_block / 512),
+                    source: Source::Block(part),
+                }
             }
         }
         Source::Below { .. } => run,

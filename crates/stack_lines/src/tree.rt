@@ -6,10 +6,12 @@ ghost use Rattle.stack_rules.specs.Trees.{tree_of, block_sectors};
 ghost use Rattle.stack_meaning.specs.Blocks.{hash_sectors, hash_start, is_ignored};
 ghost use Rattle.stack_meaning.specs.Found.{FoundRecord, found_entry};
 ghost use Rattle.stack_lines.specs.Extents.{IsExtent};
-ghost use Rattle.stack_lines.specs.Walks.{HasVerity, HasDataBlock, IsOnVerity, IsTreeOf};
+ghost use Rattle.stack_lines.specs.Sources.{IsVerityPart};
+ghost use Rattle.stack_lines.specs.Walks.{HasDataBlock, IsTreeOf};
 
+use crate::source::VerityPart;
 use dm_table::Verity;
-use stack_config::{Config, DevId, Lower, verity_of};
+use stack_config::{Config, DevId, Lower};
 use stack_meaning::Found;
 use tree_shape::{Digest, Shape};
 use verified_cache::Key;
@@ -32,28 +34,16 @@ pub struct Extent {
     pub sectors: u32,
 }
 
-/// The arguments of a `verity` line, by its number in the table of its device.
-pub fn verity_at(config: &Config, d: DevId, line: u32) -> &Verity
+/// Where the blocks of a part's line lie.
+pub fn tree_of(config: &Config, part: &VerityPart<'_>) -> Tree
     requires loaded { IsLoaded config.now }
-    requires line { IsOnVerity config.now d.0 line }
-    ensures { HasVerity config.now d.0 line result.now }
+    requires part { IsVerityPart config.now part.now }
+    ensures tree { IsTreeOf config.now part.now.verity.now result }
+    ensures device { result.device ≡ part.now.device }
+    ensures data { result.data ≡ part.now.data }
 {
-    let lines = config.table(d).lines();
-    match verity_of(&lines[line as usize].target) {
-        Some(verity) => verity,
-        None => unreachable!(),
-    }
-}
-
-/// Where the blocks of a `verity` line with these arguments lie.
-pub fn tree_at(config: &Config, d: DevId, line: u32, verity: &Verity) -> Tree
-    requires loaded { IsLoaded config.now }
-    requires line { HasVerity config.now d.0 line verity.now }
-    ensures tree { IsTreeOf config.now verity.now result }
-    ensures at { result.device ≡ d }
-{
-    let data = config.lower(d, line, 0);
-    let hash = config.lower(d, line, 1);
+    let _config = config;
+    let verity = part.verity;
     match Shape::new(
         verity.data_block,
         verity.hash_block,
@@ -61,10 +51,10 @@ pub fn tree_at(config: &Config, d: DevId, line: u32, verity: &Verity) -> Tree
         verity.start,
     ) {
         Ok(shape) => Tree {
-            device: d,
-            line,
-            data,
-            hash,
+            device: part.device,
+            line: part.line,
+            data: part.data,
+            hash: part.hash,
             shape,
         },
         Err(_) => unreachable!(),

@@ -1,14 +1,13 @@
 //! The units of `crypt` lines.
 ghost use Rattle.std.specs.Prelude.{◌≡◌, ℕ, ◌<◌, ◌≤◌, ◌+◌, ◌*◌, ◌%◌, ◌^◌, ◌++◌, length, slice_index, take, drop};
-ghost use Rattle.stack_rules.specs.Rules.{IsLoaded};
 ghost use Rattle.dm_table.specs.Crypt.{sector_size};
 ghost use Rattle.stack_rules.specs.Units.{unit_sectors};
-ghost use Rattle.stack_meaning.specs.Units.{crypt_unit_number, encrypted_units, decrypted_units};
-ghost use Rattle.stack_lines.specs.Sources.{HasTarget, HasCrypt, IsOnCrypt, IsUnitAt, IsWholeOf};
+ghost use Rattle.stack_meaning.specs.Units.{crypt_unit_number, encrypted_units, decrypted_units, unit_first};
+ghost use Rattle.stack_lines.specs.Sources.{IsUnitAt, IsWholeOf};
 
-use crate::source::BlockPart;
-use dm_table::{Crypt, Target};
-use stack_config::{Config, DevId, Lower, crypt_of, unit_sectors};
+use crate::source::CryptPart;
+use dm_table::Crypt;
+use stack_config::unit_sectors;
 use xts_sector::XtsKey;
 
 /// The most bytes of a unit.
@@ -17,69 +16,47 @@ pub const MOST: usize = 4096;
 /// The most units that the cipher is handed in one call: as many as it makes ready at once.
 const AT_ONCE: usize = 16;
 
-/// Where units lie: on a lower device from its sector `first` on. The first of them is unit `index` of its line.
+/// Where units lie: on the lower device from its sector `first` on. The first of them is unit `index` of its line.
 #[derive(Clone, Copy)]
 pub struct UnitAt {
-    pub lower: Lower,
     pub first: u64,
     pub index: u64,
 }
 
 /// A whole unit of so many sectors, from the begin of the part on, and a sector in it.
 #[derive(Clone, Copy)]
-pub struct WholeUnit {
-    pub from: BlockPart,
+pub struct WholeUnit<'a> {
+    pub from: CryptPart<'a>,
     pub sectors: u32,
     pub within: u32,
 }
 
-/// The arguments of a `crypt` line, by its number in the table of its device.
-pub fn crypt_at(config: &Config, d: DevId, line: u32) -> &Crypt
-    requires loaded { IsLoaded config.now }
-    requires line { IsOnCrypt config.now d.0 line }
-    ensures { HasCrypt config.now d.0 line result.now }
-{
-    let lines = config.table(d).lines();
-    match crypt_of(&lines[line as usize].target) {
-        Some(crypt) => crypt,
-        None => unreachable!(),
-    }
-}
-
 /// Where the unit lies that has the first sector of a part.
-pub fn unit_at(config: &Config, part: BlockPart, crypt: &Crypt) -> UnitAt
-    requires loaded { IsLoaded config.now }
-    requires line { HasTarget config.now part.device.0 part.line (Target.Crypt crypt.now) (part.first + 1) }
-    ensures { IsUnitAt config.now crypt.now part.first result }
+pub fn unit_at(part: &CryptPart<'_>) -> UnitAt
+    requires { unit_first part.now.crypt.now part.now.first < 2 ^ 64 }
+    ensures { IsUnitAt part.now result }
 {
-    let lower = config.lower(part.device, part.line, 0);
-    let few = unit_sectors(crypt);
+    let few = unit_sectors(part.crypt);
     let sectors = u64::from(few);
     let index = part.first / sectors;
-    let first = crypt.base.offset + index * sectors;
-    UnitAt {
-        lower,
-        first,
-        index,
-    }
+    let first = part.crypt.base.offset + index * sectors;
+    UnitAt { first, index }
 }
 
 /// The unit that has the first sector of a part.
-pub fn whole_unit(config: &Config, part: BlockPart) -> WholeUnit
-    requires loaded { IsLoaded config.now }
-    requires line { IsOnCrypt config.now part.device.0 part.line }
-    ensures whole { IsWholeOf config.now part result }
+pub fn whole_unit<'a>(part: &CryptPart<'a>) -> WholeUnit<'a>
+    ensures whole { IsWholeOf part.now result }
     ensures some { 1 ≤ result.sectors }
     ensures few { result.sectors ≤ 8 }
     ensures within { result.within < result.sectors }
 {
-    let crypt = crypt_at(config, part.device, part.line);
-    let sectors = unit_sectors(crypt);
+    let sectors = unit_sectors(part.crypt);
     let wide = u64::from(sectors);
     let within = part.first % wide;
-    let from = BlockPart {
-        device: part.device,
-        line: part.line,
+    let from = CryptPart {
+        crypt: part.crypt,
+        key: part.key,
+        lower: part.lower,
         first: part.first - within,
     };
     WholeUnit {
@@ -160,31 +137,27 @@ fn encrypt_each(key: &XtsKey, crypt: &Crypt, k: u64, size: usize, units: &mut [u
 }
 
 /// Decrypts whole units of that line in place, from unit `k` of the line on.
-pub fn decrypt(config: &Config, part: BlockPart, crypt: &Crypt, k: u64, units: &mut [u8])
-    requires loaded { IsLoaded config.now }
-    requires line { HasCrypt config.now part.device.0 part.line crypt.now }
-    requires whole { length units.old % sector_size crypt.now ≡ 0 }
+pub fn decrypt(part: &CryptPart<'_>, k: u64, units: &mut [u8])
+    requires key { part.now.key.now ≡ part.now.crypt.now.key }
+    requires whole { length units.old % sector_size part.now.crypt.now ≡ 0 }
     requires fits { k + length units.old < 2 ^ 64 }
-    ensures { units.new ≡ decrypted_units crypt.now k units.old }
+    ensures { units.new ≡ decrypted_units part.now.crypt.now k units.old }
 {
-    let key = config.key(part.device, part.line);
-    let sectors = unit_sectors(crypt);
+    let sectors = unit_sectors(part.crypt);
     let size = sectors as usize * 512;
-    decrypt_each(key, crypt, k, size, units);
+    decrypt_each(part.key, part.crypt, k, size, units);
 }
 
 /// Encrypts whole units of that line in place, from unit `k` of the line on.
-pub fn encrypt(config: &Config, part: BlockPart, crypt: &Crypt, k: u64, units: &mut [u8])
-    requires loaded { IsLoaded config.now }
-    requires line { HasCrypt config.now part.device.0 part.line crypt.now }
-    requires whole { length units.old % sector_size crypt.now ≡ 0 }
+pub fn encrypt(part: &CryptPart<'_>, k: u64, units: &mut [u8])
+    requires key { part.now.key.now ≡ part.now.crypt.now.key }
+    requires whole { length units.old % sector_size part.now.crypt.now ≡ 0 }
     requires fits { k + length units.old < 2 ^ 64 }
-    ensures { units.new ≡ encrypted_units crypt.now k units.old }
+    ensures { units.new ≡ encrypted_units part.now.crypt.now k units.old }
 {
-    let key = config.key(part.device, part.line);
-    let sectors = unit_sectors(crypt);
+    let sectors = unit_sectors(part.crypt);
     let size = sectors as usize * 512;
-    encrypt_each(key, crypt, k, size, units);
+    encrypt_each(part.key, part.crypt, k, size, units);
 }
 
 /// The sectors of a unit from that one on, as many as fill the buffer.

@@ -9,14 +9,14 @@ use dm_table::{Target, Unstriped};
 use stack_config::{Config, DevId};
 
 /// The sectors that lie in one chunk, from that one of the line on.
-pub(crate) fn unstriped_run(
+pub(crate) fn unstriped_run<'a>(
     config: &Config,
     d: DevId,
     line: u32,
     unstriped: &Unstriped,
     within: u64,
     count: u64,
-) -> Run
+) -> Run<'a>
     requires loaded { IsLoaded config.now }
     requires grammar { IsUnstripedOfGrammar unstriped.now }
     requires line { HasLineSectors config.now d.0 line (Target.Unstriped unstriped.now) within count }

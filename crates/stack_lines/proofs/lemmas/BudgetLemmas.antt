@@ -1,10 +1,8 @@
 -- Budgets: of runs that are cut, of the sectors of one line, and of units and data blocks.
 use Rattle.std.proofs.Common.{◌≡◌, ℕ, ◌+◌, ◌*◌, ◌%◌, ◌<◌, ◌≤◌, List, Option, Some, refl, sym, ap, ◌∙◌, arith}
 use Rattle.std.proofs.Math.Nat.{mul_assoc}
-use Rattle.dm_table.specs.declared.crypt.Crypt.{Crypt}
-use Rattle.dm_table.specs.declared.verity.Verity.{Verity}
 use Rattle.dm_table.specs.declared.table.Target.{Target}
-use Rattle.dm_table.specs.declared.table.Target.TheVariants.{Crypt as crypt_target, Verity as verity_target}
+use Rattle.dm_table.specs.declared.table.Target.TheVariants.{Verity as verity_target}
 use Rattle.stack_rules.specs.declared.lower.Lower.{Lower}
 use Rattle.stack_rules.specs.declared.lower.Lower.TheVariants.{Leaf as leaf}
 use Rattle.stack_rules.specs.Records.{Configuration}
@@ -19,12 +17,13 @@ use Rattle.stack_meaning.specs.TargetMeaning.{Meant, handed, own, IsHanded}
 use Rattle.stack_meaning.specs.MeaningOf.{meaning_of}
 use Rattle.stack_meaning.specs.Puts.{together, in_one_run}
 use Rattle.stack_meaning.proofs.lemmas.SectorLemmas.{AsksOfNames, said_or-same}
-use Rattle.stack_lines.specs.declared.source.BlockPart.{BlockPart}
+use Rattle.stack_lines.specs.declared.source.CryptPart.{CryptPart}
 use Rattle.stack_lines.specs.declared.source.Source.{Source}
-use Rattle.stack_lines.specs.Sources.{IsServed, HasTarget}
-use Rattle.stack_lines.specs.Prices.{Pricing, price_as, by_runs, priced_by_name}
-use Rattle.stack_lines.specs.Budgets.{line_price, read_prices, budget, part_budget, source_budget}
-use Rattle.stack_lines.proofs.lemmas.PriceLemmas.{CutAt, in_step, step-once, steps-each, ArePrices, priced-leaf, priced-apart, has-priced, served-priced}
+use Rattle.stack_lines.specs.declared.source.VerityPart.{VerityPart}
+use Rattle.stack_lines.specs.Sources.{IsServed, IsPartOf}
+use Rattle.stack_lines.specs.Prices.{Pricing, price_as, by_runs}
+use Rattle.stack_lines.specs.Budgets.{line_price, read_prices, budget, crypt_budget, part_budget, source_budget}
+use Rattle.stack_lines.proofs.lemmas.PriceLemmas.{CutAt, in_step, step-once, steps-each, ArePrices, priced-leaf, priced-apart, served-priced}
 
 -- ---- devices
 
@@ -41,7 +40,7 @@ line_price-beneath c at d l target s n p hands e = go (meaning_of target).meant 
     go (own m) h = absurd h
 
 are-read : (c : Configuration) → ArePrices (read_prices c)
-are-read c = record { asks = line_price-asks c; hands = line_price-beneath c; zeros = λ at d l s n. refl; fails = λ at d l s n. refl }
+are-read c = record { asks = line_price-asks c; hands = line_price-beneath c; zeros = λ at d l s n. refl; fails = λ at d l s n. refl; placeless = λ at d l target. refl }
 
 pub budget-leaf : (c : Configuration) (i s n : ℕ) → budget c (leaf i) s n ≡ n
 budget-leaf c i s n = priced-leaf c (read_prices c) i s n
@@ -56,41 +55,34 @@ served-budget c d s n source loaded some r = served-priced c (read_prices c) (ar
 
 -- ---- units and data blocks of a line
 
-module _ (c : Configuration) (b : BlockPart) (n m : ℕ) where
-  -- of any target
-  has-budget : (target : Target) → HasTarget c b.device.0 b.line target m → part_budget c b n ≡ by_runs (together target) (line_price c (priced_by_name c (read_prices c)) b.device.0 b.line target) b.first n
-  has-budget target has = has-priced c (read_prices c) (are-read c) b n m target has
-
+module _ (c : Configuration) (u : CryptPart) (n : ℕ) where
   -- so many units
-  pub units-budget : (crypt : Crypt) (q : ℕ) (lower : Lower) → HasTarget c b.device.0 b.line (crypt_target crypt) m → named c crypt.base.device ≡ Some lower → b.first % unit_sectors crypt ≡ 0 → q * unit_sectors crypt ≡ n
-      → part_budget c b n ≡ n * read_cost c lower
-  units-budget crypt q lower has is begins count =
-      let u : ℕ = unit_sectors crypt in
-      let one : ℕ = u * known 0 (read_cost c) (named c crypt.base.device) in
-      has-budget (crypt_target crypt) has
-      ∙ ap (by_runs (in_step u) (λ (s k : ℕ). one) b.first) (sym count)
-      ∙ steps-each u one (omega (arith, unit_sectors-some crypt)) q b.first begins
-      ∙ sym (mul_assoc q u (known 0 (read_cost c) (named c crypt.base.device)))
+  pub units-budget : (q : ℕ) → IsPartOf c u → u.first % unit_sectors u.crypt.now ≡ 0 → q * unit_sectors u.crypt.now ≡ n → crypt_budget c u n ≡ n * read_cost c u.lower
+  units-budget q of begins count =
+      let crypt = u.crypt.now in
+      let size : ℕ = unit_sectors crypt in
+      let one : ℕ = size * known 0 (read_cost c) (named c crypt.base.device) in
+      ap (by_runs (in_step size) (λ (s k : ℕ). one) u.first) (sym count)
+      ∙ steps-each size one (omega (arith, unit_sectors-some crypt)) q u.first begins
+      ∙ sym (mul_assoc q size (known 0 (read_cost c) (named c crypt.base.device)))
       ∙ ap (λ (k : ℕ). k * known 0 (read_cost c) (named c crypt.base.device)) count
-      ∙ ap (λ (o : Option Lower). n * known 0 (read_cost c) o) is
+      ∙ ap (λ (o : Option Lower). n * known 0 (read_cost c) o) of.named
 
   -- a part of one unit
-  pub unit-budget : (crypt : Crypt) → HasTarget c b.device.0 b.line (crypt_target crypt) m → 0 < n → b.first % unit_sectors crypt + n ≤ unit_sectors crypt → part_budget c b n ≡ unit_sectors crypt * by_name c 0 (read_cost c) crypt.base.device
-  unit-budget crypt has some fits =
-      let u : ℕ = unit_sectors crypt in
-      has-budget (crypt_target crypt) has ∙ step-once u (λ (s k : ℕ). u * by_name c 0 (read_cost c) crypt.base.device) (omega (arith, unit_sectors-some crypt)) b.first n some fits
+  pub unit-budget : IsPartOf c u → 0 < n → u.first % unit_sectors u.crypt.now + n ≤ unit_sectors u.crypt.now → crypt_budget c u n ≡ unit_sectors u.crypt.now * read_cost c u.lower
+  unit-budget of some fits =
+      let size : ℕ = unit_sectors u.crypt.now in
+      step-once size (λ (s k : ℕ). size * by_name c 0 (read_cost c) u.crypt.now.base.device) (omega (arith, unit_sectors-some u.crypt.now)) u.first n some fits
+      ∙ ap (λ (o : Option Lower). size * known 0 (read_cost c) o) of.named
 
+module _ (c : Configuration) (x : VerityPart) (n : ℕ) where
   -- so many data blocks
-  pub blocks-budget : (v : Verity) (q : ℕ) → HasTarget c b.device.0 b.line (verity_target v) m → 0 < block_sectors v → b.first % block_sectors v ≡ 0 → q * block_sectors v ≡ n
-      → part_budget c b n ≡ q * line_read_cost (by_name c 0 (read_cost c)) (verity_target v)
-  blocks-budget v q has several begins count =
-      let u : ℕ = block_sectors v in
-      let one : ℕ = line_read_cost (by_name c 0 (read_cost c)) (verity_target v) in
-      has-budget (verity_target v) has
-      ∙ ap (by_runs (in_step u) (λ (s k : ℕ). one) b.first) (sym count)
-      ∙ steps-each u one several q b.first begins
+  pub blocks-budget : (q : ℕ) → 0 < block_sectors x.verity.now → x.first % block_sectors x.verity.now ≡ 0 → q * block_sectors x.verity.now ≡ n → part_budget c x n ≡ q * line_read_cost (by_name c 0 (read_cost c)) (verity_target x.verity.now)
+  blocks-budget q several begins count =
+      let u : ℕ = block_sectors x.verity.now in
+      let one : ℕ = line_read_cost (by_name c 0 (read_cost c)) (verity_target x.verity.now) in
+      ap (by_runs (in_step u) (λ (s k : ℕ). one) x.first) (sym count) ∙ steps-each u one several q x.first begins
 
   -- a part of one data block
-  pub block-budget : (v : Verity) → HasTarget c b.device.0 b.line (verity_target v) m → 0 < n → b.first % block_sectors v + n ≤ block_sectors v → part_budget c b n ≡ line_read_cost (by_name c 0 (read_cost c)) (verity_target v)
-  block-budget v has some fits =
-      has-budget (verity_target v) has ∙ step-once (block_sectors v) (λ (s k : ℕ). line_read_cost (by_name c 0 (read_cost c)) (verity_target v)) (omega (arith, some, fits)) b.first n some fits
+  pub block-budget : 0 < n → x.first % block_sectors x.verity.now + n ≤ block_sectors x.verity.now → part_budget c x n ≡ line_read_cost (by_name c 0 (read_cost c)) (verity_target x.verity.now)
+  block-budget some fits = step-once (block_sectors x.verity.now) (λ (s k : ℕ). line_read_cost (by_name c 0 (read_cost c)) (verity_target x.verity.now)) (omega (arith, some, fits)) x.first n some fits

@@ -1,5 +1,5 @@
 -- Which sectors a write encrypts.
-use Rattle.std.proofs.Common.{◌≡◌, ℕ, ◌+◌, ◌-◌, ◌<◌, ◌≤◌, Option, sym, ap, ◌∙◌, subst, arith, inl, inr}
+use Rattle.std.proofs.Common.{◌≡◌, ℕ, ◌+◌, ◌-◌, ◌<◌, ◌≤◌, sym, ap, ◌∙◌, subst, arith, inl, inr}
 use Rattle.std.proofs.lemmas.Bool.{cases_lt}
 use Rattle.stack_rules.specs.declared.lower.Lower.{Lower}
 use Rattle.stack_rules.specs.declared.lower.Lower.TheVariants.{Leaf}
@@ -8,14 +8,10 @@ use Rattle.stack_rules.specs.Names.{mapped}
 use Rattle.stack_rules.specs.Rules.{IsLoaded}
 use Rattle.stack_lines.specs.declared.source.Source.{Source}
 use Rattle.stack_lines.specs.declared.source.Source.TheVariants.{Below, Units, UnitPart, Block, Blocks}
-use Rattle.stack_lines.specs.declared.source.BlockPart.{BlockPart}
-use Rattle.dm_table.specs.declared.table.Line.{Line}
-use Rattle.dm_table.specs.declared.table.Target.{Target}
-use Rattle.dm_table.specs.declared.crypt.Crypt.{Crypt}
-use Rattle.dm_table.specs.declared.table.Target.TheVariants.{Crypt as crypt_target, Verity as verity_target}
-use Rattle.stack_meaning.specs.Meaning.{Said, line_said, said_at, said_by_name}
-use Rattle.stack_lines.specs.Sources.{HasTarget, AreUnits, AreWholeBlocks, LieInUnit, LieInBlock, IsServed, said_of_line, part_said, source_said}
-use Rattle.stack_meaning.specs.Sectors.{SomeOf}
+use Rattle.stack_lines.specs.declared.source.VerityPart.{VerityPart}
+use Rattle.stack_lines.specs.declared.source.CryptPart.{CryptPart}
+use Rattle.stack_meaning.specs.Meaning.{Said, said_at}
+use Rattle.stack_lines.specs.Sources.{IsServed, source_said}
 use Rattle.stack_lines.specs.Writing.{SomeEncrypt}
 use Rattle.stack_meaning.proofs.lemmas.SectorLemmas.{said_at-leaf}
 use Rattle.stack_lines.proofs.lemmas.SourceLemmas.{served-said}
@@ -24,21 +20,11 @@ pub leaf-encrypts : (c : Configuration) (i first n : ℕ) → SomeEncrypt (said_
 leaf-encrypts c i first n some = subst (λ (x : Said). x.encrypts) (said_at-leaf c i (first + some.0)) some.2
 
 -- a verity line's blocks aren't written
-pub block-encrypts : (c : Configuration) (b : BlockPart) (n : ℕ) → LieInBlock c b.device.0 b.line b.first n → SomeEncrypt (source_said c (Block b)) 0 n → ⊥
-block-encrypts c b n lies some =
-    let line = lies.has in
-    let same : part_said c b (0 + some.0) ≡ line_said (said_by_name c) b.device.0 b.line (verity_target lies.verity) (b.first + (0 + some.0)) =
-    ap (λ (o : Option Line). said_of_line c b.device.0 b.line o (b.first + (0 + some.0))) line.is
-    ∙ ap (λ (t : Target). line_said (said_by_name c) b.device.0 b.line t (b.first + (0 + some.0))) line.has in
-    subst (λ (x : Said). x.encrypts) same some.2
+pub block-encrypts : (c : Configuration) (x : VerityPart) (n : ℕ) → SomeEncrypt (source_said c (Block x)) 0 n → ⊥
+block-encrypts c x n some = some.2
 
-pub blocks-encrypt : (c : Configuration) (b : BlockPart) (n : ℕ) → AreWholeBlocks c b.device.0 b.line b.first n → SomeEncrypt (source_said c (Blocks b)) 0 n → ⊥
-blocks-encrypt c b n blocks some =
-    let line = blocks.has in
-    let same : part_said c b (0 + some.0) ≡ line_said (said_by_name c) b.device.0 b.line (verity_target blocks.verity) (b.first + (0 + some.0)) =
-    ap (λ (o : Option Line). said_of_line c b.device.0 b.line o (b.first + (0 + some.0))) line.is
-    ∙ ap (λ (t : Target). line_said (said_by_name c) b.device.0 b.line t (b.first + (0 + some.0))) line.has in
-    subst (λ (x : Said). x.encrypts) same some.2
+pub blocks-encrypt : (c : Configuration) (x : VerityPart) (n : ℕ) → SomeEncrypt (source_said c (Blocks x)) 0 n → ⊥
+blocks-encrypt c x n some = some.2
 
 pub below-some : (c : Configuration) (lower : Lower) (first n : ℕ) → SomeEncrypt (said_at c lower) first n → SomeEncrypt (source_said c (Below lower first)) 0 n
 below-some c lower first n some = let at : some.0 ≡ 0 + some.0 = omega arith in (some.0, some.1, subst (λ (j : ℕ). (said_at c lower (first + j)).encrypts) at some.2)
@@ -47,18 +33,11 @@ pub some-below : (c : Configuration) (lower : Lower) (first n : ℕ) → SomeEnc
 some-below c lower first n some = let at : 0 + some.0 ≡ some.0 = omega arith in (some.0, some.1, subst (λ (j : ℕ). (said_at c lower (first + j)).encrypts) at some.2)
 
 -- units all are
-pub line-encrypts : (c : Configuration) (b : BlockPart) (m n : ℕ) (crypt : Crypt) → HasTarget c b.device.0 b.line (crypt_target crypt) m → 0 < n → SomeOf (λ j. (part_said c b j).encrypts) 0 n
-line-encrypts c b m n crypt has some =
-    let same : part_said c b (0 + 0) ≡ line_said (said_by_name c) b.device.0 b.line (crypt_target crypt) (b.first + (0 + 0)) =
-    ap (λ (o : Option Line). said_of_line c b.device.0 b.line o (b.first + (0 + 0))) has.is
-    ∙ ap (λ (t : Target). line_said (said_by_name c) b.device.0 b.line t (b.first + (0 + 0))) has.has in
-    (0, some, subst (λ (x : Said). x.encrypts) (sym same) tt)
+pub units-some : (c : Configuration) (u : CryptPart) (n : ℕ) → 0 < n → SomeEncrypt (source_said c (Units u)) 0 n
+units-some c u n some = (0, some, tt)
 
-pub units-some : (c : Configuration) (b : BlockPart) (n : ℕ) → AreUnits c b.device.0 b.line b.first n → 0 < n → SomeEncrypt (source_said c (Units b)) 0 n
-units-some c b n units some = line-encrypts c b (b.first + n) n units.crypt units.has some
-
-pub unit_part-some : (c : Configuration) (b : BlockPart) (n : ℕ) → LieInUnit c b.device.0 b.line b.first n → 0 < n → SomeEncrypt (source_said c (UnitPart b)) 0 n
-unit_part-some c b n unit some = line-encrypts c b (b.first + n) n unit.crypt unit.has some
+pub unit_part-some : (c : Configuration) (u : CryptPart) (n : ℕ) → 0 < n → SomeEncrypt (source_said c (UnitPart u)) 0 n
+unit_part-some c u n some = (0, some, tt)
 
 module _ (c : Configuration) (d first at n : ℕ) (source : Source) (loaded : IsLoaded c) (served : IsServed c d (first + at) n source) where
   same_said : (j : ℕ) → j < n → source_said c source (0 + j) ≡ said_at c (mapped d) (first + (at + j))

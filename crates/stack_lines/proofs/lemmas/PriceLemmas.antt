@@ -1,13 +1,12 @@
 -- Prices of runs: of runs that are cut, of the sectors of one line, and of sectors that are looked at in parts.
 use Rattle.std.proofs.Common.{◌≡◌, ℕ, zero, suc, ◌+◌, ◌-◌, ◌*◌, ◌/◌, ◌%◌, ◌<◌, ◌≤◌, ◌⊎◌, Bool, true, false, cond, nat_lt, ◌&&◌, List, Option, Some, refl, sym, ap, ◌∙◌, arith, inl, inr}
-use Rattle.std.specs.Prelude.{slice_get}
 use Rattle.std.specs.Option.{option_map_or}
 use Rattle.std.proofs.lemmas.Bool.{lt-ltb, le-ltb}
 use Rattle.std.proofs.lemmas.Nat.{mod-mul-add, div-add-mod'}
 use Rattle.std.proofs.Math.Nat.{add-mul}
 use Rattle.dm_table.specs.declared.table.Line.{Line}
 use Rattle.dm_table.specs.declared.table.Target.{Target}
-use Rattle.dm_table.specs.declared.table.Target.TheVariants.{Zero, Error}
+use Rattle.dm_table.specs.declared.table.Target.TheVariants.{Zero, Error, Crypt as crypt_target, Verity as verity_target}
 use Rattle.stack_rules.specs.declared.lower.Lower.{Lower}
 use Rattle.stack_rules.specs.declared.lower.Lower.TheVariants.{Leaf as leaf, Device as device}
 use Rattle.stack_rules.specs.Records.{Configuration}
@@ -22,11 +21,11 @@ use Rattle.stack_meaning.specs.Beneath.{beneath, HandsOn}
 use Rattle.stack_meaning.specs.Puts.{together, in_one_run}
 use Rattle.stack_meaning.proofs.lemmas.LineLemmas.{found-more}
 use Rattle.stack_meaning.proofs.lemmas.SectorLemmas.{AsksOfNames, sector_rule-local}
-use Rattle.stack_lines.specs.declared.source.BlockPart.{BlockPart}
 use Rattle.stack_lines.specs.declared.source.Source.{Source}
+use Rattle.stack_lines.specs.declared.source.VerityPart.{VerityPart}
 use Rattle.stack_lines.specs.declared.source.Source.TheVariants.{Below, Units, UnitPart, Zeros, Fails, Block, Blocks}
-use Rattle.stack_lines.specs.Sources.{BeginsAt, ComeFrom, IsServed, HasTarget}
-use Rattle.stack_lines.specs.Prices.{Pricing, Prices, run_and_behind, by_runs, price_rule, priced, priced_by_name, price_of_line, part_price, source_price}
+use Rattle.stack_lines.specs.Sources.{ComeFrom, IsPlacedAt, IsServed}
+use Rattle.stack_lines.specs.Prices.{Pricing, Prices, run_and_behind, by_runs, price_rule, priced, priced_by_name, part_price, source_price}
 
 -- ---- runs
 
@@ -187,6 +186,7 @@ pub record ArePrices (p : Prices) : Type 0 where
   pub hands : (at : List ℕ → Pricing) (d l : ℕ) (target : Target) (s n : ℕ) (q : List ℕ × ℕ) → HandsOn target → beneath target s ≡ Some q → p.line at d l target s n ≡ at q.0 q.1 n
   pub zeros : (at : List ℕ → Pricing) (d l s n : ℕ) → p.line at d l Zero s n ≡ 0
   pub fails : (at : List ℕ → Pricing) (d l s n : ℕ) → p.line at d l Error s n ≡ 0
+  pub placeless : (at : List ℕ → Pricing) (d l : ℕ) (target : Target) → p.line at d l target ≡ p.line at 0 0 target
 
 pub priced-leaf : (c : Configuration) (p : Prices) (i s n : ℕ) → priced c p (leaf i) s n ≡ p.leaf n
 unfolding descend
@@ -234,22 +234,6 @@ module _ (c : Configuration) (p : Prices) (are : ArePrices p) where
 
   -- ---- where the sectors come from
 
-  -- a part of line l of device d from its sector w on
-  part-priced : (d l w n : ℕ) (line : Line) (b : BlockPart) → IsLine c d l line → BeginsAt d l w b
-      → part_price c p b n ≡ by_runs (together line.target) (p.line (priced_by_name c p) d l line.target) w n
-  part-priced d l w n line b is begins =
-      ap (λ (k : ℕ). price_of_line c p k b.line (slice_get (lines_of c k) b.line) b.first n) begins.0
-      ∙ ap (λ (k : ℕ). price_of_line c p d k (slice_get (lines_of c d) k) b.first n) begins.1
-      ∙ ap (λ (k : ℕ). price_of_line c p d l (slice_get (lines_of c d) l) k n) begins.2
-      ∙ ap (λ (o : Option Line). price_of_line c p d l o w n) is
-
-  -- of any target
-  pub has-priced : (b : BlockPart) (n m : ℕ) (target : Target) → HasTarget c b.device.0 b.line target m
-      → part_price c p b n ≡ by_runs (together target) (p.line (priced_by_name c p) b.device.0 b.line target) b.first n
-  has-priced b n m target has =
-      part-priced b.device.0 b.line b.first n has.line b has.is (refl, refl, refl)
-      ∙ ap (λ (t : Target). by_runs (together t) (p.line (priced_by_name c p) b.device.0 b.line t) b.first n) has.has
-
   module _ (d l : ℕ) (line : Line) (is : IsLine c d l line) (w n : ℕ) (some : 0 < n) where
     -- a target of which all sectors go down together, and cost nothing
     none : (target : Target) → ((i : ℕ) → together target (w + i) ≡ true) → p.line (priced_by_name c p) d l target w n ≡ 0 → line.target ≡ target
@@ -257,6 +241,13 @@ module _ (c : Configuration) (p : Prices) (are : ArePrices p) where
     none target all free come =
         ap (λ (t : Target). by_runs (together t) (p.line (priced_by_name c p) d l t) w n) come
         ∙ runs-one (together target) (p.line (priced_by_name c p) d l target) w n some (λ i h. all i) ∙ free
+
+    verity-priced : (x : VerityPart) → line.target ≡ verity_target x.verity.now → IsPlacedAt d l x → x.first ≡ w → by_runs (together line.target) (p.line (priced_by_name c p) d l line.target) w n ≡ part_price c p x n
+    verity-priced x target place first =
+        ap (λ (t : Target). by_runs (together t) (p.line (priced_by_name c p) d l t) w n) target
+        ∙ ap (λ (k : ℕ). by_runs (together (verity_target x.verity.now)) (p.line (priced_by_name c p) k l (verity_target x.verity.now)) w n) (sym place.0)
+        ∙ ap (λ (k : ℕ). by_runs (together (verity_target x.verity.now)) (p.line (priced_by_name c p) x.device.0 k (verity_target x.verity.now)) w n) (sym place.1)
+        ∙ ap (λ (k : ℕ). part_price c p (record x { first = k }) n) (sym first)
 
     come-priced : (source : Source) → ComeFrom c (d, l) line.target w n source → by_runs (together line.target) (p.line (priced_by_name c p) d l line.target) w n ≡ source_price c p source n
     come-priced (Below lower first) come =
@@ -267,12 +258,18 @@ module _ (c : Configuration) (p : Prices) (are : ArePrices p) where
         ∙ are.hands (priced_by_name c p) d l line.target w n (on.name, first + 0) come.0 (ap (beneath line.target) (sym at) ∙ on.under 0 some)
         ∙ ap (λ (o : Option Lower). known {A = Pricing} (λ (s n : ℕ). 0) (priced c p) o (first + 0) n) on.is
         ∙ ap (λ (k : ℕ). priced c p lower k n) first_is
-    come-priced (Units b) come = sym (part-priced d l w n line b is come.0)
-    come-priced (UnitPart b) come = sym (part-priced d l w n line b is come.0)
+    come-priced (Units u) come =
+        ap (λ (t : Target). by_runs (together t) (p.line (priced_by_name c p) d l t) w n) come.0
+        ∙ ap (λ (f : Pricing). by_runs (together (crypt_target u.crypt.now)) f w n) (are.placeless (priced_by_name c p) d l (crypt_target u.crypt.now))
+        ∙ ap (λ (k : ℕ). by_runs (together (crypt_target u.crypt.now)) (p.line (priced_by_name c p) 0 0 (crypt_target u.crypt.now)) k n) (sym come.1)
+    come-priced (UnitPart u) come =
+        ap (λ (t : Target). by_runs (together t) (p.line (priced_by_name c p) d l t) w n) come.0
+        ∙ ap (λ (f : Pricing). by_runs (together (crypt_target u.crypt.now)) f w n) (are.placeless (priced_by_name c p) d l (crypt_target u.crypt.now))
+        ∙ ap (λ (k : ℕ). by_runs (together (crypt_target u.crypt.now)) (p.line (priced_by_name c p) 0 0 (crypt_target u.crypt.now)) k n) (sym come.1)
     come-priced Zeros come = none Zero (λ i. refl) (are.zeros (priced_by_name c p) d l w n) come
     come-priced Fails come = none Error (λ i. refl) (are.fails (priced_by_name c p) d l w n) come
-    come-priced (Block b) come = sym (part-priced d l w n line b is come.0)
-    come-priced (Blocks b) come = sym (part-priced d l w n line b is come.0)
+    come-priced (Block x) come = verity-priced x come.0 come.1 come.2
+    come-priced (Blocks x) come = verity-priced x come.0 come.1 come.2
 
   -- the sectors of a device, where they come from
   pub served-priced : (d s n : ℕ) (source : Source) → IsLoaded c → 0 < n → IsServed c d s n source → priced c p (mapped d) s n ≡ source_price c p source n

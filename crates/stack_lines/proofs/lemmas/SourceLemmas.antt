@@ -1,6 +1,5 @@
 -- What is read from where a device's sectors come from, and what is read of the device.
 use Rattle.std.proofs.Common.{◌≡◌, ℕ, ◌+◌, ◌-◌, ◌*◌, ◌<◌, ◌≤◌, List, length, ◌++◌, take, replicate, Option, Result, Ok, Err, refl, sym, ap, ◌∙◌, subst, arith}
-use Rattle.std.specs.Prelude.{slice_get}
 use Rattle.std.proofs.lemmas.List.{take-replicate, drop-replicate, length-replicate}
 use Rattle.block_device.specs.Device.{Device}
 use Rattle.dm_table.specs.declared.table.Line.{Line}
@@ -8,27 +7,26 @@ use Rattle.dm_table.specs.declared.table.Target.{Target}
 use Rattle.stack_rules.specs.declared.lower.Lower.{Lower}
 use Rattle.stack_rules.specs.declared.lower.Lower.TheVariants.{Leaf}
 use Rattle.stack_rules.specs.Records.{Configuration}
-use Rattle.stack_rules.specs.Names.{mapped, lines_of}
+use Rattle.stack_rules.specs.Names.{mapped}
 use Rattle.stack_rules.specs.Lines.{IsLine}
 use Rattle.stack_rules.specs.Descend.{known, depth, read_cost}
 use Rattle.stack_rules.specs.Rules.{IsLoaded}
 use Rattle.stack_meaning.specs.declared.fault.IoFault.{IoFault}
 use Rattle.stack_meaning.specs.declared.fault.IoFault.TheVariants as io
 use Rattle.stack_meaning.specs.declared.fault.Fault.TheVariants as why
-use Rattle.stack_lines.specs.declared.source.BlockPart.{BlockPart}
 use Rattle.stack_lines.specs.declared.source.Source.{Source}
+use Rattle.stack_lines.specs.declared.source.VerityPart.{VerityPart}
 use Rattle.stack_lines.specs.declared.source.Source.TheVariants.{Below, Units, UnitPart, Zeros, Fails, Block, Blocks}
-use Rattle.stack_rules.specs.Units.{unit_sectors}
-use Rattle.stack_rules.proofs.lemmas.UnitLemmas.{unit_sectors-some}
-use Rattle.stack_lines.proofs.lemmas.UnitLineLemmas.{unit-line, cost-beneath}
-use Rattle.std.proofs.Math.Nat.{mul-le-mul_right}
+use Rattle.dm_table.specs.declared.table.Target.TheVariants.{Crypt as crypt_target, Verity as verity_target}
+use Rattle.stack_lines.specs.declared.source.CryptPart.{CryptPart}
+use Rattle.stack_lines.proofs.lemmas.UnitLineLemmas.{IsUnitLine, unit-line-on}
 use Rattle.stack_meaning.specs.Outcomes.{error_target, zero_sector, part}
 use Rattle.stack_meaning.specs.Found.{FoundRecord}
 use Rattle.stack_meaning.specs.Kept.{AllKept}
-use Rattle.stack_meaning.specs.Meaning.{Said, none_said, line_said, said_at, said_by_name}
+use Rattle.stack_meaning.specs.Meaning.{Said, none_said, crypt_said, line_said, said_at, said_by_name}
 use Rattle.stack_meaning.specs.Leaves.{steady_images}
 use Rattle.stack_meaning.specs.Places.{place_of, run_expected, LeafRead}
-use Rattle.stack_lines.specs.Sources.{LieInBlock, AreWholeBlocks, AreUnits, LieInUnit, BeginsAt, ComeFrom, IsServed, said_of_line, part_said, source_said, source_cost, source_place, source_depth, SourceHolds, ReadsSource}
+use Rattle.stack_lines.specs.Sources.{IsPartOf, IsPlacedAt, ComeFrom, IsServed, part_said, source_said, source_cost, source_place, source_depth, SourceHolds, ReadsSource}
 use Rattle.stack_meaning.specs.Reading.{Gets, Reads, IsPlain}
 use Rattle.stack_meaning.proofs.lemmas.SectorLemmas.{said_at-line, line_said-beneath}
 use Rattle.stack_meaning.proofs.lemmas.CostLemmas.{cost-falls}
@@ -43,92 +41,71 @@ use Rattle.stack_meaning.proofs.lemmas.PlainLemmas.{plain-none, plain-as, plain-
 
 -- ---- what is said of the sectors where those of a device come from
 
--- a part of line l of device d from its sector w on
-part-said : (c : Configuration) (d l w j : ℕ) (line : Line) (b : BlockPart) → IsLine c d l line → BeginsAt d l w b → part_said c b j ≡ line_said (said_by_name c) d l line.target (w + j)
-part-said c d l w j line b is begins =
-    ap (λ (k : ℕ). said_of_line c k b.line (slice_get (lines_of c k) b.line) (b.first + j)) begins.0
-    ∙ ap (λ (k : ℕ). said_of_line c d k (slice_get (lines_of c d) k) (b.first + j)) begins.1
-    ∙ ap (λ (k : ℕ). said_of_line c d l (slice_get (lines_of c d) l) (k + j)) begins.2
-    ∙ ap (λ (o : Option Line). said_of_line c d l o (w + j)) is
-
 module _ (c : Configuration) (d l : ℕ) (line : Line) (is : IsLine c d l line) (w n j : ℕ) (below : j < n) where
+  verity-came : (x : VerityPart) → line.target ≡ verity_target x.verity.now → IsPlacedAt d l x → x.first ≡ w → line_said (said_by_name c) d l line.target (w + j) ≡ part_said c x j
+  verity-came x target place first =
+      ap (λ (t : Target). line_said (said_by_name c) d l t (w + j)) target
+      ∙ ap (λ (k : ℕ). line_said (said_by_name c) k l (verity_target x.verity.now) (w + j)) (sym place.0)
+      ∙ ap (λ (k : ℕ). line_said (said_by_name c) x.device.0 k (verity_target x.verity.now) (w + j)) (sym place.1)
+      ∙ ap (λ (k : ℕ). part_said c (record x { first = k }) j) (sym first)
+
   come-said : (source : Source) → ComeFrom c (d, l) line.target w n source → line_said (said_by_name c) d l line.target (w + j) ≡ source_said c source j
   come-said (Below lower first) come =
       let on = come.1 in
       line_said-beneath (said_by_name c) d l line.target (w + j) (on.name, first + j) come.0 (on.under j below)
       ∙ ap (λ (o : Option Lower). known {A = ℕ → Said} (λ t. none_said) (said_at c) o (first + j)) on.is
-  come-said (Units b) come = sym (part-said c d l w j line b is come.0)
-  come-said (UnitPart b) come = sym (part-said c d l w j line b is come.0)
+  come-said (Units u) come =
+      ap (λ (t : Target). line_said (said_by_name c) d l t (w + j)) come.0
+      ∙ ap (λ (o : Option Lower). crypt_said (known {A = ℕ → Said} (λ t. none_said) (said_at c) o) u.crypt.now (w + j)) come.2.of.named
+      ∙ ap (λ (k : ℕ). crypt_said (said_at c u.lower) u.crypt.now (k + j)) (sym come.1)
+  come-said (UnitPart u) come =
+      ap (λ (t : Target). line_said (said_by_name c) d l t (w + j)) come.0
+      ∙ ap (λ (o : Option Lower). crypt_said (known {A = ℕ → Said} (λ t. none_said) (said_at c) o) u.crypt.now (w + j)) come.2.of.named
+      ∙ ap (λ (k : ℕ). crypt_said (said_at c u.lower) u.crypt.now (k + j)) (sym come.1)
   come-said Zeros come = ap (λ (t : Target). line_said (said_by_name c) d l t (w + j)) come
   come-said Fails come = ap (λ (t : Target). line_said (said_by_name c) d l t (w + j)) come
-  come-said (Block b) come = sym (part-said c d l w j line b is come.0)
-  come-said (Blocks b) come = sym (part-said c d l w j line b is come.0)
+  come-said (Block x) come = verity-came x come.0 come.1 come.2
+  come-said (Blocks x) come = verity-came x come.0 come.1 come.2
 
 pub served-said : (c : Configuration) (d s n j : ℕ) (source : Source) → IsLoaded c → j < n → IsServed c d s n source → source_said c source j ≡ said_at c (mapped d) (s + j)
 served-said c d s n j source loaded below r =
     sym (said_at-line c loaded.valid d s j r.number r.line r.found r.start (omega (arith, below, r.fits)) ∙ come-said c d r.number r.line r.is (s - r.line.start) n j below source r.come)
 
--- the units of a part that begins at a sector
-pub units-at : (c : Configuration) (d l w n : ℕ) (b : BlockPart) → BeginsAt d l w b → AreUnits c d l w n → AreUnits c b.device.0 b.line b.first n
-units-at c d l w n b begins units =
-    subst (λ (k : ℕ). AreUnits c k b.line b.first n) (sym begins.0)
-    (subst (λ (k : ℕ). AreUnits c d k b.first n) (sym begins.1)
-    (subst (λ (k : ℕ). AreUnits c d l k n) (sym begins.2) units))
-
--- the data blocks of a part that begins at a sector
-blocks-at : (c : Configuration) (d l w n : ℕ) (b : BlockPart) → BeginsAt d l w b → AreWholeBlocks c d l w n → AreWholeBlocks c b.device.0 b.line b.first n
-blocks-at c d l w n b begins blocks =
-    subst (λ (k : ℕ). AreWholeBlocks c k b.line b.first n) (sym begins.0)
-    (subst (λ (k : ℕ). AreWholeBlocks c d k b.first n) (sym begins.1)
-    (subst (λ (k : ℕ). AreWholeBlocks c d l k n) (sym begins.2) blocks))
-
-pub unit-at : (c : Configuration) (d l w n : ℕ) (b : BlockPart) → BeginsAt d l w b → LieInUnit c d l w n → LieInUnit c b.device.0 b.line b.first n
-unit-at c d l w n b begins unit =
-    subst (λ (k : ℕ). LieInUnit c k b.line b.first n) (sym begins.0)
-    (subst (λ (k : ℕ). LieInUnit c d k b.first n) (sym begins.1)
-    (subst (λ (k : ℕ). LieInUnit c d l k n) (sym begins.2) unit))
+-- the line of a part of a crypt line
+pub served-line : (c : Configuration) (d s n : ℕ) (source : Source) (u : CryptPart) → IsLoaded c → (r : IsServed c d s n source) → r.line.target ≡ crypt_target u.crypt.now → IsPartOf c u → IsUnitLine c d r.line u.crypt.now u.lower
+served-line c d s n source u loaded r is of = unit-line-on c d r.number 0 u.crypt.now loaded (record { line = r.line; is = r.is; has = is; fits = omega arith }) u.lower of.named
 
 pub served-cost : (c : Configuration) (d s n : ℕ) (source : Source) → IsLoaded c → 0 < n → IsServed c d s n source → source_cost c source ≤ read_cost c (mapped d)
 served-cost c d s n (Below lower first) loaded some r =
     let on = r.come.1 in
     cost-falls c d r.number r.line (s - r.line.start + 0) (on.name, first + 0) lower loaded.valid r.is (on.under 0 some) on.is
-served-cost c d s n (Units b) loaded some r =
-    let units = units-at c d r.number (s - r.line.start) n b r.come.0 r.come.1 in
-    let lower = unit-line c b.device.0 b.line _ units.crypt loaded units.has in
-    let same = cost-beneath c b.device.0 b.line _ units.crypt loaded units.has (read_cost c) lower.0 lower.1.crypt_line.named in
-    let whole : read_cost c (mapped b.device.0) ≡ read_cost c (mapped d) = ap (λ (k : ℕ). read_cost c (mapped k)) r.come.0.0 in
-    let once : 1 * read_cost c lower.0 ≤ unit_sectors units.crypt * read_cost c lower.0 = mul-le-mul_right (read_cost c lower.0) (unit_sectors-some units.crypt) in
-    omega (arith, same, whole, once, lower.1.read)
-served-cost c d s n (UnitPart b) loaded some r = let same : read_cost c (mapped b.device.0) ≡ read_cost c (mapped d) = ap (λ (k : ℕ). read_cost c (mapped k)) r.come.0.0 in omega (arith, same)
+served-cost c d s n (Units u) loaded some r = (served-line c d s n (Units u) u loaded r r.come.0 r.come.2.of).crypt_line.read
+served-cost c d s n (UnitPart u) loaded some r = (served-line c d s n (UnitPart u) u loaded r r.come.0 r.come.2.of).read
 served-cost c d s n Zeros loaded some r = omega arith
 served-cost c d s n Fails loaded some r = omega arith
-served-cost c d s n (Block b) loaded some r = let same : read_cost c (mapped b.device.0) ≡ read_cost c (mapped d) = ap (λ (k : ℕ). read_cost c (mapped k)) r.come.0.0 in omega (arith, same)
-served-cost c d s n (Blocks b) loaded some r = let same : read_cost c (mapped b.device.0) ≡ read_cost c (mapped d) = ap (λ (k : ℕ). read_cost c (mapped k)) r.come.0.0 in omega (arith, same)
+served-cost c d s n (Block x) loaded some r = let same : read_cost c (mapped x.device.0) ≡ read_cost c (mapped d) = ap (λ (k : ℕ). read_cost c (mapped k)) r.come.1.0 in omega (arith, same)
+served-cost c d s n (Blocks x) loaded some r = let same : read_cost c (mapped x.device.0) ≡ read_cost c (mapped d) = ap (λ (k : ℕ). read_cost c (mapped k)) r.come.1.0 in omega (arith, same)
 
 -- the lower device stands less deep
 pub served-depth : (c : Configuration) (d s n : ℕ) (source : Source) → IsLoaded c → 0 < n → IsServed c d s n source → source_depth c source ≤ depth c (mapped d)
 served-depth c d s n (Below lower first) loaded some r =
     let on = r.come.1 in
     let falls = depth-falls c d r.number r.line (s - r.line.start + 0) (on.name, first + 0) lower loaded.valid r.is (on.under 0 some) on.is in omega (arith, falls)
-served-depth c d s n (Units b) loaded some r = let same : depth c (mapped b.device.0) ≡ depth c (mapped d) = ap (λ (k : ℕ). depth c (mapped k)) r.come.0.0 in omega (arith, same)
-served-depth c d s n (UnitPart b) loaded some r = let same : depth c (mapped b.device.0) ≡ depth c (mapped d) = ap (λ (k : ℕ). depth c (mapped k)) r.come.0.0 in omega (arith, same)
+served-depth c d s n (Units u) loaded some r = let line = served-line c d s n (Units u) u loaded r r.come.0 r.come.2.of in omega (arith, line.crypt_line.shallower)
+served-depth c d s n (UnitPart u) loaded some r = let line = served-line c d s n (UnitPart u) u loaded r r.come.0 r.come.2.of in omega (arith, line.crypt_line.shallower)
 served-depth c d s n Zeros loaded some r = omega arith
 served-depth c d s n Fails loaded some r = omega arith
-served-depth c d s n (Block b) loaded some r = let same : depth c (mapped b.device.0) ≡ depth c (mapped d) = ap (λ (k : ℕ). depth c (mapped k)) r.come.0.0 in omega (arith, same)
-served-depth c d s n (Blocks b) loaded some r = let same : depth c (mapped b.device.0) ≡ depth c (mapped d) = ap (λ (k : ℕ). depth c (mapped k)) r.come.0.0 in omega (arith, same)
+served-depth c d s n (Block x) loaded some r = let same : depth c (mapped x.device.0) ≡ depth c (mapped d) = ap (λ (k : ℕ). depth c (mapped k)) r.come.1.0 in omega (arith, same)
+served-depth c d s n (Blocks x) loaded some r = let same : depth c (mapped x.device.0) ≡ depth c (mapped d) = ap (λ (k : ℕ). depth c (mapped k)) r.come.1.0 in omega (arith, same)
 
 pub served-holds : (c : Configuration) (d s n : ℕ) (source : Source) → IsServed c d s n source → SourceHolds c source n
 served-holds c d s n (Below lower first) r = r.come.1.inside
-served-holds c d s n (Units b) r = units-at c d r.number (s - r.line.start) n b r.come.0 r.come.1
-served-holds c d s n (UnitPart b) r = unit-at c d r.number (s - r.line.start) n b r.come.0 r.come.1
+served-holds c d s n (Units u) r = r.come.2
+served-holds c d s n (UnitPart u) r = r.come.2
 served-holds c d s n Zeros r = tt
 served-holds c d s n Fails r = tt
-served-holds c d s n (Block b) r =
-    let w : ℕ = s - r.line.start in
-    subst (λ (k : ℕ). LieInBlock c k b.line b.first n) (sym r.come.0.0)
-    (subst (λ (k : ℕ). LieInBlock c d k b.first n) (sym r.come.0.1)
-    (subst (λ (k : ℕ). LieInBlock c d r.number k n) (sym r.come.0.2) r.come.1))
-served-holds c d s n (Blocks b) r = blocks-at c d r.number (s - r.line.start) n b r.come.0 r.come.1
+served-holds c d s n (Block x) r = r.come.3
+served-holds c d s n (Blocks x) r = r.come.3
 
 -- ---- reads
 

@@ -6,7 +6,6 @@ use Rattle.std.proofs.Math.Seq.{take-append-add}
 use Rattle.block_device.specs.Device.{Device, in_memory}
 use Rattle.stack_meaning.specs.declared.fault.IoFault.{IoFault}
 use Rattle.stack_meaning.specs.declared.fault.IoFault.TheVariants as io
-use Rattle.stack_meaning.specs.declared.fault.Fault.{Fault}
 use Rattle.stack_meaning.specs.Outcomes.{LeafSector, Images}
 use Rattle.stack_meaning.specs.Leaves.{steady_images, fixed_part, LeafFailed}
 use Rattle.stack_meaning.specs.Meaning.{Said}

@@ -150,12 +150,12 @@ module _ (c : Configuration) (v : Verity) (tree : Tree) (loaded : IsLoaded c) (i
 pub served-within : (c : Configuration) (d s n : ℕ) (source : Source) → IsLoaded c → 0 < n → IsServed c d s n source → AreWithin (source_leaves c source) (leaves_of c (mapped d))
 served-within c d s n (Below lower first) loaded some r i out =
     let on = r.come.1 in under-out c loaded d r.number r.line r.is i out (s - r.line.start + 0) (on.name, first + 0) lower (on.under 0 some) on.is
-served-within c d s n (Units b) loaded some r i out = ap (λ (k : ℕ). stands_on c i (mapped k)) r.come.0.0 ∙ out
-served-within c d s n (UnitPart b) loaded some r i out = ap (λ (k : ℕ). stands_on c i (mapped k)) r.come.0.0 ∙ out
+served-within c d s n (Units u) loaded some r i out = crypt-within c d r.number 0 u.crypt.now u.lower loaded (record { line = r.line; is = r.is; has = r.come.0; fits = omega arith }) r.come.2.of.named i out
+served-within c d s n (UnitPart u) loaded some r i out = crypt-within c d r.number 0 u.crypt.now u.lower loaded (record { line = r.line; is = r.is; has = r.come.0; fits = omega arith }) r.come.2.of.named i out
 served-within c d s n Zeros loaded some r i out = refl
 served-within c d s n Fails loaded some r i out = refl
-served-within c d s n (Block b) loaded some r i out = ap (λ (k : ℕ). stands_on c i (mapped k)) r.come.0.0 ∙ out
-served-within c d s n (Blocks b) loaded some r i out = ap (λ (k : ℕ). stands_on c i (mapped k)) r.come.0.0 ∙ out
+served-within c d s n (Block x) loaded some r i out = ap (λ (k : ℕ). stands_on c i (mapped k)) r.come.1.0 ∙ out
+served-within c d s n (Blocks x) loaded some r i out = ap (λ (k : ℕ). stands_on c i (mapped k)) r.come.1.0 ∙ out
 
 -- the runs of a device before one, and that one
 pub device-touched : {A B : Type 0} (c : Configuration) (d s n : ℕ) (source : Source) {old mid new : List Device} {x : A} {result : Result B IoFault} → IsLoaded c → 0 < n → IsServed c d s n source

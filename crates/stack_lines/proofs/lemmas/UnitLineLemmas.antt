@@ -1,23 +1,19 @@
 -- What a loaded configuration gives of a `crypt` line and its units.
-use Rattle.std.proofs.Common.{◌≡◌, ◌≢◌, ℕ, ◌+◌, ◌*◌, ◌%◌, ◌≤◌, ◌==◌, Bool, true, false, cond, Option, Some, sym, ap, ◌∙◌, subst, refl, arith}
-use Rattle.std.specs.Prelude.{slice_get}
-use Rattle.std.specs.Option.{option_map_or}
+use Rattle.std.proofs.Common.{◌≡◌, ◌≢◌, ℕ, ◌+◌, ◌*◌, ◌%◌, ◌≤◌, ◌==◌, Bool, true, false, cond, Some, sym, ap, ◌∙◌, subst, refl, arith}
 use Rattle.std.proofs.lemmas.Bool.{eqb-true}
 use Rattle.std.proofs.Math.Nat.{mul-add}
 use Rattle.dm_table.specs.declared.crypt.Crypt.{Crypt}
 use Rattle.dm_table.specs.declared.table.Line.{Line}
-use Rattle.dm_table.specs.declared.table.Target.{Target}
 use Rattle.dm_table.specs.declared.table.Target.TheVariants.{Crypt as crypt_target}
 use Rattle.stack_rules.specs.declared.lower.Lower.{Lower}
 use Rattle.stack_rules.specs.Records.{Configuration}
-use Rattle.stack_rules.specs.Names.{mapped, named, lines_of}
-use Rattle.stack_rules.specs.Descend.{by_name, known, read_cost, write_cost}
+use Rattle.stack_rules.specs.Names.{mapped, named}
+use Rattle.stack_rules.specs.Descend.{read_cost, write_cost}
 use Rattle.stack_rules.specs.Lines.{lower_at, key_of_line}
 use Rattle.stack_rules.specs.Rules.{IsLoaded}
 use Rattle.stack_config.proofs.lemmas.CryptLineLemmas.{IsCryptLine, crypt-line, crypt-key}
-use Rattle.stack_rules.specs.Units.{unit_sectors, unit_write_cost, crypt_of}
-use Rattle.stack_meaning.specs.Meaning.{Said, none_said, crypt_said, line_said, said_at, said_by_name}
-use Rattle.stack_lines.specs.Sources.{HasTarget, cost_of_crypt, said_of_line}
+use Rattle.stack_rules.specs.Units.{unit_sectors, unit_write_cost}
+use Rattle.stack_lines.specs.Sources.{HasTarget}
 use Rattle.stack_lines.proofs.StripeLemmas.{named-by, target-names}
 
 -- a crypt line of device d, and the leaf or device beneath it
@@ -70,25 +66,3 @@ module _ (c : Configuration) (d l n : ℕ) (crypt : Crypt) (loaded : IsLoaded c)
 
   pub unit-key : key_of_line c d l ≡ Some crypt.key
   unit-key = crypt-key c d l has.line crypt has.is has.has
-
-  -- what the device beneath costs
-  pub cost-beneath : (cost : Lower → ℕ) (lower : Lower) → named c crypt.base.device ≡ Some lower → cost_of_crypt c cost (slice_get (lines_of c d) l) ≡ cost lower
-  cost-beneath cost lower is =
-      ap (cost_of_crypt c cost) has.is
-      ∙ ap (λ (t : Target). option_map_or (λ (x : Crypt). by_name c 0 cost x.base.device) (crypt_of t) 0) has.has
-      ∙ ap (known 0 cost) is
-
-  -- the sectors of the line
-  pub line-said : (s : ℕ) → said_of_line c d l (slice_get (lines_of c d) l) s ≡ line_said (said_by_name c) d l (crypt_target crypt) s
-  line-said s = ap (λ (o : Option Line). said_of_line c d l o s) has.is ∙ ap (λ (t : Target). line_said (said_by_name c) d l t s) has.has
-
-  pub unit-said : (lower : Lower) → named c crypt.base.device ≡ Some lower → (s : ℕ) → said_of_line c d l (slice_get (lines_of c d) l) s ≡ crypt_said (said_at c lower) crypt s
-  unit-said lower is s = line-said s ∙ ap (λ (o : Option Lower). crypt_said (known {A = ℕ → Said} (λ t. none_said) (said_at c) o) crypt s) is
-
--- the arguments of one line
-pub same-crypt : (c : Configuration) (d l m n : ℕ) (x y : Crypt) → HasTarget c d l (crypt_target x) m → HasTarget c d l (crypt_target y) n → x ≡ y
-same-crypt c d l m n x y a b =
-    let both : Some a.line ≡ Some b.line = sym a.is ∙ b.is in
-    let lines : a.line ≡ b.line = cc in
-    let targets : crypt_target x ≡ crypt_target y = sym a.has ∙ ap (λ (z : Line). z.target) lines ∙ b.has in
-    cc

@@ -1,6 +1,6 @@
 -- What a put of units does.
-use Rattle.std.proofs.Common.{◌≡◌, ℕ, zero, suc, ◌+◌, ◌-◌, ◌*◌, ◌/◌, ◌%◌, ◌<◌, ◌≤◌, ◌==◌, Bool, true, false, List, [], ◌++◌, length, take, Option, Some, refl, sym, ap, ◌∙◌, subst, inl, inr, arith}
-use Rattle.std.specs.Prelude.{slice_get, if◌then◌else◌}
+use Rattle.std.proofs.Common.{◌≡◌, ℕ, zero, suc, ◌+◌, ◌-◌, ◌*◌, ◌/◌, ◌%◌, ◌<◌, ◌≤◌, ◌==◌, Bool, true, false, List, [], ◌++◌, length, take, refl, sym, ap, ◌∙◌, subst, inl, inr, arith}
+use Rattle.std.specs.Prelude.{if◌then◌else◌}
 use Rattle.std.specs.List.{concat}
 use Rattle.std.proofs.lemmas.Bool.{eq-eqb, eqb-true}
 use Rattle.std.proofs.lemmas.List.{length-take-le, take_all}
@@ -10,23 +10,18 @@ use Rattle.std.proofs.Math.Seq.{take-add}
 use Rattle.block_device.specs.Device.{sectors_of}
 use Rattle.block_device.proofs.lemmas.SectorLemmas.{concat-sectors_of}
 use Rattle.dm_table.specs.declared.crypt.Crypt.{Crypt}
-use Rattle.dm_table.specs.declared.table.Line.{Line}
-use Rattle.dm_table.specs.declared.table.Target.{Target}
 use Rattle.dm_table.specs.declared.table.Target.TheVariants.{Crypt as crypt_target}
 use Rattle.stack_rules.specs.declared.lower.Lower.{Lower}
 use Rattle.stack_rules.specs.Records.{Configuration}
-use Rattle.stack_rules.specs.Names.{named, lines_of}
-use Rattle.stack_rules.specs.Descend.{known}
 use Rattle.xts_sector.specs.Units.{unit}
 use Rattle.stack_meaning.specs.Outcomes.{Images, Outcome, span}
 use Rattle.dm_table.specs.Crypt.{sector_size}
 use Rattle.stack_rules.specs.Units.{unit_sectors}
 use Rattle.stack_meaning.specs.Units.{encrypted_unit, encrypted_units, unit_first}
-use Rattle.stack_meaning.specs.Meaning.{Said, none_said, said_at}
-use Rattle.stack_meaning.specs.Puts.{Put, then_put, Putting, none_put, runs_from, put_runs, together, read_put, encrypted_sectors, changed_unit, unit_put, line_put, put_on}
+use Rattle.stack_meaning.specs.Meaning.{said_at}
+use Rattle.stack_meaning.specs.Puts.{Put, then_put, Putting, together, read_put, encrypted_sectors, changed_unit, unit_put, put_on}
 use Rattle.stack_lines.specs.Cuts.{PutsInSteps}
-use Rattle.stack_lines.specs.Sources.{HasCrypt}
-use Rattle.stack_lines.specs.Writing.{sectors_in, put_by_name, put_on_line}
+use Rattle.stack_lines.specs.Writing.{sectors_in, crypt_put}
 use Rattle.stack_lines.proofs.StripeLemmas.{part-more, part-ends}
 use Rattle.stack_rules.proofs.lemmas.UnitLemmas.{unit_sectors-some}
 use Rattle.stack_lines.proofs.lemmas.UnitReadLemmas.{unit_first-more}
@@ -44,26 +39,17 @@ sectors_in-of bytes n len = let count : length bytes / 512 ≡ n = omega (arith,
 
 -- ---- runs of one unit
 
-module _ (c : Configuration) (d l : ℕ) (crypt : Crypt) (has : HasCrypt c d l crypt) (lower : Lower) (is : named c crypt.base.device ≡ Some lower) where
-  -- by the device beneath
-  pub line-put : (w : ℕ) (sectors : List (List ℕ)) (images : Images) → put_on_line c d l (slice_get (lines_of c d) l) w sectors images
-      ≡ put_runs (unit_put (λ i t. (said_at c lower t).means i) (put_on c lower) crypt) (runs_from (together (crypt_target crypt)) w sectors) images
-  line-put w sectors images =
-      ap (λ (o : Option Line). put_on_line c d l o w sectors images) has.is
-      ∙ ap (λ (t : Target). put_runs (line_put c (put_by_name c) d l t) (runs_from (together t) w sectors) images) has.has
-      ∙ ap (λ (o : Option Lower). put_runs (unit_put (λ i t. (known {A = ℕ → Said} (λ t. none_said) (said_at c) o t).means i) (known {A = ℕ → Putting} (λ t. none_put) (put_on c) o) crypt) (runs_from (together (crypt_target crypt)) w sectors) images) is
-
+module _ (c : Configuration) (lower : Lower) (crypt : Crypt) where
   -- a whole unit
   pub whole-put : (w : ℕ) (bytes : List ℕ) (images : Images) → w % unit_sectors crypt ≡ 0 → length bytes ≡ 512 * unit_sectors crypt
-      → put_on_line c d l (slice_get (lines_of c d) l) w (sectors_in bytes) images
+      → crypt_put c lower crypt w (sectors_in bytes) images
       ≡ put_on c lower (unit_first crypt w) (sectors_of (unit_sectors crypt) (encrypted_unit crypt (w / unit_sectors crypt) bytes)) images
   whole-put w bytes images aligned len =
       let u : ℕ = unit_sectors crypt in
       let count : length (sectors_in bytes) ≡ u = omega (arith, length-sectors_in bytes, len) in
       let yes : (length (sectors_in bytes) == u) ≡ true = eq-eqb (length (sectors_in bytes)) u count in
       let f : ℕ → Outcome = λ t. (said_at c lower t).means images in
-      line-put w (sectors_in bytes) images
-      ∙ put-together (unit_put (λ i t. (said_at c lower t).means i) (put_on c lower) crypt) (together (crypt_target crypt)) w (sectors_in bytes) images (omega (arith, count, unit_sectors-some crypt))
+      put-together (unit_put (λ i t. (said_at c lower t).means i) (put_on c lower) crypt) (together (crypt_target crypt)) w (sectors_in bytes) images (omega (arith, count, unit_sectors-some crypt))
       (λ j h. part-more u w j (omega (arith, h, count, aligned)))
       ∙ ap (λ (b : Bool). if b then put_on c lower (unit_first crypt w) (encrypted_sectors crypt w (concat (sectors_in bytes))) images
       else read_put (span f (unit_first crypt w) u) (λ bytes'. put_on c lower (unit_first crypt w) (encrypted_sectors crypt w (changed_unit crypt w (sectors_in bytes) bytes'))) images) yes
@@ -71,15 +57,14 @@ module _ (c : Configuration) (d l : ℕ) (crypt : Crypt) (has : HasCrypt c d l c
 
   -- part of a unit
   pub some-put : (w : ℕ) (bytes : List ℕ) (n : ℕ) (images : Images) → w % unit_sectors crypt + n ≤ unit_sectors crypt → n < unit_sectors crypt → 0 < n → length bytes ≡ 512 * n
-      → put_on_line c d l (slice_get (lines_of c d) l) w (sectors_in bytes) images
+      → crypt_put c lower crypt w (sectors_in bytes) images
       ≡ read_put (span (λ t. (said_at c lower t).means images) (unit_first crypt w) (unit_sectors crypt)) (λ below. put_on c lower (unit_first crypt w) (encrypted_sectors crypt w (changed_unit crypt w (sectors_in bytes) below))) images
   some-put w bytes n images within part some len =
       let u : ℕ = unit_sectors crypt in
       let count : length (sectors_in bytes) ≡ n = omega (arith, length-sectors_in bytes, len) in
       let no : (length (sectors_in bytes) == u) ≡ false = not-eq (length (sectors_in bytes)) u (omega (arith, count, part)) in
       let f : ℕ → Outcome = λ t. (said_at c lower t).means images in
-      line-put w (sectors_in bytes) images
-      ∙ put-together (unit_put (λ i t. (said_at c lower t).means i) (put_on c lower) crypt) (together (crypt_target crypt)) w (sectors_in bytes) images (omega (arith, count, some))
+      put-together (unit_put (λ i t. (said_at c lower t).means i) (put_on c lower) crypt) (together (crypt_target crypt)) w (sectors_in bytes) images (omega (arith, count, some))
       (λ j h. part-more u w j (omega (arith, h, count, within)))
       ∙ ap (λ (b : Bool). if b then put_on c lower (unit_first crypt w) (encrypted_sectors crypt w (concat (sectors_in bytes))) images
       else read_put (span f (unit_first crypt w) u) (λ below. put_on c lower (unit_first crypt w) (encrypted_sectors crypt w (changed_unit crypt w (sectors_in bytes) below))) images) no
@@ -120,7 +105,7 @@ module _ (c : Configuration) (d l : ℕ) (crypt : Crypt) (has : HasCrypt c d l c
 
     -- unit i is put as its encrypted bytes are on the device beneath
     pub unit-step : (i : ℕ) (images : Images) → i * unit_sectors crypt + unit_sectors crypt ≤ n
-        → put_on_line c d l (slice_get (lines_of c d) l) (w + i * unit_sectors crypt) (sectors_in (unit (sector_size crypt) bytes i)) images
+        → crypt_put c lower crypt (w + i * unit_sectors crypt) (sectors_in (unit (sector_size crypt) bytes i)) images
         ≡ put_on c lower (unit_first crypt w + i * unit_sectors crypt) (sectors_in (unit (sector_size crypt) (encrypted_units crypt (w / unit_sectors crypt) bytes) i)) images
     unit-step i images fits =
         let u : ℕ = unit_sectors crypt in
@@ -162,24 +147,20 @@ module _ (c : Configuration) (d l : ℕ) (crypt : Crypt) (has : HasCrypt c d l c
         inr (inr (ap (λ (k : ℕ). together (crypt_target crypt) (w + k - 1)) (front-count (suc i) fits) ∙ part-ends u (w + suc i * u) some-unit (omega (arith, positive)) (at-unit (suc i)).1))
 
     pub units-apart : (i : ℕ) (ys : List (List ℕ)) (images : Images) → i * unit_sectors crypt ≤ n
-        → put_on_line c d l (slice_get (lines_of c d) l) w (sectors_in (take (512 * (i * unit_sectors crypt)) bytes) ++ ys) images
-        ≡ then_put (put_on_line c d l (slice_get (lines_of c d) l) w (sectors_in (take (512 * (i * unit_sectors crypt)) bytes)) images) (put_on_line c d l (slice_get (lines_of c d) l) (w + i * unit_sectors crypt) ys)
+        → crypt_put c lower crypt w (sectors_in (take (512 * (i * unit_sectors crypt)) bytes) ++ ys) images
+        ≡ then_put (crypt_put c lower crypt w (sectors_in (take (512 * (i * unit_sectors crypt)) bytes)) images) (crypt_put c lower crypt (w + i * unit_sectors crypt) ys)
     units-apart i ys images fits =
         let u : ℕ = unit_sectors crypt in
         let xs = sectors_in (take (512 * (i * u)) bytes) in
         let g : ℕ → Putting = unit_put (λ i t. (said_at c lower t).means i) (put_on c lower) crypt in
         let tog = together (crypt_target crypt) in
         let at : w + length xs ≡ w + i * u = omega (arith, front-count i fits) in
-        line-put w (xs ++ ys) images
-        ∙ put-apart g tog w xs ys images (apart i ys fits)
-        ∙ ap (λ (k : ℕ). then_put (put_runs g (runs_from tog w xs) images) (put_runs g (runs_from tog k ys))) at
-        ∙ ap (λ (p : Put). then_put p (put_runs g (runs_from tog (w + i * u) ys))) (sym (line-put w xs images))
-        ∙ then_same (put_on_line c d l (slice_get (lines_of c d) l) w xs images) _ _ (λ j. sym (line-put (w + i * u) ys j))
+        put-apart g tog w xs ys images (apart i ys fits) ∙ ap (λ (k : ℕ). then_put (crypt_put c lower crypt w xs images) (crypt_put c lower crypt k ys)) at
 
     -- a whole unit is cut from what follows it
     pub unit-apart : (i : ℕ) (one : List ℕ) (ys : List (List ℕ)) (images : Images) → length one ≡ 512 * unit_sectors crypt
-        → put_on_line c d l (slice_get (lines_of c d) l) (w + i * unit_sectors crypt) (sectors_in one ++ ys) images
-        ≡ then_put (put_on_line c d l (slice_get (lines_of c d) l) (w + i * unit_sectors crypt) (sectors_in one) images) (put_on_line c d l (slice_get (lines_of c d) l) (w + i * unit_sectors crypt + length (sectors_in one)) ys)
+        → crypt_put c lower crypt (w + i * unit_sectors crypt) (sectors_in one ++ ys) images
+        ≡ then_put (crypt_put c lower crypt (w + i * unit_sectors crypt) (sectors_in one) images) (crypt_put c lower crypt (w + i * unit_sectors crypt + length (sectors_in one)) ys)
     unit-apart i one ys images long =
         let u : ℕ = unit_sectors crypt in
         let s : ℕ = w + i * u in
@@ -189,14 +170,11 @@ module _ (c : Configuration) (d l : ℕ) (crypt : Crypt) (has : HasCrypt c d l c
         let g : ℕ → Putting = unit_put (λ i t. (said_at c lower t).means i) (put_on c lower) crypt in
         let tog = together (crypt_target crypt) in
         let cut : tog (s + length xs - 1) ≡ false = ap (λ (e : ℕ). tog (e - 1)) end ∙ part-ends u (w + suc i * u) some-unit (omega (arith, add-mul 1 i u, some-unit)) (at-unit (suc i)).1 in
-        line-put s (xs ++ ys) images
-        ∙ put-apart g tog s xs ys images (inr (inr cut))
-        ∙ ap (λ (p : Put). then_put p (put_runs g (runs_from tog (s + length xs) ys))) (sym (line-put s xs images))
-        ∙ then_same (put_on_line c d l (slice_get (lines_of c d) l) s xs images) _ _ (λ j. sym (line-put (s + length xs) ys j))
+        put-apart g tog s xs ys images (inr (inr cut))
 
 -- ---- units of which a put may be cut behind each one
 
-module _ (c : Configuration) (d l : ℕ) (crypt : Crypt) (has : HasCrypt c d l crypt) (lower : Lower) (is : named c crypt.base.device ≡ Some lower) (w : ℕ) (bytes : List ℕ) (n : ℕ) (aligned : w % unit_sectors crypt ≡ 0) (len : length bytes ≡ 512 * n)
+module _ (c : Configuration) (lower : Lower) (crypt : Crypt) (w : ℕ) (bytes : List ℕ) (n : ℕ) (aligned : w % unit_sectors crypt ≡ 0) (len : length bytes ≡ 512 * n)
     (whole : n % unit_sectors crypt ≡ 0) (cut : PutsInSteps (put_on c lower) (unit_first crypt w) n (record { size = unit_sectors crypt; skip = 0 })) where
   enc-length : length (encrypted_units crypt (w / unit_sectors crypt) bytes) ≡ 512 * n
   enc-length = length-encrypted_units crypt bytes n len whole (w / unit_sectors crypt)
@@ -241,12 +219,11 @@ module _ (c : Configuration) (d l : ℕ) (crypt : Crypt) (has : HasCrypt c d l c
       cut front one images (omega (arith, count, positive)) (omega (arith, long, unit_sectors-some crypt)) (omega (arith, count, long, fits)) ends
       ∙ ap (λ (k : ℕ). then_put (put_on c lower (unit_first crypt w) front images) (put_on c lower k one)) at
 
-  pub lower-units : (i : ℕ) (images : Images) → i * unit_sectors crypt ≤ n → put_on_line c d l (slice_get (lines_of c d) l) w (sectors_in (take (512 * (i * unit_sectors crypt)) bytes)) images
+  pub lower-units : (i : ℕ) (images : Images) → i * unit_sectors crypt ≤ n → crypt_put c lower crypt w (sectors_in (take (512 * (i * unit_sectors crypt)) bytes)) images
       ≡ put_on c lower (unit_first crypt w) (sectors_in (take (512 * (i * unit_sectors crypt)) (encrypted_units crypt (w / unit_sectors crypt) bytes))) images
   lower-units zero images fits =
       let u : ℕ = unit_sectors crypt in
-      ap (λ (x : List (List ℕ)). put_on_line c d l (slice_get (lines_of c d) l) w x images) (none-before bytes)
-      ∙ line-put c d l crypt has lower is w [] images
+      ap (λ (x : List (List ℕ)). crypt_put c lower crypt w x images) (none-before bytes)
       ∙ sym (put-none c lower (unit_first crypt w) images)
       ∙ ap (λ (x : List (List ℕ)). put_on c lower (unit_first crypt w) x images) (sym (none-before (encrypted_units crypt (w / u) bytes)))
   lower-units (suc i) images fits =
@@ -255,9 +232,9 @@ module _ (c : Configuration) (d l : ℕ) (crypt : Crypt) (has : HasCrypt c d l c
       let enc = encrypted_units crypt (w / u) bytes in
       let done_front = take (512 * (i * u)) enc in
       let one = unit (sector_size crypt) bytes i in
-      ap (λ (x : List (List ℕ)). put_on_line c d l (slice_get (lines_of c d) l) w x images) (front-more c d l crypt has lower is w bytes n aligned len whole i room)
-      ∙ units-apart c d l crypt has lower is w bytes n aligned len whole i (sectors_in one) images (omega (arith, room))
-      ∙ ap (λ (p : Put). then_put p (put_on_line c d l (slice_get (lines_of c d) l) (w + i * u) (sectors_in one))) (lower-units i images (omega (arith, room)))
-      ∙ then_same (put_on c lower (unit_first crypt w) (sectors_in done_front) images) _ _ (λ j. unit-step c d l crypt has lower is w bytes n aligned len whole i j room)
+      ap (λ (x : List (List ℕ)). crypt_put c lower crypt w x images) (front-more c lower crypt w bytes n aligned len whole i room)
+      ∙ units-apart c lower crypt w bytes n aligned len whole i (sectors_in one) images (omega (arith, room))
+      ∙ ap (λ (p : Put). then_put p (crypt_put c lower crypt (w + i * u) (sectors_in one))) (lower-units i images (omega (arith, room)))
+      ∙ then_same (put_on c lower (unit_first crypt w) (sectors_in done_front) images) _ _ (λ j. unit-step c lower crypt w bytes n aligned len whole i j room)
       ∙ sym (out-parts i images room)
-      ∙ ap (λ (x : List (List ℕ)). put_on c lower (unit_first crypt w) x images) (sym (front-more c d l crypt has lower is w enc n aligned enc-length whole i room))
+      ∙ ap (λ (x : List (List ℕ)). put_on c lower (unit_first crypt w) x images) (sym (front-more c lower crypt w enc n aligned enc-length whole i room))

@@ -1,6 +1,6 @@
 -- What a loaded configuration gives of a verity line and its blocks.
 use Rattle.stack_meaning.specs.LeavesBeneath.{stands_on}
-use Rattle.std.proofs.Common.{◌≡◌, ℕ, ◌+◌, ◌*◌, ◌/◌, ◌%◌, ◌<◌, ◌≤◌, false, List, Option, Some, sym, ap, ◌∙◌, subst, arith}
+use Rattle.std.proofs.Common.{◌≡◌, ℕ, ◌+◌, ◌*◌, ◌/◌, ◌<◌, ◌≤◌, false, List, Option, Some, sym, ap, ◌∙◌, subst, arith}
 use Rattle.std.proofs.Math.Nat.{mul_comm}
 use Rattle.std.proofs.lemmas.Nat.{div_below}
 use Rattle.tree_shape.specs.Shape.{area_end}
@@ -14,12 +14,13 @@ use Rattle.stack_rules.specs.Descend.{depth, known, read_cost}
 use Rattle.stack_rules.specs.Rules.{IsLoaded}
 use Rattle.stack_rules.specs.Trees.{tree_of, line_data_sectors, block_sectors}
 use Rattle.stack_config.proofs.lemmas.VerityLineLemmas.{IsVerityLine, verity-line, data_block-inside, hash_block-inside}
+use Rattle.stack_lines.specs.declared.source.VerityPart.{VerityPart}
 use Rattle.stack_lines.specs.declared.tree.Tree.{Tree}
 use Rattle.stack_meaning.specs.Blocks.{hash_sectors}
 use Rattle.stack_meaning.specs.Meaning.{Said, none_said, said_at}
 use Rattle.stack_meaning.specs.Places.{Place, place_of}
 pub use Rattle.stack_meaning.proofs.lemmas.BlockSizeLemmas.{IsWholeSectors, whole-sectors}
-use Rattle.stack_lines.specs.Sources.{HasTarget, LieInBlock}
+use Rattle.stack_lines.specs.Sources.{HasTarget, LieInBlock, AreWholeBlocks}
 use Rattle.stack_lines.specs.Walks.{HasVerity, IsTreeOf, place_named}
 
 -- ---- lines
@@ -70,25 +71,27 @@ module _ (c : Configuration) (v : Verity) (tree : Tree) (loaded : IsLoaded c) (i
 pub line-read_only : (c : Configuration) (d l n : ℕ) (v : Verity) → IsLoaded c → HasTarget c d l (verity_target v) n → may_write c (mapped d) ≡ false
 line-read_only c d l n v loaded has = (verity-line c d l has.line v loaded has.is has.has).2.read_only
 
-module _ (c : Configuration) (d l w n : ℕ) (v : Verity) (loaded : IsLoaded c) (has : HasVerity c d l v) where
+module _ (c : Configuration) (d l : ℕ) (v : Verity) (loaded : IsLoaded c) (has : HasVerity c d l v) where
   pub data-whole : IsWholeSectors v.data_block
   data-whole = whole-sectors v.data_block (line-facts c d l v loaded has).2.shape.data_size
 
   pub hash-whole : IsWholeSectors v.hash_block
   hash-whole = whole-sectors v.hash_block (line-facts c d l v loaded has).2.shape.hash_size
 
-  module _ (lies : LieInBlock c d l w n) where
-    same : lies.verity ≡ v
-    same = same-verity c d l (w + n) 0 lies.verity v lies.has has
+-- sectors of a line are those of its data blocks
+pub line-inside : (c : Configuration) (d l : ℕ) (v : Verity) (n : ℕ) → IsLoaded c → HasTarget c d l (verity_target v) n → n ≤ line_data_sectors v
+line-inside c d l v n loaded has = let covers = (verity-line c d l has.line v loaded has.is has.has).2.covers in omega (arith, covers, has.fits)
 
-    pub part-within : w % block_sectors v + n ≤ block_sectors v
-    part-within = subst (λ (u : Verity). w % block_sectors u + n ≤ block_sectors u) same lies.within
+-- the block of a part is one of the line's
+pub part-index : (c : Configuration) (x : VerityPart) (n : ℕ) → IsLoaded c → LieInBlock c x n → 0 < n → x.first / block_sectors x.verity.now < x.verity.now.blocks
+part-index c x n loaded lies some =
+    div_below x.first (block_sectors x.verity.now) x.verity.now.blocks (data-whole c x.device.0 x.line x.verity.now loaded lies.of.is).some (omega (arith, some, lies.inside))
 
-    -- the block is one of the line's
-    pub part-index : 0 < n → w / block_sectors v < v.blocks
-    part-index some =
-        let both : Some lies.has.line ≡ Some has.line = sym lies.has.is ∙ has.is in
-        let lines : lies.has.line ≡ has.line = cc in
-        let long : lies.has.line.length ≡ has.line.length = ap (λ (x : Line). x.length) lines in
-        let covers : has.line.length ≤ line_data_sectors v = (line-facts c d l v loaded has).2.covers in
-        div_below w (block_sectors v) v.blocks data-whole.some (omega (arith, some, lies.has.fits, long, covers))
+-- whole blocks lie inside the data device
+pub blocks-below : (c : Configuration) (x : VerityPart) (n : ℕ) → IsLoaded c → AreWholeBlocks c x n → x.first + n ≤ size c x.data
+blocks-below c x n loaded blocks =
+    let line = line-facts c x.device.0 x.line x.verity.now loaded blocks.of.is in
+    let both : Some line.0 ≡ Some x.data = sym line.2.below_named ∙ blocks.of.on_data in
+    let lowers : line.0 ≡ x.data = cc in
+    let room : line_data_sectors x.verity.now ≤ size c x.data = subst (λ (y : Lower). line_data_sectors x.verity.now ≤ size c y) lowers line.2.below_inside in
+    omega (arith, blocks.inside, room)

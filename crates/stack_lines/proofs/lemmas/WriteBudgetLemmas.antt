@@ -27,15 +27,15 @@ use Rattle.stack_meaning.specs.Units.{unit_first}
 use Rattle.stack_meaning.proofs.lemmas.LineLemmas.{line-start}
 use Rattle.stack_meaning.proofs.lemmas.SectorLemmas.{AsksOfNames, said_or-same}
 use Rattle.stack_meaning.proofs.lemmas.UnitLemmas.{unit-more}
-use Rattle.stack_lines.specs.declared.source.BlockPart.{BlockPart}
+use Rattle.stack_lines.specs.declared.source.CryptPart.{CryptPart}
 use Rattle.stack_lines.specs.declared.source.Source.{Source}
-use Rattle.stack_lines.specs.Sources.{IsServed, HasTarget}
+use Rattle.stack_lines.specs.Sources.{IsServed, IsPartOf}
 use Rattle.stack_lines.specs.Prices.{Pricing, by_runs, price_as, price_rule, priced_by_name}
-use Rattle.stack_lines.specs.WriteBudgets.{Counter, of_reads, of_writes, leaf_count, change_count, unit_count, own_count, line_count, write_prices, write_budget, part_write_budget, source_write_budget}
+use Rattle.stack_lines.specs.WriteBudgets.{Counter, of_reads, of_writes, leaf_count, change_count, unit_count, own_count, line_count, write_prices, write_budget, crypt_write_budget, source_write_budget}
 use Rattle.stack_lines.proofs.RunCostLemmas.{CostsLess, cond-below, runs-less}
 use Rattle.stack_lines.proofs.SideLemmas.{beneath-more, in-line, in-line-together}
 use Rattle.stack_lines.proofs.StripeLemmas.{part-ends}
-use Rattle.stack_lines.proofs.lemmas.PriceLemmas.{CutAt, runs-apart, in_step, step-once, step-next, step-apart, ArePrices, priced-leaf, priced-apart, has-priced, served-priced}
+use Rattle.stack_lines.proofs.lemmas.PriceLemmas.{CutAt, runs-apart, in_step, step-once, step-next, step-apart, ArePrices, priced-leaf, priced-apart, served-priced}
 
 -- ---- lines
 
@@ -57,7 +57,7 @@ line_count-beneath c k at d l target s n p hands e = go (meaning_of target).mean
     go (own m) h = absurd h
 
 are-written : (c : Configuration) (k : Counter) → ArePrices (write_prices c k)
-are-written c k = record { asks = line_count-asks c k; hands = line_count-beneath c k; zeros = λ at d l s n. refl; fails = λ at d l s n. refl }
+are-written c k = record { asks = line_count-asks c k; hands = line_count-beneath c k; zeros = λ at d l s n. refl; fails = λ at d l s n. refl; placeless = λ at d l target. refl }
 
 -- ---- devices
 
@@ -145,18 +145,24 @@ served-write_budget c k d s n source loaded some r = served-priced c (write_pric
 
 -- ---- units of a line
 
-module _ (c : Configuration) (k : Counter) (b : BlockPart) (m : ℕ) (crypt : Crypt) (lower : Lower) (has : HasTarget c b.device.0 b.line (crypt_target crypt) m) (is : named c crypt.base.device ≡ Some lower) where
+module _ (c : Configuration) (k : Counter) (x : CryptPart) (of : IsPartOf c x) where
+  abbrev crypt : Crypt
+  crypt = x.crypt.now
+
+  abbrev lower : Lower
+  lower = x.lower
+
   abbrev unit_price : Pricing
   unit_price = unit_count c k (priced_by_name c (write_prices c k)) crypt
 
   some-unit : 0 < unit_sectors crypt
   some-unit = omega (arith, unit_sectors-some crypt)
 
-  has-written : (n : ℕ) → part_write_budget c k b n ≡ by_runs (in_step (unit_sectors crypt)) unit_price b.first n
-  has-written n = has-priced c (write_prices c k) (are-written c k) b n m (crypt_target crypt) has
+  has-written : (n : ℕ) → crypt_write_budget c k x n ≡ by_runs (in_step (unit_sectors crypt)) unit_price x.first n
+  has-written n = refl
 
   put-is : (t n : ℕ) → priced_by_name c (write_prices c k) crypt.base.device t n ≡ write_budget c k lower t n
-  put-is t n = ap (λ (o : Option Lower). known {A = Pricing} (λ (s n : ℕ). 0) (write_budget c k) o t n) is
+  put-is t n = ap (λ (o : Option Lower). known {A = Pricing} (λ (s n : ℕ). 0) (write_budget c k) o t n) of.named
 
   -- one that is written whole
   whole-is : (w : ℕ) → unit_price w (unit_sectors crypt) ≡ write_budget c k lower (unit_first crypt w) (unit_sectors crypt)
@@ -166,44 +172,44 @@ module _ (c : Configuration) (k : Counter) (b : BlockPart) (m : ℕ) (crypt : Cr
       omega (arith, none, put-is (unit_first crypt w) u)
 
   -- a part of one
-  pub part-written : (n : ℕ) → 0 < n → n < unit_sectors crypt → b.first % unit_sectors crypt + n ≤ unit_sectors crypt
-      → part_write_budget c k b n ≡ change_count c k crypt + write_budget c k lower (unit_first crypt b.first) (unit_sectors crypt)
+  pub part-written : (n : ℕ) → 0 < n → n < unit_sectors crypt → x.first % unit_sectors crypt + n ≤ unit_sectors crypt
+      → crypt_write_budget c k x n ≡ change_count c k crypt + write_budget c k lower (unit_first crypt x.first) (unit_sectors crypt)
   part-written n some few fits =
       let u : ℕ = unit_sectors crypt in
       let cut : cond (nat_lt n u) (change_count c k crypt) 0 ≡ change_count c k crypt = ap (λ (t : Bool). cond t (change_count c k crypt) 0) (lt-ltb n u few) in
-      omega (arith, has-written n, step-once u unit_price some-unit b.first n some fits, cut, put-is (unit_first crypt b.first) u)
+      omega (arith, has-written n, step-once u unit_price some-unit x.first n some fits, cut, put-is (unit_first crypt x.first) u)
 
-  module _ (aligned : b.first % unit_sectors crypt ≡ 0) where
-    pub whole-written : part_write_budget c k b (unit_sectors crypt) ≡ write_budget c k lower (unit_first crypt b.first) (unit_sectors crypt)
-    whole-written = let u : ℕ = unit_sectors crypt in omega (arith, has-written u, step-once u unit_price some-unit b.first u some-unit (omega (arith, aligned)), whole-is b.first)
+  module _ (aligned : x.first % unit_sectors crypt ≡ 0) where
+    pub whole-written : crypt_write_budget c k x (unit_sectors crypt) ≡ write_budget c k lower (unit_first crypt x.first) (unit_sectors crypt)
+    whole-written = let u : ℕ = unit_sectors crypt in omega (arith, has-written u, step-once u unit_price some-unit x.first u some-unit (omega (arith, aligned)), whole-is x.first)
 
     -- behind a sectors, which are whole units
-    unit-cut : (a n : ℕ) → a % unit_sectors crypt ≡ 0 → CutAt (in_step (unit_sectors crypt)) b.first a n
+    unit-cut : (a n : ℕ) → a % unit_sectors crypt ≡ 0 → CutAt (in_step (unit_sectors crypt)) x.first a n
     unit-cut zero n even = inl refl
     unit-cut (suc a) n even =
         let u : ℕ = unit_sectors crypt in
-        inr (inr (part-ends u (b.first + suc a) some-unit (omega arith) ((unit-more u b.first (suc a) some-unit aligned).1 ∙ even)))
+        inr (inr (part-ends u (x.first + suc a) some-unit (omega arith) ((unit-more u x.first (suc a) some-unit aligned).1 ∙ even)))
 
     -- one more of them
-    pub units-next : (a : ℕ) → a % unit_sectors crypt ≡ 0 → part_write_budget c k b (a + unit_sectors crypt) ≡ part_write_budget c k b a + write_budget c k lower (unit_first crypt b.first + a) (unit_sectors crypt)
+    pub units-next : (a : ℕ) → a % unit_sectors crypt ≡ 0 → crypt_write_budget c k x (a + unit_sectors crypt) ≡ crypt_write_budget c k x a + write_budget c k lower (unit_first crypt x.first + a) (unit_sectors crypt)
     units-next a even =
         let u : ℕ = unit_sectors crypt in
-        let place = unit-more u b.first a some-unit aligned in
-        let begins : (b.first + a) % u ≡ 0 = place.1 ∙ even in
-        let sum : (b.first / u + a / u) * u ≡ b.first / u * u + a / u * u = add-mul (b.first / u) (a / u) u in
-        let rows : (b.first + a) / u * u ≡ (b.first / u + a / u) * u = ap (λ (q : ℕ). q * u) place.0 in
-        let there : unit_first crypt (b.first + a) ≡ unit_first crypt b.first + a = omega (arith, rows, sum, div-add-mod' a u, even) in
-        let one = step-once u unit_price some-unit (b.first + a) u some-unit (omega (arith, begins)) in
-        let under : write_budget c k lower (unit_first crypt (b.first + a)) u ≡ write_budget c k lower (unit_first crypt b.first + a) u = ap (λ (t : ℕ). write_budget c k lower t u) there in
-        omega (arith, has-written (a + u), has-written a, runs-apart (in_step u) unit_price b.first a u (unit-cut a u even), one, whole-is (b.first + a), under)
+        let place = unit-more u x.first a some-unit aligned in
+        let begins : (x.first + a) % u ≡ 0 = place.1 ∙ even in
+        let sum : (x.first / u + a / u) * u ≡ x.first / u * u + a / u * u = add-mul (x.first / u) (a / u) u in
+        let rows : (x.first + a) / u * u ≡ (x.first / u + a / u) * u = ap (λ (q : ℕ). q * u) place.0 in
+        let there : unit_first crypt (x.first + a) ≡ unit_first crypt x.first + a = omega (arith, rows, sum, div-add-mod' a u, even) in
+        let one = step-once u unit_price some-unit (x.first + a) u some-unit (omega (arith, begins)) in
+        let under : write_budget c k lower (unit_first crypt (x.first + a)) u ≡ write_budget c k lower (unit_first crypt x.first + a) u = ap (λ (t : ℕ). write_budget c k lower t u) there in
+        omega (arith, has-written (a + u), has-written a, runs-apart (in_step u) unit_price x.first a u (unit-cut a u even), one, whole-is (x.first + a), under)
 
     -- some of them cost no more than all
-    pub units-most : (a n : ℕ) → a % unit_sectors crypt ≡ 0 → a ≤ n → part_write_budget c k b a ≤ part_write_budget c k b n
+    pub units-most : (a n : ℕ) → a % unit_sectors crypt ≡ 0 → a ≤ n → crypt_write_budget c k x a ≤ crypt_write_budget c k x n
     units-most a n even few =
         let u : ℕ = unit_sectors crypt in
         let split : a + (n - a) ≡ n = omega (arith, few) in
-        let all : by_runs (in_step u) unit_price b.first n ≡ by_runs (in_step u) unit_price b.first (a + (n - a)) = ap (by_runs (in_step u) unit_price b.first) (sym split) in
-        omega (arith, has-written a, has-written n, all, runs-apart (in_step u) unit_price b.first a (n - a) (unit-cut a (n - a) even))
+        let all : by_runs (in_step u) unit_price x.first n ≡ by_runs (in_step u) unit_price x.first (a + (n - a)) = ap (by_runs (in_step u) unit_price x.first) (sym split) in
+        omega (arith, has-written a, has-written n, all, runs-apart (in_step u) unit_price x.first a (n - a) (unit-cut a (n - a) even))
 
   -- put at once they cost no more than one after the other
   at-once : (valid : IsValid c) (q w n : ℕ) → w % unit_sectors crypt ≡ 0 → n ≡ unit_sectors crypt + q * unit_sectors crypt → write_budget c k lower (unit_first crypt w) n ≤ by_runs (in_step (unit_sectors crypt)) unit_price w n
@@ -231,13 +237,13 @@ module _ (c : Configuration) (k : Counter) (b : BlockPart) (m : ℕ) (crypt : Cr
       let under : write_budget c k lower (unit_first crypt (w + u)) r ≡ write_budget c k lower (unit_first crypt w + u) r = ap (λ (t : ℕ). write_budget c k lower t r) there in
       omega (arith, beneath_all, here, write-less c k valid lower (unit_first crypt w) u r, whole-is w, rest, under, step-apart u unit_price some-unit w r begins)
 
-  pub units-at-once : (n : ℕ) → IsValid c → b.first % unit_sectors crypt ≡ 0 → n % unit_sectors crypt ≡ 0 → 0 < n → write_budget c k lower (unit_first crypt b.first) n ≤ part_write_budget c k b n
+  pub units-at-once : (n : ℕ) → IsValid c → x.first % unit_sectors crypt ≡ 0 → n % unit_sectors crypt ≡ 0 → 0 < n → write_budget c k lower (unit_first crypt x.first) n ≤ crypt_write_budget c k x n
   units-at-once n valid aligned whole some = go (n / unit_sectors crypt) refl
     where
-      go : (q : ℕ) → n / unit_sectors crypt ≡ q → write_budget c k lower (unit_first crypt b.first) n ≤ part_write_budget c k b n
+      go : (q : ℕ) → n / unit_sectors crypt ≡ q → write_budget c k lower (unit_first crypt x.first) n ≤ crypt_write_budget c k x n
       go zero e = let none : n / unit_sectors crypt * unit_sectors crypt ≡ 0 * unit_sectors crypt = ap (λ (j : ℕ). j * unit_sectors crypt) e in absurd (omega (arith, none, div-add-mod' n (unit_sectors crypt), whole, some))
       go (suc q) e =
           let more : suc q ≡ q + 1 = omega arith in
           let rows : n / unit_sectors crypt * unit_sectors crypt ≡ (q + 1) * unit_sectors crypt = ap (λ (j : ℕ). j * unit_sectors crypt) (e ∙ more) in
           let count : n ≡ unit_sectors crypt + q * unit_sectors crypt = omega (arith, rows, add-mul q 1 (unit_sectors crypt), div-add-mod' n (unit_sectors crypt), whole) in
-          omega (arith, has-written n, at-once valid q b.first n aligned count)
+          omega (arith, has-written n, at-once valid q x.first n aligned count)

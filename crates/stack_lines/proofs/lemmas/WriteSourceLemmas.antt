@@ -1,9 +1,9 @@
 -- What is written to where a device's sectors lie is written to the device.
-use Rattle.std.proofs.Common.{◌≡◌, ℕ, ◌+◌, ◌-◌, ◌/◌, ◌%◌, ◌*◌, ◌<◌, ◌≤◌, ◌⊎◌, inl, inr, true, false, IsTrue, List, [], ◌∷◌, ◌++◌, length, take, Option, Result, Ok, Err, refl, sym, ap, ◌∙◌, subst, arith}
+use Rattle.std.proofs.Common.{◌≡◌, ℕ, ◌+◌, ◌-◌, ◌/◌, ◌%◌, ◌<◌, ◌≤◌, ◌⊎◌, inl, inr, true, false, IsTrue, List, [], ◌∷◌, ◌++◌, length, take, Option, Result, Ok, Err, refl, sym, ap, ◌∙◌, subst, arith}
 use Rattle.block_device.specs.Device.{Device}
 use Rattle.dm_table.specs.declared.table.Line.{Line}
 use Rattle.dm_table.specs.declared.table.Target.{Target}
-use Rattle.dm_table.specs.declared.table.Target.TheVariants.{Zero, Error}
+use Rattle.dm_table.specs.declared.table.Target.TheVariants.{Zero, Error, Crypt as crypt_target}
 use Rattle.stack_rules.specs.declared.lower.Lower.{Lower}
 use Rattle.stack_rules.specs.Records.{Configuration}
 use Rattle.stack_rules.specs.Names.{mapped, lines_of, may_write}
@@ -17,20 +17,14 @@ use Rattle.stack_lines.specs.Touches.{leaves_of, source_leaves}
 use Rattle.stack_lines.proofs.lemmas.TouchLemmas.{one-within, served-within}
 use Rattle.stack_lines.specs.declared.source.Source.{Source}
 use Rattle.stack_lines.specs.declared.source.Source.TheVariants.{Below, Units, UnitPart, Zeros, Fails, Block, Blocks}
-use Rattle.stack_rules.specs.Units.{unit_sectors}
-use Rattle.stack_lines.specs.declared.source.BlockPart.{BlockPart}
-use Rattle.stack_rules.proofs.lemmas.UnitLemmas.{unit_sectors-some}
-use Rattle.stack_lines.proofs.lemmas.UnitLineLemmas.{unit-line, cost-beneath}
-use Rattle.std.specs.Prelude.{slice_get}
 use Rattle.std.proofs.lemmas.List.{length-take}
-use Rattle.std.proofs.Math.Nat.{mul-le-mul_right}
 use Rattle.stack_meaning.specs.Outcomes.{Images}
-use Rattle.stack_meaning.specs.Meaning.{said_at}
-use Rattle.stack_meaning.specs.Puts.{Putting, none_put, runs_from, put_runs, together, in_one_run, line_put, put_on}
-use Rattle.stack_lines.specs.Sources.{source_said, BeginsAt, ComeFrom, IsServed}
-use Rattle.stack_lines.specs.Writing.{sectors_in, destination_of, StopsAt, put_some, WritesSectors, put_by_name, put_on_line, part_put, source_put, source_write_cost, SourceMayWrite, source_destination}
+use Rattle.stack_meaning.specs.Meaning.{Said, none_said, said_at}
+use Rattle.stack_meaning.specs.Puts.{Putting, none_put, runs_from, put_runs, together, in_one_run, unit_put, line_put, put_on}
+use Rattle.stack_lines.specs.Sources.{source_said, ComeFrom, IsServed}
+use Rattle.stack_lines.specs.Writing.{sectors_in, destination_of, StopsAt, put_some, WritesSectors, put_by_name, crypt_put, source_put, source_write_cost, SourceMayWrite, source_destination}
 use Rattle.stack_meaning.proofs.lemmas.CostLemmas.{write_cost-falls}
-use Rattle.stack_lines.proofs.lemmas.SourceLemmas.{units-at, served-said}
+use Rattle.stack_lines.proofs.lemmas.SourceLemmas.{served-line, served-said}
 use Rattle.stack_lines.proofs.lemmas.VerityLineLemmas.{line-read_only}
 use Rattle.stack_lines.proofs.lemmas.WritableLemmas.{writable-falls}
 use Rattle.stack_meaning.proofs.lemmas.ChangeLemmas.{KeepsOthers-none, AreWritten-none}
@@ -40,15 +34,6 @@ use Rattle.stack_lines.proofs.lemmas.StopLemmas.{stop-here}
 use Rattle.stack_lines.proofs.lemmas.WriteRunLemmas.{length-sectors_in, sectors_in-none, sectors_in-append, PutsInParts, PutsAlike, write_ok, write_err, write_as}
 
 -- ---- puts where a device's sectors lie
-
--- a put on a part of line l of device d from its sector w on
-part-put : (c : Configuration) (d l w j : ℕ) (line : Line) (b : BlockPart) (sectors : List (List ℕ)) (images : Images) → IsLine c d l line → BeginsAt d l w b
-    → part_put c b j sectors images ≡ put_runs (line_put c (put_by_name c) d l line.target) (runs_from (together line.target) (w + j) sectors) images
-part-put c d l w j line b sectors images is begins =
-    ap (λ (k : ℕ). put_on_line c k b.line (slice_get (lines_of c k) b.line) (b.first + j) sectors images) begins.0
-    ∙ ap (λ (k : ℕ). put_on_line c d k (slice_get (lines_of c d) k) (b.first + j) sectors images) begins.1
-    ∙ ap (λ (k : ℕ). put_on_line c d l (slice_get (lines_of c d) l) (k + j) sectors images) begins.2
-    ∙ ap (λ (o : Option Line). put_on_line c d l o (w + j) sectors images) is
 
 module _ (c : Configuration) (d l : ℕ) (line : Line) (is : IsLine c d l line) (w j n : ℕ) (sectors : List (List ℕ)) (images : Images) (some : 0 < length sectors) (fits : j + length sectors ≤ n) where
   -- a target of which all sectors go down together
@@ -67,8 +52,14 @@ module _ (c : Configuration) (d l : ℕ) (line : Line) (is : IsLine c d l line) 
       (λ i h. let e : w + j + i ≡ w + (j + i) = omega arith in ap (together line.target) e ∙ come.2 (j + i) (omega (arith, h, fits)))
       ∙ line_put-beneath c (put_by_name c) d l line.target (w + j) (on.name, first + j) sectors images come.0 (on.under j (omega (arith, some, fits)))
       ∙ ap (λ (o : Option Lower). known {A = ℕ → Putting} (λ t. none_put) (put_on c) o (first + j) sectors images) on.is
-  come-put (Units b) may come = sym (part-put c d l w j line b sectors images is come.0)
-  come-put (UnitPart b) may come = sym (part-put c d l w j line b sectors images is come.0)
+  come-put (Units x) may come =
+      ap (λ (t : Target). put_runs (line_put c (put_by_name c) d l t) (runs_from (together t) (w + j) sectors) images) come.0
+      ∙ ap (λ (o : Option Lower). put_runs (unit_put (λ i t. (known {A = ℕ → Said} (λ t. none_said) (said_at c) o t).means i) (known {A = ℕ → Putting} (λ t. none_put) (put_on c) o) x.crypt.now) (runs_from (together (crypt_target x.crypt.now)) (w + j) sectors) images) come.2.of.named
+      ∙ ap (λ (k : ℕ). crypt_put c x.lower x.crypt.now (k + j) sectors images) (sym come.1)
+  come-put (UnitPart x) may come =
+      ap (λ (t : Target). put_runs (line_put c (put_by_name c) d l t) (runs_from (together t) (w + j) sectors) images) come.0
+      ∙ ap (λ (o : Option Lower). put_runs (unit_put (λ i t. (known {A = ℕ → Said} (λ t. none_said) (said_at c) o t).means i) (known {A = ℕ → Putting} (λ t. none_put) (put_on c) o) x.crypt.now) (runs_from (together (crypt_target x.crypt.now)) (w + j) sectors) images) come.2.of.named
+      ∙ ap (λ (k : ℕ). crypt_put c x.lower x.crypt.now (k + j) sectors images) (sym come.1)
   come-put Zeros may come = one-run Zero (λ i. refl) come
   come-put Fails may come = one-run Error (λ i. refl) come
   come-put (Block b) may come = absurd may
@@ -89,14 +80,9 @@ served-write-cost : (c : Configuration) (d s n : ℕ) (source : Source) → IsLo
 served-write-cost c d s n (Below lower first) loaded some r =
     let on = r.come.1 in
     write_cost-falls c d r.number r.line (s - r.line.start + 0) (on.name, first + 0) lower loaded.valid r.is (on.under 0 some) on.is
-served-write-cost c d s n (Units b) loaded some r =
-    let units = units-at c d r.number (s - r.line.start) n b r.come.0 r.come.1 in
-    let lower = unit-line c b.device.0 b.line _ units.crypt loaded units.has in
-    let same = cost-beneath c b.device.0 b.line _ units.crypt loaded units.has (write_cost c) lower.0 lower.1.crypt_line.named in
-    let whole : write_cost c (mapped b.device.0) ≡ write_cost c (mapped d) = ap (λ (k : ℕ). write_cost c (mapped k)) r.come.0.0 in
-    let once : 1 * write_cost c lower.0 ≤ unit_sectors units.crypt * write_cost c lower.0 = mul-le-mul_right (write_cost c lower.0) (unit_sectors-some units.crypt) in
-    omega (arith, same, whole, once, lower.1.write)
-served-write-cost c d s n (UnitPart b) loaded some r = let same : write_cost c (mapped b.device.0) ≡ write_cost c (mapped d) = ap (λ (k : ℕ). write_cost c (mapped k)) r.come.0.0 in omega (arith, same)
+served-write-cost c d s n (Units x) loaded some r = (served-line c d s n (Units x) x loaded r r.come.0 r.come.2.of).crypt_line.write
+served-write-cost c d s n (UnitPart x) loaded some r =
+    (served-line c d s n (UnitPart x) x loaded r r.come.0 r.come.2.of).change (λ one. let no : ⊥ = omega (arith, one, some, r.come.2.part) in no)
 served-write-cost c d s n Zeros loaded some r = omega arith
 served-write-cost c d s n Fails loaded some r = omega arith
 served-write-cost c d s n (Block b) loaded some r = omega arith
@@ -106,15 +92,15 @@ pub served-may_write : (c : Configuration) (d s n : ℕ) (source : Source) → I
 served-may_write c d s n (Below lower first) loaded some writable r =
     let on = r.come.1 in
     writable-falls c d r.number r.line (s - r.line.start + 0) (on.name, first + 0) lower loaded.valid r.is writable (on.under 0 some) on.is
-served-may_write c d s n (Units b) loaded some writable r = subst (λ (k : ℕ). IsTrue (may_write c (mapped k))) (sym r.come.0.0) writable
-served-may_write c d s n (UnitPart b) loaded some writable r = subst (λ (k : ℕ). IsTrue (may_write c (mapped k))) (sym r.come.0.0) writable
+served-may_write c d s n (Units x) loaded some writable r = (served-line c d s n (Units x) x loaded r r.come.0 r.come.2.of).crypt_line.writable writable
+served-may_write c d s n (UnitPart x) loaded some writable r = (served-line c d s n (UnitPart x) x loaded r r.come.0 r.come.2.of).crypt_line.writable writable
 served-may_write c d s n Zeros loaded some writable r = tt
 served-may_write c d s n Fails loaded some writable r = tt
-served-may_write c d s n (Block b) loaded some writable r =
-    let none = line-read_only c d r.number (s - r.line.start + n) r.come.1.verity loaded r.come.1.has in
+served-may_write c d s n (Block x) loaded some writable r =
+    let none = line-read_only c d r.number 0 x.verity.now loaded (record { line = r.line; is = r.is; has = r.come.0; fits = omega arith }) in
     let clash : true ≡ false = sym writable ∙ none in cc
-served-may_write c d s n (Blocks b) loaded some writable r =
-    let none = line-read_only c d r.number (s - r.line.start + n) r.come.1.verity loaded r.come.1.has in
+served-may_write c d s n (Blocks x) loaded some writable r =
+    let none = line-read_only c d r.number 0 x.verity.now loaded (record { line = r.line; is = r.is; has = r.come.0; fits = omega arith }) in
     let clash : true ≡ false = sym writable ∙ none in cc
 
 served-alike : (c : Configuration) (d s : ℕ) (source : Source) (sectors : List (List ℕ)) → IsLoaded c → 0 < length sectors → SourceMayWrite c source → IsServed c d s (length sectors) source

@@ -1,17 +1,15 @@
-use Rattle.std.proofs.Common.{All, List, length, take, map, ◌-◌, ◌≡◌, ◌≤◌, ◌+◌, ◌/◌, ◌*◌, ◌%◌, Ok}
+use Rattle.std.proofs.Common.{All, length, take, map, ◌-◌, ◌≡◌, ◌≤◌, ◌+◌, ◌/◌, ◌*◌, ◌%◌, Ok}
 use Rattle.stack_rules.specs.Names.{mapped}
 use Rattle.stack_rules.specs.Descend.{depth}
-use Rattle.stack_meaning.specs.Meaning.{said_at}
-use Rattle.stack_meaning.specs.Reading.{Reads, IsPlain, MeetVerity}
+use Rattle.stack_meaning.specs.Reading.{Reads}
 use Rattle.stack_lines.specs.Sources.{source_depth}
 use Rattle.stack_lines.specs.Walks.{block_in, IsWalked}
 use Rattle.stack_lines.specs.Caches.{IsCached, KeepsCache}
 use Rattle.stack_lines.specs.Touches.{AsksOnly, leaves_of}
-use Rattle.stack_lines.specs.Budgets.{ReadsAtMost, budget}
 use Rattle.stack_engine.proofs.SpentLemmas.{IsCutBehind}
-use Rattle.stack_meaning.specs.Found.{FoundRecord}
-use Rattle.stack_engine.specs.Keeping.{AreHandedOut}
-use Rattle.stack_engine.proofs.NextBlockLemmas.{WereHad, AreReadAhead}
+use Rattle.stack_engine.proofs.NextBlockLemmas.{AreChecked}
+use Rattle.stack_engine.specs.Backings.{backing_of}
+use Rattle.stack_engine.specs.ReadSteps.{run_beneath, IsReadStep}
 use Rattle.stack_engine.proofs.read.+read.Given as goal
 
 -- 8 times the depth and a rank, of which 0 to 4 are left for the steps of a target: part of a unit takes 4, whole units 3,
@@ -34,11 +32,7 @@ invariant-read_device-loop-at g l = record {
   within : l.at ≤ length l.out;
   so_far : Reads l.config (mapped l.d.0) l.first (l.at / 512)
       (record { old = map g.D.BlockDev.state l.fn.backing.devices.items; new = map g.D.BlockDev.state l.backing.devices.items; before = l.fn.found.items; after = l.found.items }) (Ok (take l.at l.out));
-  cached : KeepsCache l.config (map g.D.BlockDev.state l.backing.devices.items) l.fn.backing.cache l.backing.cache;
-  same : (MeetVerity (said_at l.config (mapped l.d.0)) l.first (length l.fn.out / 512) → ⊥) → l.backing.cache ≡ l.fn.backing.cache;
-  plain : IsPlain (said_at l.config (mapped l.d.0)) l.first (l.at / 512) (map g.D.BlockDev.state l.fn.backing.devices.items) (map g.D.BlockDev.state l.backing.devices.items) (Ok tt);
-  touches : AsksOnly {A = Unit {0}} (leaves_of l.config (mapped l.d.0)) (map g.D.BlockDev.state l.fn.backing.devices.items) (map g.D.BlockDev.state l.backing.devices.items) (Ok tt);
-  spent : ReadsAtMost (budget l.config (mapped l.d.0) l.first (l.at / 512)) (map g.D.BlockDev.state l.fn.backing.devices.items) (map g.D.BlockDev.state l.backing.devices.items);
+  step : IsReadStep l.config (run_beneath l.config (mapped l.d.0) l.first (l.at / 512)) (backing_of g.D.BlockDev.state l.fn.backing) (backing_of g.D.BlockDev.state l.backing) (Ok tt);
   cut : IsCutBehind l.config l.d.0 l.first (l.at / 512) (length l.fn.out / 512);
 }
 
@@ -46,10 +40,10 @@ abbrev pub decreases-read_device-loop-at : goal.decreases-read_device-loop-at
 decreases-read_device-loop-at g l = length l.initial.out - l.at
 
 abbrev pub decreases-read_unit_part : goal.decreases-read_unit_part
-decreases-read_unit_part g l = 8 * depth l.config.now (mapped l.part.device.0) + 4
+decreases-read_unit_part g l = 8 * (depth l.config.now l.part.lower + 1) + 4
 
 abbrev pub decreases-read_units : goal.decreases-read_units
-decreases-read_units g l = 8 * depth l.config.now (mapped l.part.device.0) + 3
+decreases-read_units g l = 8 * (depth l.config.now l.part.lower + 1) + 3
 
 abbrev pub decreases-read_block : goal.decreases-read_block
 decreases-read_block g l = 8 * depth l.config.now (mapped l.part.device.0) + 4
@@ -107,16 +101,8 @@ decreases-read_beneath g l = 8 * depth l.config.now l.lower + 8
 -- the blocks so far were had, and those behind them stand as they were read last
 abbrev pub invariant-read_blocks-checks : goal.invariant-read_blocks-checks
 invariant-read_blocks-checks g l = record {
-  size : length l.out ≡ length l.fn.out;
-  room : length l.made ≡ 128;
-  within : l.at ≤ l.count;
-  most : l.read ≤ l.count;
-  after : List FoundRecord;
-  out : AreHandedOut l.fn.chains l.fn.found.items after l.found.items;
-  held : All (IsCached l.config (map g.D.BlockDev.state l.backing.devices.items)) l.path.items;
-  had : WereHad l.config l.verity l.fn.part (length l.fn.out / 512) l.read l.at l.out
-      (record { old = map g.D.BlockDev.state l.fn.backing.devices.items; new = map g.D.BlockDev.state l.backing.devices.items; before = l.fn.found.items; after = after });
-  ahead : AreReadAhead l.config l.verity l.fn.part l.tree.data l.at l.read l.out l.made (map g.D.BlockDev.state l.fn.backing.devices.items);
+  checked : AreChecked l.config l.fn.part l.fn.chains l.fn.out l.read l.at l.out l.made l.path.items
+      (map g.D.BlockDev.state l.fn.backing.devices.items) (map g.D.BlockDev.state l.backing.devices.items) l.fn.found.items l.found.items;
   cached : KeepsCache l.config (map g.D.BlockDev.state l.backing.devices.items) l.fn.backing.cache l.backing.cache;
   touches : AsksOnly {A = Unit {0}} (leaves_of l.config (mapped l.fn.part.device.0)) (map g.D.BlockDev.state l.fn.backing.devices.items) (map g.D.BlockDev.state l.backing.devices.items) (Ok tt);
 }

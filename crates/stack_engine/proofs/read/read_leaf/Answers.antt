@@ -1,4 +1,4 @@
-use Rattle.std.proofs.Common.{◌≡◌, ◌≤◌, ◌+◌, ◌*◌, ◌/◌, ◌-◌, length, map, get_or, set, false, ℕ, List, Ok, sym, ap, ◌∙◌, subst, arith, inl, inr}
+use Rattle.std.proofs.Common.{◌≡◌, ◌<◌, ◌≤◌, ◌+◌, ◌*◌, ◌/◌, ◌-◌, length, map, get_or, set, false, ℕ, List, Ok, sym, ap, ◌∙◌, subst, arith, inl, inr}
 use Rattle.block_device.specs.Device.{Device, IsRead, HasFailed}
 use Rattle.stack_rules.specs.declared.lower.Lower.TheVariants.{Leaf}
 use Rattle.stack_rules.specs.Records.{Configuration}
@@ -40,64 +40,56 @@ leaf_cost c i n = let one : n * read_cost c (Leaf i) ≡ n * 1 = ap (λ (k : ℕ
 grows : (old new : Device) (n : ℕ) → IsRead old n false new → HasFailed old new → old.failures ≤ new.failures
 grows old new n r h = elim h [ inl more ↦ omega (arith, more) | inr full ↦ omega (arith, full, r.failures) ]
 
-pub returns-in-Ok-clause-got : goal.returns-in-Ok-clause-got
-returns-in-Ok-clause-got g c =
+pub returns-in-Ok : goal.returns-in-Ok
+returns-in-Ok g c =
     let state = g.D.BlockDev.state in
+    let config = c.args.config.now in
     let devices = c.args.devices.now in
+    let leaf = c.args.leaf in
     let x = c.index-devices-leaf.result in
-    let n = length c.args.out.now / 512 in
-    let old : Device = state (get_or devices c.args.leaf x) in
-    let whole = g.met.D.BlockDev.whole (get_or devices c.args.leaf x) in
-    let size = leaf-size state devices _ c.requires.sound.serve c.args.leaf x (leaf-there g.D.BlockDev.state c.args.devices.now c.args.config.now c.args.leaf c.args.first c.args.out.now c.requires.sound c.requires.fits) in
+    let n : ℕ = length c.args.out.now / 512 in
+    let some : 0 < n = omega (arith, c.requires.fits.sectors.some, c.requires.fits.sectors.whole) in
+    let there = leaf-there state devices config leaf c.args.first c.args.out.now c.requires.sound c.requires.fits in
+    let old : Device = state (get_or devices leaf x) in
+    let whole = g.met.D.BlockDev.whole (get_or devices leaf x) in
+    let size = leaf-size state devices _ c.requires.sound.serve leaf x there in
     let kept = c.in-Ok.ensures.moved in
-    let moved = AreRead-more (leaf_cost c.args.config.now c.args.leaf n) (AreRead-device state devices c.args.leaf x (leaf-there g.D.BlockDev.state c.args.devices.now c.args.config.now c.args.leaf c.args.first c.args.out.now c.requires.sound c.requires.fits) _ _ c.read.new.self (omega (arith, c.requires.fits.sectors.some, c.requires.fits.sectors.whole)) (omega (arith, kept.failures)) kept) in
-    λ found. record {
-      moved = moved;
-      may = leaf-run (λ s. (said_at c.args.config.now (Leaf c.args.leaf) s).may found) c.args.first n c.read.new.out (omega (arith, c.read.auto.out, c.requires.fits.sectors.whole))
-          (λ s bytes h. subst (λ (x : Said). x.may found bytes) (sym (said_at-leaf c.args.config.now c.args.leaf s)) h);
-      exact = λ steady.
-          span_image _ old.image c.args.first n
-          (λ s. ap (λ (x : Said). x.means (steady_images (map state devices))) (said_at-leaf c.args.config.now c.args.leaf s) ∙ ap (λ (l : List (List ℕ)). Ok (get_or l s zero_sector)) (image_at state devices c.args.leaf x (leaf-there g.D.BlockDev.state c.args.devices.now c.args.config.now c.args.leaf c.args.first c.args.out.now c.requires.sound c.requires.fits) (steady_at state devices c.args.leaf x (leaf-there g.D.BlockDev.state c.args.devices.now c.args.config.now c.args.leaf c.args.first c.args.out.now c.requires.sound c.requires.fits) (leaf-stands c.args.config.now c.args.leaf) steady)))
-          (omega (arith, size, whole.length, c.requires.fits.holds))
-          ∙ ap Ok (sym (c.in-Ok.ensures.bytes (steady_at state devices c.args.leaf x (leaf-there g.D.BlockDev.state c.args.devices.now c.args.config.now c.args.leaf c.args.first c.args.out.now c.requires.sound c.requires.fits) (leaf-stands c.args.config.now c.args.leaf) steady)));
+    let moved = AreRead-more (leaf_cost config leaf n) (AreRead-device state devices leaf x there _ _ c.read.new.self some (omega (arith, kept.failures)) kept) in
+    record {
+      got = λ found. record {
+        moved = moved;
+        may = leaf-run (λ s. (said_at config (Leaf leaf) s).may found) c.args.first n c.read.new.out (omega (arith, c.read.auto.out, c.requires.fits.sectors.whole))
+            (λ s bytes h. subst (λ (x : Said). x.may found bytes) (sym (said_at-leaf config leaf s)) h);
+        exact = λ steady.
+            let here = steady_at state devices leaf x there (leaf-stands config leaf) steady in
+            span_image _ old.image c.args.first n
+            (λ s. ap (λ (x : Said). x.means (steady_images (map state devices))) (said_at-leaf config leaf s) ∙ ap (λ (l : List (List ℕ)). Ok (get_or l s zero_sector)) (image_at state devices leaf x there here))
+            (omega (arith, size, whole.length, c.requires.fits.holds))
+            ∙ ap Ok (sym (c.in-Ok.ensures.bytes here));
+      };
+      plain = leaf-plain state devices leaf config c.args.first n some c.read.new.self _ (λ e. cc) tt;
+      touches = leaf-asked state devices leaf config c.read.new.self _ tt (leaf-ends state devices leaf x there c.read.new.self {A = Unit {0}} tt kept.failures);
     }
 
-pub returns-in-Err-clause-got : goal.returns-in-Err-clause-got
-returns-in-Err-clause-got g c =
+pub returns-in-Err : goal.returns-in-Err
+returns-in-Err g c =
     let state = g.D.BlockDev.state in
+    let config = c.args.config.now in
     let devices = c.args.devices.now in
+    let leaf = c.args.leaf in
     let x = c.index-devices-leaf.result in
-    let n = length c.args.out.now / 512 in
+    let n : ℕ = length c.args.out.now / 512 in
+    let some : 0 < n = omega (arith, c.requires.fits.sectors.some, c.requires.fits.sectors.whole) in
+    let there = leaf-there state devices config leaf c.args.first c.args.out.now c.requires.sound c.requires.fits in
     let kept = c.in-Err.ensures.moved in
-    let failed = LeafFailed-device state devices c.args.leaf x (leaf-there g.D.BlockDev.state c.args.devices.now c.args.config.now c.args.leaf c.args.first c.args.out.now c.requires.sound c.requires.fits) c.read.new.self c.in-Err.ensures.fault (λ never. let clash = c.in-Err.ensures.sure never in cc) in
-    let number : c.args.leaf ≡ c.args.leaf + 1 - 1 = omega arith in
-    λ found. record {
-      moved = AreRead-more (leaf_cost c.args.config.now c.args.leaf n) (AreRead-device state devices c.args.leaf x (leaf-there g.D.BlockDev.state c.args.devices.now c.args.config.now c.args.leaf c.args.first c.args.out.now c.requires.sound c.requires.fits) _ _ c.read.new.self (omega (arith, c.requires.fits.sectors.some, c.requires.fits.sectors.whole)) (grows _ _ n kept c.in-Err.ensures.fault) kept);
-      may = (omega arith, subst (λ (i : ℕ). LeafFailed i (map state devices) (map state (set devices c.args.leaf c.read.new.self))) number failed);
-      exact = λ steady. tt;
+    let failed = LeafFailed-device state devices leaf x there c.read.new.self c.in-Err.ensures.fault (λ never. let clash = c.in-Err.ensures.sure never in cc) in
+    let number : leaf ≡ leaf + 1 - 1 = omega arith in
+    record {
+      got = λ found. record {
+        moved = AreRead-more (leaf_cost config leaf n) (AreRead-device state devices leaf x there _ _ c.read.new.self some (grows _ _ n kept c.in-Err.ensures.fault) kept);
+        may = (omega arith, subst (λ (i : ℕ). LeafFailed i (map state devices) (map state (set devices leaf c.read.new.self))) number failed);
+        exact = λ steady. tt;
+      };
+      plain = leaf-plain state devices leaf config c.args.first n some c.read.new.self _ (λ e. cc) (leaf-stops state devices leaf config c.args.first n some c.read.new.self);
+      touches = leaf-asked state devices leaf config c.read.new.self _ (leaf-named config leaf) (leaf-fails state devices leaf x there c.read.new.self (Unit {0}) kept.failures);
     }
-
--- the other leaves stay
-pub returns-in-Ok-clause-plain : goal.returns-in-Ok-clause-plain
-returns-in-Ok-clause-plain g c =
-    let n : ℕ = length c.args.out.now / 512 in
-    leaf-plain g.D.BlockDev.state c.args.devices.now c.args.leaf c.args.config.now c.args.first n (omega (arith, c.requires.fits.sectors.some, c.requires.fits.sectors.whole)) c.read.new.self _ (λ e. cc) tt
-
-pub returns-in-Err-clause-plain : goal.returns-in-Err-clause-plain
-returns-in-Err-clause-plain g c =
-    let n : ℕ = length c.args.out.now / 512 in
-    leaf-plain g.D.BlockDev.state c.args.devices.now c.args.leaf c.args.config.now c.args.first n (omega (arith, c.requires.fits.sectors.some, c.requires.fits.sectors.whole)) c.read.new.self _ (λ e. cc)
-    (leaf-stops g.D.BlockDev.state c.args.devices.now c.args.leaf c.args.config.now c.args.first n (omega (arith, c.requires.fits.sectors.some, c.requires.fits.sectors.whole)) c.read.new.self)
-
--- nor was another one touched
-pub returns-in-Ok-clause-touches : goal.returns-in-Ok-clause-touches
-returns-in-Ok-clause-touches g c =
-    let there = leaf-there g.D.BlockDev.state c.args.devices.now c.args.config.now c.args.leaf c.args.first c.args.out.now c.requires.sound c.requires.fits in
-    leaf-asked g.D.BlockDev.state c.args.devices.now c.args.leaf c.args.config.now c.read.new.self _ tt
-    (leaf-ends g.D.BlockDev.state c.args.devices.now c.args.leaf c.index-devices-leaf.result there c.read.new.self {A = Unit {0}} tt c.in-Ok.ensures.moved.failures)
-
-pub returns-in-Err-clause-touches : goal.returns-in-Err-clause-touches
-returns-in-Err-clause-touches g c =
-    let there = leaf-there g.D.BlockDev.state c.args.devices.now c.args.config.now c.args.leaf c.args.first c.args.out.now c.requires.sound c.requires.fits in
-    leaf-asked g.D.BlockDev.state c.args.devices.now c.args.leaf c.args.config.now c.read.new.self _ (leaf-named c.args.config.now c.args.leaf)
-    (leaf-fails g.D.BlockDev.state c.args.devices.now c.args.leaf c.index-devices-leaf.result there c.read.new.self (Unit {0}) c.in-Err.ensures.moved.failures)

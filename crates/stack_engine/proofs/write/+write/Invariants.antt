@@ -5,13 +5,10 @@ use Rattle.stack_lines.specs.Writing.{sectors_in, destination_of, source_destina
 use Rattle.stack_lines.specs.declared.source.Source.TheVariants.{Units}
 use Rattle.stack_lines.proofs.lemmas.WriteSourceLemmas.{EndsBefore}
 use Rattle.stack_lines.specs.Sources.{source_depth}
-use Rattle.stack_lines.specs.Caches.{KeepsCache}
-use Rattle.stack_lines.specs.Forgetting.{Forgets}
-use Rattle.stack_lines.specs.Touches.{leaves_of}
-use Rattle.stack_lines.specs.WriteBudgets.{Counter, CountsAtMost, write_budget, part_write_budget}
-use Rattle.stack_engine.specs.Uncut.{CutsNone, SourceCutsNone}
-use Rattle.stack_meaning.specs.Changes.{NoneRead}
 use Rattle.stack_engine.proofs.SpentLemmas.{IsCutBehind}
+use Rattle.stack_engine.specs.Backings.{backing_of}
+use Rattle.stack_engine.specs.WriteSteps.{write_to, IsWriteStep}
+use Rattle.stack_engine.proofs.WriteStepLemmas.{write_some}
 use Rattle.stack_engine.proofs.write.+write.Given as goal
 
 -- 8 times the depth and a rank, of which 0 to 4 are left for the steps of a target
@@ -32,22 +29,19 @@ invariant-write_device-loop-at g l = record {
   within : l.at ≤ length (l.plain ++ l.fn.buffer);
   rest : drop l.at l.buffer ≡ drop l.at l.fn.buffer;
   so_far : WritesSectors (destination_of l.config (mapped l.d.0)) l.first (sectors_in (take l.at (l.plain ++ l.fn.buffer))) (map g.D.BlockDev.state l.fn.backing.devices.items) (map g.D.BlockDev.state l.backing.devices.items) (Ok tt);
-  uncut : CutsNone l.config (mapped l.d.0) l.first (length (l.plain ++ l.fn.buffer) / 512) → NoneRead (map g.D.BlockDev.state l.fn.backing.devices.items) (map g.D.BlockDev.state l.backing.devices.items);
-  paid : (k : Counter) → CountsAtMost k (write_budget l.config k (mapped l.d.0) l.first (l.at / 512)) (map g.D.BlockDev.state l.fn.backing.devices.items) (map g.D.BlockDev.state l.backing.devices.items);
+  step : IsWriteStep l.config (write_some l.config l.d.0 l.first (l.at / 512) (length (l.plain ++ l.fn.buffer) / 512)) (backing_of g.D.BlockDev.state l.fn.backing) (backing_of g.D.BlockDev.state l.backing);
   cut : IsCutBehind l.config l.d.0 l.first (l.at / 512) (length (l.plain ++ l.fn.buffer) / 512);
   ends : EndsBefore l.config l.d.0 (l.first + l.at / 512) (take l.at (l.plain ++ l.fn.buffer)) ⊎ (l.at ≡ length (l.plain ++ l.fn.buffer));
-  forgets : Forgets l.config (leaves_of l.config (mapped l.d.0)) (map g.D.BlockDev.state l.fn.backing.devices.items) (map g.D.BlockDev.state l.backing.devices.items) l.fn.backing.cache.blocks.blocks l.backing.cache.blocks.blocks;
-  cached : KeepsCache l.config (map g.D.BlockDev.state l.backing.devices.items) l.fn.backing.cache l.backing.cache;
 }
 
 abbrev pub decreases-write_device-loop-at : goal.decreases-write_device-loop-at
 decreases-write_device-loop-at g l = l.initial.len - l.at
 
 abbrev pub decreases-write_unit_part : goal.decreases-write_unit_part
-decreases-write_unit_part g l = 8 * depth l.config.now (mapped l.part.device.0) + 4
+decreases-write_unit_part g l = 8 * (depth l.config.now l.part.lower + 1) + 4
 
 abbrev pub decreases-write_units : goal.decreases-write_units
-decreases-write_units g l = 8 * depth l.config.now (mapped l.part.device.0) + 3
+decreases-write_units g l = 8 * (depth l.config.now l.part.lower + 1) + 3
 
 -- the units so far are written, and the others are encrypted
 abbrev pub invariant-write_units-loop-at : goal.invariant-write_units-loop-at
@@ -55,11 +49,8 @@ invariant-write_units-loop-at g l = record {
   even : l.at % l.size ≡ 0;
   within : l.at ≤ length l.fn.units;
   rest : drop l.at l.units ≡ drop l.at l.initial.units;
-  uncut : SourceCutsNone l.config (Units l.fn.part) (length l.fn.units / 512) → NoneRead (map g.D.BlockDev.state l.fn.backing.devices.items) (map g.D.BlockDev.state l.backing.devices.items);
-  paid : (k : Counter) → CountsAtMost k (part_write_budget l.config k l.fn.part (l.at / 512)) (map g.D.BlockDev.state l.fn.backing.devices.items) (map g.D.BlockDev.state l.backing.devices.items);
-  forgets : Forgets l.config (leaves_of l.config (mapped l.fn.part.device.0)) (map g.D.BlockDev.state l.fn.backing.devices.items) (map g.D.BlockDev.state l.backing.devices.items) l.fn.backing.cache.blocks.blocks l.backing.cache.blocks.blocks;
+  step : IsWriteStep l.config (write_to l.config (Units l.fn.part) (l.at / 512)) (backing_of g.D.BlockDev.state l.fn.backing) (backing_of g.D.BlockDev.state l.backing);
   so_far : WritesSectors (source_destination l.config (Units l.fn.part)) 0 (sectors_in (take l.at l.fn.units)) (map g.D.BlockDev.state l.fn.backing.devices.items) (map g.D.BlockDev.state l.backing.devices.items) (Ok tt);
-  cached : KeepsCache l.config (map g.D.BlockDev.state l.backing.devices.items) l.fn.backing.cache l.backing.cache;
 }
 
 abbrev pub decreases-write_units-loop-at : goal.decreases-write_units-loop-at

@@ -3,7 +3,7 @@ use Rattle.stack_meaning.specs.Meaning.{said_at}
 use Rattle.stack_lines.specs.Sources.{source_said}
 use Rattle.stack_extents.specs.Extents.{IgnoresZeros, SourceIgnores}
 use Rattle.stack_lines.proofs.lemmas.SourceLemmas.{served-depth, served-holds}
-use Rattle.stack_extents.proofs.ExtentLemmas.{zeros-extent, unknown-extent, block-line, blocks-line, below-extent, device-extent}
+use Rattle.stack_extents.proofs.ExtentLemmas.{zeros-extent, unknown-extent, below-extent, device-extent}
 use Rattle.stack_extents.proofs.extent.+extent.Goals as goal
 
 pub device_extent-source_extent-requires : goal.device_extent-source_extent-requires
@@ -29,12 +29,6 @@ source_extent-returns-in-Below t c =
 
 pub lower_extent-returns-in-Device : goal.lower_extent-returns-in-Device
 lower_extent-returns-in-Device t c = rw c.in-Device.is c.device_extent.ensures
-
-pub source_extent-verity_extent-requires-clause-line : goal.source_extent-verity_extent-requires-clause-line
-source_extent-verity_extent-requires-clause-line t c = block-line c.args.config.now c.in-Block.part c.args.most (rw c.in-Block.is at c.requires.inside)
-
-pub source_extent-verity_extent-requires-in-Blocks-clause-line : goal.source_extent-verity_extent-requires-in-Blocks-clause-line
-source_extent-verity_extent-requires-in-Blocks-clause-line t c = blocks-line c.args.config.now c.in-Blocks.part c.args.most (rw c.in-Blocks.is at c.requires.inside)
 
 pub source_extent-returns-in-Block : goal.source_extent-returns-in-Block
 source_extent-returns-in-Block t c = rw c.in-Block.is c.verity_extent.ensures

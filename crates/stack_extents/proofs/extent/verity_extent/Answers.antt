@@ -4,9 +4,8 @@ use Rattle.stack_extents.specs.Extents.{SourceIgnores}
 use Rattle.stack_extents.proofs.ExtentLemmas.{ignoring-extent, unknown-extent}
 use Rattle.stack_extents.proofs.extent.verity_extent.Goals as goal
 
-pub returns-then-verity : goal.returns-then-verity
-returns-then-verity c =
-    ignoring-extent c.args.config.now c.args.part c.args.most c.requires.some (record { verity = c.verity_at-verity.result.now; is = c.verity_at-verity.ensures; ignores = c.if-verity.true })
+pub returns-then-part : goal.returns-then-part
+returns-then-part c = ignoring-extent c.args.config.now c.args.part c.args.most c.requires c.if-part.true
 
 pub returns : goal.returns
-returns c = unknown-extent (source_said c.args.config.now (Block c.args.part)) (SourceIgnores c.args.config.now (Block c.args.part)) 0 c.args.most c.requires.some
+returns c = unknown-extent (source_said c.args.config.now (Block c.args.part)) (SourceIgnores c.args.config.now (Block c.args.part)) 0 c.args.most c.requires

@@ -7,8 +7,7 @@ use Rattle.stack_lines.specs.AtOnce.{MeetNone}
 use Rattle.stack_lines.specs.Sources.{source_said}
 use Rattle.stack_meaning.proofs.lemmas.LoadedLemmas.{size-small}
 use Rattle.stack_lines.proofs.lemmas.SourceLemmas.{served-depth, served-holds}
-use Rattle.stack_lines.proofs.lemmas.UnitLineLemmas.{unit-line-on}
-use Rattle.stack_lines.proofs.lemmas.UnitSourceLemmas.{units-inside, units-clear}
+use Rattle.stack_lines.proofs.lemmas.UnitSourceLemmas.{units-clear}
 use Rattle.stack_lines.proofs.ClearLemmas.{leaf-clear, below-clear, clear-more}
 use Rattle.stack_lines.proofs.clear.+clear.Goals as goal
 
@@ -51,22 +50,16 @@ pub run_is_clear-returns-in-Units : goal.run_is_clear-returns-in-Units
 run_is_clear-returns-in-Units t c sure =
     subst (λ (s : Source). MeetNone (source_said c.args.config.now s) 0 c.args.count) (sym c.in-Units.is) (c.units_are_clear.ensures sure)
 
+pub units_are_clear-unit_at-unit-requires : goal.units_are_clear-unit_at-unit-requires
+units_are_clear-unit_at-unit-requires t c = let small = size-small c.args.config.now c.args.part.lower c.requires.loaded in omega (arith, small, c.requires.inside.inside)
+
 pub units_are_clear-lower_is_clear-requires : goal.units_are_clear-lower_is_clear-requires
-units_are_clear-lower_is_clear-requires t c =
-    let config = c.args.config.now in
-    let p = c.args.part in
-    let crypt = c.crypt_at-crypt.result.now in
-    let unit = c.unit_at-unit in
-    let line = unit-line-on config p.device.0 p.line 0 crypt c.requires.loaded c.crypt_at-crypt.ensures unit.result.lower unit.ensures.lower in
-    let inside = units-inside config p.device.0 p.line p.first c.args.count crypt c.requires.loaded c.crypt_at-crypt.ensures c.requires.inside unit.result.lower unit.ensures.lower in
-    (omega (arith, line.crypt_line.shallower), (c.requires.loaded, omega (arith, inside, unit.ensures.first)))
+units_are_clear-lower_is_clear-requires t c = (omega arith, (c.requires.loaded, omega (arith, c.requires.inside.inside, c.unit_at-unit.ensures.first)))
 
 pub units_are_clear-returns : goal.units_are_clear-returns
 units_are_clear-returns t c sure =
-    let config = c.args.config.now in
-    let unit = c.unit_at-unit in
-    units-clear config c.args.part c.args.count c.crypt_at-crypt.result.now c.requires.loaded c.crypt_at-crypt.ensures c.requires.inside unit.result.lower unit.ensures.lower
-    (subst (λ (k : ℕ). MeetNone (said_at config unit.result.lower) k c.args.count) unit.ensures.first (c.lower_is_clear.ensures sure))
+    units-clear c.args.config.now c.args.part c.args.count c.requires.inside
+    (subst (λ (k : ℕ). MeetNone (said_at c.args.config.now c.args.part.lower) k c.args.count) c.unit_at-unit.ensures.first (c.lower_is_clear.ensures sure))
 
 pub device_is_clear-returns : goal.device_is_clear-returns
 device_is_clear-returns t c sure =

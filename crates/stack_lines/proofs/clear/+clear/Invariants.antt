@@ -18,7 +18,7 @@ abbrev pub decreases-run_is_clear : goal.decreases-run_is_clear
 decreases-run_is_clear l = 8 * source_depth l.config.now l.source + 5
 
 abbrev pub decreases-units_are_clear : goal.decreases-units_are_clear
-decreases-units_are_clear l = 8 * depth l.config.now (mapped l.part.device.0) + 3
+decreases-units_are_clear l = 8 * (depth l.config.now l.part.lower + 1) + 3
 
 -- none so far
 abbrev pub invariant-device_is_clear-loop-at : goal.invariant-device_is_clear-loop-at

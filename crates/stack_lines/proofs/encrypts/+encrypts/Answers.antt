@@ -3,7 +3,7 @@ use Rattle.stack_rules.specs.declared.lower.Lower.{Lower}
 use Rattle.stack_rules.specs.Names.{mapped}
 use Rattle.stack_lines.specs.declared.source.Source.{Source}
 use Rattle.stack_meaning.specs.Meaning.{said_at}
-use Rattle.stack_lines.specs.Sources.{source_said, SourceHolds}
+use Rattle.stack_lines.specs.Sources.{source_said}
 use Rattle.stack_lines.specs.Writing.{SomeEncrypt}
 use Rattle.stack_meaning.proofs.lemmas.LoadedLemmas.{size-small}
 use Rattle.stack_lines.proofs.lemmas.SourceLemmas.{served-depth, served-holds}
@@ -59,26 +59,22 @@ pub run_encrypts-returns-in-Block : goal.run_encrypts-returns-in-Block
 run_encrypts-returns-in-Block t c =
     let config = c.args.config.now in
     let none : SomeEncrypt (source_said config c.args.source) 0 c.args.count → ⊥ =
-    subst (λ (s : Source). SomeEncrypt (source_said config s) 0 c.args.count → ⊥) (sym c.in-Block.is) (block-encrypts config c.in-Block.field-0 c.args.count (subst (λ (s : Source). SourceHolds config s c.args.count) c.in-Block.is c.requires.inside)) in
+    subst (λ (s : Source). SomeEncrypt (source_said config s) 0 c.args.count → ⊥) (sym c.in-Block.is) (block-encrypts config c.in-Block.field-0 c.args.count) in
     (λ yes. cc, λ some. absurd (none some))
 
 pub run_encrypts-returns-in-Blocks : goal.run_encrypts-returns-in-Blocks
 run_encrypts-returns-in-Blocks t c =
     let config = c.args.config.now in
     let none : SomeEncrypt (source_said config c.args.source) 0 c.args.count → ⊥ =
-    subst (λ (s : Source). SomeEncrypt (source_said config s) 0 c.args.count → ⊥) (sym c.in-Blocks.is) (blocks-encrypt config c.in-Blocks.field-0 c.args.count (subst (λ (s : Source). SourceHolds config s c.args.count) c.in-Blocks.is c.requires.inside)) in
+    subst (λ (s : Source). SomeEncrypt (source_said config s) 0 c.args.count → ⊥) (sym c.in-Blocks.is) (blocks-encrypt config c.in-Blocks.field-0 c.args.count) in
     (λ yes. cc, λ some. absurd (none some))
 
 pub run_encrypts-returns-in-Units : goal.run_encrypts-returns-in-Units
 run_encrypts-returns-in-Units t c =
     let config = c.args.config.now in
-    let b = c.in-Units.field-0 in
-    let inside = subst (λ (s : Source). SourceHolds config s c.args.count) c.in-Units.is c.requires.inside in
-    (λ yes. subst (λ (s : Source). SomeEncrypt (source_said config s) 0 c.args.count) (sym c.in-Units.is) (units-some config b c.args.count inside c.requires.some), λ some. refl)
+    (λ yes. subst (λ (s : Source). SomeEncrypt (source_said config s) 0 c.args.count) (sym c.in-Units.is) (units-some config c.in-Units.field-0 c.args.count c.requires.some), λ some. refl)
 
 pub run_encrypts-returns-in-UnitPart : goal.run_encrypts-returns-in-UnitPart
 run_encrypts-returns-in-UnitPart t c =
     let config = c.args.config.now in
-    let b = c.in-UnitPart.field-0 in
-    let inside = subst (λ (s : Source). SourceHolds config s c.args.count) c.in-UnitPart.is c.requires.inside in
-    (λ yes. subst (λ (s : Source). SomeEncrypt (source_said config s) 0 c.args.count) (sym c.in-UnitPart.is) (unit_part-some config b c.args.count inside c.requires.some), λ some. refl)
+    (λ yes. subst (λ (s : Source). SomeEncrypt (source_said config s) 0 c.args.count) (sym c.in-UnitPart.is) (unit_part-some config c.in-UnitPart.field-0 c.args.count c.requires.some), λ some. refl)

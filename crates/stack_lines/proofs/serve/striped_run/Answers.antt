@@ -24,30 +24,30 @@ small c d l chunk bases w n base loaded g t some is =
 
 pub overflow_add-first : goal.overflow_add-first
 overflow_add-first c =
-    let all = small c.args.config.now c.args.from.device.0 c.args.from.line c.args.chunk c.args.bases.now c.args.from.first c.args.count c.index-bases-stripe.result c.requires.loaded c.requires.grammar c.requires.line.has c.requires.line.some c.index-bases-stripe.is in
+    let all = small c.args.config.now c.args.at.0.0 c.args.at.1 c.args.chunk c.args.bases.now c.args.within c.args.count c.index-bases-stripe.result c.requires.loaded c.requires.grammar c.requires.line.has c.requires.line.some c.index-bases-stripe.is in
     omega (arith, all)
 
 pub overflow_add-first-2 : goal.overflow_add-first-2
 overflow_add-first-2 c =
-    let all = small c.args.config.now c.args.from.device.0 c.args.from.line c.args.chunk c.args.bases.now c.args.from.first c.args.count c.index-bases-stripe.result c.requires.loaded c.requires.grammar c.requires.line.has c.requires.line.some c.index-bases-stripe.is in
+    let all = small c.args.config.now c.args.at.0.0 c.args.at.1 c.args.chunk c.args.bases.now c.args.within c.args.count c.index-bases-stripe.result c.requires.loaded c.requires.grammar c.requires.line.has c.requires.line.some c.index-bases-stripe.is in
     omega (arith, all)
 
 pub lower-lower-requires-clause-device : goal.lower-lower-requires-clause-device
 lower-lower-requires-clause-device c =
-    let line = c.requires.line.has in device-there c.args.config.now c.args.from.device.0 c.args.from.line line.line line.is
+    let line = c.requires.line.has in device-there c.args.config.now c.args.at.0.0 c.args.at.1 line.line line.is
 
 pub returns : goal.returns
 returns c = record {
   come =
-      let part : c.args.from.first % c.args.chunk < c.args.chunk = mod_below c.args.from.first c.args.chunk (omega (arith, c.requires.grammar.chunk_some)) in
+      let part : c.args.within % c.args.chunk < c.args.chunk = mod_below c.args.within c.args.chunk (omega (arith, c.requires.grammar.chunk_some)) in
       let count = c.min-count.ensures in (
         tt,
-        striped-lies c.args.config.now c.args.from.device.0 c.args.from.line c.args.chunk c.args.bases.now c.args.from.first c.args.count c.requires.loaded c.requires.grammar c.requires.line.has c.index-bases-stripe.result
-            (base_at c.args.bases.now (c.args.from.first / c.args.chunk) c.index-bases-stripe.result c.requires.grammar.some c.index-bases-stripe.is)
+        striped-lies c.args.config.now c.args.at.0.0 c.args.at.1 c.args.chunk c.args.bases.now c.args.within c.args.count c.requires.loaded c.requires.grammar c.requires.line.has c.index-bases-stripe.result
+            (base_at c.args.bases.now (c.args.within / c.args.chunk) c.index-bases-stripe.result c.requires.grammar.some c.index-bases-stripe.is)
             c.min-count.result (omega (arith, count, part, c.requires.line.some)) (omega (arith, count)) (omega (arith, count, part)) c.lower-lower.result c.lower-lower.ensures,
-        λ j h. part-more c.args.chunk c.args.from.first j (omega (arith, h, count, part)),
+        λ j h. part-more c.args.chunk c.args.within j (omega (arith, h, count, part)),
       );
-  some = omega (arith, c.min-count.ensures, c.requires.line.some, mod_below c.args.from.first c.args.chunk (omega (arith, c.requires.grammar.chunk_some)));
+  some = omega (arith, c.min-count.ensures, c.requires.line.some, mod_below c.args.within c.args.chunk (omega (arith, c.requires.grammar.chunk_some)));
   most = omega (arith, c.min-count.ensures);
-  longest = part-longest c.args.chunk c.args.from.first c.args.count c.min-count.result (omega (arith, c.requires.grammar.chunk_some)) c.requires.line.some c.min-count.ensures;
+  longest = part-longest c.args.chunk c.args.within c.args.count c.min-count.result (omega (arith, c.requires.grammar.chunk_some)) c.requires.line.some c.min-count.ensures;
 }

@@ -2,6 +2,7 @@ use Rattle.std.proofs.Common.{◌≡◌, ◌+◌, ◌-◌, ◌*◌, ◌/◌, ◌
 use Rattle.std.proofs.lemmas.Nat.{div-add-mod', mod-mul-add, mod_below}
 use Rattle.stack_rules.specs.Units.{unit_sectors}
 use Rattle.stack_lines.proofs.StripeLemmas.{part-ends}
+use Rattle.stack_lines.proofs.lemmas.UnitLineLemmas.{unit-line-on}
 use Rattle.stack_rules.proofs.lemmas.UnitLemmas.{unit_sectors-some}
 use Rattle.stack_meaning.proofs.lemmas.UnitLemmas.{unit-more}
 use Rattle.stack_lines.proofs.serve.units_run.Goals as goal
@@ -13,32 +14,28 @@ whole-count u count some =
     ap (λ (k : ℕ). k % u) all ∙ mod-mul-add (count / u) u 0 some
 
 pub returns : goal.returns
-returns c = record {
-  come =
-      let crypt = c.args.crypt.now in
-      let u : ℕ = unit_sectors crypt in
-      let few : c.from-sectors.result ≡ u = c.from-sectors.ensures ∙ c.unit_sectors-few.ensures.value in
-      let line = c.requires.line in (
-        (refl, refl, refl),
+returns c =
+    let x = c.args.part in
+    let u : ℕ = unit_sectors x.crypt.now in
+    let few : c.from-sectors.result ≡ u = c.from-sectors.ensures ∙ c.unit_sectors-few.ensures.value in
+    let some : 0 < u = omega (arith, unit_sectors-some x.crypt.now) in
+    let n : ℕ = c.args.count - c.args.count % c.from-sectors.result in
+    let whole : n % u ≡ 0 = ap (λ (k : ℕ). (c.args.count - c.args.count % k) % u) few ∙ whole-count u c.args.count some in
+    let low = mod_below c.args.count c.from-sectors.result (omega (arith, few, some)) in
+    let line = unit-line-on c.args.config.now c.args.at.0.0 c.args.at.1 (x.first + c.args.count) x.crypt.now c.requires.loaded c.requires.line x.lower c.requires.part.named in
+    record {
+      come = (
+        refl,
+        refl,
         record {
-          crypt = crypt;
-          has = record { line = line.line; is = line.is; has = line.has; fits = omega (arith, line.fits) };
+          of = c.requires.part;
           aligned = c.requires.aligned;
-          whole = ap (λ (k : ℕ). (c.args.count - c.args.count % k) % u) few ∙ whole-count u c.args.count (omega (arith, unit_sectors-some crypt));
+          whole = whole;
+          inside = omega (arith, line.crypt_line.inside, c.requires.line.fits, div-add-mod' x.first u, c.requires.aligned);
+          small = omega (arith, line.crypt_line.small, c.requires.line.fits);
         },
       );
-  some =
-      let few : c.from-sectors.result ≡ unit_sectors c.args.crypt.now = c.from-sectors.ensures ∙ c.unit_sectors-few.ensures.value in
-      omega (arith, few, c.requires.enough, mod_below c.args.count c.from-sectors.result (omega (arith, few, unit_sectors-some c.args.crypt.now)));
-  most = omega (arith);
-  longest =
-      let crypt = c.args.crypt.now in
-      let u : ℕ = unit_sectors crypt in
-      let w : ℕ = c.args.within in
-      let few : c.from-sectors.result ≡ u = c.from-sectors.ensures ∙ c.unit_sectors-few.ensures.value in
-      let some : 0 < u = omega (arith, unit_sectors-some crypt) in
-      let n : ℕ = c.args.count - c.args.count % c.from-sectors.result in
-      let whole : n % u ≡ 0 = ap (λ (k : ℕ). (c.args.count - c.args.count % k) % u) few ∙ whole-count u c.args.count some in
-      let low = mod_below c.args.count c.from-sectors.result (omega (arith, few, some)) in
-      inr (part-ends u (w + n) some (omega (arith, few, c.requires.enough, low)) ((unit-more u w n some c.requires.aligned).1 ∙ whole));
-}
+      some = omega (arith, few, c.requires.enough, low);
+      most = omega (arith);
+      longest = inr (part-ends u (x.first + n) some (omega (arith, few, c.requires.enough, low)) ((unit-more u x.first n some c.requires.aligned).1 ∙ whole));
+    }

@@ -17,7 +17,7 @@ pub returns : goal.returns
 returns c =
     let v = c.args.verity.now in
     let tree = c.args.tree.now in
-    let size = data-whole c.args.config.now tree.device.0 tree.line 0 0 v c.requires.loaded c.requires.block.lies.is in
+    let size = data-whole c.args.config.now tree.device.0 tree.line v c.requires.loaded c.requires.block.lies.is in
     let room = data-inside c.args.config.now v tree c.requires.loaded c.requires.block.lies c.args.index c.requires.block.there in
     let same : c.from.result * c.args.index ≡ block_sectors v * c.args.index = ap (λ (k : ℕ). k * c.args.index) c.from.ensures in
     let at : ℕ → Extent = λ k. record { lower = tree.data; first = k; sectors = block_sectors v } in

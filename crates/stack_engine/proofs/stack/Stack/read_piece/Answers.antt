@@ -62,7 +62,7 @@ piece g c =
     let these = leaves_of config (mapped c.args.d.0) in
     let Names : Result AnswerRecord IoFault → Type 0 = λ r. IfErr r (NamesOneOf these) in
     let fault : Names c.match-read_device.result = elim c.match-read_device.branch [
-      | in-Err-read_device w ↦ subst Names (sym w.result-is) (subst (λ (r : Result Unit IoFault). IfErr r (NamesOneOf these)) w.in-Err-read_device.is c.read_device.ensures.touches.fault)
+      | in-Err-read_device w ↦ subst Names (sym w.result-is) (subst (λ (r : Result Unit IoFault). IfErr r (NamesOneOf these)) w.in-Err-read_device.is c.read_device.ensures.step.touches.fault)
       | in-Ok-read_device w ↦ subst Names (sym w.result-is) tt
     ] in
     let Alike : Result AnswerRecord IoFault → Type 0 = λ r. EndAlike r c.read_device.result in
@@ -71,10 +71,10 @@ piece g c =
       | in-Ok-read_device w ↦ subst Alike (sym w.result-is) (λ failures. sym (ap (λ (r : Result Unit IoFault). failures_behind r failures) w.in-Ok-read_device.is))
     ] in
     subst (λ (w : StackRecord). EachPiece w c.args.d.0 c.args.first c.args.n c.match-read_device.result (stack_with config new c.read_device.new.backing.cache.blocks)) c.self.view_is
-    (each-piece config c.args.d.0 c.args.first c.args.n c.match-read_device.result got (asks-as c.match-read_device.result fault alike c.read_device.ensures.touches) {before = c.self.inside.backing.cache.blocks} {after = c.read_device.new.backing.cache.blocks} c.read_device.ensures.cached.capacity)
+    (each-piece config c.args.d.0 c.args.first c.args.n c.match-read_device.result got (asks-as c.match-read_device.result fault alike c.read_device.ensures.step.touches) {before = c.self.inside.backing.cache.blocks} {after = c.read_device.new.backing.cache.blocks} c.read_device.ensures.step.cached.capacity)
 
 pub invariant_of-self : goal.invariant_of-self
-invariant_of-self g c = record { sound = piece-sound c.self.inside.config c.self.invariant.sound (reads g c).got.moved; cached = c.read_device.ensures.cached.sound }
+invariant_of-self g c = record { sound = piece-sound c.self.inside.config c.self.invariant.sound (reads g c).got.moved; cached = c.read_device.ensures.step.cached.sound }
 
 pub returns-clause-any : goal.returns-clause-any
 returns-clause-any g c = (piece g c).any
@@ -89,7 +89,7 @@ returns-clause-stops g c =
     let old = map state c.self.inside.backing.devices.items in
     let new = map state c.read_device.new.backing.devices.items in
     let said : ℕ → Said = said_at config (mapped c.args.d.0) in
-    let plain = subst (λ (n : ℕ). IsPlain said c.args.first n old new c.read_device.result) (count g c) c.read_device.ensures.plain in
+    let plain = subst (λ (n : ℕ). IsPlain said c.args.first n old new c.read_device.result) (count g c) c.read_device.ensures.step.plain in
     let Stops : Result AnswerRecord IoFault → Type 0 = λ r. ReadStops said c.args.first c.args.n old new r in
     let stops : (MeetVerity said c.args.first c.args.n → ⊥) → Stops c.match-read_device.result = λ none. elim c.match-read_device.branch [
       | in-Err-read_device w ↦ subst Stops (sym w.result-is) (subst (λ (r : Result Unit IoFault). ReadStops said c.args.first c.args.n old new r) w.in-Err-read_device.is (plain.stops none))
@@ -103,7 +103,7 @@ returns-in-Err-clause-stops g c = λ none counted. record { before = 0; failed =
 pub returns-clause-spent : goal.returns-clause-spent
 returns-clause-spent g c =
     let new = map g.D.BlockDev.state c.read_device.new.backing.devices.items in
-    let spent = subst (λ (n : ℕ). ReadsAtMost (budget c.self.inside.config (mapped c.args.d.0) c.args.first n) (map g.D.BlockDev.state c.self.inside.backing.devices.items) new) (count g c) c.read_device.ensures.spent in
+    let spent = subst (λ (n : ℕ). ReadsAtMost (budget c.self.inside.config (mapped c.args.d.0) c.args.first n) (map g.D.BlockDev.state c.self.inside.backing.devices.items) new) (count g c) c.read_device.ensures.step.spent in
     subst (λ (w : StackRecord). ReadsAtMost (budget w.config (mapped c.args.d.0) c.args.first c.args.n) w.leaves new) c.self.view_is spent
 
 pub returns-in-Err-clause-spent : goal.returns-in-Err-clause-spent
@@ -115,9 +115,9 @@ pub returns-clause-kept : goal.returns-clause-kept
 returns-clause-kept g c =
     let config = c.self.inside.config in
     let after : StackRecord = stack_with config (map g.D.BlockDev.state c.read_device.new.backing.devices.items) c.read_device.new.backing.cache.blocks in
-    let none_met = subst (λ (n : ℕ). (MeetVerity (said_at config (mapped c.args.d.0)) c.args.first n → ⊥) → c.read_device.new.backing.cache ≡ c.self.inside.backing.cache) (count g c) c.read_device.ensures.same in
+    let none_met = subst (λ (n : ℕ). (MeetVerity (said_at config (mapped c.args.d.0)) c.args.first n → ⊥) → c.read_device.new.backing.cache ≡ c.self.inside.backing.cache) (count g c) c.read_device.ensures.step.same in
     subst (λ (w : StackRecord). ReadKeeps w c.args.d.0 c.args.first c.args.n after) c.self.view_is
-    (record { same = λ none. ap (λ (k : StackCache). k.blocks.blocks) (none_met none); checked = cached-checked config c.read_device.ensures.cached.sound })
+    (record { same = λ none. ap (λ (k : StackCache). k.blocks.blocks) (none_met none); checked = cached-checked config c.read_device.ensures.step.cached.sound })
 
 pub returns-in-Err-clause-kept : goal.returns-in-Err-clause-kept
 returns-in-Err-clause-kept g c = record { same = λ none. refl; checked = subst AreChecked c.self.view_is (cached-checked c.self.inside.config c.self.invariant.cached) }

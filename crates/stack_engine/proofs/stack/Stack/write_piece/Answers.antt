@@ -34,7 +34,7 @@ piece g c =
     let state = g.D.BlockDev.state in
     let Is : List ℕ → Type 0 = λ b.
     WritesSectors (destination_of c.self.inside.config (mapped c.args.d.0)) c.args.first (sectors_in b) (map state c.self.inside.backing.devices.items) (map state c.write_device.new.backing.devices.items) c.write_device.result in
-    each-write c.args.d.0 c.args.first c.args.bytes.now c.write_device.result c.requires.piece refl c.write_device.ensures.cached.capacity (λ was. all-whole state g.met.D.BlockDev.whole c.write_device.new.backing.devices.items) c.write_device.ensures.forgets (subst Is (bytes_of g c) c.write_device.ensures.writes)
+    each-write c.args.d.0 c.args.first c.args.bytes.now c.write_device.result c.requires.piece refl c.write_device.ensures.step.cached.capacity (λ was. all-whole state g.met.D.BlockDev.whole c.write_device.new.backing.devices.items) c.write_device.ensures.step.forgets (subst Is (bytes_of g c) c.write_device.ensures.writes)
 
 -- of the stack as it was
 whole : (g : given.Over) (c : goal.After-drop-buffer g)
@@ -43,7 +43,7 @@ whole g c =
     subst (λ (w : StackRecord). EachWrite w c.args.d.0 c.args.first c.args.bytes.now c.write_device.result (stack_with c.self.inside.config (map g.D.BlockDev.state c.write_device.new.backing.devices.items) c.write_device.new.backing.cache.blocks)) c.self.view_is (piece g c)
 
 pub invariant_of-self : goal.invariant_of-self
-invariant_of-self g c = record { sound = write-sound c.self.inside.config c.self.invariant.sound (piece g c); cached = c.write_device.ensures.cached.sound }
+invariant_of-self g c = record { sound = write-sound c.self.inside.config c.self.invariant.sound (piece g c); cached = c.write_device.ensures.step.cached.sound }
 
 pub returns-clause-any : goal.returns-clause-any
 returns-clause-any g c = (whole g c).any
@@ -65,7 +65,7 @@ pub returns-clause-uncut : goal.returns-clause-uncut
 returns-clause-uncut g c =
     let state = g.D.BlockDev.state in
     let new = map state c.write_device.new.backing.devices.items in
-    let own = subst (λ (b : List ℕ). CutsNone c.self.inside.config (mapped c.args.d.0) c.args.first (length b / 512) → NoneRead (map state c.self.inside.backing.devices.items) new) (bytes_of g c) c.write_device.ensures.uncut in
+    let own = subst (λ (b : List ℕ). CutsNone c.self.inside.config (mapped c.args.d.0) c.args.first (length b / 512) → NoneRead (map state c.self.inside.backing.devices.items) new) (bytes_of g c) c.write_device.ensures.step.uncut in
     subst (λ (w : StackRecord). CutsNone w.config (mapped c.args.d.0) c.args.first (length c.args.bytes.now / 512) → NoneRead w.leaves new) c.self.view_is own
 
 pub returns-in-Err-clause-uncut : goal.returns-in-Err-clause-uncut
@@ -77,7 +77,7 @@ pays : (g : given.Over) (c : goal.After-drop-buffer g) (k : Counter)
 pays g c k =
     let state = g.D.BlockDev.state in
     let new = map state c.write_device.new.backing.devices.items in
-    let own = subst (λ (b : List ℕ). CountsAtMost k (write_budget c.self.inside.config k (mapped c.args.d.0) c.args.first (length b / 512)) (map state c.self.inside.backing.devices.items) new) (bytes_of g c) (c.write_device.ensures.paid k) in
+    let own = subst (λ (b : List ℕ). CountsAtMost k (write_budget c.self.inside.config k (mapped c.args.d.0) c.args.first (length b / 512)) (map state c.self.inside.backing.devices.items) new) (bytes_of g c) (c.write_device.ensures.step.paid k) in
     subst (λ (w : StackRecord). CountsAtMost k (write_budget w.config k (mapped c.args.d.0) c.args.first (length c.args.bytes.now / 512)) w.leaves new) c.self.view_is own
 
 pub returns-clause-wrote : goal.returns-clause-wrote
@@ -95,7 +95,7 @@ returns-in-Err-clause-needed g c = omega arith
 -- the blocks that are kept
 
 pub returns-clause-checked : goal.returns-clause-checked
-returns-clause-checked g c = cached-checked c.self.inside.config c.write_device.ensures.cached.sound
+returns-clause-checked g c = cached-checked c.self.inside.config c.write_device.ensures.step.cached.sound
 
 pub returns-in-Err-clause-checked : goal.returns-in-Err-clause-checked
 returns-in-Err-clause-checked g c = subst AreChecked c.self.view_is (cached-checked c.self.inside.config c.self.invariant.cached)
