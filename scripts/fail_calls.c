@@ -3,7 +3,7 @@
 // with EIO. `short` and `interrupted` count all of these but the syncs; such a call moves one byte, or is interrupted. `cut`
 // counts the calls that change files and folders, but positioned writes, and the process is killed before that one. The file
 // FAIL_MET then says which call it was, how many whole sectors positioned reads and writes had asked for, it included, and of
-// which file.
+// which file. With FAIL_CUT the program is killed in place of the call.
 #define _GNU_SOURCE
 #include <dlfcn.h>
 #include <errno.h>
@@ -64,6 +64,8 @@ static int is_the_call(const char *kind, const char *call, int fd) {
     if (!is_counted(kind))
         return 0;
     tell(call, path_of(fd));
+    if (getenv("FAIL_CUT"))
+        raise(SIGKILL);
     return 1;
 }
 

@@ -9,7 +9,7 @@ from protection import check_one_size, compared_parity, protect
 from replies import Json
 from stack import SECTOR
 from tables import digits_of
-from verity import (Superblock, bare_tree, check_sizes, dump_facts, format_images, read_superblock, spelled_uuid, survey,
+from verity import (Superblock, bare_tree, check_data, check_sizes, dump_facts, format_images, read_superblock, spelled_uuid, survey,
                     table_line, verify_images)
 from words import exactly, read_diff, read_fec, read_format, read_offset, read_partitions, read_table, read_verify
 
@@ -53,10 +53,13 @@ def run_format(options, words, files, _given, _features):
     is_bare, fec = b"no-superblock" in options, read_fec(options)
     if fec:
         check_one_size(*sizes)
-    if b"grow" in options:
-        files.make(paths[1])
     check_aligned(first, sizes[1])
+    if b"grow" in options:
+        check_data(files.image(paths[0], False), *sizes, blocks)
+        files.make(paths[1])
     data, image = two_images(files, paths, first, True)
+    if first and blocks is None and files.find(paths[0]) is files.find(paths[1]):
+        raise Stop(b"refused 34 DataOverlapsTree")
     if salt is None or uuid is None and not is_bare:
         if files.random is None:
             raise Drawn

@@ -132,17 +132,23 @@ def data_blocks(image, superblock):
     return [bytes(image[at:at + size]) for at in range(0, superblock.blocks * size, size)]
 
 
-def format_images(data, image, options, uuid, is_grown=False):
-    """Writes a tree to `image`, a bytearray, behind a superblock unless `uuid` is None; gives the root and the blocks."""
-    data_block, hash_block, blocks, salt = options
+def check_data(data, data_block, hash_block, blocks):
+    """How many blocks of the data a tree covers, of which there is a tree, and which lie there."""
     if blocks is None and data_block in BLOCK_SIZES:
         blocks = len(data) // 512 // (data_block // 512)
     if not has_shape(data_block, hash_block, blocks):
         raise ImageFault("Shape", FORMAT_FAULTS)
+    if Tree(data_block, hash_block, blocks).data_sectors() > len(data) // 512:
+        raise ImageFault("DataTooSmall", FORMAT_FAULTS)
+    return blocks
+
+
+def format_images(data, image, options, uuid, is_grown=False):
+    """Writes a tree to `image`, a bytearray, behind a superblock unless `uuid` is None; gives the root and the blocks."""
+    data_block, hash_block, blocks, salt = options
+    blocks = check_data(data, data_block, hash_block, blocks)
     begin = 0 if uuid is None else 1
     tree = Tree(data_block, hash_block, blocks, begin)
-    if tree.data_sectors() > len(data) // 512:
-        raise ImageFault("DataTooSmall", FORMAT_FAULTS)
     needed = (begin + sum(tree.levels)) * hash_block // 512
     if is_grown:
         image.extend(bytes(max(0, needed * 512 - len(image))))

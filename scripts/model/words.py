@@ -12,9 +12,10 @@ END_OF_PARTS = 2**55
 TREE = (b"data-block", b"hash-block", b"blocks", b"salt")
 # The options of each command, and those of them without a value.
 OPTIONS = {
-    "format": (*TREE, b"uuid", b"hash-offset", b"no-superblock", b"grow", b"progress", b"fec", b"fec-roots"),
+    "format": (*TREE, b"uuid", b"hash-offset", b"no-superblock", b"grow", b"progress", b"fec", b"fec-roots",
+               b"pin"),
     "verify": (*TREE, b"hash-offset", b"root-hash-file", b"no-superblock", b"all", b"json", b"progress",
-               b"fec", b"fec-roots"),
+               b"fec", b"fec-roots", b"pin"),
     "dump": (b"hash-offset", b"json"),
     "table": (*TREE, b"hash-offset", b"root-hash-file", b"name", b"no-superblock"),
     "repair": (b"hash-offset", b"root-hash-file", b"check", b"fec", b"fec-roots"),
@@ -209,11 +210,21 @@ def read_repair(options, words):
     return data_path, hash_path, root, read_offset(options), copies, read_fec(options)
 
 
+def check_pin(options):
+    """A pin's path isn't empty and no `-`, and pinned are images with a superblock and without parity."""
+    if b"pin" not in options:
+        return
+    others = (b"no-superblock", b"fec", b"fec-roots", b"all", b"json", b"root-hash-file")
+    if options[b"pin"] in (b"", b"-") or any(name in options for name in others):
+        raise Usage
+
+
 def read_format(options, words):
     """DATA, HASH, the sizes, the identifier or None, and the place."""
     if b"no-superblock" in options and b"uuid" in options:
         raise Usage
     uuid = uuid_of(options[b"uuid"]) if b"uuid" in options else None
+    check_pin(options)
     read_fec(options)
     return *exactly(words, 2), read_sizes(options), uuid, read_offset(options)
 
@@ -223,6 +234,7 @@ def read_verify(options, words):
     check_tree_values(options, (b"salt",))
     if b"json" in options and b"all" not in options or b"no-superblock" in options and b"all" in options:
         raise Usage
+    check_pin(options)
     (data_path, hash_path), rest = at_least(words, 2)
     root, rest = said_root(options, rest)
     exactly(rest, 0)

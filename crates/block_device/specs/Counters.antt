@@ -1,5 +1,5 @@
 -- Counters fit in 64 bits.
-use Rattle.std.specs.Prelude.{ℕ, ◌+◌, ◌-◌, ◌^◌, ◌≤◌, Bool, min}
+use Rattle.std.specs.Prelude.{ℕ, ◌+◌, ◌-◌, ◌^◌, ◌≤◌, Bool}
 use Rattle.std.proofs.Common.{arith}
 use Rattle.block_device.specs.Device.{CountersFit, Device, capped}
 use Rattle.block_device.specs.Failing.{failing}

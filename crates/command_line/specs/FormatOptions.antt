@@ -39,6 +39,7 @@ pub record OptionTexts : Type 0 where
   pub map : Option (List ℕ)
   pub fec : Option (List ℕ)
   pub fec_roots : Option (List ℕ)
+  pub pin : Option (List ℕ)
   pub all : Bool
   pub stack : Bool
   pub no_superblock : Bool
@@ -73,6 +74,7 @@ option_texts words = record {
   map = text_of words.map;
   fec = text_of words.fec;
   fec_roots = text_of words.fec_roots;
+  pin = text_of words.pin;
   all = words.all;
   stack = words.stack;
   no_superblock = words.no_superblock;

@@ -1,5 +1,5 @@
 -- The commands that take more than the first version's.
-use Rattle.std.specs.Prelude.{ℕ, List, [], ◌∷◌, codes, Option, None, Some, option_map, if◌then◌else◌}
+use Rattle.std.specs.Prelude.{ℕ, List, [], ◌∷◌, codes, Option, None, Some, is_some, option_map, ◌||◌, if◌then◌else◌}
 use Rattle.std.specs.Str.{bytes_eq}
 use Rattle.command_line.specs.FormatOptions.{OptionTexts, text_of}
 use Rattle.command_line.specs.words.Cat.{CatRecord, cat_record, cat_said}
@@ -13,6 +13,8 @@ use Rattle.command_line.specs.words.Store.{StoreRecord, store_record, store_said
 use Rattle.command_line.specs.FurtherWords.{has_fec_value}
 use Rattle.command_line.specs.words.FecFormat.{FecFormatRecord, fec_format_record, fec_format_said}
 use Rattle.command_line.specs.words.FecVerify.{FecVerifyRecord, fec_verify_record, fec_verify_said}
+use Rattle.command_line.specs.words.PinFormat.{PinFormatRecord, pin_format_record, pin_format_said}
+use Rattle.command_line.specs.words.PinVerify.{PinVerifyRecord, pin_verify_record, pin_verify_said}
 use Rattle.command_line.specs.words.Format.{FormatRecord, format_record, format_said}
 use Rattle.command_line.specs.words.Verify.{VerifyRecord, verify_record, verify_said}
 use Rattle.command_line.specs.words.Dump.{DumpRecord, dump_record, dump_said}
@@ -23,7 +25,7 @@ use Rattle.command_line.specs.words.TreeFormat.{TreeFormatRecord, tree_format_re
 use Rattle.command_line.specs.words.TreeVerify.{TreeVerifyRecord, tree_verify_record, tree_verify_said}
 use Rattle.command_line.specs.words.TreeTable.{TreeTableRecord, tree_table_record, tree_table_said}
 use Rattle.command_line.specs.declared.further.Further.{Further}
-use Rattle.command_line.specs.declared.further.Further.TheVariants.{Load, Cat, Store, Format, Verify, Dump, Table, Partitions, Diff, Scan, Copy, Exports, Manual, Version, FormatTree, VerifyTree, TableTree, FormatFec, VerifyFec, Repair}
+use Rattle.command_line.specs.declared.further.Further.TheVariants.{Load, Cat, Store, Format, Verify, Dump, Table, Partitions, Diff, Scan, Copy, Exports, Manual, Version, FormatTree, VerifyTree, TableTree, FormatFec, VerifyFec, Repair, FormatPin, VerifyPin}
 
 pub data FurtherRecord : Type 0 where
   load : LoadRecord → FurtherRecord
@@ -47,6 +49,8 @@ pub data FurtherRecord : Type 0 where
   format_fec : FecFormatRecord → FurtherRecord
   verify_fec : FecVerifyRecord → FurtherRecord
   repair : RepairRecord → FurtherRecord
+  format_pin : PinFormatRecord → FurtherRecord
+  verify_pin : PinVerifyRecord → FurtherRecord
 
 -- the commands on trees without a superblock
 abbrev pub tree_said : List ℕ → OptionTexts → List (List ℕ) → Option FurtherRecord
@@ -62,6 +66,14 @@ fec_said name texts words =
     if texts.no_superblock then None
     else if bytes_eq name (codes "format") then option_map format_fec (fec_format_said texts words)
     else if bytes_eq name (codes "verify") then option_map verify_fec (fec_verify_said texts words)
+    else None
+
+-- the commands on images with a pin, which have a superblock; parity isn't pinned
+abbrev pub pin_said : List ℕ → OptionTexts → List (List ℕ) → Option FurtherRecord
+pin_said name texts words =
+    if texts.no_superblock || has_fec_value texts then None
+    else if bytes_eq name (codes "format") then option_map format_pin (pin_format_said texts words)
+    else if bytes_eq name (codes "verify") then option_map verify_pin (pin_verify_said texts words)
     else None
 
 -- no word stands behind `version`
@@ -93,10 +105,11 @@ command_said name texts words =
     else if bytes_eq name (codes "nbd") then option_map exports (exports_said texts words)
     else image_said name texts words
 
--- the same, where `--fec` or `--no-superblock` may stand
+-- the same, where `--pin`, `--fec` or `--no-superblock` may stand
 abbrev pub further_said : List ℕ → OptionTexts → List (List ℕ) → Option FurtherRecord
 further_said name texts words =
-    if bytes_eq name (codes "repair") then option_map repair (repair_said texts words)
+    if is_some texts.pin then pin_said name texts words
+    else if bytes_eq name (codes "repair") then option_map repair (repair_said texts words)
     else if has_fec_value texts then fec_said name texts words
     else if texts.no_superblock then tree_said name texts words else command_said name texts words
 
@@ -122,3 +135,5 @@ further_record (TableTree w) = table_tree (tree_table_record w)
 further_record (FormatFec w) = format_fec (fec_format_record w)
 further_record (VerifyFec w) = verify_fec (fec_verify_record w)
 further_record (Repair w) = repair (repair_record w)
+further_record (FormatPin w) = format_pin (pin_format_record w)
+further_record (VerifyPin w) = verify_pin (pin_verify_record w)

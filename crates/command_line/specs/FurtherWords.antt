@@ -8,7 +8,7 @@ unfoldable pub has_place_value : OptionTexts → Bool
 has_place_value texts = is_some texts.first || is_some texts.count || is_some texts.hash_offset || is_some texts.sector_size || is_some texts.map
 
 unfoldable pub has_image_value : OptionTexts → Bool
-has_image_value texts = is_some texts.root_hash_file || is_some texts.name || is_some texts.root
+has_image_value texts = is_some texts.root_hash_file || is_some texts.name || is_some texts.root || is_some texts.pin
 
 -- one that says something of parity
 unfoldable pub has_fec_value : OptionTexts → Bool

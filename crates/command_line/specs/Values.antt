@@ -57,6 +57,11 @@ unfoldable pub map_said : Option (List ℕ) → Option (Option (List ℕ))
 map_said None = Some None
 map_said (Some word) = if length word == 0 || bytes_eq word (codes "-") then None else Some (Some word)
 
+-- the path of a pin's file, which isn't empty and isn't `-`
+unfoldable pub pin_of : Option (List ℕ) → Option (List ℕ)
+pin_of None = None
+pin_of (Some word) = if length word == 0 || bytes_eq word (codes "-") then None else Some word
+
 -- 64 hexadecimal digits as 32 bytes
 unfoldable pub root_of : List ℕ → Option (List ℕ)
 root_of word = result_ok (decode_sized word 32)

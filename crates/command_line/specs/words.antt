@@ -9,6 +9,8 @@ pub mod Format
 pub mod Load
 pub mod Manual
 pub mod Partitions
+pub mod PinFormat
+pub mod PinVerify
 pub mod Repair
 pub mod Scan
 pub mod Store

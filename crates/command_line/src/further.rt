@@ -1,6 +1,6 @@
 //! The commands that take more than the first version's.
 ghost use Rattle.command_line.specs.FormatOptions.{option_texts, texts_of};
-ghost use Rattle.command_line.specs.FurtherRecords.{command_said, fec_said, further_said, image_said, tree_said};
+ghost use Rattle.command_line.specs.FurtherRecords.{command_said, fec_said, further_said, image_said, pin_said, tree_said};
 ghost use Rattle.command_line.specs.Reading.{ReadsCommand};
 
 use crate::fault::WordsFault;
@@ -16,6 +16,8 @@ use crate::words::format::{FormatWords, format_of};
 use crate::words::load::{LoadWords, load_of};
 use crate::words::manual::{manual_of, version_of};
 use crate::words::partitions::{PartitionsWords, partitions_of};
+use crate::words::pin_format::{PinFormatWords, pin_format_of};
+use crate::words::pin_verify::{PinVerifyWords, pin_verify_of};
 use crate::words::repair::{RepairWords, repair_of};
 use crate::words::scan::{ScanWords, scan_of};
 use crate::words::store::{StoreWords, store_of};
@@ -50,9 +52,12 @@ pub enum Further<'a> {
     FormatFec(FecFormatWords<'a>),
     VerifyFec(FecVerifyWords<'a>),
     Repair(RepairWords<'a>),
+    FormatPin(PinFormatWords<'a>),
+    VerifyPin(PinVerifyWords<'a>),
 }
 
-/// The command of that name; with `--fec` one on parity, and with `--no-superblock` one on a tree that has none.
+/// The command of that name; with `--pin` one on a pin, with `--fec` one on parity, and with `--no-superblock` one on a tree
+/// that has none.
 pub fn further_of<'a>(
     alloc: Global,
     name: &[u8],
@@ -61,7 +66,9 @@ pub fn further_of<'a>(
 ) -> Result<Further<'a>, WordsFault>
     ensures { ReadsCommand (further_said name.now (option_texts options.now) (texts_of words.now)) result }
 {
-    if name == b"repair".as_slice() {
+    if options.pin.is_some() {
+        pinned_of(name, options, words)
+    } else if name == b"repair".as_slice() {
         repair_of(alloc, options, words)
     } else if has_fec_value(options) {
         fec_of(name, options, words)
@@ -69,6 +76,25 @@ pub fn further_of<'a>(
         tree_of(name, options, words)
     } else {
         command_of(alloc, name, options, words)
+    }
+}
+
+// The command of that name on an image with a pin, which has a superblock. Parity isn't pinned.
+fn pinned_of<'a>(
+    name: &[u8],
+    options: &OptionWords<'a>,
+    words: &[&'a str],
+) -> Result<Further<'a>, WordsFault>
+    ensures { ReadsCommand (pin_said name.now (option_texts options.now) (texts_of words.now)) result }
+{
+    if options.no_superblock || has_fec_value(options) {
+        Err(WordsFault::Usage)
+    } else if name == b"format".as_slice() {
+        pin_format_of(options, words)
+    } else if name == b"verify".as_slice() {
+        pin_verify_of(options, words)
+    } else {
+        Err(WordsFault::Usage)
     }
 }
 

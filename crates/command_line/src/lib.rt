@@ -37,6 +37,8 @@ pub use words::fec_verify::FecVerifyWords;
 pub use words::format::FormatWords;
 pub use words::load::LoadWords;
 pub use words::partitions::PartitionsWords;
+pub use words::pin_format::PinFormatWords;
+pub use words::pin_verify::PinVerifyWords;
 pub use words::repair::RepairWords;
 pub use words::scan::ScanWords;
 pub use words::store::StoreWords;

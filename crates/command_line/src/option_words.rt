@@ -22,6 +22,7 @@ pub struct OptionWords<'a> {
     pub map: Option<&'a str>,
     pub fec: Option<&'a str>,
     pub fec_roots: Option<&'a str>,
+    pub pin: Option<&'a str>,
     pub all: bool,
     pub stack: bool,
     pub no_superblock: bool,
@@ -77,7 +78,10 @@ fn has_place_value(options: &OptionWords<'_>) -> bool
 fn has_image_value(options: &OptionWords<'_>) -> bool
     ensures { result ≡ has_image_value (option_texts options.now) }
 {
-    options.root_hash_file.is_some() || options.name.is_some() || options.root.is_some()
+    options.root_hash_file.is_some()
+        || options.name.is_some()
+        || options.root.is_some()
+        || options.pin.is_some()
 }
 
 /// Whether an option stands there that says something of parity.

@@ -1,7 +1,7 @@
 //! What the values of options say.
 ghost use Rattle.std.specs.Prelude.{◌≡◌, option_map};
 ghost use Rattle.command_line.specs.FormatOptions.{text_of, texts_of};
-ghost use Rattle.command_line.specs.Values.{cache_said, count_said, device_names, first_said, form_of, form_record, map_said, name_said, offset_of, root_alone, root_first, root_first_record, root_of, root_record, runs_said, sector_size_of, two_roots};
+ghost use Rattle.command_line.specs.Values.{cache_said, count_said, device_names, first_said, form_of, form_record, map_said, name_said, offset_of, pin_of, root_alone, root_first, root_first_record, root_of, root_record, runs_said, sector_size_of, two_roots};
 
 use dm_table::{is_device, is_mapped_name};
 use table_reader::number;
@@ -141,6 +141,20 @@ pub fn map_of<'a>(word: Option<&'a str>) -> Option<Option<&'a str>>
         return None;
     }
     Some(Some(word))
+}
+
+/// The path of a pin's file: not empty, and not `-`.
+#[tactic(auto, unfolding(crate::specs::Values::pin_of))]
+pub fn pin_of<'a>(word: Option<&'a str>) -> Option<&'a str>
+    ensures { text_of result ≡ pin_of (text_of word.entry) }
+{
+    let Some(word) = word else {
+        return None;
+    };
+    if word.is_empty() || word.as_bytes() == b"-".as_slice() {
+        return None;
+    }
+    Some(word)
 }
 
 /// A root digest of 64 hexadecimal digits.

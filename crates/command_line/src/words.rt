@@ -10,6 +10,8 @@ pub mod format;
 pub mod load;
 pub mod manual;
 pub mod partitions;
+pub mod pin_format;
+pub mod pin_verify;
 pub mod repair;
 pub mod scan;
 pub mod store;

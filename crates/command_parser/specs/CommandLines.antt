@@ -32,6 +32,7 @@ texts_in rows = record {
   map = first_of (codes "map") rows;
   fec = first_of (codes "fec") rows;
   fec_roots = first_of (codes "fec-roots") rows;
+  pin = first_of (codes "pin") rows;
   all = is_there (codes "all") rows;
   stack = is_there (codes "stack") rows;
   no_superblock = is_there (codes "no-superblock") rows;

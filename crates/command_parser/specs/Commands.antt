@@ -37,6 +37,10 @@ offset = value_option (codes "hash-offset")
 abbrev pub root_file : OptionText
 root_file = value_option (codes "root-hash-file")
 
+-- the file of a pin
+abbrev pub pin : OptionText
+pin = value_option (codes "pin")
+
 -- parity: its file, and how many bytes of it a codeword has
 abbrev pub fec_options : List OptionText → List OptionText
 fec_options more = value_or (codes "fec") (codes "fec-device") ∷ value_option (codes "fec-roots") ∷ more
@@ -56,8 +60,8 @@ command name options = record { name = name; options = options }
 -- the commands on images
 abbrev pub image_commands : List CommandText → List CommandText
 image_commands more =
-    command (codes "format") (tree_options (value_option (codes "uuid") ∷ offset ∷ bare_option ∷ flag (codes "grow") ∷ progress ∷ fec_options []))
-    ∷ command (codes "verify") (tree_options (offset ∷ root_file ∷ bare_option ∷ flag (codes "all") ∷ json ∷ progress ∷ fec_options []))
+    command (codes "format") (tree_options (value_option (codes "uuid") ∷ offset ∷ bare_option ∷ flag (codes "grow") ∷ progress ∷ fec_options (pin ∷ [])))
+    ∷ command (codes "verify") (tree_options (offset ∷ root_file ∷ bare_option ∷ flag (codes "all") ∷ json ∷ progress ∷ fec_options (pin ∷ [])))
     ∷ command (codes "dump") (offset ∷ json ∷ [])
     ∷ command (codes "table") (tree_options (offset ∷ root_file ∷ value_option (codes "name") ∷ bare_option ∷ []))
     ∷ command (codes "repair") (offset ∷ root_file ∷ flag (codes "check") ∷ fec_options [])

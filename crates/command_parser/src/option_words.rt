@@ -29,6 +29,7 @@ pub fn option_words<'a>(found: &ArgMatches<'a>) -> OptionWords<'a>
         map: value(found, "map"),
         fec: value(found, "fec"),
         fec_roots: value(found, "fec-roots"),
+        pin: value(found, "pin"),
         all: is_there(found, "all"),
         stack: is_there(found, "stack"),
         no_superblock: is_there(found, "no-superblock"),

@@ -111,6 +111,12 @@ const FEC_ROOTS: OptionRow = OptionRow {
     has_value: true,
 };
 
+const PIN: OptionRow = OptionRow {
+    name: "pin",
+    others: &[],
+    has_value: true,
+};
+
 // of `diff`, where it says how many runs are printed
 const RUNS: OptionRow = OptionRow {
     name: "blocks",
@@ -182,6 +188,7 @@ pub static COMMANDS: [CommandRow; 18] = [
             PROGRESS,
             FEC,
             FEC_ROOTS,
+            PIN,
         ],
     },
     CommandRow {
@@ -199,6 +206,7 @@ pub static COMMANDS: [CommandRow; 18] = [
             PROGRESS,
             FEC,
             FEC_ROOTS,
+            PIN,
         ],
     },
     CommandRow {

@@ -1,24 +1,31 @@
 -- What `format` makes and prints, and how it ends early.
-use Rattle.std.specs.Prelude.{◌≡◌, ◌⊎◌, ℕ, List, ◌++◌, Ok, Err}
+use Rattle.std.specs.Prelude.{◌≡◌, ◌⊎◌, ℕ, IsTrue, List, ◌++◌, Ok, Err, Some, None}
 use Rattle.block_device.specs.Device.{Device, IsUnsynced, synced}
 use Rattle.verity_format.specs.declared.formatting.FormatFault.{FormatFault}
 use Rattle.verity_format.specs.declared.formatting.FormatFault.TheVariants.{Device as DeviceFailed}
 use Rattle.verity_format.specs.declared.formatting.FormatOptions.{FormatOptions}
-use Rattle.verity_format.specs.Formatting.{IsFormatting, given_blocks}
+use Rattle.verity_format.specs.Formatting.{IsFormatting, format_refusal, given_blocks}
+use Rattle.verity_format.specs.Image.{formatted}
 use Rattle.verity_format.specs.Options.{superblock_with}
 use Rattle.image_commands.specs.declared.fault.ImageFault.{ImageFault}
 use Rattle.image_commands.specs.declared.fault.ImageFault.TheVariants.{Format}
 use Rattle.image_commands.specs.declared.format.MadeImage.{MadeImage}
+use Rattle.image_commands.specs.Clearing.{IsCleared, IsUncleared}
 use Rattle.image_commands.specs.SuperblockTexts.{blocks_text, root_text, salt_text, uuid_text}
 
 -- an image's root digest, salt, identifier and number of data blocks
 unfoldable pub made_text : MadeImage → List ℕ
 made_text made = root_text made.root ++ (salt_text made.salt ++ (uuid_text made.uuid ++ blocks_text made.blocks))
 
--- the hash device was formatted over the data device and synced, and that is what was made
+-- No refusal applied. A superblock that stood on the hash device was cleared; then that was formatted over the data device
+-- and synced, and that is what was made. Over steady devices the image is the one that a format alone leaves.
 pub record IsMade (options : FormatOptions) (data_dev hash_dev data_dev' hash_dev' : Device) (made : MadeImage) : Type 0 where
+  pub cleared : Device
   pub written : Device
-  pub formatting : IsFormatting (superblock_with options data_dev.size) data_dev hash_dev data_dev' written (Ok made.root)
+  pub allowed : format_refusal (superblock_with options data_dev.size) data_dev hash_dev ≡ None
+  pub clearing : IsCleared hash_dev cleared
+  pub formatting : IsFormatting (superblock_with options data_dev.size) data_dev cleared data_dev' written (Ok made.root)
+  pub image : IsTrue data_dev.steady → IsTrue hash_dev.steady → hash_dev'.image ≡ formatted (superblock_with options data_dev.size) data_dev.image hash_dev.image
   pub kept : hash_dev' ≡ synced written
   pub salt : made.salt ≡ options.salt
   pub uuid : made.uuid ≡ options.uuid
@@ -27,15 +34,35 @@ pub record IsMade (options : FormatOptions) (data_dev hash_dev data_dev' hash_de
 -- it was formatted, but what was written couldn't be put on the medium
 pub record IsNotKept (options : FormatOptions) (data_dev hash_dev data_dev' hash_dev' : Device) (fault : FormatFault) : Type 0 where
   pub root : List ℕ
+  pub cleared : Device
   pub written : Device
-  pub formatting : IsFormatting (superblock_with options data_dev.size) data_dev hash_dev data_dev' written (Ok root)
+  pub clearing : IsCleared hash_dev cleared
+  pub formatting : IsFormatting (superblock_with options data_dev.size) data_dev cleared data_dev' written (Ok root)
   pub unsynced : IsUnsynced written hash_dev'
   pub is : fault ≡ DeviceFailed
 
--- it was refused, not finished, or not synced
+-- a refusal applied, and neither device was asked
+pub record IsRefusedUnread (options : FormatOptions) (data_dev hash_dev data_dev' hash_dev' : Device) (fault : FormatFault) : Type 0 where
+  pub applies : format_refusal (superblock_with options data_dev.size) data_dev hash_dev ≡ Some fault
+  pub same : (data_dev' ≡ data_dev) × (hash_dev' ≡ hash_dev)
+
+-- an old superblock couldn't be looked for or cleared: no sector but the first one of the hash device changed
+pub record IsNotCleared (data_dev hash_dev data_dev' hash_dev' : Device) (fault : FormatFault) : Type 0 where
+  pub uncleared : IsUncleared hash_dev hash_dev'
+  pub same : data_dev' ≡ data_dev
+  pub is : fault ≡ DeviceFailed
+
+-- it was cleared, and then the formatting wasn't finished
+pub record IsNotFinished (options : FormatOptions) (data_dev hash_dev data_dev' hash_dev' : Device) (fault : FormatFault) : Type 0 where
+  pub cleared : Device
+  pub clearing : IsCleared hash_dev cleared
+  pub formatting : IsFormatting (superblock_with options data_dev.size) data_dev cleared data_dev' hash_dev' (Err fault)
+
+-- it was refused, an old superblock couldn't be cleared, it wasn't finished, or not synced
 abbrev pub IsFormatEnd : FormatOptions → Device → Device → Device → Device → ImageFault → Type 0
 IsFormatEnd options data_dev hash_dev data_dev' hash_dev' (Format fault) =
-    IsFormatting (superblock_with options data_dev.size) data_dev hash_dev data_dev' hash_dev' (Err fault) ⊎ IsNotKept options data_dev hash_dev data_dev' hash_dev' fault
+    IsRefusedUnread options data_dev hash_dev data_dev' hash_dev' fault ⊎ (IsNotCleared data_dev hash_dev data_dev' hash_dev' fault
+    ⊎ (IsNotFinished options data_dev hash_dev data_dev' hash_dev' fault ⊎ IsNotKept options data_dev hash_dev data_dev' hash_dev' fault))
 IsFormatEnd options data_dev hash_dev data_dev' hash_dev' fault = ⊥
 
 -- ---- as a call sees them: what a proof sees of two devices, and both before and after

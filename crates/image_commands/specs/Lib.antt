@@ -1,9 +1,13 @@
 pub mod Drawing
 pub mod Endings
+pub mod Clearing
+pub mod Refusals
 pub mod Formats
 pub mod ImageCommands
 pub mod Openings
 pub mod PlacedFormats
+pub mod Preparing
+pub mod PinFiles
 pub mod PlacedImages
 pub mod PlacedLines
 pub mod Places
@@ -13,3 +17,4 @@ pub mod SuperblockJson
 pub mod TreePlaces
 pub mod TreeFormats
 pub mod TreeImages
+pub mod Pinned

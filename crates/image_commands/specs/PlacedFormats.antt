@@ -1,9 +1,7 @@
 -- What `format` makes of a hash image behind a sector of a file, and how it ends early.
-use Rattle.std.specs.Prelude.{◌≡◌, ◌⊎◌, ℕ, Bool, true, false, List, Option}
-use Rattle.std.specs.Io.KnownBytes.{Appends}
+use Rattle.std.specs.Prelude.{◌≡◌, ◌⊎◌, ℕ, Bool, true, false}
 use Rattle.rand_core.specs.Stream.{Stream}
 use Rattle.block_device.specs.Device.{Device}
-use Rattle.counted_io.specs.Counted.{CountedRecord}
 use Rattle.device_window.specs.Parts.{StandOutside, outside_of, part_behind}
 use Rattle.device_window.specs.Windows.{windowed}
 use Rattle.verity_format.specs.declared.formatting.FormatFault.{FormatFault}
@@ -11,15 +9,15 @@ use Rattle.verity_format.specs.declared.formatting.FormatOptions.{FormatOptions}
 use Rattle.command_line.specs.declared.image_options.ImageOptions.{ImageOptions}
 use Rattle.image_files.specs.Opener.{Calls, Opener, calls}
 use Rattle.image_commands.specs.declared.fault.ImageFault.{ImageFault}
-use Rattle.image_commands.specs.declared.fault.ImageFault.TheVariants.{Format, Random, Unaligned}
+use Rattle.image_commands.specs.declared.fault.ImageFault.TheVariants.{DataOverlapsTree, Format, Random, Unaligned}
 use Rattle.image_commands.specs.declared.format.MadeImage.{MadeImage}
 use Rattle.image_commands.specs.declared.paths.TwoImages.{TwoImages}
 use Rattle.image_commands.specs.declared.places.Bounds.{Bounds}
 use Rattle.image_commands.specs.declared.watching.WatchedPlaces.{WatchedPlaces}
 use Rattle.image_commands.specs.Drawing.{AreGiven, Drawing, Gives, IsUndrawn, drawing}
-use Rattle.image_commands.specs.Endings.{IsUnopened, IsLineUnwritten}
-use Rattle.image_commands.specs.Formats.{IsFormatEnd, IsMade, made_text}
-use Rattle.image_commands.specs.Places.{FailsToOpenPlaced, OpensPlaced, TwoPlaces, before, behind, data_end, is_aligned, two_places}
+use Rattle.image_commands.specs.Endings.{IsUnopened}
+use Rattle.image_commands.specs.Formats.{IsFormatEnd, IsMade}
+use Rattle.image_commands.specs.Places.{FailsToOpenPlaced, OpensPlaced, TwoPlaces, before, behind, data_end, is_aligned, overlaps, two_places}
 
 -- the two devices before and behind a formatting, the sector where the data end, and the one where the hash image begins
 pub record Placing : Type 0 where
@@ -62,13 +60,10 @@ pub record MakesPlaced {S D T G : Type 0} (w : Calls S D) (d : Drawing T G) (opt
   pub between : S
   pub aligned : is_aligned places.first options.hash_block ≡ true
   pub opened : OpensPlaced (record w { new = between }) places two
+  pub apart : overlaps two places.first options.blocks ≡ false
   pub are_given : AreGiven d options given
   pub made : IsMadePlaced given (placing_of w two places.first hash_dev') image
   pub closed : w.relations.takes between places.paths.hash_path hash_dev' w.new
-
--- `format`: its root, salt, identifier and number of blocks
-abbrev pub PrintsPlaced : {S D T G : Type 0} → Calls S D → Drawing T G → ImageOptions → TwoPlaces → Option (List ℕ) → Option (List ℕ) → Type 0
-PrintsPlaced w d options places old new = (image : MadeImage) × MakesPlaced w d options places image × Appends old new (made_text image)
 
 -- no hash block begins there, and nothing was opened or drawn
 pub record EndsUnaligned {S D T G : Type 0} (w : Calls S D) (d : Drawing T G) (options : ImageOptions) (places : TwoPlaces) (fault : ImageFault) : Type 0 where
@@ -80,6 +75,14 @@ pub record EndsUnaligned {S D T G : Type 0} (w : Calls S D) (d : Drawing T G) (o
 -- before anything is drawn one of the two isn't opened
 pub record EndsUnopenedPlaced {S D T G : Type 0} (w : Calls S D) (d : Drawing T G) (places : TwoPlaces) (fault : ImageFault) : Type 0 where
   pub unopened : IsUnopened (FailsToOpenPlaced w places) fault
+  pub same : d.new ≡ d.old
+
+-- both are open, but data and tree are in one file and no number of blocks says where the data end; nothing is drawn
+pub record EndsOverlapping {S D T G : Type 0} (w : Calls S D) (d : Drawing T G) (options : ImageOptions) (places : TwoPlaces) (fault : ImageFault) : Type 0 where
+  pub two : TwoImages D
+  pub opened : OpensPlaced w places two
+  pub one : overlaps two places.first options.blocks ≡ true
+  pub is : fault ≡ DataOverlapsTree
   pub same : d.new ≡ d.old
 
 -- both are open, and something has to be drawn, but there are no random bytes
@@ -100,21 +103,21 @@ pub record EndsPlaced {S D T G : Type 0} (w : Calls S D) (d : Drawing T G) (opti
   pub ends : IsPlacedEnd given (placing_of w two places.first hash_dev') cause
   pub is : fault ≡ Format cause
 
--- one of these, or the text of what was made can't be written
-abbrev pub IsFormatPlacedEnd : {S D T G : Type 0} → Calls S D → Drawing T G → ImageOptions → TwoPlaces → Bool → ImageFault → Type 0
-IsFormatPlacedEnd w d options places failed fault =
+-- one of these
+abbrev pub IsMakingPlacedEnd : {S D T G : Type 0} → Calls S D → Drawing T G → ImageOptions → TwoPlaces → ImageFault → Type 0
+IsMakingPlacedEnd w d options places fault =
     EndsUnaligned w d options places fault ⊎ (EndsUnopenedPlaced w d places fault ⊎ (EndsUndrawnPlaced w d options places fault ⊎ (EndsPlaced w d options places fault
-    ⊎ ((image : MadeImage) × MakesPlaced w d options places image × IsLineUnwritten failed fault))))
+    ⊎ EndsOverlapping w d options places fault)))
 
 -- ---- as a call sees them, in the order of `ImageCommands`
 
-abbrev pub FormatsImagesAt : {S D T G W : Type 0} → Opener S D → (D → Device) → S → S → Gives T G → (G → Stream) → T → T → (W → Option (List ℕ)) → CountedRecord W → CountedRecord W → ImageOptions → WatchedPlaces → Type 0
-FormatsImagesAt relations state images images' gives stream generators generators' contents writer writer' options watched =
-    PrintsPlaced (calls relations state images images') (drawing gives stream generators generators') options (two_places watched.places) (contents writer.inner) (contents writer'.inner)
+abbrev pub MakesImagesAt : {S D T G : Type 0} → Opener S D → (D → Device) → S → S → Gives T G → (G → Stream) → T → T → ImageOptions → WatchedPlaces → MadeImage → Type 0
+MakesImagesAt relations state images images' gives stream generators generators' options watched =
+    MakesPlaced (calls relations state images images') (drawing gives stream generators generators') options (two_places watched.places)
 
-abbrev pub FailsToFormatAt : {S D T G W : Type 0} → Opener S D → (D → Device) → S → S → Gives T G → (G → Stream) → T → T → CountedRecord W → ImageOptions → WatchedPlaces → ImageFault → Type 0
-FailsToFormatAt relations state images images' gives stream generators generators' writer' options watched =
-    IsFormatPlacedEnd (calls relations state images images') (drawing gives stream generators generators') options (two_places watched.places) writer'.failed
+abbrev pub FailsToMakeAt : {S D T G : Type 0} → Opener S D → (D → Device) → S → S → Gives T G → (G → Stream) → T → T → ImageOptions → WatchedPlaces → ImageFault → Type 0
+FailsToMakeAt relations state images images' gives stream generators generators' options watched =
+    IsMakingPlacedEnd (calls relations state images images') (drawing gives stream generators generators') options (two_places watched.places)
 
 -- two devices that are open, and the second behind the formatting
 abbrev pub placing : {D H : Type 0} → (D → Device) → (H → Device) → D → H → H → Bounds → Placing

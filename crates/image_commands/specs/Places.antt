@@ -1,5 +1,5 @@
 -- Hash images that begin behind a sector of a file: superblock and tree stand there, and the data may be what lies before.
-use Rattle.std.specs.Prelude.{◌≡◌, ◌⊎◌, ℕ, ◌+◌, ◌-◌, ◌/◌, ◌%◌, ◌^◌, ◌==◌, ◌&&◌, nat_lt, Bool, true, false, if◌then◌else◌}
+use Rattle.std.specs.Prelude.{◌≡◌, ◌⊎◌, ℕ, ◌+◌, ◌-◌, ◌/◌, ◌%◌, ◌^◌, ◌==◌, ◌&&◌, nat_lt, Bool, true, false, Option, is_none, if◌then◌else◌}
 use Rattle.block_device.specs.Device.{Device}
 use Rattle.block_device.specs.declared.open_fault.OpenFault.TheVariants.{SameFile}
 use Rattle.device_window.specs.Parts.{part_before, part_behind}
@@ -37,6 +37,10 @@ before device end = windowed device (part_before device end)
 -- where the data end: in one file before the hash image, else at the end of theirs
 abbrev pub data_end : {D : Type 0} → TwoImages D → ℕ → ℕ
 data_end two first = if nat_lt 0 first && is_one_file two.data.id two.hash.id then first else 2 ^ 64 - 1
+
+-- data and hash image are in one file, and no number of data blocks says where the data end
+abbrev pub overlaps : {D : Type 0} → TwoImages D → ℕ → Option ℕ → Bool
+overlaps two first blocks = nat_lt 0 first && is_none blocks && is_one_file two.data.id two.hash.id
 
 -- for a format both were opened; one file only where the hash image doesn't begin at its first sector
 pub record OpensPlaced {S D : Type 0} (w : Calls S D) (places : TwoPlaces) (two : TwoImages D) : Type 0 where

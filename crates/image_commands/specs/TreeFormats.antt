@@ -24,8 +24,8 @@ use Rattle.image_commands.specs.declared.places.Bounds.{Bounds}
 use Rattle.image_commands.specs.declared.watching.WatchedPlaces.{WatchedPlaces}
 use Rattle.image_commands.specs.Drawing.{AreGiven, Drawing, Gives, drawing}
 use Rattle.image_commands.specs.Endings.{IsLineUnwritten}
-use Rattle.image_commands.specs.PlacedFormats.{EndsUnaligned, EndsUndrawnPlaced, EndsUnopenedPlaced}
-use Rattle.image_commands.specs.Places.{OpensPlaced, TwoPlaces, before, data_end, is_aligned, two_places}
+use Rattle.image_commands.specs.PlacedFormats.{EndsOverlapping, EndsUnaligned, EndsUndrawnPlaced, EndsUnopenedPlaced}
+use Rattle.image_commands.specs.Places.{OpensPlaced, TwoPlaces, before, data_end, is_aligned, overlaps, two_places}
 use Rattle.image_commands.specs.SuperblockTexts.{blocks_text, root_text, salt_text}
 use Rattle.image_commands.specs.TreePlaces.{HasNoShape, tree_part, tree_place, unnamed}
 
@@ -108,6 +108,7 @@ pub record MakesTree {S D T G : Type 0} (w : Calls S D) (d : Drawing T G) (optio
   pub between : S
   pub aligned : is_aligned places.first options.hash_block ≡ true
   pub opened : OpensPlaced (record w { new = between }) places two
+  pub apart : overlaps two places.first options.blocks ≡ false
   pub are_given : AreGiven d (unnamed options) given
   pub tree : IsTreeMade (tree_with given (data_of w two places.first)) (data_of w two places.first) (w.state two.hash.device) places.first (w.state hash_dev') made
   pub closed : w.relations.takes between places.paths.hash_path hash_dev' w.new
@@ -131,7 +132,7 @@ pub record EndsTree {S D T G : Type 0} (w : Calls S D) (d : Drawing T G) (option
 abbrev pub IsFormatTreeEnd : {S D T G : Type 0} → Calls S D → Drawing T G → ImageOptions → TwoPlaces → Bool → ImageFault → Type 0
 IsFormatTreeEnd w d options places failed fault =
     EndsUnaligned w d options places fault ⊎ (EndsUnopenedPlaced w d places fault ⊎ (EndsUndrawnPlaced w d (unnamed options) places fault ⊎ (EndsTree w d options places fault
-    ⊎ ((made : MadeImage) × MakesTree w d options places made × IsLineUnwritten failed fault))))
+    ⊎ (((made : MadeImage) × MakesTree w d options places made × IsLineUnwritten failed fault) ⊎ EndsOverlapping w d options places fault))))
 
 -- ---- as a call sees them, in the order of `ImageCommands`
 

@@ -4,7 +4,9 @@ ghost use Rattle.image_commands.specs.declared.fault.ImageFault.TheVariants as i
 
 use counted_io::WriteFault;
 use image_files::UnopenedFile;
+use image_pin::{Mismatch, PinFault};
 use std::alloc::{AllocError, AllocFailed};
+use text_files::ReplaceFault;
 use verity_format::{FormatFault, Verdict, VerifyFault};
 
 /// Why a command on verity images ends early.
@@ -24,6 +26,14 @@ pub enum ImageFault<'a> {
     RootText,
     /// No hash block begins at the place of the superblock.
     Unaligned,
+    /// Data and tree are in one file, and no number of data blocks says where the data end.
+    DataOverlapsTree,
+    /// A text is no pin.
+    Pin(PinFault),
+    /// The superblock says of the tree what the pin says otherwise.
+    Unpinned(Mismatch),
+    /// The pin can't be written.
+    PinUnwritten(ReplaceFault),
     /// There are no random bytes.
     Random,
     /// A line can't be written.

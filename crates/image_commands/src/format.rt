@@ -6,9 +6,11 @@ ghost use Rattle.image_commands.specs.Endings.{IsQuiet};
 ghost use Rattle.image_commands.specs.Formats.{IsUnmade, MakesImage, made_text};
 ghost use Rattle.image_commands.specs.ImageCommands.{FailsToFormatFiles, FormatsImages};
 
+use crate::clearing::clear_superblock;
 use crate::fault::ImageFault;
 use crate::paths::{ImagePaths, TwoImages, open_apart};
 use crate::random::{Generators, draw};
+use crate::refusal::allowed_image;
 use crate::superblock_text::{say_blocks, say_root, say_salt, say_uuid};
 use block_device::{BlockDev, SyncDev};
 use command_line::ImageOptions;
@@ -59,7 +61,8 @@ pub fn format_images<'a, I: Images, G: Generators, W: Write>(
     Ok(say_made(writer, &made)?)
 }
 
-/// Formats the hash device over the data device, and has that put on the medium.
+/// Formats the hash device over the data device, and has that put on the medium. A superblock that stood there is cleared first,
+/// unless the format is refused.
 pub(crate) fn make<D: BlockDev, H: SyncDev>(
     alloc: Global,
     data_dev: &mut D,
@@ -72,6 +75,8 @@ pub(crate) fn make<D: BlockDev, H: SyncDev>(
     let blocks = given_blocks(options.blocks, options.data_block, data_dev.sectors());
     let salt = options.salt;
     let uuid = options.uuid;
+    allowed_image(data_dev, hash_dev, options)?;
+    clear_superblock(hash_dev)?;
     let root = format_with(alloc, data_dev, hash_dev, options)?;
     match hash_dev.sync() {
         Ok(()) => Ok(MadeImage {
@@ -86,7 +91,7 @@ pub(crate) fn make<D: BlockDev, H: SyncDev>(
 
 /// What is printed of an image that was made.
 #[tactic(auto, unfolding(crate::specs::Formats::made_text))]
-pub(crate) fn say_made<W: Write>(
+pub fn say_made<W: Write>(
     writer: &mut Counted<W>,
     made: &MadeImage,
 ) -> Result<(), WriteFault>

@@ -1,15 +1,20 @@
 //! The program's commands on verity images.
 #![tactic(auto)]
 
+mod clearing;
 mod dump;
 mod fault;
 mod format;
 mod paths;
+mod pin_file;
+mod pinned;
 mod placed;
 mod placed_format;
 mod placed_line;
 mod places;
+mod preparing;
 mod random;
+mod refusal;
 mod root_file;
 mod superblock_json;
 mod superblock_text;
@@ -23,17 +28,20 @@ mod watching;
 
 pub use dump::dump_image;
 pub use fault::ImageFault;
-pub use format::format_images;
+pub use format::{MadeImage, format_images, say_made};
 pub use paths::ImagePaths;
+pub use pin_file::{check_pin_path, pin_of_image, read_pin, write_pin};
+pub use pinned::verify_pinned;
 pub use placed::{dump_placed, table_placed, verify_placed};
-pub use placed_format::format_placed;
+pub use placed_format::make_placed;
 pub use places::{HashPlace, ImagePlaces, is_aligned};
+pub use preparing::prepare_image;
 pub use random::{Generators, NoRandomBytes, SystemGenerators, draw};
 pub use root_file::read_root;
 pub use table::{LineWords, print_table_of_image};
 pub use tree_format::format_tree;
 pub use tree_line::print_tree_line;
-pub use tree_place::given_options;
+pub use tree_place::{given_options, unnamed};
 pub use tree_verify::{ExpectedTree, verify_tree};
 pub use verify::verify_images;
 pub use watching::WatchedPlaces;

@@ -1,40 +1,34 @@
 //! The command `format` with a place for the hash image in its file.
-ghost use Rattle.std.specs.Prelude.{◌≡◌, Some, IfErr, IfOk, OnOk};
+ghost use Rattle.std.specs.Prelude.{◌≡◌, Some, IfErr, IfOk};
 ghost use Rattle.std.specs.Option.{ForSome};
 ghost use Rattle.device_window.specs.Parts.{StandOutside, outside_of, part_behind};
-ghost use Rattle.image_commands.specs.Endings.{IsQuiet};
-ghost use Rattle.image_commands.specs.PlacedFormats.{FailsToFormatAt, FormatsImagesAt, IsUnmadeAt, MakesImageAt};
+ghost use Rattle.image_commands.specs.PlacedFormats.{FailsToMakeAt, IsUnmadeAt, MakesImageAt, MakesImagesAt};
 
 use crate::fault::ImageFault;
-use crate::format::{MadeImage, given_or_drawn, make, say_made};
-use crate::places::{Bounds, data_end, is_aligned, open_placed};
+use crate::format::{MadeImage, given_or_drawn, make};
+use crate::places::{Bounds, data_end, is_aligned, open_placed, overlaps};
 use crate::random::Generators;
 use crate::watching::{WatchedPlaces, bytes_of_blocks, watch};
 use block_device::{BlockDev, SyncDev};
 use command_line::ImageOptions;
-use counted_io::Counted;
 use device_window::{Beside, Window};
 use image_files::Images;
 use std::alloc::Global;
-use std::io::Write;
 use std::marker::Brand;
 use verity_format::{FormatFault, FormatOptions};
 use watched_device::{Watchers, bytes_before};
 
-/// `format --hash-offset BYTES [OPTIONS] DATA HASH`: as `format_images`, of the hash image that begins at that sector of
-/// HASH. Both may be one file; the data are then what lies before.
-#[tactic(auto, using(crate::proofs::lemmas::EndingLemmas::quiet))]
-pub fn format_placed<'a, I: Images, G: Generators + Watchers, W: Write>(
+/// `format --hash-offset BYTES [OPTIONS] DATA HASH`: makes the hash image that begins at that sector of HASH. Both may be one
+/// file; the data are then as many blocks as the options say, which lie before it.
+pub fn make_placed<'a, I: Images, G: Generators + Watchers>(
     alloc: Global,
     images: &mut I,
     generators: &mut G,
     options: ImageOptions,
     watched: WatchedPlaces<'a>,
-    writer: &mut Counted<W>,
-) -> Result<(), ImageFault<'a>>
-    ensures ok { OnOk result (FormatsImagesAt I.relations I.Dev.state images.old images.new G.gives G.Generator.stream generators.old generators.new W.contents writer.old writer.new options watched.entry) }
-    ensures err { IfErr result (FailsToFormatAt I.relations I.Dev.state images.old images.new G.gives G.Generator.stream generators.old generators.new writer.new options watched.entry) }
-    ensures quiet { IfErr result (λ fault. IsQuiet fault (W.contents writer.old.inner) (W.contents writer.new.inner)) }
+) -> Result<MadeImage, ImageFault<'a>>
+    ensures ok { IfOk result (MakesImagesAt I.relations I.Dev.state images.old images.new G.gives G.Generator.stream generators.old generators.new options watched.entry) }
+    ensures err { IfErr result (FailsToMakeAt I.relations I.Dev.state images.old images.new G.gives G.Generator.stream generators.old generators.new options watched.entry) }
 {
     let WatchedPlaces { places, progress } = watched;
     let first = places.hash_first;
@@ -43,6 +37,9 @@ pub fn format_placed<'a, I: Images, G: Generators + Watchers, W: Write>(
         return Err(ImageFault::Unaligned);
     }
     let two = open_placed(images, places)?;
+    if overlaps(&two, first, options.blocks) {
+        return Err(ImageFault::DataOverlapsTree);
+    }
     let end = data_end(&two, first);
     let options = given_or_drawn(generators, options)?;
     let all = bytes_of_blocks(&options, bytes_before(&two.data.device, end));
@@ -50,7 +47,7 @@ pub fn format_placed<'a, I: Images, G: Generators + Watchers, W: Write>(
     let (hash_dev, made) = make_behind(alloc, data_dev, hash_dev, Bounds { end, first }, options);
     let made = made?;
     images.close(hash, hash_dev);
-    Ok(say_made(writer, &made)?)
+    Ok(made)
 }
 
 // Formats what lies behind a sector of the hash device over what lies before one of the data device, and gives the hash

@@ -1,7 +1,7 @@
 //! Hash images that begin behind a sector of a file.
 ghost use Rattle.std.specs.Prelude.{◌≡◌, ◌&&◌, nat_lt, true, false, IfOk, IfErr};
 ghost use Rattle.image_files.specs.Opener.{IsFresh};
-ghost use Rattle.image_commands.specs.Places.{FailsToOpenPlaces, OpensPlaces, data_end, is_aligned, start_behind};
+ghost use Rattle.image_commands.specs.Places.{FailsToOpenPlaces, OpensPlaces, data_end, is_aligned, overlaps, start_behind};
 
 use crate::paths::{ImagePaths, TwoImages, open_two};
 use block_device::OpenFault;
@@ -84,4 +84,11 @@ pub(crate) fn data_end<D>(two: &TwoImages<D>, first: u64) -> u64
         return first;
     }
     u64::MAX
+}
+
+/// Whether a format would take for data all that lies before the hash image in its own file, be it data or not.
+pub(crate) fn overlaps<D>(two: &TwoImages<D>, first: u64, blocks: Option<u64>) -> bool
+    ensures { result ≡ overlaps two.now first blocks }
+{
+    first > 0 && blocks.is_none() && is_one_file(two.data.id, two.hash.id)
 }

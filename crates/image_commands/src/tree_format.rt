@@ -8,7 +8,7 @@ ghost use Rattle.image_commands.specs.TreePlaces.{tree_part};
 
 use crate::fault::ImageFault;
 use crate::format::{MadeImage, given_or_drawn};
-use crate::places::{Bounds, data_end, is_aligned, open_placed};
+use crate::places::{Bounds, data_end, is_aligned, open_placed, overlaps};
 use crate::random::Generators;
 use crate::superblock_text::{say_blocks, say_root, say_salt};
 use crate::tree_place::{tree_of, tree_part, unnamed};
@@ -27,7 +27,8 @@ use verity_format::{FormatFault, FormatOptions, Superblock};
 use watched_device::{Watchers, bytes_before};
 
 /// `format --no-superblock [--hash-offset BYTES] [OPTIONS] DATA HASH`: writes the tree alone at that sector of HASH, and
-/// its root, salt and number of blocks to the writer. Both may be one file; the data are then what lies before.
+/// its root, salt and number of blocks to the writer. Both may be one file; the data are then as many blocks as the options
+/// say, which lie before.
 #[tactic(auto, using(crate::proofs::lemmas::EndingLemmas::quiet))]
 pub fn format_tree<'a, I: Images, G: Generators + Watchers, W: Write>(
     alloc: Global,
@@ -48,6 +49,9 @@ pub fn format_tree<'a, I: Images, G: Generators + Watchers, W: Write>(
         return Err(ImageFault::Unaligned);
     }
     let two = open_placed(images, places)?;
+    if overlaps(&two, first, options.blocks) {
+        return Err(ImageFault::DataOverlapsTree);
+    }
     let end = data_end(&two, first);
     let options = given_or_drawn(generators, unnamed(options))?;
     let all = bytes_of_blocks(&options, bytes_before(&two.data.device, end));

@@ -70,7 +70,7 @@ pub fn given_options(options: ImageOptions) -> Option<FormatOptions>
 }
 
 /// The options of a tree, which has no identifier.
-pub(crate) fn unnamed(options: ImageOptions) -> ImageOptions
+pub fn unnamed(options: ImageOptions) -> ImageOptions
     ensures { result ≡ unnamed options }
 {
     ImageOptions {

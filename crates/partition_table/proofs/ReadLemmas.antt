@@ -1,5 +1,5 @@
 -- Reads of a device, one after another, and the header that one gave.
-use Rattle.std.proofs.Common.{◌≡◌, ◌∙◌, ◌⊎◌, ◌+◌, ◌-◌, ◌*◌, ◌^◌, ◌≤◌, ◌<◌, ℕ, IsTrue, arith, subst, sym}
+use Rattle.std.proofs.Common.{◌≡◌, ◌∙◌, ◌⊎◌, ◌+◌, ◌-◌, ◌^◌, ◌≤◌, ◌<◌, ℕ, IsTrue, arith, subst, sym}
 use Rattle.block_device.specs.Device.{Device, IsSameDevice}
 use Rattle.partition_table.specs.declared.header.Header.{Header}
 use Rattle.partition_table.specs.declared.read_fault.ReadFault.{ReadFault}

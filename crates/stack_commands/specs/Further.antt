@@ -2,7 +2,7 @@
 use Rattle.std.specs.Io.KnownBytes.{Appends}
 use Rattle.std.specs.Prelude.{◌≡◌, ◌⊎◌, ◌≢◌, ℕ, Bool, true, false, codes, List, None, Ok, Option, Some}
 use Rattle.command_line.specs.FormatOptions.{OptionTexts}
-use Rattle.command_line.specs.FurtherRecords.{FurtherRecord, cat, copy, diff, dump, exports, format, format_fec, format_tree, load, manual, partitions, repair, scan, store, table, table_tree, verify, verify_fec, verify_tree, version}
+use Rattle.command_line.specs.FurtherRecords.{FurtherRecord, cat, copy, diff, dump, exports, format, format_fec, format_pin, format_tree, load, manual, partitions, repair, scan, store, table, table_tree, verify, verify_fec, verify_pin, verify_tree, version}
 use Rattle.command_line.specs.words.Cat.{CatRecord}
 use Rattle.command_line.specs.words.Copy.{CopyRecord}
 use Rattle.command_line.specs.words.Exports.{ExportsRecord}
@@ -28,6 +28,7 @@ use Rattle.stack_streams.specs.Streaming.{IsBytesEnd, IsStoringEnd, PrintsBytes,
 use Rattle.stack_commands.specs.ScanObjects.{IsMappedObjectEnd, IsScanObjectEnd, PrintsScanObject}
 use Rattle.stack_commands.specs.ManyExports.{IsExportsEnd, ServesExports}
 use Rattle.stack_commands.specs.StackCommands.{IsListEnd, PrintsDevices, device_on, on}
+use Rattle.verity_commands.specs.Pinned.{FormatsByPin, IsPinFormatEnd, IsPinVerifyEnd, VerifiesPin}
 use Rattle.verity_commands.specs.Placed.{DumpsAt, FormatsAt, IsDumpEnd, IsSaidFormatEnd, IsTableEnd, PrintsEntry}
 use Rattle.verity_commands.specs.Trees.{FormatsSaidTree, IsSaidFormatTreeEnd, IsTableTreeEnd, IsVerifyTreeEnd, PrintsTreeEntry, VerifiesSaidTree}
 use Rattle.stack_commands.specs.Repairing.{IsRepairWordsEnd, RepairsImage}
@@ -161,6 +162,8 @@ SucceedsFurther texts (table_tree t) u = PrintsTreeEntry texts u.images t u.old.
 SucceedsFurther texts (format_fec f) u = FormatsFec texts u.images u.drawing f u.old.output u.new.output
 SucceedsFurther texts (verify_fec v) u = VerifiesFec u.images v u.old.output u.new.output
 SucceedsFurther texts (repair r) u = RepairsImage u.images r u.old.output u.new.output
+SucceedsFurther texts (format_pin f) u = FormatsByPin texts u.images u.drawing f u.old.output u.new.output
+SucceedsFurther texts (verify_pin v) u = VerifiesPin u.images v u.old.output u.new.output
 
 -- how each ends early, where the last but one says whether the writer failed
 abbrev pub FailsFurther : {S D T G : Type 0} → OptionTexts → FurtherRecord → Uses S D T G → Bool → CommandFault → Type 0
@@ -184,3 +187,5 @@ FailsFurther texts (table_tree t) u failed fault = IsVerityEnd (IsTableTreeEnd t
 FailsFurther texts (format_fec f) u failed fault = IsFecEnd (IsFormatFecEnd texts u.images u.drawing f u.old.output u.new.output failed) fault
 FailsFurther texts (verify_fec v) u failed fault = IsFecEnd (IsVerifyFecEnd u.images v u.old.output u.new.output failed) fault
 FailsFurther texts (repair r) u failed fault = IsRepairWordsEnd u.images r u.old.output u.new.output failed fault
+FailsFurther texts (format_pin f) u failed fault = IsVerityEnd (IsPinFormatEnd texts u.images u.drawing f u.old.output u.new.output failed) fault
+FailsFurther texts (verify_pin v) u failed fault = IsVerityEnd (IsPinVerifyEnd u.images v u.old.output u.new.output failed) fault

@@ -32,8 +32,8 @@ use std::alloc::Global;
 use std::io::{Read, Write};
 use tree_commands::invoke_diff;
 use verity_commands::{
-    invoke_dump, invoke_format, invoke_format_tree, invoke_table, invoke_table_tree,
-    invoke_verify_tree,
+    invoke_dump, invoke_format, invoke_format_pinned, invoke_format_tree, invoke_table,
+    invoke_table_tree, invoke_verify_pinned, invoke_verify_tree,
 };
 use watched_device::Watchers;
 
@@ -86,6 +86,12 @@ pub fn invoke_further<'a, I: Images, G: Generators + Progress + Watchers, S: Rea
         }
         Further::Repair(words) => {
             repair_image(alloc, Desk { images, writer }, generators, &words)
+        }
+        Further::FormatPin(words) => {
+            Ok(invoke_format_pinned(alloc, images, generators, &words, &options, writer)?)
+        }
+        Further::VerifyPin(words) => {
+            Ok(invoke_verify_pinned(alloc, images, generators, &words, writer)?)
         }
         Further::Scan(words) => invoke_scan(alloc, Desk { images, writer }, words, generators),
         Further::Copy(words) => invoke_copy(alloc, Desk { images, writer }, words, generators),

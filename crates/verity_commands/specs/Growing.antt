@@ -2,7 +2,10 @@
 use Rattle.std.specs.Prelude.{◌≡◌, ◌⊎◌, ◌+◌, ℕ, List, Result, Ok, Err}
 use Rattle.image_commands.specs.declared.fault.ImageFault.{ImageFault}
 use Rattle.image_commands.specs.declared.fault.ImageFault.TheVariants.{Format, Open}
+use Rattle.command_line.specs.declared.image_options.ImageOptions.{ImageOptions}
 use Rattle.image_commands.specs.Drawing.{Drawing}
+use Rattle.image_commands.specs.Places.{TwoPlaces}
+use Rattle.image_commands.specs.Preparing.{IsPrepared}
 use Rattle.image_files.specs.Opener.{Calls}
 use Rattle.verity_format.specs.declared.formatting.FormatFault.TheVariants.{HashTooSmall}
 
@@ -16,7 +19,7 @@ IsUngrown w path sectors (Open file) = (file.path.now ≡ path) × w.relations.g
 IsUngrown w path sectors fault = ⊥
 
 -- a formatting ended since so many sectors were needed behind the first one, and there were fewer
-pub record IsRoomFor (tried : Result (Unit {0}) ImageFault) (first sectors : ℕ) : Type 0 where
+pub record IsRoomFor {T : Type 0} (tried : Result T ImageFault) (first sectors : ℕ) : Type 0 where
   pub needed : ℕ
   pub ended : tried ≡ Err (Format (HashTooSmall needed))
   pub is : sectors ≡ first + needed
@@ -62,3 +65,12 @@ pub record FailsToGrow {S D T G : Type 0} (w : Calls S D) (d : Drawing T G) (has
 abbrev pub IsGrowingEnd : {S D T G : Type 0} → Calls S D → Drawing T G → HashStart → (Calls S D → Drawing T G → ℕ → Type 0) → (Calls S D → Drawing T G → ImageFault → Type 0) → ImageFault → Type 0
 IsGrowingEnd w d hash IsTooSmall Ends fault =
     IsUngrown w hash.path 0 fault ⊎ (FailsToGrow w d hash IsTooSmall fault ⊎ FormatsGrowing w d hash IsTooSmall (λ w' d'. Ends w' d' fault))
+
+-- Before that salt and identifier were given or drawn, and the data looked at. So a format that is refused for its options or its
+-- data makes no file.
+pub record PreparesFirst {S D T G : Type 0} (w : Calls S D) (d : Drawing T G) (options : ImageOptions) (places : TwoPlaces) (Formats : Calls S D → Drawing T G → ImageOptions → Type 0) : Type 0 where
+  pub between : S
+  pub drawn : T
+  pub said : ImageOptions
+  pub prepared : IsPrepared (record w { new = between }) (record d { new = drawn }) options places said
+  pub formats : Formats (record w { old = between }) (record d { old = drawn }) said

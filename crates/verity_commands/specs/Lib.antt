@@ -2,6 +2,7 @@ pub mod Endings
 pub mod Growing
 pub mod Images
 pub mod Placed
+pub mod Pinned
 pub mod Places
 pub mod Texts
 pub mod Trees

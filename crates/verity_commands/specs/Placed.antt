@@ -1,5 +1,6 @@
 -- What `format`, `verify`, `dump` and `table` print where superblock and tree have a place in their file, and how they end early.
 use Rattle.std.specs.Borrow.{Bor}
+use Rattle.std.specs.Io.KnownBytes.{Appends}
 use Rattle.std.specs.Prelude.{◌≡◌, ◌⊎◌, ℕ, ◌/◌, ◌++◌, Bool, true, false, List, Option}
 use Rattle.block_device.specs.Device.{Device}
 use Rattle.counted_io.specs.Counted.{CountedRecord}
@@ -19,7 +20,11 @@ use Rattle.image_commands.specs.declared.fault.ImageFault.TheVariants.{Format}
 use Rattle.image_commands.specs.declared.table.LineWords.{LineWords}
 use Rattle.image_commands.specs.declared.watching.WatchedPlaces.{WatchedPlaces}
 use Rattle.image_commands.specs.Drawing.{Drawing}
-use Rattle.image_commands.specs.PlacedFormats.{IsFormatPlacedEnd, PrintsPlaced}
+use Rattle.image_commands.specs.declared.format.MadeImage.{MadeImage}
+use Rattle.image_commands.specs.Endings.{IsLineUnwritten}
+use Rattle.image_commands.specs.Formats.{made_text}
+use Rattle.image_commands.specs.PlacedFormats.{IsMakingPlacedEnd, MakesPlaced}
+use Rattle.image_commands.specs.Preparing.{IsPreparingEnd}
 use Rattle.image_commands.specs.PlacedImages.{IsPlacedImageEnd, IsPlacedMatchesEnd, PrintsPlacedMatches, PrintsPlacedSuper}
 use Rattle.image_commands.specs.PlacedLines.{entry_head, placed_line}
 use Rattle.image_commands.specs.Places.{TwoPlaces, is_aligned, two_places}
@@ -28,7 +33,7 @@ use Rattle.image_files.specs.Opener.{Calls, Opener, calls}
 use Rattle.verity_commands.specs.declared.fault.VerityFault.{VerityFault}
 use Rattle.verity_commands.specs.declared.fault.VerityFault.TheVariants.{Usage}
 use Rattle.verity_commands.specs.Endings.{IsImageEnd, IsVerityQuiet, IsUnsaid}
-use Rattle.verity_commands.specs.Growing.{FormatsGrowing, IsGrowingEnd}
+use Rattle.verity_commands.specs.Growing.{FormatsGrowing, IsGrowingEnd, PreparesFirst}
 use Rattle.verity_commands.specs.Places.{IsRootEnd, TellsRoot, image_places, start_of}
 use Rattle.verity_format.specs.declared.formatting.FormatFault.TheVariants.{HashTooSmall}
 
@@ -75,20 +80,36 @@ IsEntryEnd w t failed fault = IsRootEnd w t.root fault ⊎ EndsEntry w t failed 
 
 -- HASH has too few sectors for what is formatted
 abbrev pub IsTooSmall : {S D T G : Type 0} → ImageOptions → TwoPlaces → Calls S D → Drawing T G → ℕ → Type 0
-IsTooSmall options places w drawing needed = (failed : Bool) × IsFormatPlacedEnd w drawing options places failed (Format (HashTooSmall needed))
+IsTooSmall options places w drawing needed = IsMakingPlacedEnd w drawing options places (Format (HashTooSmall needed))
+
+-- what was made once HASH had the sectors that are needed
+abbrev pub MakesGrown : {S D T G : Type 0} → TwoPlaces → MadeImage → Calls S D → Drawing T G → ImageOptions → Type 0
+MakesGrown places image w drawing options = FormatsGrowing w drawing (start_of places) (IsTooSmall options places) (λ w' d'. MakesPlaced w' d' options places image)
+
+abbrev pub IsGrownEnd : {S D T G : Type 0} → TwoPlaces → ImageFault → Calls S D → Drawing T G → ImageOptions → Type 0
+IsGrownEnd places fault w drawing options = IsGrowingEnd w drawing (start_of places) (IsTooSmall options places) (λ w' d' f. IsMakingPlacedEnd w' d' options places f) fault
 
 -- with `--grow`, and without
-abbrev pub FormatsPlaced : {S D T G : Type 0} → Bool → Calls S D → Drawing T G → ImageOptions → TwoPlaces → Option (List ℕ) → Option (List ℕ) → Type 0
-FormatsPlaced true w drawing options places old new = FormatsGrowing w drawing (start_of places) (IsTooSmall options places) (λ w' d'. PrintsPlaced w' d' options places old new)
-FormatsPlaced false w drawing options places old new = PrintsPlaced w drawing options places old new
+abbrev pub MakesImage : {S D T G : Type 0} → Bool → Calls S D → Drawing T G → ImageOptions → TwoPlaces → MadeImage → Type 0
+MakesImage true w drawing options places image = PreparesFirst w drawing options places (MakesGrown places image)
+MakesImage false w drawing options places image = MakesPlaced w drawing options places image
 
+abbrev pub IsMakingEnd : {S D T G : Type 0} → Bool → Calls S D → Drawing T G → ImageOptions → TwoPlaces → ImageFault → Type 0
+IsMakingEnd true w drawing options places fault = IsPreparingEnd w drawing options places fault ⊎ PreparesFirst w drawing options places (IsGrownEnd places fault)
+IsMakingEnd false w drawing options places fault = IsMakingPlacedEnd w drawing options places fault
+
+-- its root, salt, identifier and number of blocks
+abbrev pub PrintsImage : {S D T G : Type 0} → Bool → Calls S D → Drawing T G → ImageOptions → TwoPlaces → Option (List ℕ) → Option (List ℕ) → Type 0
+PrintsImage grow w drawing options places old new = (image : MadeImage) × MakesImage grow w drawing options places image × Appends old new (made_text image)
+
+-- it wasn't made, or the text of what was made can't be written
 abbrev pub IsFormattingEnd : {S D T G : Type 0} → Bool → Calls S D → Drawing T G → ImageOptions → TwoPlaces → Bool → ImageFault → Type 0
-IsFormattingEnd true w drawing options places failed fault = IsGrowingEnd w drawing (start_of places) (IsTooSmall options places) (λ w' d' f. IsFormatPlacedEnd w' d' options places failed f) fault
-IsFormattingEnd false w drawing options places failed fault = IsFormatPlacedEnd w drawing options places failed fault
+IsFormattingEnd grow w drawing options places failed fault =
+    IsMakingEnd grow w drawing options places fault ⊎ ((image : MadeImage) × MakesImage grow w drawing options places image × IsLineUnwritten failed fault)
 
 abbrev pub FormatsAt : {S D T G : Type 0} → OptionTexts → Calls S D → Drawing T G → FormatRecord → Option (List ℕ) → Option (List ℕ) → Type 0
 FormatsAt texts w drawing f old new =
-    (options : ImageOptions) × AreSaid texts options × FormatsPlaced f.grow w drawing options (image_places f.data_path f.hash_path f.hash_offset) old new
+    (options : ImageOptions) × AreSaid texts options × PrintsImage f.grow w drawing options (image_places f.data_path f.hash_path f.hash_offset) old new
 
 -- a word of `format`'s options says no value, or memory ran out while they were read, and nothing was opened; or it ended so
 abbrev pub IsSaidFormatEnd : {S D T G : Type 0} → OptionTexts → Calls S D → Drawing T G → FormatRecord → Option (List ℕ) → Option (List ℕ) → Bool → VerityFault → Type 0
@@ -116,13 +137,30 @@ IsTableEnd w t old new failed fault = IsImageEnd (IsEntryEnd w t failed) fault �
 -- ---- as a call sees them
 
 -- once HASH has the sectors that are needed
-abbrev pub MakesGrownImage : {S D T G W : Type 0} → Opener S D → (D → Device) → S → S → Drawing T G → (W → Option (List ℕ)) → CountedRecord W → CountedRecord W → ImageOptions → WatchedPlaces → Type 0
-MakesGrownImage relations state images images' d contents writer writer' options watched =
-    FormatsPlaced true (calls relations state images images') d options (two_places watched.places) (contents writer.inner) (contents writer'.inner)
+abbrev pub MakesGrownImage : {S D T G : Type 0} → Opener S D → (D → Device) → S → S → Drawing T G → ImageOptions → WatchedPlaces → MadeImage → Type 0
+MakesGrownImage relations state images images' d options watched image =
+    MakesGrown (two_places watched.places) image (calls relations state images images') d options
 
-abbrev pub FailsGrownImage : {S D T G W : Type 0} → Opener S D → (D → Device) → S → S → Drawing T G → CountedRecord W → ImageOptions → WatchedPlaces → ImageFault → Type 0
-FailsGrownImage relations state images images' d writer' options watched =
-    IsFormattingEnd true (calls relations state images images') d options (two_places watched.places) writer'.failed
+abbrev pub FailsGrownImage : {S D T G : Type 0} → Opener S D → (D → Device) → S → S → Drawing T G → ImageOptions → WatchedPlaces → ImageFault → Type 0
+FailsGrownImage relations state images images' d options watched fault =
+    IsGrownEnd (two_places watched.places) fault (calls relations state images images') d options
+
+-- with `--grow`, or without
+abbrev pub MakesSaidImage : {S D T G : Type 0} → Bool → Opener S D → (D → Device) → S → S → Drawing T G → ImageOptions → WatchedPlaces → MadeImage → Type 0
+MakesSaidImage grow relations state images images' d options watched =
+    MakesImage grow (calls relations state images images') d options (two_places watched.places)
+
+abbrev pub FailsSaidImage : {S D T G : Type 0} → Bool → Opener S D → (D → Device) → S → S → Drawing T G → ImageOptions → WatchedPlaces → ImageFault → Type 0
+FailsSaidImage grow relations state images images' d options watched =
+    IsMakingEnd grow (calls relations state images images') d options (two_places watched.places)
+
+-- what was made was printed
+abbrev pub PrintsMade : {W : Type 0} → (W → Option (List ℕ)) → CountedRecord W → CountedRecord W → MadeImage → Type 0
+PrintsMade contents writer writer' made = Appends (contents writer.inner) (contents writer'.inner) (made_text made)
+
+-- the places of the two images that words name
+abbrev pub places_of : FormatWords → WatchedPlaces
+places_of words = record { places = record { data = words.data_path; hash = words.hash_path; hash_first = words.hash_offset / 512 }; progress = words.progress }
 
 -- by the program's own words
 abbrev pub FormatsByWords : {S D T G W : Type 0} → Opener S D → (D → Device) → S → S → Drawing T G → (W → Option (List ℕ)) → CountedRecord W → CountedRecord W → OptionWords → FormatWords → Type 0

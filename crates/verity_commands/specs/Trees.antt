@@ -20,12 +20,13 @@ use Rattle.image_commands.specs.Drawing.{Drawing}
 use Rattle.image_commands.specs.TreeFormats.{IsFormatTreeEnd as IsTreeFormatEnd, PrintsTree}
 use Rattle.image_commands.specs.TreeImages.{IsTreeLineEnd, IsTreeMatchesEnd, PrintsTreeLine, PrintsTreeMatches}
 use Rattle.image_commands.specs.Places.{TwoPlaces, two_places}
-use Rattle.image_commands.specs.TreePlaces.{given_options}
+use Rattle.image_commands.specs.Preparing.{IsPreparingEnd}
+use Rattle.image_commands.specs.TreePlaces.{given_options, unnamed}
 use Rattle.image_files.specs.Opener.{Calls, Opener, calls}
 use Rattle.verity_format.specs.declared.formatting.FormatOptions.{FormatOptions}
 use Rattle.verity_commands.specs.declared.fault.VerityFault.{VerityFault}
 use Rattle.verity_commands.specs.Endings.{IsImageEnd, IsVerityQuiet, IsUnsaid}
-use Rattle.verity_commands.specs.Growing.{FormatsGrowing, IsGrowingEnd}
+use Rattle.verity_commands.specs.Growing.{FormatsGrowing, IsGrowingEnd, PreparesFirst}
 use Rattle.verity_commands.specs.Places.{IsRootEnd, TellsRoot, image_places, start_of}
 use Rattle.verity_format.specs.declared.formatting.FormatFault.TheVariants.{HashTooSmall}
 
@@ -39,13 +40,20 @@ pub record SaysTree (texts : OptionTexts) (given : FormatOptions) : Type 0 where
 abbrev pub IsTooSmallForTree : {S D T G : Type 0} → ImageOptions → TwoPlaces → Calls S D → Drawing T G → ℕ → Type 0
 IsTooSmallForTree options places w drawing needed = (failed : Bool) × IsTreeFormatEnd w drawing options places failed (Format (HashTooSmall needed))
 
+-- what was made and printed once HASH had the sectors that are needed
+abbrev pub GrowsTree : {S D T G : Type 0} → TwoPlaces → Option (List ℕ) → Option (List ℕ) → Calls S D → Drawing T G → ImageOptions → Type 0
+GrowsTree places old new w drawing options = FormatsGrowing w drawing (start_of places) (IsTooSmallForTree options places) (λ w' d'. PrintsTree w' d' options places old new)
+
+abbrev pub IsGrownTreeEnd : {S D T G : Type 0} → TwoPlaces → Bool → ImageFault → Calls S D → Drawing T G → ImageOptions → Type 0
+IsGrownTreeEnd places failed fault w drawing options = IsGrowingEnd w drawing (start_of places) (IsTooSmallForTree options places) (λ w' d' f. IsTreeFormatEnd w' d' options places failed f) fault
+
 -- with `--grow`, and without
 abbrev pub MakesTreeAt : {S D T G : Type 0} → Bool → Calls S D → Drawing T G → ImageOptions → TwoPlaces → Option (List ℕ) → Option (List ℕ) → Type 0
-MakesTreeAt true w drawing options places old new = FormatsGrowing w drawing (start_of places) (IsTooSmallForTree options places) (λ w' d'. PrintsTree w' d' options places old new)
+MakesTreeAt true w drawing options places old new = PreparesFirst w drawing (unnamed options) places (GrowsTree places old new)
 MakesTreeAt false w drawing options places old new = PrintsTree w drawing options places old new
 
 abbrev pub IsMakingEnd : {S D T G : Type 0} → Bool → Calls S D → Drawing T G → ImageOptions → TwoPlaces → Bool → ImageFault → Type 0
-IsMakingEnd true w drawing options places failed fault = IsGrowingEnd w drawing (start_of places) (IsTooSmallForTree options places) (λ w' d' f. IsTreeFormatEnd w' d' options places failed f) fault
+IsMakingEnd true w drawing options places failed fault = IsPreparingEnd w drawing (unnamed options) places fault ⊎ PreparesFirst w drawing (unnamed options) places (IsGrownTreeEnd places failed fault)
 IsMakingEnd false w drawing options places failed fault = IsTreeFormatEnd w drawing options places failed fault
 
 abbrev pub FormatsSaidTree : {S D T G : Type 0} → OptionTexts → Calls S D → Drawing T G → TreeFormatRecord → Option (List ℕ) → Option (List ℕ) → Type 0
@@ -105,11 +113,11 @@ IsTableTreeEnd texts w t old new failed fault =
 
 abbrev pub MakesGrownTree : {S D T G W : Type 0} → Opener S D → (D → Device) → S → S → Drawing T G → (W → Option (List ℕ)) → CountedRecord W → CountedRecord W → ImageOptions → WatchedPlaces → Type 0
 MakesGrownTree relations state images images' d contents writer writer' options watched =
-    MakesTreeAt true (calls relations state images images') d options (two_places watched.places) (contents writer.inner) (contents writer'.inner)
+    GrowsTree (two_places watched.places) (contents writer.inner) (contents writer'.inner) (calls relations state images images') d options
 
 abbrev pub FailsGrownTree : {S D T G W : Type 0} → Opener S D → (D → Device) → S → S → Drawing T G → CountedRecord W → ImageOptions → WatchedPlaces → ImageFault → Type 0
-FailsGrownTree relations state images images' d writer' options watched =
-    IsMakingEnd true (calls relations state images images') d options (two_places watched.places) writer'.failed
+FailsGrownTree relations state images images' d writer' options watched fault =
+    IsGrownTreeEnd (two_places watched.places) writer'.failed fault (calls relations state images images') d options
 
 abbrev pub FormatsTreeByWords : {S D T G W : Type 0} → Opener S D → (D → Device) → S → S → Drawing T G → (W → Option (List ℕ)) → CountedRecord W → CountedRecord W → OptionWords → TreeFormatWords → Type 0
 FormatsTreeByWords relations state images images' d contents writer writer' options words =

@@ -1,5 +1,5 @@
 //! `format --grow`: makes HASH, or makes it longer, where it has too few sectors.
-ghost use Rattle.std.specs.Prelude.{◌≡◌, ◌+◌, true, Err, IfErr, IfSome, OnOk};
+ghost use Rattle.std.specs.Prelude.{◌≡◌, ◌+◌, true, Err, IfErr, IfOk, IfSome, OnOk};
 ghost use Rattle.image_commands.specs.declared.fault.ImageFault.TheVariants as image_fault;
 ghost use Rattle.image_commands.specs.Drawing.{drawing};
 ghost use Rattle.image_commands.specs.Endings.{IsQuiet};
@@ -13,7 +13,7 @@ use block_device::BlockDev;
 use command_line::ImageOptions;
 use counted_io::Counted;
 use image_commands::{
-    Generators, ImageFault, ImagePlaces, WatchedPlaces, format_placed, format_tree,
+    Generators, ImageFault, ImagePlaces, MadeImage, WatchedPlaces, format_tree, make_placed,
 };
 use image_files::{Images, UnopenedFile};
 use std::alloc::Global;
@@ -37,7 +37,7 @@ fn make_room<'a, I: Images>(
 }
 
 // How many sectors are needed, where a formatting ended since there were too few.
-fn needed_by(tried: &Result<(), ImageFault<'_>>) -> Option<u64>
+fn needed_by<T>(tried: &Result<T, ImageFault<'_>>) -> Option<u64>
     ensures { IfSome result (λ needed. tried.now ≡ Err (image_fault.Format (format_fault.HashTooSmall needed))) }
 {
     match tried {
@@ -47,24 +47,22 @@ fn needed_by(tried: &Result<(), ImageFault<'_>>) -> Option<u64>
 }
 
 // How many sectors the file has to have then, whose hash image begins at that one.
-fn room_for(tried: &Result<(), ImageFault<'_>>, first: u64) -> Option<u64>
+fn room_for<T>(tried: &Result<T, ImageFault<'_>>, first: u64) -> Option<u64>
     ensures { IfSome result (IsRoomFor tried.now first) }
 {
     first.checked_add(needed_by(tried)?)
 }
 
-/// Formats the hash image once its file has the sectors that are needed.
-pub fn format_growing<'a, I: Images, G: Generators + Watchers, W: Write>(
+/// Makes the hash image once its file has the sectors that are needed.
+pub fn make_growing<'a, I: Images, G: Generators + Watchers>(
     alloc: Global,
     images: &mut I,
     generators: &mut G,
     options: &ImageOptions,
     watched: &WatchedPlaces<'a>,
-    writer: &mut Counted<W>,
-) -> Result<(), ImageFault<'a>>
-    ensures ok { OnOk result (MakesGrownImage I.relations I.Dev.state images.old images.new (drawing G.gives G.Generator.stream generators.old generators.new) W.contents writer.old writer.new options.now watched.now) }
-    ensures err { IfErr result (FailsGrownImage I.relations I.Dev.state images.old images.new (drawing G.gives G.Generator.stream generators.old generators.new) writer.new options.now watched.now) }
-    ensures quiet { IfErr result (λ fault. IsQuiet fault (W.contents writer.old.inner) (W.contents writer.new.inner)) }
+) -> Result<MadeImage, ImageFault<'a>>
+    ensures ok { IfOk result (MakesGrownImage I.relations I.Dev.state images.old images.new (drawing G.gives G.Generator.stream generators.old generators.new) options.now watched.now) }
+    ensures err { IfErr result (FailsGrownImage I.relations I.Dev.state images.old images.new (drawing G.gives G.Generator.stream generators.old generators.new) options.now watched.now) }
 {
     let ImagePlaces {
         data: _,
@@ -72,12 +70,12 @@ pub fn format_growing<'a, I: Images, G: Generators + Watchers, W: Write>(
         hash_first,
     } = watched.places;
     make_room(images, hash, 0)?;
-    let tried = format_placed(alloc, images, generators, *options, *watched, writer);
+    let tried = make_placed(alloc, images, generators, *options, *watched);
     let Some(sectors) = room_for(&tried, hash_first) else {
         return tried;
     };
     make_room(images, hash, sectors)?;
-    format_placed(alloc, images, generators, *options, *watched, writer)
+    make_placed(alloc, images, generators, *options, *watched)
 }
 
 /// Makes the tree without a superblock once its file has the sectors that are needed.

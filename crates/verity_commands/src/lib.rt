@@ -4,6 +4,7 @@
 mod fault;
 mod growing;
 mod images;
+mod pinned;
 mod placed;
 mod places;
 mod status;
@@ -12,6 +13,7 @@ mod trees;
 
 pub use fault::VerityFault;
 pub use images::invoke_on_images;
+pub use pinned::{invoke_format_pinned, invoke_verify_pinned};
 pub use placed::{invoke_dump, invoke_format, invoke_table, invoke_verify};
 pub use places::{root_in, sector_at};
 pub use status::verity_status;

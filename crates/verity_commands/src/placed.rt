@@ -1,16 +1,19 @@
 //! The commands on verity images with a place for superblock and tree.
-ghost use Rattle.std.specs.Prelude.{OnOk, IfErr};
+ghost use Rattle.std.specs.Prelude.{OnOk, IfErr, IfOk};
 ghost use Rattle.image_commands.specs.Drawing.{drawing};
-ghost use Rattle.verity_commands.specs.Placed.{DumpsByWords, FailsToDump, FailsToFormat, FailsToPrintTable, FailsToVerifyByWords, FormatsByWords, PrintsByWords, VerifiesByWords};
+ghost use Rattle.image_commands.specs.Endings.{IsLineUnwritten};
+ghost use Rattle.verity_commands.specs.Placed.{DumpsByWords, FailsSaidImage, FailsToDump, FailsToFormat, FailsToPrintTable, FailsToVerifyByWords, FormatsByWords, MakesSaidImage, PrintsByWords, PrintsMade, VerifiesByWords, places_of};
 
 use crate::fault::VerityFault;
-use crate::growing::format_growing;
+use crate::growing::make_growing;
 use crate::places::{root_in, sector_at};
-use command_line::{DumpWords, FormatWords, OptionWords, TableWords, VerifyWords, options_of};
+use command_line::{
+    DumpWords, FormatWords, ImageOptions, OptionWords, TableWords, VerifyWords, options_of,
+};
 use counted_io::Counted;
 use image_commands::{
-    Generators, HashPlace, ImagePlaces, LineWords, WatchedPlaces, dump_placed, format_placed,
-    table_placed, verify_placed,
+    Generators, HashPlace, ImageFault, ImagePlaces, LineWords, MadeImage, WatchedPlaces,
+    dump_placed, make_placed, prepare_image, say_made, table_placed, verify_placed,
 };
 use image_files::Images;
 use std::alloc::Global;
@@ -30,18 +33,55 @@ pub fn invoke_format<'a, I: Images, G: Generators + Watchers, W: Write>(
     ensures err { IfErr result (FailsToFormat I.relations I.Dev.state images.old images.new (drawing G.gives G.Generator.stream generators.old generators.new) W.contents writer.old writer.new options.now words.now) }
 {
     let options = options_of(alloc, options)?;
-    let hash_first = sector_at(words.hash_offset);
+    let watched = places_of(words);
+    let made = make_image(alloc, images, generators, options, &watched, words.grow)?;
+    Ok(print_made(writer, &made)?)
+}
+
+/// Prints what was made.
+pub(crate) fn print_made<'a, W: Write>(
+    writer: &mut Counted<W>,
+    made: &MadeImage,
+) -> Result<(), ImageFault<'a>>
+    ensures ok { OnOk result (PrintsMade W.contents writer.old writer.new made.now) }
+    ensures err { IfErr result (IsLineUnwritten writer.new.failed) }
+{
+    say_made(writer, made)?;
+    Ok(())
+}
+
+/// The places of the two images that words name.
+pub(crate) fn places_of<'a>(words: &FormatWords<'a>) -> WatchedPlaces<'a>
+    ensures { result ≡ places_of words.now }
+{
     let places = ImagePlaces {
         data: words.data_path,
         hash: words.hash_path,
-        hash_first,
+        hash_first: sector_at(words.hash_offset),
     };
-    let progress = words.progress;
-    let watched = WatchedPlaces { places, progress };
-    if words.grow {
-        return Ok(format_growing(alloc, images, generators, &options, &watched, writer)?);
+    WatchedPlaces {
+        places,
+        progress: words.progress,
     }
-    Ok(format_placed(alloc, images, generators, options, watched, writer)?)
+}
+
+/// Makes the image. With `--grow` a format that is refused for its options or its data makes no file.
+pub(crate) fn make_image<'a, I: Images, G: Generators + Watchers>(
+    alloc: Global,
+    images: &mut I,
+    generators: &mut G,
+    options: ImageOptions,
+    watched: &WatchedPlaces<'a>,
+    grow: bool,
+) -> Result<MadeImage, ImageFault<'a>>
+    ensures ok { IfOk result (MakesSaidImage grow I.relations I.Dev.state images.old images.new (drawing G.gives G.Generator.stream generators.old generators.new) options watched.now) }
+    ensures err { IfErr result (FailsSaidImage grow I.relations I.Dev.state images.old images.new (drawing G.gives G.Generator.stream generators.old generators.new) options watched.now) }
+{
+    if !grow {
+        return make_placed(alloc, images, generators, options, *watched);
+    }
+    let said = prepare_image(images, generators, options, watched.places)?;
+    make_growing(alloc, images, generators, &said, watched)
 }
 
 /// `verify [--progress] [--hash-offset BYTES] [--root-hash-file FILE] DATA HASH [ROOT]`

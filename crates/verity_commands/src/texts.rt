@@ -1,13 +1,15 @@
 //! What is printed of commands on verity images that end early.
 ghost use Rattle.std.specs.Prelude.{◌≡◌};
 ghost use Rattle.counted_io.specs.Counted.{Writes};
-ghost use Rattle.verity_commands.specs.Texts.{format_text, image_text, verdict_text, verify_text, verity_text};
+ghost use Rattle.verity_commands.specs.Texts.{format_text, image_text, pin_fault_text, unwritten_pin_text, verdict_text, verify_text, verity_text};
 
 use crate::fault::VerityFault;
 use counted_io::{Counted, WriteFault};
 use image_commands::ImageFault;
+use image_pin::PinFault;
 use io_fault_text::{say_no_memory, say_refused, say_unopened, say_usage};
 use std::io::Write;
+use text_files::ReplaceFault;
 use verity_format::{FormatFault, Verdict, VerifyFault};
 
 /// One line, or none where a line can't be written.
@@ -37,9 +39,46 @@ pub fn say_image_fault<W: Write>(
         ImageFault::Verify(fault) => say_verify_fault(writer, fault),
         ImageFault::Differs(verdict) => say_verdict(writer, verdict),
         ImageFault::Unaligned => writer.put(b"refused 18 Unaligned\n"),
+        ImageFault::DataOverlapsTree => writer.put(b"refused 34 DataOverlapsTree\n"),
+        ImageFault::Pin(fault) => say_pin_fault(writer, fault),
+        ImageFault::Unpinned(mismatch) => {
+            say_refused(writer, mismatch.number(), mismatch.name())
+        }
+        ImageFault::PinUnwritten(fault) => say_unwritten_pin(writer, fault),
         ImageFault::RootText => writer.put(b"refused 19 RootText\n"),
         ImageFault::Random => writer.put(b"refused random\n"),
         ImageFault::Write => Ok(()),
+    }
+}
+
+// `refused K NAME`, and which name of a pin's line.
+fn say_pin_fault<W: Write>(writer: &mut Counted<W>, fault: PinFault) -> Result<(), WriteFault>
+    ensures { Writes W.contents writer.old writer.new (pin_fault_text fault) result }
+{
+    let (number, name) = (fault.number(), fault.name());
+    match fault {
+        PinFault::Repeated(line) | PinFault::Missing(line) | PinFault::Value(line) => {
+            let line = line.text();
+            writer.print(format_args!("refused {number} {name} {line}\n"))
+        }
+        PinFault::Header | PinFault::Line | PinFault::Unknown | PinFault::TooLong => {
+            say_refused(writer, number, name)
+        }
+    }
+}
+
+// Why a pin isn't written.
+fn say_unwritten_pin<W: Write>(
+    writer: &mut Counted<W>,
+    fault: ReplaceFault,
+) -> Result<(), WriteFault>
+    ensures { Writes W.contents writer.old writer.new (unwritten_pin_text fault) result }
+{
+    match fault {
+        ReplaceFault::NoMemory => say_no_memory(writer),
+        ReplaceFault::Write => say_refused(writer, 43, "PinWrite"),
+        ReplaceFault::Sync => say_refused(writer, 44, "PinSync"),
+        ReplaceFault::Rename => say_refused(writer, 45, "PinRename"),
     }
 }
 

@@ -12,7 +12,7 @@ use command_line::{OptionWords, TreeFormatWords, TreeTableWords, TreeVerifyWords
 use counted_io::Counted;
 use image_commands::{
     ExpectedTree, Generators, ImagePlaces, LineWords, WatchedPlaces, format_tree, given_options,
-    print_tree_line, verify_tree,
+    prepare_image, print_tree_line, unnamed, verify_tree,
 };
 use image_files::Images;
 use std::alloc::Global;
@@ -42,7 +42,8 @@ pub fn invoke_format_tree<'a, I: Images, G: Generators + Watchers, W: Write>(
     let progress = words.progress;
     let watched = WatchedPlaces { places, progress };
     if words.grow {
-        return Ok(format_tree_growing(alloc, images, generators, &options, &watched, writer)?);
+        let said = prepare_image(images, generators, unnamed(options), places)?;
+        return Ok(format_tree_growing(alloc, images, generators, &said, &watched, writer)?);
     }
     Ok(format_tree(alloc, images, generators, options, watched, writer)?)
 }

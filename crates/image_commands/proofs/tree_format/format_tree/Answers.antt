@@ -1,4 +1,4 @@
-use Rattle.std.proofs.Common.{ℕ, Result, ap, inl, inr, refl, subst}
+use Rattle.std.proofs.Common.{ℕ, Result, ap, inl, inr, refl, subst, sym, ◌∙◌}
 use Rattle.std.proofs.Math.Path.{subst₃}
 use Rattle.std.specs.Prelude.{IfErr, IfOk}
 use Rattle.block_device.specs.Device.{Device}
@@ -49,7 +49,7 @@ returns-in_err-say_tree-clause-err g c =
     let Was : MadeImage → Type 0 = Made (state watched.result.0.inner) (state watched.result.1) c.data_end-end.result in
     let tree : Was made = subst (λ (r : Result MadeImage FormatFault). IfOk r Was) c.in_ok-made.was c.make_at-hash_dev.ensures.ok in
     err-from c.from_residual-in_err-say_tree.result _ Write c.from_residual-in_err-say_tree.ensures.1
-    (inr (inr (inr (inr (
+    (inr (inr (inr (inr (inl (
       made,
       record {
         given = given;
@@ -58,12 +58,13 @@ returns-in_err-say_tree-clause-err g c =
         between = c.open_placed.new.images;
         aligned = cc (c.if-not-is_aligned.ensures);
         opened = c.in_ok-two.ensures.ok;
+        apart = sym c.overlaps.ensures ∙ c.if-overlaps.false;
         are_given = given-as c.in_ok-options.ensures.ok c.unnamed.ensures;
         tree = subst₃ (λ (d h : Device) (end : ℕ). Made d h end made) (ap state watched.ensures.data) (ap state watched.ensures.hash) c.data_end-end.ensures tree;
         closed = c.close.ensures;
       },
       c.in_err-say_tree.ensures.failed,
-    )))))
+    ))))))
 
 pub returns-clause-ok : goal.returns-clause-ok
 returns-clause-ok g c =
@@ -83,6 +84,7 @@ returns-clause-ok g c =
         between = c.open_placed.new.images;
         aligned = cc (c.if-not-is_aligned.ensures);
         opened = c.in_ok-two.ensures.ok;
+        apart = sym c.overlaps.ensures ∙ c.if-overlaps.false;
         are_given = given-as c.in_ok-options.ensures.ok c.unnamed.ensures;
         tree = subst₃ (λ (d h : Device) (end : ℕ). Made d h end made) (ap state watched.ensures.data) (ap state watched.ensures.hash) c.data_end-end.ensures tree;
         closed = c.close.ensures;

@@ -1,8 +1,5 @@
-use Rattle.std.proofs.Common.{◌≡◌, ◌∙◌, ◌*◌, ap, arith, sym, subst}
+use Rattle.std.proofs.Common.{arith}
 use Rattle.std.proofs.lemmas.Result.{err_from_is_err_and}
-use Rattle.partition_table.specs.Disks.{unit_of}
-use Rattle.partition_table.specs.Headers.{array_sectors}
-use Rattle.partition_table.proofs.HeaderLemmas.{IsOnDisk}
 use Rattle.partition_table.proofs.ReadLemmas.{on_disk, only_read-then, unread-cause}
 use Rattle.partition_table.proofs.copy.read_copy.Goals as goal
 

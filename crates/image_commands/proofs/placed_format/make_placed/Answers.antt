@@ -1,13 +1,13 @@
-use Rattle.std.proofs.Common.{ℕ, Result, ap, inl, inr, refl, subst}
+use Rattle.std.proofs.Common.{ℕ, Result, ap, inl, inr, refl, subst, sym, ◌∙◌}
 use Rattle.std.proofs.Math.Path.{subst₃}
 use Rattle.std.specs.Prelude.{IfErr, IfOk}
 use Rattle.block_device.specs.Device.{Device}
 use Rattle.verity_format.specs.declared.formatting.FormatFault.{FormatFault}
 use Rattle.image_commands.specs.declared.format.MadeImage.{MadeImage}
-use Rattle.image_commands.specs.declared.fault.ImageFault.TheVariants.{Format, Write}
+use Rattle.image_commands.specs.declared.fault.ImageFault.TheVariants.{Format}
 use Rattle.image_commands.specs.PlacedFormats.{IsMadePlaced, IsPlacedEnd, Placing}
 use Rattle.image_commands.proofs.OpeningLemmas.{err-from}
-use Rattle.image_commands.proofs.placed_format.format_placed.Goals as goal
+use Rattle.image_commands.proofs.placed_format.make_placed.Goals as goal
 
 pub returns-in_err-options-clause-err : goal.returns-in_err-options-clause-err
 returns-in_err-options-clause-err g c =
@@ -35,32 +35,6 @@ returns-in_err-made-clause-err g c =
       is = refl;
     })))))
 
-pub returns-in_err-say_made-clause-err : goal.returns-in_err-say_made-clause-err
-returns-in_err-say_made-clause-err g c =
-    let image = c.in_ok-made.made in
-    let watched = c.watch-data_dev in
-    let state = g.I.Dev.BlockDev.state in
-    let after : Device = state c.make_behind-hash_dev.result.0 in
-    let placing : Device → Device → ℕ → Placing = λ data_dev hash_dev end. record { data_dev = data_dev; hash_dev = hash_dev; hash_dev' = after; end = end; first = c.args.watched.places.hash_first } in
-    let was : Placing = placing (state watched.result.0.inner) (state watched.result.1) c.data_end-end.result in
-    let made : IsMadePlaced c.in_ok-options.options was image = subst (λ (r : Result MadeImage FormatFault). IfOk r (IsMadePlaced c.in_ok-options.options was)) c.in_ok-made.was c.make_behind-hash_dev.ensures.ok in
-    err-from c.from_residual-in_err-say_made.result _ Write c.from_residual-in_err-say_made.ensures.1
-    (inr (inr (inr (inr (
-      image,
-      record {
-        given = c.in_ok-options.options;
-        two = c.in_ok-two.two;
-        hash_dev' = c.make_behind-hash_dev.result.0;
-        between = c.open_placed.new.images;
-        aligned = cc (c.if-not-is_aligned.ensures);
-        opened = c.in_ok-two.ensures.ok;
-        are_given = c.in_ok-options.ensures.ok;
-        made = subst₃ (λ (d h : Device) (end : ℕ). IsMadePlaced c.in_ok-options.options (placing d h end) image) (ap state watched.ensures.data) (ap state watched.ensures.hash) c.data_end-end.ensures made;
-        closed = c.close.ensures;
-      },
-      c.in_err-say_made.ensures.failed,
-    )))))
-
 pub returns-clause-ok : goal.returns-clause-ok
 returns-clause-ok g c =
     let image = c.in_ok-made.made in
@@ -69,18 +43,15 @@ returns-clause-ok g c =
     let after : Device = state c.make_behind-hash_dev.result.0 in
     let placing : Device → Device → ℕ → Placing = λ data_dev hash_dev end. record { data_dev = data_dev; hash_dev = hash_dev; hash_dev' = after; end = end; first = c.args.watched.places.hash_first } in
     let was : Placing = placing (state watched.result.0.inner) (state watched.result.1) c.data_end-end.result in
-    let made : IsMadePlaced c.in_ok-options.options was image = subst (λ (r : Result MadeImage FormatFault). IfOk r (IsMadePlaced c.in_ok-options.options was)) c.in_ok-made.was c.make_behind-hash_dev.ensures.ok in (
-      image,
-      record {
-        given = c.in_ok-options.options;
-        two = c.in_ok-two.two;
-        hash_dev' = c.make_behind-hash_dev.result.0;
-        between = c.open_placed.new.images;
-        aligned = cc (c.if-not-is_aligned.ensures);
-        opened = c.in_ok-two.ensures.ok;
-        are_given = c.in_ok-options.ensures.ok;
-        made = subst₃ (λ (d h : Device) (end : ℕ). IsMadePlaced c.in_ok-options.options (placing d h end) image) (ap state watched.ensures.data) (ap state watched.ensures.hash) c.data_end-end.ensures made;
-        closed = c.close.ensures;
-      },
-      c.in_ok-say_made.ensures.ok,
-    )
+    let made : IsMadePlaced c.in_ok-options.options was image = subst (λ (r : Result MadeImage FormatFault). IfOk r (IsMadePlaced c.in_ok-options.options was)) c.in_ok-made.was c.make_behind-hash_dev.ensures.ok in record {
+      given = c.in_ok-options.options;
+      two = c.in_ok-two.two;
+      hash_dev' = c.make_behind-hash_dev.result.0;
+      between = c.open_placed.new.images;
+      aligned = cc (c.if-not-is_aligned.ensures);
+      opened = c.in_ok-two.ensures.ok;
+      apart = sym c.overlaps.ensures ∙ c.if-overlaps.false;
+      are_given = c.in_ok-options.ensures.ok;
+      made = subst₃ (λ (d h : Device) (end : ℕ). IsMadePlaced c.in_ok-options.options (placing d h end) image) (ap state watched.ensures.data) (ap state watched.ensures.hash) c.data_end-end.ensures made;
+      closed = c.close.ensures;
+    }

@@ -1,0 +1,49 @@
+//! `verify --pin FILE [--hash-offset BYTES] [--progress] DATA HASH`
+ghost use Rattle.command_line.specs.FurtherRecords.{verify_pin};
+ghost use Rattle.command_line.specs.Reading.{ReadsAs};
+ghost use Rattle.command_line.specs.FormatOptions.{option_texts, texts_of};
+ghost use Rattle.command_line.specs.words.PinVerify.{pin_verify_said};
+
+use crate::fault::WordsFault;
+use crate::further::Further;
+use crate::option_words::{OptionWords, has_tree_value};
+use crate::values::{offset_of, pin_of};
+
+/// A verity image is checked against a pin.
+#[derive(Drop)]
+pub struct PinVerifyWords<'a> {
+    pub data_path: &'a str,
+    pub hash_path: &'a str,
+    pub pin: &'a str,
+    pub hash_offset: u64,
+    pub progress: bool,
+}
+
+/// `--pin FILE [--hash-offset BYTES] [--progress] DATA HASH`; the pin holds the root hash.
+#[tactic(auto, unfolding(crate::specs::words::PinVerify::pin_verify_said))]
+pub fn pin_verify_of<'a>(
+    options: &OptionWords<'a>,
+    words: &[&'a str],
+) -> Result<Further<'a>, WordsFault>
+    ensures { ReadsAs verify_pin (pin_verify_said (option_texts options.now) (texts_of words.now)) result }
+{
+    let [data_path, hash_path] = words else {
+        return Err(WordsFault::Usage);
+    };
+    if has_tree_value(options) || options.all || options.json || options.root_hash_file.is_some() {
+        return Err(WordsFault::Usage);
+    }
+    let Some(pin) = pin_of(options.pin) else {
+        return Err(WordsFault::Usage);
+    };
+    let Some(hash_offset) = offset_of(options.hash_offset) else {
+        return Err(WordsFault::Usage);
+    };
+    Ok(Further::VerifyPin(PinVerifyWords {
+        data_path,
+        hash_path,
+        pin,
+        hash_offset,
+        progress: options.progress,
+    }))
+}

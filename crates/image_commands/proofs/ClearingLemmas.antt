@@ -1,0 +1,36 @@
+-- Hash devices on which an old superblock was cleared.
+use Rattle.std.proofs.Common.{◌≡◌, ◌<◌, ◌+◌, ◌-◌, ℕ, IsTrue, List, ◌++◌, length, drop, ap, subst, sym, ◌∙◌, arith, inl, inr}
+use Rattle.std.proofs.lemmas.List.{drop-drop}
+use Rattle.block_device.specs.Device.{Device, sectors_of}
+use Rattle.block_device.specs.Whole.{length-sectors_of}
+use Rattle.hash_tree.specs.Tree.{area}
+use Rattle.std.specs.List.{concat}
+use Rattle.verity_format.specs.Image.{area_over, first_block, formatted, image_sectors}
+use Rattle.verity_format.specs.Superblock.{SuperRecord, shape_of}
+use Rattle.image_commands.specs.Clearing.{IsCleared}
+
+-- a device stays steady
+pub steady-cleared : (old new : Device) → IsCleared old new → new.steady ≡ old.steady
+steady-cleared old new (inl none) = none.read.same.steady
+steady-cleared old new (inr zeroed) = ap (λ (d : Device). d.steady) zeroed.kept ∙ zeroed.written.same.steady ∙ zeroed.read.same.steady
+
+-- behind the first sector nothing changes
+pub drop-cleared : (old new : Device) → IsCleared old new → IsTrue old.steady → drop 1 new.image ≡ drop 1 old.image
+drop-cleared old new (inl none) steady = ap (drop 1) (none.read.image steady)
+drop-cleared old new (inr zeroed) steady =
+    ap (λ (d : Device). drop 1 d.image) zeroed.kept
+    ∙ zeroed.written.after (subst IsTrue (sym zeroed.read.same.steady) steady)
+    ∙ ap (drop 1) (zeroed.read.image steady)
+
+drop-more : (n : ℕ) → 0 < n → (a b : List (List ℕ)) → drop 1 a ≡ drop 1 b → drop n a ≡ drop n b
+drop-more n some a b same =
+    let count : n ≡ 1 + (n - 1) = omega arith in
+    ap (λ k. drop k a) count ∙ sym (drop-drop (n - 1) 1 a) ∙ ap (drop (n - 1)) same ∙ drop-drop (n - 1) 1 b ∙ ap (λ k. drop k b) (sym count)
+
+-- a formatted image has nothing of the sector that was cleared
+pub formatted-cleared : (s : SuperRecord) (data_image : List (List ℕ)) (old new : Device) → 0 < image_sectors (shape_of s) → IsCleared old new → IsTrue old.steady
+    → formatted s data_image new.image ≡ formatted s data_image old.image
+formatted-cleared s data_image old new some cleared steady =
+    let sectors : List (List ℕ) = sectors_of (image_sectors (shape_of s)) (first_block s ++ concat (area_over (shape_of s) s.salt data_image)) in
+    let count : length sectors ≡ image_sectors (shape_of s) = length-sectors_of (image_sectors (shape_of s)) _ in
+    ap (λ (rest : List (List ℕ)). sectors ++ rest) (drop-more (0 + length sectors) (omega (arith, count, some)) new.image old.image (drop-cleared old new cleared steady))

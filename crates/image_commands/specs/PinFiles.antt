@@ -1,0 +1,79 @@
+-- Pins in files.
+use Rattle.std.specs.Borrow.{Bor}
+use Rattle.std.specs.Prelude.{◌≡◌, ◌⊎◌, ◌||◌, ℕ, Bool, true, false, List, Option, None, Ok, Err}
+use Rattle.std.specs.Str.{bytes_eq}
+use Rattle.block_device.specs.declared.file_id.FileId.{FileId}
+use Rattle.block_device.specs.declared.open_fault.OpenFault.{OpenFault}
+use Rattle.block_device.specs.declared.open_fault.OpenFault.TheVariants.{SameFile}
+use Rattle.command_line.specs.declared.image_options.ImageOptions.{ImageOptions}
+use Rattle.image_files.specs.declared.images.FileText.{FileText}
+use Rattle.image_files.specs.declared.opening.UnopenedFile.{UnopenedFile}
+use Rattle.image_files.specs.OneFile.{is_one_file}
+use Rattle.image_files.specs.Opener.{Calls}
+use Rattle.image_pin.specs.declared.fault.PinFault.{PinFault}
+use Rattle.image_pin.specs.declared.pin.Pin.{Pin}
+use Rattle.image_pin.specs.PinTexts.{pin_of, pin_text}
+use Rattle.image_commands.specs.declared.fault.ImageFault.{ImageFault}
+use Rattle.image_commands.specs.declared.fault.ImageFault.TheVariants as image
+use Rattle.image_commands.specs.declared.format.MadeImage.{MadeImage}
+
+-- the text of the file under the path, of which at most 4,097 bytes are taken, says that pin
+pub record ReadsPin {S D : Type 0} (w : Calls S D) (path : List ℕ) (pin : Pin) : Type 0 where
+  pub text : FileText
+  pub told : w.relations.tells w.old path 4097 (Ok text) w.new
+  pub says : pin_of text.bytes.items ≡ Ok pin
+
+-- the file isn't read
+pub record IsPinUntold {S D : Type 0} (w : Calls S D) (path : List ℕ) (file : UnopenedFile) : Type 0 where
+  pub path_is : file.path.now ≡ path
+  pub told : w.relations.tells w.old path 4097 (Err file.fault) w.new
+
+-- or its text is no pin
+pub record HasNoPin {S D : Type 0} (w : Calls S D) (path : List ℕ) (fault : PinFault) : Type 0 where
+  pub text : FileText
+  pub told : w.relations.tells w.old path 4097 (Ok text) w.new
+  pub says : pin_of text.bytes.items ≡ Err fault
+
+abbrev pub IsPinFileEnd : {S D : Type 0} → Calls S D → List ℕ → ImageFault → Type 0
+IsPinFileEnd w path (image.Open file) = IsPinUntold w path file
+IsPinFileEnd w path (image.Pin fault) = HasNoPin w path fault
+IsPinFileEnd w path fault = ⊥
+
+-- the pin of an image that was made with these options
+abbrev pub pin_of_image : ImageOptions → MadeImage → Pin
+pin_of_image options made = record { root = made.root; salt = made.salt; data_block = options.data_block; hash_block = options.hash_block; blocks = made.blocks }
+
+-- its text was put in the place of what the file held
+abbrev pub WritesPin : {S D : Type 0} → Calls S D → List ℕ → Pin → Type 0
+WritesPin w path pin = w.relations.replaces w.old path (pin_text pin) (Ok tt) w.new
+
+-- or it wasn't, or memory for the text was refused and nothing was called
+abbrev pub IsPinUnwritten : {S D : Type 0} → Calls S D → List ℕ → Pin → ImageFault → Type 0
+IsPinUnwritten w path pin (image.PinUnwritten fault) = w.relations.replaces w.old path (pin_text pin) (Err fault) w.new
+IsPinUnwritten w path pin image.NoMemory = w.new ≡ w.old
+IsPinUnwritten w path pin fault = ⊥
+
+-- which file stands under a path, where one does and that is known
+abbrev pub TellsId : {S D : Type 0} → Calls S D → List ℕ → Option FileId → Type 0
+TellsId w path id =
+    ((text : FileText) × w.relations.tells w.old path 0 (Ok text) w.new × (id ≡ text.id))
+    ⊎ ((fault : OpenFault) × w.relations.tells w.old path 0 (Err fault) w.new × (id ≡ None))
+
+-- the file of a pin is one of two images, as far as the opener tells
+pub record ToldApart {S D : Type 0} (w : Calls S D) (data_path hash_path path : List ℕ) (is_one : Bool) : Type 0 where
+  pub pin_told : S
+  pub data_told : S
+  pub pin_id : Option FileId
+  pub data_id : Option FileId
+  pub hash_id : Option FileId
+  pub pin_tells : TellsId (record w { new = pin_told }) path pin_id
+  pub data_tells : TellsId (record w { old = pin_told; new = data_told }) data_path data_id
+  pub hash_tells : TellsId (record w { old = data_told }) hash_path hash_id
+  pub is : (bytes_eq path hash_path || is_one_file pin_id data_id || is_one_file pin_id hash_id) ≡ is_one
+
+abbrev pub AreApart : {S D : Type 0} → Calls S D → List ℕ → List ℕ → List ℕ → Type 0
+AreApart w data_path hash_path path = ToldApart w data_path hash_path path false
+
+abbrev pub AreOne : {S D : Type 0} → Calls S D → List ℕ → List ℕ → List ℕ → ImageFault → Type 0
+AreOne w data_path hash_path path (image.Open file) = ToldApart w data_path hash_path path true × (file.fault ≡ SameFile) × (file.path.now ≡ path)
+AreOne w data_path hash_path path fault = ⊥

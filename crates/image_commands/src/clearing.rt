@@ -1,0 +1,24 @@
+//! A superblock of an earlier format, cleared before the tree beneath it changes.
+ghost use Rattle.std.specs.Prelude.{◌≡◌, ◌<◌, IsTrue, OnErr, OnOk};
+ghost use Rattle.image_commands.specs.Clearing.{IsCleared, IsUncleared};
+
+use block_device::{DeviceFault, SyncDev};
+
+const SIGNATURE: &[u8] = b"verity\0\0";
+
+/// Writes zeros over the first sector where it begins as a superblock does, and has that put on the medium. So if the tree is
+/// written only in part after it, no superblock stands over that part.
+pub(crate) fn clear_superblock<H: SyncDev>(hash_dev: &mut H) -> Result<(), DeviceFault>
+    requires some { 0 < (H.state hash_dev.old).size }
+    requires allowed { IsTrue (H.state hash_dev.old).may_write }
+    ensures ok { OnOk result (IsCleared (H.state hash_dev.old) (H.state hash_dev.new)) }
+    ensures err { OnErr result (IsUncleared (H.state hash_dev.old) (H.state hash_dev.new)) }
+{
+    let mut sector = [0u8; 512];
+    hash_dev.read(0, &mut sector)?;
+    if &sector[..8] != SIGNATURE {
+        return Ok(());
+    }
+    hash_dev.write(0, &[0u8; 512])?;
+    hash_dev.sync()
+}

@@ -1,0 +1,87 @@
+//! Pins in files.
+ghost use Rattle.std.specs.Prelude.{◌≡◌, IfErr, IfOk, OnOk};
+ghost use Rattle.image_files.specs.Opener.{calls};
+ghost use Rattle.image_commands.specs.PinFiles.{AreApart, AreOne, IsPinFileEnd, IsPinUnwritten, ReadsPin, TellsId, WritesPin, pin_of_image};
+
+use crate::fault::ImageFault;
+use crate::format::MadeImage;
+use crate::places::ImagePlaces;
+use block_device::{FileId, OpenFault};
+use command_line::ImageOptions;
+use image_files::{Images, UnopenedFile, is_one_file};
+use image_pin::{MOST_BYTES, Pin, parse_pin, print_pin};
+use std::alloc::Global;
+
+/// `--pin FILE`: the pin that the file holds.
+pub fn read_pin<'a, I: Images>(images: &mut I, path: &'a str) -> Result<Pin, ImageFault<'a>>
+    ensures ok { IfOk result (ReadsPin (calls I.relations I.Dev.state images.old images.new) path.now) }
+    ensures err { IfErr result (IsPinFileEnd (calls I.relations I.Dev.state images.old images.new) path.now) }
+{
+    let text = match images.read_text(path, MOST_BYTES + 1) {
+        Ok(text) => text,
+        Err(fault) => return Err(ImageFault::Open(UnopenedFile { fault, path })),
+    };
+    match parse_pin(text.bytes.as_slice()) {
+        Ok(pin) => Ok(pin),
+        Err(fault) => Err(ImageFault::Pin(fault)),
+    }
+}
+
+/// The pin of an image that was made with these options.
+pub fn pin_of_image(options: &ImageOptions, made: &MadeImage) -> Pin
+    ensures { result ≡ pin_of_image options.now made.now }
+{
+    Pin {
+        root: made.root,
+        salt: made.salt,
+        data_block: options.data_block,
+        hash_block: options.hash_block,
+        blocks: made.blocks,
+    }
+}
+
+/// Puts the text of a pin in the place of what the file held.
+pub fn write_pin<'a, I: Images>(
+    alloc: Global,
+    images: &mut I,
+    path: &str,
+    pin: &Pin,
+) -> Result<(), ImageFault<'a>>
+    ensures ok { OnOk result (WritesPin (calls I.relations I.Dev.state images.old images.new) path.now pin.now) }
+    ensures err { IfErr result (IsPinUnwritten (calls I.relations I.Dev.state images.old images.new) path.now pin.now) }
+{
+    let text = print_pin(alloc, pin)?;
+    match images.replace(path, text.as_slice()) {
+        Ok(()) => Ok(()),
+        Err(fault) => Err(ImageFault::PinUnwritten(fault)),
+    }
+}
+
+/// The file of a pin isn't one of the two images, which it would replace.
+pub fn check_pin_path<'a, I: Images>(
+    images: &mut I,
+    places: ImagePlaces<'a>,
+    path: &'a str,
+) -> Result<(), ImageFault<'a>>
+    ensures ok { OnOk result (AreApart (calls I.relations I.Dev.state images.old images.new) places.data.now places.hash.now path.now) }
+    ensures err { IfErr result (AreOne (calls I.relations I.Dev.state images.old images.new) places.data.now places.hash.now path.now) }
+{
+    let pin = file_id(images, path);
+    let data = file_id(images, places.data);
+    let hash = file_id(images, places.hash);
+    if path == places.hash || is_one_file(pin, data) || is_one_file(pin, hash) {
+        let fault = OpenFault::SameFile;
+        return Err(ImageFault::Open(UnopenedFile { fault, path }));
+    }
+    Ok(())
+}
+
+// Which file stands under a path, where one does and that is known.
+fn file_id<I: Images>(images: &mut I, path: &str) -> Option<FileId>
+    ensures { TellsId (calls I.relations I.Dev.state images.old images.new) path.now result }
+{
+    match images.read_text(path, 0) {
+        Ok(text) => text.id,
+        Err(_) => None,
+    }
+}

@@ -1,0 +1,59 @@
+//! What `format --grow` makes sure of before it makes a file.
+ghost use Rattle.std.specs.Prelude.{◌≡◌, IfErr, IfOk};
+ghost use Rattle.image_commands.specs.Preparing.{FailsToPrepare, HasRoom, IsUnfit, PreparesImage, said_options};
+
+use crate::fault::ImageFault;
+use crate::format::given_or_drawn;
+use crate::places::{ImagePlaces, is_aligned};
+use crate::random::Generators;
+use crate::tree_place::tree_of;
+use block_device::BlockDev;
+use command_line::ImageOptions;
+use image_files::{Images, open_image};
+use verity_format::{FormatFault, FormatOptions, data_sectors};
+
+/// The options with a salt and an identifier, given or drawn, of an image that no place, no shape and no missing data refuse. So
+/// a format that is refused for one of these, or because there are no random bytes, makes no file.
+pub fn prepare_image<'a, I: Images, G: Generators>(
+    images: &mut I,
+    generators: &mut G,
+    options: ImageOptions,
+    places: ImagePlaces<'a>,
+) -> Result<ImageOptions, ImageFault<'a>>
+    ensures ok { IfOk result (PreparesImage I.relations I.Dev.state images.old images.new G.gives G.Generator.stream generators.old generators.new options places.entry) }
+    ensures err { IfErr result (FailsToPrepare I.relations I.Dev.state images.old images.new G.gives G.Generator.stream generators.old generators.new options places.entry) }
+{
+    if !is_aligned(places.hash_first, options.hash_block) {
+        return Err(ImageFault::Unaligned);
+    }
+    let given = given_or_drawn(generators, options)?;
+    let data = open_image(images, places.data, false)?;
+    check_data(&data.device, given)?;
+    Ok(said_options(given))
+}
+
+// Whether the device has the data blocks of an image.
+fn check_data<D: BlockDev>(data_dev: &D, options: FormatOptions) -> Result<(), FormatFault>
+    ensures ok { IfOk result (λ _. HasRoom options (D.state data_dev.now)) }
+    ensures err { IfErr result (IsUnfit options (D.state data_dev.now)) }
+{
+    let sectors = data_dev.sectors();
+    let params = tree_of(options, sectors)?;
+    if sectors < data_sectors(&params.shape()) {
+        return Err(FormatFault::DataTooSmall);
+    }
+    Ok(())
+}
+
+// The same options, of which none is left to be drawn.
+fn said_options(given: FormatOptions) -> ImageOptions
+    ensures { result ≡ said_options given }
+{
+    ImageOptions {
+        data_block: given.data_block,
+        hash_block: given.hash_block,
+        blocks: given.blocks,
+        salt: Some(given.salt),
+        uuid: Some(given.uuid),
+    }
+}

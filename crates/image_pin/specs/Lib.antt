@@ -1,0 +1,6 @@
+pub mod Names
+pub mod Faults
+pub mod Fields
+pub mod PinTexts
+pub mod Mismatches
+pub mod Laws

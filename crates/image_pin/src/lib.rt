@@ -1,0 +1,18 @@
+//! Pins of verity images: texts that bind a root hash to the shape of its tree.
+#![tactic(auto)]
+
+mod fault;
+mod fields;
+pub mod laws;
+mod mismatch;
+mod name;
+mod pin;
+mod print;
+mod read;
+
+pub use fault::PinFault;
+pub use mismatch::{Mismatch, check_superblock};
+pub use name::PinName;
+pub use pin::Pin;
+pub use print::print_pin;
+pub use read::{MOST_BYTES, parse_pin};

@@ -1,0 +1,47 @@
+//! The names of a pin's lines.
+ghost use Rattle.std.specs.Prelude.{◌≡◌};
+ghost use Rattle.image_pin.specs.Names.{name_of, name_text};
+
+/// What a line of a pin says.
+#[derive(Clone, Copy, Debug, PartialEq, Eq)]
+pub enum PinName {
+    Root,
+    Salt,
+    DataBlockSize,
+    HashBlockSize,
+    DataBlocks,
+}
+
+impl PinName {
+    /// The name as it stands in a pin.
+    pub fn text(self) -> &'static str
+        ensures { result.now ≡ name_text self }
+    {
+        match self {
+            PinName::Root => "root",
+            PinName::Salt => "salt",
+            PinName::DataBlockSize => "data_block_size",
+            PinName::HashBlockSize => "hash_block_size",
+            PinName::DataBlocks => "data_blocks",
+        }
+    }
+}
+
+/// What the line of that name says.
+pub(crate) fn name_of(word: &[u8]) -> Option<PinName>
+    ensures { result ≡ name_of word.now }
+{
+    if word == b"root".as_slice() {
+        Some(PinName::Root)
+    } else if word == b"salt".as_slice() {
+        Some(PinName::Salt)
+    } else if word == b"data_block_size".as_slice() {
+        Some(PinName::DataBlockSize)
+    } else if word == b"hash_block_size".as_slice() {
+        Some(PinName::HashBlockSize)
+    } else if word == b"data_blocks".as_slice() {
+        Some(PinName::DataBlocks)
+    } else {
+        None
+    }
+}

@@ -1,0 +1,63 @@
+//! The commands on verity images with a pin.
+ghost use Rattle.std.specs.Prelude.{OnOk, IfErr};
+ghost use Rattle.image_commands.specs.Drawing.{drawing};
+ghost use Rattle.verity_commands.specs.Pinned.{FailsToFormatPinned, FailsToVerifyByPin, FormatsPinned, VerifiesByPin};
+
+use crate::fault::VerityFault;
+use crate::placed::{make_image, places_of, print_made};
+use crate::places::sector_at;
+use command_line::{OptionWords, PinFormatWords, PinVerifyWords, options_of};
+use counted_io::Counted;
+use image_commands::{
+    Generators, ImagePlaces, WatchedPlaces, check_pin_path, pin_of_image, read_pin, verify_pinned,
+    write_pin,
+};
+use image_files::Images;
+use std::alloc::Global;
+use std::io::Write;
+use watched_device::Watchers;
+
+/// `format --pin FILE [--grow] [--progress] [--hash-offset BYTES] [OPTION..] DATA HASH`: FILE is written once the image is on its
+/// medium, and before the root is printed.
+pub fn invoke_format_pinned<'a, I: Images, G: Generators + Watchers, W: Write>(
+    alloc: Global,
+    images: &mut I,
+    generators: &mut G,
+    words: &PinFormatWords<'a>,
+    options: &OptionWords<'a>,
+    writer: &mut Counted<W>,
+) -> Result<(), VerityFault<'a>>
+    ensures ok { OnOk result (FormatsPinned I.relations I.Dev.state images.old images.new (drawing G.gives G.Generator.stream generators.old generators.new) W.contents writer.old writer.new options.now words.now) }
+    ensures err { IfErr result (FailsToFormatPinned I.relations I.Dev.state images.old images.new (drawing G.gives G.Generator.stream generators.old generators.new) W.contents writer.old writer.new options.now words.now) }
+{
+    let options = options_of(alloc, options)?;
+    let watched = places_of(&words.format);
+    check_pin_path(images, watched.places, words.pin)?;
+    let grow = words.format.grow;
+    let made = make_image(alloc, images, generators, options, &watched, grow)?;
+    let pin = pin_of_image(&options, &made);
+    write_pin(alloc, images, words.pin, &pin)?;
+    Ok(print_made(writer, &made)?)
+}
+
+/// `verify --pin FILE [--progress] [--hash-offset BYTES] DATA HASH`
+pub fn invoke_verify_pinned<'a, I: Images, S: Watchers, W: Write>(
+    alloc: Global,
+    images: &mut I,
+    watchers: &S,
+    words: &PinVerifyWords<'a>,
+    writer: &mut Counted<W>,
+) -> Result<(), VerityFault<'a>>
+    ensures ok { OnOk result (VerifiesByPin I.relations I.Dev.state images.old images.new W.contents writer.old writer.new words.now) }
+    ensures err { IfErr result (FailsToVerifyByPin I.relations I.Dev.state images.old images.new W.contents writer.old writer.new words.now) }
+{
+    let pin = read_pin(images, words.pin)?;
+    let places = ImagePlaces {
+        data: words.data_path,
+        hash: words.hash_path,
+        hash_first: sector_at(words.hash_offset),
+    };
+    let progress = words.progress;
+    let watched = WatchedPlaces { places, progress };
+    Ok(verify_pinned(alloc, images, watchers, watched, &pin, writer)?)
+}
