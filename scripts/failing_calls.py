@@ -11,8 +11,8 @@ line is refused (`no memory`, or the fault of the right device); and the lines b
 model of scripts/model says over the files as the failure left them, in which each sector holds what it held before that line or
 what the line was to write. (A line `moved` counts what the files were asked for, that line included, so the leaves are files.)
 Another command must name the failure, and answer, when it is made again, as without one; a format that met one before its sync
-leaves no superblock, and one that met it at its parity (`--fec`) the whole image. A `repair` may also seek elsewhere what it
-couldn't read: each block that it names is good then, and each other one as it was, and made again it ends with a whole image.
+leaves no superblock, and one that met it at its parity (`--fec`) the whole image. If the output fails, standard error must say so,
+and a `copy` must have copied all. A `repair` may also seek elsewhere what it couldn't read: each block that it names is good then, and each other one as it was, and made again it ends with a whole image.
 
 Where a case has the file `kinds`, calls of these kinds alone fail. Where it has the file `calls`, this has a line for each
 positioned read and write and each sync, in their order: which call it is, of which leaf, how many sectors were asked for by then,
@@ -44,6 +44,7 @@ FEATURES = features_without([])
 REFUSED_DEVICE = {b"format": (1, b"refused 5 Device"), b"verify": (1, b"refused 10 Device"), b"dump": (1, b"refused 10 Device"),
                   b"table": (1, b"refused 10 Device"), b"read": (3, b"fault 3 Device %d"), b"write": (3, b"fault 3 Device %d")}
 RECOVERIES = (b"scan", b"copy")
+UNWRITTEN = b"dmstack: standard output failed\n"
 
 
 def lines_of(text):
@@ -111,8 +112,9 @@ class Case:
             failing = {"LD_PRELOAD": self.library, "REFUSE": str(number), "REFUSE_MET": met}
         done = subprocess.run([self.program, *self.words], input=self.given if given is None else given, cwd=folder,
                               env={**os.environ, **failing}, capture_output=True, timeout=20, check=False)
-        if done.stderr:
-            raise Wrong(f"an error output: {done.stderr[:200]}")
+        told = UNWRITTEN if kind == "output" and os.path.exists(met) else b""
+        if done.stderr != told:
+            raise Wrong(f"an error output: {done.stderr[:200]}, in place of {told}")
         what = read_file(met).rstrip(b"\n").split(b" ", 3) if os.path.exists(met) else None
         if what and kind != "memory":
             what = what[0], what[3], int(what[1]), int(what[2])
@@ -321,6 +323,8 @@ def check_command(case, plain, kind, ran):
     elif kind in ("output", "text"):
         if status != 1 or kind == "text" and not output.startswith(b"refused "):
             raise Wrong(f"status {status}, {output[-200:]}")
+        if kind == "output" and case.recovery:
+            case.recovery.check_image(case.recovery.lost)
     else:
         wanted = (1, b"no memory")
         if kind == "device":

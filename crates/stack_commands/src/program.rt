@@ -62,7 +62,6 @@ pub fn command<I: Images, G: Generators + Progress + Watchers, S: Read, W: Write
             if output_is_data(words) {
                 end(errors, fault)
             } else {
-                tell_unprinted(errors, words, writer.failed());
                 end(writer, fault)
             }
         }
@@ -75,20 +74,6 @@ fn explain<E: Write>(errors: &mut Counted<E>, words: &[String], fault: CommandFa
 {
     if is_usage(fault) {
         let _said = say_wrong_words(errors, words);
-    }
-}
-
-// Says among the errors that standard output failed, of a command that goes on to its end then.
-fn tell_unprinted<E: Write>(errors: &mut Counted<E>, words: &[String], failed: bool) {
-    if failed && is_repair(words) {
-        let _said = errors.put(b"dmstack: standard output failed\n");
-    }
-}
-
-fn is_repair(words: &[String]) -> bool {
-    match words {
-        [name, ..] => name.as_bytes() == b"repair".as_slice(),
-        [] => false,
     }
 }
 
