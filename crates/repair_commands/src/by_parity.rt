@@ -133,7 +133,10 @@ fn mend_laid_out<'a, D: SyncDev, H: SyncDev, C: BlockDev, P: BlockDev + Drop, W:
         writer,
     );
     sync_both(image, write)?;
-    Ok(ended?)
+    match ended {
+        Ok(outcome) => Ok(outcome),
+        Err(fault) => Err(ParityRepairFault::from(fault)),
+    }
 }
 
 // Repairs the image to its end, also if the writer fails.
