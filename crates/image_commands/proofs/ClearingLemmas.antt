@@ -3,7 +3,6 @@ use Rattle.std.proofs.Common.{◌≡◌, ◌<◌, ◌+◌, ◌-◌, ℕ, IsTrue,
 use Rattle.std.proofs.lemmas.List.{drop-drop}
 use Rattle.block_device.specs.Device.{Device, sectors_of}
 use Rattle.block_device.specs.Whole.{length-sectors_of}
-use Rattle.hash_tree.specs.Tree.{area}
 use Rattle.std.specs.List.{concat}
 use Rattle.verity_format.specs.Image.{area_over, first_block, formatted, image_sectors}
 use Rattle.verity_format.specs.Superblock.{SuperRecord, shape_of}

@@ -12,7 +12,7 @@ use Rattle.image_files.specs.OneFile.{is_one_file}
 use Rattle.image_files.specs.Opener.{Calls}
 use Rattle.image_pin.specs.declared.fault.PinFault.{PinFault}
 use Rattle.image_pin.specs.declared.pin.Pin.{Pin}
-use Rattle.image_pin.specs.PinTexts.{pin_of, pin_text}
+use Rattle.image_pin.specs.PinTexts.{limited_pin, pin_text}
 use Rattle.image_commands.specs.declared.fault.ImageFault.{ImageFault}
 use Rattle.image_commands.specs.declared.fault.ImageFault.TheVariants as image
 use Rattle.image_commands.specs.declared.format.MadeImage.{MadeImage}
@@ -21,7 +21,7 @@ use Rattle.image_commands.specs.declared.format.MadeImage.{MadeImage}
 pub record ReadsPin {S D : Type 0} (w : Calls S D) (path : List ℕ) (pin : Pin) : Type 0 where
   pub text : FileText
   pub told : w.relations.tells w.old path 4097 (Ok text) w.new
-  pub says : pin_of text.bytes.items ≡ Ok pin
+  pub says : limited_pin text.bytes.items ≡ Ok pin
 
 -- the file isn't read
 pub record IsPinUntold {S D : Type 0} (w : Calls S D) (path : List ℕ) (file : UnopenedFile) : Type 0 where
@@ -32,7 +32,7 @@ pub record IsPinUntold {S D : Type 0} (w : Calls S D) (path : List ℕ) (file : 
 pub record HasNoPin {S D : Type 0} (w : Calls S D) (path : List ℕ) (fault : PinFault) : Type 0 where
   pub text : FileText
   pub told : w.relations.tells w.old path 4097 (Ok text) w.new
-  pub says : pin_of text.bytes.items ≡ Err fault
+  pub says : limited_pin text.bytes.items ≡ Err fault
 
 abbrev pub IsPinFileEnd : {S D : Type 0} → Calls S D → List ℕ → ImageFault → Type 0
 IsPinFileEnd w path (image.Open file) = IsPinUntold w path file

@@ -6,11 +6,10 @@ use Rattle.verity_format.specs.declared.formatting.FormatOptions.{FormatOptions}
 use Rattle.verity_format.specs.Formatting.{format_refusal}
 use Rattle.verity_format.specs.Image.{image_sectors}
 use Rattle.verity_format.specs.Options.{superblock_with}
-use Rattle.verity_format.specs.Superblock.{SuperRecord, shape_of}
+use Rattle.verity_format.specs.Superblock.{shape_of}
 
 -- no refusal applies to what is to be made, and the hash device has room for it and may be written
-pub record IsAllowed (options : FormatOptions) (data_dev hash_dev : Device) (s : SuperRecord) : Type 0 where
-  pub is : s ≡ superblock_with options data_dev.size
+pub record IsAllowed (options : FormatOptions) (data_dev hash_dev : Device) : Type 0 where
   pub none : format_refusal (superblock_with options data_dev.size) data_dev hash_dev ≡ None
   pub some : 0 < image_sectors (shape_of (superblock_with options data_dev.size))
   pub room : image_sectors (shape_of (superblock_with options data_dev.size)) ≤ hash_dev.size

@@ -10,7 +10,7 @@ use crate::clearing::clear_superblock;
 use crate::fault::ImageFault;
 use crate::paths::{ImagePaths, TwoImages, open_apart};
 use crate::random::{Generators, draw};
-use crate::refusal::allowed_image;
+use crate::refusal::check_format;
 use crate::superblock_text::{say_blocks, say_root, say_salt, say_uuid};
 use block_device::{BlockDev, SyncDev};
 use command_line::ImageOptions;
@@ -75,7 +75,7 @@ pub(crate) fn make<D: BlockDev, H: SyncDev>(
     let blocks = given_blocks(options.blocks, options.data_block, data_dev.sectors());
     let salt = options.salt;
     let uuid = options.uuid;
-    allowed_image(data_dev, hash_dev, options)?;
+    check_format(data_dev, hash_dev, &options)?;
     clear_superblock(hash_dev)?;
     let root = format_with(alloc, data_dev, hash_dev, options)?;
     match hash_dev.sync() {
@@ -91,10 +91,7 @@ pub(crate) fn make<D: BlockDev, H: SyncDev>(
 
 /// What is printed of an image that was made.
 #[tactic(auto, unfolding(crate::specs::Formats::made_text))]
-pub fn say_made<W: Write>(
-    writer: &mut Counted<W>,
-    made: &MadeImage,
-) -> Result<(), WriteFault>
+pub fn say_made<W: Write>(writer: &mut Counted<W>, made: &MadeImage) -> Result<(), WriteFault>
     ensures { Writes W.contents writer.old writer.new (made_text made.now) result }
 {
     say_root(writer, &made.root)?;

@@ -63,8 +63,8 @@ pub fn check_pin_path<'a, I: Images>(
     places: ImagePlaces<'a>,
     path: &'a str,
 ) -> Result<(), ImageFault<'a>>
-    ensures ok { OnOk result (AreApart (calls I.relations I.Dev.state images.old images.new) places.data.now places.hash.now path.now) }
-    ensures err { IfErr result (AreOne (calls I.relations I.Dev.state images.old images.new) places.data.now places.hash.now path.now) }
+    ensures ok { OnOk result (AreApart (calls I.relations I.Dev.state images.old images.new) places.entry.data.now places.entry.hash.now path.now) }
+    ensures err { IfErr result (AreOne (calls I.relations I.Dev.state images.old images.new) places.entry.data.now places.entry.hash.now path.now) }
 {
     let pin = file_id(images, path);
     let data = file_id(images, places.data);

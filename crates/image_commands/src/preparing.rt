@@ -1,5 +1,5 @@
 //! What `format --grow` makes sure of before it makes a file.
-ghost use Rattle.std.specs.Prelude.{◌≡◌, IfErr, IfOk};
+ghost use Rattle.std.specs.Prelude.{◌≡◌, IfErr, IfOk, OnOk};
 ghost use Rattle.image_commands.specs.Preparing.{FailsToPrepare, HasRoom, IsUnfit, PreparesImage, said_options};
 
 use crate::fault::ImageFault;
@@ -28,17 +28,17 @@ pub fn prepare_image<'a, I: Images, G: Generators>(
     }
     let given = given_or_drawn(generators, options)?;
     let data = open_image(images, places.data, false)?;
-    check_data(&data.device, given)?;
-    Ok(said_options(given))
+    check_data(&data.device, &given)?;
+    Ok(said_options(&given))
 }
 
 // Whether the device has the data blocks of an image.
-fn check_data<D: BlockDev>(data_dev: &D, options: FormatOptions) -> Result<(), FormatFault>
-    ensures ok { IfOk result (λ _. HasRoom options (D.state data_dev.now)) }
-    ensures err { IfErr result (IsUnfit options (D.state data_dev.now)) }
+fn check_data<D: BlockDev>(data_dev: &D, options: &FormatOptions) -> Result<(), FormatFault>
+    ensures ok { OnOk result (HasRoom options.now (D.state data_dev.now)) }
+    ensures err { IfErr result (IsUnfit options.now (D.state data_dev.now)) }
 {
     let sectors = data_dev.sectors();
-    let params = tree_of(options, sectors)?;
+    let params = tree_of(*options, sectors)?;
     if sectors < data_sectors(&params.shape()) {
         return Err(FormatFault::DataTooSmall);
     }
@@ -46,8 +46,8 @@ fn check_data<D: BlockDev>(data_dev: &D, options: FormatOptions) -> Result<(), F
 }
 
 // The same options, of which none is left to be drawn.
-fn said_options(given: FormatOptions) -> ImageOptions
-    ensures { result ≡ said_options given }
+fn said_options(given: &FormatOptions) -> ImageOptions
+    ensures { result ≡ said_options given.now }
 {
     ImageOptions {
         data_block: given.data_block,

@@ -1,5 +1,5 @@
 //! Whether an image may be made of two devices.
-ghost use Rattle.std.specs.Prelude.{◌≡◌, IfErr, IfOk};
+ghost use Rattle.std.specs.Prelude.{◌≡◌, IfErr, OnOk};
 ghost use Rattle.image_commands.specs.Refusals.{IsAllowed, IsRefusedAs};
 ghost use Rattle.verity_format.specs.Image.{image_sectors};
 ghost use Rattle.verity_format.specs.Superblock.{shape_of};
@@ -9,16 +9,16 @@ use bare_tree::area_sectors;
 use block_device::BlockDev;
 use verity_format::{FormatFault, FormatOptions, Superblock, data_sectors};
 
-/// What is to be made of the devices, where `format_with` doesn't refuse it.
-pub(crate) fn allowed_image<D: BlockDev, H: BlockDev>(
+/// Whether an image may be made of the devices: `format_with` refuses it for the same reasons.
+pub(crate) fn check_format<D: BlockDev, H: BlockDev>(
     data_dev: &D,
     hash_dev: &H,
-    options: FormatOptions,
-) -> Result<Superblock, FormatFault>
-    ensures ok { IfOk result (IsAllowed options (D.state data_dev.now) (H.state hash_dev.now)) }
-    ensures err { IfErr result (IsRefusedAs options (D.state data_dev.now) (H.state hash_dev.now)) }
+    options: &FormatOptions,
+) -> Result<(), FormatFault>
+    ensures ok { OnOk result (IsAllowed options.now (D.state data_dev.now) (H.state hash_dev.now)) }
+    ensures err { IfErr result (IsRefusedAs options.now (D.state data_dev.now) (H.state hash_dev.now)) }
 {
-    let params = tree_of(options, data_dev.sectors())?;
+    let params = tree_of(*options, data_dev.sectors())?;
     if data_dev.sectors() < data_sectors(&params.shape()) {
         return Err(FormatFault::DataTooSmall);
     }
@@ -29,7 +29,7 @@ pub(crate) fn allowed_image<D: BlockDev, H: BlockDev>(
     if !hash_dev.writable() {
         return Err(FormatFault::HashReadOnly);
     }
-    Ok(params)
+    Ok(())
 }
 
 // How many sectors hash block 0 and the tree take.
