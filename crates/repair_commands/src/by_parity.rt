@@ -1,5 +1,5 @@
 //! `repair --fec FILE`: what no copy has is made again by the parity in a file.
-ghost use Rattle.std.specs.Prelude.{◌≤◌, ◌^◌, IfErr, IfOk, OnOk};
+ghost use Rattle.std.specs.Prelude.{◌≤◌, ◌^◌, true, IfErr, IfOk, OnOk};
 ghost use Rattle.tree_repair.specs.Repairs.{IsAllowed};
 ghost use Rattle.repair_commands.specs.ByParity.{AreRepairedByFec, AreUnrepairedByFec, IsHalfByFec, IsMendedByFec, IsPairHalfMendedByFec, IsPairMendedByFec};
 ghost use Rattle.fec_area.specs.Layouts.{IsLaidOn};
