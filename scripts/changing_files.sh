@@ -176,9 +176,9 @@ filled 1 4 > source
 filled 3 9 > out
 truncate -s 8192 made
 sizes='--data-block=512 --hash-block=512 --salt=- --uuid=00000000-0000-0000-0000-000000000001'
-failed='dmstack: standard output failed'
+unprinted='dmstack: standard output failed'
 for closed in '>&-' '<&- >&-' '<&- >&- 2>&-' '> /dev/full' '> /dev/full 2>&-'; do
-    said=$failed
+    said=$unprinted
     [[ $closed != *'2>&-' ]] || said=
     for words in 'session A=rw:a' 'load stack A=rw:a' 'read stack a 0 8 A=rw:a' 'write stack a 0 source A=rw:a' \
         'scan stack a A=rw:a' 'copy stack a out A=rw:a' 'nbd stack a A=rw:a'; do
@@ -190,7 +190,7 @@ for closed in '>&-' '<&- >&-' '<&- >&- 2>&-' '> /dev/full' '> /dev/full 2>&-'; d
 done
 cp made formatted
 for words in "verify a made $root" 'dump made' "table made $root D H"; do
-    ran 1 "$failed" bash -c "\"\$0\" $words <&- >&-" "$program"
+    ran 1 "$unprinted" bash -c "\"\$0\" $words <&- >&-" "$program"
     check "$words: the images are as they were" cmp made formatted
     check "$words: the images are as they were" cmp a kept
 done
@@ -260,7 +260,7 @@ filled 1 8 > a
 printf 'a,,,ro,0 4 linear A 0,4 4 error' > lossy
 lossy=$'lost 4 4 1 ErrorTarget\nread 4 lost 4'
 printf '0 ?\n0 4096 ?\n' > unread
-printf '0 +\n0 2048 +\n2048 2048 -\n' > tried
+printf '# dmstack scan\n0 +\n0 2048 +\n2048 2048 -\n' > tried
 printf 'precious\n' > victim
 cp victim kept
 
@@ -417,7 +417,7 @@ if mount -t tmpfs -o size=32k,mode=777 tmpfs full 2> mount_errors; then
     # An output file without room.
     rm full/image
     filled 0 128 > full/filling 2> /dev/null || true
-    ran 1 '' bash -c '"$0" session A=rw:a > full/out' "$program"
+    ran 1 "$unprinted" bash -c '"$0" session A=rw:a > full/out' "$program"
 else
     echo 'changing files: no small file system could be mounted: the full one is left out'
 fi
