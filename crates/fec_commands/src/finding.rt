@@ -67,7 +67,7 @@ fn is_used<D>(
     hash: &Option<OpenImage<D>>,
     parity: &Option<OpenImage<D>>,
 ) -> bool
-    ensures { result ≡ is_used data.now hash.now parity.now }
+    ensures { result ≡ is_used «data».now hash.now parity.now }
 {
     match parity {
         None => false,
