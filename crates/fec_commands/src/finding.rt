@@ -1,5 +1,5 @@
 //! `format --grow --fec`: the files that are there are opened before any is made or made longer.
-ghost use Rattle.std.specs.Prelude.{◌≡◌, IfErr, IfOk, OnOk};
+ghost use Rattle.std.specs.Prelude.{◌≡◌, IfErr, IfOk, IsTrue, None, OnOk};
 ghost use Rattle.image_files.specs.FileUses.{image_use};
 ghost use Rattle.image_files.specs.Opened.{Refuses};
 ghost use Rattle.image_files.specs.Opener.{calls};
@@ -24,13 +24,25 @@ pub(crate) fn find_three<'a, I: Images>(
     let data = open_image(images, places.data, false)?;
     let hash = find(images, places.hash, false)?;
     let parity = find(images, fec.path, true)?;
-    if is_used(&data, &hash, &parity) || (hash.is_none() && fec.path == places.hash) {
-        return Err(UnopenedFile {
-            fault: OpenFault::SameFile,
-            path: fec.path,
-        });
+    let fault = OpenFault::SameFile;
+    let path = fec.path;
+    if is_used(&data, &hash, &parity) {
+        return Err(UnopenedFile { fault, path });
+    }
+    if is_made_twice(&hash, path, places.hash) {
+        return Err(UnopenedFile { fault, path });
     }
     Ok(())
+}
+
+// Whether HASH isn't there, and both are to be made under one path.
+fn is_made_twice<D>(hash: &Option<OpenImage<D>>, path: &str, hash_path: &str) -> bool
+    ensures { IsTrue result → (hash.now ≡ None) × (path.now ≡ hash_path.now) }
+{
+    match hash {
+        None => path == hash_path,
+        Some(_) => false,
+    }
 }
 
 // The image under a path, or nothing if there is none.

@@ -16,7 +16,9 @@ use crate::image::is_roots;
 use crate::kept::format_kept;
 use crate::protect::protect_image;
 use crate::sizes::says_two_sizes;
-use command_line::{FecFile, FecFormatWords, FecVerifyWords, ImageOptions, OptionWords, options_of};
+use command_line::{
+    FecFile, FecFormatWords, FecVerifyWords, ImageOptions, OptionWords, options_of,
+};
 use counted_io::Counted;
 use image_commands::{Generators, ImagePlaces};
 use image_files::Images;

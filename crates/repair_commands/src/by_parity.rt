@@ -1,5 +1,5 @@
 //! `repair --fec FILE`: what no copy has is made again by the parity in a file.
-ghost use Rattle.std.specs.Prelude.{◌≤◌, ◌^◌, IfErr, IfOk, OnOk};
+ghost use Rattle.std.specs.Prelude.{◌≤◌, ◌^◌, true, IfErr, IfOk, OnOk};
 ghost use Rattle.tree_repair.specs.Repairs.{IsAllowed};
 ghost use Rattle.repair_commands.specs.ByParity.{AreRepairedByFec, AreUnrepairedByFec, IsHalfByFec, IsMendedByFec, IsPairHalfMendedByFec, IsPairMendedByFec};
 ghost use Rattle.fec_area.specs.Layouts.{IsLaidOn};
@@ -133,7 +133,10 @@ fn mend_laid_out<'a, D: SyncDev, H: SyncDev, C: BlockDev, P: BlockDev + Drop, W:
         writer,
     );
     sync_both(image, write)?;
-    Ok(ended?)
+    match ended {
+        Ok(outcome) => Ok(outcome),
+        Err(fault) => Err(ParityRepairFault::from(fault)),
+    }
 }
 
 // Repairs the image to its end, also if the writer fails.

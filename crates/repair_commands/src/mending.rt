@@ -1,5 +1,5 @@
 //! The two devices repaired by copies, and synced.
-ghost use Rattle.std.specs.Prelude.{◌≡◌, ◌≤◌, ◌^◌, IfErr, IfOk};
+ghost use Rattle.std.specs.Prelude.{◌≤◌, ◌^◌, false, IfErr, IfOk};
 ghost use Rattle.tree_repair.specs.Repairs.{IsAllowed};
 ghost use Rattle.repair_commands.specs.Mends.{IsEndBehind, IsMendedByCopies, IsMendedHalf, IsMendedInOnePass, IsMendingCut, IsRunCut, IsRunWhole, IsUnheard};
 

@@ -1,4 +1,4 @@
-use Rattle.std.proofs.Common.{inl, inr}
+use Rattle.std.proofs.Common.{inl, inr, refl, sym, ◌∙◌}
 use Rattle.fec_commands.proofs.EndingLemmas.{err-from}
 use Rattle.fec_commands.proofs.finding.find_three.Goals as goal
 
@@ -19,3 +19,32 @@ returns-in_err-parity-clause-err g c =
       hash_found = c.in_ok-hash.ensures.ok;
       refused = c.in_err-parity.ensures.err;
     }))))
+
+pub returns-then-is_used-clause-err : goal.returns-then-is_used-clause-err
+returns-then-is_used-clause-err g c = inr (inr (inr (record {
+  data_image = c.in_ok-data.«data»;
+  hash_image = c.in_ok-hash.hash;
+  parity = c.in_ok-parity.parity;
+  looks = record { one = c.open_image.new.images; two = c.find.new.images; data_opened = c.in_ok-data.ensures.ok; hash_found = c.in_ok-hash.ensures.ok; parity_found = c.in_ok-parity.ensures.ok };
+  is = (refl, refl);
+  same = inl (sym c.is_used.ensures ∙ c.if-is_used.true);
+})))
+
+pub returns-then-is_made_twice-clause-err : goal.returns-then-is_made_twice-clause-err
+returns-then-is_made_twice-clause-err g c = inr (inr (inr (record {
+  data_image = c.in_ok-data.«data»;
+  hash_image = c.in_ok-hash.hash;
+  parity = c.in_ok-parity.parity;
+  looks = record { one = c.open_image.new.images; two = c.find.new.images; data_opened = c.in_ok-data.ensures.ok; hash_found = c.in_ok-hash.ensures.ok; parity_found = c.in_ok-parity.ensures.ok };
+  is = (refl, refl);
+  same = inr (c.is_made_twice.ensures c.if-is_made_twice.true);
+})))
+
+pub returns-clause-ok : goal.returns-clause-ok
+returns-clause-ok g c = record {
+  data_image = c.in_ok-data.«data»;
+  hash_image = c.in_ok-hash.hash;
+  parity = c.in_ok-parity.parity;
+  looks = record { one = c.open_image.new.images; two = c.find.new.images; data_opened = c.in_ok-data.ensures.ok; hash_found = c.in_ok-hash.ensures.ok; parity_found = c.in_ok-parity.ensures.ok };
+  apart = sym c.is_used.ensures ∙ c.if-is_used.false;
+}

@@ -1,3 +1,4 @@
+use Rattle.std.proofs.Common.{inl, inr}
 use Rattle.repair_commands.proofs.GoingOnLemmas.{allowed-then, cut-then, laid-then}
 use Rattle.repair_commands.proofs.by_parity.repair_through.Goals as goal
 
@@ -15,5 +16,5 @@ go_on-requires-clause-allowed g c = allowed-then c.args.plan.now _ c.args.image.
 pub go_on-requires-clause-laid : goal.go_on-requires-clause-laid
 go_on-requires-clause-laid g c = laid-then c.args.layout.now c.args.plan.now _ c.args.image.now c.repair_with_parity.new.image _ _ c.in-Err.fault c.in-Err.ensures.err c.requires.laid
 
-pub returns-clause-err : goal.returns-clause-err
-returns-clause-err g c = cut-then c.args.plan.now _ c.args.image.now c.repair_with_parity.new.image c.go_on.new.image _ _ c.in-Err.fault c.go_on.result c.in-Err.ensures.err c.go_on.ensures
+pub returns-in-Err-clause-err : goal.returns-in-Err-clause-err
+returns-in-Err-clause-err g c = cut-then c.args.plan.now _ c.args.image.now c.repair_with_parity.new.image c.go_on.new.image _ _ c.in-Err.fault c.go_on.result c.in-Err.ensures.err c.go_on.ensures

@@ -4,5 +4,5 @@ use Rattle.repair_commands.proofs.by_parity.repair_unheard.Goals as goal
 pub returns-in-Ok : goal.returns-in-Ok
 returns-in-Ok g c = record { ended = None; run = c.in-Ok.ensures.ok; is = refl }
 
-pub returns : goal.returns
-returns g c = record { ended = Some c.in-Err.fault; run = c.in-Err.ensures.err; is = refl }
+pub returns-in-Err : goal.returns-in-Err
+returns-in-Err g c = record { ended = Some c.in-Err.fault; run = c.in-Err.ensures.err; is = refl }

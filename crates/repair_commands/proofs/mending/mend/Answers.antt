@@ -36,18 +36,19 @@ returns-in-Ok-clause-ok g c =
       pass = pass;
     })
 
-pub returns-clause-err : goal.returns-clause-err
-returns-clause-err g c =
+pub returns-in-Err-clause-err : goal.returns-in-Err-clause-err
+returns-in-Err-clause-err g c =
     let i = c.image.inside in
     let a = repair_world (g.D.BlockDev.state i.data) (g.H.BlockDev.state i.hash) (map g.C.BlockDev.state i.data_copies.items) (map g.C.BlockDev.state i.hash_copies.items) in
     let h' = g.H.BlockDev.state c.check_start.new.hash_dev in
     let old = g.W.Write.contents c.args.writer.now.inner in
     let new = g.W.Write.contents c.mend_placed.new.writer.inner in
-    subst (λ (w : RepairWorld). HalfMendsByCopies c.args.plan w c.mend_placed.new.image old new (ending_fault c.in-Err.fault)) c.image.view_is
+    rw c.fault_of.ensures
+    (subst (λ (w : RepairWorld). HalfMendsByCopies c.args.plan w c.mend_placed.new.image old new (ending_fault c.in-Err.fault)) c.image.view_is
     (inr (record {
       read_dev = h';
       placed = c.in_ok-check_start.ensures.ok;
       cause = c.in-Err.fault;
       half = half-behind c.args.plan _ a.data_dev a.hash_dev h' a.data_copies a.hash_copies _ _ _ c.in-Err.fault c.in_ok-check_start.ensures.ok.read c.in-Err.ensures.err;
       is = refl;
-    }))
+    })))
