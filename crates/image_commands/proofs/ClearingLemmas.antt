@@ -1,5 +1,5 @@
 -- Hash devices on which an old superblock was cleared.
-use Rattle.std.proofs.Common.{◌≡◌, ◌<◌, ◌+◌, ◌-◌, ℕ, IsTrue, List, ◌++◌, length, drop, ap, subst, sym, ◌∙◌, arith, inl, inr}
+use Rattle.std.proofs.Common.{◌≡◌, ◌<◌, ◌+◌, ◌-◌, ℕ, Bool, true, false, not, refl, IsTrue, List, ◌++◌, length, drop, ap, subst, sym, ◌∙◌, arith, inl, inr}
 use Rattle.std.proofs.lemmas.List.{drop-drop}
 use Rattle.block_device.specs.Device.{Device, sectors_of}
 use Rattle.block_device.specs.Whole.{length-sectors_of}
@@ -33,3 +33,12 @@ formatted-cleared s data_image old new some cleared steady =
     let sectors : List (List ℕ) = sectors_of (image_sectors (shape_of s)) (first_block s ++ concat (area_over (shape_of s) s.salt data_image)) in
     let count : length sectors ≡ image_sectors (shape_of s) = length-sectors_of (image_sectors (shape_of s)) _ in
     ap (λ (rest : List (List ℕ)). sectors ++ rest) (drop-more (0 + length sectors) (omega (arith, count, some)) new.image old.image (drop-cleared old new cleared steady))
+
+-- what a test for a difference says
+pub false-from_not : (b : Bool) → true ≡ not b → b ≡ false
+false-from_not true h = cc
+false-from_not false h = refl
+
+pub true-from_not : (b : Bool) → false ≡ not b → b ≡ true
+true-from_not true h = refl
+true-from_not false h = cc

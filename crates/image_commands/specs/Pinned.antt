@@ -2,7 +2,8 @@
 use Rattle.std.specs.Prelude.{◌≡◌, ◌⊎◌, ◌+◌, ◌-◌, ◌/◌, ◌^◌, ◌<◌, ◌≤◌, min, ℕ, Bool, true, false, IsTrue, List, Option, Some, None}
 use Rattle.std.specs.Io.KnownBytes.{Appends}
 use Rattle.counted_io.specs.Counted.{CountedRecord}
-use Rattle.block_device.specs.Device.{Device, HasFailed}
+use Rattle.std.specs.List.{concat}
+use Rattle.block_device.specs.Device.{Device, HasFailed, run_of}
 use Rattle.image_files.specs.Opener.{Calls, Opener, calls}
 use Rattle.image_pin.specs.declared.mismatch.Mismatch.{Mismatch}
 use Rattle.image_pin.specs.declared.pin.Pin.{Pin}
@@ -12,7 +13,7 @@ use Rattle.verity_format.specs.declared.verifying.Verdict.{Verdict}
 use Rattle.verity_format.specs.declared.verifying.Verdict.TheVariants.{AreaDiffers}
 use Rattle.verity_format.specs.declared.verifying.VerifyFault.{VerifyFault}
 use Rattle.verity_format.specs.declared.verifying.VerifyFault.TheVariants as verify
-use Rattle.verity_format.specs.Blocks.{IsOnlyRead, block_at}
+use Rattle.verity_format.specs.Blocks.{IsOnlyRead}
 use Rattle.verity_format.specs.Superblock.{Carries, SuperRecord, super_fault}
 use Rattle.image_commands.specs.declared.fault.ImageFault.{ImageFault}
 use Rattle.image_commands.specs.declared.fault.ImageFault.TheVariants.{Differs, Unaligned, Unpinned, Verify}
@@ -44,7 +45,11 @@ counted_behind fault = fault
 
 -- what may have been read as that sector: of a steady device, the one that stands there
 abbrev pub IsSectorAt : Device → ℕ → List ℕ → Type 0
-IsSectorAt device first sector = IsTrue device.steady → sector ≡ block_at device.image 512 first
+IsSectorAt device first sector = IsTrue device.steady → sector ≡ concat (run_of device.image first 1)
+
+-- it lies on the device
+abbrev pub IsReadAt : Device → ℕ → List ℕ → Type 0
+IsReadAt device first sector = (first < device.size) × IsSectorAt device first sector
 
 -- the superblock at that sector says what the pin says
 pub record IsPinnedAt (device : Device) (first : ℕ) (pin : Pin) : Type 0 where

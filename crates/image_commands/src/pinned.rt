@@ -1,7 +1,7 @@
 //! The command `verify --pin`: compares a tree with a data image by a pin.
 ghost use Rattle.std.specs.Prelude.{◌≡◌, IfErr, IfOk, OnOk};
 ghost use Rattle.image_commands.specs.Endings.{IsQuiet};
-ghost use Rattle.image_commands.specs.Pinned.{FailsToVerifyPinned, IsPinnedAt, IsUnpinnedAt, VerifiesPinned, counted_behind, pinned_options, tree_behind};
+ghost use Rattle.image_commands.specs.Pinned.{FailsToVerifyPinned, IsPinnedAt, IsReadAt, IsSuperEnd, IsUnpinnedAt, VerifiesPinned, counted_behind, pinned_options, tree_behind};
 ghost use Rattle.verity_format.specs.Blocks.{IsOnlyRead};
 
 use crate::fault::ImageFault;
@@ -69,13 +69,7 @@ fn check_pinned<'a, H: BlockDev>(
     ensures ok { OnOk result (IsPinnedAt (H.state hash_dev.old) first pin.now) }
     ensures err { IfErr result (IsUnpinnedAt (H.state hash_dev.old) first pin.now (H.state hash_dev.new)) }
 {
-    if first >= hash_dev.sectors() {
-        return Err(ImageFault::Verify(VerifyFault::TooSmall));
-    }
-    let mut sector = [0u8; 512];
-    if hash_dev.read(first, &mut sector).is_err() {
-        return Err(ImageFault::Verify(VerifyFault::Device));
-    }
+    let sector = read_sector(hash_dev, first)?;
     let superblock = match decode(&sector) {
         Ok(superblock) => superblock,
         Err(fault) => return Err(ImageFault::Verify(VerifyFault::Super(fault))),
@@ -84,6 +78,20 @@ fn check_pinned<'a, H: BlockDev>(
         Ok(()) => Ok(()),
         Err(mismatch) => Err(ImageFault::Unpinned(mismatch)),
     }
+}
+
+// The sector of that number.
+fn read_sector<H: BlockDev>(hash_dev: &mut H, first: u64) -> Result<[u8; 512], VerifyFault>
+    ensures read { IsOnlyRead (H.state hash_dev.old) (H.state hash_dev.new) }
+    ensures ok { IfOk result (IsReadAt (H.state hash_dev.old) first) }
+    ensures err { IfErr result (IsSuperEnd (H.state hash_dev.old) first (H.state hash_dev.new)) }
+{
+    if first >= hash_dev.sectors() {
+        return Err(VerifyFault::TooSmall);
+    }
+    let mut sector = [0u8; 512];
+    hash_dev.read(first, &mut sector)?;
+    Ok(sector)
 }
 
 // The options of the pin's tree, which has no identifier.

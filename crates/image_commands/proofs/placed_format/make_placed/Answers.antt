@@ -55,3 +55,13 @@ returns-clause-ok g c =
       made = subst₃ (λ (d h : Device) (end : ℕ). IsMadePlaced c.in_ok-options.options (placing d h end) image) (ap state watched.ensures.data) (ap state watched.ensures.hash) c.data_end-end.ensures made;
       closed = c.close.ensures;
     }
+
+pub returns-then-overlaps-clause-err : goal.returns-then-overlaps-clause-err
+returns-then-overlaps-clause-err g c =
+    inr (inr (inr (inr (record {
+      two = c.in_ok-two.two;
+      opened = c.in_ok-two.ensures.ok;
+      one = sym c.overlaps.ensures ∙ c.if-overlaps.true;
+      is = refl;
+      same = refl;
+    }))))

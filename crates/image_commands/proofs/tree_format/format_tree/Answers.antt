@@ -91,3 +91,13 @@ returns-clause-ok g c =
       },
       c.in_ok-say_tree.ensures.ok,
     )
+
+pub returns-then-overlaps-clause-err : goal.returns-then-overlaps-clause-err
+returns-then-overlaps-clause-err g c =
+    inr (inr (inr (inr (inr (record {
+      two = c.in_ok-two.two;
+      opened = c.in_ok-two.ensures.ok;
+      one = sym c.overlaps.ensures ∙ c.if-overlaps.true;
+      is = refl;
+      same = refl;
+    })))))
