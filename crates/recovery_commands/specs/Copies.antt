@@ -1,6 +1,6 @@
 -- What can be had of a device is copied to an image, and how that ends early.
 use Rattle.std.specs.Prelude.{◌≡◌, ◌⊎◌, ℕ, ◌<◌, Bool, true, false, List, Option}
-use Rattle.block_device.specs.Device.{Device, synced}
+use Rattle.block_device.specs.Device.{Device, capped, synced}
 use Rattle.counted_io.specs.Counted.{CountedRecord}
 use Rattle.differing_device.specs.declared.differing.Differing.{Differing}
 use Rattle.differing_device.specs.Differing.{differing}
@@ -81,7 +81,7 @@ EndsOnto state contents old new writer writer' fault = EndsRecovering state (lis
 
 -- to a device of which only what differs is written
 abbrev pub differing_state : {O : Type 0} → (O → Device) → Differing O → Device
-differing_state state d = differing (state d.inner) d.reads d.writes d.dirty
+differing_state state d = differing (state d.inner) (capped d.reads) (capped d.writes) d.dirty
 
 abbrev pub CopiesCompared : {D O W : Type 0} → (O → Device) → (W → Option (List ℕ)) → Copying D (Differing O) → Copying D (Differing O) → CountedRecord W → CountedRecord W → Counts → Type 0
 CopiesCompared state contents old new writer writer' counts = CopiesOnto (differing_state state) contents old new writer writer' counts
