@@ -160,7 +160,7 @@ PrintsMade contents writer writer' made = Appends (contents writer.inner) (conte
 
 -- the places of the two images that words name
 abbrev pub places_of : FormatWords → WatchedPlaces
-places_of words = record { places = record { data = words.data_path; hash = words.hash_path; hash_first = words.hash_offset / 512 }; progress = words.progress }
+places_of words = record { places = record { «data» = words.data_path; hash = words.hash_path; hash_first = words.hash_offset / 512 }; progress = words.progress }
 
 -- by the program's own words
 abbrev pub FormatsByWords : {S D T G W : Type 0} → Opener S D → (D → Device) → S → S → Drawing T G → (W → Option (List ℕ)) → CountedRecord W → CountedRecord W → OptionWords → FormatWords → Type 0

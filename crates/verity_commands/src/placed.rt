@@ -1,5 +1,5 @@
 //! The commands on verity images with a place for superblock and tree.
-ghost use Rattle.std.specs.Prelude.{OnOk, IfErr, IfOk};
+ghost use Rattle.std.specs.Prelude.{◌≡◌, OnOk, IfErr, IfOk};
 ghost use Rattle.image_commands.specs.Drawing.{drawing};
 ghost use Rattle.image_commands.specs.Endings.{IsLineUnwritten};
 ghost use Rattle.verity_commands.specs.Placed.{DumpsByWords, FailsSaidImage, FailsToDump, FailsToFormat, FailsToPrintTable, FailsToVerifyByWords, FormatsByWords, MakesSaidImage, PrintsByWords, PrintsMade, VerifiesByWords, places_of};

@@ -1,0 +1,54 @@
+use Rattle.std.proofs.Common.{inl, inr, refl}
+use Rattle.verity_commands.specs.declared.fault.VerityFault.TheVariants.{Image}
+use Rattle.verity_commands.proofs.EndingLemmas.{err-from, quiet, unwritten-quiet}
+use Rattle.verity_commands.proofs.pinned.invoke_format_pinned.Goals as goal
+
+pub returns-in_err-check_pin_path-clause-err : goal.returns-in_err-check_pin_path-clause-err
+returns-in_err-check_pin_path-clause-err g c =
+    let fault = c.in_err-check_pin_path.field-0.0 in
+    let one = rw c.places_of-watched.ensures at c.in_err-check_pin_path.ensures.err in
+    err-from c.from_residual-in_err-check_pin_path.result _ (Image fault) c.from_residual-in_err-check_pin_path.ensures.1
+    (inr (c.in_ok-options.options, c.in_ok-options.ensures.ok, inl (one, refl)), quiet (Image fault) _)
+
+pub returns-in_err-write_pin-clause-err : goal.returns-in_err-write_pin-clause-err
+returns-in_err-write_pin-clause-err g c =
+    let fault = c.in_err-write_pin.field-0.0 in
+    let apart = rw c.places_of-watched.ensures at c.in_ok-check_pin_path.ensures.ok in
+    let makes = rw c.places_of-watched.ensures at c.in_ok-made.ensures.ok in
+    let unwritten = rw c.pin_of_image-pin.ensures at c.in_err-write_pin.ensures.err in
+    err-from c.from_residual-in_err-write_pin.result _ (Image fault) c.from_residual-in_err-write_pin.ensures.1 (
+      inr (
+        c.in_ok-options.options,
+        c.in_ok-options.ensures.ok,
+        inr (inr (inl (record {
+          between = c.make_image.new.images;
+          image = c.in_ok-made.made;
+          makes = record { between = c.check_pin_path.new.images; apart = apart; makes = makes };
+          unwritten = unwritten;
+        }))),
+      ),
+      quiet (Image fault) _,
+    )
+
+pub returns-in_err-print_made-clause-err : goal.returns-in_err-print_made-clause-err
+returns-in_err-print_made-clause-err g c =
+    let fault = c.in_err-print_made.field-0.0 in
+    let apart = rw c.places_of-watched.ensures at c.in_ok-check_pin_path.ensures.ok in
+    let makes = rw c.places_of-watched.ensures at c.in_ok-made.ensures.ok in
+    let writes = rw c.pin_of_image-pin.ensures at c.in_ok-write_pin.ensures.ok in
+    err-from c.from_residual-in_err-print_made.result _ (Image fault) c.from_residual-in_err-print_made.ensures.1 (
+      inr (
+        c.in_ok-options.options,
+        c.in_ok-options.ensures.ok,
+        inr (inr (inr (
+          c.in_ok-made.made,
+          record {
+            between = c.make_image.new.images;
+            makes = record { between = c.check_pin_path.new.images; apart = apart; makes = makes };
+            writes = writes;
+          },
+          c.in_err-print_made.ensures.err,
+        ))),
+      ),
+      unwritten-quiet _ fault _ _ c.in_err-print_made.ensures.err,
+    )
