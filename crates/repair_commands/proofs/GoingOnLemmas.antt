@@ -1,8 +1,7 @@
 -- Repairs that go on behind a failed writer, and how they end.
-use Rattle.std.proofs.Common.{◌≡◌, ℕ, Bool, IsTrue, List, Option, None, Some, Result, Ok, Err, refl, sym, subst, ap, inl, inr, arith}
-use Rattle.std.specs.Prelude.{IfErr, IfOk, ◌*◌, ◌/◌, ◌+◌, ◌≤◌}
+use Rattle.std.proofs.Common.{ℕ, Bool, IsTrue, List, Option, None, Some, Result, Ok, Err, refl, sym, subst, inl, inr, arith}
+use Rattle.std.specs.Prelude.{IfErr, IfOk}
 use Rattle.std.specs.Result.{result_err}
-use Rattle.block_device.specs.Device.{Device, IsSameDevice}
 use Rattle.fec_area.specs.declared.layout.Layout.{Layout}
 use Rattle.fec_area.specs.Layouts.{IsLaidOn}
 use Rattle.tree_repair.specs.declared.fault.RepairFault.{RepairFault}
@@ -11,7 +10,7 @@ use Rattle.tree_repair.specs.declared.repair.Plan.{Plan}
 use Rattle.tree_repair.specs.Repairs.{IsAllowed, IsUnrepairedBy, Repairs}
 use Rattle.tree_repair.specs.Worlds.{RepairWorld}
 use Rattle.tree_repair.proofs.lemmas.SameLemmas.{unrepaired-same}
-use Rattle.repair_commands.specs.Mends.{HalfMends, IsCutBy, IsEndBehind, IsOnMedium, IsUnheard, IsUnsyncedCause, IsWholeOrCut, KeepsBothImages}
+use Rattle.repair_commands.specs.Mends.{HalfMends, IsCutBy, IsEndBehind, IsOnMedium, IsUnsyncedCause, IsWholeOrCut, KeepsBothImages}
 
 -- what may be written may be written behind a repair that ended early
 pub allowed-then : (plan : Plan) (parity : Bool) (w w' : RepairWorld) (old new : Option (List ℕ)) (fault : RepairFault) → IsUnrepairedBy plan parity w w' old new fault → IsAllowed plan.write w.data_dev w.hash_dev

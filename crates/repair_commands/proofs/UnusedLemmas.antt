@@ -1,5 +1,5 @@
 -- What was found of the hash blocks on the way to the last data block, behind the superblock, is said of the device before it.
-use Rattle.std.proofs.Common.{◌≡◌, ◌≤◌, ◌<◌, ◌+◌, ◌*◌, ◌/◌, ℕ, Bool, true, false, IsTrue, List, ◌⊎◌, refl, sym, ◌∙◌, subst, arith, inl, inr}
+use Rattle.std.proofs.Common.{◌<◌, ℕ, true, false, IsTrue, List, sym, ◌∙◌, subst, arith, inl, inr}
 use Rattle.std.proofs.lemmas.Bool.{false≢true}
 use Rattle.block_device.specs.Device.{Device}
 use Rattle.tree_commands.specs.declared.fault.TreeFault.TheVariants.{Survey}
@@ -8,8 +8,7 @@ use Rattle.tree_survey.specs.declared.fault.SurveyFault.TheVariants.{Image}
 use Rattle.tree_survey.specs.declared.unused.Unused.TheVariants.{Nonzero, Unknown, Zero}
 use Rattle.tree_survey.specs.Failing.{HasFailedRead}
 use Rattle.tree_survey.specs.Passes.{super_tree}
-use Rattle.tree_survey.specs.Surveys.{Tree}
-use Rattle.tree_survey.specs.Unused.{FindsNonzero, FindsZerosAlone, IsNonzeroAt, IsUnusedRead, IsWayGood}
+use Rattle.tree_survey.specs.Unused.{FindsZerosAlone, IsNonzeroAt, IsUnusedRead, IsWayGood}
 use Rattle.verity_format.specs.declared.verifying.VerifyFault.{VerifyFault}
 use Rattle.verity_format.specs.declared.verifying.VerifyFault.TheVariants.{Super, TooSmall, Device as DeviceFailed, NoMemory}
 use Rattle.verity_format.specs.Blocks.{IsFullRead}

@@ -7,7 +7,7 @@ use block_device::BlockDev;
 use std::alloc::Global;
 use tree_commands::TreeFault;
 use tree_shape::Digest;
-use tree_survey::{Unused, read_unused};
+use tree_survey::{SurveyFault, Unused, read_unused};
 use verity_format::{VerifyFault, read_superblock, tree_sectors};
 
 /// Returns whether all hash blocks on the way to the last data block are good, and hold zeros after their last used entries. A
@@ -33,7 +33,7 @@ pub(crate) fn check_unused<'a, H: BlockDev>(
         return Ok(false);
     }
     let Ok(found) = read_unused(alloc, hash_dev, &superblock, root) else {
-        return Err(TreeFault::from(VerifyFault::NoMemory));
+        return Err(TreeFault::Survey(SurveyFault::Image(VerifyFault::NoMemory)));
     };
     match found {
         Unused::Zero => Ok(true),
