@@ -1,4 +1,5 @@
 -- Pins in files.
+use Rattle.std.specs.Borrow.{Bor}
 use Rattle.std.specs.Prelude.{◌≡◌, ◌⊎◌, ◌||◌, ℕ, Bool, true, false, List, Option, None, Ok, Err}
 use Rattle.std.specs.Str.{bytes_eq}
 use Rattle.block_device.specs.declared.file_id.FileId.{FileId}

@@ -1,5 +1,5 @@
 -- What `format` makes of a hash image behind a sector of a file, and how it ends early.
-use Rattle.std.specs.Prelude.{◌≡◌, ◌⊎◌, ℕ, true, false}
+use Rattle.std.specs.Prelude.{◌≡◌, ◌⊎◌, ℕ, Bool, true, false}
 use Rattle.rand_core.specs.Stream.{Stream}
 use Rattle.block_device.specs.Device.{Device}
 use Rattle.device_window.specs.Parts.{StandOutside, outside_of, part_behind}
