@@ -14,7 +14,7 @@ use Rattle.fec_commands.specs.declared.fault.FecFault.{FecFault}
 use Rattle.fec_commands.specs.declared.fault.FecFault.TheVariants as fec
 use Rattle.fec_commands.specs.Checking.{IsCheckEnd, IsCompareEnd, IsFecQuiet}
 
-verity-quiet : (fault : VerityFault) (bytes : Option (List ℕ)) → IsVerityQuiet fault bytes bytes
+pub verity-quiet : (fault : VerityFault) (bytes : Option (List ℕ)) → IsVerityQuiet fault bytes bytes
 verity-quiet verity.Usage bytes = refl
 verity-quiet (verity.Image fault) bytes = image-quiet fault bytes
 

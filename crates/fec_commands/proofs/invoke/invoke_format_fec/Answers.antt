@@ -3,7 +3,7 @@ use Rattle.verity_commands.specs.declared.fault.VerityFault.TheVariants.{Usage}
 use Rattle.verity_commands.specs.Endings.{words_ending}
 use Rattle.fec_commands.specs.declared.fault.FecFault.TheVariants.{Verity}
 use Rattle.fec_commands.specs.FecFaults.{unwritten}
-use Rattle.fec_commands.proofs.EndingLemmas.{err-from, quiet, unsaid}
+use Rattle.fec_commands.proofs.EndingLemmas.{err-from, quiet, unsaid, verity-quiet}
 use Rattle.fec_commands.proofs.invoke.invoke_format_fec.Goals as goal
 
 pub returns-then-not-is_roots-clause-err : goal.returns-then-not-is_roots-clause-err
@@ -14,7 +14,7 @@ returns-then-says_two_sizes-clause-err g c =
     (inr (inl (record { two = sym c.says_two_sizes.ensures ∙ c.if-says_two_sizes.true; is = refl; same = refl })), refl)
 
 pub returns-in-Err-clause-err : goal.returns-in-Err-clause-err
-returns-in-Err-clause-err g c = (inl (record { cause = words_ending c.in-Err.fault; unsaid = unsaid c.in-Err.fault; is = ap Verity c.from.ensures; same = refl }), quiet (Verity (words_ending c.in-Err.fault)) _)
+returns-in-Err-clause-err g c = (inl (record { cause = words_ending c.in-Err.fault; unsaid = unsaid c.in-Err.fault; is = ap Verity c.from.ensures; same = refl }), verity-quiet c.from.result _)
 
 pub returns-in_err-check_file-clause-err : goal.returns-in_err-check_file-clause-err
 returns-in_err-check_file-clause-err g c =
