@@ -42,7 +42,8 @@ fn main(rt: HostRuntime) -> ExitCode {
         Err(_) => end_unread(&rt, &mut writer, &mut errors, CommandFault::Usage),
     };
     let status = if writer.flush().is_ok() { status } else { 1 };
-    if writer.failed() {
+    // The readers of `cat` and `nbd` may go away: that isn't reported.
+    if writer.failed() && !is_data(&rt) {
         let _said = errors.put(b"dmstack: standard output failed\n");
     }
     ExitCode::from(status)
@@ -55,16 +56,21 @@ fn end_unread<R: Env, W: Write, E: Write>(
     errors: &mut Counted<E>,
     fault: CommandFault<'_>,
 ) -> u8 {
+    if is_data(rt) {
+        end(errors, fault)
+    } else {
+        end(writer, fault)
+    }
+}
+
+// Whether the output is data for another program, as the first word says.
+fn is_data<R: Env>(rt: &R) -> bool {
     let mut buffer = [0; 4];
     let name = match rt.arg(1, &mut buffer) {
         Ok(length) => buffer.get(..length),
         Err(_) => None,
     };
-    if name.is_some_and(writes_data) {
-        end(errors, fault)
-    } else {
-        end(writer, fault)
-    }
+    name.is_some_and(writes_data)
 }
 
 // The words behind the program's name. One that is not UTF-8 is an error of another kind than memory.
