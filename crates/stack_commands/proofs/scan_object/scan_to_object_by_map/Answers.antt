@@ -44,8 +44,8 @@ returns-in_err-counts-clause-err g c =
       })),
     ))
 
-pub returns-then-refused-clause-err : goal.returns-then-refused-clause-err
-returns-then-refused-clause-err g c = inl (
+pub returns-then-kept-clause-err : goal.returns-then-kept-clause-err
+returns-then-kept-clause-err g c = inl (
   refl,
   inr (inr (record {
     counts = c.in_ok-counts.counts;
@@ -57,7 +57,7 @@ returns-then-refused-clause-err g c = inl (
       between = c.open_device.new.images;
       found = c.in_ok-stack.ensures.ok;
       rescued = rescued-none _ _ _ _ _ _ _ _ _ c.new-kept.ensures.runs c.new-kept.ensures.refused c.in_ok-counts.ensures.ok;
-      same = ap (λ (b : Bool). listed (Some (lost_text c.rescue_by_map.new.listing.runs.items)) b) c.if-refused.true;
+      same = ap (λ (b : Bool). listed (Some (lost_text c.rescue_by_map.new.listing.runs.items)) b) c.if-kept.true;
     };
     is = refl;
   })),
@@ -74,7 +74,7 @@ returns-clause-ok g c = on_ok_weaker c.say_lost.result (λ said. record {
     between = c.open_device.new.images;
     found = c.in_ok-stack.ensures.ok;
     rescued = rescued-none _ _ _ _ _ _ _ _ _ c.new-kept.ensures.runs c.new-kept.ensures.refused c.in_ok-counts.ensures.ok;
-    same = ap (λ (b : Bool). listed (Some (lost_text c.rescue_by_map.new.listing.runs.items)) b) c.if-refused.false;
+    same = ap (λ (b : Bool). listed (Some (lost_text c.rescue_by_map.new.listing.runs.items)) b) c.if-kept.false;
   };
   none = said.0;
   printed = rw c.as_slice.ensures.value at said.1;
@@ -91,7 +91,7 @@ returns-clause-err g c = IfErr-weaker c.say_lost.result _ _ (λ fault ends. inr 
     between = c.open_device.new.images;
     found = c.in_ok-stack.ensures.ok;
     rescued = rescued-none _ _ _ _ _ _ _ _ _ c.new-kept.ensures.runs c.new-kept.ensures.refused c.in_ok-counts.ensures.ok;
-    same = ap (λ (b : Bool). listed (Some (lost_text c.rescue_by_map.new.listing.runs.items)) b) c.if-refused.false;
+    same = ap (λ (b : Bool). listed (Some (lost_text c.rescue_by_map.new.listing.runs.items)) b) c.if-kept.false;
   };
   ends = rw c.as_slice.ensures.value at ends;
 })) c.say_lost.ensures.err
