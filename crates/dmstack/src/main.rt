@@ -66,11 +66,13 @@ fn end_unread<R: Env, W: Write, E: Write>(
 // Whether the output is data for another program, as the first word says.
 fn is_data<R: Env>(rt: &R) -> bool {
     let mut buffer = [0; 4];
-    let name = match rt.arg(1, &mut buffer) {
-        Ok(length) => buffer.get(..length),
-        Err(_) => None,
+    let Ok(length) = rt.arg(1, &mut buffer) else {
+        return false;
     };
-    name.is_some_and(writes_data)
+    match buffer.get(..length) {
+        Some(name) => writes_data(name),
+        None => false,
+    }
 }
 
 // The words behind the program's name. One that is not UTF-8 is an error of another kind than memory.
