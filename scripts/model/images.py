@@ -5,7 +5,7 @@ from uuid import UUID
 from differences import Stored, compared, longest_runs, run_lines, unlike
 from files import WHOLE, Stop
 from partitions import lines_of, root_lines, stack_lines, table_facts, table_of
-from protection import check_one_size, compared_parity, protect
+from protection import check_aligned, check_one_size, check_parity_of, compared_parity, found, measured, protect
 from replies import Json
 from stack import SECTOR
 from tables import digits_of
@@ -18,12 +18,6 @@ DONE, REFUSED, _, FAULT = range(4)
 
 class Drawn(Exception):
     """A format whose salt or uuid is drawn: no model tells what it prints."""
-
-
-def check_aligned(first, hash_block):
-    """A tree begins where a hash block of its file does."""
-    if hash_block >= SECTOR and first % (hash_block // SECTOR):
-        raise Stop(b"refused 18 Unaligned")
 
 
 def told_root(root, files):
@@ -53,6 +47,10 @@ def run_format(options, words, files, _given, _features):
     is_bare, fec = b"no-superblock" in options, read_fec(options)
     if fec:
         check_one_size(*sizes)
+        if b"grow" in options:
+            found(files, paths, fec)
+        else:
+            measured(files, paths, fec, first, (*sizes, blocks, salt))
     check_aligned(first, sizes[1])
     if b"grow" in options:
         check_data(files.image(paths[0], False), *sizes, blocks)
@@ -82,6 +80,8 @@ def run_format(options, words, files, _given, _features):
 def run_verify(options, words, files, _given, _features):
     *paths, root, said, first = read_verify(options, words)
     root = told_root(root, files)
+    if b"fec" in options:
+        check_parity_of(files, paths, read_fec(options), first)
     if b"no-superblock" in options:
         check_aligned(first, said[1])
         data, image = two_images(files, paths, first, False)

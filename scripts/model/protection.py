@@ -1,9 +1,9 @@
 """`format --fec` and `verify --fec`: the parity of an image in a file of its own."""
 
-from files import REFUSED, Stop
-from parity import covered, parity_of, sectors_of_parity
+from files import REFUSED, Stop, not_opened
+from parity import WORD, covered, parity_of, sectors_of_parity
 from stack import SECTOR
-from verity import read_superblock
+from verity import has_shape, read_superblock
 
 FAULT = 3
 
@@ -14,6 +14,12 @@ def check_parity(tree, area, parity, roots):
     needed = sectors_of_parity(area, tree.data_block, roots)
     if len(parity) // SECTOR < needed:
         raise Stop(b"refused 25 FecTooSmall needed %d" % needed)
+
+
+def check_aligned(first, hash_block):
+    """A tree begins where a hash block of its file does."""
+    if hash_block >= SECTOR and first % (hash_block // SECTOR):
+        raise Stop(b"refused 18 Unaligned")
 
 
 def check_one_size(data_block, hash_block):
@@ -30,6 +36,7 @@ def laid_out(files, paths, fec, first, writable):
         data = data[:first * SECTOR]
     image = image[first * SECTOR:]
     tree = read_superblock(image).tree()
+    check_aligned(first, tree.hash_block)
     if tree.data_sectors() > len(data) // SECTOR:
         raise Stop(b"refused 9 TooSmall")
     check_one_size(tree.data_block, tree.hash_block)
@@ -46,6 +53,48 @@ def protect(files, paths, fec, first, is_grown):
     check_parity(tree, area, parity, fec[1])
     made = parity_of(area, tree.data_block, fec[1])
     parity[:len(made)] = made
+
+
+def found(files, paths, fec):
+    """A format that may make files opens those that are there before it makes one."""
+    files.opened.clear()
+    missing = []
+    for path, writable in ((paths[0], False), (paths[1], False), (fec[0], True)):
+        try:
+            files.image(path, writable)
+        except Stop as stop:
+            if path is paths[0] or not stop.line.startswith(b"refused 1 "):
+                raise
+            missing.append(path)
+    if missing[:1] == [paths[1]] and fec[0] == paths[1]:
+        raise not_opened("SameFile", fec[0])
+    files.opened.clear()
+
+
+def measured(files, paths, fec, first, options):
+    """The parity's file has the sectors that the image takes that a format is to make, where the options make one."""
+    data_block, _, blocks, _ = options
+    files.opened.clear()
+    data, image = (files.image(path, False) for path in paths)
+    parity = files.image(fec[0], True)
+    files.opened.clear()
+    if first and image is data:
+        data = data[:first * SECTOR]
+    if blocks is None and data_block >= SECTOR:
+        blocks = len(data) // SECTOR // (data_block // SECTOR)
+    if not has_shape(data_block, data_block, blocks):
+        return
+    covered_blocks = blocks + max(0, len(image[first * SECTOR:]) // SECTOR * SECTOR // data_block - 1)
+    needed = -(-covered_blocks // (WORD - fec[1])) * fec[1] * data_block // SECTOR
+    if len(parity) // SECTOR < needed:
+        raise Stop(b"refused 25 FecTooSmall needed %d" % needed)
+
+
+def check_parity_of(files, paths, fec, first):
+    """The parity's file is there and large enough, before anything is said of the image."""
+    tree, area, parity = laid_out(files, paths, fec, first, False)
+    check_parity(tree, area, parity, fec[1])
+    files.opened.clear()
 
 
 def compared_parity(files, paths, fec, first):

@@ -2,7 +2,7 @@
 
 from configuration import Refused
 from files import LONGEST_NAME, Stop
-from rescue_map import FAULTS, MapFault, marks_of, text_of
+from rescue_map import FAULTS, MapFault, is_of_scan, marks_of, text_of
 from session import SUBMISSION_RULES
 from stack import SECTOR, Fault
 
@@ -70,9 +70,14 @@ def run_facts(first, count, fault):
 
 def with_map(stack, device, out, path, files):
     """The same where a map says what was had before: that isn't read again, and the map is as it is then. Where all were
-    had its file stays as it is. Where the map isn't written, its refusal is told too."""
+    had its file stays as it is. A copy takes nothing for copied by a scan's map. Where the map isn't written, its refusal is told
+    too."""
+    of_scan = out is None
     try:
-        marks = marks_of(bytes(files.content(path)), device.sectors)
+        text = bytes(files.content(path))
+        marks = marks_of(text, device.sectors)
+        if is_of_scan(text) and not of_scan:
+            marks = ()
     except MapFault as fault:
         raise Stop(b"refused %d Map%s" % (24 + FAULTS.index(str(fault)), str(fault).encode())) from None
     except Stop as stop:
@@ -85,7 +90,7 @@ def with_map(stack, device, out, path, files):
         name = path.removeprefix(b"./")
         if b"/" in name or len(name + BESIDE) > LONGEST_NAME:
             return runs, had, b"refused 31 MapWrite"
-        files.nodes[name] = bytearray(text_of(had))
+        files.nodes[name] = bytearray(text_of(had, of_scan))
     return runs, had, None
 
 

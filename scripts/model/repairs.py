@@ -2,8 +2,7 @@
 
 A hash block that no copy has is made again of the blocks beneath it; where there is parity, what is lost is made of it."""
 
-from files import Stop
-from images import REFUSED, check_aligned, surveyed, told_root
+from images import check_aligned, surveyed, told_root
 from parity import covered, made_again
 from protection import check_parity
 from stack import SECTOR
@@ -142,6 +141,7 @@ def run_repair(options, words, files, _given, _features):
     whole, data_size, copies = opened(files, paths, first, copies, writes)
     parity = fec and files.image(fec[0], False)
     superblock = read_superblock(whole[1][first * SECTOR:])
+    check_aligned(first, superblock.hash_block)
     tree, salt = superblock.tree(), superblock.salt
     check_sizes(tree, whole[0][:data_size], whole[1][first * SECTOR:])
     repair = Repair(tree, salt, root, first)
@@ -151,9 +151,5 @@ def run_repair(options, words, files, _given, _features):
     else:
         lines = repair.lines(whole, copies, writes, [])
     lines = [line.encode() for line in lines]
-    try:
-        check_aligned(first, superblock.hash_block)
-    except Stop as stop:
-        return lines + [stop.line], REFUSED
     found, status = surveyed(whole[0][:data_size], whole[1][first * SECTOR:], tree, salt, root, False)
     return lines + found, status

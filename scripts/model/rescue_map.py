@@ -7,6 +7,7 @@ from tables import WORD
 
 FAULTS = ["Status", "Block", "PartSector", "Gap", "Overlap", "Size"]
 UNFINISHED = (b"-", b"?", b"*", b"/")
+SCAN_MARK = b"# dmstack scan"
 
 
 class MapFault(Exception):
@@ -28,6 +29,11 @@ def said_lines(text):
     """The words of the lines that say something: no comment, and not empty."""
     found = [WORD.findall(line) for line in text.split(b"\n")]
     return [words for words in found if words and not words[0].startswith(b"#")]
+
+
+def is_of_scan(text):
+    """Whether a scan made the map: its `+` says that a sector could be read, and not that it was copied."""
+    return SCAN_MARK in text.split(b"\n")
 
 
 def is_status(words):
@@ -69,7 +75,7 @@ def blocks_of(marks):
     return found
 
 
-def text_of(marks):
-    """The map that is written: finished, and of each longest run whether it was had."""
+def text_of(marks, of_scan):
+    """The map that is written: finished, and of each longest run whether it was had; a scan's is marked."""
     lines = [b"%d %d %s" % (first * SECTOR, count * SECTOR, b"+" if had else b"-") for had, first, count in blocks_of(marks)]
-    return b"\n".join([b"0 +", *lines, b""])
+    return b"\n".join([*[SCAN_MARK] * of_scan, b"0 +", *lines, b""])
