@@ -188,29 +188,34 @@ static ROWS: [Row; 31] = [
         ..FORMAT
     },
     REPAIR,
-    // The superblock can't be read.
+    // The superblock can't be read: as the hash blocks' unused entries are looked at, as its place is checked, or as the
+    // repair begins. Nothing was written.
     Row {
         call: 1,
         status: 1,
         printed: b"refused 10 Device\n",
         ..REPAIR
     },
-    // The block is looked at with its row, and alone: where it can't be read it is one that isn't good. Then the superblock's
-    // device isn't put on its medium.
     Row {
         call: 2,
         status: 1,
-        printed: b"repaired data 0 copy 1\nrefused 10 Device\n",
+        printed: b"refused 10 Device\n",
         ..REPAIR
     },
-    // It isn't written, or not read back, so that all is gone over again, or not put on its medium.
     Row {
         call: 3,
         status: 1,
         printed: b"refused 10 Device\n",
         ..REPAIR
     },
-    Row { call: 4, ..REPAIR },
+    // The block isn't read back, and then the superblock's device isn't synced.
+    Row {
+        call: 4,
+        status: 1,
+        printed: b"repaired data 0 copy 1\nrefused 10 Device\n",
+        ..REPAIR
+    },
+    // The data aren't synced.
     Row {
         call: 5,
         status: 1,
