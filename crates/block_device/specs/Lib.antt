@@ -5,6 +5,7 @@ pub mod Call
 pub mod CallList
 pub mod Calls
 pub mod OpenFault
+pub mod FileCalls
 pub mod File
 pub mod FileId
 pub mod Identity

@@ -1,7 +1,9 @@
 -- Files whose sync failed: what was written may be lost, and the system reports it once.
-use Rattle.std.specs.Prelude.{◌≡◌, Bool, false, IsTrue, IsErr, Result}
+use Rattle.std.specs.Prelude.{◌≡◌, ◌⊎◌, Bool, true, false, IsTrue, IsErr, Result}
 use Rattle.block_device.specs.declared.device.DeviceFault.{DeviceFault}
 use Rattle.block_device.specs.declared.file.FileDev.{FileDev}
+use Rattle.block_device.specs.Call.{Call, Read, Sync, Write}
+use Rattle.block_device.specs.FileCalls.{Called}
 
 -- whether a sync failed since the file was opened
 abbrev pub has_lost_writes : FileDev → Bool
@@ -12,3 +14,10 @@ pub record FailsForGood (old new : FileDev) (result : Result (Unit {0}) DeviceFa
   pub later : IsTrue (has_lost_writes old) → IsErr result
   pub kept : IsErr result → IsTrue (has_lost_writes new)
   pub good : has_lost_writes new ≡ false → has_lost_writes old ≡ false
+
+-- the system was called so, or not at all: a sync of a file that has lost writes fails without a call
+abbrev pub CallsFile : FileDev → Call → FileDev → Type 0
+CallsFile old (Sync false) new = (IsTrue (has_lost_writes old) × (new.file ≡ old.file)) ⊎ Called old.file (Sync false) new.file
+CallsFile old (Sync true) new = Called old.file (Sync true) new.file
+CallsFile old (Read first bytes ok) new = Called old.file (Read first bytes ok) new.file
+CallsFile old (Write first bytes ok) new = Called old.file (Write first bytes ok) new.file

@@ -33,7 +33,7 @@ impl BlockDev for AnyDev {
 
     ghost gives = { elim [ Memory m ↦ ⟦<MemoryDev as BlockDev>⟧.gives m | File f ↦ ⟦<FileDev as BlockDev>⟧.gives f ] };
 
-    ghost does = { λ old call new. Unit {0} };
+    ghost does = { elim [ Memory m ↦ λ call. elim [ Memory n ↦ ⟦<MemoryDev as BlockDev>⟧.does m call n | File f ↦ ⊥ ] | File f ↦ λ call. elim [ Memory m ↦ ⊥ | File g ↦ ⟦<FileDev as BlockDev>⟧.does f call g ] ] };
 
     ghost whole = { elim [ Memory m ↦ whole_bytes (⟦<MemoryDev as BlockDev>⟧.state m) m.bytes.items refl refl | File f ↦ whole_zeros (⟦<AnyDev as BlockDev>⟧.state (File f)) refl ] };
 

@@ -6,15 +6,15 @@ ghost use Rattle.block_device.specs.Calls.{DeviceFails, DeviceFailsToSync, Devic
 ghost use Rattle.block_device.specs.Counters.{capped-fits};
 ghost use Rattle.block_device.specs.Device.{IsInside, capped, zeros_image};
 ghost use Rattle.block_device.specs.File.{opened, HasSectors, IsRefused, IsImage, IsBlockDevice};
-ghost use Rattle.block_device.specs.Identity.{IsIdOf};
+ghost use Rattle.block_device.specs.Identity.{IsToldId};
 ghost use Rattle.block_device.specs.Whole.{whole_zeros};
 
+use crate::file_calls::{lengthen_file, metadata_at, metadata_of, open_at, read_at, sync_all, write_at};
 use crate::file_lock::FileLock;
 use crate::{BlockDev, DeviceFault, FileId, OpenFault, SyncDev};
-use std::fs;
-use std::fs::{File, Metadata, OpenFile, OpenOptions};
+use std::fs::{File, Metadata};
 use std::io::{Seek, SeekFrom};
-use std::os::unix::fs::{FileExt, MetadataExt};
+use std::os::unix::fs::MetadataExt;
 use std::rt::Files;
 
 const MAX_SECTORS: u64 = 1 << 54;
@@ -49,8 +49,9 @@ pub struct FileDev {
 
 impl FileDev {
     ghost use Rattle.std.specs.declared.fs.attrs.Metadata.{Metadata};
-    ghost use Rattle.block_device.specs.FileId.{file_id};
-    ghost use Rattle.block_device.specs.Identity.{IsOpenedAs};
+    ghost use Rattle.block_device.specs.FileCalls.{IsOfFile, Opened};
+    ghost use Rattle.block_device.specs.FileId.{file_id, file_of};
+    ghost use Rattle.block_device.specs.Identity.{IsLongEnough, IsOpenedAs};
 
     /// Opens the file or block device for reading, and for writing too where `writable` says so. Anything else,
     /// as a directory, a pipe or a character device, is `OtherFault`. What is opened is an image by what the system said
@@ -61,25 +62,17 @@ impl FileDev {
         writable: bool,
     ) -> Result<FileDev, OpenFault>
         ensures state { IfOk result (λ f. (⟦<FileDev as BlockDev>⟧.state f) ≡ opened (⟦<FileDev as BlockDev>⟧.state f).size writable) }
-        ensures image { IfOk result (λ f. (m : Metadata) × IsOpenedAs m (⟦<FileDev as BlockDev>⟧.state f).size (file_id f)) }
+        ensures image { IfOk result (λ f. (m : Metadata) × IsOfFile (file_of f) m × IsOpenedAs m (⟦<FileDev as BlockDev>⟧.state f).size (file_id f)) }
+        ensures opened { IfOk result (λ f. Opened path.now writable (file_of f)) }
     {
         // Opening a pipe would wait for its other end, so what is no image is refused before.
-        match fs::metadata(rt, path) {
-            Ok(metadata) if metadata.is_file() || is_block_device(&metadata) => {}
-            Ok(_) => return Err(OpenFault::OtherFault),
-            Err(e) => return Err(OpenFault::from(e.kind())),
+        if !is_image(&metadata_at(rt, path)?) {
+            return Err(OpenFault::OtherFault);
         }
-        let mut file = match OpenOptions::new().read(true).write(writable).open(rt, path) {
-            Ok(file) => file,
-            Err(e) => return Err(OpenFault::from(e.kind())),
-        };
-        match file.metadata() {
-            Ok(metadata) => {
-                let sectors = sectors_in(&mut file, &metadata)?;
-                Ok(device_of(file, &metadata, sectors, writable))
-            }
-            Err(e) => Err(OpenFault::from(e.kind())),
-        }
+        let file = open_at(rt, path, writable)?;
+        let metadata = metadata_of(&file)?;
+        let sectors = sectors_in(&mut &file, &metadata)?;
+        Ok(device_of(file, &metadata, sectors, writable))
     }
 
     /// Which file it is, where the runtime tells it, and `None` where it doesn't. It never changes.
@@ -87,6 +80,21 @@ impl FileDev {
         ensures { result ≡ file_id self.now }
     {
         self.id
+    }
+
+    /// Makes a regular file at least so many bytes long. A longer one and a block device stay as they are.
+    ///
+    /// # Errors
+    ///
+    /// The fault of what the system answered.
+    pub fn lengthen(self, bytes: u64) -> Result<(), OpenFault>
+        ensures { OnOk result (IsLongEnough (file_of self) bytes) }
+    {
+        let metadata = metadata_of(&self.file)?;
+        if !metadata.is_file() || metadata.len() >= bytes {
+            return Ok(());
+        }
+        lengthen_file(&self.file, &metadata, bytes)
     }
 
     /// Locks the file against other processes that lock it, until the lock is dropped.
@@ -103,6 +111,12 @@ pub(crate) fn is_block_device(metadata: &Metadata) -> bool
     ensures { IsTrue result ↔ IsBlockDevice (file_type metadata.now) }
 {
     metadata.mode() & KIND_BITS == BLOCK_DEVICE
+}
+
+fn is_image(metadata: &Metadata) -> bool
+    ensures { IsTrue result ↔ IsImage (file_type metadata.now) }
+{
+    metadata.is_file() || is_block_device(metadata)
 }
 
 // How many bytes stand before the end of what can be sought in.
@@ -137,7 +151,8 @@ fn sectors_in<S: Seek>(file: &mut S, metadata: &Metadata) -> Result<u64, OpenFau
 fn device_of(file: File, metadata: &Metadata, sectors: u64, writable: bool) -> FileDev
     requires { sectors ≤ 2 ^ 54 }
     ensures state { ⟦<FileDev as BlockDev>⟧.state result ≡ opened sectors writable }
-    ensures id { IsIdOf (file_type metadata.now) result.id }
+    ensures id { IsToldId metadata.now result.id }
+    ensures file { result.file ≡ file }
 {
     FileDev {
         file,
@@ -153,7 +168,7 @@ fn device_of(file: File, metadata: &Metadata, sectors: u64, writable: bool) -> F
 }
 
 impl BlockDev for FileDev {
-    ghost use Rattle.block_device.specs.LostWrites.{has_lost_writes};
+    ghost use Rattle.block_device.specs.LostWrites.{CallsFile, has_lost_writes};
 
     ghost state = { λ f. record {
       size = f.sectors;
@@ -169,7 +184,7 @@ impl BlockDev for FileDev {
 
     ghost gives = { λ f first bytes. Unit {0} };
 
-    ghost does = { λ old call new. Unit {0} };
+    ghost does = { CallsFile };
 
     ghost whole = { λ f. whole_zeros (⟦<FileDev as BlockDev>⟧.state f) refl };
 
@@ -194,13 +209,11 @@ impl BlockDev for FileDev {
         ensures lost { has_lost_writes self.new ≡ has_lost_writes self.old }
     {
         self.reads = self.reads.saturating_add(out.len() as u64 / 512);
-        match self.file.read_exact_at(out, first * 512) {
-            Ok(()) => Ok(()),
-            Err(_) => {
-                self.failures = self.failures.saturating_add(1);
-                Err(DeviceFault)
-            }
+        if read_at(&mut self.file, first, out) {
+            return Ok(());
         }
+        self.failures = self.failures.saturating_add(1);
+        Err(DeviceFault)
     }
 
     fn write(&mut self, first: u64, bytes: &[u8]) -> Result<(), DeviceFault>
@@ -215,13 +228,11 @@ impl BlockDev for FileDev {
     {
         self.dirty = true;
         self.writes = self.writes.saturating_add(bytes.len() as u64 / 512);
-        match self.file.write_all_at(bytes, first * 512) {
-            Ok(()) => Ok(()),
-            Err(_) => {
-                self.failures = self.failures.saturating_add(1);
-                Err(DeviceFault)
-            }
+        if write_at(&mut self.file, first, bytes) {
+            return Ok(());
         }
+        self.failures = self.failures.saturating_add(1);
+        Err(DeviceFault)
     }
 
     fn reads(&self) -> u64 {
@@ -254,7 +265,7 @@ impl SyncDev for FileDev {
         ensures same { file_id self.new ≡ file_id self.old }
         ensures lost { FailsForGood self.old self.new result }
     {
-        if !self.has_lost_writes && self.file.sync_all().is_ok() {
+        if !self.has_lost_writes && sync_all(&mut self.file) {
             self.dirty = false;
             return Ok(());
         }

@@ -1,8 +1,14 @@
 -- What a proof sees of images in files: no clause of the library says which file a path leads to, nor what it holds.
-use Rattle.std.specs.Prelude.{◌≡◌, Bool, List, Option, Result, Ok, Err}
+use Rattle.std.specs.Prelude.{◌≡◌, ◌≢◌, ◌⊎◌, ◌*◌, ◌%◌, ◌↔◌, ℕ, Bool, true, IsTrue, List, Option, Result, Ok, Err}
+use Rattle.std.specs.Fs.{file_type, metadata_len, IsFile}
+use Rattle.std.specs.declared.fs.File.{File}
+use Rattle.std.specs.declared.fs.attrs.Metadata.{Metadata}
 use Rattle.block_device.specs.declared.file_id.FileId.{FileId}
+use Rattle.block_device.specs.declared.open_fault.OpenFault.{OpenFault}
 use Rattle.block_device.specs.Device.{Device}
 use Rattle.block_device.specs.File.{opened}
+use Rattle.block_device.specs.FileCalls.{IsOfPath, Opened}
+use Rattle.block_device.specs.Identity.{IsLongEnough}
 use Rattle.device_window.specs.declared.part.Part.{Part}
 use Rattle.device_window.specs.Parts.{LiesInside}
 use Rattle.device_window.specs.Windows.{windowed}
@@ -10,19 +16,23 @@ use Rattle.image_files.specs.declared.images.OpenImage.{OpenImage}
 use Rattle.image_files.specs.FileLocks.{Locks, LocksAtMost}
 use Rattle.image_files.specs.Opener.{Opener}
 
--- what a proof sees of a device, which file it is, and which files an opener has locked
-pub record FileView (S D : Type 0) : Type 0 where
+-- what a proof sees of a device, which file it is, whether the system opened it under a path, for writing too or not, and
+-- which files an opener has locked
+pub record FileView (S D : Type 0) : Type 1 where
   pub state : D → Device
   pub id : D → Option FileId
+  pub opened : D → List ℕ → Bool → Type 0
   pub locked : S → List FileId
 
--- a file as it was opened, of its own size, and which one it is
-pub record IsOpenFile {S D : Type 0} (view : FileView S D) (image : OpenImage D) (writable : Bool) : Type 0 where
+-- a file as it was opened under its path, of its own size, and which one it is
+pub record IsOpenFile {S D : Type 0} (view : FileView S D) (image : OpenImage D) (path : List ℕ) (writable : Bool) : Type 0 where
+  pub asked : view.opened image.device path writable
   pub device : view.state image.device ≡ opened (view.state image.device).size writable
   pub id : image.id ≡ view.id image.device
 
 -- a part of one, inside of it
-pub record IsOpenPart {S D : Type 0} (view : FileView S D) (image : OpenImage D) (writable : Bool) (part : Part) : Type 0 where
+pub record IsOpenPart {S D : Type 0} (view : FileView S D) (image : OpenImage D) (path : List ℕ) (writable : Bool) (part : Part) : Type 0 where
+  pub asked : view.opened image.device path writable
   pub whole : Device
   pub is : whole ≡ opened whole.size writable
   pub inside : LiesInside whole part
@@ -38,14 +48,24 @@ abbrev pub LocksFile : {S D F : Type 0} → FileView S D → Bool → Result (Op
 LocksFile view writable (Ok image) old new = Locks writable image.id (view.locked old) (view.locked new)
 LocksFile view writable (Err fault) old new = LocksAtMost (view.locked old) (view.locked new)
 
+-- the system said that no regular file is under the path, or the file there has that many sectors
+abbrev pub Grows : List ℕ → ℕ → Result (Unit {0}) OpenFault → Type 0
+Grows path sectors (Ok done) = ((said : Metadata) × IsOfPath path said × (IsFile (file_type said) → ⊥)) ⊎ ((file : File) × Opened path true file × IsLongEnough file (sectors * 512))
+Grows path sectors (Err fault) = Unit {0}
+
+-- whether a regular file ends inside a sector, by the size that the system said of the path
+abbrev pub EndsInPart : List ℕ → Result Bool OpenFault → Type 0
+EndsInPart path (Ok part) = (said : Metadata) × IsOfPath path said × (IsTrue part ↔ (IsFile (file_type said) × (metadata_len said % 512 ≢ 0)))
+EndsInPart path (Err fault) = Unit {0}
+
 abbrev pub file_relations : {S D : Type 0} → FileView S D → Opener S D
 file_relations view = record {
-  opens = λ old path writable outcome new. LocksFile view writable outcome old new × OpensFile (λ image. IsOpenFile view image writable) outcome;
-  opens_part = λ old path writable part outcome new. LocksFile view writable outcome old new × OpensFile (λ image. IsOpenPart view image writable part) outcome;
+  opens = λ old path writable outcome new. LocksFile view writable outcome old new × OpensFile (λ image. IsOpenFile view image path writable) outcome;
+  opens_part = λ old path writable part outcome new. LocksFile view writable outcome old new × OpensFile (λ image. IsOpenPart view image path writable part) outcome;
   tells = λ old path most outcome new. new ≡ old;
   takes = λ old path device new. new ≡ old;
   takes_part = λ old path part device new. new ≡ old;
-  grows = λ old path sectors outcome new. LocksAtMost (view.locked old) (view.locked new);
-  measures = λ old path outcome new. new ≡ old;
+  grows = λ old path sectors outcome new. LocksAtMost (view.locked old) (view.locked new) × Grows path sectors outcome;
+  measures = λ old path outcome new. (new ≡ old) × EndsInPart path outcome;
   replaces = λ old path bytes outcome new. new ≡ old;
 }

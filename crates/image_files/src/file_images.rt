@@ -1,19 +1,20 @@
 //! Images in files.
 ghost use Rattle.std.specs.Prelude.{◌≡◌, ◌≤◌, length, OnErr, OnOk, IfErr, IfOk};
-ghost use Rattle.block_device.specs.Any.{any_id};
+ghost use Rattle.block_device.specs.Any.{any_id, any_opened};
 ghost use Rattle.block_device.specs.File.{opened};
-ghost use Rattle.block_device.specs.FileId.{file_id};
+ghost use Rattle.block_device.specs.FileCalls.{Opened};
+ghost use Rattle.block_device.specs.FileId.{file_id, file_of};
 ghost use Rattle.image_files.specs.FileLocks.{Locks, LocksAtMost};
 
 use crate::file_locks::FileLocks;
-use crate::growing::{lengthen, make_file};
+use crate::growing::make_file;
 use crate::images::{FileText, Images, OpenImage};
 use crate::parts::PartFault;
-use block_device::{AnyDev, BlockDev, FileDev, FileId, MemoryDev, OpenFault};
+use block_device::{AnyDev, BlockDev, FileDev, FileId, MemoryDev, OpenFault, metadata_at, metadata_of};
 use device_window::{OutsideDevice, Part, Window};
 use std::alloc::Global;
 use std::fs;
-use std::fs::{File, OpenFile};
+use std::fs::File;
 use std::io::{ErrorKind, Read};
 use std::rt::Files;
 use text_files::{FileTexts, ReplaceFault, SystemCalls, Texts};
@@ -45,7 +46,7 @@ fn open_file<R: Files<File = File>>(
     writable: bool,
 ) -> Result<FileDev, OpenFault>
     ensures state { IfOk result (λ f. (⟦<FileDev as BlockDev>⟧.state f) ≡ opened (⟦<FileDev as BlockDev>⟧.state f).size writable) }
-    ensures locked { IfOk result (λ f. Locks writable (file_id f) locks.old.files.items locks.new.files.items) }
+    ensures locked { IfOk result (λ f. Locks writable (file_id f) locks.old.files.items locks.new.files.items × Opened path.now writable (file_of f)) }
     ensures same { OnErr result (locks.new.files.items ≡ locks.old.files.items) }
 {
     let file = FileDev::open(rt, path, writable)?;
@@ -75,7 +76,7 @@ impl<R: Files<File = File> + AllocGlobal + Input> Images for FileImages<'_, R> {
 
     type Dev = Window<AnyDev>;
 
-    ghost relations = { file_relations (record { state = ⟦<Window<AnyDev> as BlockDev>⟧.state; id = λ window. any_id window.inner; locked = λ images. images.locks.files.items }) };
+    ghost relations = { file_relations (record { state = ⟦<Window<AnyDev> as BlockDev>⟧.state; id = λ window. any_id window.inner; opened = λ window. any_opened window.inner; locked = λ images. images.locks.files.items }) };
 
     fn open(&mut self, path: &str, writable: bool) -> Result<OpenImage<Window<AnyDev>>, OpenFault> {
         let file = open_file(self.rt, &mut self.locks, path, writable)?;
@@ -110,10 +111,7 @@ impl<R: Files<File = File> + AllocGlobal + Input> Images for FileImages<'_, R> {
             Ok(file) => file,
             Err(error) => return Err(OpenFault::from(error.kind())),
         };
-        let id = match file.metadata() {
-            Ok(metadata) => FileId::of(&metadata),
-            Err(error) => return Err(OpenFault::from(error.kind())),
-        };
+        let id = FileId::of(&metadata_of(&file)?);
         let bytes = first_bytes(self.rt.alloc(), file, most)?;
         Ok(FileText { bytes, id })
     }
@@ -129,25 +127,22 @@ impl<R: Files<File = File> + AllocGlobal + Input> Images for FileImages<'_, R> {
 
     // A regular file alone.
     fn grow(&mut self, path: &str, sectors: u64) -> Result<(), OpenFault> {
-        match fs::metadata(self.rt, path) {
+        match metadata_at(self.rt, path) {
             Ok(metadata) if !metadata.is_file() => return Ok(()),
-            Ok(_) => {}
-            Err(error) if error.kind() == ErrorKind::NotFound => {}
-            Err(error) => return Err(OpenFault::from(error.kind())),
+            Ok(_) | Err(OpenFault::NotFound) => {}
+            Err(fault) => return Err(fault),
         }
         if sectors > MAX_SECTORS {
             return Err(OpenFault::TooLarge);
         }
         make_file(self.rt, path)?;
         let file = open_file(self.rt, &mut self.locks, path, true)?;
-        lengthen(self.rt, path, file.id(), sectors * SECTOR)
+        file.lengthen(sectors * SECTOR)
     }
 
     fn has_part_sector(&mut self, path: &str) -> Result<bool, OpenFault> {
-        match fs::metadata(self.rt, path) {
-            Ok(metadata) => Ok(metadata.is_file() && metadata.len() % SECTOR != 0),
-            Err(error) => Err(OpenFault::from(error.kind())),
-        }
+        let metadata = metadata_at(self.rt, path)?;
+        Ok(metadata.is_file() && metadata.len() % SECTOR != 0)
     }
 
     fn replace(&mut self, path: &str, bytes: &[u8]) -> Result<(), ReplaceFault> {

@@ -1,0 +1,112 @@
+//! The calls of the operating system on the file of an image, each with evidence that it was made.
+ghost use Rattle.std.specs.Prelude.{◌<◌, ◌*◌, ◌^◌, IfOk, OnOk};
+ghost use Rattle.std.specs.Fs.{metadata_len};
+ghost use Rattle.block_device.specs.Call.{Read, Sync, Write};
+ghost use Rattle.block_device.specs.FileCalls.{Called, IsLengthened, IsOfFile, IsOfPath, Opened, Told};
+
+use crate::OpenFault;
+use std::fs;
+use std::fs::{File, Metadata, OpenFile, OpenOptions};
+use std::os::unix::fs::{FileExt, MetadataExt};
+use std::rt::Files;
+
+/// The numbers by which the system tells files apart: of the device that holds the file's file system, of the file there, and
+/// of the block device that the file is. The ones that the system doesn't tell are 0.
+#[derive(Clone, Copy, Debug, PartialEq, Eq)]
+pub struct FileNumbers {
+    pub device: u64,
+    pub inode: u64,
+    pub block_device: u64,
+}
+
+// Trusted: that the body of each function makes the call that its clause names.
+
+/// What the system says of the file under a path.
+///
+/// # Errors
+///
+/// The fault of what the system answered.
+pub fn metadata_at<R: Files>(rt: &R, path: &str) -> Result<Metadata, OpenFault>
+    ensures { IfOk result (λ metadata. IsOfPath path.now metadata) }
+{
+    match fs::metadata(rt, path) {
+        Ok(metadata) => Ok(metadata),
+        Err(error) => Err(OpenFault::from(error.kind())),
+    }
+}
+
+/// What the system says of an open file.
+///
+/// # Errors
+///
+/// The fault of what the system answered.
+pub fn metadata_of(file: &File) -> Result<Metadata, OpenFault>
+    ensures { IfOk result (λ metadata. IsOfFile file.now metadata) }
+{
+    match file.metadata() {
+        Ok(metadata) => Ok(metadata),
+        Err(error) => Err(OpenFault::from(error.kind())),
+    }
+}
+
+// Makes a file so many bytes long, which are more than the system said that it has.
+pub(crate) fn lengthen_file(file: &File, metadata: &Metadata, bytes: u64) -> Result<(), OpenFault>
+    requires of { IsOfFile file.now metadata.now }
+    requires longer { metadata_len metadata.now < bytes }
+    ensures { OnOk result (IsLengthened file.now bytes) }
+{
+    // The caller's conditions are those of the call: nothing more is known of a file's length.
+    let _ = metadata;
+    match file.set_len(bytes) {
+        Ok(()) => Ok(()),
+        Err(error) => Err(OpenFault::from(error.kind())),
+    }
+}
+
+// Opens a file for reading, and for writing too if `writable` is true.
+pub(crate) fn open_at<R: Files<File = File>>(
+    rt: &R,
+    path: &str,
+    writable: bool,
+) -> Result<File, OpenFault>
+    ensures { IfOk result (λ file. Opened path.now writable file) }
+{
+    match OpenOptions::new().read(true).write(writable).open(rt, path) {
+        Ok(file) => Ok(file),
+        Err(error) => Err(OpenFault::from(error.kind())),
+    }
+}
+
+// What the system told of a file.
+pub(crate) fn numbers_of(metadata: &Metadata) -> FileNumbers
+    ensures { Told metadata.now result }
+{
+    FileNumbers {
+        device: metadata.dev(),
+        inode: metadata.ino(),
+        block_device: metadata.rdev(),
+    }
+}
+
+// Fills the buffer from a sector on. Returns whether the system did.
+pub(crate) fn read_at(file: &mut File, first: u64, out: &mut [u8]) -> bool
+    requires { first * 512 < 2 ^ 64 }
+    ensures { Called file.old (Read first out.new result) file.new }
+{
+    file.read_exact_at(out, first * 512).is_ok()
+}
+
+// Writes all the bytes from a sector on. Returns whether the system did.
+pub(crate) fn write_at(file: &mut File, first: u64, bytes: &[u8]) -> bool
+    requires { first * 512 < 2 ^ 64 }
+    ensures { Called file.old (Write first bytes.now result) file.new }
+{
+    file.write_all_at(bytes, first * 512).is_ok()
+}
+
+// Syncs a file. Returns whether the system did.
+pub(crate) fn sync_all(file: &mut File) -> bool
+    ensures { Called file.old (Sync result) file.new }
+{
+    file.sync_all().is_ok()
+}
