@@ -4,6 +4,7 @@ pub mod PlaceLemmas
 pub mod RoundLemmas
 pub mod RestoringLemmas
 pub mod WritingLemmas
+mod HandingLemmas
 pub mod SumLemmas
 pub mod AskingLemmas
 pub mod lemmas

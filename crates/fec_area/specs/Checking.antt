@@ -1,12 +1,13 @@
 -- What is found of parity on a device.
 use Rattle.std.specs.Prelude.{◌≡◌, ℕ, ◌<◌, IsTrue, List, Option, Some, None}
+use Rattle.allocation.specs.Refusal.{IsOutOfMemory}
 use Rattle.block_device.specs.Device.{Device}
 use Rattle.verity_format.specs.Blocks.{block_at}
 use Rattle.fec_area.specs.declared.code.Code.{Code}
 use Rattle.fec_area.specs.declared.layout.Layout.{Layout}
 use Rattle.fec_area.specs.declared.writing.ParityFault.{ParityFault}
 use Rattle.fec_area.specs.declared.writing.ParityFault.TheVariants.{TooSmall, ReadOnly, Device as DeviceFailed, NoMemory}
-use Rattle.fec_area.specs.Layouts.{IsParityOf, IsProtected, parity_sectors, round_bytes, code_rounds}
+use Rattle.fec_area.specs.Layouts.{IsParityOf, IsProtected, largest_allocation, parity_sectors, round_bytes, code_rounds}
 use Rattle.fec_area.specs.Writing.{HasAnyFailed}
 
 -- each round's parity stands there, or this round's, the first, doesn't
@@ -24,7 +25,7 @@ abbrev pub IsCheckCause : Layout → Device → Device → Device → Device →
 IsCheckCause l data_dev hash_dev parity_dev data_dev' hash_dev' parity_dev' (TooSmall needed) = (needed ≡ parity_sectors l) × (parity_dev.size < needed) × (parity_dev' ≡ parity_dev)
 IsCheckCause l data_dev hash_dev parity_dev data_dev' hash_dev' parity_dev' ReadOnly = ⊥
 IsCheckCause l data_dev hash_dev parity_dev data_dev' hash_dev' parity_dev' DeviceFailed = HasAnyFailed data_dev hash_dev parity_dev data_dev' hash_dev' parity_dev'
-IsCheckCause l data_dev hash_dev parity_dev data_dev' hash_dev' parity_dev' NoMemory = parity_dev' ≡ parity_dev
+IsCheckCause l data_dev hash_dev parity_dev data_dev' hash_dev' parity_dev' NoMemory = (parity_dev' ≡ parity_dev) × IsOutOfMemory largest_allocation
 
 -- ---- a call, by what a proof sees of the three devices: as they were before, and then after
 

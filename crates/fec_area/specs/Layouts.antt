@@ -48,6 +48,10 @@ round_bytes l = l.roots * l.block
 abbrev pub parity_sectors : Layout → ℕ
 parity_sectors l = code_rounds l * (l.roots * (l.block / 512))
 
+-- No allocation asks for more elements: the largest one holds the parity of a round.
+abbrev pub largest_allocation : ℕ
+largest_allocation = 0x20000
+
 -- the rounds' parity lies one behind the other
 abbrev pub IsProtected : Layout → List (List ℕ) → List (List ℕ) → List (List ℕ) → Type 0
 IsProtected l data_image hash_image parity_image = (round : ℕ) → round < code_rounds l → IsParityOf l data_image hash_image round (block_at parity_image (round_bytes l) round)

@@ -1,5 +1,6 @@
 -- A lost block that is made again.
 use Rattle.std.specs.Prelude.{◌≡◌, ◌≢◌, ◌⊎◌, ◌==◌, ◌&&◌, ℕ, ◌+◌, ◌-◌, ◌/◌, ◌%◌, ◌<◌, Bool, not, IsTrue, List, length, nat_lt, slice_index, EachIndex, count_by}
+use Rattle.allocation.specs.Refusal.{IsOutOfMemory}
 use Rattle.block_device.specs.Device.{Device}
 use Rattle.verity_format.specs.Blocks.{block_at}
 use Rattle.fec_area.specs.declared.code.Gap.{Gap}
@@ -7,7 +8,7 @@ use Rattle.fec_area.specs.declared.layout.Layout.{Layout}
 use Rattle.fec_area.specs.declared.restoring.LostBlock.{LostBlock}
 use Rattle.fec_area.specs.declared.restoring.RestoreFault.{RestoreFault}
 use Rattle.fec_area.specs.declared.restoring.RestoreFault.TheVariants.{TooManyLost, TooSmall, Device as DeviceFailed, NoMemory}
-use Rattle.fec_area.specs.Layouts.{IsLayout, IsParityOf, IsProtected, covered, covered_blocks, message_byte, parity_sectors, round_bytes, code_rounds}
+use Rattle.fec_area.specs.Layouts.{IsLayout, IsParityOf, IsProtected, covered, covered_blocks, largest_allocation, message_byte, parity_sectors, round_bytes, code_rounds}
 use Rattle.fec_area.specs.Rounds.{AllNeverFail, IsFormerly}
 use Rattle.fec_area.specs.Writing.{HasAnyFailed}
 
@@ -54,7 +55,7 @@ IsRestoreCause l lost index data_dev hash_dev parity_dev data_dev' hash_dev' par
 IsRestoreCause l lost index data_dev hash_dev parity_dev data_dev' hash_dev' parity_dev' (TooSmall needed) =
     (needed ≡ parity_sectors l) × (parity_dev.size < needed) × AreUnasked data_dev hash_dev parity_dev data_dev' hash_dev' parity_dev'
 IsRestoreCause l lost index data_dev hash_dev parity_dev data_dev' hash_dev' parity_dev' DeviceFailed = HasAnyFailed data_dev hash_dev parity_dev data_dev' hash_dev' parity_dev'
-IsRestoreCause l lost index data_dev hash_dev parity_dev data_dev' hash_dev' parity_dev' NoMemory = AreUnasked data_dev hash_dev parity_dev data_dev' hash_dev' parity_dev'
+IsRestoreCause l lost index data_dev hash_dev parity_dev data_dev' hash_dev' parity_dev' NoMemory = AreUnasked data_dev hash_dev parity_dev data_dev' hash_dev' parity_dev' × IsOutOfMemory largest_allocation
 
 -- over steady devices the bytes are the lost block
 abbrev pub MakesAgain : LostBlock → Device → Device → Device → List ℕ → Type 0

@@ -1,10 +1,11 @@
 -- Parity that is written.
 use Rattle.std.specs.Prelude.{◌≡◌, ◌⊎◌, ◌<◌, false, IsTrue}
+use Rattle.allocation.specs.Refusal.{IsOutOfMemory}
 use Rattle.block_device.specs.Device.{Device, HasFailed}
 use Rattle.fec_area.specs.declared.layout.Layout.{Layout}
 use Rattle.fec_area.specs.declared.writing.ParityFault.{ParityFault}
 use Rattle.fec_area.specs.declared.writing.ParityFault.TheVariants.{TooSmall, ReadOnly, Device as DeviceFailed, NoMemory}
-use Rattle.fec_area.specs.Layouts.{IsProtected, parity_sectors}
+use Rattle.fec_area.specs.Layouts.{IsProtected, largest_allocation, parity_sectors}
 use Rattle.fec_area.specs.Rounds.{AreUnfailed, HasOneFailed}
 
 -- the parity stands on its device, and no device failed
@@ -22,7 +23,7 @@ abbrev pub IsParityCause : Layout → Device → Device → Device → Device �
 IsParityCause l data_dev hash_dev parity_dev data_dev' hash_dev' parity_dev' (TooSmall needed) = (needed ≡ parity_sectors l) × (parity_dev.size < needed) × (parity_dev' ≡ parity_dev)
 IsParityCause l data_dev hash_dev parity_dev data_dev' hash_dev' parity_dev' ReadOnly = (parity_dev.may_write ≡ false) × (parity_dev' ≡ parity_dev)
 IsParityCause l data_dev hash_dev parity_dev data_dev' hash_dev' parity_dev' DeviceFailed = HasAnyFailed data_dev hash_dev parity_dev data_dev' hash_dev' parity_dev'
-IsParityCause l data_dev hash_dev parity_dev data_dev' hash_dev' parity_dev' NoMemory = parity_dev' ≡ parity_dev
+IsParityCause l data_dev hash_dev parity_dev data_dev' hash_dev' parity_dev' NoMemory = (parity_dev' ≡ parity_dev) × IsOutOfMemory largest_allocation
 
 -- ---- calls, by what a proof sees of the three devices: as they were before, and then after
 

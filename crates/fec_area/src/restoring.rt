@@ -1,5 +1,6 @@
 //! A lost block, made again from the other blocks of its round and the parity.
 ghost use Rattle.std.specs.Prelude.{◌≡◌, ◌<◌, ◌≤◌, ◌/◌, IfErr, IfOk, IsOk, OnErr, OnOk, is_ok, length};
+ghost use Rattle.allocation.specs.Asked.{WasRefused};
 ghost use Rattle.verity_format.specs.Blocks.{IsOnlyRead};
 ghost use Rattle.fec_area.specs.Asking.{AsksForFirst, AsksKept};
 ghost use Rattle.fec_area.specs.Layouts.{IsLaidOn, IsLayout, covered_blocks, parity_sectors};
@@ -10,7 +11,7 @@ ghost use Rattle.fec_area.specs.Writing.{AnyFails};
 use crate::code::{Code, Gap};
 use crate::layout::Layout;
 use crate::round::{restore_blocks, take_column};
-use crate::writing::zeros;
+use allocation::{OutOfMemory, push, zeros};
 use block_device::{BlockDev, DeviceFault};
 use reed_solomon::restoring_products;
 use std::alloc::{AllocError, Global};
@@ -39,7 +40,7 @@ pub enum RestoreFault {
     /// One of the three devices failed in the call.
     #[error("Device")]
     Device,
-    /// A growth was refused.
+    /// An allocation was refused.
     #[error("NoMemory")]
     NoMemory,
 }
@@ -60,6 +61,16 @@ impl From<AllocError> for RestoreFault {
     ghost from_gives = { λ _ e. e ≡ NoMemory };
 
     fn from(_error: AllocError) -> RestoreFault {
+        RestoreFault::NoMemory
+    }
+}
+
+impl From<OutOfMemory> for RestoreFault {
+    ghost use Rattle.fec_area.specs.declared.restoring.RestoreFault.TheVariants.{NoMemory};
+
+    ghost from_gives = { λ _ e. e ≡ NoMemory };
+
+    fn from(_error: OutOfMemory) -> RestoreFault {
         RestoreFault::NoMemory
     }
 }
@@ -126,17 +137,18 @@ pub fn restore_block<D: BlockDev, H: BlockDev, P: BlockDev>(
 }
 
 // The places of the lost blocks of a round, that of the block first.
-fn lost_places(alloc: Global, sought: &LostBlock<'_>) -> Result<Vec<usize>, AllocError>
+fn lost_places(alloc: Global, sought: &LostBlock<'_>) -> Result<Vec<usize>, OutOfMemory>
     requires layout { IsLayout sought.now.layout.now }
     requires index { sought.now.index < covered_blocks sought.now.layout.now }
-    ensures { IfOk result (λ v. AreLostPlaces sought.now.layout.now sought.now.lost.now sought.now.index v.items) }
+    ensures ok { IfOk result (λ v. AreLostPlaces sought.now.layout.now sought.now.lost.now sought.now.index v.items) }
+    ensures err { IfErr result (WasRefused 1) }
 {
     let rounds = sought.layout.rounds();
     let mut places = Vec::new(alloc);
-    places.push((sought.index / rounds) as usize)?;
+    push(&mut places, (sought.index / rounds) as usize)?;
     for other in sought.lost {
         if is_beside(sought.layout, sought.index, *other) {
-            places.push((*other / rounds) as usize)?;
+            push(&mut places, (*other / rounds) as usize)?;
         }
     }
     Ok(places)

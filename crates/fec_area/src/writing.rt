@@ -1,8 +1,9 @@
 //! Parity written to a device.
-ghost use Rattle.std.specs.Prelude.{◌≡◌, ◌<◌, ◌≤◌, IsTrue, IfErr, OnErr, OnOk, IfOk, length, replicate};
+ghost use Rattle.std.specs.Prelude.{◌≡◌, ◌<◌, ◌≤◌, IsTrue, IfErr, OnErr, OnOk, is_ok, length};
 ghost use Rattle.block_device.specs.Device.{HasFailed};
 ghost use Rattle.reed_solomon.specs.Factors.{AreProducts, parity_places};
 ghost use Rattle.verity_format.specs.Blocks.{IsOnlyWritten};
+ghost use Rattle.fec_area.specs.Handing.{HandsParity};
 ghost use Rattle.fec_area.specs.Layouts.{IsLaidOn, parity_sectors, round_bytes, code_rounds};
 ghost use Rattle.fec_area.specs.Rounds.{CanSum, OnlyReadsCovered};
 ghost use Rattle.fec_area.specs.Writing.{AnyFails, FailsToWriteParity, WritesParity};
@@ -10,6 +11,7 @@ ghost use Rattle.fec_area.specs.Writing.{AnyFails, FailsToWriteParity, WritesPar
 use crate::code::Code;
 use crate::layout::Layout;
 use crate::round::sum_parity;
+use allocation::{OutOfMemory, zeros};
 use block_device::{BlockDev, DeviceFault};
 use reed_solomon::parity_products;
 use std::alloc::{AllocError, Global};
@@ -27,7 +29,7 @@ pub enum ParityFault {
     /// One of the three devices failed in the call.
     #[error("Device")]
     Device,
-    /// A growth was refused.
+    /// An allocation was refused.
     #[error("NoMemory")]
     NoMemory,
 }
@@ -52,6 +54,16 @@ impl From<AllocError> for ParityFault {
     }
 }
 
+impl From<OutOfMemory> for ParityFault {
+    ghost use Rattle.fec_area.specs.declared.writing.ParityFault.TheVariants.{NoMemory};
+
+    ghost from_gives = { λ _ e. e ≡ NoMemory };
+
+    fn from(_error: OutOfMemory) -> ParityFault {
+        ParityFault::NoMemory
+    }
+}
+
 /// Writes the parity of all rounds, one behind the other, from the beginning of a device on.
 ///
 /// Each covered block is read once. Nothing is synced.
@@ -67,6 +79,7 @@ pub fn write_parity<D: BlockDev, H: BlockDev, P: BlockDev>(
     ensures written { IsOnlyWritten (P.state parity_dev.old) (parity_sectors layout.now) (P.state parity_dev.new) }
     ensures ok { OnOk result (WritesParity layout.now D.state H.state P.state data_dev.old hash_dev.old parity_dev.old data_dev.new hash_dev.new parity_dev.new) }
     ensures err { IfErr result (FailsToWriteParity layout.now D.state H.state P.state data_dev.old hash_dev.old parity_dev.old data_dev.new hash_dev.new parity_dev.new) }
+    ensures handed { HandsParity layout.now D.state H.state P.state P.does data_dev.old hash_dev.old parity_dev.old parity_dev.new (is_ok result) }
 {
     let needed = layout.parity_sectors();
     if parity_dev.sectors() < needed {
@@ -94,13 +107,6 @@ pub fn write_parity<D: BlockDev, H: BlockDev, P: BlockDev>(
     Ok(())
 }
 
-/// So many zero bytes.
-pub(crate) fn zeros(alloc: Global, size: usize) -> Result<Vec<u8>, AllocError>
-    ensures { IfOk result (λ v. v.items ≡ replicate size 0) }
-{
-    vec![in alloc; 0u8; size]
-}
-
 // Sums up each round and writes its parity.
 fn write_rounds<D: BlockDev, H: BlockDev, P: BlockDev>(
     code: &Code<'_>,
@@ -117,6 +123,7 @@ fn write_rounds<D: BlockDev, H: BlockDev, P: BlockDev>(
     ensures written { IsOnlyWritten (P.state parity_dev.old) (parity_sectors code.now.layout.now) (P.state parity_dev.new) }
     ensures ok { OnOk result (WritesParity code.now.layout.now D.state H.state P.state data_dev.old hash_dev.old parity_dev.old data_dev.new hash_dev.new parity_dev.new) }
     ensures err { OnErr result (AnyFails D.state H.state P.state data_dev.old hash_dev.old parity_dev.old data_dev.new hash_dev.new parity_dev.new) }
+    ensures handed { HandsParity code.now.layout.now D.state H.state P.state P.does data_dev.old hash_dev.old parity_dev.old parity_dev.new (is_ok result) }
 {
     let sectors = (parity.len() / 512) as u64;
     for round in 0..code.layout.rounds() {

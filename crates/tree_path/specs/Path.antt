@@ -23,6 +23,10 @@ pub record IsPathOf (shape : ShapeRecord) (salt root : List ℕ) (p : PathRecord
   pub salt_is : p.salt ≡ salt
   pub root_is : p.root ≡ root
 
+-- The most bytes of a hash block. No allocation for a path asks for more.
+abbrev pub largest_block : ℕ
+largest_block = 4096
+
 -- the hash block of a level
 abbrev pub block_of : PathRecord → ℕ → List ℕ
 block_of p l = slice_index_or p.blocks l []

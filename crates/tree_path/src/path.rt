@@ -1,18 +1,20 @@
 //! The hash blocks on the way to a data block.
 ghost use Rattle.std.specs.Prelude.{◌≡◌, ◌≤◌, ◌<◌, ◌+◌, ◌-◌, ◌*◌, ◌/◌, IsTrue, IsOk, OnErr, IfOk};
 ghost use Rattle.std.specs.Str.{bytes_eq};
+ghost use Rattle.allocation.specs.Refusal.{IsOutOfMemory};
 ghost use Rattle.block_device.specs.Device.{HasFailed};
 ghost use Rattle.tree_shape.specs.Shape.{ancestor, levels};
 ghost use Rattle.verity_format.specs.Blocks.{IsOnlyRead};
 ghost use Rattle.verity_format.specs.Image.{tree_sectors};
-ghost use Rattle.tree_path.specs.Path.{IsPathOf, block_of, digest_on};
+ghost use Rattle.tree_path.specs.Path.{IsPathOf, block_of, digest_on, largest_block};
 ghost use Rattle.tree_path.specs.Steps.{CanDescend, HasCome, HasReadAtMost, IsKeptAbove, IsStepLoaded, IsUnloaded, steps};
 ghost use Rattle.tree_path.specs.Unused.{is_unused_zero};
 
 use crate::reading::{read_block, zero_blocks};
 use crate::unused::{is_zero_after, used_entries};
+use allocation::OutOfMemory;
 use block_device::{BlockDev, DeviceFault};
-use std::alloc::{AllocError, Global};
+use std::alloc::Global;
 use std::marker::Model;
 use tree_shape::{Digest, Salt, Shape, digest_in};
 
@@ -38,13 +40,18 @@ impl Model for TreePath {
 
 impl TreePath {
     /// Memory for the hash blocks of each level, with nothing read.
+    ///
+    /// # Errors
+    ///
+    /// `OutOfMemory` if the allocator refused room for a hash block or the list of them.
     pub fn new(
         alloc: Global,
         shape: Shape,
         salt: Salt,
         root: Digest,
-    ) -> Result<TreePath, AllocError>
-        ensures { IfOk result (IsPathOf shape salt root) }
+    ) -> Result<TreePath, OutOfMemory>
+        ensures ok { IfOk result (IsPathOf shape salt root) }
+        ensures err { OnErr result (IsOutOfMemory largest_block) }
     {
         let blocks = zero_blocks(alloc, shape.levels(), shape.hash_block() as usize)?;
         Ok(TreePath {

@@ -1,32 +1,28 @@
 //! Blocks read from a device, and memory for them.
-ghost use Rattle.std.specs.Prelude.{◌≡◌, ◌≤◌, ◌/◌, IsTrue, IsOk, OnOk, OnErr, IfOk, All, length, replicate};
+ghost use Rattle.std.specs.Prelude.{◌≡◌, ◌≤◌, ◌/◌, IsTrue, IsOk, OnOk, OnErr, IfOk, All, length, max};
+ghost use Rattle.allocation.specs.Refusal.{IsOutOfMemory};
 ghost use Rattle.verity_format.specs.Blocks.{IsBlockRead, IsOnlyRead};
 ghost use Rattle.verity_format.specs.Premises.{IsBlockOn};
 ghost use Rattle.tree_path.specs.Steps.{HasFailedOnce, HasReadAtMost};
 
+use allocation::{OutOfMemory, push, zeros};
 use block_device::{BlockDev, DeviceFault};
-use std::alloc::{AllocError, Global};
-
-/// So many zero bytes.
-pub(crate) fn zeros(alloc: Global, size: usize) -> Result<Vec<u8>, AllocError>
-    ensures { IfOk result (λ v. v.items ≡ replicate size 0) }
-{
-    vec![in alloc; 0u8; size]
-}
+use std::alloc::Global;
 
 /// So many blocks of that size.
 pub(crate) fn zero_blocks(
     alloc: Global,
     count: u32,
     size: usize,
-) -> Result<Vec<Vec<u8>>, AllocError>
+) -> Result<Vec<Vec<u8>>, OutOfMemory>
     ensures count { IfOk result (λ v. length v.items ≡ count) }
     ensures sized { IfOk result (λ v. All (λ b. length b.items ≡ size) v.items) }
+    ensures err { OnErr result (IsOutOfMemory (max 1 size)) }
 {
     let mut blocks = Vec::new(alloc);
     for _ in 0..count {
         let block = zeros(alloc, size)?;
-        blocks.push(block).map_err(AllocError::from)?;
+        push(&mut blocks, block)?;
     }
     Ok(blocks)
 }

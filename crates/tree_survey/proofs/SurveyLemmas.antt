@@ -85,5 +85,5 @@ pub pass_ends : (d h h' d' h'' : Device) (failed : Bool) (fault : SurveyFault) �
 pass_ends d h h' d' h'' failed (Image (Super f)) same cause = absurd cause
 pass_ends d h h' d' h'' failed (Image TooSmall) same cause = absurd cause
 pass_ends d h h' d' h'' failed (Image DeviceFailed) same cause = absurd cause
-pass_ends d h h' d' h'' failed (Image NoMemory) same cause = (cause.0, cause.1 ∙ same)
+pass_ends d h h' d' h'' failed (Image NoMemory) same cause = (cause.0, cause.1 ∙ same, cause.2)
 pass_ends d h h' d' h'' failed Write same cause = cause

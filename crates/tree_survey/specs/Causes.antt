@@ -1,5 +1,6 @@
 -- Why an image isn't gone over to its end.
 use Rattle.std.specs.Prelude.{◌≡◌, ◌⊎◌, ℕ, ◌<◌, ◌≤◌, Bool, true, List}
+use Rattle.allocation.specs.Refusal.{IsOutOfMemory}
 use Rattle.block_device.specs.Device.{Device}
 use Rattle.verity_format.specs.declared.verifying.VerifyFault.TheVariants.{TooSmall, NoMemory}
 use Rattle.verity_format.specs.Image.{data_sectors, tree_sectors}
@@ -8,9 +9,13 @@ use Rattle.verity_format.specs.Verifying.{IsReadCause, IsReadFrom}
 use Rattle.tree_survey.specs.declared.fault.SurveyFault.{SurveyFault}
 use Rattle.tree_survey.specs.declared.fault.SurveyFault.TheVariants.{Image, Write}
 
--- memory ran out, and neither device has failed, or a line can't be written
+-- The most elements that one allocation asks for: the bytes of a piece.
+abbrev pub largest_allocation : ℕ
+largest_allocation = 65536
+
+-- an allocation was refused, and neither device has failed, or a line can't be written
 abbrev pub IsPassCause : Device → Device → Device → Device → Bool → SurveyFault → Type 0
-IsPassCause data_dev hash_dev data_dev' hash_dev' failed (Image NoMemory) = (data_dev'.failures ≡ data_dev.failures) × (hash_dev'.failures ≡ hash_dev.failures)
+IsPassCause data_dev hash_dev data_dev' hash_dev' failed (Image NoMemory) = (data_dev'.failures ≡ data_dev.failures) × (hash_dev'.failures ≡ hash_dev.failures) × IsOutOfMemory largest_allocation
 IsPassCause data_dev hash_dev data_dev' hash_dev' failed Write = failed ≡ true
 IsPassCause data_dev hash_dev data_dev' hash_dev' failed fault = ⊥
 

@@ -3,14 +3,14 @@ ghost use Rattle.std.specs.Prelude.{◌≡◌};
 ghost use Rattle.tree_survey.specs.declared.fault.SurveyFault.TheVariants as survey_fault;
 ghost use Rattle.verity_format.specs.declared.verifying.VerifyFault.TheVariants as verify_fault;
 
+use allocation::OutOfMemory;
 use counted_io::WriteFault;
-use std::alloc::AllocError;
 use verity_format::VerifyFault;
 
 /// Why an image isn't gone over to its end.
 #[derive(Clone, Copy, Debug, PartialEq, Eq)]
 pub enum SurveyFault {
-    /// There is no superblock, a device is too small or failed, or memory ran out.
+    /// There is no superblock, a device is too small or failed, or an allocation was refused.
     Image(VerifyFault),
     /// A line can't be written.
     Write,
@@ -24,10 +24,10 @@ impl From<VerifyFault> for SurveyFault {
     }
 }
 
-impl From<AllocError> for SurveyFault {
+impl From<OutOfMemory> for SurveyFault {
     ghost from_gives = { λ _ given. given ≡ survey_fault.Image verify_fault.NoMemory };
 
-    fn from(_error: AllocError) -> SurveyFault {
+    fn from(_error: OutOfMemory) -> SurveyFault {
         SurveyFault::Image(VerifyFault::NoMemory)
     }
 }

@@ -1,30 +1,36 @@
 //! Data blocks, read in large pieces and digested.
-ghost use Rattle.std.specs.Prelude.{◌≡◌, ◌≤◌, ◌<◌, ◌*◌, IfOk, length, take};
+ghost use Rattle.std.specs.Prelude.{◌≡◌, ◌≤◌, ◌<◌, ◌*◌, IfErr, IfOk, length, take};
+ghost use Rattle.allocation.specs.Asked.{WasRefused};
 ghost use Rattle.verity_format.specs.Premises.{IsBlockOn};
 ghost use Rattle.tree_survey.specs.Failing.{IsReadOver};
 ghost use Rattle.tree_survey.specs.Pieces.{IsDigestFound, IsDigestRead, LieOnDevice, IsRunTried, blocks_of};
 
 use crate::attempt::{attempt, read_block};
+use allocation::{OutOfMemory, filled, zeros};
 use block_device::BlockDev;
 use hash_tree::digest_blocks;
-use std::alloc::{AllocError, Global};
+use std::alloc::Global;
 use tree_shape::{Digest, Salt, Shape};
 
 /// How many bytes of the data are read in one call.
 const PIECE: usize = 1 << 16;
 
 /// Room for the bytes of a piece.
-pub(crate) fn piece_room(alloc: Global) -> Result<Vec<u8>, AllocError>
-    ensures { IfOk result (λ v. length v.items ≡ 65536) }
+pub(crate) fn piece_room(alloc: Global) -> Result<Vec<u8>, OutOfMemory>
+    ensures ok { IfOk result (λ v. length v.items ≡ 65536) }
+    ensures err { IfErr result (WasRefused 65536) }
 {
-    vec![in alloc; 0u8; PIECE]
+    let room = zeros(alloc, PIECE)?;
+    Ok(room)
 }
 
 /// Room for the digests of a piece of the smallest blocks.
-pub(crate) fn digest_room(alloc: Global) -> Result<Vec<Digest>, AllocError>
-    ensures { IfOk result (λ v. length v.items ≡ 128) }
+pub(crate) fn digest_room(alloc: Global) -> Result<Vec<Digest>, OutOfMemory>
+    ensures ok { IfOk result (λ v. length v.items ≡ 128) }
+    ensures err { IfErr result (WasRefused 128) }
 {
-    vec![in alloc; Digest::new([0; Digest::SIZE]); PIECE / 512]
+    let room = filled(alloc, PIECE / 512, Digest::new([0; Digest::SIZE]))?;
+    Ok(room)
 }
 
 /// How many of the data blocks from that one on fill a piece, or all that are left.

@@ -1,8 +1,10 @@
 //! What the hash blocks on the way to the last data block hold after their last used entries.
 ghost use Rattle.std.specs.Prelude.{◌≡◌, ◌*◌, ◌/◌, ◌<◌, ◌≤◌, IfOk, OnErr};
+ghost use Rattle.allocation.specs.Refusal.{IsOutOfMemory};
 ghost use Rattle.tree_shape.specs.Shape.{levels};
 ghost use Rattle.verity_format.specs.Image.{tree_sectors};
 ghost use Rattle.verity_format.specs.Superblock.{shape_of};
+ghost use Rattle.tree_path.specs.Path.{largest_block};
 ghost use Rattle.tree_path.specs.Steps.{HasReadAtMost};
 ghost use Rattle.tree_survey.specs.Failing.{IsReadOver};
 ghost use Rattle.tree_survey.specs.Hashes.{tree_of_path};
@@ -10,8 +12,9 @@ ghost use Rattle.tree_survey.specs.Passes.{super_tree};
 ghost use Rattle.tree_survey.specs.Unused.{AreZeroFrom, IsReadDown, IsUnusedReadBy, found_from};
 
 use crate::path::{Reach, descend};
+use allocation::OutOfMemory;
 use block_device::BlockDev;
-use std::alloc::{AllocError, Global};
+use std::alloc::Global;
 use tree_path::TreePath;
 use tree_shape::Digest;
 use verity_format::Superblock;
@@ -34,16 +37,17 @@ pub enum Unused {
 ///
 /// # Errors
 ///
-/// Memory ran out, and nothing was read.
+/// `OutOfMemory` if the allocator refused room for a hash block of each level; nothing was read.
 pub fn read_unused<H: BlockDev>(
     alloc: Global,
     hash_dev: &mut H,
     superblock: &Superblock,
     root: &Digest,
-) -> Result<Unused, AllocError>
+) -> Result<Unused, OutOfMemory>
     requires { tree_sectors (shape_of superblock.now) ≤ (H.state hash_dev.old).size }
     ensures ok { IfOk result (IsUnusedReadBy H.state (super_tree superblock.now root.now) hash_dev.old hash_dev.new) }
     ensures err { OnErr result (H.state hash_dev.new ≡ H.state hash_dev.old) }
+    ensures memory { OnErr result (IsOutOfMemory largest_block) }
 {
     let shape = superblock.shape();
     let mut path = TreePath::new(alloc, shape, superblock.salt(), *root)?;

@@ -7,7 +7,7 @@ use Rattle.fec_area.proofs.restoring.lost_places.Goals.{then-is_beside+in_ok-pus
 pub loop-other-init : goal.loop-other-init
 loop-other-init c =
     let rounds = c.rounds-rounds.result in
-    rw (c.in_ok-push.ensures.items, c.new-places.ensures.items)
+    rw (c.in_ok-push.ensures.ok, c.new-places.ensures.items)
     (placed-none c.args.sought.now.layout.now c.args.sought.now.lost.now c.args.sought.now.index (c.args.sought.now.index / rounds) (ap (λ (n : ℕ). c.args.sought.now.index / n) c.rounds-rounds.ensures.value) c.requires.layout c.requires.index)
 
 pub loop-other-preserved : goal.loop-other-preserved
@@ -21,7 +21,7 @@ loop-other-preserved c =
     let here : n < length lost = c.loop-other-test.true in
     elim c.if-is_beside.branch [
       | then-is_beside+in_ok-push-2 w ↦
-          rw w.places-is (rw w.in_ok-push-2.ensures.items
+          rw w.places-is (rw w.in_ok-push-2.ensures.ok
           (placed-yes l lost index n items (other / c.rounds-rounds.result) c.requires.layout here (ap (λ (m : ℕ). other / m) c.rounds-rounds.ensures.value) (sym c.is_beside.ensures ∙ w.if-is_beside.true) c.loop-other.invariant))
       | else-is_beside w ↦ rw w.places-is (placed-no l lost index n items here (sym c.is_beside.ensures ∙ w.if-is_beside.false) c.loop-other.invariant)
     ]

@@ -19,7 +19,7 @@ returns-clause-bytes g c one other third =
     let block = c.restore_first.new.block in
     let round : index % c.rounds.result ≡ round_of l index = ap (λ (n : ℕ). index % n) c.rounds.ensures.value in
     let first = subst (λ (r : ℕ). IsFirstRestored l a.image b.image r (block_at image (round_bytes l) r) c.deref-3.result.now block) round (c.in_ok-restore_first.ensures.first one other third) in
-    made-again l a.image b.image image c.args.sought.now.lost.now c.in_ok-places.places.items index block c.requires.laid.layout c.requires.index (c.restore_first.auto.block ∙ c.requires.size) c.in_ok-places.ensures
+    made-again l a.image b.image image c.args.sought.now.lost.now c.in_ok-places.places.items index block c.requires.laid.layout c.requires.index (c.restore_first.auto.block ∙ c.requires.size) c.in_ok-places.ensures.ok
     (subst (λ (ps : List ℕ). IsFirstRestored l a.image b.image (round_of l index) (block_at image (round_bytes l) (round_of l index)) ps block) c.deref-3.ensures.value first)
 
 pub returns-then-sectors-needed-clause-asks : goal.returns-then-sectors-needed-clause-asks
@@ -54,14 +54,14 @@ returns-in_err-restore_first-clause-asks g c =
     let index = c.args.sought.now.index in
     let p = err_from_is_err_and c.from_residual-in_err-restore_first.result c.from_residual-in_err-restore_first.ensures.1 in
     let round : index % c.rounds.result ≡ round_of l index = ap (λ (n : ℕ). index % n) c.rounds.ensures.value in
-    rw p.1 (first-kept l c.args.sought.now.lost.now c.in_ok-places.places.items c.deref-3.result.now index (index % c.rounds.result) (l.roots * (l.block / 512)) false c.requires.laid.layout c.requires.index c.in_ok-places.ensures round c.deref-3.ensures.value c.in_err-restore_first.ensures.asks)
+    rw p.1 (first-kept l c.args.sought.now.lost.now c.in_ok-places.places.items c.deref-3.result.now index (index % c.rounds.result) (l.roots * (l.block / 512)) false c.requires.laid.layout c.requires.index c.in_ok-places.ensures.ok round c.deref-3.ensures.value c.in_err-restore_first.ensures.asks)
 
 pub returns-clause-asks : goal.returns-clause-asks
 returns-clause-asks g c =
     let l = c.args.sought.now.layout.now in
     let index = c.args.sought.now.index in
     let round : index % c.rounds.result ≡ round_of l index = ap (λ (n : ℕ). index % n) c.rounds.ensures.value in
-    first-kept l c.args.sought.now.lost.now c.in_ok-places.places.items c.deref-3.result.now index (index % c.rounds.result) (l.roots * (l.block / 512)) true c.requires.laid.layout c.requires.index c.in_ok-places.ensures round c.deref-3.ensures.value c.in_ok-restore_first.ensures.asks
+    first-kept l c.args.sought.now.lost.now c.in_ok-places.places.items c.deref-3.result.now index (index % c.rounds.result) (l.roots * (l.block / 512)) true c.requires.laid.layout c.requires.index c.in_ok-places.ensures.ok round c.deref-3.ensures.value c.in_ok-restore_first.ensures.asks
 
 pub returns-in_err-restore_first-clause-sure : goal.returns-in_err-restore_first-clause-sure
 returns-in_err-restore_first-clause-sure g c =

@@ -1,8 +1,10 @@
 use Rattle.std.proofs.Common.{◌+◌, ◌*◌, ◌/◌, ◌<◌, ◌≤◌, ℕ, List, IsTrue, length, sym, ap, ◌∙◌, arith, subst, refl, inl, inr}
 use Rattle.std.proofs.lemmas.Result.{err_from_is_err_and}
+use Rattle.block_device.specs.Call.{DeviceDoes}
 use Rattle.fec_area.specs.Layouts.{IsParityOf, parity_sectors, code_rounds}
 use Rattle.verity_format.proofs.DeviceLemmas.{only_written-none, only_written-write, only_written-then, steady-then, failed-then}
 use Rattle.fec_area.proofs.CallLemmas.{read-none, read-then, unfailed-none, unfailed-then, one_failed-then, laid-then, image-then}
+use Rattle.fec_area.proofs.HandingLemmas.{handed-end, handed-failed, handed-next, handed-none, handed-stop}
 use Rattle.fec_area.proofs.LayoutLemmas.{round-quotient}
 use Rattle.fec_area.proofs.WritingLemmas.{round-within, write-inside, written-more}
 use Rattle.fec_area.proofs.writing.write_rounds.Goals as goal
@@ -12,6 +14,7 @@ loop-round-init g c = record {
   read = read-none (g.D.BlockDev.state c.args.data_dev.now) (g.H.BlockDev.state c.args.hash_dev.now);
   unfailed = unfailed-none (g.D.BlockDev.state c.args.data_dev.now) (g.H.BlockDev.state c.args.hash_dev.now);
   written = only_written-none (g.P.BlockDev.state c.args.parity_dev.now) (parity_sectors c.args.code.now.layout.now);
+  handed = handed-none (DeviceDoes g.P.BlockDev.state g.P.BlockDev.does) c.args.code.now.layout.now (g.D.BlockDev.state c.args.data_dev.now) (g.H.BlockDev.state c.args.hash_dev.now) c.args.parity_dev.now;
   parity_unfailed = refl;
   parity = λ one other third r lt. absurd (omega (arith, lt));
 }
@@ -71,6 +74,9 @@ loop-round-preserved g c =
       read = read-then here.read c.sum_parity.ensures.read;
       unfailed = unfailed-then here.unfailed c.in_ok-sum_parity.ensures.ok;
       written = only_written-then (parity_sectors l) here.written (only_written-write (round * s) k (parity_sectors l) c.in_ok-write.ensures.moved within);
+      handed = handed-next (DeviceDoes g.P.BlockDev.state g.P.BlockDev.does) l a b c.args.parity_dev.now c.loop-round.parity_dev c.write.new.self round (round * s) parity here.handed (ap (λ (m : ℕ). round * (m / 512)) c.requires.sums.parity_is)
+          c.in_ok-write.ensures.call
+          (λ one other. image-then here.read (λ (x y : List (List ℕ)). IsParityOf l x y round parity) c.in_ok-sum_parity.ensures.parity one other);
       parity_unfailed = c.in_ok-write.ensures.moved.failures ∙ here.parity_unfailed;
       parity = λ one other third.
           let steady = steady-then here.written.same third in
@@ -110,3 +116,21 @@ returns-clause-ok g c =
       parity_unfailed = here.parity_unfailed;
       parity = λ one other third round lt. here.parity one other third round (omega (arith, lt, c.loop-round-test.false, c.rounds-round-end.ensures.value));
     }
+
+pub returns-in_err-sum_parity-clause-handed : goal.returns-in_err-sum_parity-clause-handed
+returns-in_err-sum_parity-clause-handed g c =
+    let p = err_from_is_err_and c.from_residual.result c.from_residual.ensures.1 in
+    rw p.1 (handed-stop (DeviceDoes g.P.BlockDev.state g.P.BlockDev.does) c.args.code.now.layout.now (g.D.BlockDev.state c.args.data_dev.now) (g.H.BlockDev.state c.args.hash_dev.now) c.args.parity_dev.now c.loop-round.parity_dev c.loop-round.round c.loop-round.invariant.handed
+    (omega (arith, c.loop-round-test.true, c.rounds-round-end.ensures.value)))
+
+pub returns-in_err-write-clause-handed : goal.returns-in_err-write-clause-handed
+returns-in_err-write-clause-handed g c =
+    let p = err_from_is_err_and c.from_residual-in_err-write.result c.from_residual-in_err-write.ensures.1 in
+    rw p.1 (handed-failed (DeviceDoes g.P.BlockDev.state g.P.BlockDev.does) c.args.code.now.layout.now (g.D.BlockDev.state c.args.data_dev.now) (g.H.BlockDev.state c.args.hash_dev.now) c.args.parity_dev.now c.loop-round.parity_dev c.write.new.self c.loop-round.round
+    (c.loop-round.round * (length c.args.parity.now / 512)) c.sum_parity.new.parity c.loop-round.invariant.handed (omega (arith, c.loop-round-test.true, c.rounds-round-end.ensures.value)) (ap (λ (m : ℕ). c.loop-round.round * (m / 512)) c.requires.sums.parity_is)
+    c.in_err-write.ensures.call)
+
+pub returns-clause-handed : goal.returns-clause-handed
+returns-clause-handed g c =
+    handed-end (DeviceDoes g.P.BlockDev.state g.P.BlockDev.does) c.args.code.now.layout.now (g.D.BlockDev.state c.args.data_dev.now) (g.H.BlockDev.state c.args.hash_dev.now) c.args.parity_dev.now c.loop-round.parity_dev c.loop-round.round c.loop-round.invariant.handed
+    (omega (arith, c.loop-round-test.false, c.loop-round.auto.round-end, c.rounds-round-end.ensures.value))

@@ -37,7 +37,7 @@ read_piece-whole-requires-clause-room g c =
     let count : ℕ = c.blocks_of-count.result in
     let left : at < s.blocks = omega (arith, c.pieces-test.true, c.blocks-in-pieces.ensures.value, ap (λ (x : ShapeRecord). x.blocks) c.requires.shape) in
     let piece : IsPiece s at count = piece-is s c.requires.valid.data_size at count left (c.blocks_of-count.ensures ∙ ap (λ (x : ShapeRecord). blocks_of x at) c.requires.shape) in
-    let size : length c.pieces.piece ≡ 65536 = c.pieces.auto.piece ∙ ap (λ (l : List ℕ). length l) c.as_mut_slice-piece.ensures.value ∙ c.in_ok-memory.ensures in
+    let size : length c.pieces.piece ≡ 65536 = c.pieces.auto.piece ∙ ap (λ (l : List ℕ). length l) c.as_mut_slice-piece.ensures.value ∙ c.in_ok-memory.ensures.ok in
     let bytes : count * c.data_block-size.result ≡ count * s.data_block = ap (λ (n : ℕ). count * n) (c.data_block-size.ensures.value ∙ ap (λ (x : ShapeRecord). x.data_block) c.requires.shape) in
     omega (arith, size, bytes, piece.room)
 
@@ -48,7 +48,7 @@ read_piece-whole-requires-clause-few g c =
     let count : ℕ = c.blocks_of-count.result in
     let left : at < s.blocks = omega (arith, c.pieces-test.true, c.blocks-in-pieces.ensures.value, ap (λ (x : ShapeRecord). x.blocks) c.requires.shape) in
     let piece : IsPiece s at count = piece-is s c.requires.valid.data_size at count left (c.blocks_of-count.ensures ∙ ap (λ (x : ShapeRecord). blocks_of x at) c.requires.shape) in
-    let room : length c.pieces.digests ≡ 128 = c.pieces.auto.digests ∙ ap (λ (l : List (List ℕ)). length l) c.as_mut_slice-digests.ensures.value ∙ c.in_ok-room.ensures in
+    let room : length c.pieces.digests ≡ 128 = c.pieces.auto.digests ∙ ap (λ (l : List (List ℕ)). length l) c.as_mut_slice-digests.ensures.value ∙ c.in_ok-room.ensures.ok in
     omega (arith, room, piece.many)
 
 pub run-init : goal.run-init
@@ -82,7 +82,7 @@ digest_of-found-requires-clause-run g c =
 pub digest_of-found-requires-clause-room : goal.digest_of-found-requires-clause-room
 digest_of-found-requires-clause-room g c =
     let s : ShapeRecord = c.args.sight.now.path.shape in
-    let size : length c.pieces.piece ≡ 65536 = c.pieces.auto.piece ∙ ap (λ (l : List ℕ). length l) c.as_mut_slice-piece.ensures.value ∙ c.in_ok-memory.ensures in
+    let size : length c.pieces.piece ≡ 65536 = c.pieces.auto.piece ∙ ap (λ (l : List ℕ). length l) c.as_mut_slice-piece.ensures.value ∙ c.in_ok-memory.ensures.ok in
     let most : c.data_block-size.result ≤ 4096 = omega (arith, c.data_block-size.ensures.value, (block-size s.data_block c.requires.valid.data_size).most_bytes, ap (λ (x : ShapeRecord). x.data_block) c.requires.shape) in
     omega (arith, size, most, c.run.auto.piece, c.read_piece-whole.auto.piece)
 
@@ -134,7 +134,7 @@ run-preserved g c =
     let size : c.data_block-size.result ≡ s.data_block = c.data_block-size.ensures.value ∙ ap (λ (x : ShapeRecord). x.data_block) c.requires.shape in
     let left : c.pieces.at < s.blocks = omega (arith, c.pieces-test.true, c.blocks-in-pieces.ensures.value, ap (λ (x : ShapeRecord). x.blocks) c.requires.shape) in
     let piece : IsPiece s c.pieces.at count = piece-is s c.requires.valid.data_size c.pieces.at count left (c.blocks_of-count.ensures ∙ ap (λ (x : ShapeRecord). blocks_of x c.pieces.at) c.requires.shape) in
-    let room : length c.pieces.digests ≡ 128 = c.pieces.auto.digests ∙ ap (λ (l : List (List ℕ)). length l) c.as_mut_slice-digests.ensures.value ∙ c.in_ok-room.ensures in
+    let room : length c.pieces.digests ≡ 128 = c.pieces.auto.digests ∙ ap (λ (l : List (List ℕ)). length l) c.as_mut_slice-digests.ensures.value ∙ c.in_ok-room.ensures.ok in
     let few : count ≤ length ds = omega (arith, room, piece.many, c.read_piece-whole.auto.digests) in
     let inside : c.run.k < length ds = omega (arith, few, c.run-test.true) in
     let r : List ℕ = c.index-digests-k.result in
@@ -169,7 +169,7 @@ pieces-preserved g c =
     let size : c.data_block-size.result ≡ s.data_block = c.data_block-size.ensures.value ∙ ap (λ (x : ShapeRecord). x.data_block) c.requires.shape in
     let left : c.pieces.at < s.blocks = omega (arith, c.pieces-test.true, c.blocks-in-pieces.ensures.value, ap (λ (x : ShapeRecord). x.blocks) c.requires.shape) in
     let piece : IsPiece s c.pieces.at count = piece-is s c.requires.valid.data_size c.pieces.at count left (c.blocks_of-count.ensures ∙ ap (λ (x : ShapeRecord). blocks_of x c.pieces.at) c.requires.shape) in
-    let room : length c.pieces.digests ≡ 128 = c.pieces.auto.digests ∙ ap (λ (l : List (List ℕ)). length l) c.as_mut_slice-digests.ensures.value ∙ c.in_ok-room.ensures in
+    let room : length c.pieces.digests ≡ 128 = c.pieces.auto.digests ∙ ap (λ (l : List (List ℕ)). length l) c.as_mut_slice-digests.ensures.value ∙ c.in_ok-room.ensures.ok in
     let few : count ≤ length ds = omega (arith, room, piece.many, c.read_piece-whole.auto.digests) in
     let all : c.pieces.at + c.run.k ≡ c.pieces.at + count = omega (arith, c.run-test.false, c.run.auto.k-end) in
     record {
@@ -197,7 +197,7 @@ bounds-digests-k g c =
     let ds : List (List ℕ) = c.read_piece-whole.new.digests in
     let left : c.pieces.at < s.blocks = omega (arith, c.pieces-test.true, c.blocks-in-pieces.ensures.value, ap (λ (x : ShapeRecord). x.blocks) c.requires.shape) in
     let piece : IsPiece s c.pieces.at count = piece-is s c.requires.valid.data_size c.pieces.at count left (c.blocks_of-count.ensures ∙ ap (λ (x : ShapeRecord). blocks_of x c.pieces.at) c.requires.shape) in
-    let room : length c.pieces.digests ≡ 128 = c.pieces.auto.digests ∙ ap (λ (l : List (List ℕ)). length l) c.as_mut_slice-digests.ensures.value ∙ c.in_ok-room.ensures in
+    let room : length c.pieces.digests ≡ 128 = c.pieces.auto.digests ∙ ap (λ (l : List (List ℕ)). length l) c.as_mut_slice-digests.ensures.value ∙ c.in_ok-room.ensures.ok in
     let few : count ≤ length ds = omega (arith, room, piece.many, c.read_piece-whole.auto.digests) in
     omega (arith, few, c.run-test.true)
 

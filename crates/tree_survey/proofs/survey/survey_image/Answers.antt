@@ -1,4 +1,5 @@
-use Rattle.std.proofs.Common.{◌≡◌, ℕ, List, Option, ap, ◌∙◌, subst}
+use Rattle.std.proofs.Common.{◌≡◌, ℕ, List, Option, ap, arith, ◌∙◌, refl, subst}
+use Rattle.std.proofs.lemmas.Result.{err_from_is_err_and}
 use Rattle.block_device.specs.Device.{Device}
 use Rattle.tree_shape.specs.Shape.{ShapeRecord}
 use Rattle.verity_format.specs.Superblock.{shape_of}
@@ -25,7 +26,7 @@ returns-clause-ok g c =
     let t : Tree = super_tree c.in_ok-superblock.superblock c.args.root.now in
     let path : IsPathOf (shape_of c.in_ok-superblock.superblock) c.in_ok-superblock.superblock.salt c.args.root.now c.in_ok-path.path =
     subst (λ (x : ShapeRecord). IsPathOf x c.in_ok-superblock.superblock.salt c.args.root.now c.in_ok-path.path) c.shape-shape.ensures.value
-    (subst (λ (x : List ℕ). IsPathOf c.shape-shape.result x c.args.root.now c.in_ok-path.path) c.salt-salt.ensures c.in_ok-path.ensures) in
+    (subst (λ (x : List ℕ). IsPathOf c.shape-shape.result x c.args.root.now c.in_ok-path.path) c.salt-salt.ensures c.in_ok-path.ensures.ok) in
     let begun : tree_in c.new-sight.result ≡ t = ap tree_in c.new-sight.ensures ∙ tree-of c.in_ok-superblock.superblock c.args.root.now c.in_ok-path.path path in
     let later : tree_of_path c.survey_data.new.sight.path ≡ t = tree-same c.new-sight.result.path c.survey_data.new.sight.path c.in_ok-totals.ensures.passed.same ∙ begun in
     let found = c.in_ok-whole_tree.ensures.ok in
@@ -43,3 +44,9 @@ returns-clause-ok g c =
       whole = found.whole_is;
       printed_are = found.printed_are;
     }
+
+pub returns-in_err-path-clause-err : goal.returns-in_err-path-clause-err
+returns-in_err-path-clause-err g c =
+    let was = err_from_is_err_and c.from_residual-in_err-path.result c.from_residual-in_err-path.ensures.1 in
+    let memory = c.in_err-path.ensures.err in
+    rw (was.1, was.2) (refl, c.in_ok-superblock.ensures.failures, (memory.0, omega (arith, memory.1), memory.2))

@@ -23,7 +23,7 @@ returns-clause-ok g c =
     let q : PathRecord = c.read_down-good.new.path in
     let path : IsPathOf (shape_of s) s.salt c.args.root.now c.in_ok-path.path =
     subst (λ (x : ShapeRecord). IsPathOf x s.salt c.args.root.now c.in_ok-path.path) c.shape-shape.ensures.value
-    (subst (λ (x : List ℕ). IsPathOf c.shape-shape.result x c.args.root.now c.in_ok-path.path) c.salt.ensures c.in_ok-path.ensures) in
+    (subst (λ (x : List ℕ). IsPathOf c.shape-shape.result x c.args.root.now c.in_ok-path.path) c.salt.ensures c.in_ok-path.ensures.ok) in
     let tree : tree_of_path c.in_ok-path.path ≡ t = tree-of s c.args.root.now c.in_ok-path.path path in
     let last : c.blocks-last.result - 1 ≡ last_data t = ap (λ (n : ℕ). n - 1) (c.blocks-last.ensures.value ∙ ap (λ (x : ShapeRecord). x.blocks) c.shape-shape.ensures.value) in
     let down : IsReadDown t d d' (last_data t) good q =
