@@ -1,6 +1,7 @@
 -- What is computed once of a configuration, and what is left of it after a removal.
 use Rattle.std.specs.Prelude.{◌≡◌, ◌<◌, ℕ, length, map, vec_len}
 use Rattle.std.specs.List.{remove}
+use Rattle.stack_config.specs.declared.facts.DeviceFacts.{DeviceFacts}
 use Rattle.stack_config.specs.declared.facts.Facts.{Facts}
 use Rattle.stack_rules.specs.Rules.{IsLoaded}
 use Rattle.stack_rules.specs.Records.{Configuration}
@@ -10,12 +11,12 @@ use Rattle.stack_config.specs.Keys.{AreKeys, AreZeroDigests}
 use Rattle.stack_rules.specs.Removal.{lower_after}
 
 pub record AreFacts (c : Configuration) (facts : Facts) : Type 0 where
-  pub depths : facts.depths.items ≡ each_mapped (depth c) (length c.devices)
-  pub reads : facts.read_costs.items ≡ each_mapped (read_cost c) (length c.devices)
-  pub writes : facts.write_costs.items ≡ each_mapped (write_cost c) (length c.devices)
-  pub lowers : AreLowers c facts.lowers.items
-  pub keys : AreKeys c.devices facts.keys.items
-  pub zero_digests : AreZeroDigests c.devices facts.zero_digests.items
+  pub depths : map (λ (f : DeviceFacts). f.depth) facts.devices.items ≡ each_mapped (depth c) (length c.devices)
+  pub reads : map (λ (f : DeviceFacts). f.read_cost) facts.devices.items ≡ each_mapped (read_cost c) (length c.devices)
+  pub writes : map (λ (f : DeviceFacts). f.write_cost) facts.devices.items ≡ each_mapped (write_cost c) (length c.devices)
+  pub lowers : AreLowers c (map (λ (f : DeviceFacts). f.lowers) facts.devices.items)
+  pub keys : AreKeys c.devices (map (λ (f : DeviceFacts). f.keys) facts.devices.items)
+  pub zero_digests : AreZeroDigests c.devices (map (λ (f : DeviceFacts). f.zero_digests) facts.devices.items)
 
 -- a loaded configuration, with what is computed of it
 pub record IsLoadedWith (c : Configuration) (made : Facts) : Type 0 where
@@ -23,19 +24,13 @@ pub record IsLoadedWith (c : Configuration) (made : Facts) : Type 0 where
   pub facts : AreFacts c made
 
 -- there are facts of device d
-pub record HaveDevice (facts : Facts) (d : ℕ) : Type 0 where
-  pub depths : d < vec_len facts.depths
-  pub reads : d < vec_len facts.read_costs
-  pub writes : d < vec_len facts.write_costs
-  pub lowers : d < vec_len facts.lowers
-  pub keys : d < vec_len facts.keys
-  pub zero_digests : d < vec_len facts.zero_digests
+abbrev pub HaveDevice : Facts → ℕ → Type 0
+HaveDevice facts d = d < vec_len facts.devices
+
+-- what they are of a device that stays, once device d is removed: later ones move up
+abbrev pub fact_after : ℕ → DeviceFacts → DeviceFacts
+fact_after d f = record f { lowers = map (map (lower_after d)) f.lowers }
 
 -- the facts of the other devices once device d is removed
-pub record AreWithout (d : ℕ) (old new : Facts) : Type 0 where
-  pub depths : new.depths.items ≡ remove old.depths.items d
-  pub reads : new.read_costs.items ≡ remove old.read_costs.items d
-  pub writes : new.write_costs.items ≡ remove old.write_costs.items d
-  pub lowers : new.lowers.items ≡ map (map (map (lower_after d))) (remove old.lowers.items d)
-  pub keys : new.keys.items ≡ remove old.keys.items d
-  pub zero_digests : new.zero_digests.items ≡ remove old.zero_digests.items d
+abbrev pub AreWithout : ℕ → Facts → Facts → Type 0
+AreWithout d old new = new.devices.items ≡ map (fact_after d) (remove old.devices.items d)

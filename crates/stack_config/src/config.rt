@@ -144,7 +144,7 @@ impl Config {
         requires { d.0 < length self.now.devices }
         ensures { result ≡ depth self.now (mapped d.0) }
     {
-        self.facts.depths[d.0 as usize] as u32
+        self.facts.devices[d.0 as usize].depth as u32
     }
 
     /// The most leaf sectors that reading one sector moves.
@@ -152,7 +152,7 @@ impl Config {
         requires { d.0 < length self.now.devices }
         ensures { result ≡ read_cost self.now (mapped d.0) }
     {
-        self.facts.read_costs[d.0 as usize]
+        self.facts.devices[d.0 as usize].read_cost
     }
 
     /// The most leaf sectors that writing one sector moves.
@@ -160,7 +160,7 @@ impl Config {
         requires { d.0 < length self.now.devices }
         ensures { result ≡ write_cost self.now (mapped d.0) }
     {
-        self.facts.write_costs[d.0 as usize]
+        self.facts.devices[d.0 as usize].write_cost
     }
 
     /// Its lines, in the order of their sectors.
@@ -187,7 +187,9 @@ impl Config {
         requires name { i < length (names_at self.now d.0 line) }
         ensures { lower_at self.now d.0 line i ≡ Some result }
     {
-        self.facts.lowers[d.0 as usize].at(line as usize, i as usize)
+        self.facts.devices[d.0 as usize]
+            .lowers
+            .at(line as usize, i as usize)
     }
 
     /// The key of a `crypt` line, made ready at loading. Lines of a device count from 0.
@@ -196,7 +198,7 @@ impl Config {
         requires crypt { IsTrue (is_some (key_of_line self.now d.0 line)) }
         ensures { key_of_line self.now d.0 line ≡ Some result.now }
     {
-        self.facts.keys[d.0 as usize].at(line)
+        self.facts.devices[d.0 as usize].keys.at(line)
     }
 
     /// The digest of a data block of zeros under a line's salt, made at loading, where it is a `verity` line that
@@ -205,6 +207,6 @@ impl Config {
         requires { d.0 < length self.now.devices }
         ensures { result ≡ zero_digest_at self.now d.0 line }
     {
-        self.facts.zero_digests[d.0 as usize].at(line)
+        self.facts.devices[d.0 as usize].zero_digests.at(line)
     }
 }

@@ -1,5 +1,5 @@
 -- The rules in their order: the first part that refuses decides.
-use Rattle.std.proofs.Common.{◌≡◌, ◌+◌, ◌-◌, ℕ, List, [], ◌∷◌, ◌++◌, refl, ap, ◌∙◌, false, Option, None, length, map, nat_lt, arith}
+use Rattle.std.proofs.Common.{◌≡◌, ◌+◌, ◌-◌, ℕ, List, [], ◌∷◌, ◌++◌, refl, sym, ap, ◌∙◌, false, Option, None, length, map, nat_lt, arith}
 use Rattle.std.specs.Prelude.{flat_map}
 use Rattle.std.specs.List.{enumerate_from, range_with_len}
 use Rattle.std.proofs.lemmas.List.FromFn.{length-map-range_with_len}
@@ -13,10 +13,10 @@ use Rattle.stack_rules.specs.declared.refusal.Refusal.{Refusal}
 use Rattle.stack_rules.specs.Records.{Configuration}
 use Rattle.stack_rules.specs.Names.{mapped}
 use Rattle.stack_rules.specs.Descend.{depth, read_cost}
-use Rattle.stack_rules.specs.Kept.{each_mapped}
+use Rattle.stack_rules.specs.Kept.{AreLowers, each_mapped}
 use Rattle.stack_rules.specs.Passing.{IsFirst, above}
 use Rattle.stack_rules.specs.Rules.{first, refuse, rules, is_too_many, unknown_names, cycles, each_device, table_rules, device_rules, depth_rules, cost_rules, most_depth, most_cost}
-use Rattle.stack_costs.specs.Costs.{capped_cost}
+use Rattle.stack_costs.specs.Costs.{AreMeasured, capped_cost}
 use Rattle.stack_costs.proofs.lemmas.CappedLemmas.{above-capped}
 use Rattle.stack_rules.proofs.lemmas.FirstRefusalLemmas.{first-none, first-some}
 
@@ -95,3 +95,7 @@ costs-above c values is = ap (above CostTooLarge most_cost) is ∙ above-from Co
 
 pub length-values : (f : Lower → ℕ) (n : ℕ) (values : List ℕ) → values ≡ each_mapped f n → length values ≡ n
 length-values f n values is = ap length is ∙ length-map-range_with_len (λ d. f (mapped d)) 0 n
+
+-- depths of which none is refused
+pub measured-of : (c : Configuration) (lowers : List (List (List Lower))) (depths levels : List ℕ) → AreLowers c lowers → depths ≡ each_mapped (depth c) (length c.devices) → levels ≡ depths → None ≡ first (above TooDeep most_depth levels) → AreMeasured c lowers depths
+measured-of c lowers depths levels are is same none = record { lowers = are; depths = is; low = sym (ap first (ap (above TooDeep most_depth) same ∙ depths-above c depths is)) ∙ sym none }

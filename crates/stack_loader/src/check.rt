@@ -8,9 +8,8 @@ ghost use Rattle.stack_loader.specs.Next.{IsNext};
 ghost use Rattle.stack_rules.specs.Descend.{most_devices};
 ghost use Rattle.stack_rules.specs.Rules.{first, rules, load_rules, is_too_many, most_leaves, most_lines};
 
-use crate::keys::device_keys;
+use crate::facts::device_facts;
 use crate::next::{copied_devices, duplicate, planned_devices};
-use crate::zero_digests::device_digests;
 use dm_table::Entry;
 use stack_checks::{lines_refusal, lowers_of};
 use stack_config::Facts;
@@ -95,18 +94,11 @@ pub(crate) fn check(
         Some(refusal) => return Err(LoadFault::Refused(refusal)),
         None => {}
     }
-    let reads = Direction::Write(read_costs.as_slice());
-    let write_costs = costs(alloc, reads, devices, rows, levels)?;
-    let keys = device_keys(alloc, devices)?;
-    let zero_digests = device_digests(alloc, devices)?;
-    Ok(Facts {
-        depths,
-        read_costs,
-        write_costs,
-        lowers,
-        keys,
-        zero_digests,
-    })
+    let reads = read_costs.as_slice();
+    let write_costs = costs(alloc, Direction::Write(reads), devices, rows, levels)?;
+    let writes = write_costs.as_slice();
+    let devices = device_facts(alloc, devices, levels, reads, writes, lowers)?;
+    Ok(Facts { devices })
 }
 
 /// The devices after a load, and what is computed of them.

@@ -20,7 +20,8 @@ use Rattle.stack_config.proofs.lemmas.WriteCostLemmas.{write_cost-low}
 use Rattle.stack_costs.proofs.lemmas.CostLemmas.{lowers-rows, write_cost-given}
 use Rattle.stack_costs.specs.declared.cost.Direction.TheVariants.{Read, Write}
 use Rattle.stack_rules.proofs.lemmas.PassingLemmas.{IsFirst-passed, passed-IsFirst}
-use Rattle.stack_loader.proofs.RuleOrderLemmas.{Known, unknown-first, cycles-first, lines-first, depths-first, costs-first, none-first, depths-above, costs-above, length-values}
+use Rattle.stack_loader.proofs.RuleOrderLemmas.{Known, unknown-first, cycles-first, lines-first, depths-first, costs-first, none-first, depths-above, costs-above, length-values, measured-of}
+use Rattle.stack_rules.proofs.lemmas.KeptLemmas.{length-lowers}
 use Rattle.stack_loader.proofs.check.check.Goals as goal
 
 pub returns-in_err-lowers : goal.returns-in_err-lowers
@@ -63,7 +64,6 @@ pub first_above-requires : goal.first_above-requires
 first_above-requires c =
     let c' : Configuration = configuration c.args.leaves.now c.args.devices.now in
     let few = sym c.is_too_many.ensures ∙ c.if-is_too_many.false in
-    let known : Known c' = record { few = few; known = c.in_ok-lowers.ensures.0 } in
     let are = c.in_ok-lowers.ensures.1 in
     let depths = c.in_ok-depths.ensures ∙ ap (λ t. depth_rounds t most_devices) c.as_slice-sets.ensures.value ∙ rounds-depths c' c.in_ok-named.named.items (c.in_ok-named.ensures c' (rw c.as_slice-rows.ensures.value are)) in
     let low = ltb-false most_devices (length c.args.devices.now) (or-false _ _ few).0 in
@@ -87,16 +87,9 @@ pub first_above-requires-2 : goal.first_above-requires-2
 first_above-requires-2 c =
     let c' : Configuration = configuration c.args.leaves.now c.args.devices.now in
     let few = sym c.is_too_many.ensures ∙ c.if-is_too_many.false in
-    let known : Known c' = record { few = few; known = c.in_ok-lowers.ensures.0 } in
     let are = c.in_ok-lowers.ensures.1 in
     let depths = c.in_ok-depths.ensures ∙ ap (λ t. depth_rounds t most_devices) c.as_slice-sets.ensures.value ∙ rounds-depths c' c.in_ok-named.named.items (c.in_ok-named.ensures c' (rw c.as_slice-rows.ensures.value are)) in
-    let sets = rw (← c.as_slice-sets.ensures.value) at (c.in_ok-named.ensures c' (rw c.as_slice-rows.ensures.value are)) in
-    let found = c.in_ok-cycle.ensures c' sets in
-    let no_cycle = sym found ∙ c.in-None.is in
-    let no_line = sym c.in-None-lines_refusal.ensures in
-    let deep = ap first (ap (above TooDeep most_depth) c.as_slice-levels.ensures.value ∙ depths-above c' c.in_ok-depths.depths.items depths) in
-    let no_deep = sym deep ∙ sym c.in-None-first_above.ensures in
-    let measured : AreMeasured c' c.in_ok-lowers.lowers.items c.in_ok-depths.depths.items = record { lowers = are; depths = depths; low = no_deep } in
+    let measured = measured-of c' c.in_ok-lowers.lowers.items c.in_ok-depths.depths.items c.as_slice-levels.result.now are depths c.as_slice-levels.ensures.value c.in-None-first_above.ensures in
     let reads = c.in_ok-read_costs.ensures c'.leaves (rw (c.as_slice-rows.ensures.value, c.as_slice-levels.ensures.value) measured) in
     let low = ltb-false most_devices (length c.args.devices.now) (or-false _ _ few).0 in
     rw c.as_slice.ensures.value (omega (arith, low, length-values (λ x. capped_cost Read (read_cost c' x)) (length c.args.devices.now) c.in_ok-read_costs.read_costs.items reads))
@@ -144,12 +137,39 @@ returns-in-Some-first_above-2 c =
     let found = c.in_ok-cycle.ensures c' sets in
     let no_cycle = sym found ∙ c.in-None.is in
     let no_line = sym c.in-None-lines_refusal.ensures in
-    let deep = ap first (ap (above TooDeep most_depth) c.as_slice-levels.ensures.value ∙ depths-above c' c.in_ok-depths.depths.items depths) in
-    let no_deep = sym deep ∙ sym c.in-None-first_above.ensures in
-    let measured : AreMeasured c' c.in_ok-lowers.lowers.items c.in_ok-depths.depths.items = record { lowers = are; depths = depths; low = no_deep } in
+    let measured = measured-of c' c.in_ok-lowers.lowers.items c.in_ok-depths.depths.items c.as_slice-levels.result.now are depths c.as_slice-levels.ensures.value c.in-None-first_above.ensures in
     let reads = c.in_ok-read_costs.ensures c'.leaves (rw (c.as_slice-rows.ensures.value, c.as_slice-levels.ensures.value) measured) in
     let dear = ap first (ap (above CostTooLarge most_cost) c.as_slice.ensures.value ∙ costs-above c' c.in_ok-read_costs.read_costs.items reads) in
-    costs-first c' (Refused c.in-Some-first_above-2.refusal) known no_cycle no_line no_deep (sym dear ∙ sym c.in-Some-first_above-2.ensures)
+    costs-first c' (Refused c.in-Some-first_above-2.refusal) known no_cycle no_line measured.low (sym dear ∙ sym c.in-Some-first_above-2.ensures)
+
+pub device_facts-requires-clause-depths : goal.device_facts-requires-clause-depths
+device_facts-requires-clause-depths c =
+    let c' : Configuration = configuration c.args.leaves.now c.args.devices.now in
+    let are = c.in_ok-lowers.ensures.1 in
+    let depths = c.in_ok-depths.ensures ∙ ap (λ t. depth_rounds t most_devices) c.as_slice-sets.ensures.value ∙ rounds-depths c' c.in_ok-named.named.items (c.in_ok-named.ensures c' (rw c.as_slice-rows.ensures.value are)) in
+    rw c.as_slice-levels.ensures.value (length-values (depth c') (length c.args.devices.now) c.in_ok-depths.depths.items depths)
+
+pub device_facts-requires-clause-reads : goal.device_facts-requires-clause-reads
+device_facts-requires-clause-reads c =
+    let c' : Configuration = configuration c.args.leaves.now c.args.devices.now in
+    let are = c.in_ok-lowers.ensures.1 in
+    let depths = c.in_ok-depths.ensures ∙ ap (λ t. depth_rounds t most_devices) c.as_slice-sets.ensures.value ∙ rounds-depths c' c.in_ok-named.named.items (c.in_ok-named.ensures c' (rw c.as_slice-rows.ensures.value are)) in
+    let measured = measured-of c' c.in_ok-lowers.lowers.items c.in_ok-depths.depths.items c.as_slice-levels.result.now are depths c.as_slice-levels.ensures.value c.in-None-first_above.ensures in
+    let reads = c.in_ok-read_costs.ensures c'.leaves (rw (c.as_slice-rows.ensures.value, c.as_slice-levels.ensures.value) measured) in
+    rw c.as_slice-reads.ensures.value (length-values (λ x. capped_cost Read (read_cost c' x)) (length c.args.devices.now) c.in_ok-read_costs.read_costs.items reads)
+
+pub device_facts-requires-clause-writes : goal.device_facts-requires-clause-writes
+device_facts-requires-clause-writes c =
+    let c' : Configuration = configuration c.args.leaves.now c.args.devices.now in
+    let are = c.in_ok-lowers.ensures.1 in
+    let depths = c.in_ok-depths.ensures ∙ ap (λ t. depth_rounds t most_devices) c.as_slice-sets.ensures.value ∙ rounds-depths c' c.in_ok-named.named.items (c.in_ok-named.ensures c' (rw c.as_slice-rows.ensures.value are)) in
+    let measured = measured-of c' c.in_ok-lowers.lowers.items c.in_ok-depths.depths.items c.as_slice-levels.result.now are depths c.as_slice-levels.ensures.value c.in-None-first_above.ensures in
+    let given : Bor (List ℕ) = c.as_slice-reads.result in
+    let writes = c.in_ok-write_costs.ensures c'.leaves (rw (c.as_slice-rows.ensures.value, c.as_slice-levels.ensures.value) measured) in
+    rw c.as_slice-writes.ensures.value (length-values (λ x. capped_cost (Write given) (cost c' (Write given) x)) (length c.args.devices.now) c.in_ok-write_costs.write_costs.items writes)
+
+pub device_facts-requires-clause-lowers : goal.device_facts-requires-clause-lowers
+device_facts-requires-clause-lowers c = length-lowers (configuration c.args.leaves.now c.args.devices.now) c.in_ok-lowers.lowers.items c.in_ok-lowers.ensures.1
 
 pub returns : goal.returns
 unfolding IsValid
@@ -163,23 +183,22 @@ returns c =
     let found = c.in_ok-cycle.ensures c' sets in
     let no_cycle = sym found ∙ c.in-None.is in
     let no_line = sym c.in-None-lines_refusal.ensures in
-    let deep = ap first (ap (above TooDeep most_depth) c.as_slice-levels.ensures.value ∙ depths-above c' c.in_ok-depths.depths.items depths) in
-    let no_deep = sym deep ∙ sym c.in-None-first_above.ensures in
-    let measured : AreMeasured c' c.in_ok-lowers.lowers.items c.in_ok-depths.depths.items = record { lowers = are; depths = depths; low = no_deep } in
+    let measured = measured-of c' c.in_ok-lowers.lowers.items c.in_ok-depths.depths.items c.as_slice-levels.result.now are depths c.as_slice-levels.ensures.value c.in-None-first_above.ensures in
     let reads = c.in_ok-read_costs.ensures c'.leaves (rw (c.as_slice-rows.ensures.value, c.as_slice-levels.ensures.value) measured) in
     let dear = ap first (ap (above CostTooLarge most_cost) c.as_slice.ensures.value ∙ costs-above c' c.in_ok-read_costs.read_costs.items reads) in
     let no_cost = sym dear ∙ sym c.in-None-first_above-2.ensures in
-    let valid = none-first c' known no_cycle no_line no_deep no_cost in
+    let valid = none-first c' known no_cycle no_line measured.low no_cost in
     let exact = reads ∙ each-exact Read (read_cost c') (read_cost c') (λ x. refl) (λ x. omega (arith, costs-low c' no_cost x)) (length c.args.devices.now) in
-    let given : Bor (List ℕ) = c.as_slice-2.result in (
+    let given : Bor (List ℕ) = c.as_slice-reads.result in (
       valid,
       record {
-        depths = depths;
-        reads = exact;
-        writes = c.in_ok-write_costs.ensures c'.leaves (rw (c.as_slice-rows.ensures.value, c.as_slice-levels.ensures.value) measured)
-            ∙ each-exact (Write given) (cost c' (Write given)) (write_cost c') (write_cost-given c' given (c.as_slice-2.ensures.value ∙ exact)) (write_cost-low c' valid) (length c.args.devices.now);
-        lowers = are;
-        keys = c.in_ok-keys.ensures;
-        zero_digests = c.in_ok-zero_digests.ensures;
+        depths = c.in_ok-devices.ensures.depths_are ∙ c.as_slice-levels.ensures.value ∙ depths;
+        reads = c.in_ok-devices.ensures.reads_are ∙ c.as_slice-reads.ensures.value ∙ exact;
+        writes = c.in_ok-devices.ensures.writes_are ∙ c.as_slice-writes.ensures.value
+            ∙ c.in_ok-write_costs.ensures c'.leaves (rw (c.as_slice-rows.ensures.value, c.as_slice-levels.ensures.value) measured)
+            ∙ each-exact (Write given) (cost c' (Write given)) (write_cost c') (write_cost-given c' given (c.as_slice-reads.ensures.value ∙ exact)) (write_cost-low c' valid) (length c.args.devices.now);
+        lowers = rw c.in_ok-devices.ensures.lowers_are are;
+        keys = c.in_ok-devices.ensures.keys_are;
+        zero_digests = c.in_ok-devices.ensures.digests_are;
       },
     )

@@ -1,17 +1,8 @@
-use Rattle.std.proofs.Common.{arith, length}
-use Rattle.stack_rules.specs.Records.{Configuration}
-use Rattle.stack_rules.specs.Descend.{read_cost}
-use Rattle.stack_rules.proofs.lemmas.KeptLemmas.{length-each_mapped, each_mapped-at}
+use Rattle.stack_config.proofs.lemmas.FactLemmas.{have-device, read_cost-at}
 use Rattle.stack_config.proofs.config.Config.read_cost.Goals as goal
 
 pub index-requires : goal.index-requires
-index-requires c =
-    let now : Configuration = record { leaves = c.self.inside.leaves.items; devices = c.self.inside.devices.items } in
-    let inside = rw (← c.self.view_is) at c.requires in
-    omega (arith, inside, length-each_mapped (read_cost now) (length now.devices) c.self.inside.facts.read_costs.items c.self.invariant.facts.reads, c.self.inside.facts.read_costs.ok.0)
+index-requires c = let inside = rw (← c.self.view_is) at c.requires in have-device c.args.d.0 c.self.invariant.facts inside
 
 pub returns : goal.returns
-returns c =
-    let now : Configuration = record { leaves = c.self.inside.leaves.items; devices = c.self.inside.devices.items } in
-    let inside = rw (← c.self.view_is) at c.requires in
-    rw (← c.self.view_is) (each_mapped-at (read_cost now) (length now.devices) c.self.inside.facts.read_costs.items c.args.d.0 c.index.result.now c.self.invariant.facts.reads inside c.index.ensures)
+returns c = let inside = rw (← c.self.view_is) at c.requires in rw (← c.self.view_is) (read_cost-at c.self.invariant.facts inside c.index.ensures)
