@@ -1,7 +1,8 @@
 //! What is computed of each device, brought together.
-ghost use Rattle.std.specs.Prelude.{◌≡◌, ◌≤◌, length, All, IfOk};
+ghost use Rattle.std.specs.Prelude.{◌≡◌, ◌≤◌, length, map, All, IfOk};
+ghost use Rattle.std.specs.List.{range_with_len};
 ghost use Rattle.stack_rules.specs.Rules.{most_lines};
-ghost use Rattle.stack_loader.specs.Facts.{AreTogether, keys_of, digests_of};
+ghost use Rattle.stack_loader.specs.Facts.{facts_at};
 
 use crate::keys::line_keys;
 use crate::zero_digests::line_digests;
@@ -23,7 +24,7 @@ pub(crate) fn device_facts(
     requires reads { length read_costs.now ≡ length devices.now }
     requires writes { length write_costs.now ≡ length devices.now }
     requires lowers { length lowers.items ≡ length devices.now }
-    ensures { IfOk result (λ facts. AreTogether depths.now read_costs.now write_costs.now lowers.items (keys_of devices.now) (digests_of devices.now) facts.items) }
+    ensures { IfOk result (λ facts. facts.items ≡ map (facts_at devices.now depths.now read_costs.now write_costs.now lowers.items) (range_with_len 0 (length devices.now))) }
 {
     let mut facts = Vec::with_capacity(alloc, devices.len())?;
     for (i, lowers) in lowers.into_iter().enumerate() {
