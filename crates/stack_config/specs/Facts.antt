@@ -1,9 +1,13 @@
 -- What is computed once of a configuration, and what is left of it after a removal.
-use Rattle.std.specs.Prelude.{◌≡◌, ◌<◌, ℕ, length, map, vec_len}
+use Rattle.std.specs.Prelude.{◌≡◌, ◌<◌, ◌≤◌, ◌==◌, ℕ, [], length, map, get_or, slice_get, find, Some, option_and_then, vec_len}
 use Rattle.std.specs.List.{remove}
+use Rattle.std.specs.Option.{option_map}
 use Rattle.stack_config.specs.declared.facts.DeviceFacts.{DeviceFacts}
 use Rattle.stack_config.specs.declared.facts.Facts.{Facts}
-use Rattle.stack_rules.specs.Rules.{IsLoaded}
+use Rattle.stack_rules.specs.declared.lower.Lower.{Lower}
+use Rattle.stack_rules.specs.Rules.{IsLoaded, most_depth}
+use Rattle.stack_rules.specs.Names.{mapped}
+use Rattle.stack_rules.specs.Lines.{names_at, lower_at, key_of_line, zero_digest_at}
 use Rattle.stack_rules.specs.Records.{Configuration}
 use Rattle.stack_rules.specs.Descend.{depth, read_cost, write_cost}
 use Rattle.stack_rules.specs.Kept.{AreLowers, each_mapped}
@@ -22,6 +26,16 @@ pub record AreFacts (c : Configuration) (facts : Facts) : Type 0 where
 pub record IsLoadedWith (c : Configuration) (made : Facts) : Type 0 where
   pub loaded : IsLoaded c
   pub facts : AreFacts c made
+
+-- the facts of device d, whose lines count from 0
+pub record IsOfDevice (c : Configuration) (d : ℕ) (facts : DeviceFacts) : Type 0 where
+  pub depth : (facts.depth ≡ depth c (mapped d)) × (facts.depth ≤ most_depth)
+  pub read : facts.read_cost ≡ read_cost c (mapped d)
+  pub write : facts.write_cost ≡ write_cost c (mapped d)
+  pub names : (l : ℕ) → length (get_or facts.lowers l []) ≡ length (names_at c d l)
+  pub lower : (l i : ℕ) (x : Lower) → slice_get (get_or facts.lowers l []) i ≡ Some x → lower_at c d l i ≡ Some x
+  pub key : (l : ℕ) → option_map (λ k. k.key) (find (λ k. k.line == l) facts.keys) ≡ key_of_line c d l
+  pub zero_digest : (l : ℕ) → option_and_then (λ digest. digest) (slice_get facts.zero_digests l) ≡ zero_digest_at c d l
 
 -- there are facts of device d
 abbrev pub HaveDevice : Facts → ℕ → Type 0

@@ -29,7 +29,7 @@ range-push f k xs x so_far is = rw (so_far, is) (sym (map-range_with_len_more f 
 pub device-at : {A : Type 0} (f : DeviceRecord → A) (devices : List DeviceRecord) (k : ℕ) (x : DeviceRecord) (d : A) → k < length devices → x ≡ get_or devices k x → f x ≡ get_or (map f devices) k d
 device-at f devices k x d low is = ap f is ∙ sym (get_or-map f devices k x d low)
 
-map-map : {A B C : Type 0} (f : B → C) (g : A → B) (xs : List A) → map f (map g xs) ≡ map (λ x. f (g x)) xs
+pub map-map : {A B C : Type 0} (f : B → C) (g : A → B) (xs : List A) → map f (map g xs) ≡ map (λ x. f (g x)) xs
 map-map f g [] = refl
 map-map f g (x ∷ xs) = ap (λ ys. f (g x) ∷ ys) (map-map f g xs)
 

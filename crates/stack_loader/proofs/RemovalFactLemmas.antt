@@ -21,6 +21,7 @@ use Rattle.stack_rules.specs.Names.{mapped, named, names, device_named}
 use Rattle.stack_rules.specs.Descend.{depth, read_cost, write_cost}
 use Rattle.stack_rules.specs.Cycles.{is_mapped, names_device}
 use Rattle.stack_config.specs.Facts.{AreFacts, IsLoadedWith, AreWithout, fact_after}
+use Rattle.stack_loader.proofs.FactsLemmas.{map-map}
 use Rattle.stack_config.proofs.lemmas.FactLemmas.{length-facts}
 use Rattle.stack_rules.specs.Kept.{AreLowers, meanings, each_mapped}
 use Rattle.stack_config.specs.Keys.{keys_from, zero_digests_of}
@@ -181,37 +182,25 @@ lowers-kept c d unused tables are =
 
 -- ---- all that is kept
 
--- what a removal leaves as it is
-blind : {A : Type 0} (f : DeviceFacts → A) (d : ℕ) → ((x : DeviceFacts) → f (fact_after d x) ≡ f x) → (xs : List DeviceFacts) → map f (map (fact_after d) xs) ≡ map f xs
-blind f d same [] = refl
-blind f d same (x ∷ xs) = rw (same x, blind f d same xs) refl
-
-moved : (d : ℕ) (xs : List DeviceFacts) → map (λ (f : DeviceFacts). f.lowers) (map (fact_after d) xs) ≡ map (map (map (lower_after d))) (map (λ (f : DeviceFacts). f.lowers) xs)
-moved d [] = refl
-moved d (x ∷ xs) = ap (λ (l : List (List (List Lower))). map (map (lower_after d)) x.lowers ∷ l) (moved d xs)
-
 pub facts-after : (c : Configuration) (d : ℕ) → IsUnused c d → (old new : Facts) → AreFacts c old → AreWithout d old new → AreFacts (without c d) new
 facts-after c d unused old new are is = record {
-  depths = values (depth c) (depth (without c d)) (λ (f : DeviceFacts). f.depth) (λ x. refl) are.depths (λ e other. depth-after c d unused (mapped e) other);
-  reads = values (read_cost c) (read_cost (without c d)) (λ (f : DeviceFacts). f.read_cost) (λ x. refl) are.reads (λ e other. read_cost-after c d unused (mapped e) other);
-  writes = values (write_cost c) (write_cost (without c d)) (λ (f : DeviceFacts). f.write_cost) (λ x. refl) are.writes (λ e other. write_cost-after c d unused (mapped e) other);
-  lowers = rw rows (lowers-kept c d unused (map (λ (f : DeviceFacts). f.lowers) old.devices.items) are.lowers);
-  keys = field (λ (f : DeviceFacts). f.keys) (λ x. refl) ∙ ap (λ keys. remove keys d) are.keys ∙ sym (map-remove (λ (x : DeviceRecord). keys_from 0 x.table) c.devices d unused.inside);
-  zero_digests = field (λ (f : DeviceFacts). f.zero_digests) (λ x. refl) ∙ ap (λ digests. remove digests d) are.zero_digests ∙ sym (map-remove (λ (x : DeviceRecord). zero_digests_of x.table) c.devices d unused.inside);
+  depths = values (depth c) (depth (without c d)) _ _ are.depths (field (λ (f : DeviceFacts). f.depth)) (λ e other. depth-after c d unused (mapped e) other);
+  reads = values (read_cost c) (read_cost (without c d)) _ _ are.reads (field (λ (f : DeviceFacts). f.read_cost)) (λ e other. read_cost-after c d unused (mapped e) other);
+  writes = values (write_cost c) (write_cost (without c d)) _ _ are.writes (field (λ (f : DeviceFacts). f.write_cost)) (λ e other. write_cost-after c d unused (mapped e) other);
+  lowers = rw (ap (map (λ (f : DeviceFacts). f.lowers)) is ∙ map-map (λ (f : DeviceFacts). f.lowers) (fact_after d) (remove old.devices.items d) ∙ sym (map-map (map (map (lower_after d))) (λ (f : DeviceFacts). f.lowers) (remove old.devices.items d))
+      ∙ ap (map (map (map (lower_after d)))) (map-remove (λ (f : DeviceFacts). f.lowers) old.devices.items d inside)) (lowers-kept c d unused (map (λ (f : DeviceFacts). f.lowers) old.devices.items) are.lowers);
+  keys = field (λ (f : DeviceFacts). f.keys) ∙ ap (λ keys. remove keys d) are.keys ∙ sym (map-remove (λ (x : DeviceRecord). keys_from 0 x.table) c.devices d unused.inside);
+  zero_digests = field (λ (f : DeviceFacts). f.zero_digests) ∙ ap (λ digests. remove digests d) are.zero_digests ∙ sym (map-remove (λ (x : DeviceRecord). zero_digests_of x.table) c.devices d unused.inside);
 }
   where
     inside : d < length old.devices.items
     inside = omega (arith, unused.inside, length-facts are)
 
-    field : {A : Type 0} (f : DeviceFacts → A) → ((x : DeviceFacts) → f (fact_after d x) ≡ f x) → map f new.devices.items ≡ remove (map f old.devices.items) d
-    field f same = ap (map f) is ∙ blind f d same (remove old.devices.items d) ∙ map-remove f old.devices.items d inside
+    field : {A : Type 0} (f : DeviceFacts → A) → map f new.devices.items ≡ remove (map (λ x. f (fact_after d x)) old.devices.items) d
+    field f = ap (map f) is ∙ map-map f (fact_after d) (remove old.devices.items d) ∙ map-remove (λ x. f (fact_after d x)) old.devices.items d inside
 
-    values : (f g : Lower → ℕ) (h : DeviceFacts → ℕ) → ((x : DeviceFacts) → h (fact_after d x) ≡ h x) → map h old.devices.items ≡ each_mapped f (length c.devices) → ((e : ℕ) → (e ≡ d → ⊥) → f (mapped e) ≡ g (lower_after d (mapped e)))
-        → map h new.devices.items ≡ each_mapped g (length (remove c.devices d))
-    values f g h same at after = values-after f g (map h old.devices.items) (map h new.devices.items) (length c.devices) (length (remove c.devices d)) d at unused.inside (length-remove c.devices d unused.inside) (field h same) after
-
-    rows : map (λ (f : DeviceFacts). f.lowers) new.devices.items ≡ map (map (map (lower_after d))) (remove (map (λ (f : DeviceFacts). f.lowers) old.devices.items) d)
-    rows = ap (map (λ (f : DeviceFacts). f.lowers)) is ∙ moved d (remove old.devices.items d) ∙ ap (map (map (map (lower_after d)))) (map-remove (λ (f : DeviceFacts). f.lowers) old.devices.items d inside)
+    values : (f g : Lower → ℕ) (v w : List ℕ) → v ≡ each_mapped f (length c.devices) → w ≡ remove v d → ((e : ℕ) → (e ≡ d → ⊥) → f (mapped e) ≡ g (lower_after d (mapped e))) → w ≡ each_mapped g (length (remove c.devices d))
+    values f g v w was now after = values-after f g v w (length c.devices) (length (remove c.devices d)) d was unused.inside (length-remove c.devices d unused.inside) now after
 
 pub kept-after : (c : Configuration) (d : ℕ) → IsUnused c d → (old new : Facts) → IsLoadedWith c old → AreWithout d old new → IsLoadedWith (without c d) new
 kept-after c d unused old new kept without-it = record {
