@@ -20,10 +20,7 @@ pub(crate) fn device_facts(
     lowers: Vec<DeviceLowers>,
 ) -> Result<Vec<DeviceFacts>, AllocError>
     requires lines { All (λ d. length d.table ≤ most_lines) devices.now }
-    requires depths { length depths.now ≡ length devices.now }
-    requires reads { length read_costs.now ≡ length devices.now }
-    requires writes { length write_costs.now ≡ length devices.now }
-    requires lowers { length lowers.items ≡ length devices.now }
+    requires lengths { let n = length devices.now in (length depths.now ≡ n) × (length read_costs.now ≡ n) × (length write_costs.now ≡ n) × (length lowers.items ≡ n) }
     ensures { IfOk result (λ facts. facts.items ≡ map (facts_at devices.now depths.now read_costs.now write_costs.now lowers.items) (range_with_len 0 (length devices.now))) }
 {
     let mut facts = Vec::with_capacity(alloc, devices.len())?;

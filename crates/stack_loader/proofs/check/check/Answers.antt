@@ -72,25 +72,19 @@ returns-in-Some c =
     let dear = ap first (ap (above CostTooLarge most_cost) c.as_slice-reads.ensures.value ∙ costs-above c' c.in_ok-read_costs.read_costs.items reads) in
     costs-first c' (Refused c.in-Some.refusal) known c.in_ok-depths.ensures.0 (sym dear ∙ sym c.in-Some.ensures)
 
-pub device_facts-requires-clause-depths : goal.device_facts-requires-clause-depths
-device_facts-requires-clause-depths c =
-    rw c.as_slice-levels.ensures.value (length-each_mapped (depth (configuration c.args.leaves.now c.args.devices.now)) (length c.args.devices.now) c.in_ok-depths.depths.items c.in_ok-depths.ensures.1.depths)
-
-pub device_facts-requires-clause-reads : goal.device_facts-requires-clause-reads
-device_facts-requires-clause-reads c =
+pub device_facts-requires-clause-lengths : goal.device_facts-requires-clause-lengths
+device_facts-requires-clause-lengths c =
     let c' : Configuration = configuration c.args.leaves.now c.args.devices.now in
-    let reads = c.in_ok-read_costs.ensures c'.leaves (rw c.as_slice-levels.ensures.value c.in_ok-depths.ensures.1) in
-    rw c.as_slice-reads.ensures.value (length-each_mapped (λ x. capped_cost Read (read_cost c' x)) (length c.args.devices.now) c.in_ok-read_costs.read_costs.items reads)
-
-pub device_facts-requires-clause-writes : goal.device_facts-requires-clause-writes
-device_facts-requires-clause-writes c =
-    let c' : Configuration = configuration c.args.leaves.now c.args.devices.now in
+    let n = length c.args.devices.now in
     let given : Bor (List ℕ) = c.as_slice-reads.result in
+    let reads = c.in_ok-read_costs.ensures c'.leaves (rw c.as_slice-levels.ensures.value c.in_ok-depths.ensures.1) in
     let writes = c.in_ok-write_costs.ensures c'.leaves (rw c.as_slice-levels.ensures.value c.in_ok-depths.ensures.1) in
-    rw c.as_slice-writes.ensures.value (length-each_mapped (λ x. capped_cost (Write given) (cost c' (Write given) x)) (length c.args.devices.now) c.in_ok-write_costs.write_costs.items writes)
-
-pub device_facts-requires-clause-lowers : goal.device_facts-requires-clause-lowers
-device_facts-requires-clause-lowers c = length-lowers (configuration c.args.leaves.now c.args.devices.now) c.in_ok-lowers.lowers.items c.in_ok-lowers.ensures.1
+    rw (c.as_slice-levels.ensures.value, c.as_slice-reads.ensures.value, c.as_slice-writes.ensures.value) (
+      length-each_mapped (depth c') n c.in_ok-depths.depths.items c.in_ok-depths.ensures.1.depths,
+      length-each_mapped (λ x. capped_cost Read (read_cost c' x)) n c.in_ok-read_costs.read_costs.items reads,
+      length-each_mapped (λ x. capped_cost (Write given) (cost c' (Write given) x)) n c.in_ok-write_costs.write_costs.items writes,
+      length-lowers c' c.in_ok-lowers.lowers.items c.in_ok-lowers.ensures.1,
+    )
 
 pub returns : goal.returns
 unfolding IsValid

@@ -16,7 +16,7 @@ loop-i-preserved c =
     let steps = c.in-Some.ensures.steps in
     let k = c.loop-i.i-iterator.count in
     let head = rest-head c.args.lowers.items (into_iter_items c.next.new.self.iter) k c.in-Some.lowers [] (sym steps.0.0 ∙ c.loop-i.invariant.1) in
-    let low : k < length c.args.devices.now = omega (arith, head.0, c.requires.lowers) in
+    let low : k < length c.args.devices.now = omega (arith, head.0, c.requires.lengths.3) in
     let lines = c.lines-lines.ensures.value ∙ c.table.ensures in
     let here = rw steps.1 at c.index-devices-i.is in
     let keys = rw lines at c.in_ok-line_keys.ensures ∙ device-at (λ (d : DeviceRecord). keys_from 0 d.table) c.args.devices.now k c.index-devices-i.result [] low here in
@@ -28,5 +28,5 @@ pub returns : goal.returns
 returns c =
     let k = c.loop-i.i-iterator.count in
     let inv = c.loop-i.invariant in
-    let all : k ≡ length c.args.devices.now = omega (arith, c.loop-i.i-iterator.iter.rest.ok.0, c.in-None.ensures.steps.0.0, ap (λ l. length l) inv.1, length-drop k c.args.lowers.items, inv.0, c.requires.lowers) in
+    let all : k ≡ length c.args.devices.now = omega (arith, c.loop-i.i-iterator.iter.rest.ok.0, c.in-None.ensures.steps.0.0, ap (λ l. length l) inv.1, length-drop k c.args.lowers.items, inv.0, c.requires.lengths.3) in
     rw (← all) inv.2
