@@ -61,14 +61,14 @@ pub first_above-requires : goal.first_above-requires
 first_above-requires c =
     let c' : Configuration = configuration c.args.leaves.now c.args.devices.now in
     let low = ltb-false most_devices (length c.args.devices.now) (or-false _ _ (sym c.is_too_many.ensures ∙ c.if-is_too_many.false)).0 in
-    let reads = c.in_ok-read_costs.ensures c'.leaves (rw c.as_slice-levels.ensures.value c.in_ok-depths.ensures.1) in
+    let reads = c.in_ok-read_costs.ensures.ok c'.leaves (rw c.as_slice-levels.ensures.value c.in_ok-depths.ensures.1) in
     rw c.as_slice-reads.ensures.value (omega (arith, low, length-each_mapped (λ x. capped_cost Read (read_cost c' x)) (length c.args.devices.now) c.in_ok-read_costs.read_costs.items reads))
 
 pub returns-in-Some : goal.returns-in-Some
 returns-in-Some c =
     let c' : Configuration = configuration c.args.leaves.now c.args.devices.now in
     let known : Known c' = record { few = sym c.is_too_many.ensures ∙ c.if-is_too_many.false; known = c.in_ok-lowers.ensures.0 } in
-    let reads = c.in_ok-read_costs.ensures c'.leaves (rw c.as_slice-levels.ensures.value c.in_ok-depths.ensures.1) in
+    let reads = c.in_ok-read_costs.ensures.ok c'.leaves (rw c.as_slice-levels.ensures.value c.in_ok-depths.ensures.1) in
     let dear = ap first (ap (above CostTooLarge most_cost) c.as_slice-reads.ensures.value ∙ costs-above c' c.in_ok-read_costs.read_costs.items reads) in
     costs-first c' (Refused c.in-Some.refusal) known c.in_ok-depths.ensures.0 (sym dear ∙ sym c.in-Some.ensures)
 
@@ -77,8 +77,8 @@ device_facts-requires-clause-lengths c =
     let c' : Configuration = configuration c.args.leaves.now c.args.devices.now in
     let n = length c.args.devices.now in
     let given : Bor (List ℕ) = c.as_slice-reads.result in
-    let reads = c.in_ok-read_costs.ensures c'.leaves (rw c.as_slice-levels.ensures.value c.in_ok-depths.ensures.1) in
-    let writes = c.in_ok-write_costs.ensures c'.leaves (rw c.as_slice-levels.ensures.value c.in_ok-depths.ensures.1) in
+    let reads = c.in_ok-read_costs.ensures.ok c'.leaves (rw c.as_slice-levels.ensures.value c.in_ok-depths.ensures.1) in
+    let writes = c.in_ok-write_costs.ensures.ok c'.leaves (rw c.as_slice-levels.ensures.value c.in_ok-depths.ensures.1) in
     rw (c.as_slice-levels.ensures.value, c.as_slice-reads.ensures.value, c.as_slice-writes.ensures.value) (
       length-each_mapped (depth c') n c.in_ok-depths.depths.items c.in_ok-depths.ensures.1.depths,
       length-each_mapped (λ x. capped_cost Read (read_cost c' x)) n c.in_ok-read_costs.read_costs.items reads,
@@ -93,12 +93,12 @@ returns c =
     let n = length c.args.devices.now in
     let known : Known c' = record { few = sym c.is_too_many.ensures ∙ c.if-is_too_many.false; known = c.in_ok-lowers.ensures.0 } in
     let measured = c.in_ok-depths.ensures.1 in
-    let reads = c.in_ok-read_costs.ensures c'.leaves (rw c.as_slice-levels.ensures.value measured) in
+    let reads = c.in_ok-read_costs.ensures.ok c'.leaves (rw c.as_slice-levels.ensures.value measured) in
     let dear = ap first (ap (above CostTooLarge most_cost) c.as_slice-reads.ensures.value ∙ costs-above c' c.in_ok-read_costs.read_costs.items reads) in
     let no_cost = sym dear ∙ sym c.in-None.ensures in
     let valid = none-first c' known c.in_ok-depths.ensures.0 no_cost in
     let exact = c.as_slice-reads.ensures.value ∙ reads ∙ each-exact Read (read_cost c') (read_cost c') (λ x. refl) (λ x. omega (arith, costs-low c' no_cost x)) n in
     let given : Bor (List ℕ) = c.as_slice-reads.result in
-    let writes = c.as_slice-writes.ensures.value ∙ c.in_ok-write_costs.ensures c'.leaves (rw c.as_slice-levels.ensures.value measured)
+    let writes = c.as_slice-writes.ensures.value ∙ c.in_ok-write_costs.ensures.ok c'.leaves (rw c.as_slice-levels.ensures.value measured)
     ∙ each-exact (Write given) (cost c' (Write given)) (write_cost c') (write_cost-given c' given exact) (write_cost-low c' valid) n in
     (valid, facts-are c' c.as_slice-levels.result.now c.as_slice-reads.result.now c.as_slice-writes.result.now c.in_ok-lowers.lowers.items _ c.in_ok-devices.ensures (c.as_slice-levels.ensures.value ∙ measured.depths) exact writes c.in_ok-lowers.ensures.1)
