@@ -1,9 +1,8 @@
 -- Keys and digests of zeros, read off by place.
-use Rattle.std.proofs.Common.{◌≡◌, ◌+◌, ◌<◌, ℕ, zero, suc, List, [], ◌∷◌, refl, ap, ◌∙◌, true, false, ◌==◌, Option, Some, None, length, get_or, map, arith}
+use Rattle.std.proofs.Common.{◌≡◌, ◌+◌, ◌<◌, ℕ, zero, suc, List, [], ◌∷◌, refl, ap, ◌∙◌, true, false, ◌==◌, Option, Some, None, get_or, map, arith}
 use Rattle.std.specs.Prelude.{slice_get, find, option_and_then}
 use Rattle.std.specs.List.{cons_option}
 use Rattle.std.proofs.lemmas.Bool.Decides.{nat_tests}
-use Rattle.std.proofs.lemmas.List.{length-map}
 use Rattle.std.specs.Option.{option_map, option_map_or}
 use Rattle.dm_table.specs.declared.table.Line.{Line}
 use Rattle.stack_config.specs.declared.keys.LineKey.{LineKey}
@@ -12,9 +11,6 @@ use Rattle.stack_rules.specs.Lines.{key_of, key_of_line, zero_digest_of, zero_di
 use Rattle.stack_config.specs.Keys.{AreKeys, keys_from, AreZeroDigests, zero_digests_of}
 
 -- ---- keys
-
-pub length-keys : (devices : List DeviceRecord) (keys : List (List LineKey)) → AreKeys devices keys → length keys ≡ length devices
-length-keys devices keys are = ap length are ∙ length-map devices (λ (x : DeviceRecord). keys_from 0 x.table)
 
 keys-past : (n l : ℕ) (lines : List Line) → l < n → find (λ (k : LineKey). k.line == l) (keys_from n lines) ≡ None
 keys-past n l [] low = refl
@@ -67,9 +63,6 @@ key-kept c keys d l are = ap (λ keys. option_map (λ (k : LineKey). k.key) (fin
     go (x ∷ xs) (suc d) = go xs d
 
 -- ---- digests of zeros
-
-pub length-zero_digests : (devices : List DeviceRecord) (digests : List (List (Option (List ℕ)))) → AreZeroDigests devices digests → length digests ≡ length devices
-length-zero_digests devices digests are = ap length are ∙ length-map devices (λ (x : DeviceRecord). zero_digests_of x.table)
 
 -- the digest that is kept for a line is its line's
 pub zero_digest-kept : (c : Configuration) (digests : List (List (Option (List ℕ)))) (d l : ℕ) → AreZeroDigests c.devices digests

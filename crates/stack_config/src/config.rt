@@ -5,7 +5,7 @@ ghost use Rattle.stack_rules.specs.Descend.{depth, read_cost, write_cost};
 ghost use Rattle.stack_rules.specs.Lines.{IsIn, names_at, lower_at, key_of_line, zero_digest_at};
 ghost use Rattle.stack_rules.specs.Rules.{AreLeaves, IsLoaded};
 
-use crate::facts::Facts;
+use crate::facts::{DeviceFacts, Facts};
 use crate::sectors::line_of;
 use dm_table::Table;
 use stack_rules::{DevId, Leaf, Lower, Mapped, place_of};
@@ -36,7 +36,7 @@ impl Model for Config {
 }
 
 impl Config {
-    ghost use Rattle.stack_config.specs.Facts.{IsLoadedWith};
+    ghost use Rattle.stack_config.specs.Facts.{IsLoadedWith, IsOfDevice};
 
     /// A configuration of these leaves and no mapped device.
     pub fn new(alloc: Global, leaves: Vec<Leaf>) -> Config
@@ -139,12 +139,19 @@ impl Config {
         self.devices[d.0 as usize].writable()
     }
 
+    fn device_facts(&self, d: DevId) -> &DeviceFacts
+        requires { d.0 < length self.now.devices }
+        ensures { IsOfDevice self.now d.0 result.now }
+    {
+        &self.facts.devices[d.0 as usize]
+    }
+
     /// One more than the depth of the deepest device that it names; a leaf has depth 0.
     pub fn depth(&self, d: DevId) -> u32
         requires { d.0 < length self.now.devices }
         ensures { result ≡ depth self.now (mapped d.0) }
     {
-        self.facts.depths[d.0 as usize] as u32
+        self.device_facts(d).depth as u32
     }
 
     /// The most leaf sectors that reading one sector moves.
@@ -152,7 +159,7 @@ impl Config {
         requires { d.0 < length self.now.devices }
         ensures { result ≡ read_cost self.now (mapped d.0) }
     {
-        self.facts.read_costs[d.0 as usize]
+        self.device_facts(d).read_cost
     }
 
     /// The most leaf sectors that writing one sector moves.
@@ -160,7 +167,7 @@ impl Config {
         requires { d.0 < length self.now.devices }
         ensures { result ≡ write_cost self.now (mapped d.0) }
     {
-        self.facts.write_costs[d.0 as usize]
+        self.device_facts(d).write_cost
     }
 
     /// Its lines, in the order of their sectors.
@@ -187,7 +194,7 @@ impl Config {
         requires name { i < length (names_at self.now d.0 line) }
         ensures { lower_at self.now d.0 line i ≡ Some result }
     {
-        self.facts.lowers[d.0 as usize].at(line as usize, i as usize)
+        self.device_facts(d).lowers.at(line as usize, i as usize)
     }
 
     /// The key of a `crypt` line, made ready at loading. Lines of a device count from 0.
@@ -196,7 +203,7 @@ impl Config {
         requires crypt { IsTrue (is_some (key_of_line self.now d.0 line)) }
         ensures { key_of_line self.now d.0 line ≡ Some result.now }
     {
-        self.facts.keys[d.0 as usize].at(line)
+        self.device_facts(d).keys.at(line)
     }
 
     /// The digest of a data block of zeros under a line's salt, made at loading, where it is a `verity` line that
@@ -205,6 +212,6 @@ impl Config {
         requires { d.0 < length self.now.devices }
         ensures { result ≡ zero_digest_at self.now d.0 line }
     {
-        self.facts.zero_digests[d.0 as usize].at(line)
+        self.device_facts(d).zero_digests.at(line)
     }
 }

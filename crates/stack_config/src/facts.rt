@@ -4,16 +4,22 @@ use crate::zero_digests::ZeroDigests;
 use stack_rules::DeviceLowers;
 use std::alloc::Global;
 
-/// Of each device, by its place: its depth, its costs in leaf sectors, what its lines name, the keys of its crypt lines and
-/// the digests of zeros of its verity lines.
+/// Of a device: its depth, its costs in leaf sectors, what its lines name, the keys of its crypt lines and the digests of
+/// zeros of its verity lines.
+#[derive(Drop)]
+pub struct DeviceFacts {
+    pub depth: u64,
+    pub read_cost: u64,
+    pub write_cost: u64,
+    pub lowers: DeviceLowers,
+    pub keys: DeviceKeys,
+    pub zero_digests: ZeroDigests,
+}
+
+/// Of each device, by its place.
 #[derive(Drop)]
 pub struct Facts {
-    pub depths: Vec<u64>,
-    pub read_costs: Vec<u64>,
-    pub write_costs: Vec<u64>,
-    pub lowers: Vec<DeviceLowers>,
-    pub keys: Vec<DeviceKeys>,
-    pub zero_digests: Vec<ZeroDigests>,
+    pub devices: Vec<DeviceFacts>,
 }
 
 impl Facts {
@@ -26,12 +32,7 @@ impl Facts {
         ensures { (leaves : List LeafRecord) → AreFacts (record { leaves = leaves; devices = [] }) result }
     {
         Facts {
-            depths: Vec::new(alloc),
-            read_costs: Vec::new(alloc),
-            write_costs: Vec::new(alloc),
-            lowers: Vec::new(alloc),
-            keys: Vec::new(alloc),
-            zero_digests: Vec::new(alloc),
+            devices: Vec::new(alloc),
         }
     }
 
@@ -40,14 +41,9 @@ impl Facts {
         requires { HaveDevice self.old place }
         ensures { AreWithout place self.old self.new }
     {
-        drop(self.depths.remove(place));
-        drop(self.read_costs.remove(place));
-        drop(self.write_costs.remove(place));
-        drop(self.lowers.remove(place));
-        drop(self.keys.remove(place));
-        drop(self.zero_digests.remove(place));
-        for device in self.lowers.as_mut_slice() {
-            device.remove(place);
+        drop(self.devices.remove(place));
+        for device in self.devices.as_mut_slice() {
+            device.lowers.remove(place);
         }
     }
 }

@@ -8,7 +8,7 @@ mod sectors;
 mod zero_digests;
 
 pub use config::Config;
-pub use facts::Facts;
+pub use facts::{DeviceFacts, Facts};
 pub use keys::{DeviceKeys, LineKey};
 pub use stack_rules::{DevId, Leaf, Lower, crypt_of, unit_sectors, verity_of};
 pub use zero_digests::ZeroDigests;

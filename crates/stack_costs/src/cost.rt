@@ -1,5 +1,6 @@
 //! Costs of all devices.
-ghost use Rattle.std.specs.Prelude.{◌≡◌, ◌<◌, ◌≤◌, ◌+◌, ◌^◌, ℕ, List, length, map, slice_index, slice_get, All, IfOk};
+ghost use Rattle.std.specs.Prelude.{◌≡◌, ◌<◌, ◌≤◌, ◌+◌, ◌^◌, ℕ, List, length, map, slice_index, slice_get, All, IfOk, OnErr};
+ghost use Rattle.allocation.specs.Refusal.{IsOutOfMemory};
 ghost use Rattle.std.specs.Option.{option_map_or};
 ghost use Rattle.dm_table.specs.declared.table.Target.TheVariants as target;
 ghost use Rattle.stack_rules.specs.Records.{Configuration, LeafRecord, configuration};
@@ -10,7 +11,7 @@ ghost use Rattle.stack_rules.specs.Kept.{each_mapped};
 ghost use Rattle.stack_rules.specs.Passing.{Mean, RowsMean};
 ghost use Rattle.stack_costs.specs.Costs.{line_cost, ceiling, cost, cost_in, capped_cost, dearest, AreLineRows, AreMeasured, AreCosts};
 
-use crate::depth::repeated;
+use allocation::filled;
 use dm_table::{Crypt, Line, Target, Verity};
 use stack_rules::{
     DeviceLowers, LineLowers, Lower, Planned, block_sectors, crypt_of, path_sectors, unit_sectors,
@@ -178,14 +179,11 @@ fn settle(
     }
 }
 
-fn zeros(alloc: Global, devices: &[Planned<'_>]) -> Result<Vec<u64>, AllocError>
-    ensures { IfOk result (λ v. v.items ≡ map (λ device. 0) devices.now) }
-{
-    let zeros = repeated(alloc, devices.len(), 0)?;
-    Ok(zeros)
-}
-
 /// The costs of all devices, whose depths are at most 8; one above the ceiling as that.
+///
+/// # Errors
+///
+/// An allocation of room for as many numbers as there are devices was refused.
 pub fn costs(
     alloc: Global,
     direction: Direction<'_>,
@@ -195,9 +193,10 @@ pub fn costs(
 ) -> Result<Vec<u64>, AllocError>
     requires rows { AreLineRows lowers.now devices.now }
     requires depths { length depths.now ≡ length devices.now }
-    ensures { (leaves : List LeafRecord) → let c = configuration leaves devices.now in AreMeasured c lowers.now depths.now → IfOk result (λ costs. costs.items ≡ each_mapped (λ x. capped_cost direction.entry (cost c direction.entry x)) (length c.devices)) }
+    ensures ok { (leaves : List LeafRecord) → let c = configuration leaves devices.now in AreMeasured c lowers.now depths.now → IfOk result (λ costs. costs.items ≡ each_mapped (λ x. capped_cost direction.entry (cost c direction.entry x)) (length c.devices)) }
+    ensures err { OnErr result (IsOutOfMemory (length devices.now)) }
 {
-    let mut costs = zeros(alloc, devices)?;
+    let mut costs = filled(alloc, devices.len(), 0)?;
     for depth in 1..MOST_DEPTH + 1 {
         settle(
             direction,

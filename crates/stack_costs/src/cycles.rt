@@ -1,5 +1,6 @@
 //! Devices that stand on themselves.
-ghost use Rattle.std.specs.Prelude.{◌≡◌, ◌<◌, ◌≤◌, ◌+◌, ◌&&◌, ◌||◌, ℕ, Bool, zero, length, IfOk};
+ghost use Rattle.std.specs.Prelude.{◌≡◌, ◌<◌, ◌≤◌, ◌+◌, ◌&&◌, ◌||◌, ℕ, Bool, zero, length, IfOk, OnErr};
+ghost use Rattle.allocation.specs.Refusal.{IsOutOfMemory};
 ghost use Rattle.stack_rules.specs.Records.{Configuration};
 ghost use Rattle.stack_rules.specs.Descend.{most_devices};
 ghost use Rattle.stack_rules.specs.Cycles.{leads_below};
@@ -7,6 +8,7 @@ ghost use Rattle.stack_costs.specs.DeviceSet.{contains, set_at, AreSets, AreLowe
 ghost use Rattle.stack_rules.specs.Rules.{first, cycles};
 
 use crate::device_set::DeviceSet;
+use allocation::copied;
 use stack_rules::{LoadKind, Refusal};
 use std::alloc::{AllocError, Global};
 
@@ -35,11 +37,16 @@ fn close(sets: &mut [DeviceSet])
 }
 
 /// The first device on a cycle.
+///
+/// # Errors
+///
+/// An allocation of room for as many sets as there are was refused.
 pub fn cycle_refusal(alloc: Global, sets: &[DeviceSet]) -> Result<Option<Refusal>, AllocError>
     requires { length sets.now ≤ most_devices }
-    ensures { (c : Configuration) → AreLowerSets c sets.now → IfOk result (λ refusal. refusal ≡ first (cycles c)) }
+    ensures ok { (c : Configuration) → AreLowerSets c sets.now → IfOk result (λ refusal. refusal ≡ first (cycles c)) }
+    ensures err { OnErr result (IsOutOfMemory (length sets.now)) }
 {
-    let mut closed = Vec::from_slice(alloc, sets)?;
+    let mut closed = copied(alloc, sets)?;
     close(closed.as_mut_slice());
     for (d, set) in closed.iter().enumerate() {
         if set.contains(d) {

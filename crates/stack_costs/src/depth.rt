@@ -1,10 +1,12 @@
 //! Depths of all devices.
-ghost use Rattle.std.specs.Prelude.{◌≡◌, ◌<◌, ◌≤◌, ◌+◌, ℕ, length, map, replicate, slice_index, IfOk};
+ghost use Rattle.std.specs.Prelude.{◌≡◌, ◌<◌, ◌≤◌, ◌+◌, ℕ, length, slice_index, IfOk, OnErr};
+ghost use Rattle.allocation.specs.Refusal.{IsOutOfMemory};
 ghost use Rattle.stack_rules.specs.Descend.{most_devices};
 ghost use Rattle.stack_costs.specs.Depths.{greatest_in, depth_round, depth_rounds};
 
 use crate::device_set::DeviceSet;
 use crate::lower_set::MOST_DEVICES;
+use allocation::{filled, push, with_capacity};
 use std::alloc::{AllocError, Global};
 
 /// The greatest of the values of the set's devices.
@@ -25,36 +27,27 @@ fn greatest_in(set: DeviceSet, values: &[u64]) -> u64
 fn round(alloc: Global, sets: &[DeviceSet], values: &[u64]) -> Result<Vec<u64>, AllocError>
     requires few { length values.now ≤ most_devices }
     requires low { (k : ℕ) → slice_index values.now k ≤ most_devices }
-    ensures { IfOk result (λ v. v.items ≡ depth_round sets.now values.now) }
+    ensures ok { IfOk result (λ v. v.items ≡ depth_round sets.now values.now) }
+    ensures err { OnErr result (IsOutOfMemory (length sets.now)) }
 {
-    let mut next = Vec::with_capacity(alloc, sets.len())?;
+    let mut next = with_capacity(alloc, sets.len())?;
     for set in sets {
-        next.push(1 + greatest_in(*set, values))?;
+        push(&mut next, 1 + greatest_in(*set, values))?;
     }
     Ok(next)
 }
 
-/// So many numbers of one value.
-pub(crate) fn repeated(alloc: Global, count: usize, value: u64) -> Result<Vec<u64>, AllocError>
-    ensures { IfOk result (λ v. v.items ≡ replicate count value) }
-{
-    vec![in alloc; value; count]
-}
-
-/// What the rounds begin with.
-fn ones(alloc: Global, sets: &[DeviceSet]) -> Result<Vec<u64>, AllocError>
-    ensures { IfOk result (λ v. v.items ≡ map (λ set. 1) sets.now) }
-{
-    let ones = repeated(alloc, sets.len(), 1)?;
-    Ok(ones)
-}
-
-/// The depths after 64 rounds, or fewer where a round changes nothing.
+/// The depths after 64 rounds, or fewer if a round changes nothing.
+///
+/// # Errors
+///
+/// An allocation of room for at most as many numbers as there are sets was refused.
 pub fn depths(alloc: Global, sets: &[DeviceSet]) -> Result<Vec<u64>, AllocError>
     requires { length sets.now ≤ most_devices }
-    ensures { IfOk result (λ v. v.items ≡ depth_rounds sets.now most_devices) }
+    ensures ok { IfOk result (λ v. v.items ≡ depth_rounds sets.now most_devices) }
+    ensures err { OnErr result (IsOutOfMemory (length sets.now)) }
 {
-    let mut values = ones(alloc, sets)?;
+    let mut values = filled(alloc, sets.len(), 1)?;
     for _round in 0..MOST_DEVICES {
         let next = round(alloc, sets, values.as_slice())?;
         if next.as_slice() == values.as_slice() {

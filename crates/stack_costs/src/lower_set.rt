@@ -1,5 +1,6 @@
 //! Which devices each device names.
-ghost use Rattle.std.specs.Prelude.{◌≡◌, ◌<◌, ◌≤◌, ◌||◌, ℕ, length, IfOk};
+ghost use Rattle.std.specs.Prelude.{◌≡◌, ◌<◌, ◌≤◌, ◌||◌, ℕ, length, IfOk, OnErr};
+ghost use Rattle.allocation.specs.Refusal.{IsOutOfMemory};
 ghost use Rattle.std.specs.List.{list_any};
 ghost use Rattle.stack_rules.specs.Records.{Configuration};
 ghost use Rattle.stack_rules.specs.Descend.{most_devices};
@@ -8,6 +9,7 @@ ghost use Rattle.stack_costs.specs.DeviceSet.{contains, AreLowerSets};
 ghost use Rattle.stack_rules.specs.Kept.{AreLowers};
 
 use crate::device_set::DeviceSet;
+use allocation::{push, with_capacity};
 use stack_rules::{DeviceLowers, LineLowers, Lower};
 use std::alloc::{AllocError, Global};
 
@@ -52,13 +54,18 @@ fn named_by(lines: &[LineLowers]) -> DeviceSet
 }
 
 /// The devices that each device names.
+///
+/// # Errors
+///
+/// An allocation of room for at most as many sets as there are devices was refused.
 pub fn lower_sets(alloc: Global, lowers: &[DeviceLowers]) -> Result<Vec<DeviceSet>, AllocError>
     requires { length lowers.now ≤ most_devices }
-    ensures { (c : Configuration) → AreLowers c lowers.now → IfOk result (λ sets. AreLowerSets c sets.items) }
+    ensures ok { (c : Configuration) → AreLowers c lowers.now → IfOk result (λ sets. AreLowerSets c sets.items) }
+    ensures err { OnErr result (IsOutOfMemory (length lowers.now)) }
 {
-    let mut sets = Vec::with_capacity(alloc, lowers.len())?;
+    let mut sets = with_capacity(alloc, lowers.len())?;
     for device in lowers {
-        sets.push(named_by(device.lines()))?;
+        push(&mut sets, named_by(device.lines()))?;
     }
     Ok(sets)
 }

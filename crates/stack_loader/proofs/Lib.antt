@@ -8,3 +8,4 @@ pub mod LoadLemmas
 pub mod RemoveLemmas
 pub mod RemovalRuleLemmas
 pub mod RemovalFactLemmas
+mod FactsLemmas

@@ -12,6 +12,7 @@ use Rattle.std.proofs.lemmas.List.FromFn.{fill_by_all, get_or-map-range_with_len
 use Rattle.dm_table.specs.Grammar.{IsTableOfGrammar}
 use Rattle.dm_table.specs.Names.{is_mapped_name}
 use Rattle.dm_table.specs.declared.table.Line.{Line}
+use Rattle.stack_config.specs.declared.facts.DeviceFacts.{DeviceFacts}
 use Rattle.stack_config.specs.declared.facts.Facts.{Facts}
 use Rattle.stack_rules.specs.declared.lower.Lower.{Lower}
 use Rattle.stack_rules.specs.declared.refusal.RemoveFault.TheVariants.{NoSuchDevice, InUse}
@@ -19,7 +20,9 @@ use Rattle.stack_rules.specs.Records.{Configuration, DeviceRecord}
 use Rattle.stack_rules.specs.Names.{mapped, named, names, device_named}
 use Rattle.stack_rules.specs.Descend.{depth, read_cost, write_cost}
 use Rattle.stack_rules.specs.Cycles.{is_mapped, names_device}
-use Rattle.stack_config.specs.Facts.{AreFacts, IsLoadedWith, AreWithout}
+use Rattle.stack_config.specs.Facts.{AreFacts, IsLoadedWith, AreWithout, fact_after}
+use Rattle.stack_loader.proofs.FactsLemmas.{map-map}
+use Rattle.stack_config.proofs.lemmas.FactLemmas.{length-facts}
 use Rattle.stack_rules.specs.Kept.{AreLowers, meanings, each_mapped}
 use Rattle.stack_config.specs.Keys.{keys_from, zero_digests_of}
 use Rattle.stack_rules.specs.Removal.{is_in_use, removal_fault, after_removal, lower_after}
@@ -38,11 +41,15 @@ list_any-same : {X : Type 0} (p q : X → Bool) → ((x : X) → p x ≡ q x) �
 list_any-same p q same [] = refl
 list_any-same p q same (x ∷ xs) = rw (same x, list_any-same p q same xs) refl
 
-pub in_use-rows : (c : Configuration) (lowers : List (List (List Lower))) → AreLowers c lowers → (d : ℕ) → list_any (list_any (list_any (is_mapped d))) lowers ≡ is_in_use c d
+in_use-rows : (c : Configuration) (lowers : List (List (List Lower))) → AreLowers c lowers → (d : ℕ) → list_any (list_any (list_any (is_mapped d))) lowers ≡ is_in_use c d
 in_use-rows c lowers are d =
     ap (list_any (list_any (list_any (is_mapped d)))) (fill_by_all (λ e. get_or lowers e []) lowers (length c.devices) [] (length-lowers c lowers are) (λ e low. refl))
     ∙ list_any-map (list_any (list_any (is_mapped d))) (λ e. get_or lowers e []) (range_with_len 0 (length c.devices))
     ∙ list_any-same (λ e. list_any (list_any (is_mapped d)) (get_or lowers e [])) (λ e. names_device c e d) (λ e. sym (names_device-rows c lowers are e d)) (range_with_len 0 (length c.devices))
+
+pub in_use-facts : (c : Configuration) (facts : Facts) → AreFacts c facts → (d : ℕ) → list_any (λ (f : DeviceFacts). list_any (list_any (is_mapped d)) f.lowers) facts.devices.items ≡ is_in_use c d
+in_use-facts c facts are d =
+    sym (list_any-map (list_any (list_any (is_mapped d))) (λ (f : DeviceFacts). f.lowers) facts.devices.items) ∙ in_use-rows c (map (λ (f : DeviceFacts). f.lowers) facts.devices.items) are.lowers d
 
 pub unused-of : (c : Configuration) (d : ℕ) → d < length c.devices → is_in_use c d ≡ false → IsUnused c d
 unused-of c d inside none = record { inside = inside; unnamed = λ e. go e (names_device c e d) refl }
@@ -176,19 +183,24 @@ lowers-kept c d unused tables are =
 -- ---- all that is kept
 
 pub facts-after : (c : Configuration) (d : ℕ) → IsUnused c d → (old new : Facts) → AreFacts c old → AreWithout d old new → AreFacts (without c d) new
-facts-after c d unused old new are without-it = record {
-  depths = values-after (depth c) (depth (without c d)) old.depths.items new.depths.items (length c.devices) (length (remove c.devices d)) d are.depths unused.inside count without-it.depths (λ e other. depth-after c d unused (mapped e) other);
-  reads = values-after (read_cost c) (read_cost (without c d)) old.read_costs.items new.read_costs.items (length c.devices) (length (remove c.devices d)) d are.reads unused.inside count without-it.reads
-      (λ e other. read_cost-after c d unused (mapped e) other);
-  writes = values-after (write_cost c) (write_cost (without c d)) old.write_costs.items new.write_costs.items (length c.devices) (length (remove c.devices d)) d are.writes unused.inside count without-it.writes
-      (λ e other. write_cost-after c d unused (mapped e) other);
-  lowers = rw without-it.lowers (lowers-kept c d unused old.lowers.items are.lowers);
-  keys = without-it.keys ∙ ap (λ keys. remove keys d) are.keys ∙ sym (map-remove (λ (x : DeviceRecord). keys_from 0 x.table) c.devices d unused.inside);
-  zero_digests = without-it.zero_digests ∙ ap (λ digests. remove digests d) are.zero_digests ∙ sym (map-remove (λ (x : DeviceRecord). zero_digests_of x.table) c.devices d unused.inside);
+facts-after c d unused old new are is = record {
+  depths = values (depth c) (depth (without c d)) _ _ are.depths (field (λ (f : DeviceFacts). f.depth)) (λ e other. depth-after c d unused (mapped e) other);
+  reads = values (read_cost c) (read_cost (without c d)) _ _ are.reads (field (λ (f : DeviceFacts). f.read_cost)) (λ e other. read_cost-after c d unused (mapped e) other);
+  writes = values (write_cost c) (write_cost (without c d)) _ _ are.writes (field (λ (f : DeviceFacts). f.write_cost)) (λ e other. write_cost-after c d unused (mapped e) other);
+  lowers = rw (ap (map (λ (f : DeviceFacts). f.lowers)) is ∙ map-map (λ (f : DeviceFacts). f.lowers) (fact_after d) (remove old.devices.items d) ∙ sym (map-map (map (map (lower_after d))) (λ (f : DeviceFacts). f.lowers) (remove old.devices.items d))
+      ∙ ap (map (map (map (lower_after d)))) (map-remove (λ (f : DeviceFacts). f.lowers) old.devices.items d inside)) (lowers-kept c d unused (map (λ (f : DeviceFacts). f.lowers) old.devices.items) are.lowers);
+  keys = field (λ (f : DeviceFacts). f.keys) ∙ ap (λ keys. remove keys d) are.keys ∙ sym (map-remove (λ (x : DeviceRecord). keys_from 0 x.table) c.devices d unused.inside);
+  zero_digests = field (λ (f : DeviceFacts). f.zero_digests) ∙ ap (λ digests. remove digests d) are.zero_digests ∙ sym (map-remove (λ (x : DeviceRecord). zero_digests_of x.table) c.devices d unused.inside);
 }
   where
-    count : length (remove c.devices d) + 1 ≡ length c.devices
-    count = length-remove c.devices d unused.inside
+    inside : d < length old.devices.items
+    inside = omega (arith, unused.inside, length-facts are)
+
+    field : {A : Type 0} (f : DeviceFacts → A) → map f new.devices.items ≡ remove (map (λ x. f (fact_after d x)) old.devices.items) d
+    field f = ap (map f) is ∙ map-map f (fact_after d) (remove old.devices.items d) ∙ map-remove (λ x. f (fact_after d x)) old.devices.items d inside
+
+    values : (f g : Lower → ℕ) (v w : List ℕ) → v ≡ each_mapped f (length c.devices) → w ≡ remove v d → ((e : ℕ) → (e ≡ d → ⊥) → f (mapped e) ≡ g (lower_after d (mapped e))) → w ≡ each_mapped g (length (remove c.devices d))
+    values f g v w was now after = values-after f g v w (length c.devices) (length (remove c.devices d)) d was unused.inside (length-remove c.devices d unused.inside) now after
 
 pub kept-after : (c : Configuration) (d : ℕ) → IsUnused c d → (old new : Facts) → IsLoadedWith c old → AreWithout d old new → IsLoadedWith (without c d) new
 kept-after c d unused old new kept without-it = record {

@@ -1,8 +1,8 @@
 -- The rules in their order: the first part that refuses decides.
-use Rattle.std.proofs.Common.{◌≡◌, ◌+◌, ◌-◌, ℕ, List, [], ◌∷◌, ◌++◌, refl, ap, ◌∙◌, false, Option, None, length, map, nat_lt, arith}
+use Rattle.std.proofs.Common.{◌≡◌, ◌+◌, ◌-◌, ℕ, List, [], ◌∷◌, ◌++◌, refl, sym, ap, ◌∙◌, subst, false, Option, None, length, map, nat_lt, arith}
 use Rattle.std.specs.Prelude.{flat_map}
 use Rattle.std.specs.List.{enumerate_from, range_with_len}
-use Rattle.std.proofs.lemmas.List.FromFn.{length-map-range_with_len}
+use Rattle.std.proofs.lemmas.List.{append_assoc}
 use Rattle.stack_costs.specs.declared.cost.Direction.TheVariants.{Read}
 use Rattle.stack_rules.specs.declared.lower.Lower.{Lower}
 use Rattle.stack_rules.specs.declared.refusal.LoadFault.{LoadFault}
@@ -13,10 +13,10 @@ use Rattle.stack_rules.specs.declared.refusal.Refusal.{Refusal}
 use Rattle.stack_rules.specs.Records.{Configuration}
 use Rattle.stack_rules.specs.Names.{mapped}
 use Rattle.stack_rules.specs.Descend.{depth, read_cost}
-use Rattle.stack_rules.specs.Kept.{each_mapped}
+use Rattle.stack_rules.specs.Kept.{AreLowers, each_mapped}
 use Rattle.stack_rules.specs.Passing.{IsFirst, above}
-use Rattle.stack_rules.specs.Rules.{first, refuse, rules, is_too_many, unknown_names, cycles, each_device, table_rules, device_rules, depth_rules, cost_rules, most_depth, most_cost}
-use Rattle.stack_costs.specs.Costs.{capped_cost}
+use Rattle.stack_rules.specs.Rules.{first, refuse, rules, is_too_many, unknown_names, cycles, each_device, table_rules, depth_rules, cost_rules, most_depth, most_cost}
+use Rattle.stack_costs.specs.Costs.{AreMeasured, capped_cost}
 use Rattle.stack_costs.proofs.lemmas.CappedLemmas.{above-capped}
 use Rattle.stack_rules.proofs.lemmas.FirstRefusalLemmas.{first-none, first-some}
 
@@ -39,42 +39,35 @@ pub record Known (c : Configuration) : Type 0 where
   pub few : is_too_many c.devices ≡ false
   pub known : first (unknown_names c) ≡ None
 
-names-none : (c : Configuration) → Known c → first (many_rule c ++ unknown_names c) ≡ None
-names-none c k = first-none (many_rule c) (unknown_names c) (many-none c k.few) ∙ k.known
+abbrev outer_rules : Configuration → List (Option Refusal)
+outer_rules c = many_rule c ++ unknown_names c
 
-around-none : (c : Configuration) → Known c → first (cycles c) ≡ None → first (many_rule c ++ unknown_names c ++ cycles c) ≡ None
-around-none c k around = first-none (many_rule c ++ unknown_names c) (cycles c) (names-none c k) ∙ around
+abbrev pub inner_rules : Configuration → List (Option Refusal)
+inner_rules c = cycles c ++ each_device c (table_rules c) ++ depth_rules c
 
-lines-none : (c : Configuration) → Known c → first (cycles c) ≡ None → first (each_device c (table_rules c)) ≡ None → first (device_rules c) ≡ None
-lines-none c k around lines = first-none (many_rule c ++ unknown_names c ++ cycles c) (each_device c (table_rules c)) (around-none c k around) ∙ lines
+parts : (c : Configuration) → rules c ≡ (outer_rules c) ++ (inner_rules c ++ cost_rules c)
+parts c =
+    let outer = outer_rules c in
+    ap (λ l. l ++ depth_rules c ++ cost_rules c) (append_assoc outer (cycles c) (each_device c (table_rules c)))
+    ∙ ap (λ l. l ++ cost_rules c) (append_assoc outer (cycles c ++ each_device c (table_rules c)) (depth_rules c)) ∙ append_assoc outer (inner_rules c) (cost_rules c)
 
-deep-none : (c : Configuration) → Known c → first (cycles c) ≡ None → first (each_device c (table_rules c)) ≡ None → first (depth_rules c) ≡ None → first (device_rules c ++ depth_rules c) ≡ None
-deep-none c k around lines deep = first-none (device_rules c) (depth_rules c) (lines-none c k around lines) ∙ deep
+outer-none : (c : Configuration) → Known c → first (outer_rules c) ≡ None
+outer-none c k = first-none (many_rule c) (unknown_names c) (many-none c k.few) ∙ k.known
 
 pub unknown-first : (c : Configuration) (fault : LoadFault) → is_too_many c.devices ≡ false → IsFirst fault (unknown_names c) → IsFirst fault (rules c)
 unknown-first c fault few h =
-    left fault (device_rules c ++ depth_rules c) (cost_rules c) (left fault (device_rules c) (depth_rules c)
-    (left fault (many_rule c ++ unknown_names c ++ cycles c) (each_device c (table_rules c)) (left fault (many_rule c ++ unknown_names c) (cycles c) (right fault (many_rule c) (unknown_names c) (many-none c few) h))))
+    subst (IsFirst fault) (sym (parts c)) (left fault (outer_rules c) (inner_rules c ++ cost_rules c) (right fault (many_rule c) (unknown_names c) (many-none c few) h))
 
-pub cycles-first : (c : Configuration) (fault : LoadFault) → Known c → IsFirst fault (cycles c) → IsFirst fault (rules c)
-cycles-first c fault k h =
-    left fault (device_rules c ++ depth_rules c) (cost_rules c) (left fault (device_rules c) (depth_rules c)
-    (left fault (many_rule c ++ unknown_names c ++ cycles c) (each_device c (table_rules c)) (right fault (many_rule c ++ unknown_names c) (cycles c) (names-none c k) h)))
+pub inner-first : (c : Configuration) (fault : LoadFault) → Known c → IsFirst fault (inner_rules c) → IsFirst fault (rules c)
+inner-first c fault k h =
+    subst (IsFirst fault) (sym (parts c)) (right fault (outer_rules c) (inner_rules c ++ cost_rules c) (outer-none c k) (left fault (inner_rules c) (cost_rules c) h))
 
-pub lines-first : (c : Configuration) (fault : LoadFault) → Known c → first (cycles c) ≡ None → IsFirst fault (each_device c (table_rules c)) → IsFirst fault (rules c)
-lines-first c fault k around h =
-    left fault (device_rules c ++ depth_rules c) (cost_rules c) (left fault (device_rules c) (depth_rules c)
-    (right fault (many_rule c ++ unknown_names c ++ cycles c) (each_device c (table_rules c)) (around-none c k around) h))
+pub costs-first : (c : Configuration) (fault : LoadFault) → Known c → first (inner_rules c) ≡ None → IsFirst fault (cost_rules c) → IsFirst fault (rules c)
+costs-first c fault k inner h =
+    subst (IsFirst fault) (sym (parts c)) (right fault (outer_rules c) (inner_rules c ++ cost_rules c) (outer-none c k) (right fault (inner_rules c) (cost_rules c) inner h))
 
-pub depths-first : (c : Configuration) (fault : LoadFault) → Known c → first (cycles c) ≡ None → first (each_device c (table_rules c)) ≡ None → IsFirst fault (depth_rules c) → IsFirst fault (rules c)
-depths-first c fault k around lines h =
-    left fault (device_rules c ++ depth_rules c) (cost_rules c) (right fault (device_rules c) (depth_rules c) (lines-none c k around lines) h)
-
-pub costs-first : (c : Configuration) (fault : LoadFault) → Known c → first (cycles c) ≡ None → first (each_device c (table_rules c)) ≡ None → first (depth_rules c) ≡ None → IsFirst fault (cost_rules c) → IsFirst fault (rules c)
-costs-first c fault k around lines deep h = right fault (device_rules c ++ depth_rules c) (cost_rules c) (deep-none c k around lines deep) h
-
-pub none-first : (c : Configuration) → Known c → first (cycles c) ≡ None → first (each_device c (table_rules c)) ≡ None → first (depth_rules c) ≡ None → first (cost_rules c) ≡ None → first (rules c) ≡ None
-none-first c k around lines deep cost = first-none (device_rules c ++ depth_rules c) (cost_rules c) (deep-none c k around lines deep) ∙ cost
+pub none-first : (c : Configuration) → Known c → first (inner_rules c) ≡ None → first (cost_rules c) ≡ None → first (rules c) ≡ None
+none-first c k inner cost = ap first (parts c) ∙ first-none (outer_rules c) (inner_rules c ++ cost_rules c) (outer-none c k) ∙ first-none (inner_rules c) (cost_rules c) inner ∙ cost
 
 -- ---- rules on one number for each device
 
@@ -93,5 +86,6 @@ depths-above c values is = ap (above TooDeep most_depth) is ∙ above-from TooDe
 pub costs-above : (c : Configuration) (values : List ℕ) → values ≡ each_mapped (λ x. capped_cost Read (read_cost c x)) (length c.devices) → above CostTooLarge most_cost values ≡ cost_rules c
 costs-above c values is = ap (above CostTooLarge most_cost) is ∙ above-from CostTooLarge most_cost (λ x. capped_cost Read (read_cost c x)) 0 c.devices ∙ above-capped (read_cost c) (enumerate_from 1 c.devices)
 
-pub length-values : (f : Lower → ℕ) (n : ℕ) (values : List ℕ) → values ≡ each_mapped f n → length values ≡ n
-length-values f n values is = ap length is ∙ length-map-range_with_len (λ d. f (mapped d)) 0 n
+-- depths of which none is refused
+pub measured-of : (c : Configuration) (lowers : List (List (List Lower))) (depths levels : List ℕ) → AreLowers c lowers → depths ≡ each_mapped (depth c) (length c.devices) → levels ≡ depths → None ≡ first (above TooDeep most_depth levels) → AreMeasured c lowers depths
+measured-of c lowers depths levels are is same none = record { lowers = are; depths = is; low = sym (ap first (ap (above TooDeep most_depth) same ∙ depths-above c depths is)) ∙ sym none }

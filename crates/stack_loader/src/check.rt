@@ -1,23 +1,24 @@
 //! A configuration to come, checked by all rules.
-ghost use Rattle.std.specs.Prelude.{◌≡◌, ◌≤◌, length, nat_lt};
+ghost use Rattle.std.specs.Prelude.{◌≡◌, ◌≤◌, ◌++◌, length, nat_lt, All};
 ghost use Rattle.std.specs.List.{list_any};
 ghost use Rattle.stack_rules.specs.Records.{configuration};
+ghost use Rattle.stack_rules.specs.Kept.{AreLowers};
 ghost use Rattle.stack_rules.specs.Passing.{IsPassed, above};
 ghost use Rattle.stack_config.specs.Facts.{AreFacts};
+ghost use Rattle.stack_costs.specs.Costs.{AreMeasured};
 ghost use Rattle.stack_loader.specs.Next.{IsNext};
 ghost use Rattle.stack_rules.specs.Descend.{most_devices};
-ghost use Rattle.stack_rules.specs.Rules.{first, rules, load_rules, is_too_many, most_leaves, most_lines};
+ghost use Rattle.stack_rules.specs.Rules.{first, rules, load_rules, cycles, each_device, table_rules, depth_rules, is_too_many, most_leaves, most_lines};
 
-use crate::keys::device_keys;
+use crate::facts::device_facts;
 use crate::next::{copied_devices, duplicate, planned_devices};
-use crate::zero_digests::device_digests;
 use dm_table::Entry;
 use stack_checks::{lines_refusal, lowers_of};
 use stack_config::Facts;
 use stack_costs::{
     Direction, MOST_COST, MOST_DEPTH, MOST_DEVICES, costs, cycle_refusal, depths, lower_sets,
 };
-use stack_rules::{Leaf, LoadFault, LoadKind, Mapped, Planned, Refusal};
+use stack_rules::{DeviceLowers, Leaf, LoadFault, LoadKind, Mapped, Planned, Refusal};
 use std::alloc::Global;
 
 const MOST_LINES: usize = 256;
@@ -59,6 +60,36 @@ pub(crate) fn first_above(values: &[u64], most: u64, kind: LoadKind) -> Option<R
     None
 }
 
+/// The depths of the devices, or the first rule that refuses the configuration: those on cycles, lines and depths.
+fn checked_depths(
+    alloc: Global,
+    leaves: &[Leaf],
+    devices: &[Planned<'_>],
+    lowers: &[DeviceLowers],
+) -> Result<Vec<u64>, LoadFault>
+    requires few { length devices.now ≤ most_devices }
+    requires lines { All (λ d. length d.table ≤ most_lines) devices.now }
+    requires lowers { AreLowers (configuration leaves.now devices.now) lowers.now }
+    ensures { let c = configuration leaves.now devices.now in IsPassed result (cycles c ++ each_device c (table_rules c) ++ depth_rules c) (λ depths. AreMeasured c lowers.now depths.items) }
+{
+    let named = lower_sets(alloc, lowers)?;
+    let sets = named.as_slice();
+    let cycle = cycle_refusal(alloc, sets)?;
+    match cycle {
+        Some(refusal) => return Err(LoadFault::Refused(refusal)),
+        None => {}
+    }
+    match lines_refusal(leaves, devices, lowers) {
+        Some(refusal) => return Err(LoadFault::Refused(refusal)),
+        None => {}
+    }
+    let depths = depths(alloc, sets)?;
+    match first_above(depths.as_slice(), MOST_DEPTH, LoadKind::TooDeep) {
+        Some(refusal) => Err(LoadFault::Refused(refusal)),
+        None => Ok(depths),
+    }
+}
+
 /// The facts of a configuration, or the first rule that refuses it.
 pub(crate) fn check(
     alloc: Global,
@@ -73,40 +104,18 @@ pub(crate) fn check(
     }
     let lowers = lowers_of(alloc, leaves, devices)?;
     let rows = lowers.as_slice();
-    let named = lower_sets(alloc, rows)?;
-    let sets = named.as_slice();
-    let cycle = cycle_refusal(alloc, sets)?;
-    match cycle {
-        Some(refusal) => return Err(LoadFault::Refused(refusal)),
-        None => {}
-    }
-    match lines_refusal(leaves, devices, rows) {
-        Some(refusal) => return Err(LoadFault::Refused(refusal)),
-        None => {}
-    }
-    let depths = depths(alloc, sets)?;
+    let depths = checked_depths(alloc, leaves, devices, rows)?;
     let levels = depths.as_slice();
-    match first_above(levels, MOST_DEPTH, LoadKind::TooDeep) {
-        Some(refusal) => return Err(LoadFault::Refused(refusal)),
-        None => {}
-    }
     let read_costs = costs(alloc, Direction::Read, devices, rows, levels)?;
-    match first_above(read_costs.as_slice(), MOST_COST, LoadKind::CostTooLarge) {
+    let reads = read_costs.as_slice();
+    match first_above(reads, MOST_COST, LoadKind::CostTooLarge) {
         Some(refusal) => return Err(LoadFault::Refused(refusal)),
         None => {}
     }
-    let reads = Direction::Write(read_costs.as_slice());
-    let write_costs = costs(alloc, reads, devices, rows, levels)?;
-    let keys = device_keys(alloc, devices)?;
-    let zero_digests = device_digests(alloc, devices)?;
-    Ok(Facts {
-        depths,
-        read_costs,
-        write_costs,
-        lowers,
-        keys,
-        zero_digests,
-    })
+    let write_costs = costs(alloc, Direction::Write(reads), devices, rows, levels)?;
+    let writes = write_costs.as_slice();
+    let devices = device_facts(alloc, devices, levels, reads, writes, lowers)?;
+    Ok(Facts { devices })
 }
 
 /// The devices after a load, and what is computed of them.

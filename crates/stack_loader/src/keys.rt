@@ -1,13 +1,12 @@
 //! The keys of crypt lines, made ready once at loading.
 ghost use Rattle.std.specs.Prelude.{◌≡◌, ◌≤◌, ◌<◌, ◌^◌, length, All, IfOk};
 ghost use Rattle.dm_table.specs.Grammar.{IsTargetOfGrammar, IsLineOfGrammar};
-ghost use Rattle.stack_config.specs.Keys.{keys_from, AreKeys};
+ghost use Rattle.stack_config.specs.Keys.{keys_from};
 ghost use Rattle.stack_rules.specs.Lines.{key_of};
-ghost use Rattle.stack_rules.specs.Rules.{most_lines};
 
 use dm_table::{Line, Target};
 use stack_config::{DeviceKeys, LineKey};
-use stack_rules::{Planned, crypt_of};
+use stack_rules::crypt_of;
 use std::alloc::{AllocError, Global};
 use xts_sector::XtsKey;
 
@@ -23,7 +22,7 @@ fn key_of(target: &Target) -> Option<XtsKey>
 }
 
 /// The keys of the crypt lines of a device.
-fn line_keys(alloc: Global, lines: &[Line]) -> Result<DeviceKeys, AllocError>
+pub(crate) fn line_keys(alloc: Global, lines: &[Line]) -> Result<DeviceKeys, AllocError>
     requires few { length lines.now < 2 ^ 32 }
     requires grammar { All IsLineOfGrammar lines.now }
     ensures { IfOk result (λ keys. keys ≡ keys_from 0 lines.now) }
@@ -39,19 +38,4 @@ fn line_keys(alloc: Global, lines: &[Line]) -> Result<DeviceKeys, AllocError>
         }
     }
     Ok(DeviceKeys::new(list))
-}
-
-/// The same for each device.
-pub(crate) fn device_keys(
-    alloc: Global,
-    devices: &[Planned<'_>],
-) -> Result<Vec<DeviceKeys>, AllocError>
-    requires { All (λ d. length d.table ≤ most_lines) devices.now }
-    ensures { IfOk result (λ keys. AreKeys devices.now keys.items) }
-{
-    let mut keys = Vec::with_capacity(alloc, devices.len())?;
-    for device in devices {
-        keys.push(line_keys(alloc, device.table().lines())?)?;
-    }
-    Ok(keys)
 }

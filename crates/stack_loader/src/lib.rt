@@ -2,6 +2,7 @@
 #![tactic(auto)]
 
 mod check;
+mod facts;
 mod keys;
 mod loading;
 mod next;

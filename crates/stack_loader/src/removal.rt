@@ -4,14 +4,14 @@ ghost use Rattle.std.specs.List.{list_any};
 ghost use Rattle.stack_rules.specs.Cycles.{is_mapped};
 ghost use Rattle.stack_rules.specs.Removal.{after_removal, removal_fault};
 
-use stack_config::Config;
-use stack_rules::{DeviceLowers, RemoveFault, place_of};
+use stack_config::{Config, DeviceFacts};
+use stack_rules::{RemoveFault, place_of};
 
 /// Whether a device names the one of that place.
-fn is_in_use(lowers: &[DeviceLowers], place: usize) -> bool
-    ensures { result ≡ list_any (list_any (list_any (is_mapped place))) lowers.now }
+fn is_in_use(devices: &[DeviceFacts], place: usize) -> bool
+    ensures { result ≡ list_any (λ device. list_any (list_any (is_mapped place)) device.lowers) devices.now }
 {
-    lowers.iter().any(|device| device.names(place))
+    devices.iter().any(|device| device.lowers.names(place))
 }
 
 /// Removes the mapped device of that name; later ones move up by one place.
@@ -24,7 +24,7 @@ pub fn remove(config: &mut Config, name: &[u8]) -> Result<(), RemoveFault>
     match place_of(config.devices(), name) {
         None => Err(RemoveFault::NoSuchDevice),
         Some(place) => {
-            if is_in_use(config.facts().lowers.as_slice(), place) {
+            if is_in_use(config.facts().devices.as_slice(), place) {
                 return Err(RemoveFault::InUse);
             }
             let (mut devices, mut facts) = config.take();

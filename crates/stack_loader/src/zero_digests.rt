@@ -2,13 +2,13 @@
 ghost use Rattle.std.specs.Prelude.{◌≡◌, ◌≤◌, All, IfOk};
 ghost use Rattle.dm_table.specs.Grammar.{IsTargetOfGrammar, IsLineOfGrammar};
 ghost use Rattle.tree_shape.specs.Digests.{digest};
-ghost use Rattle.stack_config.specs.Keys.{zero_digests_of, AreZeroDigests};
+ghost use Rattle.stack_config.specs.Keys.{zero_digests_of};
 ghost use Rattle.stack_rules.specs.Lines.{zero_digest_of};
 ghost use Rattle.stack_rules.specs.Trees.{zero_block};
 
 use dm_table::{Line, Target, Verity};
 use stack_config::ZeroDigests;
-use stack_rules::{Planned, verity_of};
+use stack_rules::verity_of;
 use std::alloc::{AllocError, Global};
 use tree_shape::Digest;
 
@@ -37,7 +37,7 @@ fn zero_digest_of(target: &Target) -> Option<Digest>
 }
 
 /// Those of a device's lines.
-fn line_digests(alloc: Global, lines: &[Line]) -> Result<ZeroDigests, AllocError>
+pub(crate) fn line_digests(alloc: Global, lines: &[Line]) -> Result<ZeroDigests, AllocError>
     requires { All IsLineOfGrammar lines.now }
     ensures { IfOk result (λ digests. digests ≡ zero_digests_of lines.now) }
 {
@@ -46,18 +46,4 @@ fn line_digests(alloc: Global, lines: &[Line]) -> Result<ZeroDigests, AllocError
         digests.push(zero_digest_of(&line.target))?;
     }
     Ok(ZeroDigests::new(digests))
-}
-
-/// The same for each device.
-pub(crate) fn device_digests(
-    alloc: Global,
-    devices: &[Planned<'_>],
-) -> Result<Vec<ZeroDigests>, AllocError>
-    ensures { IfOk result (λ digests. AreZeroDigests devices.now digests.items) }
-{
-    let mut digests = Vec::with_capacity(alloc, devices.len())?;
-    for device in devices {
-        digests.push(line_digests(alloc, device.table().lines())?)?;
-    }
-    Ok(digests)
 }

@@ -1,6 +1,6 @@
 use Rattle.std.proofs.Common.{◌≡◌, ℕ, List, sym, ap, subst, ◌∙◌, length, arith}
-use Rattle.std.proofs.lemmas.List.{length-map}
-use Rattle.stack_rules.specs.Records.{configuration, DeviceRecord}
+use Rattle.std.proofs.lemmas.List.{length-replicate}
+use Rattle.stack_rules.specs.Records.{configuration}
 use Rattle.stack_costs.specs.Costs.{AreCosts}
 use Rattle.stack_costs.proofs.ClosureLemmas.{taken}
 use Rattle.stack_costs.proofs.lemmas.CostLemmas.{costs_none, costs_all}
@@ -8,7 +8,7 @@ use Rattle.stack_rules.proofs.lemmas.ValidLemmas.{depths-low}
 use Rattle.stack_costs.proofs.cost.costs.Goals as goal
 
 pub loop-depth-init : goal.loop-depth-init
-loop-depth-init c = (ap length c.in_ok-costs.ensures ∙ length-map c.args.devices.now (λ (device : DeviceRecord). 0), λ leaves measured. costs_none (configuration leaves c.args.devices.now) c.args.direction c.in_ok-costs.costs.items)
+loop-depth-init c = (ap length c.in_ok-costs.ensures.ok ∙ length-replicate (length c.args.devices.now) 0, λ leaves measured. costs_none (configuration leaves c.args.devices.now) c.args.direction c.in_ok-costs.costs.items)
 
 pub loop-depth-preserved : goal.loop-depth-preserved
 loop-depth-preserved c =
@@ -22,6 +22,6 @@ loop-depth-preserved c =
 pub settle-requires-clause-costs : goal.settle-requires-clause-costs
 settle-requires-clause-costs c = ap length c.as_mut_slice.ensures.value ∙ c.loop-depth.invariant.0
 
-pub returns : goal.returns
-returns c = λ leaves measured.
+pub returns-clause-ok : goal.returns-clause-ok
+returns-clause-ok c = λ leaves measured.
     costs_all (configuration leaves c.args.devices.now) c.args.direction c.loop-depth.depth c.loop-depth.costs.items (depths-low (configuration leaves c.args.devices.now) measured.low) c.loop-depth.invariant.0 (omega (arith, c.loop-depth-test.false)) (c.loop-depth.invariant.1 leaves measured)

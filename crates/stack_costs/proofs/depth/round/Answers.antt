@@ -11,4 +11,4 @@ overflow_add-greatest_in c =
 
 pub loop-set-preserved : goal.loop-set-preserved
 loop-set-preserved c =
-    rw c.in_ok-push.ensures.items (round_more c.args.sets.now c.loop-set.set-index (1 + c.greatest_in.result) c.args.values.now c.loop-set.next.items c.loop-set-test.true (ap (λ n. 1 + n) c.greatest_in.ensures) c.loop-set.invariant)
+    rw c.in_ok-push.ensures.ok (round_more c.args.sets.now c.loop-set.set-index (1 + c.greatest_in.result) c.args.values.now c.loop-set.next.items c.loop-set-test.true (ap (λ n. 1 + n) c.greatest_in.ensures) c.loop-set.invariant)

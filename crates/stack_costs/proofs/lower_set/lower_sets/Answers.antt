@@ -5,12 +5,12 @@ use Rattle.stack_costs.proofs.LowerSetLemmas.{sets_none, sets_more, lower_sets-n
 use Rattle.stack_costs.proofs.lower_set.lower_sets.Goals as goal
 
 pub loop-device-init : goal.loop-device-init
-loop-device-init c = sets_none c.args.lowers.now c.in_ok-sets.sets.items c.in_ok-sets.ensures.items
+loop-device-init c = sets_none c.args.lowers.now c.in_ok-sets.sets.items c.in_ok-sets.ensures.ok.0
 
 pub loop-device-preserved : goal.loop-device-preserved
 loop-device-preserved c =
-    sets_more c.args.lowers.now c.loop-device.device-index c.device-item.result c.named_by.result c.loop-device.sets.items c.push.new.self.items c.loop-device-test.true c.device-item.is
-    (λ e few. c.named_by.ensures e few ∙ ap (list_any (list_any (is_mapped e))) c.lines.ensures) c.in_ok-push.ensures.items c.loop-device.invariant
+    sets_more c.args.lowers.now c.loop-device.device-index c.device-item.result c.named_by.result c.loop-device.sets.items c.push.new.v.items c.loop-device-test.true c.device-item.is
+    (λ e few. c.named_by.ensures e few ∙ ap (list_any (list_any (is_mapped e))) c.lines.ensures) c.in_ok-push.ensures.ok c.loop-device.invariant
 
-pub returns : goal.returns
-returns c = λ c' are. lower_sets-named c' c.args.lowers.now c.loop-device.device-index c.loop-device.sets.items are c.requires c.loop-device-test.false c.loop-device.auto.device-index-end c.loop-device.invariant
+pub returns-clause-ok : goal.returns-clause-ok
+returns-clause-ok c = λ c' are. lower_sets-named c' c.args.lowers.now c.loop-device.device-index c.loop-device.sets.items are c.requires c.loop-device-test.false c.loop-device.auto.device-index-end c.loop-device.invariant

@@ -1,18 +1,9 @@
-use Rattle.std.proofs.Common.{◌≡◌, ◌<◌, ℕ, List, [], ◌==◌, true, false, subst, Option, Some, None, length, get_or, refl, sym, ◌∙◌, arith}
+use Rattle.std.proofs.Common.{◌≡◌, ℕ, List, ◌==◌, true, false, subst, Option, Some, None, refl, sym, ◌∙◌}
 use Rattle.std.specs.Prelude.{IsTrue, find, is_some}
 use Rattle.std.specs.Option.{option_map}
-use Rattle.std.proofs.lemmas.List.{get_or_read}
 use Rattle.stack_config.specs.declared.keys.LineKey.{LineKey}
-use Rattle.stack_rules.specs.Records.{Configuration}
 use Rattle.stack_rules.specs.Lines.{key_of_line}
-use Rattle.stack_config.proofs.KeyLemmas.{length-keys, key-kept}
 use Rattle.stack_config.proofs.config.Config.key.Goals as goal
-
-pub index-requires : goal.index-requires
-index-requires c =
-    let now : Configuration = record { leaves = c.self.inside.leaves.items; devices = c.self.inside.devices.items } in
-    let inside = rw (← c.self.view_is) at c.requires.device in
-    omega (arith, inside, length-keys now.devices c.self.inside.facts.keys.items c.self.invariant.facts.keys, c.self.inside.facts.keys.ok.0)
 
 some-kept : (o : Option LineKey) (p : Option (List ℕ)) → option_map (λ (k : LineKey). k.key) o ≡ p → IsTrue (is_some p) → IsTrue (is_some o)
 some-kept None p e h = let clash : false ≡ true = subst (λ o. is_some o ≡ true) (sym e) h in cc
@@ -20,18 +11,7 @@ some-kept (Some k) p e h = refl
 
 pub at-requires : goal.at-requires
 at-requires c =
-    let now : Configuration = record { leaves = c.self.inside.leaves.items; devices = c.self.inside.devices.items } in
-    let inside = rw (← c.self.view_is) at c.requires.device in
-    let some : IsTrue (is_some (key_of_line now c.args.d.0 c.args.line)) = rw (← c.self.view_is) at c.requires.crypt in
-    let within : c.args.d.0 < length c.self.inside.facts.keys.items = omega (arith, inside, length-keys now.devices c.self.inside.facts.keys.items c.self.invariant.facts.keys) in
-    let is = get_or_read c.self.inside.facts.keys.items c.args.d.0 c.index.result.now within c.index.ensures [] in
-    rw is (some-kept (find (λ (k : LineKey). k.line == c.args.line) (get_or c.self.inside.facts.keys.items c.args.d.0 [])) (key_of_line now c.args.d.0 c.args.line)
-    (key-kept now c.self.inside.facts.keys.items c.args.d.0 c.args.line c.self.invariant.facts.keys) some)
+    some-kept (find (λ (k : LineKey). k.line == c.args.line) c.device_facts.result.now.keys) (key_of_line c.args.self.now c.args.d.0 c.args.line) (c.device_facts.ensures.key c.args.line) c.requires.crypt
 
 pub returns : goal.returns
-returns c =
-    let now : Configuration = record { leaves = c.self.inside.leaves.items; devices = c.self.inside.devices.items } in
-    let inside = rw (← c.self.view_is) at c.requires.device in
-    let within : c.args.d.0 < length c.self.inside.facts.keys.items = omega (arith, inside, length-keys now.devices c.self.inside.facts.keys.items c.self.invariant.facts.keys) in
-    let is = get_or_read c.self.inside.facts.keys.items c.args.d.0 c.index.result.now within c.index.ensures [] in
-    rw (← c.self.view_is) (sym (key-kept now c.self.inside.facts.keys.items c.args.d.0 c.args.line c.self.invariant.facts.keys) ∙ rw is at c.at.ensures)
+returns c = sym (c.device_facts.ensures.key c.args.line) ∙ c.at.ensures

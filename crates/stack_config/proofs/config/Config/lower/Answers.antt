@@ -1,17 +1,8 @@
 use Rattle.std.proofs.Common.{◌<◌, ◌≤◌, ℕ, List, [], length, get_or, ap, arith}
-use Rattle.std.proofs.lemmas.List.{get_or_read}
 use Rattle.std.proofs.lemmas.List.{get_or_past}
 use Rattle.std.proofs.Math.Decide.{dec_le}
 use Rattle.stack_rules.specs.declared.lower.Lower.{Lower}
-use Rattle.stack_rules.specs.Records.{Configuration}
-use Rattle.stack_rules.proofs.lemmas.KeptLemmas.{length-lowers, length-row, lower_at-kept}
 use Rattle.stack_config.proofs.config.Config.lower.Goals as goal
-
-pub index-requires : goal.index-requires
-index-requires c =
-    let now : Configuration = record { leaves = c.self.inside.leaves.items; devices = c.self.inside.devices.items } in
-    let inside = rw (← c.self.view_is) at c.requires.device in
-    omega (arith, inside, length-lowers now c.self.inside.facts.lowers.items c.self.invariant.facts.lowers, c.self.inside.facts.lowers.ok.0)
 
 -- a row with an element is within the table
 inside_rows : (rows : List (List Lower)) (l i : ℕ) → i < length (get_or rows l []) → l < length rows
@@ -22,21 +13,10 @@ inside_rows rows l i some = go (dec_le (length rows) l)
     go (no inside) = grind (arith, inside)
 
 pub at-requires-clause-name : goal.at-requires-clause-name
-at-requires-clause-name c =
-    let now : Configuration = record { leaves = c.self.inside.leaves.items; devices = c.self.inside.devices.items } in
-    let inside = rw (← c.self.view_is) at c.requires.device in
-    let some = rw (← c.self.view_is) at c.requires.name in
-    let within : c.args.d.0 < length c.self.inside.facts.lowers.items = omega (arith, inside, length-lowers now c.self.inside.facts.lowers.items c.self.invariant.facts.lowers) in
-    let is = get_or_read c.self.inside.facts.lowers.items c.args.d.0 c.index.result.now within c.index.ensures [] in
-    rw is (omega (arith, some, length-row now c.self.inside.facts.lowers.items c.args.d.0 c.args.line c.self.invariant.facts.lowers))
+at-requires-clause-name c = omega (arith, c.requires.name, c.device_facts.ensures.names c.args.line)
 
 pub at-requires-clause-line : goal.at-requires-clause-line
-at-requires-clause-line c = inside_rows c.index.result.now c.args.line c.args.i (at-requires-clause-name c)
+at-requires-clause-line c = inside_rows c.device_facts.result.now.lowers c.args.line c.args.i (at-requires-clause-name c)
 
 pub returns : goal.returns
-returns c =
-    let now : Configuration = record { leaves = c.self.inside.leaves.items; devices = c.self.inside.devices.items } in
-    let inside = rw (← c.self.view_is) at c.requires.device in
-    let within : c.args.d.0 < length c.self.inside.facts.lowers.items = omega (arith, inside, length-lowers now c.self.inside.facts.lowers.items c.self.invariant.facts.lowers) in
-    let is = get_or_read c.self.inside.facts.lowers.items c.args.d.0 c.index.result.now within c.index.ensures [] in
-    rw (← c.self.view_is) (lower_at-kept now c.self.inside.facts.lowers.items c.args.d.0 c.args.line c.args.i c.at.result c.self.invariant.facts.lowers (rw is at c.at.ensures))
+returns c = c.device_facts.ensures.lower c.args.line c.args.i c.at.result c.at.ensures
