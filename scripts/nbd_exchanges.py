@@ -93,13 +93,15 @@ def go_on(extents, count, zeros):
 class Export:
     """A device of a stack, as bytes: those that can't be read are None."""
 
-    def __init__(self, name, content, writable=False, lost=(), zeros=(), ignoring=()):
+    def __init__(self, name, content, writable=False, lost=(), zeros=(), ignoring=(), shared=True):
         self.name, self.content, self.writable, self.lost = name, bytearray(content), writable, lost
+        # whether no binding of the service may write
+        self.shared = shared
         # the sectors of `zero` lines, and of `verity` lines that ignore blocks of zeros
         self.zeros, self.ignoring = zeros, ignoring
 
     def bits(self, structured=False):
-        own = SEND_TRIM | SEND_WRITE_ZEROES if self.writable else READ_ONLY | CAN_MULTI_CONN
+        own = SEND_TRIM | SEND_WRITE_ZEROES if self.writable else READ_ONLY | (CAN_MULTI_CONN if self.shared else 0)
         return FLAGS | own | (SEND_DF if structured else 0)
 
     def told(self, number, sizes=False, structured=False):
@@ -243,11 +245,11 @@ def exports():
     """The devices of the stack text below, over `R=ramp:8`, `Z=zero:4` and `F`, a file of eight sectors."""
     return {
         "low": Export("low", RAMP, writable=True),
-        "kept": Export("kept", RAMP),
+        "kept": Export("kept", RAMP, shared=False),
         "holed": Export("holed", RAMP[: 2 * SECTOR] + bytes(SECTOR) + RAMP[3 * SECTOR :], writable=True, lost=[(2, 3)]),
         "file": Export("file", bytes((7 * k + 3) % 251 for k in range(8 * SECTOR)), writable=True),
-        "sparse": Export("sparse", RAMP[: 2 * SECTOR] + bytes(5 * SECTOR) + RAMP[: 3 * SECTOR] + bytes(SECTOR), zeros=[(2, 7), (10, 11)]),
-        "over": Export("over", (RAMP[: 2 * SECTOR] + bytes(5 * SECTOR))[SECTOR:] + bytes(4 * SECTOR), zeros=[(1, 6)]),
+        "sparse": Export("sparse", RAMP[: 2 * SECTOR] + bytes(5 * SECTOR) + RAMP[: 3 * SECTOR] + bytes(SECTOR), zeros=[(2, 7), (10, 11)], shared=False),
+        "over": Export("over", (RAMP[: 2 * SECTOR] + bytes(5 * SECTOR))[SECTOR:] + bytes(4 * SECTOR), zeros=[(1, 6)], shared=False),
     }
 
 
@@ -657,7 +659,7 @@ def statuses(runner):
             runner.run(f"status with flag {bits}", name, asked + request(STATUS, 0, size, bits=bits), told)
     # many extents: a reply has at most 1,024, of at most 4,097 runs each
     open("many", "w").write("z,,,ro,0 1500 zero;m,,,ro,0 3000 striped 2 1 R 0 /dev/mapper/z 0")
-    many = Export("m", bytes(3000 * SECTOR))
+    many = Export("m", bytes(3000 * SECTOR), shared=False)
     sent, wanted = begun_in_chunks(many, True)
     for offset, length, count in ((0, 3000 * SECTOR, 1024), (700, 1024 * SECTOR, 1024), (SECTOR, 5 * SECTOR - 1, 5)):
         sent += request(STATUS, offset, length)

@@ -1,6 +1,6 @@
 #!/usr/bin/env bash
-# What `write` and `store` wrote is synced when they end early: their last call of a device is its sync, behind the last write.
-# If that sync fails too, the first fault is printed all the same. Each call is seen by letting it fail (scripts/fail_calls.c).
+# What `write`, `store` and `repair` wrote is synced when they end early: their last call of a device is its sync, after the last
+# write. If that sync fails too, the first fault is printed all the same. Each call is seen by letting it fail (scripts/fail_calls.c).
 #
 # shellcheck disable=SC2154 # checks.sh sets what is named here
 set -eu
@@ -64,4 +64,32 @@ done
 # The sectors of a file are read before each write.
 check 'store of a file: what it prints if its sync fails' prints 5 3 $'written 128\nfault 1 ErrorTarget' store broken a full D=rw:disk
 check "store of a file: the sync, and not $(cat met 2>&1)" met 'sync 256 136'
+# `repair` of two blocks, of which the second can't be written since it lies past the limit of a file's size.
+filled 262144 > good
+"$program" format --grow --salt - good tree | sed -n 's/^root //p' > root
+cp good bad
+for block in 3 60; do printf y | dd of=bad bs=1 seek=$((block * 4096)) conv=notrunc status=none; done
+
+# repairs WORD=VALUE..: leaves what the repair prints and its status in `out`; the words say which call fails.
+repairs() {
+    rm -f met
+    cp bad data
+    cp tree hash
+    (trap '' XFSZ; ulimit -f 100; env "$@" "$program" repair data hash "$(cat root)" good tree > out 2>&1) || echo "status $?" >> out
+}
+
+# The calls of both devices, in their order.
+calls=()
+while repairs FAIL=$((${#calls[@]} + 1)) FAIL_KIND=device FAIL_MET=met LD_PRELOAD="$PWD/fail.so" && [ -e met ]; do
+    calls+=("$(sed 's, .*/, ,' met)")
+done
+printf '%s\n' 'repaired data 3 copy 1' 'refused 10 Device' 'status 1' > wanted
+check 'repair: what it prints' cmp out wanted
+count=${#calls[@]}
+check "repair: both devices are synced last, and not ${calls[*]: -2}" test "${calls[*]: -2}" = 'sync data sync hash'
+check "repair: the write that failed is the call before, and not ${calls[count - 3]}" test "${calls[count - 3]}" = 'write data'
+for call in $((count - 1)) "$count"; do
+    repairs FAIL="$call" FAIL_KIND=device FAIL_MET=met LD_PRELOAD="$PWD/fail.so"
+    check "repair: what it prints if the sync that is call $call fails" cmp out wanted
+done
 total 'ends that are synced'

@@ -147,7 +147,9 @@ class Service:
 
     def fields(self, device):
         flags = HAS_FLAGS | SEND_FLUSH | SEND_FUA | SEND_CACHE
-        flags |= SEND_TRIM | SEND_WRITE_ZEROES if device.writable else READ_ONLY | CAN_MULTI_CONN
+        flags |= SEND_TRIM | SEND_WRITE_ZEROES if device.writable else READ_ONLY
+        if not device.writable and not any(leaf.writable for leaf in self.stack.configuration.leaves.values()):
+            flags |= CAN_MULTI_CONN
         flags |= SEND_DF if self.structured else 0
         return struct.pack(">QH", device.sectors * SECTOR, flags)
 

@@ -1,19 +1,26 @@
 -- What is served: a mapped device as a run of bytes.
-use Rattle.std.specs.Prelude.{◌≡◌, ◌⊎◌, ◌<◌, ◌≤◌, ◌&&◌, ◌==◌, ℕ, ◌+◌, ◌*◌, ◌^◌, All, Bool, false, List, [], get_or, length, map, position, Option, Some, None, if◌then◌else◌}
+use Rattle.std.specs.Prelude.{◌≡◌, ◌⊎◌, ◌<◌, ◌≤◌, ◌&&◌, ◌==◌, not, ℕ, ◌+◌, ◌*◌, ◌^◌, All, Bool, false, List, [], get_or, length, map, position, Option, Some, None, if◌then◌else◌}
+use Rattle.std.specs.List.{list_any}
 use Rattle.std.specs.Str.{bytes_eq}
 use Rattle.stack_rules.specs.Names.{device_named, mapped, may_write, size}
-use Rattle.stack_rules.specs.Records.{Configuration}
+use Rattle.stack_rules.specs.Records.{Configuration, LeafRecord}
 use Rattle.nbd_protocol.specs.declared.export.Export.{Export}
 
--- its name, its place among the devices, how many bytes it has, and whether it may be written
+-- its name, its place among the devices, how many bytes it has, whether it may be written, and whether several services can
+-- open its leaves
 pub record ExportRecord : Type 0 where
   pub name : List ℕ
   pub device : ℕ
   pub size : ℕ
   pub writable : Bool
+  pub shared : Bool
 
 abbrev pub export_record : Export → ExportRecord
-export_record e = record { name = e.name.now; device = e.device.0; size = e.size; writable = e.writable }
+export_record e = record { name = e.name.now; device = e.device.0; size = e.size; writable = e.writable; shared = e.shared }
+
+-- a leaf is bound for writing, so that a service locks it
+abbrev pub has_writable : List LeafRecord → Bool
+has_writable leaves = list_any (λ l. l.writable) leaves
 
 -- the most bytes of a string of the protocol
 abbrev pub most_name : ℕ
@@ -25,6 +32,7 @@ pub record IsExport (c : Configuration) (e : ExportRecord) : Type 0 where
   pub found : device_named c e.name ≡ Some e.device
   pub size : e.size ≡ 512 * size c (mapped e.device)
   pub writable : e.writable ≡ may_write c (mapped e.device)
+  pub shared : e.shared ≡ not (has_writable c.leaves)
   pub fits : e.size < 2 ^ 64
   pub short : length e.name ≤ most_name
 
@@ -37,7 +45,7 @@ HasNoExport c name =
 
 -- what stands past the end of them
 abbrev pub no_export : ExportRecord
-no_export = record { name = []; device = 0; size = 0; writable = false }
+no_export = record { name = []; device = 0; size = 0; writable = false; shared = false }
 
 abbrev pub export_at : List ExportRecord → ℕ → ExportRecord
 export_at es place = get_or es place no_export
@@ -101,6 +109,10 @@ flags_of_each = has_flags + send_flush + send_fua + send_cache
 abbrev pub flag_of_chunks : Bool → ℕ
 flag_of_chunks structured = if structured then send_df else 0
 
--- What a client is told of it. Several connections see the same bytes where none of them writes.
+-- Several connections see the same bytes if none of them writes, and can be served if no service locks a leaf.
+abbrev pub flag_of_connections : Bool → ℕ
+flag_of_connections shared = if shared then can_multi_conn else 0
+
+-- what a client is told of it
 abbrev pub transmission_flags : ExportRecord → Bool → ℕ
-transmission_flags e structured = flags_of_each + (if e.writable then send_trim + send_write_zeroes else read_only + can_multi_conn) + flag_of_chunks structured
+transmission_flags e structured = flags_of_each + (if e.writable then send_trim + send_write_zeroes else read_only + flag_of_connections e.shared) + flag_of_chunks structured

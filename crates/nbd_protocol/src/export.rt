@@ -1,8 +1,9 @@
 //! What is served: a mapped device as a run of bytes.
 ghost use Rattle.std.specs.Prelude.{◌≡◌, IfNone, IfSome};
-ghost use Rattle.nbd_protocol.specs.Exports.{HasNoExport, IsExport, export_record, transmission_flags};
+ghost use Rattle.nbd_protocol.specs.Exports.{HasNoExport, IsExport, export_record, has_writable, transmission_flags};
 
 use stack_config::{Config, DevId};
+use stack_rules::Leaf;
 
 // The most bytes of a string of the protocol.
 const MOST_NAME: usize = 4096;
@@ -33,6 +34,15 @@ pub struct Export<'a> {
     pub device: DevId,
     pub size: u64,
     pub writable: bool,
+    /// Whether another service can open the same backing devices at the same time.
+    pub shared: bool,
+}
+
+// Whether a leaf is bound for writing.
+fn has_writable(leaves: &[Leaf]) -> bool
+    ensures { result ≡ has_writable leaves.now }
+{
+    leaves.iter().any(|leaf| leaf.writable())
 }
 
 impl<'a> Export<'a> {
@@ -51,20 +61,22 @@ impl<'a> Export<'a> {
             device,
             size,
             writable: config.writable(device),
+            shared: !has_writable(config.leaves()),
         })
     }
 
-    /// What a client is told of it. Each connection is a service with a cache of its own, so that several are offered
-    /// only where none of them writes.
+    /// Returns the transmission flags of the export. Each connection is a service of its own, with a cache of its own and its own
+    /// locks: several are offered only if none of them can write and each can open all leaves.
     pub fn flags(&self, structured: bool) -> u16
         ensures { result ≡ transmission_flags (export_record self.now) structured }
     {
         let each = HAS_FLAGS + SEND_FLUSH + SEND_FUA + SEND_CACHE;
         let chunks = if structured { SEND_DF } else { 0 };
+        let several = if self.shared { CAN_MULTI_CONN } else { 0 };
         if self.writable {
             each + SEND_TRIM + SEND_WRITE_ZEROES + chunks
         } else {
-            each + READ_ONLY + CAN_MULTI_CONN + chunks
+            each + READ_ONLY + several + chunks
         }
     }
 }

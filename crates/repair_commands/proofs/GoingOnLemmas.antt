@@ -1,16 +1,16 @@
 -- Repairs that go on behind a failed writer, and how they end.
 use Rattle.std.proofs.Common.{ℕ, Bool, IsTrue, List, Option, None, Some, Result, Ok, Err, refl, sym, subst, inl, inr, arith}
-use Rattle.std.specs.Prelude.{IfErr, IfOk}
-use Rattle.std.specs.Result.{result_err}
+use Rattle.std.specs.Prelude.{IfErr, IfOk, OnOk}
 use Rattle.fec_area.specs.declared.layout.Layout.{Layout}
 use Rattle.fec_area.specs.Layouts.{IsLaidOn}
 use Rattle.tree_repair.specs.declared.fault.RepairFault.{RepairFault}
 use Rattle.tree_repair.specs.declared.fault.RepairFault.TheVariants.{Image, Write}
+use Rattle.tree_repair.specs.declared.outcome.Outcome.{Outcome}
 use Rattle.tree_repair.specs.declared.repair.Plan.{Plan}
 use Rattle.tree_repair.specs.Repairs.{IsAllowed, IsUnrepairedBy, Repairs}
 use Rattle.tree_repair.specs.Worlds.{RepairWorld}
 use Rattle.tree_repair.proofs.lemmas.SameLemmas.{unrepaired-same}
-use Rattle.repair_commands.specs.Mends.{HalfMends, IsCutBy, IsEndBehind, IsOnMedium, IsUnsyncedCause, IsWholeOrCut, KeepsBothImages}
+use Rattle.repair_commands.specs.Mends.{HalfMends, IsCutBy, IsEndBehind, IsOnMedium, IsUnsyncedCause, KeepsBothImages, end_of}
 
 -- what may be written may be written behind a repair that ended early
 pub allowed-then : (plan : Plan) (parity : Bool) (w w' : RepairWorld) (old new : Option (List ℕ)) (fault : RepairFault) → IsUnrepairedBy plan parity w w' old new fault → IsAllowed plan.write w.data_dev w.hash_dev
@@ -32,18 +32,21 @@ pub cut-then : (plan : Plan) (parity : Bool) (w a w' : RepairWorld) (old new : O
 cut-then plan parity w a w' old new (Image cause) end run (is, stays) = inl (cause, (is, subst (λ (x : RepairWorld). IsUnrepairedBy plan parity w x old new (Image cause)) (sym stays) run))
 cut-then plan parity w a w' old new Write end run unheard = inr (record { between = a; cut = run; unheard = unheard })
 
--- a run by its result
-pub whole-or-cut : {T : Type 0} {Whole : T → Type 0} (plan : Plan) (parity : Bool) (w w' : RepairWorld) (old new : Option (List ℕ)) (r : Result T RepairFault) → ((t : T) → Whole t → Repairs plan parity w w' old new None)
-    → IfOk r Whole → IfErr r (IsCutBy plan parity w w' old new) → IsWholeOrCut plan parity w w' old new (result_err r)
-whole-or-cut plan parity w w' old new (Ok t) repairs whole cut = repairs t whole
-whole-or-cut plan parity w w' old new (Err fault) repairs whole cut = cut
+-- a run that came to its end, and was synced
+pub end-ok : {Whole Mends : Outcome → Type 0} {Synced : Type 0} (r : Result Outcome RepairFault) (s : Result (Unit {0}) RepairFault) → IfOk r Whole → OnOk s Synced → ((t : Outcome) → Whole t → Synced → Mends t)
+    → IfOk (end_of r s) Mends
+end-ok (Ok t) (Ok done) whole synced mends = mends t whole synced
+end-ok (Err fault) (Ok done) whole synced mends = tt
+end-ok (Ok t) (Err unsynced) whole synced mends = tt
+end-ok (Err Write) (Err unsynced) whole synced mends = tt
+end-ok (Err (Image cause)) (Err unsynced) whole synced mends = tt
 
--- that ended so, whose writes aren't all synced
-pub half-unsynced : (plan : Plan) (parity : Bool) (w a w' : RepairWorld) (old new : Option (List ℕ)) (ended : Option RepairFault) (fault : RepairFault) → IsWholeOrCut plan parity w a old new ended → KeepsBothImages a w'
-    → IsUnsyncedCause plan.write a w' fault → HalfMends plan parity w w' old new fault
-half-unsynced plan parity w a w' old new ended fault run kept unsynced = record { mid = a; ended = ended; run = run; kept = kept; synced = inr unsynced }
-
--- one that a fault ended, and that is synced
-pub half-synced : (plan : Plan) (parity : Bool) (w a w' : RepairWorld) (old new : Option (List ℕ)) (fault : RepairFault) → IsCutBy plan parity w a old new fault → KeepsBothImages a w' → IsOnMedium plan.write w'.data_dev w'.hash_dev
-    → HalfMends plan parity w w' old new fault
-half-synced plan parity w a w' old new fault cut kept synced = record { mid = a; ended = Some fault; run = cut; kept = kept; synced = inl (refl, synced) }
+-- or one that didn't, or wasn't
+pub end-err : {Whole : Outcome → Type 0} (plan : Plan) (parity : Bool) (w a w' : RepairWorld) (old new : Option (List ℕ)) (r : Result Outcome RepairFault) (s : Result (Unit {0}) RepairFault)
+    → ((t : Outcome) → Whole t → Repairs plan parity w a old new None) → IfOk r Whole → IfErr r (IsCutBy plan parity w a old new) → KeepsBothImages a w'
+    → OnOk s (IsOnMedium plan.write w'.data_dev w'.hash_dev) → IfErr s (IsUnsyncedCause plan.write a w') → IfErr (end_of r s) (HalfMends plan parity w w' old new)
+end-err plan parity w a w' old new (Ok t) (Ok done) repairs whole cut kept synced un = tt
+end-err plan parity w a w' old new (Err fault) (Ok done) repairs whole cut kept synced un = record { mid = a; ended = Some fault; run = cut; kept = kept; synced = inl (refl, synced) }
+end-err plan parity w a w' old new (Ok t) (Err fault) repairs whole cut kept synced un = record { mid = a; ended = None; run = repairs t whole; kept = kept; synced = inr un }
+end-err plan parity w a w' old new (Err Write) (Err fault) repairs whole cut kept synced un = record { mid = a; ended = Some Write; run = cut; kept = kept; synced = inr un }
+end-err plan parity w a w' old new (Err (Image cause)) (Err fault) repairs whole cut kept synced un = record { mid = a; ended = Some (Image cause); run = cut; kept = kept; synced = inr (refl, un.1) }

@@ -1,5 +1,5 @@
 -- What a repair of two devices did, up to their media.
-use Rattle.std.specs.Prelude.{◌≡◌, ◌≤◌, ◌⊎◌, ℕ, Bool, true, false, IsTrue, List, Option, None, Some}
+use Rattle.std.specs.Prelude.{◌≡◌, ◌≤◌, ◌⊎◌, ℕ, Bool, true, false, IsTrue, List, Option, None, Some, Result, Ok, Err}
 use Rattle.block_device.specs.Device.{Device, HasFailed}
 use Rattle.counted_io.specs.Counted.{CountedRecord}
 use Rattle.fec_area.specs.declared.layout.Layout.{Layout}
@@ -60,6 +60,20 @@ HasFailedInSync write data_dev hash_dev data_dev' hash_dev' = IsTrue write × (H
 abbrev pub IsUnsyncedCause : Bool → RepairWorld → RepairWorld → RepairFault → Type 0
 IsUnsyncedCause write w w' fault = (fault ≡ Image DeviceFailed) × HasFailedInSync write w.data_dev w.hash_dev w'.data_dev w'.hash_dev
 
+-- what is reported of a repair and of the sync after it: a fault that ended the repair comes first, but not a failed writer, which
+-- doesn't end it
+abbrev pub end_of : Result Outcome RepairFault → Result (Unit {0}) RepairFault → Result Outcome RepairFault
+end_of ended (Ok done) = ended
+end_of (Ok outcome) (Err fault) = Err fault
+end_of (Err Write) (Err fault) = Err fault
+end_of (Err (Image cause)) (Err fault) = Err (Image cause)
+
+-- a device failed in the sync, and that is reported, unless another fault ended the repair
+abbrev pub IsUnsyncedEnd : Bool → RepairWorld → RepairWorld → Option RepairFault → RepairFault → Type 0
+IsUnsyncedEnd write w w' None fault = IsUnsyncedCause write w w' fault
+IsUnsyncedEnd write w w' (Some Write) fault = IsUnsyncedCause write w w' fault
+IsUnsyncedEnd write w w' (Some (Image cause)) fault = (fault ≡ Image cause) × HasFailedInSync write w.data_dev w.hash_dev w'.data_dev w'.hash_dev
+
 -- ---- a run that doesn't come to its end
 
 -- a run to its end, or up to a fault
@@ -98,14 +112,13 @@ abbrev pub IsWholeOrCut : Plan → Bool → RepairWorld → RepairWorld → Opti
 IsWholeOrCut plan parity w w' old new None = Repairs plan parity w w' old new None
 IsWholeOrCut plan parity w w' old new (Some fault) = IsCutBy plan parity w w' old new fault
 
--- Both devices were synced, and the repair ended by that fault; or a device failed in the sync, however the repair ended. Good blocks
--- alone were written.
+-- The repair ended by that fault, and both devices were synced; or a device failed in the sync. Good blocks alone were written.
 pub record HalfMends (plan : Plan) (parity : Bool) (w w' : RepairWorld) (old new : Option (List ℕ)) (fault : RepairFault) : Type 0 where
   pub mid : RepairWorld
   pub ended : Option RepairFault
   pub run : IsWholeOrCut plan parity w mid old new ended
   pub kept : KeepsBothImages mid w'
-  pub synced : ((ended ≡ Some fault) × IsOnMedium plan.write w'.data_dev w'.hash_dev) ⊎ IsUnsyncedCause plan.write mid w' fault
+  pub synced : ((ended ≡ Some fault) × IsOnMedium plan.write w'.data_dev w'.hash_dev) ⊎ IsUnsyncedEnd plan.write mid w' ended fault
 
 -- ---- by copies, from the superblock on
 

@@ -12,7 +12,7 @@ use crate::pair::{Pair, RepairPlaces};
 use crate::parity::{Parity, lay_out, open_parity};
 use crate::repair::give_back;
 use crate::rest::{known_by, say_rest};
-use crate::syncing::sync_both;
+use crate::syncing::{end_of, sync_both};
 use crate::unused::check_unused;
 use block_device::{BlockDev, SyncDev};
 use command_line::{FecFile, ImageCopy};
@@ -132,8 +132,8 @@ fn mend_laid_out<'a, D: SyncDev, H: SyncDev, C: BlockDev, P: BlockDev + Drop, W:
         &plan,
         writer,
     );
-    sync_both(image, write)?;
-    match ended {
+    let synced = sync_both(image, write);
+    match end_of(ended, synced) {
         Ok(outcome) => Ok(outcome),
         Err(fault) => Err(ParityRepairFault::from(fault)),
     }

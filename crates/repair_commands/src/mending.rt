@@ -6,7 +6,7 @@ ghost use Rattle.repair_commands.specs.Mends.{IsEndBehind, IsMendedByCopies, IsM
 use crate::nowhere::Nowhere;
 use crate::repair::fault_of;
 use crate::standing::check_start;
-use crate::syncing::sync_both;
+use crate::syncing::{end_of, sync_both};
 use block_device::{BlockDev, SyncDev};
 use counted_io::Counted;
 use std::alloc::Global;
@@ -19,7 +19,8 @@ use tree_repair::{DamagedImage, Outcome, Plan, RepairFault, repair_image};
 /// # Errors
 ///
 /// `Unaligned`, or the superblock's fault, before anything is written. `Write` if the writer failed: the image is repaired
-/// to its end all the same. `Device` if a write or a sync failed. `NoMemory` if memory ran out.
+/// to its end all the same. `Device` if a write or a sync failed. `NoMemory` if memory ran out. A failed sync doesn't hide the fault
+/// that ended the repair before it.
 pub(crate) fn mend<'a, D: SyncDev, H: SyncDev, C: BlockDev, W: Write>(
     alloc: Global,
     image: &mut DamagedImage<D, H, C>,
@@ -52,8 +53,8 @@ fn mend_placed<D: SyncDev, H: SyncDev, C: BlockDev, W: Write>(
 {
     let write = plan.write;
     let ended = repair_through(alloc, image, &plan, writer);
-    sync_both(image, write)?;
-    ended
+    let synced = sync_both(image, write);
+    end_of(ended, synced)
 }
 
 // Repairs the image to its end, also if the writer fails.

@@ -1,10 +1,10 @@
 //! What was written to both devices, synced.
 ghost use Rattle.std.specs.Prelude.{◌≡◌, ◌≤◌, false, IfErr, IsTrue, OnErr, OnOk};
 ghost use Rattle.block_device.specs.Device.{HasFailed};
-ghost use Rattle.repair_commands.specs.Mends.{IsOnMedium, IsUnsyncedCause, KeepsBothImages};
+ghost use Rattle.repair_commands.specs.Mends.{IsOnMedium, IsUnsyncedCause, KeepsBothImages, end_of};
 
 use block_device::{BlockDev, DeviceFault, SyncDev};
-use tree_repair::{DamagedImage, RepairFault};
+use tree_repair::{DamagedImage, Outcome, RepairFault};
 
 /// Syncs both devices, the second one also if the first one's sync failed.
 pub(crate) fn sync_both<D: SyncDev, H: SyncDev, C: BlockDev>(
@@ -20,6 +20,23 @@ pub(crate) fn sync_both<D: SyncDev, H: SyncDev, C: BlockDev>(
     data_synced?;
     hash_synced?;
     Ok(())
+}
+
+/// What is reported of a repair and of the sync after it. A failed writer doesn't end a repair, so a failed sync comes before it.
+pub(crate) fn end_of(
+    ended: Result<Outcome, RepairFault>,
+    synced: Result<(), RepairFault>,
+) -> Result<Outcome, RepairFault>
+    ensures { result ≡ end_of ended synced }
+{
+    let Err(unsynced) = synced else {
+        return ended;
+    };
+    match ended {
+        Ok(_) => Err(unsynced),
+        Err(RepairFault::Write) => Err(unsynced),
+        Err(RepairFault::Image(fault)) => Err(RepairFault::Image(fault)),
+    }
 }
 
 // Syncs a device, if anything may have been written to it.
