@@ -1,8 +1,6 @@
 -- Calls of the operating system on files of images, as evidence: no definition here is unfoldable, so code knows each only
 -- from a call of this crate's function that makes the system's call.
-use Rattle.std.specs.Prelude.{◌≡◌, ℕ, Bool, false, List, Option, if◌then◌else◌, IsTrue, IfOk, Result}
-use Rattle.std.specs.Coded.{Unit-prop}
-use Rattle.std.specs.Fs.{file_type}
+use Rattle.std.specs.Prelude.{ℕ, Bool, List}
 use Rattle.std.specs.declared.fs.File.{File}
 use Rattle.std.specs.declared.fs.attrs.Metadata.{Metadata}
 use Rattle.block_device.specs.declared.file_calls.FileNumbers.{FileNumbers}

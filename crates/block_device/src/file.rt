@@ -9,7 +9,9 @@ ghost use Rattle.block_device.specs.File.{opened, HasSectors, IsRefused, IsImage
 ghost use Rattle.block_device.specs.Identity.{IsToldId};
 ghost use Rattle.block_device.specs.Whole.{whole_zeros};
 
-use crate::file_calls::{lengthen_file, metadata_at, metadata_of, open_at, read_at, sync_all, write_at};
+use crate::file_calls::{
+    lengthen_file, metadata_at, metadata_of, open_at, read_at, sync_all, write_at,
+};
 use crate::file_lock::FileLock;
 use crate::{BlockDev, DeviceFault, FileId, OpenFault, SyncDev};
 use std::fs::{File, Metadata};

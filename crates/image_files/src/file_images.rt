@@ -10,7 +10,9 @@ use crate::file_locks::FileLocks;
 use crate::growing::make_file;
 use crate::images::{FileText, Images, OpenImage};
 use crate::parts::PartFault;
-use block_device::{AnyDev, BlockDev, FileDev, FileId, MemoryDev, OpenFault, metadata_at, metadata_of};
+use block_device::{
+    AnyDev, BlockDev, FileDev, FileId, MemoryDev, OpenFault, metadata_at, metadata_of,
+};
 use device_window::{OutsideDevice, Part, Window};
 use std::alloc::Global;
 use std::fs;
