@@ -3,7 +3,7 @@ ghost use Rattle.std.specs.Prelude.{◌≡◌, IfOk, IfErr, length};
 ghost use Rattle.std.specs.Result.{result_err};
 ghost use Rattle.verity_format.specs.Image.{first_block};
 ghost use Rattle.verity_format.specs.FaultNames.{format_number, format_name};
-ghost use Rattle.verity_format.specs.Options.{FormatsWith};
+ghost use Rattle.verity_format.specs.Options.{FormatsWith, HandsWith};
 ghost use Rattle.verity_format.specs.Formatting.{FormatEnds, Formats, RefusesFormat, format_refusal, given_blocks, whole_blocks};
 ghost use Rattle.verity_format.specs.Handing.{MovesImage};
 
@@ -153,7 +153,8 @@ pub fn format_with<D: BlockDev, H: BlockDev>(
     hash_dev: &mut H,
     options: FormatOptions,
 ) -> Result<Digest, FormatFault>
-    ensures { FormatsWith D.state H.state options data_dev.old hash_dev.old data_dev.new hash_dev.new result }
+    ensures formats { FormatsWith D.state H.state options data_dev.old hash_dev.old data_dev.new hash_dev.new result }
+    ensures handed { HandsWith D.state D.does H.state H.does options data_dev.old hash_dev.old data_dev.new hash_dev.new result }
 {
     let FormatOptions {
         uuid,
