@@ -8,6 +8,7 @@ pub mod RunLemmas
 pub mod GrowthLemmas
 pub mod ComparingLemmas
 pub mod WritingLemmas
+pub mod HandingLemmas
 pub mod RefusalLemmas
 pub mod FormattingLemmas
 pub mod VerifyingLemmas

@@ -12,4 +12,5 @@ pub mod FaultNames
 pub mod Growth
 pub mod Comparing
 pub mod Writing
+pub mod Handing
 pub mod Premises

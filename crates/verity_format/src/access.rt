@@ -1,9 +1,11 @@
 //! Blocks read from a device, and the tree over a device's blocks.
-ghost use Rattle.std.specs.Prelude.{◌≡◌, ◌^◌, ◌≤◌, OnOk, OnErr, IfOk, length, replicate};
+ghost use Rattle.std.specs.Prelude.{◌≡◌, ◌^◌, ◌≤◌, OnOk, OnErr, IfOk, is_ok, length, replicate};
+ghost use Rattle.block_device.specs.Call.{DeviceDoes};
 ghost use Rattle.block_device.specs.Device.{HasFailed};
 ghost use Rattle.verity_format.specs.Blocks.{IsOnlyRead, ReadsBlock};
 ghost use Rattle.verity_format.specs.Image.{data_sectors, tree_sectors, image_sectors};
 ghost use Rattle.verity_format.specs.Access.{IsDigestRun};
+ghost use Rattle.verity_format.specs.Handing.{GivesDigests};
 ghost use Rattle.verity_format.specs.Premises.{IsBlockOn, IsRunOn};
 
 use block_device::{BlockDev, DeviceFault};
@@ -101,6 +103,7 @@ pub(crate) fn read_run<D: BlockDev>(
     ensures read { IsOnlyRead (D.state device.old) (D.state device.new) }
     ensures ok { OnOk result (IsDigestRun (D.state device.old) salt.now size index digests.new (D.state device.new)) }
     ensures fault { OnErr result (HasFailed (D.state device.old) (D.state device.new)) }
+    ensures given { GivesDigests (DeviceDoes D.state D.does) salt.now size index device.old device.new digests.new (is_ok result) }
 {
     device.read(index * (size / 512) as u64, run)?;
     digest_blocks(salt, size, run, digests);

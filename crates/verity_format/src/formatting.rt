@@ -3,8 +3,9 @@ ghost use Rattle.std.specs.Prelude.{◌≡◌, IfOk, IfErr, length};
 ghost use Rattle.std.specs.Result.{result_err};
 ghost use Rattle.verity_format.specs.Image.{first_block};
 ghost use Rattle.verity_format.specs.FaultNames.{format_number, format_name};
-ghost use Rattle.verity_format.specs.Options.{FormatsWith};
-ghost use Rattle.verity_format.specs.Formatting.{FormatEnds, Formats, OnlyImageIsWritten, RefusesFormat, format_refusal, given_blocks, whole_blocks};
+ghost use Rattle.verity_format.specs.Options.{FormatsWith, HandsWith};
+ghost use Rattle.verity_format.specs.Formatting.{FormatEnds, Formats, RefusesFormat, format_refusal, given_blocks, whole_blocks};
+ghost use Rattle.verity_format.specs.Handing.{MovesImage};
 
 use crate::Superblock;
 use crate::access::{TreeFault, data_sectors, image_sectors, zeros};
@@ -115,7 +116,8 @@ pub fn format<D: BlockDev, H: BlockDev>(
     hash_dev: &mut H,
     params: Superblock,
 ) -> Result<Digest, FormatFault>
-    ensures devices { OnlyImageIsWritten D.state H.state params data_dev.old hash_dev.old data_dev.new hash_dev.new }
+    // also which calls these were, whatever the devices are
+    ensures devices { MovesImage D.state D.does H.state H.does params data_dev.old hash_dev.old data_dev.new hash_dev.new result }
     ensures ok { IfOk result (Formats D.state H.state params data_dev.old hash_dev.old data_dev.new hash_dev.new) }
     ensures err { IfErr result (FormatEnds D.state H.state params data_dev.old hash_dev.old data_dev.new hash_dev.new) }
     // where a refusal applies it is answered, and neither device was asked
@@ -151,7 +153,8 @@ pub fn format_with<D: BlockDev, H: BlockDev>(
     hash_dev: &mut H,
     options: FormatOptions,
 ) -> Result<Digest, FormatFault>
-    ensures { FormatsWith D.state H.state options data_dev.old hash_dev.old data_dev.new hash_dev.new result }
+    ensures formats { FormatsWith D.state H.state options data_dev.old hash_dev.old data_dev.new hash_dev.new result }
+    ensures handed { HandsWith D.state D.does H.state H.does options data_dev.old hash_dev.old data_dev.new hash_dev.new result }
 {
     let FormatOptions {
         uuid,

@@ -1,8 +1,10 @@
 //! A tree made of a device's data blocks, run by run.
 ghost use Rattle.std.specs.Prelude.{IfOk, IfErr, length};
+ghost use Rattle.block_device.specs.Call.{DeviceDoes};
 ghost use Rattle.verity_format.specs.Access.{IsTreeCause};
 ghost use Rattle.verity_format.specs.Blocks.{IsOnlyRead};
 ghost use Rattle.verity_format.specs.Growth.{TakesRun};
+ghost use Rattle.verity_format.specs.Handing.{TakesOrAsks};
 ghost use Rattle.verity_format.specs.Premises.{CanTake};
 
 use crate::access::{TreeFault, read_run};
@@ -27,6 +29,7 @@ pub(crate) fn take_run<D: BlockDev>(
     ensures read { IsOnlyRead (D.state device.old) (D.state device.new) }
     ensures taken { IfOk result (TakesRun D.state shape.now salt.now device.old device.new builder.old builder.new) }
     ensures fault { IfErr result (λ f. IsTreeCause (D.state device.old) (D.state device.new) f) }
+    ensures given { TakesOrAsks (DeviceDoes D.state D.does) shape.now salt.now device.old device.new builder.old builder.new result }
 {
     let size = shape.data_block() as usize;
     let left = builder.left();

@@ -1,6 +1,8 @@
 //! A tree written as it grows.
-ghost use Rattle.std.specs.Prelude.{OnOk, OnErr, IfOk, IfErr};
+ghost use Rattle.std.specs.Prelude.{OnOk, OnErr, IfOk, IfErr, is_ok};
+ghost use Rattle.block_device.specs.Call.{DeviceDoes};
 ghost use Rattle.block_device.specs.Device.{HasFailed};
+ghost use Rattle.verity_format.specs.Handing.{HandsBlocks, HandsTreeOver};
 ghost use Rattle.verity_format.specs.Premises.{CanPutBlocks, CanWriteTree};
 ghost use Rattle.verity_format.specs.Writing.{AreBlocksWritten, FailsToWrite, MovesTree, WritesTree, WritesWithin};
 
@@ -21,6 +23,7 @@ fn write_blocks<H: BlockDev>(
     ensures part { WritesWithin H.state size blocks.now hash_dev.old hash_dev.new }
     ensures ok { OnOk result (AreBlocksWritten size (H.state hash_dev.old) blocks.now (H.state hash_dev.new)) }
     ensures fault { OnErr result (HasFailed (H.state hash_dev.old) (H.state hash_dev.new)) }
+    ensures handed { HandsBlocks (DeviceDoes H.state H.does) size blocks.now hash_dev.old hash_dev.new (is_ok result) }
 {
     let sectors = (size / 512) as u64;
     for placed in blocks {
@@ -41,6 +44,7 @@ pub(crate) fn write_tree<D: BlockDev, H: BlockDev>(
     ensures devices { MovesTree D.state H.state shape.now data_dev.old hash_dev.old data_dev.new hash_dev.new }
     ensures written { IfOk result (WritesTree D.state H.state shape.now salt.now data_dev.old hash_dev.old data_dev.new hash_dev.new) }
     ensures fault { IfErr result (FailsToWrite D.state H.state data_dev.old hash_dev.old data_dev.new hash_dev.new) }
+    ensures handed { HandsTreeOver (DeviceDoes D.state D.does) (DeviceDoes H.state H.does) shape.now salt.now data_dev.old hash_dev.old data_dev.new hash_dev.new result }
 {
     let mut memory = zeros(alloc, RUN)?;
     let run = memory.as_mut_slice();

@@ -1,5 +1,6 @@
 use Rattle.std.proofs.Common.{◌≡◌, ◌*◌, ◌/◌, ◌∙◌, ap, sym, arith, refl, length, map, All, subst, rules}
 use Rattle.std.proofs.lemmas.List.Elements.{All-map}
+use Rattle.std.proofs.lemmas.Result.{err_from_is_err_and}
 use Rattle.tree_shape.specs.Digests.{digest}
 use Rattle.hash_tree.specs.Tree.{cut}
 use Rattle.hash_tree.proofs.lemmas.TreeLemmas.{length-digest}
@@ -28,3 +29,24 @@ returns-clause-ok g c =
       };
       full = search rules;
     }
+
+pub returns-in_err-read-clause-given : goal.returns-in_err-read-clause-given
+returns-in_err-read-clause-given g c =
+    let result = err_from_is_err_and c.from_residual.result c.from_residual.ensures.1 in
+    rw result.1
+    (record {
+      bytes = c.read.new.out;
+      made = c.in_err-read.ensures.call;
+      are = λ bad. cc;
+      sectors = ap (λ n. n / 512) (c.read.auto.out ∙ c.requires.run) ∙ run-sectors c.args.size (length c.args.digests.now) c.requires.size;
+    })
+
+pub returns-clause-given : goal.returns-clause-given
+returns-clause-given g c = record {
+  bytes = c.read.new.out;
+  made = c.in_ok-read.ensures.call;
+  are = λ _. c.digest_blocks.ensures;
+  sectors =
+      ap (λ n. n / 512) (c.read.auto.out ∙ c.requires.run) ∙ run-sectors c.args.size (length c.args.digests.now) c.requires.size
+      ∙ ap (λ n. n * (c.args.size / 512)) (sym c.digest_blocks.auto.out);
+}

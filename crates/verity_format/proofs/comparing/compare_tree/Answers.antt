@@ -5,6 +5,7 @@ use Rattle.hash_tree.proofs.lemmas.BuilderLemmas.{left-pushed}
 use Rattle.verity_format.specs.Growth.{IsRunTaken}
 use Rattle.verity_format.specs.Comparing.{IsComparing}
 use Rattle.verity_format.proofs.ComparingLemmas.{lies-on, comparing-none, comparing-then, compared-all}
+use Rattle.verity_format.proofs.DeviceLemmas.{only_read-then}
 use Rattle.verity_format.proofs.GrowthLemmas.{left-taken, ready-taken, out-inside, last-all}
 use Rattle.verity_format.proofs.comparing.compare_tree.Goals as goal
 
@@ -81,3 +82,9 @@ returns-clause-compared g c =
     compared-all s c.args.salt.now (g.D.BlockDev.state c.args.data_dev.now) (g.H.BlockDev.state c.args.hash_dev.now) (g.D.BlockDev.state c.loop-run.data_dev) (g.H.BlockDev.state c.loop-run.hash_dev) c.loop-run.builder c.loop-run.least here
     (g.H.BlockDev.state c.compare_blocks-2.new.hash_dev) (length c.loop-run.block) size c.deref-2.result.now c.in_ok-least-2.least c.in_ok-least-2.ensures.ok.full c.in_ok-least-2.ensures.ok.least
     c.hash_block.ensures.valid c.requires.start (omega (arith, c.left.ensures, c.loop-run-test.false)) last c.in_ok-root.root c.in_ok-root.ensures.root
+
+pub returns-in_err-least-clause-read : goal.returns-in_err-least-clause-read
+returns-in_err-least-clause-read g c = record {
+  data_read = only_read-then c.loop-run.invariant.taken.read.read c.take_run.ensures.read;
+  hash_read = only_read-then c.loop-run.invariant.read.read c.compare_blocks.ensures.read;
+}

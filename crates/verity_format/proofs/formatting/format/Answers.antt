@@ -1,14 +1,17 @@
-use Rattle.std.proofs.Common.{◌≡◌, ◌≤◌, ◌+◌, ◌/◌, ◌%◌, ◌∙◌, ℕ, IsTrue, true, refl, sym, ap, subst, length, arith, inr}
+use Rattle.std.proofs.Common.{◌≡◌, ◌≤◌, ◌+◌, ◌/◌, ◌%◌, ◌∙◌, ℕ, IsTrue, List, true, false, refl, sym, ap, subst, length, arith, inl, inr}
 use Rattle.std.proofs.lemmas.Result.{err_from_is_err_and}
+use Rattle.block_device.specs.Call.{DeviceDoes, Write}
 use Rattle.block_device.specs.Device.{spliced, sectors_of}
 use Rattle.tree_shape.specs.Shape.{ShapeRecord}
 use Rattle.verity_format.specs.Superblock.{SuperRecord, shape_of}
 use Rattle.verity_format.specs.Image.{data_sectors, image_sectors, formatted}
+use Rattle.verity_format.specs.Handing.{HandsImage}
 use Rattle.verity_format.specs.Writing.{IsPartOfTree, IsTreeWritten}
 use Rattle.verity_format.proofs.RefusalLemmas.{fits-from_none, refusal-cause}
 use Rattle.verity_format.proofs.SizeLemmas.{block-size}
-use Rattle.verity_format.proofs.DeviceLemmas.{only_written-write, only_written-then, failed-then, steady-then}
+use Rattle.verity_format.proofs.DeviceLemmas.{only_read-none, only_written-none, only_written-write, only_written-then, failed-then, steady-then}
 use Rattle.verity_format.proofs.FormattingLemmas.{first-within, part-only_written, tree-cause, first-then, formatted-is, fails-at_first, written-shape}
+use Rattle.verity_format.proofs.HandingLemmas.{stopped-none, stopped-shape, tree-shape}
 use Rattle.verity_format.proofs.formatting.format.Goals as goal
 
 pub returns-in_err-check_devices-clause-err : goal.returns-in_err-check_devices-clause-err
@@ -38,7 +41,15 @@ returns-in_err-root-clause-devices g c =
     let data_dev' = g.D.BlockDev.state c.write_tree.new.data_dev in
     let mid = g.H.BlockDev.state c.write_tree.new.hash_dev in
     let part : IsPartOfTree (shape_of s) hash_dev mid = subst (λ (t : ShapeRecord). IsPartOfTree t hash_dev mid) c.shape-shape.ensures.value c.write_tree.ensures.devices.part in
-    (c.write_tree.ensures.devices.read, part-only_written (shape_of s) hash_dev mid part)
+    let result = err_from_is_err_and c.from_residual-in_err-root.result c.from_residual-in_err-root.ensures.1 in
+    let asks = DeviceDoes g.D.BlockDev.state g.D.BlockDev.does in
+    let does = DeviceDoes g.H.BlockDev.state g.H.BlockDev.does in (
+      (c.write_tree.ensures.devices.read, part-only_written (shape_of s) hash_dev mid part),
+      rw result.1
+      (inl
+      (stopped-shape asks does c.shape-shape.result (shape_of s) c.salt.result s.salt c.args.data_dev.now c.args.hash_dev.now c.write_tree.new.data_dev c.write_tree.new.hash_dev c.shape-shape.ensures.value c.salt.ensures
+      c.in_err-root.ensures.handed)),
+    )
 
 pub returns-in_err-root-clause-err : goal.returns-in_err-root-clause-err
 returns-in_err-root-clause-err g c =
@@ -98,9 +109,19 @@ returns-in_err-write-clause-devices g c =
     let k : ℕ = length c.deref.result.now / 512 in
     let count : k ≡ s.hash_block / 512 = ap (λ n. n / 512) size in
     let low : 0 + k ≤ image_sectors (shape_of s) = first-within (shape_of s) k count in
-    let hash_dev' = g.H.BlockDev.state c.write.new.self in (
-      c.write_tree.ensures.devices.read,
-      only_written-then (image_sectors (shape_of s)) (part-only_written (shape_of s) hash_dev mid part) (only_written-write 0 k (image_sectors (shape_of s)) c.in_err-write.ensures.moved low),
+    let result = err_from_is_err_and c.from_residual-in_err-write.result c.from_residual-in_err-write.ensures.1 in
+    let hash_dev' = g.H.BlockDev.state c.write.new.self in
+    let asks = DeviceDoes g.D.BlockDev.state g.D.BlockDev.does in
+    let does = DeviceDoes g.H.BlockDev.state g.H.BlockDev.does in
+    let image : HandsImage asks does s c.args.data_dev.now c.args.hash_dev.now c.write_tree.new.data_dev c.write.new.self c.in_ok-root.root false = record {
+      between = c.write_tree.new.hash_dev;
+      tree =
+          tree-shape asks does c.shape-shape.result (shape_of s) c.salt.result s.salt c.args.data_dev.now c.args.hash_dev.now c.write_tree.new.data_dev c.write_tree.new.hash_dev c.in_ok-root.root c.shape-shape.ensures.value c.salt.ensures
+          c.in_ok-root.ensures.handed;
+      last = subst (λ (xs : List ℕ). does c.write_tree.new.hash_dev (Write 0 xs false) c.write.new.self) (c.deref.ensures.value ∙ c.in_ok-first.ensures.value) c.in_err-write.ensures.call;
+    } in (
+      (c.write_tree.ensures.devices.read, only_written-then (image_sectors (shape_of s)) (part-only_written (shape_of s) hash_dev mid part) (only_written-write 0 k (image_sectors (shape_of s)) c.in_err-write.ensures.moved low)),
+      rw result.1 (inr (c.in_ok-root.root, image)),
     )
 
 pub returns-in_err-write-clause-err : goal.returns-in_err-write-clause-err
@@ -143,9 +164,18 @@ returns-clause-devices g c =
     let k : ℕ = length c.deref.result.now / 512 in
     let count : k ≡ s.hash_block / 512 = ap (λ n. n / 512) size in
     let low : 0 + k ≤ image_sectors (shape_of s) = first-within (shape_of s) k count in
-    let hash_dev' = g.H.BlockDev.state c.write.new.self in (
-      c.write_tree.ensures.devices.read,
-      only_written-then (image_sectors (shape_of s)) (part-only_written (shape_of s) hash_dev mid part) (only_written-write 0 k (image_sectors (shape_of s)) c.in_ok-write.ensures.moved low),
+    let hash_dev' = g.H.BlockDev.state c.write.new.self in
+    let asks = DeviceDoes g.D.BlockDev.state g.D.BlockDev.does in
+    let does = DeviceDoes g.H.BlockDev.state g.H.BlockDev.does in
+    let image : HandsImage asks does s c.args.data_dev.now c.args.hash_dev.now c.write_tree.new.data_dev c.write.new.self c.in_ok-root.root true = record {
+      between = c.write_tree.new.hash_dev;
+      tree =
+          tree-shape asks does c.shape-shape.result (shape_of s) c.salt.result s.salt c.args.data_dev.now c.args.hash_dev.now c.write_tree.new.data_dev c.write_tree.new.hash_dev c.in_ok-root.root c.shape-shape.ensures.value c.salt.ensures
+          c.in_ok-root.ensures.handed;
+      last = subst (λ (xs : List ℕ). does c.write_tree.new.hash_dev (Write 0 xs true) c.write.new.self) (c.deref.ensures.value ∙ c.in_ok-first.ensures.value) c.in_ok-write.ensures.call;
+    } in (
+      (c.write_tree.ensures.devices.read, only_written-then (image_sectors (shape_of s)) (part-only_written (shape_of s) hash_dev mid part) (only_written-write 0 k (image_sectors (shape_of s)) c.in_ok-write.ensures.moved low)),
+      image,
     )
 
 pub returns-clause-ok : goal.returns-clause-ok
@@ -175,3 +205,25 @@ returns-clause-ok g c =
       image = λ data_steady steady. c.in_ok-write.ensures.image (steady-then part.same steady) ∙ image data_steady steady;
       digest = λ steady. written.root steady;
     }
+
+-- neither device was asked
+pub returns-in_err-check_devices-clause-devices : goal.returns-in_err-check_devices-clause-devices
+returns-in_err-check_devices-clause-devices g c =
+    let p = err_from_is_err_and c.from_residual.result c.from_residual.ensures.1 in
+    let asks = DeviceDoes g.D.BlockDev.state g.D.BlockDev.does in
+    let does = DeviceDoes g.H.BlockDev.state g.H.BlockDev.does in
+    let s : SuperRecord = c.args.params in (
+      (only_read-none (g.D.BlockDev.state c.args.data_dev.now), only_written-none (g.H.BlockDev.state c.args.hash_dev.now) (image_sectors (shape_of s))),
+      rw p.1 (inl (stopped-none asks does (shape_of s) s.salt c.args.data_dev.now c.args.hash_dev.now)),
+    )
+
+-- neither device was asked
+pub returns-in_err-first-clause-devices : goal.returns-in_err-first-clause-devices
+returns-in_err-first-clause-devices g c =
+    let p = err_from_is_err_and c.from_residual-in_err-first.result c.from_residual-in_err-first.ensures.1 in
+    let asks = DeviceDoes g.D.BlockDev.state g.D.BlockDev.does in
+    let does = DeviceDoes g.H.BlockDev.state g.H.BlockDev.does in
+    let s : SuperRecord = c.args.params in (
+      (only_read-none (g.D.BlockDev.state c.args.data_dev.now), only_written-none (g.H.BlockDev.state c.args.hash_dev.now) (image_sectors (shape_of s))),
+      rw p.1 (inl (stopped-none asks does (shape_of s) s.salt c.args.data_dev.now c.args.hash_dev.now)),
+    )

@@ -1,5 +1,7 @@
-use Rattle.std.proofs.Common.{◌≡◌, ◌≤◌, ◌-◌, ◌*◌, ◌/◌, ◌++◌, ◌∙◌, ℕ, List, All, sym, ap, subst, arith, length, drop, map}
+use Rattle.std.proofs.Common.{◌≡◌, ◌≤◌, ◌-◌, ◌*◌, ◌/◌, ◌++◌, ◌∙◌, [], ◌∷◌, ℕ, List, All, refl, true, false, sym, ap, subst, arith, length, drop, map}
 use Rattle.std.proofs.lemmas.List.{take_at}
+use Rattle.std.proofs.lemmas.Result.{err_from_is_err_and}
+use Rattle.block_device.specs.Call.{Read}
 use Rattle.hash_tree.specs.Building.{completed}
 use Rattle.tree_shape.specs.Digests.{digest}
 use Rattle.verity_format.specs.Blocks.{IsFullRead, blocks_at}
@@ -41,3 +43,17 @@ returns-clause-taken g c =
           ∙ ap (λ n. map (digest c.args.salt.now) (blocks_at old.image s.data_block (s.blocks - n) (length put))) c.left-left.ensures
           ∙ ap (λ n. map (digest c.args.salt.now) (blocks_at old.image s.data_block (s.blocks - c.args.builder.now.left) n)) (ap length (sym items));
     }
+
+-- the read failed
+pub returns-in_err-read_run-clause-given : goal.returns-in_err-read_run-clause-given
+returns-in_err-read_run-clause-given g c =
+    let result = err_from_is_err_and c.from_residual-in_err-read_run.result c.from_residual-in_err-read_run.ensures.1 in
+    let given = c.in_err-read_run.ensures.given in
+    rw result.1 (record { calls = Read ((c.blocks-2.result - c.left-left.result) * (c.data_block-size.result / 512)) given.bytes false ∷ []; reads = (refl, tt); few = omega arith; made = (c.read_run.new.device, given.made, refl) })
+
+-- it went well, and the builder can't take the digests
+pub returns-in_err-push_many-clause-given : goal.returns-in_err-push_many-clause-given
+returns-in_err-push_many-clause-given g c =
+    let result = err_from_is_err_and c.from_residual-in_err-push_many.result c.from_residual-in_err-push_many.ensures.1 in
+    let given = c.in_ok-read_run.ensures.given in
+    rw result.1 (record { calls = Read ((c.blocks-2.result - c.left-left.result) * (c.data_block-size.result / 512)) given.bytes true ∷ []; reads = (refl, tt); few = omega arith; made = (c.read_run.new.device, given.made, refl) })

@@ -1,12 +1,16 @@
-use Rattle.std.proofs.Common.{◌≡◌, ◌≤◌, ◌+◌, ◌*◌, ◌/◌, ◌%◌, ◌^◌, ◌++◌, ◌∷◌, ◌∙◌, [], ℕ, List, true, false, IsTrue, length, min, take, sym, ap, arith, subst}
+use Rattle.std.proofs.Common.{◌≡◌, ◌≤◌, ◌+◌, ◌*◌, ◌/◌, ◌%◌, ◌^◌, ◌++◌, ◌∷◌, ◌∙◌, [], ℕ, List, true, false, IsTrue, length, min, take, refl, sym, ap, arith, subst}
 use Rattle.std.proofs.lemmas.List.{take_more, take_all}
 use Rattle.std.proofs.lemmas.Result.{err_from_is_err_and}
+use Rattle.block_device.specs.Call.{Call, Calls, DeviceDoes, Write}
 use Rattle.block_device.specs.Device.{IsWritten, spliced, sectors_of}
+use Rattle.block_device.proofs.lemmas.CallLemmas.{calls-last}
 use Rattle.hash_tree.specs.Building.{PlacedRecord}
+use Rattle.verity_format.specs.Handing.{writes_of}
 use Rattle.verity_format.specs.Writing.{MayStand, StandsWithin, AreBlocksWritten}
 use Rattle.verity_format.proofs.DeviceLemmas.{same-none, same-then, failed-then}
 use Rattle.verity_format.proofs.SizeLemmas.{block-size}
 use Rattle.verity_format.proofs.WritingLemmas.{part-none, part-one, part-then, part-more, written-none, written-one, written-then}
+use Rattle.verity_format.proofs.HandingLemmas.{writes-append}
 use Rattle.verity_format.proofs.writing.write_blocks.Goals as goal
 
 pub loop-placed-init : goal.loop-placed-init
@@ -16,6 +20,7 @@ loop-placed-init g c =
       same = same-none d;
       part = λ last all. part-none c.args.size last d;
       done = written-none c.args.size d;
+      handed = refl;
     }
 
 pub write-requires-clause-range : goal.write-requires-clause-range
@@ -71,6 +76,13 @@ loop-placed-preserved g c =
           part-then size last i 1 (i + 1) old now new (omega arith) (here.part last all) (part-one size last n p now new true stands sectors w);
       done = subst (λ (ps : List PlacedRecord). AreBlocksWritten size old ps new) (sym more)
           (written-then size (take i out) (p ∷ []) old now new here.same here.done (written-one size n p now new c.requires.size at.0 count inside w image));
+      handed =
+          let does = DeviceDoes g.H.BlockDev.state g.H.BlockDev.does in
+          let call : does c.loop-placed.hash_dev (Write (p.block * k) p.bytes true) c.write.new.self =
+          subst (λ (m : ℕ). does c.loop-placed.hash_dev (Write (m * k) p.bytes true) c.write.new.self) (sym number)
+          (subst (λ (xs : List ℕ). does c.loop-placed.hash_dev (Write (c.placed.inside.block * k) xs true) c.write.new.self) bytes c.in_ok-write.ensures.call) in
+          subst (λ (calls : List Call). Calls does c.args.hash_dev.now calls c.write.new.self) (sym (writes-append size (take i out) (p ∷ [])) ∙ ap (writes_of size) (sym more))
+          (calls-last does c.args.hash_dev.now c.loop-placed.hash_dev c.write.new.self (writes_of size (take i out)) (Write (p.block * k) p.bytes true) here.handed call);
     }
 
 pub returns-in_err-write-clause-part : goal.returns-in_err-write-clause-part
@@ -105,3 +117,33 @@ pub returns-clause-ok : goal.returns-clause-ok
 returns-clause-ok g c =
     subst (λ (ps : List PlacedRecord). AreBlocksWritten c.args.size (g.H.BlockDev.state c.args.hash_dev.now) ps (g.H.BlockDev.state c.loop-placed.hash_dev))
     (take_all c.loop-placed.placed-index c.args.blocks.now c.loop-placed-test.false) c.loop-placed.invariant.done
+
+pub returns-in_err-write-clause-handed : goal.returns-in_err-write-clause-handed
+returns-in_err-write-clause-handed g c =
+    let result = err_from_is_err_and c.from_residual.result c.from_residual.ensures.1 in
+    let does = DeviceDoes g.H.BlockDev.state g.H.BlockDev.does in
+    let p : PlacedRecord = c.placed-item.result in
+    let out = c.args.blocks.now in
+    let i : ℕ = c.loop-placed.placed-index in
+    let size = c.args.size in
+    let k : ℕ = size / 512 in
+    let number : p.block ≡ c.placed.inside.block = sym (ap (λ (p : PlacedRecord). p.block) c.placed.view_is) in
+    let bytes : c.as_slice.result.now ≡ p.bytes = c.as_slice.ensures.value ∙ ap (λ (p : PlacedRecord). p.bytes) c.placed.view_is in
+    let more : take (i + 1) out ≡ take i out ++ p ∷ [] = take_more out i p c.loop-placed-test.true ∙ ap (λ q. take i out ++ q ∷ []) (sym c.placed-item.is) in
+    let call : does c.loop-placed.hash_dev (Write (p.block * k) p.bytes false) c.write.new.self =
+    subst (λ (m : ℕ). does c.loop-placed.hash_dev (Write (m * k) p.bytes false) c.write.new.self) (sym number)
+    (subst (λ (xs : List ℕ). does c.loop-placed.hash_dev (Write (c.placed.inside.block * k) xs false) c.write.new.self) bytes c.in_err-write.ensures.call) in
+    rw result.1
+    (record {
+      number = i + 1;
+      before = take i out;
+      last = p;
+      first_are = more;
+      made = calls-last does c.args.hash_dev.now c.loop-placed.hash_dev c.write.new.self (writes_of size (take i out)) (Write (p.block * k) p.bytes false) c.loop-placed.invariant.handed call;
+    })
+
+pub returns-clause-handed : goal.returns-clause-handed
+returns-clause-handed g c =
+    let does = DeviceDoes g.H.BlockDev.state g.H.BlockDev.does in
+    subst (λ (ps : List PlacedRecord). Calls does c.args.hash_dev.now (writes_of c.args.size ps) c.loop-placed.hash_dev)
+    (take_all c.loop-placed.placed-index c.args.blocks.now c.loop-placed-test.false) c.loop-placed.invariant.handed

@@ -1,5 +1,7 @@
 use Rattle.std.proofs.Common.{ℕ, All, take}
+use Rattle.block_device.specs.Call.{Calls, DeviceDoes}
 use Rattle.block_device.specs.Device.{IsSameDevice}
+use Rattle.verity_format.specs.Handing.{writes_of}
 use Rattle.verity_format.specs.Writing.{StandsWithin, IsPartWritten, AreBlocksWritten}
 use Rattle.verity_format.proofs.writing.write_blocks.Given as goal
 
@@ -9,4 +11,5 @@ invariant-loop-placed g l = record {
   same : IsSameDevice (g.H.BlockDev.state l.fn.hash_dev) (g.H.BlockDev.state l.hash_dev);
   part : (last : ℕ) → All (StandsWithin l.size last) l.blocks → IsPartWritten l.size last l.placed-index (g.H.BlockDev.state l.fn.hash_dev) (g.H.BlockDev.state l.hash_dev);
   done : AreBlocksWritten l.size (g.H.BlockDev.state l.fn.hash_dev) (take l.placed-index l.blocks) (g.H.BlockDev.state l.hash_dev);
+  handed : Calls (DeviceDoes g.H.BlockDev.state g.H.BlockDev.does) l.fn.hash_dev (writes_of l.size (take l.placed-index l.blocks)) l.hash_dev;
 }
