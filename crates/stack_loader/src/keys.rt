@@ -1,9 +1,11 @@
 //! The keys of crypt lines, made ready once at loading.
-ghost use Rattle.std.specs.Prelude.{◌≡◌, ◌≤◌, ◌<◌, ◌^◌, length, All, IfOk};
+ghost use Rattle.std.specs.Prelude.{◌≡◌, ◌≤◌, ◌<◌, ◌^◌, length, All, IfOk, OnErr};
+ghost use Rattle.allocation.specs.Refusal.{IsOutOfMemory};
 ghost use Rattle.dm_table.specs.Grammar.{IsTargetOfGrammar, IsLineOfGrammar};
 ghost use Rattle.stack_config.specs.Keys.{keys_from};
 ghost use Rattle.stack_rules.specs.Lines.{key_of};
 
+use allocation::push;
 use dm_table::{Line, Target};
 use stack_config::{DeviceKeys, LineKey};
 use stack_rules::crypt_of;
@@ -25,15 +27,19 @@ fn key_of(target: &Target) -> Option<XtsKey>
 pub(crate) fn line_keys(alloc: Global, lines: &[Line]) -> Result<DeviceKeys, AllocError>
     requires few { length lines.now < 2 ^ 32 }
     requires grammar { All IsLineOfGrammar lines.now }
-    ensures { IfOk result (λ keys. keys ≡ keys_from 0 lines.now) }
+    ensures ok { IfOk result (λ keys. keys ≡ keys_from 0 lines.now) }
+    ensures err { OnErr result (IsOutOfMemory 1) }
 {
     let mut list = Vec::new(alloc);
     for (i, line) in lines.iter().enumerate() {
         match key_of(&line.target) {
-            Some(key) => list.push(LineKey {
-                line: i as u32,
-                key,
-            })?,
+            Some(key) => push(
+                &mut list,
+                LineKey {
+                    line: i as u32,
+                    key,
+                },
+            )?,
             None => {}
         }
     }

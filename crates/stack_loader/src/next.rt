@@ -1,8 +1,10 @@
 //! The devices after a load.
-ghost use Rattle.std.specs.Prelude.{◌≡◌, ◌++◌, [], is_none, map, filter, find, position, option_copied, IfOk};
+ghost use Rattle.std.specs.Prelude.{◌≡◌, ◌++◌, [], is_none, map, filter, find, position, option_copied, ◌+◌, length, IfOk, OnErr};
+ghost use Rattle.allocation.specs.Refusal.{IsOutOfMemory};
 ghost use Rattle.std.specs.Str.{bytes_eq};
 ghost use Rattle.stack_rules.specs.Rules.{replacement, new_device, first, duplicate_names};
 
+use allocation::{push, with_capacity};
 use dm_table::Entry;
 use stack_rules::{LoadKind, Mapped, Planned, Refusal, place_of};
 use std::alloc::{AllocError, Global};
@@ -49,15 +51,19 @@ pub(crate) fn planned_devices<'a>(
     devices: &'a [Mapped],
     entries: &'a [Entry],
 ) -> Result<Vec<Planned<'a>>, AllocError>
-    ensures { IfOk result (λ next. next.items ≡ map (replacement entries.now) devices.now ++ map new_device (filter (λ e. is_none (position (λ d. bytes_eq d.name e.name) devices.now)) entries.now)) }
+    ensures ok { IfOk result (λ next. next.items ≡ map (replacement entries.now) devices.now ++ map new_device (filter (λ e. is_none (position (λ d. bytes_eq d.name e.name) devices.now)) entries.now)) }
+    ensures err { OnErr result (IsOutOfMemory (length devices.now + 1)) }
 {
-    let mut next = Vec::with_capacity(alloc, devices.len())?;
+    let mut next = with_capacity(alloc, devices.len())?;
     for device in devices {
-        next.push(replacement(entries, device))?;
+        push(&mut next, replacement(entries, device))?;
     }
     for entry in entries {
         if place_of(devices, entry.name.as_slice()).is_none() {
-            next.push(Planned::new(entry.name.as_slice(), entry.writable, &entry.table))?;
+            push(
+                &mut next,
+                Planned::new(entry.name.as_slice(), entry.writable, &entry.table),
+            )?;
         }
     }
     Ok(next)

@@ -1,11 +1,13 @@
 //! The digests of data blocks of zeros, made once at loading for the verity lines that ignore such blocks.
-ghost use Rattle.std.specs.Prelude.{◌≡◌, ◌≤◌, All, IfOk};
+ghost use Rattle.std.specs.Prelude.{◌≡◌, ◌≤◌, length, All, IfOk, OnErr};
+ghost use Rattle.allocation.specs.Refusal.{IsOutOfMemory};
 ghost use Rattle.dm_table.specs.Grammar.{IsTargetOfGrammar, IsLineOfGrammar};
 ghost use Rattle.tree_shape.specs.Digests.{digest};
 ghost use Rattle.stack_config.specs.Keys.{zero_digests_of};
 ghost use Rattle.stack_rules.specs.Lines.{zero_digest_of};
 ghost use Rattle.stack_rules.specs.Trees.{zero_block};
 
+use allocation::{push, with_capacity};
 use dm_table::{Line, Target, Verity};
 use stack_config::ZeroDigests;
 use stack_rules::verity_of;
@@ -39,11 +41,12 @@ fn zero_digest_of(target: &Target) -> Option<Digest>
 /// Those of a device's lines.
 pub(crate) fn line_digests(alloc: Global, lines: &[Line]) -> Result<ZeroDigests, AllocError>
     requires { All IsLineOfGrammar lines.now }
-    ensures { IfOk result (λ digests. digests ≡ zero_digests_of lines.now) }
+    ensures ok { IfOk result (λ digests. digests ≡ zero_digests_of lines.now) }
+    ensures err { OnErr result (IsOutOfMemory (length lines.now)) }
 {
-    let mut digests = Vec::with_capacity(alloc, lines.len())?;
+    let mut digests = with_capacity(alloc, lines.len())?;
     for line in lines {
-        digests.push(zero_digest_of(&line.target))?;
+        push(&mut digests, zero_digest_of(&line.target))?;
     }
     Ok(ZeroDigests::new(digests))
 }

@@ -101,4 +101,4 @@ returns c =
     let given : Bor (List ℕ) = c.as_slice-reads.result in
     let writes = c.as_slice-writes.ensures.value ∙ c.in_ok-write_costs.ensures.ok c'.leaves (rw c.as_slice-levels.ensures.value measured)
     ∙ each-exact (Write given) (cost c' (Write given)) (write_cost c') (write_cost-given c' given exact) (write_cost-low c' valid) n in
-    (valid, facts-are c' c.as_slice-levels.result.now c.as_slice-reads.result.now c.as_slice-writes.result.now c.in_ok-lowers.lowers.items _ c.in_ok-devices.ensures (c.as_slice-levels.ensures.value ∙ measured.depths) exact writes c.in_ok-lowers.ensures.1)
+    (valid, facts-are c' c.as_slice-levels.result.now c.as_slice-reads.result.now c.as_slice-writes.result.now c.in_ok-lowers.lowers.items _ c.in_ok-devices.ensures.ok (c.as_slice-levels.ensures.value ∙ measured.depths) exact writes c.in_ok-lowers.ensures.1)

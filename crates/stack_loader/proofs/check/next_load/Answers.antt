@@ -19,7 +19,7 @@ pub returns-in_err-facts : goal.returns-in_err-facts
 returns-in_err-facts c =
     let c' : Configuration = configuration c.args.leaves.now c.args.devices.now in
     let fresh = sym c.in_ok-refusal.ensures ∙ c.in-None.is in
-    let here = c.as_slice.ensures.value ∙ c.in_ok-planned.ensures in
+    let here = c.as_slice.ensures.value ∙ c.in_ok-planned.ensures.ok in
     let p = err_from_is_err_and c.from_residual-in_err-facts.result c.from_residual-in_err-facts.ensures.1 in
     rw (p.1, p.2) (passed-IsFirst (IsNext c' c.args.entries.now) c.in_err-facts.field-0.0 (duplicate_names [] c.args.entries.now ++ rules (after_load c' c.args.entries.now))
     (right c.in_err-facts.field-0.0 (duplicate_names [] c.args.entries.now) (rules (after_load c' c.args.entries.now)) fresh
@@ -30,8 +30,8 @@ pub returns : goal.returns
 returns c =
     let c' : Configuration = configuration c.args.leaves.now c.args.devices.now in
     let fresh = sym c.in_ok-refusal.ensures ∙ c.in-None.is in
-    let here = c.as_slice.ensures.value ∙ c.in_ok-planned.ensures in
+    let here = c.as_slice.ensures.value ∙ c.in_ok-planned.ensures.ok in
     let checked = checked-moved c' c.as_slice.result.now (after_load c' c.args.entries.now).devices c.in_ok-facts.facts here c.in_ok-facts.ensures in (
       first-none (duplicate_names [] c.args.entries.now) (rules (after_load c' c.args.entries.now)) fresh ∙ checked.0,
-      record { devices = c.in_ok-devices.ensures ∙ c.as_slice-2.ensures.value ∙ c.in_ok-planned.ensures; facts = checked.1; fresh = fresh; valid = checked.0 },
+      record { devices = c.in_ok-devices.ensures ∙ c.as_slice-2.ensures.value ∙ c.in_ok-planned.ensures.ok; facts = checked.1; fresh = fresh; valid = checked.0 },
     )
