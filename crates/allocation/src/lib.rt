@@ -8,4 +8,4 @@ mod vectors;
 
 pub use out_of_memory::OutOfMemory;
 pub use texts::{joined, number, push_char, push_text};
-pub use vectors::{append, copied, filled, push, resize, with_capacity, zeros};
+pub use vectors::{append, copied, filled, join, push, reserve, resize, with_capacity, zeros};

@@ -36,6 +36,8 @@ use Rattle.stack_meaning.proofs.lemmas.FoundLemmas.{Grown-none, kept-later}
 use Rattle.stack_meaning.proofs.lemmas.RunLemmas.{Passes, pass}
 use Rattle.stack_engine.specs.Premises.{CanRead}
 use Rattle.stack_engine.proofs.lemmas.BlockLemmas.{block_place, chain_fills, block_fails, length-content, AllKept-push, Grown-push}
+use Rattle.allocation.specs.Refusal.{IsOutOfMemory}
+use Rattle.stack_meaning.specs.Memory.{largest_allocation}
 
 -- what was found for an entry of a verity line
 pub kept_for : (c : Configuration) (leaves : List Device) (d l i : ℕ) (v : Verity) (x : FoundRecord) → HasVerity c d l v → found_entry x ≡ (d, l, i) → IsKept c leaves x → IsOfVerity (said_by_name c v.data) (said_by_name c v.hash) (target_leaves c (verity_target v)) leaves v x.chain
@@ -146,12 +148,12 @@ module _ {c : Configuration} {p : VerityPart} {n : ℕ} (b : BlockAt c p n) wher
       })
 
   -- no memory for the chain
-  pub part_full : {old new : List Device} (found : List FoundRecord) (chain : ChainRecord) → AllKept c old found → GetsChain (block_in c p.verity.now (p.first / block_sectors p.verity.now)) old new (Ok chain)
+  pub part_full : IsOutOfMemory largest_allocation → {old new : List Device} (found : List FoundRecord) (chain : ChainRecord) → AllKept c old found → GetsChain (block_in c p.verity.now (p.first / block_sectors p.verity.now)) old new (Ok chain)
       → ReadsSource c (Block p) n (record { old = old; new = new; before = found; after = found }) (Err io.NoMemory)
-  part_full {old = old} {new = new} found chain kept q = record {
+  part_full refused {old = old} {new = new} found chain kept q = record {
     got = record {
       moved = AreRead-more (let most = mul-le-mul_right (read_cost c (mapped p.device.0)) b.some in omega (arith, most, block-cost)) q.moved;
-      may = tt;
+      may = refused;
       exact = λ steady. tt;
     };
     grown = Grown-none _ 0 n found;

@@ -46,6 +46,8 @@ use Rattle.stack_engine.proofs.lemmas.WalkLemmas.{checked-same, data_zeros, data
 use Rattle.stack_engine.proofs.lemmas.BlockLemmas.{block_place, chain_fills, block_fails, AllKept-push, Grown-push}
 use Rattle.stack_engine.specs.Premises.{CanRead}
 use Rattle.stack_engine.proofs.PathLemmas.{checked-at}
+use Rattle.allocation.specs.Refusal.{IsOutOfMemory}
+use Rattle.stack_meaning.specs.Memory.{largest_allocation}
 
 -- n sectors of a part, where so much is read for each as for all together at most
 abbrev pub blocks_place : Configuration → VerityPart → ℕ → Place
@@ -330,11 +332,11 @@ module _ {c : Configuration} {p : VerityPart} {n : ℕ} {found : List FoundRecor
         → Gets (run_expected (place_of c p.data) chains first rows) at new (Err fault) → Finds (blocks_place c p n) c 0 n (record { old = old; new = new; before = u; after = w }) (Err fault)
     row-stops chains (io.Stack fault) clear walked got = absurd (clear fault got.may)
     row-stops chains (io.Device i) clear walked got = stops (io.Device i) (record { moved = AreRead-more step-cost moved; may = (got.may.0, failed_later walked.moved got.moved.moved got.may.1); exact = λ steady. tt })
-    row-stops chains io.NoMemory clear walked got = stops io.NoMemory (record { moved = AreRead-more step-cost moved; may = tt; exact = λ steady. tt })
+    row-stops chains io.NoMemory clear walked got = stops io.NoMemory (record { moved = AreRead-more step-cost moved; may = got.may; exact = λ steady. tt })
 
     -- or where memory is short
-    pub blocks-full : Finds (blocks_place c p n) c 0 n (record { old = old; new = new; before = u; after = w }) (Err io.NoMemory)
-    blocks-full = stops io.NoMemory (record { moved = AreRead-more step-cost moved; may = tt; exact = λ steady. tt })
+    pub blocks-full : IsOutOfMemory largest_allocation → Finds (blocks_place c p n) c 0 n (record { old = old; new = new; before = u; after = w }) (Err io.NoMemory)
+    blocks-full refused = stops io.NoMemory (record { moved = AreRead-more step-cost moved; may = refused; exact = λ steady. tt })
 
   -- ---- the whole read
 

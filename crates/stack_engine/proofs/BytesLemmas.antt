@@ -139,7 +139,7 @@ may-bytes c lower first n {new = new} (Ok bytes) p = record {
 }
 may-bytes c lower first n (Err (io.Stack fault)) p = p.got.may
 may-bytes c lower first n (Err (io.Device i)) p = p.got.may
-may-bytes c lower first n (Err io.NoMemory) p = tt
+may-bytes c lower first n (Err io.NoMemory) p = p.got.may
 
 pub each-bytes : (c : Configuration) (d first n : ℕ) {old new : List Device} (answer : Result (List ℕ) IoFault) → FindsBytes (place_of c (mapped d)) c first n old new answer → AsksOnly (leaves_of c (mapped d)) old new answer
     → {before after : CacheRecord} → after.capacity ≡ before.capacity → EachBytes (stack_with c old before) d first n answer (stack_with c new after)

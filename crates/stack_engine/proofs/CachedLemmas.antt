@@ -2,7 +2,7 @@
 use Rattle.std.proofs.lemmas.List.Elements.{All-nil}
 use Rattle.stack_engine.specs.KeptBlocks.{AreChecked}
 use Rattle.stack_engine.specs.Pieces.{stack_with}
-use Rattle.std.proofs.Common.{◌≡◌, ℕ, ◌*◌, ◌<◌, IsTrue, Bool, ◌||◌, not, true, false, cond, List, length, get_or, All, Option, Some, None, Result, Ok, Err, refl, sym, ap, ◌∙◌, subst}
+use Rattle.std.proofs.Common.{◌≡◌, ℕ, ◌*◌, ◌<◌, ◌≤◌, IsTrue, Bool, ◌||◌, not, true, false, cond, List, length, get_or, All, Option, Some, None, Result, Ok, Err, refl, sym, ap, ◌∙◌, subst, arith}
 use Rattle.std.specs.Prelude.{option_map, OnOk, OnErr}
 use Rattle.std.specs.Option.{option_map_or}
 use Rattle.std.specs.declared.alloc.AllocError.{AllocError}
@@ -11,7 +11,7 @@ use Rattle.tree_shape.specs.Digests.{digest}
 use Rattle.block_device.specs.Device.{Device}
 use Rattle.dm_table.specs.declared.verity.Verity.{Verity}
 use Rattle.stack_rules.specs.declared.lower.Lower.TheVariants.{Leaf as leaf}
-use Rattle.stack_rules.specs.Rules.{most_leaves}
+use Rattle.stack_rules.specs.Rules.{IsLoaded, most_leaves}
 use Rattle.stack_rules.specs.Records.{Configuration}
 use Rattle.verified_cache.specs.Cache.{CachedBlock, CacheRecord, IsCache, block_under, blocks_with, cache_after_find, cache_after_keep}
 use Rattle.verified_cache.specs.declared.key.Key.{Key}
@@ -24,6 +24,7 @@ use Rattle.stack_lines.specs.Caches.{StackCache, IsCached, IsCacheOf, IsFreshCac
 use Rattle.stack_meaning.specs.Changes.{reached, AreWritten}
 use Rattle.stack_lines.specs.Standing.{has_leaf, stands_on, name_stands_on, key_stands_on, cache_without_leaf, AreLeafSets, CoversBlocks}
 use Rattle.stack_meaning.specs.Leaves.{steady_images, AreSteady, AreRead}
+use Rattle.stack_meaning.specs.Memory.{largest_allocation}
 use Rattle.stack_meaning.specs.Meaning.{said_at, said_by_name}
 use Rattle.stack_meaning.specs.Places.{Place, place_of}
 use Rattle.stack_meaning.specs.Reading.{Gets}
@@ -32,7 +33,14 @@ use Rattle.stack_meaning.proofs.lemmas.LeafListLemmas.{AreRead-none, AreSteady-k
 use Rattle.stack_engine.proofs.lemmas.WalkLemmas.{checked-same}
 use Rattle.stack_lines.proofs.lemmas.StandingLemmas.{or-true, name-stands, verity-stands}
 use Rattle.stack_lines.proofs.lemmas.ForgetLemmas.{kept-written, others-alone}
-use Rattle.stack_lines.proofs.lemmas.VerityLineLemmas.{same-verity, place-named}
+use Rattle.stack_lines.proofs.lemmas.VerityLineLemmas.{hash-whole, same-verity, place-named}
+
+-- a kept block is no larger than a hash block of its line
+pub cached-small : (c : Configuration) → IsLoaded c → (leaves : List Device) (blocks : List CachedBlock) → All (IsCached c leaves) blocks → All (λ b. length b.bytes ≤ largest_allocation) blocks
+cached-small c loaded leaves blocks all i d h =
+    let one = all i d h in
+    let size = hash-whole c (get_or blocks i d).key.device (get_or blocks i d).key.line one.verity loaded one.line in
+    omega (arith, one.block.0, size.most)
 
 -- what passed the check is what was read
 chosen : (b : Bool) (x y : List ℕ) → cond b (Ok x) (Err mismatch) ≡ Ok y → x ≡ y

@@ -21,3 +21,4 @@ pub mod UnitChangeLemmas
 pub mod HeldLemmas
 pub mod RunBytesLemmas
 pub mod TableLineLemmas
+pub mod RefusedLemmas

@@ -52,6 +52,8 @@ use Rattle.stack_engine.specs.Keeping.{AreHandedOut, ReadsBlocks}
 use Rattle.stack_engine.proofs.KeepingLemmas.{none-out}
 use Rattle.stack_engine.proofs.BlocksLemmas.{blocks_place, path_cost, read_cost_so_far, BlocksAt, IsRead, block-had, block-zeros, block-other, total-cost, before-more, none-read, blocks-more, blocks-stop, blocks-differ, blocks-full, row-stops, blocks-read}
 use Rattle.stack_engine.proofs.SpentLemmas.{way-spent, row-spent}
+use Rattle.allocation.specs.Refusal.{IsOutOfMemory}
+use Rattle.stack_meaning.specs.Memory.{largest_allocation}
 
 -- ---- digests of blocks that stand one after another
 
@@ -558,8 +560,8 @@ module _ {c : Configuration} {p : VerityPart} {n : ℕ} {found : List FoundRecor
         (blocks-differ b j inside next.so_far next.rest few (block-other b j next.later next.walked _ _ (sym same ∙ other.0) (was-read made x ahead (within other.0)) other.1))
 
     -- no memory for its chain
-    pub block-full : ReadsSource c (Blocks p) n did (Err io.NoMemory)
-    block-full = blocks-read b did (Err io.NoMemory) r (j + 1) read (omega (arith, inside)) next.moved (blocks-full b j inside next.so_far next.rest few)
+    pub block-full : IsOutOfMemory largest_allocation → ReadsSource c (Blocks p) n did (Err io.NoMemory)
+    block-full refused = blocks-read b did (Err io.NoMemory) r (j + 1) read (omega (arith, inside)) next.moved (blocks-full b j inside next.so_far next.rest few refused)
 
     -- it is ignored, or has the digest: its chain is there
     module _ {ignored : Bool} (made : List (List ℕ)) (block x : List ℕ) (front : take (512 * (j * block_sectors p.verity.now)) out ≡ take (512 * (j * block_sectors p.verity.now)) bytes)

@@ -44,7 +44,7 @@ hash-lies c v tree level index loaded is there low =
     let valid = (line-facts c tree.device.0 tree.line v loaded is.is).2.shape in
     let place : ℕ = position (tree_of v) level (ancestor (tree_of v) (level + 1) index) in
     let room = hash-inside c v tree loaded is place (position-lt (tree_of v) valid level (ancestor (tree_of v) (level + 1) index) low (ancestor-lt (tree_of v) valid level index there)) in
-    record { value = refl; lies = record { some = size.some; inside = room } }
+    record { value = refl; lies = record { some = size.some; few = size.most; inside = room } }
 
 -- a block that was read where it stands
 pub block_there : (c : Configuration) (v : Verity) (tree : Tree) (level index : ℕ) {expected : List ℕ} {old new : List Device} (e : Extent) → IsExtent c tree.hash (hash_start v level index) (hash_sectors v) e → (result : Result (Vec ℕ Global) IoFault)
@@ -58,7 +58,6 @@ pub place_key : (c : Configuration) (v : Verity) (tree : Tree) (level index : �
     → IsExtent c tree.hash (hash_start v level index) (hash_sectors v) e → IsPlaceOf c v.salt key e
 place_key c v tree level index key e is named_so at =
     let own : Key = record { device = tree.device.0; line = tree.line; level = level; block = ancestor tree.shape (level + 1) index } in
-    let there : Extent = record { lower = tree.hash; first = hash_start v level index; sectors = hash_sectors v } in
     subst (λ (k : Key). IsPlaceOf c v.salt k e) (sym named_so)
     (subst (IsPlaceOf c v.salt own) (sym at.value)
     (record { verity = v; line = is.is; salt_is = refl; hash = is.on_hash; first = ap (λ (s : ShapeRecord). hash_place v level (ancestor s (level + 1) index)) (sym is.shape_is); sectors = refl; lies = subst (LiesInsideLower c) at.value at.lies }))

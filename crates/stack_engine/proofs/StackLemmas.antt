@@ -1,8 +1,9 @@
 -- What the calls of a read or a write have of the stack.
-use Rattle.std.proofs.Common.{◌≡◌, ℕ, ◌+◌, ◌/◌, ◌<◌, ◌≤◌, List, length, map, Option, Some, None, refl, sym, ap, ◌∙◌, arith}
+use Rattle.std.proofs.Common.{◌≡◌, ℕ, ◌+◌, ◌/◌, ◌<◌, ◌≤◌, List, length, map, get_or, set, Option, Some, None, refl, sym, ap, ◌∙◌, arith}
 use Rattle.std.specs.Prelude.{slice_get}
 use Rattle.std.specs.Option.{option_map_or}
-use Rattle.std.proofs.lemmas.List.{length-map}
+use Rattle.std.proofs.lemmas.List.{length-map, get_or_default}
+use Rattle.block_device.specs.Call.{Call}
 use Rattle.std.proofs.lemmas.Option.{slice_get_within}
 use Rattle.block_device.specs.Device.{Device}
 use Rattle.stack_rules.specs.declared.lower.Lower.TheVariants.{Leaf}
@@ -10,6 +11,7 @@ use Rattle.stack_rules.specs.Records.{Configuration, LeafRecord}
 use Rattle.stack_lines.specs.declared.source.Source.TheVariants.{Below}
 use Rattle.stack_meaning.specs.Leaves.{fixed_part}
 use Rattle.stack_lines.specs.Caches.{StackCache, KeepsCache}
+use Rattle.stack_engine.specs.LeafCalls.{IsLeafCall}
 use Rattle.stack_engine.specs.Stacks.{IsSound, IsStack}
 use Rattle.stack_engine.specs.Premises.{FitsIn}
 use Rattle.stack_meaning.proofs.lemmas.LeafListLemmas.{leaves_kept}
@@ -28,3 +30,14 @@ leaf-there state devices c leaf first bytes sound fits = go (slice_get c.leaves 
     go : (o : Option LeafRecord) → slice_get c.leaves leaf ≡ o → first + length bytes / 512 ≤ option_map_or (λ l. l.sectors) o 0 → leaf < length devices
     go None e h = absurd (omega (arith, fits.sectors.some, fits.sectors.whole, h))
     go (Some l) e h = omega (arith, slice_get_within c.leaves leaf l e, count)
+
+-- its device was called once, and no other one
+pub leaf-called : {D : Type 0} (does : D → Call → D → Type 0) (devices : List D) (leaf : ℕ) (x : D) → leaf < length devices → (call : Call) (after : D) → does (get_or devices leaf x) call after → IsLeafCall does leaf devices call (set devices leaf after)
+leaf-called does devices leaf x there call after made = record {
+  before = get_or devices leaf x;
+  after = after;
+  there = there;
+  is = λ d. get_or_default devices leaf d x there;
+  made = made;
+  leaves = refl;
+}

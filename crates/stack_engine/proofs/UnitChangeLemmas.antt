@@ -218,7 +218,7 @@ module _ (c : Configuration) (v : CryptPart) (whole : WholeUnit) (bytes : List �
             let e : there.0 ≡ there.0 + t = omega (arith, low) in
             (0, omega arith, subst (λ (k : ℕ). Contains (source_said c (UnitPart v) 0).reaches (i - 1, k)) e here);
       }
-  read-failed after io.NoMemory may q counted = tt
+  read-failed after io.NoMemory may q counted = may
 
   abbrev read-stop : {old new : List Device} {found after : List FoundRecord} (fault : IoFault) → ReadsSource c (Units whole.from) whole.sectors (record { old = old; new = new; before = found; after = after }) (Err fault)
       → IsPlain (source_said c (Units whole.from)) 0 whole.sectors old new (Err fault) → IsCounted fault new → StopsAt (source_said c (UnitPart v)) 0 (length (sectors_in bytes)) fault old new
@@ -290,7 +290,6 @@ module _ (c : Configuration) (v : CryptPart) (whole : WholeUnit) (bytes : List �
         exact = λ steady.
             let under = beneath-is old all plain (p.got.exact (unit-steady old steady)) in
             let images = images-kept p.got.moved in
-            let k : ℕ = v.first / u in
             let bytes_are : out ≡ changed_unit v.crypt.now v.first (sectors_in bytes) under.0 =
             is ∙ changed-is plain long ∙ ap (λ (x : List ℕ). concat (spliced (sectors_of u x) (v.first % u) (sectors_in bytes))) under.2 in
             let whole_puts : (images' : Images) → (source_destination c (Units whole.from)).puts 0 (sectors_in out) images' ≡ put_on c v.lower (unit_first v.crypt.now v.first) (encrypted_sectors v.crypt.now v.first out) images' = λ images'. whole-unit-puts out images' size in

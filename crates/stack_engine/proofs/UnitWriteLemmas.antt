@@ -130,7 +130,6 @@ module _ (c : Configuration) (x : CryptPart) (bytes : List ℕ) (n : ℕ) (units
     parts ys images =
         let u : ℕ = unit_sectors crypt in
         let xs = sectors_in (take (512 * (i * u)) bytes) in
-        let puts = (source_destination c (Units x)).puts in
         let first : x.first + 0 ≡ x.first = omega arith in
         let at : x.first + i * u ≡ x.first + (0 + length xs) = omega (arith, count-front) in
         let on_line : ℕ → Putting = crypt_put c lower crypt in

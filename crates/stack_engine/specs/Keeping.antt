@@ -1,8 +1,9 @@
 -- Chains that a read of data blocks keeps, or drops.
-use Rattle.std.specs.Prelude.{◌≡◌, ℕ, List, [], ◌∷◌, ◌++◌, map, Result}
+use Rattle.std.specs.Prelude.{◌≡◌, ◌≤◌, ℕ, List, [], ◌∷◌, ◌++◌, length, map, All, Result}
 use Rattle.stack_rules.specs.Records.{Configuration}
 use Rattle.stack_meaning.specs.declared.fault.IoFault.{IoFault}
 use Rattle.stack_meaning.specs.Found.{FoundRecord}
+use Rattle.stack_meaning.specs.Memory.{largest_allocation}
 use Rattle.stack_meaning.specs.Places.{LeafRead}
 use Rattle.stack_lines.specs.declared.source.VerityPart.{VerityPart}
 use Rattle.stack_lines.specs.declared.source.Source.TheVariants.{Blocks}
@@ -14,6 +15,10 @@ use Rattle.stack_engine.specs.declared.path.Chains.TheVariants.{Kept, Dropped}
 -- a data block of a part's line that was found, with its path from the root down
 abbrev pub one_found : VerityPart → ℕ → List ℕ → List CachedBlock → FoundRecord
 one_found part index content path = record { device = part.device.0; line = part.line; chain = record { index = index; content = content; path = map (λ b. b.bytes) path } }
+
+-- a copy of a data block and of the blocks on its path takes no more room at a time than an access may
+abbrev pub AreSmall : List ℕ → List CachedBlock → Type 0
+AreSmall content path = (length content ≤ largest_allocation) × All (λ b. length b.bytes ≤ largest_allocation) path
 
 -- what is handed out with one more chain
 abbrev pub handed_out : Chains → List FoundRecord → FoundRecord → List FoundRecord

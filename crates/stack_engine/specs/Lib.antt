@@ -2,6 +2,7 @@ pub mod Stacks
 pub mod KeptBlocks
 pub mod Premises
 pub mod Backings
+pub mod LeafCalls
 pub mod Keeping
 pub mod Uncut
 pub mod Pieces

@@ -1,12 +1,14 @@
 //! The hash blocks on the way to a data block, as they stand from the block before.
-ghost use Rattle.std.specs.Prelude.{◌≡◌, ◌<◌, ◌≤◌, ◌++◌, ◌∷◌, [], length, take, get_or, IsTrue, OnOk, OnErr};
+ghost use Rattle.std.specs.Prelude.{◌≡◌, ◌<◌, ◌≤◌, ◌++◌, ◌∷◌, [], length, take, get_or, All, IsTrue, OnOk, OnErr};
+ghost use Rattle.allocation.specs.Refusal.{IsOutOfMemory};
+ghost use Rattle.stack_meaning.specs.Memory.{largest_allocation};
 ghost use Rattle.verified_cache.specs.Cache.{CachedBlock};
-ghost use Rattle.stack_engine.specs.Keeping.{handed_out, one_found};
+ghost use Rattle.stack_engine.specs.Keeping.{AreSmall, handed_out, one_found};
 
+use allocation::{OutOfMemory, copied, push};
 use hash_tree::Chain;
 use stack_lines::VerityPart;
 use stack_meaning::Found;
-use std::alloc::AllocError;
 use std::marker::Model;
 use tree_shape::Digest;
 use verified_cache::Key;
@@ -49,14 +51,14 @@ pub(crate) fn stands(path: &[PathBlock], at: usize, key: Key, digest: &Digest) -
 }
 
 /// Puts a block there; what stood below is dropped.
-pub(crate) fn put(path: &mut Vec<PathBlock>, at: usize, one: PathBlock) -> Result<(), AllocError>
+pub(crate) fn put(path: &mut Vec<PathBlock>, at: usize, one: PathBlock) -> Result<(), OutOfMemory>
     requires { at ≤ length path.old.items }
     ensures ok { OnOk result (path.new.items ≡ take at path.old.items ++ (one ∷ [])) }
-    ensures err { OnErr result (path.new.items ≡ take at path.old.items) }
+    ensures same { OnErr result (path.new.items ≡ take at path.old.items) }
+    ensures err { OnErr result (IsOutOfMemory largest_allocation) }
 {
     path.truncate(at);
-    path.push(one)?;
-    Ok(())
+    push(path, one)
 }
 
 /// Whether the chains of data blocks are handed out.
@@ -76,9 +78,11 @@ impl Chains {
         path: &[PathBlock],
         content: &[u8],
         found: &mut Vec<Found>,
-    ) -> Result<(), AllocError>
+    ) -> Result<(), OutOfMemory>
+        requires { AreSmall content.now path.now }
         ensures ok { OnOk result (found.new.items ≡ handed_out self found.old.items (one_found part.now index content.now path.now)) }
-        ensures err { OnErr result (found.new.items ≡ found.old.items) }
+        ensures same { OnErr result (found.new.items ≡ found.old.items) }
+        ensures err { OnErr result (IsOutOfMemory largest_allocation) }
     {
         match self {
             Chains::Kept => keep_chain(part, index, path, content, found),
@@ -94,18 +98,20 @@ fn keep_chain(
     path: &[PathBlock],
     content: &[u8],
     found: &mut Vec<Found>,
-) -> Result<(), AllocError>
+) -> Result<(), OutOfMemory>
+    requires { AreSmall content.now path.now }
     ensures ok { OnOk result (found.new.items ≡ found.old.items ++ (one_found part.now index content.now path.now ∷ [])) }
-    ensures err { OnErr result (found.new.items ≡ found.old.items) }
+    ensures same { OnErr result (found.new.items ≡ found.old.items) }
+    ensures err { OnErr result (IsOutOfMemory largest_allocation) }
 {
     let alloc = *found.allocator();
-    let content = Vec::from_slice(alloc, content)?;
+    let content = copied(alloc, content)?;
     let mut blocks = Vec::new(alloc);
     for block in path {
-        let copy = Vec::from_slice(alloc, block.bytes.as_slice())?;
-        blocks.push(copy)?;
+        let copy = copied(alloc, block.bytes.as_slice())?;
+        push(&mut blocks, copy)?;
     }
-    found.push(Found {
+    let one = Found {
         device: part.device.0,
         line: part.line,
         chain: Chain {
@@ -113,6 +119,6 @@ fn keep_chain(
             content,
             path: blocks,
         },
-    })?;
-    Ok(())
+    };
+    push(found, one)
 }

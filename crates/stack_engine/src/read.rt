@@ -1,5 +1,6 @@
 //! Reads through the lines of a stack, down to its leaves.
-ghost use Rattle.std.specs.Prelude.{◌≡◌, ◌≤◌, ◌<◌, ◌+◌, ◌*◌, ◌/◌, ◌%◌, length, map, take, get_or, All, OnOk, IfOk, IfErr, Err};
+ghost use Rattle.std.specs.Prelude.{◌≡◌, ◌≤◌, ◌<◌, ◌+◌, ◌*◌, ◌/◌, ◌%◌, length, map, take, get_or, All, OnOk, IfOk, IfErr, Err, is_ok};
+ghost use Rattle.block_device.specs.Call.{DeviceDoes, Read};
 ghost use Rattle.tree_shape.specs.Shape.{levels};
 ghost use Rattle.stack_rules.specs.Trees.{tree_of};
 ghost use Rattle.stack_rules.specs.Names.{mapped, size};
@@ -13,6 +14,7 @@ ghost use Rattle.stack_lines.specs.Caches.{IsCached, IsPlaceOf};
 ghost use Rattle.verified_cache.specs.Cache.{CachedBlock};
 ghost use Rattle.stack_engine.specs.Stacks.{IsSound};
 ghost use Rattle.stack_engine.specs.Premises.{FitsIn};
+ghost use Rattle.stack_engine.specs.LeafCalls.{IsLeafCall};
 ghost use Rattle.stack_engine.specs.Backings.{leaves_in, IsBacking, Asks, StaysSound, did};
 ghost use Rattle.stack_engine.specs.ReadSteps.{CanFill, ReadsLeaf, StepFrom, StepAt, GotAt, GetsBy, extent_wanted, data_wanted, way_wanted, ChainBy, WalkedBy, ReadsWay};
 ghost use Rattle.stack_engine.specs.Keeping.{ReadsBlocks};
@@ -21,6 +23,7 @@ use crate::backing::Backing;
 use crate::buffer::{fill_zeros, zero_block, zero_sectors};
 use crate::path::{Chains, PathBlock, WantedBlock, put, stands};
 use crate::rows::{NextBlock, read_as_far, row_len, settle};
+use allocation::push;
 use block_device::BlockDev;
 use dm_table::Verity;
 use hash_tree::{Chain, digest_blocks};
@@ -44,7 +47,8 @@ fn read_leaf<D: BlockDev>(
 ) -> Result<(), IoFault>
     requires sound { IsSound config.now (map D.state devices.old) }
     requires fits { FitsIn config.now (Below (Lower.Leaf leaf) first) out.old }
-    ensures { ReadsLeaf config.now leaf first (length out.old / 512) (map D.state devices.old) (map D.state devices.new) result out.new }
+    ensures reads { ReadsLeaf config.now leaf first (length out.old / 512) (map D.state devices.old) (map D.state devices.new) result out.new }
+    ensures call { IsLeafCall (DeviceDoes D.state D.does) leaf devices.old (Read first out.new (is_ok result)) devices.new }
 {
     match devices[leaf as usize].read(first, out) {
         Ok(()) => Ok(()),
@@ -191,7 +195,7 @@ fn read_block<D: BlockDev>(
                         line: part.line,
                         chain,
                     };
-                    match found.push(one) {
+                    match push(found, one) {
                         Err(_) => Err(IoFault::NoMemory),
                         Ok(()) => {
                             copy_part(found.as_slice(), at, within, out);
@@ -319,7 +323,7 @@ fn walk<D: BlockDev>(
             Err(first) => return Err(first),
             Ok(block) => {
                 expected = digest_in(block.as_slice(), tree.shape.slot_on_path(level, index));
-                match path.push(block) {
+                match push(&mut path, block) {
                     Err(_) => return Err(IoFault::NoMemory),
                     Ok(()) => {}
                 }

@@ -1,5 +1,6 @@
 //! Writes through the lines of a stack, down to its leaves.
-ghost use Rattle.std.specs.Prelude.{◌≡◌, ◌≤◌, ◌-◌, ◌/◌, ◌⊎◌, ◌++◌, [], IsTrue, map, take, drop};
+ghost use Rattle.std.specs.Prelude.{◌≡◌, ◌≤◌, ◌-◌, ◌/◌, ◌⊎◌, ◌++◌, [], IsTrue, is_ok, map, take, drop};
+ghost use Rattle.block_device.specs.Call.{DeviceDoes, Write};
 ghost use Rattle.stack_rules.specs.Names.{mapped, may_write};
 ghost use Rattle.stack_lines.specs.declared.source.Source.TheVariants.{Below};
 ghost use Rattle.stack_meaning.specs.Meaning.{said_at};
@@ -7,6 +8,7 @@ ghost use Rattle.stack_lines.specs.Sources.{source_said};
 ghost use Rattle.stack_lines.specs.Writing.{AreHeld, sectors_in, destination_of, WritesSectors};
 ghost use Rattle.stack_engine.specs.Stacks.{IsSound};
 ghost use Rattle.stack_engine.specs.Premises.{FitsIn};
+ghost use Rattle.stack_engine.specs.LeafCalls.{IsLeafCall};
 ghost use Rattle.stack_engine.specs.WriteSteps.{CanPut, PutTo, WriteStepTo, PutAt, WriteStepAt};
 
 use crate::backing::Backing;
@@ -28,8 +30,9 @@ fn write_sectors<D: BlockDev>(
     requires sound { IsSound config.now (map D.state devices.old) }
     requires allowed { IsTrue (may_write config.now (Lower.Leaf leaf)) }
     requires fits { FitsIn config.now (Below (Lower.Leaf leaf) first) bytes.now }
-    ensures { WritesSectors (destination_of config.now (Lower.Leaf leaf)) first (sectors_in bytes.now)
+    ensures writes { WritesSectors (destination_of config.now (Lower.Leaf leaf)) first (sectors_in bytes.now)
         (map D.state devices.old) (map D.state devices.new) result }
+    ensures call { IsLeafCall (DeviceDoes D.state D.does) leaf devices.old (Write first bytes.now (is_ok result)) devices.new }
 {
     match devices[leaf as usize].write(first, bytes) {
         Ok(()) => Ok(()),
@@ -48,6 +51,7 @@ fn write_leaf<D: BlockDev>(
     requires { CanPut D.state config.now backing.old (Below (Lower.Leaf leaf) first) bytes.now }
     ensures writes { PutAt D.state config.now (Lower.Leaf leaf) first bytes.now backing.old backing.new result }
     ensures step { WriteStepAt D.state config.now (Lower.Leaf leaf) first bytes.now backing.old backing.new }
+    ensures call { IsLeafCall (DeviceDoes D.state D.does) leaf backing.old.devices.items (Write first bytes.now (is_ok result)) backing.new.devices.items }
 {
     backing.cache.forget_leaf(config, leaf);
     write_sectors(config, backing.devices.as_mut_slice(), leaf, first, bytes)

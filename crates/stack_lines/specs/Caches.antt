@@ -1,5 +1,6 @@
 -- The cache of a stack, beside the leaves from which it was filled.
-use Rattle.std.specs.Prelude.{◌≡◌, ℕ, List, [], All, Some, Ok}
+use Rattle.std.specs.Prelude.{◌≡◌, ◌≤◌, ℕ, List, [], length, All, Some, Ok}
+use Rattle.allocation.specs.Refusal.{IsOutOfMemory}
 use Rattle.block_device.specs.Device.{Device}
 use Rattle.dm_table.specs.declared.verity.Verity.{Verity}
 use Rattle.stack_rules.specs.Names.{named}
@@ -30,6 +31,10 @@ pub record StackCache : Type 0 where
   pub blocks : CacheRecord
   pub beneath : List LeafSet
   pub covered : LeafSet
+
+-- a copy of one of the kept blocks was refused, which have no more bytes than that
+abbrev pub IsUncopied : CacheRecord → Type 0
+IsUncopied cache = (most : ℕ) → All (λ b. length b.bytes ≤ most) cache.blocks → IsOutOfMemory most
 
 -- no block is kept, and the leaves beneath each device are known
 pub record IsFreshCache (c : Configuration) (capacity : ℕ) (cache : StackCache) : Type 0 where

@@ -5,9 +5,10 @@ use Rattle.stack_rules.specs.Records.{Configuration}
 use Rattle.stack_rules.specs.Names.{size}
 use Rattle.stack_lines.specs.declared.tree.Extent.{Extent}
 
--- some sectors, which lie inside the leaf or device
+-- some sectors, at most those of a block, which lie inside the leaf or device
 pub record LiesInsideLower (c : Configuration) (extent : Extent) : Type 0 where
   pub some : 0 < extent.sectors
+  pub few : extent.sectors ≤ 8
   pub inside : extent.first + extent.sectors ≤ size c extent.lower
 
 -- n sectors of that one from its sector s on, which lie inside it

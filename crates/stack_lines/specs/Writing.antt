@@ -1,6 +1,7 @@
 -- Contracts of writes.
 pub use Rattle.stack_meaning.specs.Stops.{AreOneCall, FailedBy, IsCounted}
 use Rattle.std.specs.Prelude.{Bool, ◌≡◌, ℕ, ◌+◌, ◌-◌, ◌*◌, ◌/◌, ◌%◌, ◌<◌, ◌≤◌, ◌⊎◌, IsTrue, List, [], ◌∷◌, ◌++◌, length, take, drop, Result, Ok, Err, IfErr}
+use Rattle.allocation.specs.Refusal.{IsOutOfMemory}
 use Rattle.block_device.specs.Device.{Device, sectors_of}
 use Rattle.dm_table.specs.declared.crypt.Crypt.{Crypt}
 use Rattle.dm_table.specs.declared.table.Target.TheVariants.{Crypt as crypt_target}
@@ -14,6 +15,7 @@ use Rattle.stack_meaning.specs.declared.fault.Fault.TheVariants as why
 use Rattle.stack_meaning.specs.declared.fault.IoFault.TheVariants as io
 use Rattle.stack_lines.specs.declared.source.Source.{Source}
 use Rattle.stack_lines.specs.declared.source.Source.TheVariants.{Below, Units, UnitPart, Zeros, Fails, Block, Blocks}
+use Rattle.stack_meaning.specs.Memory.{largest_allocation}
 use Rattle.stack_meaning.specs.Sectors.{SomeOf}
 use Rattle.stack_meaning.specs.declared.fault.Fault.{Fault}
 use Rattle.stack_meaning.specs.Outcomes.{error_target, Images}
@@ -34,13 +36,13 @@ abbrev pub sectors_in : List ℕ → List (List ℕ)
 sectors_in bytes = sectors_of (length bytes / 512) bytes
 
 -- Whatever the leaves answer: how a write may end, where these faults may come. The number of a leaf that failed
--- counts from 1. Where memory ran out nothing was written.
+-- counts from 1. Where memory ran out an allocation was refused, and nothing was written.
 abbrev pub MayEnd : (Fault → Type 0) → List Device → List Device → Result Unit IoFault → Type 0
 MayEnd May old new (Ok x) = Unit {0}
 MayEnd May old new (Err (io.Stack why.ErrorTarget)) = May error_target
 MayEnd May old new (Err (io.Stack why.Mismatch)) = ⊥
 MayEnd May old new (Err (io.Device i)) = (1 ≤ i) × LeafFailed (i - 1) old new
-MayEnd May old new (Err io.NoMemory) = new ≡ old
+MayEnd May old new (Err io.NoMemory) = (new ≡ old) × IsOutOfMemory largest_allocation
 
 -- over steady leaves: these images are what the put leaves, unless a device failed or memory ran out
 abbrev pub IsPut : Put → Images → Result Unit IoFault → Type 0

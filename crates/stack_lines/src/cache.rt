@@ -4,11 +4,12 @@ ghost use Rattle.stack_rules.specs.Records.{Configuration};
 ghost use Rattle.stack_rules.specs.Rules.{IsLoaded, most_leaves};
 ghost use Rattle.verified_cache.specs.Cache.{block_under, cache_after_find, cache_after_keep};
 ghost use Rattle.stack_lines.specs.Standing.{has_leaf, stands_on, cache_without_leaf, IsPossibleLower, KnowsLeaves, AreLeafSets, CoversBlocks};
-ghost use Rattle.stack_lines.specs.Caches.{IsFreshCache};
+ghost use Rattle.stack_lines.specs.Caches.{IsFreshCache, IsUncopied};
 
 use crate::keys_on_leaf::KeysOnLeaf;
 use crate::leaf_set::LeafSet;
 use crate::leaf_sets::{leaf_sets, lower_leaves};
+use allocation::{OutOfMemory, copied};
 use stack_config::{Config, Lower};
 use std::alloc::{AllocError, Global};
 use std::marker::Model;
@@ -63,14 +64,15 @@ impl Cache {
         alloc: Global,
         key: Key,
         digest: &Digest,
-    ) -> Result<Option<Vec<u8>>, AllocError>
+    ) -> Result<Option<Vec<u8>>, OutOfMemory>
         ensures leaves { self.new ≡ record self.old { blocks = cache_after_find key digest.now self.old.blocks } }
         ensures answer { IfOk result (λ copy. option_map (λ block. block.items) copy ≡ option_map (λ b. b.bytes) (block_under key digest.now self.old.blocks)) }
+        ensures err { OnErr result (IsUncopied self.old.blocks) }
     {
         match self.blocks.find(key, digest) {
             None => Ok(None),
             Some(block) => {
-                let copy = Vec::from_slice(alloc, block)?;
+                let copy = copied(alloc, block)?;
                 Ok(Some(copy))
             }
         }

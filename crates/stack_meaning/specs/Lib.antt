@@ -4,6 +4,7 @@ pub mod Units
 pub mod Found
 pub mod Blocks
 pub mod Leaves
+pub mod Memory
 pub mod Said
 pub mod Putting
 pub mod TargetMeaning

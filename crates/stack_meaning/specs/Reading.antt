@@ -1,6 +1,7 @@
 -- Contracts of reads.
 use Rattle.std.specs.Prelude.{◌≡◌, ℕ, ◌-◌, ◌≤◌, List, Result, Ok, Err}
 use Rattle.std.specs.List.{slice_index_or}
+use Rattle.allocation.specs.Refusal.{IsOutOfMemory}
 use Rattle.block_device.specs.Device.{Device}
 use Rattle.stack_rules.specs.declared.lower.Lower.{Lower}
 use Rattle.stack_rules.specs.Records.{Configuration}
@@ -9,6 +10,7 @@ use Rattle.stack_meaning.specs.declared.fault.IoFault.TheVariants as io
 use Rattle.stack_meaning.specs.declared.fault.Fault.{Fault}
 use Rattle.stack_meaning.specs.Outcomes.{mismatch, Outcome}
 use Rattle.stack_meaning.specs.Leaves.{steady_images, AreSteady, AreRead, LeafFailed}
+use Rattle.stack_meaning.specs.Memory.{largest_allocation}
 use Rattle.stack_meaning.specs.Sectors.{SomeOf}
 use Rattle.stack_meaning.specs.Changes.{reached}
 use Rattle.stack_meaning.specs.Meaning.{Said}
@@ -18,12 +20,12 @@ use Rattle.stack_meaning.specs.Kept.{AllKept}
 use Rattle.stack_meaning.specs.Places.{Place, place_of, Expected, run_expected, LeafRead}
 
 -- Whatever the leaves answer: with an x that is so, or by a fault that may come. The number of a leaf
--- that failed counts from 1.
+-- that failed counts from 1. An access that ran out of memory was refused an allocation.
 abbrev pub Ends : {A : Type 0} → (A → Type 0) → (Fault → Type 0) → List Device → List Device → Result A IoFault → Type 0
 Ends Is May old new (Ok x) = Is x
 Ends Is May old new (Err (io.Stack fault)) = May fault
 Ends Is May old new (Err (io.Device i)) = (1 ≤ i) × LeafFailed (i - 1) old new
-Ends Is May old new (Err io.NoMemory) = Unit {0}
+Ends Is May old new (Err io.NoMemory) = IsOutOfMemory largest_allocation
 
 -- where the leaves beneath are steady: what this means, unless a device failed or memory ran out
 abbrev pub Answers : {A : Type 0} → (A → List ℕ) → Outcome → Result A IoFault → Type 0

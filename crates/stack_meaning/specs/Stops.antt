@@ -1,9 +1,11 @@
 -- Where a call stops that a fault ends.
 use Rattle.std.specs.Prelude.{◌≡◌, ℕ, ◌+◌, ◌-◌, ◌^◌, ◌<◌, ◌≤◌, List, Contains, Result, IfErr}
 use Rattle.std.specs.List.{slice_index_or}
+use Rattle.allocation.specs.Refusal.{IsOutOfMemory}
 use Rattle.block_device.specs.Device.{Device}
 use Rattle.stack_meaning.specs.declared.fault.IoFault.{IoFault}
 use Rattle.stack_meaning.specs.declared.fault.IoFault.TheVariants as io
+use Rattle.stack_meaning.specs.Memory.{largest_allocation}
 use Rattle.stack_meaning.specs.Outcomes.{LeafSector}
 use Rattle.stack_meaning.specs.Sectors.{SomeOf}
 use Rattle.stack_meaning.specs.Changes.{reached}
@@ -17,11 +19,11 @@ pub record AreOneCall (i : ℕ) (reaches : ℕ → List LeafSector) (s n : ℕ) 
   pub each : (j : ℕ) → j < n → SomeOf (λ t. Contains (reaches (s + j)) (i, t)) start count
   pub own : (t : ℕ) → t < count → reached reaches s n (i, start + t)
 
--- n sectors from s on failed by the fault: each meets it, or they are those of the call that failed
+-- n sectors from s on failed by the fault: each meets it, they are those of the call that failed, or an allocation was refused
 abbrev pub FailedBy : (ℕ → Said) → IoFault → ℕ → ℕ → Type 0
 FailedBy said (io.Stack fault) s n = (j : ℕ) → j < n → (said (s + j)).meets fault
 FailedBy said (io.Device i) s n = AreOneCall (i - 1) (λ t. (said t).reaches) s n
-FailedBy said io.NoMemory s n = Unit {0}
+FailedBy said io.NoMemory s n = IsOutOfMemory largest_allocation
 
 -- the count of failures of the leaf that the fault names, if it names one, isn't at its end
 abbrev pub IsCounted : IoFault → List Device → Type 0

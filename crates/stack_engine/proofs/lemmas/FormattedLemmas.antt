@@ -57,7 +57,6 @@ block-concat size blocks i sized low =
 -- sector w, which stands in block w / n
 pub part-concat : (n : ℕ) (blocks : List (List ℕ)) (w : ℕ) → All (λ b. length b ≡ 512 * n) blocks → 0 < n → w / n < length blocks → part (get_or blocks (w / n) []) (w % n) ≡ part (concat blocks) w
 part-concat n blocks w sized some low =
-    let i : ℕ = w / n in
     let block : List ℕ = get_or blocks (w / n) [] in
     let rest : List ℕ = concat (drop (suc (w / n)) blocks) in
     let len : length block ≡ 512 * n = All-get_or (λ b. length b ≡ 512 * n) blocks (w / n) [] low sized in

@@ -22,6 +22,8 @@ use Rattle.stack_lines.specs.Walks.{checked_expected, DataBlock, means_below, da
 use Rattle.stack_meaning.proofs.lemmas.LeafListLemmas.{AreRead-none, AreRead-then, AreRead-more, AreSteady-kept, AreSteady-within, images-kept}
 use Rattle.stack_lines.proofs.lemmas.StandingLemmas.{or-true}
 use Rattle.stack_meaning.proofs.lemmas.RunLemmas.{fault_passes}
+use Rattle.allocation.specs.Refusal.{IsOutOfMemory}
+use Rattle.stack_meaning.specs.Memory.{largest_allocation}
 
 -- ---- one block that is checked
 
@@ -162,9 +164,9 @@ module _ {A : Type 0} (bytes_of : A → List ℕ) (b : DataBlock) {expected : Li
       (λ steady x is. means-end bytes_of b p steady (Err x) is)
 
 -- no memory for the path
-pub walk_full : (b : DataBlock) (l : ℕ) {expected : List ℕ} {path : List (List ℕ)} {old new : List Device} → IsWalked b l expected path old new → GetsChain b old new (Err io.NoMemory)
-walk_full b l {path = path} p = record {
+pub walk_full : (b : DataBlock) (l : ℕ) → IsOutOfMemory largest_allocation → {expected : List ℕ} {path : List (List ℕ)} {old new : List Device} → IsWalked b l expected path old new → GetsChain b old new (Err io.NoMemory)
+walk_full b l refused {path = path} p = record {
   moved = AreRead-more (let most = levels_cost (levels (tree_of b.verity)) (hash_sectors b.verity) b.on_hash.cost (length path) 0 (omega (arith, p.count)) in omega (arith, most)) p.moved;
-  may = tt;
+  may = refused;
   exact = λ steady. tt;
 }

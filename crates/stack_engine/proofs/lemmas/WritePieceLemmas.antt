@@ -25,6 +25,8 @@ use Rattle.stack_lines.proofs.lemmas.KeptLemmas.{forgets-none, forgets-then}
 use Rattle.stack_lines.proofs.lemmas.PutLemmas.{put-none}
 use Rattle.stack_lines.proofs.lemmas.StopLemmas.{stop-here, stop-later, behind-of}
 use Rattle.stack_lines.proofs.lemmas.WriteRunLemmas.{length-sectors_in}
+use Rattle.allocation.specs.Refusal.{IsOutOfMemory}
+use Rattle.stack_meaning.specs.Memory.{largest_allocation}
 
 -- a write of bytes to a mapped device
 abbrev pub WritesTo : Configuration → ℕ → ℕ → List ℕ → StackRecord → StackRecord → Result Unit IoFault → Type 0
@@ -59,11 +61,11 @@ none-forgotten : (w : StackRecord) (d : ℕ) → Forgets w.config (leaves_of w.c
 none-forgotten w d = forgets-none w.kept (AreRead-none 0 w.leaves)
 
 -- want of memory, before anything was written
-abbrev none-stop : (w : StackRecord) (d first n : ℕ) → 0 < n → StopsAt (said_at w.config (mapped d)) first n io.NoMemory w.leaves w.leaves
-none-stop w d first n some = record { before = 0; failed = n; some = some; inside = omega arith; by = tt; others = KeepsOthers-none _ w.leaves }
+abbrev none-stop : (w : StackRecord) (d first n : ℕ) → IsOutOfMemory largest_allocation → 0 < n → StopsAt (said_at w.config (mapped d)) first n io.NoMemory w.leaves w.leaves
+none-stop w d first n refused some = record { before = 0; failed = n; some = some; inside = omega arith; by = refused; others = KeepsOthers-none _ w.leaves }
 
-pub none-written : (w : StackRecord) (d first : ℕ) (bytes : List ℕ) → ArePiece bytes → 0 < length bytes / 512 → EachWrite w d first bytes (Err io.NoMemory) w
-none-written w d first bytes piece some = record {
+pub none-written : (w : StackRecord) (d first : ℕ) (bytes : List ℕ) → IsOutOfMemory largest_allocation → ArePiece bytes → 0 < length bytes / 512 → EachWrite w d first bytes (Err io.NoMemory) w
+none-written w d first bytes refused piece some = record {
   piece = piece;
   any = any;
   steady = λ steady. record {
@@ -71,12 +73,12 @@ none-written w d first bytes piece some = record {
     exact = tt;
     others = record { leaves = refl; sizes = λ i. refl; sector = λ i t h. refl };
     behind = λ counted. behind-of (destination_of w.config (mapped d)) first (sectors_in bytes) (put-none w.config (mapped d))
-        (stop-here (destination_of w.config (mapped d)) first (sectors_in bytes) refl (none-stop w d first (length (sectors_in bytes)) (omega (arith, some, length-sectors_in bytes))) (λ j h. absurd (omega (arith, h))));
+        (stop-here (destination_of w.config (mapped d)) first (sectors_in bytes) refl (none-stop w d first (length (sectors_in bytes)) refused (omega (arith, some, length-sectors_in bytes))) (λ j h. absurd (omega (arith, h))));
   };
 }
   where
     any : AnyWrite w d first bytes (Err io.NoMemory) w
-    any = record { config = refl; capacity = refl; whole = λ h. h; moved = AreWritten-none _ _ w.leaves; ends = refl; stops = λ counted. none-stop w d first (length bytes / 512) some; unread = λ none. refl; forgets = none-forgotten w d; fails = refl; short = λ is. refl }
+    any = record { config = refl; capacity = refl; whole = λ h. h; moved = AreWritten-none _ _ w.leaves; ends = (refl, refused); stops = λ counted. none-stop w d first (length bytes / 512) refused some; unread = λ none. refl; forgets = none-forgotten w d; fails = refl; short = λ is. refl }
 
 pub write-sound : (c : Configuration) {w w' : StackRecord} {d first : ℕ} {bytes : List ℕ} {result : Result Unit IoFault} → IsSound c w.leaves → EachWrite w d first bytes result w' → IsSound c w'.leaves
 write-sound c {w = w} {w' = w'} s p = record { loaded = s.loaded; serve = leaves_kept c.leaves w.leaves w'.leaves p.any.moved.moved.fixed s.serve }

@@ -27,7 +27,7 @@ Ends-as : {A : Type 0} (wanted wanted' : Expected A) (old new : List Device) (re
 Ends-as wanted wanted' old new (Ok x) is faults h = is x h
 Ends-as wanted wanted' old new (Err (io.Stack fault)) is faults h = faults fault h
 Ends-as wanted wanted' old new (Err (io.Device i)) is faults h = h
-Ends-as wanted wanted' old new (Err io.NoMemory) is faults h = tt
+Ends-as wanted wanted' old new (Err io.NoMemory) is faults h = h
 
 -- a fault passes on, also to what begins before the call
 pub fault_passes : {A B : Type 0} {wanted : Expected A} {wanted' : Expected B} {old mid new : List Device} {m : ℕ} (fault : IoFault)
@@ -47,7 +47,7 @@ fault_passes (io.Device i) p a h faults within means = record {
 }
 fault_passes io.NoMemory p a h faults within means = record {
   moved = AreRead-more h (AreRead-then a p.moved);
-  may = tt;
+  may = p.may;
   exact = λ steady. tt;
 }
 

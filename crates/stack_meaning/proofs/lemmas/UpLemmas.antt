@@ -28,7 +28,7 @@ failed-up said said' s s' n (io.Device i) up by = record {
   each = λ j h. let some = by.each j h in (some.0, some.1, (up j h).reaches (i - 1, by.start + some.0) some.2);
   own = λ t h. let some = by.own t h in (some.0, some.1, (up some.0 some.1).reaches (i - 1, by.start + t) some.2);
 }
-failed-up said said' s s' n io.NoMemory up by = tt
+failed-up said said' s s' n io.NoMemory up by = by
 
 -- sectors of one place, as those of another
 module _ (said said' : ℕ → Said) (first first' n : ℕ) (up : (j : ℕ) → j < n → IsUp (said (first + j)) (said' (first' + j))) where
@@ -77,7 +77,7 @@ module _ (said said' : ℕ → Said) (first first' m n : ℕ) (some : 0 < n) (up
             (one.0, one.1, subst (λ (s : ℕ). Contains (said' s).reaches (i - 1, by.start + one.0)) e (reached-by 0 (by.start + one.0) more one.2));
         own = λ t low. let one = by.own t low in (0, omega arith, subst (λ (s : ℕ). Contains (said' s).reaches (i - 1, by.start + t)) at' (reached-by one.0 (by.start + t) one.1 one.2));
       }
-  failed-first io.NoMemory a k more h by = tt
+  failed-first io.NoMemory a k more h by = by
 
   pub among-one : (k : ℕ) → k ≤ m → Among (reached (λ s. (said s).reaches) first k) (reached (λ s. (said' s).reaches) first' (0 + 1))
   among-one k h p there =

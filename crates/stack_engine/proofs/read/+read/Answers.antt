@@ -1,4 +1,4 @@
-use Rattle.std.proofs.Common.{All, ◌≡◌, ◌<◌, ◌+◌, ◌/◌, ◌*◌, ◌-◌, ◌%◌, length, take, drop, map, replicate, get_or, ℕ, List, [], ◌∷◌, ◌++◌, Vec, Global, Option, Result, Ok, Err, inl, refl, sym, ap, ◌∙◌, subst, arith}
+use Rattle.std.proofs.Common.{All, ◌≡◌, ◌<◌, ◌≤◌, ◌+◌, ◌/◌, ◌*◌, ◌-◌, ◌%◌, length, take, drop, map, replicate, get_or, ℕ, List, [], ◌∷◌, ◌++◌, Vec, Global, Option, Result, Ok, Err, inl, refl, sym, ap, ◌∙◌, subst, arith}
 use Rattle.std.proofs.lemmas.List.{length-take, length-take-le, length-drop, length-append, map-append}
 use Rattle.std.proofs.Math.Seq.{get_or-append_seam}
 use Rattle.std.proofs.lemmas.Slice.Eq.{bytes_eq-Decides}
@@ -34,14 +34,14 @@ use Rattle.stack_meaning.proofs.lemmas.LoadedLemmas.{size-small}
 use Rattle.stack_lines.proofs.lemmas.SourceLemmas.{served-depth, below_of, leaf_of, empty_read, zeros_of, fails_of, device_ok, device_err, same_reads}
 use Rattle.stack_lines.proofs.lemmas.VerityLineLemmas.{data-whole, hash-whole, hash-depth, data-depth}
 use Rattle.stack_engine.proofs.PathBlockLemmas.{bytes, hash_place_of, hash-lies, block_there, checked_as, place_key, hash_read, hash_failed, data_had, data_failed}
-use Rattle.stack_engine.proofs.CachedLemmas.{cached-hit, keeps-noted, noted_key, keeps-kept, keeps-found}
+use Rattle.stack_meaning.specs.Memory.{largest_allocation}
+use Rattle.stack_engine.proofs.CachedLemmas.{cached-hit, cached-small, keeps-noted, noted_key, keeps-kept, keeps-found}
 use Rattle.stack_lines.proofs.lemmas.StandingLemmas.{named-inside, knows-all}
 use Rattle.stack_engine.proofs.BlockPartLemmas.{kept_length, contains_at, part-room, part_found, part_walked, part_err, part_full, block-at, block-meets}
 use Rattle.stack_lines.specs.declared.source.CryptPart.{CryptPart}
 use Rattle.stack_lines.specs.Sources.{AreUnits}
 use Rattle.stack_engine.proofs.lemmas.BlockLemmas.{length-content}
 use Rattle.stack_engine.proofs.lemmas.WalkLemmas.{checked_ok, checked_err, data_zeros, data_read, walk_full}
-use Rattle.stack_engine.proofs.read.+read.Goals.{read_block-in-Err-push, read_block-in-Ok-push}
 use Rattle.stack_meaning.proofs.lemmas.LeafLemmas.{all-whole}
 use Rattle.stack_rules.specs.Units.{unit_sectors}
 use Rattle.stack_meaning.specs.Units.{decrypted_units}
@@ -89,7 +89,6 @@ read_device-read_run-requires g t c κs within =
 pub read_device-loop-at-preserved : goal.read_device-loop-at-preserved
 read_device-loop-at-preserved g t c =
     let config = c.args.config.now in
-    let state = g.D.BlockDev.state in
     let at = c.loop-at.at in
     let out = c.loop-at.out in
     let next = c.run_to_read-run in
@@ -100,7 +99,7 @@ read_device-loop-at-preserved g t c =
     let end : ℕ = at + count * 512 in
     let run = next-run c.args.first at (length c.args.out.now / 512) out inv.whole c.loop-at-test.true (omega (arith, c.loop-at.auto.out)) next.ensures.served next.ensures.some next.ensures.most next.ensures.ends in
     let front : take end (put_mid at (end - at) out c.read_run.new.out) ≡ take at out ++ c.read_run.new.out = take-put_mid at (end - at) out c.read_run.new.out end (omega (arith, c.read_run.auto.out, run.len)) inv.within in
-    let more = subst (λ (n : ℕ). ReadsSource config source n (did state c.loop-at.backing c.loop-at.found.items c.read_run.new.backing c.read_run.new.found.items) (Ok c.read_run.new.out)) run.sectors c.in-Ok.ensures.reads in
+    let more = subst (λ (n : ℕ). ReadsSource config source n (did g.D.BlockDev.state c.loop-at.backing c.loop-at.found.items c.read_run.new.backing c.read_run.new.found.items) (Ok c.read_run.new.out)) run.sectors c.in-Ok.ensures.reads in
     record {
       whole = omega (arith, inv.whole);
       within = omega (arith, length-take end (put_mid at (end - at) out c.read_run.new.out), ap length front, length-append (take at out) c.read_run.new.out, length-take at out, c.read_run.auto.out, run.len, inv.within);
@@ -128,7 +127,7 @@ read_lower-returns-in-Leaf-clause-reads g t c =
     let answer : Result (List ℕ) IoFault = buffer_answer c.read_leaf.result c.read_leaf.new.out in
     let stands : (with_items devices c.read_leaf.new.devices).items ≡ c.read_leaf.new.devices =
     with_items_is devices c.read_leaf.new.devices (c.read_leaf.auto.devices ∙ ap (λ l. length l) c.as_mut_slice.ensures.value ∙ sym devices.ok.0) in
-    let one = subst (λ ds. Gets (run_expected (place_of config (Leaf c.in-Leaf.leaf)) found c.args.first n) (map state ds) (map state c.read_leaf.new.devices) answer) c.as_mut_slice.ensures.value (c.read_leaf.ensures.got found) in
+    let one = subst (λ ds. Gets (run_expected (place_of config (Leaf c.in-Leaf.leaf)) found c.args.first n) (map state ds) (map state c.read_leaf.new.devices) answer) c.as_mut_slice.ensures.value (c.read_leaf.ensures.reads.got found) in
     subst (λ ds. Reads config c.args.lower c.args.first n (record { old = map state devices.items; new = map state ds; before = found; after = found }) answer) (sym stands)
     (subst (λ (x : Lower). Reads config x c.args.first n (record { old = map state devices.items; new = map state c.read_leaf.new.devices; before = found; after = found }) answer) (sym c.in-Leaf.is)
     (leaf_of config c.in-Leaf.leaf c.args.first n found c.requires.kept one))
@@ -147,7 +146,7 @@ read_lower-returns-in-Leaf-clause-step g t c =
     with_items_is devices c.read_leaf.new.devices (c.read_leaf.auto.devices ∙ ap (λ l. length l) c.as_mut_slice.ensures.value ∙ sym devices.ok.0) in
     subst (λ ds. IsReadStep config (run_beneath config c.args.lower c.args.first n) (backing_of state c.args.backing.now) (record { leaves = map state ds; cache = cache }) c.read_leaf.result) (sym stands)
     (subst (λ (x : Lower). IsReadStep config (run_beneath config x c.args.first n) (backing_of state c.args.backing.now) (record { leaves = map state c.read_leaf.new.devices; cache = cache }) c.read_leaf.result) (sym c.in-Leaf.is)
-    (leaf-step (backing_of state c.args.backing.now) c.read_leaf.ensures (ap (map state) c.as_mut_slice.ensures.value) c.requires.stack.cached))
+    (leaf-step (backing_of state c.args.backing.now) c.read_leaf.ensures.reads (ap (map state) c.as_mut_slice.ensures.value) c.requires.stack.cached))
 
 pub read_lower-returns-in-Device-clause-step : goal.read_lower-returns-in-Device-clause-step
 read_lower-returns-in-Device-clause-step g t c = rw c.in-Device.is c.read_device.ensures.step
@@ -338,7 +337,7 @@ read_block-copy_part-requires-in-Ok-push-clause-inside g t c =
     let found = c.args.found.now.items in
     let b = block-at c.requires in
     let one : FoundRecord = record { device = p.device.0; line = p.line; chain = c.in-Ok.chain } in
-    let value : c.as_slice-in-Ok-push.result.now ≡ found ++ (one ∷ []) = c.as_slice-in-Ok-push.ensures.value ∙ c.in-Ok-push.ensures.items in
+    let value : c.as_slice-in-Ok-push.result.now ≡ found ++ (one ∷ []) = c.as_slice-in-Ok-push.ensures.value ∙ c.in-Ok-push.ensures.ok in
     let at : c.len-at.result ≡ length found = c.len-at.ensures ∙ c.args.found.now.ok.0 in
     let here : get_or c.as_slice-in-Ok-push.result.now c.len-at.result x ≡ one = ap (λ (l : List FoundRecord). get_or l c.len-at.result x) value ∙ ap (λ (k : ℕ). get_or (found ++ (one ∷ [])) k x) at ∙ get_or-append_seam found one [] x in
     let len : length ((get_or c.as_slice-in-Ok-push.result.now c.len-at.result x).chain.content) ≡ v.data_block = ap (λ (y : FoundRecord). length y.chain.content) here ∙ length-content v one.chain c.in-Ok.ensures.reads.may.1 in
@@ -371,8 +370,8 @@ read_block-returns-in-Err-clause-reads g t c =
     let q = subst (λ (k : ℕ). GetsChain (block_in c.args.config.now v (p.first / k)) (map g.D.BlockDev.state c.args.backing.now.devices.items) (map g.D.BlockDev.state c.walk.new.backing.devices.items) (Err c.in-Err.fault)) c.from-sectors.ensures c.in-Err.ensures.reads in
     part_err (block-at c.requires) c.args.found.now.items c.in-Err.fault c.requires.kept q
 
-pub read_block-returns-after-push-clause-reads : goal.read_block-returns-after-push-clause-reads
-read_block-returns-after-push-clause-reads g t c =
+pub read_block-returns-in-Err-push-clause-reads : goal.read_block-returns-in-Err-push-clause-reads
+read_block-returns-in-Err-push-clause-reads g t c =
     let v = c.args.part.verity.now in
     let p = c.args.part in
     let n : ℕ = length c.args.out.now / 512 in
@@ -384,30 +383,38 @@ read_block-returns-after-push-clause-reads g t c =
     let sectors : c.from-sectors.result ≡ block_sectors v = c.from-sectors.ensures in
     let q = subst (λ (k : ℕ). GetsChain (block_in config v (p.first / k)) old new (Ok c.in-Ok.chain)) sectors c.in-Ok.ensures.reads in
     let Does : List FoundRecord → Result (List ℕ) IoFault → Type 0 = λ u r. ReadsSource config (Block p) n (record { old = old; new = new; before = found; after = u }) r in
-    elim c.match-push.branch [
-      | read_block-in-Err-push w ↦
-          subst (λ (u : List FoundRecord). Does u (buffer_answer c.match-push.result c.match-push.out)) (sym w.in-Err-push.ensures.items)
-          (subst (λ (r : Result Unit IoFault). Does found (buffer_answer r c.match-push.out)) (sym w.result-is) (part_full b found c.in-Ok.chain c.requires.kept q))
-      | read_block-in-Ok-push w ↦
-          let one : FoundRecord = record { device = p.device.0; line = p.line; chain = c.in-Ok.chain } in
-          let items : c.push.new.self.items ≡ found ++ (one ∷ []) = w.in-Ok-push.ensures.items in
-          let value : w.as_slice-in-Ok-push.result.now ≡ found ++ (one ∷ []) = w.as_slice-in-Ok-push.ensures.value ∙ items in
-          let at : c.len-at.result ≡ length found = c.len-at.ensures ∙ c.args.found.now.ok.0 in
-          let here : get_or w.as_slice-in-Ok-push.result.now c.len-at.result any_found ≡ one =
-          ap (λ (l : List FoundRecord). get_or l c.len-at.result any_found) value ∙ ap (λ (k : ℕ). get_or (found ++ (one ∷ [])) k any_found) at ∙ get_or-append_seam found one [] any_found in
-          let len : length c.args.out.now ≡ 512 * n = omega (arith, c.requires.fits.sectors.whole) in
-          let is : c.match-push.out ≡ take (512 * n) (drop (512 * (p.first % block_sectors v)) c.in-Ok.chain.content) =
-          w.out-is ∙ w.copy_part-in-Ok-push.ensures any_found
-          ∙ ap (λ (y : FoundRecord). take (length c.args.out.now) (drop (512 * (p.first % c.from-sectors.result)) y.chain.content)) here
-          ∙ ap (λ (k : ℕ). take k (drop (512 * (p.first % c.from-sectors.result)) c.in-Ok.chain.content)) len
-          ∙ ap (λ (k : ℕ). take (512 * n) (drop (512 * (p.first % k)) c.in-Ok.chain.content)) sectors in
-          subst (λ (u : List FoundRecord). Does u (buffer_answer c.match-push.result c.match-push.out)) (sym items)
-          (subst (λ (r : Result Unit IoFault). Does (found ++ (one ∷ [])) (buffer_answer r c.match-push.out)) (sym w.result-is)
-          (part_walked b found c.in-Ok.chain c.requires.kept
-          (λ k h y same. c.in-None.ensures.none k (omega (arith, h, ap (λ (l : List FoundRecord). length l) c.as_slice.ensures.value)) y
-          (ap (λ (l : List FoundRecord). found_entry (get_or l k y)) c.as_slice.ensures.value ∙ same ∙ ap (λ (k : ℕ). (p.device.0, p.line, p.first / k)) (sym sectors)))
-          q is))
-    ]
+    subst (λ (u : List FoundRecord). Does u (Err NoMemory)) (sym c.in-Err-push.ensures.same) (part_full b (1, omega arith, c.in-Err-push.ensures.err.1) found c.in-Ok.chain c.requires.kept q)
+
+pub read_block-returns-in-Ok-push-clause-reads : goal.read_block-returns-in-Ok-push-clause-reads
+read_block-returns-in-Ok-push-clause-reads g t c =
+    let v = c.args.part.verity.now in
+    let p = c.args.part in
+    let n : ℕ = length c.args.out.now / 512 in
+    let config = c.args.config.now in
+    let old = map g.D.BlockDev.state c.args.backing.now.devices.items in
+    let new = map g.D.BlockDev.state c.walk.new.backing.devices.items in
+    let found = c.args.found.now.items in
+    let b = block-at c.requires in
+    let sectors : c.from-sectors.result ≡ block_sectors v = c.from-sectors.ensures in
+    let q = subst (λ (k : ℕ). GetsChain (block_in config v (p.first / k)) old new (Ok c.in-Ok.chain)) sectors c.in-Ok.ensures.reads in
+    let Does : List FoundRecord → Result (List ℕ) IoFault → Type 0 = λ u r. ReadsSource config (Block p) n (record { old = old; new = new; before = found; after = u }) r in
+    let one : FoundRecord = record { device = p.device.0; line = p.line; chain = c.in-Ok.chain } in
+    let items : c.push.new.v.items ≡ found ++ (one ∷ []) = c.in-Ok-push.ensures.ok in
+    let value : c.as_slice-in-Ok-push.result.now ≡ found ++ (one ∷ []) = c.as_slice-in-Ok-push.ensures.value ∙ items in
+    let at : c.len-at.result ≡ length found = c.len-at.ensures ∙ c.args.found.now.ok.0 in
+    let here : get_or c.as_slice-in-Ok-push.result.now c.len-at.result any_found ≡ one =
+    ap (λ (l : List FoundRecord). get_or l c.len-at.result any_found) value ∙ ap (λ (k : ℕ). get_or (found ++ (one ∷ [])) k any_found) at ∙ get_or-append_seam found one [] any_found in
+    let len : length c.args.out.now ≡ 512 * n = omega (arith, c.requires.fits.sectors.whole) in
+    let is : c.copy_part-in-Ok-push.new.out ≡ take (512 * n) (drop (512 * (p.first % block_sectors v)) c.in-Ok.chain.content) =
+    c.copy_part-in-Ok-push.ensures any_found
+    ∙ ap (λ (y : FoundRecord). take (length c.args.out.now) (drop (512 * (p.first % c.from-sectors.result)) y.chain.content)) here
+    ∙ ap (λ (k : ℕ). take k (drop (512 * (p.first % c.from-sectors.result)) c.in-Ok.chain.content)) len
+    ∙ ap (λ (k : ℕ). take (512 * n) (drop (512 * (p.first % k)) c.in-Ok.chain.content)) sectors in
+    subst (λ (u : List FoundRecord). Does u (Ok c.copy_part-in-Ok-push.new.out)) (sym items)
+    (part_walked b found c.in-Ok.chain c.requires.kept
+    (λ k h y same. c.in-None.ensures.none k (omega (arith, h, ap (λ (l : List FoundRecord). length l) c.as_slice.ensures.value)) y
+    (ap (λ (l : List FoundRecord). found_entry (get_or l k y)) c.as_slice.ensures.value ∙ same ∙ ap (λ (k : ℕ). (p.device.0, p.line, p.first / k)) (sym sectors)))
+    q is)
 
 pub read_block-returns-in-Some-clause-step : goal.read_block-returns-in-Some-clause-step
 read_block-returns-in-Some-clause-step g t c =
@@ -423,25 +430,24 @@ read_block-returns-in-Err-clause-step g t c =
     let walked = asks-up (same-within config c.tree_of-tree.ensures.device) c.in-Err.ensures.touches in
     step-met (block-meets config c.args.part (length c.args.out.now / 512) b.some) c.in-Err.ensures.cached (asks-as (Err c.in-Err.fault) walked.fault (λ failures. refl) walked) (block-spent (c.args.part.first / c.from-sectors.result) b c.in-Err.ensures.reads.moved)
 
-pub read_block-returns-after-push-clause-step : goal.read_block-returns-after-push-clause-step
-read_block-returns-after-push-clause-step g t c =
+pub read_block-returns-in-Err-push-clause-step : goal.read_block-returns-in-Err-push-clause-step
+read_block-returns-in-Err-push-clause-step g t c =
     let config = c.args.config.now in
     let b = block-at c.requires in
-    let these = leaves_of config (mapped c.args.part.device.0) in
-    let Names : Result Unit IoFault → Type 0 = λ r. IfErr r (NamesOneOf these) in
-    let fault : Names c.match-push.result = elim c.match-push.branch [
-      | read_block-in-Err-push w ↦ subst Names (sym w.result-is) tt
-      | read_block-in-Ok-push w ↦ subst Names (sym w.result-is) tt
-    ] in
-    let Alike : Result Unit IoFault → Type 0 = λ r. (failures : List ℕ) → failures_behind r failures ≡ failures in
-    let alike : Alike c.match-push.result = elim c.match-push.branch [
-      | read_block-in-Err-push w ↦ subst Alike (sym w.result-is) (λ failures. refl)
-      | read_block-in-Ok-push w ↦ subst Alike (sym w.result-is) (λ failures. refl)
-    ] in
     step-met (block-meets config c.args.part (length c.args.out.now / 512) b.some) c.in-Ok.ensures.cached
-    (asks-as c.match-push.result fault alike (asks-up (same-within config c.tree_of-tree.ensures.device) c.in-Ok.ensures.touches)) (block-spent (c.args.part.first / c.from-sectors.result) b c.in-Ok.ensures.reads.moved)
+    (asks-as (Err NoMemory) tt (λ failures. refl) (asks-up (same-within config c.tree_of-tree.ensures.device) c.in-Ok.ensures.touches)) (block-spent (c.args.part.first / c.from-sectors.result) b c.in-Ok.ensures.reads.moved)
+
+pub read_block-returns-in-Ok-push-clause-step : goal.read_block-returns-in-Ok-push-clause-step
+read_block-returns-in-Ok-push-clause-step g t c =
+    let config = c.args.config.now in
+    let b = block-at c.requires in
+    step-met (block-meets config c.args.part (length c.args.out.now / 512) b.some) c.in-Ok.ensures.cached
+    (asks-as (Ok tt) tt (λ failures. refl) (asks-up (same-within config c.tree_of-tree.ensures.device) c.in-Ok.ensures.touches)) (block-spent (c.args.part.first / c.from-sectors.result) b c.in-Ok.ensures.reads.moved)
 
 -- ---- one block that is checked
+
+pub read_checked-zero_sectors-requires : goal.read_checked-zero_sectors-requires
+read_checked-zero_sectors-requires g t c = omega (arith, c.requires.lies.few)
 
 pub read_checked-returns-in-Err-read_lower-clause-reads : goal.read_checked-returns-in-Err-read_lower-clause-reads
 read_checked-returns-in-Err-read_lower-clause-reads g t c =
@@ -451,7 +457,7 @@ read_checked-returns-in-Err-read_lower-clause-reads g t c =
     let out = c.read_lower.new.out in
     let fault = c.in-Err-read_lower.fault in
     let held : length out ≡ block.len = c.read_lower.auto.out ∙ ap (λ (l : List ℕ). length l) c.as_mut_slice.ensures.value ∙ sym block.ok.0 in
-    let size : block.len ≡ e.sectors * 512 = c.in-Ok.ensures in
+    let size : block.len ≡ e.sectors * 512 = c.in-Ok.ensures.ok in
     let count : length c.as_mut_slice.result.now / 512 ≡ e.sectors = omega (arith, held, size, c.read_lower.auto.out) in
     let got = subst (λ (k : ℕ). Reads c.args.config.now e.lower e.first k (record { old = map state c.args.backing.now.devices.items; new = map state c.read_lower.new.backing.devices.items; before = c.new-beneath.result.items; after = c.read_lower.new.found.items }) (Err fault)) count c.in-Err-read_lower.ensures.reads in
     checked_err bytes (place_of c.args.config.now e.lower) e.first e.sectors c.args.salt.now c.args.expected.now c.read_lower.new.found.items fault got.got
@@ -464,7 +470,7 @@ read_checked-returns-then-eq-clause-reads g t c =
     let out = c.read_lower.new.out in
     let held : length out ≡ block.len = c.read_lower.auto.out ∙ ap (λ (l : List ℕ). length l) c.as_mut_slice.ensures.value ∙ sym block.ok.0 in
     let items : bytes (with_items block out) ≡ out = with_items_is block out held in
-    let size : block.len ≡ e.sectors * 512 = c.in-Ok.ensures in
+    let size : block.len ≡ e.sectors * 512 = c.in-Ok.ensures.ok in
     let value : c.as_slice.result.now ≡ out = c.as_slice.ensures.value ∙ items in
     let good : c.digest.result ≡ c.args.expected.now = (bytes_eq-Decides c.digest.result c.args.expected.now).0 (sym c.eq.ensures ∙ c.if-eq.true) in
     let count : length c.as_mut_slice.result.now / 512 ≡ e.sectors = omega (arith, held, size, c.read_lower.auto.out) in
@@ -503,7 +509,7 @@ walk-digest_in-expected-requires g t c =
 
 pub walk-returns-in-Err-push-clause-reads : goal.walk-returns-in-Err-push-clause-reads
 walk-returns-in-Err-push-clause-reads g t c =
-    walk_full (block_in c.args.config.now c.args.verity.now c.args.index) (c.loop-level.level - 1)
+    walk_full (block_in c.args.config.now c.args.verity.now c.args.index) (c.loop-level.level - 1) (1, omega arith, c.in-Err-push.ensures.err.1)
     (hash_read c.args.config.now c.args.verity.now c.args.tree.now c.args.index c.requires.stack.sound.loaded c.requires.block.lies c.loop-level.level (c.loop-level.level - 1) (omega (arith, c.loop-level-test.true)) c.loop-level.invariant.walked c.hash_extent-extent.result c.hash_extent-extent.ensures c.in-Ok.block c.in-Ok.ensures.reads)
 
 pub walk-loop-level-preserved : goal.walk-loop-level-preserved
@@ -522,7 +528,7 @@ walk-loop-level-preserved g t c =
     let expected : c.digest_in-expected.result ≡ next_digest v level index block.items =
     c.digest_in-expected.ensures ∙ ap (λ (b : List ℕ). digest_in b c.slot_on_path.result) c.as_slice.ensures.value
     ∙ ap (digest_in block.items) (c.slot_on_path.ensures.value ∙ ap (λ (t : ShapeRecord). slot t (ancestor t level index)) c.requires.block.lies.shape_is) in
-    let longer : map bytes c.push.new.self.items ≡ path ++ (block.items ∷ []) = ap (map bytes) c.in-Ok-push.ensures.items ∙ map-append bytes c.loop-level.path.items (block ∷ []) in
+    let longer : map bytes c.push.new.v.items ≡ path ++ (block.items ∷ []) = ap (map bytes) c.in-Ok-push.ensures.ok ∙ map-append bytes c.loop-level.path.items (block ∷ []) in
     record {
       walked = subst (λ (p : List (List ℕ)). IsWalked b level c.digest_in-expected.result p old new) (sym longer)
           (subst (λ (e : List ℕ). IsWalked b level e (path ++ (block.items ∷ [])) old new) (sym expected) down);
@@ -556,7 +562,7 @@ read_data-returns-in-Ok-clause-reads g t c =
     let config = c.args.config.now in
     let tree = c.args.tree.now in
     let size = data-whole config tree.device.0 tree.line v c.requires.stack.sound.loaded c.requires.block.lies.is in
-    data_zeros bytes (block_in config v c.args.index) c.args.expected.now (map g.D.BlockDev.state c.args.backing.now.devices.items) c.in-Ok.block size.whole (sym c.is_ignored.ensures ∙ c.if-is_ignored.true) c.in-Ok.ensures
+    data_zeros bytes (block_in config v c.args.index) c.args.expected.now (map g.D.BlockDev.state c.args.backing.now.devices.items) c.in-Ok.block size.whole (sym c.is_ignored.ensures ∙ c.if-is_ignored.true) c.in-Ok.ensures.ok
 
 pub read_data-read_checked-requires : goal.read_data-read_checked-requires
 read_data-read_checked-requires g t c κs within =
@@ -570,12 +576,18 @@ pub read_data-returns-clause-reads : goal.read_data-returns-clause-reads
 read_data-returns-clause-reads g t c =
     let v = c.args.verity.now in
     let config = c.args.config.now in
-    let tree = c.args.tree.now in
     let is = c.requires.block.lies in
     data_read bytes (block_in config v c.args.index) c.args.expected.now c.read_checked.result (sym c.is_ignored.ensures ∙ c.if-is_ignored.false)
-    (checked_as config v.data tree.data (block_sectors v * c.args.index) (block_sectors v) v.salt c.args.expected.now c.read_checked.result c.data_extent-extent.result is.on_data c.data_extent-extent.ensures.value c.read_checked.ensures.reads)
+    (checked_as config v.data c.args.tree.now.data (block_sectors v * c.args.index) (block_sectors v) v.salt c.args.expected.now c.read_checked.result c.data_extent-extent.result is.on_data c.data_extent-extent.ensures.value c.read_checked.ensures.reads)
 
 -- ---- hash blocks
+
+pub hash_block-returns-in-Err-clause-reads : goal.hash_block-returns-in-Err-clause-reads
+hash_block-returns-in-Err-clause-reads g t c = record {
+  moved = AreRead-none _ (map g.D.BlockDev.state c.args.backing.now.devices.items);
+  may = c.in-Err.ensures.err largest_allocation (cached-small c.args.config.now c.requires.stack.sound.loaded _ c.args.backing.now.cache.blocks.blocks c.requires.stack.cached.kept);
+  exact = λ steady. tt;
+}
 
 pub hash_block-returns-in-Err-clause-cached : goal.hash_block-returns-in-Err-clause-cached
 hash_block-returns-in-Err-clause-cached g t c =
@@ -642,7 +654,7 @@ path_block-returns-in-Err-clause-reads g t c x =
 pub path_block-returns-in-Err-put-clause-reads : goal.path_block-returns-in-Err-put-clause-reads
 path_block-returns-in-Err-put-clause-reads g t c x =
     let got = block_there c.args.config.now c.args.verity.now c.args.tree.now c.args.wanted.now.level c.args.wanted.now.block c.hash_extent-extent.result c.hash_extent-extent.ensures (Ok c.in-Ok.bytes) c.in-Ok.ensures.reads in
-    record { moved = got.moved; may = tt; exact = λ steady. tt }
+    record { moved = got.moved; may = c.in-Err-put.ensures.err; exact = λ steady. tt }
 
 pub path_block-returns-in-Ok-put-clause-reads : goal.path_block-returns-in-Ok-put-clause-reads
 path_block-returns-in-Ok-put-clause-reads g t c x =
@@ -666,7 +678,7 @@ path_block-returns-in-Err-clause-held g t c = path-read c.args.config.now c.args
 
 pub path_block-returns-in-Err-put-clause-held : goal.path_block-returns-in-Err-put-clause-held
 path_block-returns-in-Err-put-clause-held g t c =
-    subst (All (IsCached c.args.config.now _)) (sym c.in-Err-put.ensures.err) (All-take (IsCached c.args.config.now _) c.args.wanted.now.at c.args.path.now.items (path-read c.args.config.now c.args.path.now.items c.in-Ok.ensures.reads.moved c.requires.held))
+    subst (All (IsCached c.args.config.now _)) (sym c.in-Err-put.ensures.same) (All-take (IsCached c.args.config.now _) c.args.wanted.now.at c.args.path.now.items (path-read c.args.config.now c.args.path.now.items c.in-Ok.ensures.reads.moved c.requires.held))
 
 pub path_block-returns-in-Ok-put-clause-held : goal.path_block-returns-in-Ok-put-clause-held
 path_block-returns-in-Ok-put-clause-held g t c =
@@ -783,12 +795,11 @@ read_run-returns-in-Blocks-clause-step g t c = rw c.in-Blocks.is c.read_blocks.e
 
 pub read_blocks-checks-init : goal.read_blocks-checks-init
 read_blocks-checks-init g t c =
-    let config = c.args.config.now in
     let b = blocks-at c.requires in
     record {
       checked = checked-none b c.args.chains _ _ (ap (λ (l : List (List ℕ)). length l) c.as_mut_slice-made.ensures.value) c.new-path.ensures.items c.requires.kept;
       cached = record { capacity = refl; sound = c.requires.stack.cached };
-      touches = asks-none (leaves_of config (mapped c.args.part.device.0)) (map g.D.BlockDev.state c.args.backing.now.devices.items) (Ok tt) tt refl;
+      touches = asks-none (leaves_of c.args.config.now (mapped c.args.part.device.0)) (map g.D.BlockDev.state c.args.backing.now.devices.items) (Ok tt) tt refl;
     }
 
 pub read_blocks-walk_path-requires : goal.read_blocks-walk_path-requires
@@ -945,6 +956,20 @@ read_blocks-returns-then-not-settle-clause-reads g t c =
       reads = block-differs b _ turn.inside far_to next put.len put.end _ c.index-made-at.result c.is_ignored-ignored.ensures ahead (row-covers many.ensures.some) (c.if-not-settle.ensures.other refl);
     }
 
+pub read_blocks-keep-requires : goal.read_blocks-keep-requires
+read_blocks-keep-requires g t c =
+    let v = c.args.part.verity.now in
+    let j : ℕ = c.checks.at in
+    let many = c.row_len-many in
+    let b = blocks-at c.requires in
+    let out : List ℕ = put_mid (j * v.data_block) (j * v.data_block + many.result * v.data_block - j * v.data_block) c.checks.out c.read_beneath.new.out in
+    let all : List ℕ = put_mid (j * v.data_block) (j * v.data_block + v.data_block - j * v.data_block) out c.settle.new.block in
+    let width : j * v.data_block + v.data_block - j * v.data_block ≡ v.data_block = sub-same (j * v.data_block) v.data_block in
+    let len = length-take (j * v.data_block + v.data_block - j * v.data_block) (drop (j * v.data_block) all) in
+    let Small : CachedBlock → Type 0 = λ x. length x.bytes ≤ largest_allocation in
+    let held : All Small c.walk_path.new.path.items = cached-small c.args.config.now b.loaded _ c.walk_path.new.path.items c.in-Ok.ensures.held in
+    (omega (arith, len, width, b.size.whole, b.size.most), All-take Small c.levels-levels.result c.as_slice.result.now (subst (λ (l : List CachedBlock). All Small l) (sym c.as_slice.ensures.value) held))
+
 pub read_blocks-returns-in-Err-keep-clause-reads : goal.read_blocks-returns-in-Err-keep-clause-reads
 read_blocks-returns-in-Err-keep-clause-reads g t c =
     let inv = c.checks.invariant.checked in
@@ -958,8 +983,8 @@ read_blocks-returns-in-Err-keep-clause-reads g t c =
     let far_to = far b turn row many.ensures.fresh inv.had c.in-Ok.ensures.moved c.in-Ok.ensures.ok gets in
     record {
       after = inv.after;
-      out = subst (AreHandedOut c.args.chains c.args.found.now.items inv.after) (sym c.in-Err-keep.ensures.err) inv.out;
-      reads = block-full b _ turn.inside far_to next put.len put.end;
+      out = subst (AreHandedOut c.args.chains c.args.found.now.items inv.after) (sym c.in-Err-keep.ensures.same) inv.out;
+      reads = block-full b _ turn.inside far_to next put.len put.end c.in-Err-keep.ensures.err;
     }
 
 pub read_blocks-checks-preserved : goal.read_blocks-checks-preserved

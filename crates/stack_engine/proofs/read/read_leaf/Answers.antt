@@ -1,4 +1,4 @@
-use Rattle.std.proofs.Common.{◌≡◌, ◌<◌, ◌≤◌, ◌+◌, ◌*◌, ◌/◌, ◌-◌, length, map, get_or, set, false, ℕ, List, Ok, sym, ap, ◌∙◌, subst, arith, inl, inr}
+use Rattle.std.proofs.Common.{◌≡◌, ◌<◌, ◌≤◌, ◌+◌, ◌*◌, ◌/◌, ◌-◌, length, map, get_or, set, true, false, ℕ, List, Ok, sym, ap, ◌∙◌, subst, arith, inl, inr}
 use Rattle.block_device.specs.Device.{Device, IsRead, HasFailed}
 use Rattle.stack_rules.specs.declared.lower.Lower.TheVariants.{Leaf}
 use Rattle.stack_rules.specs.Records.{Configuration}
@@ -11,7 +11,8 @@ use Rattle.stack_lines.proofs.lemmas.TouchLemmas.{leaf-named}
 use Rattle.stack_lines.proofs.lemmas.AskLemmas.{leaf-asked, leaf-ends, leaf-fails}
 use Rattle.stack_lines.proofs.lemmas.StandingLemmas.{leaf-stands}
 use Rattle.stack_meaning.proofs.lemmas.LeafLemmas.{leaf-size, leaves-few, AreRead-device, image_at, steady_at, LeafFailed-device}
-use Rattle.stack_engine.proofs.StackLemmas.{leaf-there}
+use Rattle.block_device.specs.Call.{DeviceDoes, Read}
+use Rattle.stack_engine.proofs.StackLemmas.{leaf-called, leaf-there}
 use Rattle.stack_meaning.proofs.lemmas.LeafListLemmas.{AreRead-more}
 use Rattle.stack_meaning.proofs.lemmas.SpanLemmas.{span_image}
 use Rattle.stack_meaning.proofs.lemmas.SectorLemmas.{said_at-leaf}
@@ -40,8 +41,8 @@ leaf_cost c i n = let one : n * read_cost c (Leaf i) ≡ n * 1 = ap (λ (k : ℕ
 grows : (old new : Device) (n : ℕ) → IsRead old n false new → HasFailed old new → old.failures ≤ new.failures
 grows old new n r h = elim h [ inl more ↦ omega (arith, more) | inr full ↦ omega (arith, full, r.failures) ]
 
-pub returns-in-Ok : goal.returns-in-Ok
-returns-in-Ok g c =
+pub returns-in-Ok-clause-reads : goal.returns-in-Ok-clause-reads
+returns-in-Ok-clause-reads g c =
     let state = g.D.BlockDev.state in
     let config = c.args.config.now in
     let devices = c.args.devices.now in
@@ -71,8 +72,8 @@ returns-in-Ok g c =
       touches = leaf-asked state devices leaf config c.read.new.self _ tt (leaf-ends state devices leaf x there c.read.new.self {A = Unit {0}} tt kept.failures);
     }
 
-pub returns-in-Err : goal.returns-in-Err
-returns-in-Err g c =
+pub returns-in-Err-clause-reads : goal.returns-in-Err-clause-reads
+returns-in-Err-clause-reads g c =
     let state = g.D.BlockDev.state in
     let config = c.args.config.now in
     let devices = c.args.devices.now in
@@ -93,3 +94,13 @@ returns-in-Err g c =
       plain = leaf-plain state devices leaf config c.args.first n some c.read.new.self _ (λ e. cc) (leaf-stops state devices leaf config c.args.first n some c.read.new.self);
       touches = leaf-asked state devices leaf config c.read.new.self _ (leaf-named config leaf) (leaf-fails state devices leaf x there c.read.new.self (Unit {0}) kept.failures);
     }
+
+pub returns-in-Ok-clause-call : goal.returns-in-Ok-clause-call
+returns-in-Ok-clause-call g c =
+    let there = leaf-there g.D.BlockDev.state c.args.devices.now c.args.config.now c.args.leaf c.args.first c.args.out.now c.requires.sound c.requires.fits in
+    leaf-called (DeviceDoes g.D.BlockDev.state g.D.BlockDev.does) c.args.devices.now c.args.leaf c.index-devices-leaf.result there (Read c.args.first c.read.new.out true) c.read.new.self c.in-Ok.ensures.call
+
+pub returns-in-Err-clause-call : goal.returns-in-Err-clause-call
+returns-in-Err-clause-call g c =
+    let there = leaf-there g.D.BlockDev.state c.args.devices.now c.args.config.now c.args.leaf c.args.first c.args.out.now c.requires.sound c.requires.fits in
+    leaf-called (DeviceDoes g.D.BlockDev.state g.D.BlockDev.does) c.args.devices.now c.args.leaf c.index-devices-leaf.result there (Read c.args.first c.read.new.out false) c.read.new.self c.in-Err.ensures.call

@@ -167,11 +167,10 @@ write_device-returns-in-Err-clause-writes g t c =
 
 pub write_device-returns-clause-writes : goal.write_device-returns-clause-writes
 write_device-returns-clause-writes g t c =
-    let config = c.args.config.now in
     let state = g.D.BlockDev.state in
     let bytes = c.args.plain.now ++ c.args.buffer.now in
     let whole : take c.loop-at.at bytes ≡ bytes = take_all c.loop-at.at bytes (omega (arith, c.loop-at-test.false, ap (λ (l : List ℕ). length l) c.held-len.ensures)) in
-    subst (λ (b : List ℕ). WritesSectors (destination_of config (mapped c.args.d.0)) c.args.first (sectors_in b) (map state c.args.backing.now.devices.items) (map state c.loop-at.backing.devices.items) (Ok tt)) whole c.loop-at.invariant.so_far
+    subst (λ (b : List ℕ). WritesSectors (destination_of c.args.config.now (mapped c.args.d.0)) c.args.first (sectors_in b) (map state c.args.backing.now.devices.items) (map state c.loop-at.backing.devices.items) (Ok tt)) whole c.loop-at.invariant.so_far
 
 pub write_device-returns-in-Err-clause-step : goal.write_device-returns-in-Err-clause-step
 write_device-returns-in-Err-clause-step g t c =
@@ -270,17 +269,13 @@ write_run-write_unit_part-requires g t c κs within =
 pub write_run-returns-in-Units-clause-writes : goal.write_run-returns-in-Units-clause-writes
 write_run-returns-in-Units-clause-writes g t c =
     let run = c.in-Units in
-    let plain = c.args.plain.now in
-    let buffer = c.args.buffer.now in
-    let none = none-of_units c.args.config.now run.part c.args.source plain buffer c.requires.can.fits c.requires.bytes run.is in
+    let none = none-of_units c.args.config.now run.part c.args.source c.args.plain.now c.args.buffer.now c.requires.can.fits c.requires.bytes run.is in
     rw (run.is, none) c.write_units.ensures.writes
 
 pub write_run-returns-in-UnitPart-clause-writes : goal.write_run-returns-in-UnitPart-clause-writes
 write_run-returns-in-UnitPart-clause-writes g t c =
     let run = c.in-UnitPart in
-    let plain = c.args.plain.now in
-    let buffer = c.args.buffer.now in
-    let none = none-of_part c.args.config.now run.part c.args.source plain buffer c.requires.can.fits c.requires.bytes run.is in
+    let none = none-of_part c.args.config.now run.part c.args.source c.args.plain.now c.args.buffer.now c.requires.can.fits c.requires.bytes run.is in
     rw (run.is, none) c.write_unit_part.ensures.writes
 
 pub write_run-returns-in-Zeros-clause-writes : goal.write_run-returns-in-Zeros-clause-writes
@@ -321,8 +316,6 @@ write_units-unit_at-unit-requires g t c = let small = size-small c.args.config.n
 
 pub write_units-encrypt-requires-clause-fits : goal.write_units-encrypt-requires-clause-fits
 write_units-encrypt-requires-clause-fits g t c =
-    let p = c.args.part in
-    let n : ℕ = length c.args.units.now / 512 in
     omega (arith, c.requires.fits.holds.small, c.unit_at-unit.ensures.index, c.requires.fits.sectors.whole)
 
 pub write_units-encrypt-requires-clause-whole : goal.write_units-encrypt-requires-clause-whole
@@ -339,22 +332,14 @@ write_units-lower_cuts-requires-clause-sectors g t c =
     let p = c.args.part in
     let n : ℕ = length c.args.units.now / 512 in
     let crypt = c.args.part.crypt.now in
-    let unit = c.unit_at-unit in
-    let inside = c.requires.fits.holds.inside in
     record {
       allowed = c.requires.allowed;
-      holds = omega (arith, inside, unit.ensures.first, c.encrypt.auto.units);
+      holds = omega (arith, c.requires.fits.holds.inside, c.unit_at-unit.ensures.first, c.encrypt.auto.units);
       steps = search rules;
     }
 
 pub write_units-write_lower-requires : goal.write_units-write_lower-requires
 write_units-write_lower-requires g t c κs within =
-    let config = c.args.config.now in
-    let p = c.args.part in
-    let n : ℕ = length c.args.units.now / 512 in
-    let crypt = c.args.part.crypt.now in
-    let unit = c.unit_at-unit in
-    let inside = c.requires.fits.holds.inside in
     let same = c.encrypt.auto.units in (
       omega arith,
       (
@@ -365,7 +350,7 @@ write_units-write_lower-requires g t c κs within =
             allowed = c.requires.allowed;
             fits = record {
               sectors = record { some = omega (arith, same, c.requires.fits.sectors.some); whole = omega (arith, same, c.requires.fits.sectors.whole) };
-              holds = omega (arith, inside, unit.ensures.first, same);
+              holds = omega (arith, c.requires.fits.holds.inside, c.unit_at-unit.ensures.first, same);
             };
           },
           inl refl,
@@ -397,29 +382,24 @@ write_units-returns-then-lower_cuts-clause-writes g t c =
 
 pub write_units-write_lower-requires-in-loop-at : goal.write_units-write_lower-requires-in-loop-at
 write_units-write_lower-requires-in-loop-at g t c κs within =
-    let config = c.args.config.now in
-    let p = c.args.part in
     let bytes = c.args.units.now in
     let n : ℕ = length bytes / 512 in
     let crypt = c.args.part.crypt.now in
-    let unit = c.unit_at-unit in
     let size : ℕ = c.unit_sectors-sectors.result * 512 in
-    let at = c.loop-at.at in
     let long : length bytes ≡ 512 * n = omega (arith, c.requires.fits.sectors.whole) in
-    let step = step-at crypt (length bytes) n at size c.min-end.result (omega (arith, c.unit_sectors-sectors.ensures.value, unit-bytes crypt)) long
+    let step = step-at crypt (length bytes) n c.loop-at.at size c.min-end.result (omega (arith, c.unit_sectors-sectors.ensures.value, unit-bytes crypt)) long
     c.requires.fits.holds.whole c.loop-at.invariant.even (omega (arith, c.loop-at-test.true, c.encrypt.auto.units)) (omega (arith, c.min-end.ensures, c.encrypt.auto.units)) in
-    let inside = c.requires.fits.holds.inside in
     let width = step-width step c.loop-at.units (omega (arith, long, c.loop-at.auto.units, c.encrypt.auto.units)) in (
       omega arith,
       (
         within,
         (
           record {
-            stack = stack-later config c.loop-at.invariant.so_far.moved.moved.fixed c.requires.stack c.loop-at.invariant.step.cached;
+            stack = stack-later c.args.config.now c.loop-at.invariant.so_far.moved.moved.fixed c.requires.stack c.loop-at.invariant.step.cached;
             allowed = c.requires.allowed;
             fits = record {
               sectors = record { some = omega (arith, width, step.is, unit-bytes crypt, unit_sectors-some crypt); whole = omega (arith, width) };
-              holds = omega (arith, width, inside, unit.ensures.first, step.place, step.fits, step.is, unit-bytes crypt);
+              holds = omega (arith, width, c.requires.fits.holds.inside, c.unit_at-unit.ensures.first, step.place, step.fits, step.is, unit-bytes crypt);
             };
           },
           inl refl,
@@ -454,12 +434,11 @@ write_units-loop-at-preserved g t c =
     let long : length bytes ≡ 512 * n = omega (arith, c.requires.fits.sectors.whole) in
     let step = step-at crypt (length bytes) n at size c.min-end.result (omega (arith, c.unit_sectors-sectors.ensures.value, unit-bytes crypt)) long
     c.requires.fits.holds.whole inv.even (omega (arith, c.loop-at-test.true, c.encrypt.auto.units)) (omega (arith, c.min-end.ensures, c.encrypt.auto.units)) in
-    let lower = c.args.part.lower in
     let now = c.loop-at.units in
     let now_long : length now ≡ 512 * n = omega (arith, long, c.loop-at.auto.units, c.encrypt.auto.units) in
     let enc = encrypted-is crypt unit.result.index (p.first / unit_sectors crypt) bytes c.encrypt.new.units c.encrypt.ensures unit.ensures.index in
     let old = map state c.args.backing.now.devices.items in
-    let wrote = step-written step config lower unit.result.first (unit_first crypt p.first) now c.encrypt.new.units (encrypted_units crypt (p.first / unit_sectors crypt) bytes) unit.ensures.first inv.rest enc c.in-Ok.ensures.writes in
+    let wrote = step-written step config c.args.part.lower unit.result.first (unit_first crypt p.first) now c.encrypt.new.units (encrypted_units crypt (p.first / unit_sectors crypt) bytes) unit.ensures.first inv.rest enc c.in-Ok.ensures.writes in
     let so_far = subst (λ (k : ℕ). WritesSectors (source_destination config (Units p)) 0 (sectors_in (take k bytes)) old (map state c.loop-at.backing.devices.items) (Ok tt)) step.place inv.so_far in
     let all = units-more config p bytes n c.requires.fits.holds long (at / size) step.fits so_far wrote in
     record {
@@ -496,21 +475,15 @@ write_units-returns-in-Err-clause-writes g t c =
 
 pub write_units-overflow_add-first : goal.write_units-overflow_add-first
 write_units-overflow_add-first g t c =
-    let config = c.args.config.now in
-    let p = c.args.part in
-    let n : ℕ = length c.args.units.now / 512 in
-    let crypt = c.args.part.crypt.now in
-    let inside = c.requires.fits.holds.inside in
-    let small = size-small config c.args.part.lower c.requires.stack.sound.loaded in
-    omega (arith, inside, small, c.unit_at-unit.ensures.first, c.encrypt.auto.units, c.loop-at-test.true)
+    let small = size-small c.args.config.now c.args.part.lower c.requires.stack.sound.loaded in
+    omega (arith, c.requires.fits.holds.inside, small, c.unit_at-unit.ensures.first, c.encrypt.auto.units, c.loop-at-test.true)
 
 pub write_units-returns-clause-writes : goal.write_units-returns-clause-writes
 write_units-returns-clause-writes g t c =
-    let config = c.args.config.now in
     let state = g.D.BlockDev.state in
     let bytes = c.args.units.now in
     let whole : take c.loop-at.at bytes ≡ bytes = take_all c.loop-at.at bytes (omega (arith, c.loop-at-test.false, c.encrypt.auto.units)) in
-    subst (λ (b : List ℕ). WritesSectors (source_destination config (Units c.args.part)) 0 (sectors_in b) (map state c.args.backing.now.devices.items) (map state c.loop-at.backing.devices.items) (Ok tt)) whole c.loop-at.invariant.so_far
+    subst (λ (b : List ℕ). WritesSectors (source_destination c.args.config.now (Units c.args.part)) 0 (sectors_in b) (map state c.args.backing.now.devices.items) (map state c.loop-at.backing.devices.items) (Ok tt)) whole c.loop-at.invariant.so_far
 
 pub write_units-returns-then-lower_cuts-clause-step : goal.write_units-returns-then-lower_cuts-clause-step
 write_units-returns-then-lower_cuts-clause-step g t c =
@@ -549,10 +522,9 @@ write_units-returns-clause-step g t c =
 pub write_unit_part-read_units-requires : goal.write_unit_part-read_units-requires
 write_unit_part-read_units-requires g t c =
     let config = c.args.config.now in
-    let p = c.args.part in
     let n : ℕ = length c.args.bytes.now / 512 in
     let whole = c.whole_unit-whole in
-    let units = whole-units config p whole.result n whole.ensures.whole c.requires.fits.holds (omega (arith, c.requires.fits.sectors.some, c.requires.fits.sectors.whole)) in
+    let units = whole-units config c.args.part whole.result n whole.ensures.whole c.requires.fits.holds (omega (arith, c.requires.fits.sectors.some, c.requires.fits.sectors.whole)) in
     let size = room_length c.as_mut_slice-all.result.now whole.result.sectors (ap (λ (l : List ℕ). length l) c.as_mut_slice-all.ensures.value) whole.ensures.few in
     let count = room_sectors c.as_mut_slice-all.result.now whole.result.sectors (ap (λ (l : List ℕ). length l) c.as_mut_slice-all.ensures.value) whole.ensures.few in
     record {
@@ -585,8 +557,6 @@ write_unit_part-returns-in-Err-clause-writes g t c =
 
 pub write_unit_part-put_sectors-requires : goal.write_unit_part-put_sectors-requires
 write_unit_part-put_sectors-requires g t c =
-    let p = c.args.part in
-    let n : ℕ = length c.args.bytes.now / 512 in
     let whole = c.whole_unit-whole in
     let of = whole.ensures.whole in
     let room : length c.as_mut_slice-all.result.now ≡ 4096 = ap (λ (l : List ℕ). length l) c.as_mut_slice-all.ensures.value in
@@ -622,7 +592,6 @@ pub write_unit_part-returns-clause-writes : goal.write_unit_part-returns-clause-
 write_unit_part-returns-clause-writes g t c =
     let config = c.args.config.now in
     let state = g.D.BlockDev.state in
-    let p = c.args.part in
     let bytes = c.args.bytes.now in
     let n : ℕ = length bytes / 512 in
     let whole = c.whole_unit-whole in
@@ -632,7 +601,7 @@ write_unit_part-returns-clause-writes g t c =
     let mid = map state c.read_units.new.backing.devices.items in
     let did : LeafRead = record { old = old; new = mid; before = c.new-found.result.items; after = c.read_units.new.found.items } in
     let plain = c.read_units.new.out in
-    part-written config p whole.result bytes n c.requires.stack.sound.loaded of c.requires.fits.holds (omega (arith, c.requires.fits.sectors.some, c.requires.fits.sectors.whole)) (omega (arith, c.requires.fits.sectors.whole)) c.requires.allowed
+    part-written config c.args.part whole.result bytes n c.requires.stack.sound.loaded of c.requires.fits.holds (omega (arith, c.requires.fits.sectors.some, c.requires.fits.sectors.whole)) (omega (arith, c.requires.fits.sectors.whole)) c.requires.allowed
     (all-whole state g.met.D.BlockDev.whole c.args.backing.now.devices.items)
     (subst (λ (k : ℕ). ReadsSource config (Units whole.result.from) k did (Ok plain)) count c.in-Ok.ensures.reads)
     (subst (λ (k : ℕ). IsPlain (source_said config (Units whole.result.from)) 0 k old mid (Ok tt)) count c.in-Ok.ensures.step.plain)

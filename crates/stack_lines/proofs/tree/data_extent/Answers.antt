@@ -21,4 +21,4 @@ returns c =
     let room = data-inside c.args.config.now v tree c.requires.loaded c.requires.block.lies c.args.index c.requires.block.there in
     let same : c.from.result * c.args.index ≡ block_sectors v * c.args.index = ap (λ (k : ℕ). k * c.args.index) c.from.ensures in
     let at : ℕ → Extent = λ k. record { lower = tree.data; first = k; sectors = block_sectors v } in
-    record { value = ap at same; lies = record { some = size.some; inside = omega (arith, same, room) } }
+    record { value = ap at same; lies = record { some = size.some; few = size.most; inside = omega (arith, same, room) } }

@@ -31,4 +31,4 @@ returns c =
     let there : place ≡ position (tree_of v) level (ancestor (tree_of v) (level + 1) index) =
     c.position-place.ensures.value ∙ ap (position tree.shape level) c.block_on_path.ensures.value ∙ ap (λ (t : ShapeRecord). position t level (ancestor t (level + 1) index)) is.shape_is in
     let at : ℕ → Extent = λ k. record { lower = tree.hash; first = k; sectors = hash_sectors v } in
-    record { value = ap at (same ∙ ap (λ (k : ℕ). hash_sectors v * k) there); lies = record { some = size.some; inside = omega (arith, same, room) } }
+    record { value = ap at (same ∙ ap (λ (k : ℕ). hash_sectors v * k) there); lies = record { some = size.some; few = size.most; inside = omega (arith, same, room) } }

@@ -23,10 +23,8 @@ use Rattle.stack_engine.proofs.stack.Stack.read_piece.Goals as goal
 -- the buffer has n sectors
 count : (g : given.Over) (c : goal.Joined-read_device g) → length c.as_mut_slice.result.now / 512 ≡ c.args.n
 count g c =
-    let size = c.in-Ok.ensures in
-    let block = c.in-Ok.bytes.ok.0 in
     let len : length c.as_mut_slice.result.now ≡ length c.in-Ok.bytes.items = ap (λ l. length l) c.as_mut_slice.ensures.value in
-    omega (arith, len, size, block)
+    omega (arith, len, c.in-Ok.ensures.ok, c.in-Ok.bytes.ok.0)
 
 -- what the read did, of the stack's own devices
 reads : (g : given.Over) (c : goal.Joined-read_device g)
@@ -85,10 +83,9 @@ returns-clause-steady g c = (piece g c).steady
 pub returns-clause-stops : goal.returns-clause-stops
 returns-clause-stops g c =
     let state = g.D.BlockDev.state in
-    let config = c.self.inside.config in
     let old = map state c.self.inside.backing.devices.items in
     let new = map state c.read_device.new.backing.devices.items in
-    let said : ℕ → Said = said_at config (mapped c.args.d.0) in
+    let said : ℕ → Said = said_at c.self.inside.config (mapped c.args.d.0) in
     let plain = subst (λ (n : ℕ). IsPlain said c.args.first n old new c.read_device.result) (count g c) c.read_device.ensures.step.plain in
     let Stops : Result AnswerRecord IoFault → Type 0 = λ r. ReadStops said c.args.first c.args.n old new r in
     let stops : (MeetVerity said c.args.first c.args.n → ⊥) → Stops c.match-read_device.result = λ none. elim c.match-read_device.branch [
@@ -98,7 +95,7 @@ returns-clause-stops g c =
     subst (λ (w : StackRecord). (MeetVerity (said_at w.config (mapped c.args.d.0)) c.args.first c.args.n → ⊥) → ReadStops (said_at w.config (mapped c.args.d.0)) c.args.first c.args.n w.leaves new c.match-read_device.result) c.self.view_is stops
 
 pub returns-in-Err-clause-stops : goal.returns-in-Err-clause-stops
-returns-in-Err-clause-stops g c = λ none counted. record { before = 0; failed = c.args.n; some = omega (arith, c.requires.some); inside = omega arith; by = tt; leaf = λ i d out. refl }
+returns-in-Err-clause-stops g c = λ none counted. record { before = 0; failed = c.args.n; some = omega (arith, c.requires.some); inside = omega arith; by = c.in-Err.ensures.err; leaf = λ i d out. refl }
 
 pub returns-clause-spent : goal.returns-clause-spent
 returns-clause-spent g c =

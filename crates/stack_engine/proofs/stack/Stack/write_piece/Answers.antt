@@ -54,10 +54,10 @@ returns-clause-steady g c = (whole g c).steady
 -- nothing was written, for want of memory
 
 pub returns-in-Err-clause-any : goal.returns-in-Err-clause-any
-returns-in-Err-clause-any g c = (none-written c.args.self.now c.args.d.0 c.args.first c.args.bytes.now c.requires.piece (omega (arith, c.requires.piece.sectors.some, c.requires.piece.sectors.whole))).any
+returns-in-Err-clause-any g c = (none-written c.args.self.now c.args.d.0 c.args.first c.args.bytes.now c.in-Err.ensures.err c.requires.piece (omega (arith, c.requires.piece.sectors.some, c.requires.piece.sectors.whole))).any
 
 pub returns-in-Err-clause-steady : goal.returns-in-Err-clause-steady
-returns-in-Err-clause-steady g c = (none-written c.args.self.now c.args.d.0 c.args.first c.args.bytes.now c.requires.piece (omega (arith, c.requires.piece.sectors.some, c.requires.piece.sectors.whole))).steady
+returns-in-Err-clause-steady g c = (none-written c.args.self.now c.args.d.0 c.args.first c.args.bytes.now c.in-Err.ensures.err c.requires.piece (omega (arith, c.requires.piece.sectors.some, c.requires.piece.sectors.whole))).steady
 
 -- where no unit is cut
 
