@@ -4,6 +4,7 @@ ghost use Rattle.stack_commands.specs.declared.fault.CommandFault.TheVariants as
 ghost use Rattle.stack_session.specs.declared.fault.SessionFault.TheVariants as session_fault;
 ghost use Rattle.stack_commands.specs.Endings.{command_words_ending};
 
+use allocation::OutOfMemory;
 use command_line::WordsFault;
 use counted_io::WriteFault;
 use fec_commands::FecFault;
@@ -16,7 +17,6 @@ use stack_engine::IoFault;
 use stack_making::StackFault;
 use stack_session::SessionFault;
 use stack_streams::StreamFault;
-use std::alloc::{AllocError, AllocFailed};
 use tree_commands::TreeFault;
 use verity_commands::VerityFault;
 
@@ -55,18 +55,10 @@ pub enum CommandFault<'a> {
     Service(ServiceFault),
 }
 
-impl From<AllocError> for CommandFault<'_> {
+impl From<OutOfMemory> for CommandFault<'_> {
     ghost from_gives = { λ _ fault. fault ≡ command_fault.NoMemory };
 
-    fn from(_error: AllocError) -> Self {
-        CommandFault::NoMemory
-    }
-}
-
-impl<T: Drop> From<AllocFailed<T>> for CommandFault<'_> {
-    ghost from_gives = { λ _ fault. fault ≡ command_fault.NoMemory };
-
-    fn from(_refused: AllocFailed<T>) -> Self {
+    fn from(_error: OutOfMemory) -> Self {
         CommandFault::NoMemory
     }
 }
