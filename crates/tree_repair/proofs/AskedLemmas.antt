@@ -8,7 +8,7 @@ use Rattle.tree_path.proofs.lemmas.DeviceLemmas.{only_read-none}
 use Rattle.tree_path.specs.Steps.{HasReadAtMost}
 use Rattle.tree_repair.specs.Bills.{Bill, IsAskedOnce, LeavesWorld, LeavesBeneath, LeavesBlock, LeavesHashVisit, LeavesVisit, beneath_over, data_over, hash_over, hash_up_to, left_of, made_over, reading, sectors_over, visits_over}
 use Rattle.tree_repair.specs.Mending.{IsFoundNowhere, Look}
-use Rattle.tree_repair.specs.Remaking.{count_in}
+use Rattle.tree_path.specs.Unused.{digests_in}
 use Rattle.tree_repair.specs.Runs.{size_at}
 use Rattle.tree_repair.specs.Visits.{IsTreePut, KeepsData}
 use Rattle.tree_repair.specs.Worlds.{AreBothRead, RepairWorld, repair_world}
@@ -17,11 +17,11 @@ use Rattle.tree_repair.proofs.OverLemmas.{data-more, hash-more, left-above, left
 
 -- ---- a block that is read to make another one
 
-module _ (s : ShapeRecord) (valid : IsShape s) (h k : ℕ) (inside : k < count_in s h) where
+module _ (s : ShapeRecord) (valid : IsShape s) (h k : ℕ) (inside : k < digests_in s h) where
   pub next-here : sectors_over s h (left_of s h (k + 1)) + size_at s h / 512 ≤ sectors_over s h (left_of s h k)
   next-here = subst (λ (n : ℕ). sectors_over s h n + size_at s h / 512 ≤ sectors_over s h (left_of s h k)) (sym (left-next s h k)) (sectors-next s valid h (left_of s h k) (left-some s valid h k inside))
 
-pub made-data : (s : ShapeRecord) → IsShape s → (h k : ℕ) → h ≡ 0 → k < count_in s h → (w : RepairWorld) (d' : Device) → IsOnlyRead w.data_dev d' → HasReadAtMost w.data_dev (s.data_block / 512) d'
+pub made-data : (s : ShapeRecord) → IsShape s → (h k : ℕ) → h ≡ 0 → k < digests_in s h → (w : RepairWorld) (d' : Device) → IsOnlyRead w.data_dev d' → HasReadAtMost w.data_dev (s.data_block / 512) d'
     → LeavesBlock (made_over s h) s h k w (repair_world d' w.hash_dev w.data_copies w.hash_copies)
 made-data s valid zero k none inside w d' read asked =
     leaves-more (made_over s 0 (left_of s 0 k)) (made_over s 0 (left_of s 0 (k + 1)))
@@ -30,7 +30,7 @@ made-data s valid zero k none inside w d' read asked =
     (record { data_reads = omega (arith, next-here s valid 0 k inside); hash_reads = omega arith; data_once = omega arith; hash_once = omega arith })
 made-data s valid (suc l) k none inside w d' read asked = absurd (omega (arith, none))
 
-pub made-hash : (s : ShapeRecord) → IsShape s → (h l k : ℕ) → h ≡ suc l → k < count_in s h → (w : RepairWorld) (d' : Device) → IsOnlyRead w.hash_dev d' → HasReadAtMost w.hash_dev (s.hash_block / 512) d'
+pub made-hash : (s : ShapeRecord) → IsShape s → (h l k : ℕ) → h ≡ suc l → k < digests_in s h → (w : RepairWorld) (d' : Device) → IsOnlyRead w.hash_dev d' → HasReadAtMost w.hash_dev (s.hash_block / 512) d'
     → LeavesBlock (made_over s h) s h k w (repair_world w.data_dev d' w.data_copies w.hash_copies)
 made-hash s valid zero l k some inside w d' read asked = absurd (omega (arith, some))
 made-hash s valid (suc m) l k some inside w d' read asked =

@@ -19,7 +19,8 @@ use Rattle.hash_tree.proofs.lemmas.TreeFactLemmas.{length-level, level-packed, p
 use Rattle.hash_tree.proofs.lemmas.TreeLemmas.{length-digest}
 use Rattle.verity_format.specs.Blocks.{block_at, blocks_at}
 use Rattle.tree_repair.specs.Laws.{chain_block_below}
-use Rattle.tree_repair.specs.Remaking.{Ground, children, count_in, made}
+use Rattle.tree_path.specs.Unused.{digests_in}
+use Rattle.tree_repair.specs.Remaking.{Ground, children, made}
 
 -- ---- parts of a range
 
@@ -80,26 +81,26 @@ module _ (s : ShapeRecord) (valid : IsShape s) (salt : List ℕ) (data_image has
   level-long l = length-level s two whole salt l (s.blocks - 1) ds sized counted ∙ ap (λ (t : ShapeRecord). level_blocks t l) (over-same s valid.some)
 
   -- a block of the digests beneath it
-  made-up : (l i : ℕ) → filled s.hash_block (take s.hash_block (drop (s.hash_block * i) (concat (map (digest_of l) (range_with_len 0 (count_in s l)))))) ≡ made here (suc l) i
+  made-up : (l i : ℕ) → filled s.hash_block (take s.hash_block (drop (s.hash_block * i) (concat (map (digest_of l) (range_with_len 0 (digests_in s l)))))) ≡ made here (suc l) i
   unfolding made
   made-up l i =
       let p = per_block s in
       let none : l ≡ 0 + l = omega arith in
-      ap (λ (n : ℕ). filled s.hash_block (take n (drop (n * i) (concat (map (digest_of l) (range_with_len 0 (count_in s l))))))) whole
-      ∙ ap (filled s.hash_block) (part (digest_of l) p (count_in s l) i (λ n. length-digest salt (made here l n)))
+      ap (λ (n : ℕ). filled s.hash_block (take n (drop (n * i) (concat (map (digest_of l) (range_with_len 0 (digests_in s l))))))) whole
+      ∙ ap (filled s.hash_block) (part (digest_of l) p (digests_in s l) i (λ n. length-digest salt (made here l n)))
       ∙ ap (λ (h : ℕ). filled s.hash_block (concat (map (digest_of l) (children s h i)))) none
 
-  level-of : (l : ℕ) → packed_in s two whole salt ds l ≡ map (digest_of l) (range_with_len 0 (count_in s l)) → level s.hash_block salt ds l ≡ map (made here (suc l)) (range_with_len 0 (level_blocks s l))
+  level-of : (l : ℕ) → packed_in s two whole salt ds l ≡ map (digest_of l) (range_with_len 0 (digests_in s l)) → level s.hash_block salt ds l ≡ map (made here (suc l)) (range_with_len 0 (level_blocks s l))
   unfolding cut
   level-of l packed =
-      let bytes : List ℕ = concat (map (digest_of l) (range_with_len 0 (count_in s l))) in
-      let is : level s.hash_block salt ds l ≡ pack s.hash_block (map (digest_of l) (range_with_len 0 (count_in s l))) = level-packed s two whole salt ds l ∙ ap (pack s.hash_block) packed in
+      let bytes : List ℕ = concat (map (digest_of l) (range_with_len 0 (digests_in s l))) in
+      let is : level s.hash_block salt ds l ≡ pack s.hash_block (map (digest_of l) (range_with_len 0 (digests_in s l))) = level-packed s two whole salt ds l ∙ ap (pack s.hash_block) packed in
       let count : div_ceil (length bytes) s.hash_block ≡ level_blocks s l = sym (length-cut s.hash_block bytes) ∙ ap (λ (x : List (List ℕ)). length x) (sym is) ∙ level-long l in
       is
       ∙ ap (λ (n : ℕ). map (λ i. filled s.hash_block (take s.hash_block (drop (s.hash_block * i) bytes))) (range_with_len 0 n)) count
       ∙ ap (λ (f : ℕ → List ℕ). map f (range_with_len 0 (level_blocks s l))) (fun_ext (made-up l))
 
-  packed-made : (l : ℕ) → packed_in s two whole salt ds l ≡ map (digest_of l) (range_with_len 0 (count_in s l))
+  packed-made : (l : ℕ) → packed_in s two whole salt ds l ≡ map (digest_of l) (range_with_len 0 (digests_in s l))
   unfolding made
   packed-made zero = map-map (digest salt) (block_at data_image s.data_block) (range_with_len 0 s.blocks)
   packed-made (suc l) = ap (map (digest salt)) (level-of l (packed-made l)) ∙ map-map (digest salt) (made here (suc l)) (range_with_len 0 (level_blocks s l))

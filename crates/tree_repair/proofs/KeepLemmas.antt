@@ -13,7 +13,7 @@ use Rattle.tree_repair.specs.Worlds.{IsWorldRead, RepairWorld, repair_world}
 use Rattle.tree_repair.proofs.AskedLemmas.{next-here}
 use Rattle.tree_path.proofs.lemmas.DeviceLemmas.{only_read-none}
 use Rattle.tree_repair.specs.ParityBounds.{TellsOfHash}
-use Rattle.tree_repair.specs.Remaking.{count_in}
+use Rattle.tree_path.specs.Unused.{digests_in}
 use Rattle.tree_repair.specs.declared.fault.RepairFault.{RepairFault}
 use Rattle.verity_format.specs.Blocks.{IsOnlyRead}
 use Rattle.tree_repair.proofs.BillLemmas.{leaves-end, leaves-more, leaves-none, leaves-read, leaves-then}
@@ -25,7 +25,7 @@ use Rattle.tree_repair.proofs.RunLemmas.{world-then}
 block-back : (s : ShapeRecord) → IsShape s → (h i : ℕ) → i < s.blocks → (w x : RepairWorld) → LeavesWorld (block_read s h) nothing_due w x → LeavesBlock (made_over s h) s h (ancestor s h i) w x
 block-back s valid zero i inside w x read =
     let k : ℕ = ancestor s zero i in
-    let low : k < count_in s zero = omega (arith, ancestor-none s valid i, inside) in
+    let low : k < digests_in s zero = omega (arith, ancestor-none s valid i, inside) in
     leaves-more (made_over s zero (left_of s zero k)) (made_over s zero (left_of s zero (k + 1))) read
     (record { data_reads = omega (arith, next-here s valid zero k low); hash_reads = omega arith; data_once = omega arith; hash_once = omega arith })
 block-back s valid (suc l) i inside w x read =

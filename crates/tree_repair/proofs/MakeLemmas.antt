@@ -18,7 +18,8 @@ use Rattle.hash_tree.proofs.lemmas.PackingLemmas.{length-concat}
 use Rattle.hash_tree.proofs.lemmas.TreeLemmas.{length-digest}
 use Rattle.verity_format.specs.Blocks.{AreOnlyRead}
 use Rattle.tree_path.proofs.lemmas.DeviceLemmas.{only_read-none, only_read-then, steady-then}
-use Rattle.tree_repair.specs.Remaking.{Ground, HaveBlocks, IsOver, IsUnlike, count_in, ground, made, standing_block}
+use Rattle.tree_path.specs.Unused.{digests_in}
+use Rattle.tree_repair.specs.Remaking.{Ground, HaveBlocks, IsOver, IsUnlike, ground, made, standing_block}
 use Rattle.tree_repair.specs.Worlds.{AreBothRead, RepairWorld}
 
 -- ---- how many blocks there are
@@ -118,12 +119,12 @@ pub above : (from steps : ℕ) → 0 < steps → from + steps ≡ suc (from + (s
 above from steps some = omega (arith, some)
 
 made-suc : (g : Ground) (steps n : ℕ)
-    → made g (suc steps) n ≡ filled g.shape.hash_block (digests g steps (n * per_block g.shape) (min (per_block g.shape) (count_in g.shape (g.height + steps) - n * per_block g.shape)))
+    → made g (suc steps) n ≡ filled g.shape.hash_block (digests g steps (n * per_block g.shape) (min (per_block g.shape) (digests_in g.shape (g.height + steps) - n * per_block g.shape)))
 unfolding made
 made-suc g steps n = refl
 
 pub made-all : (g : Ground) (steps n first count : ℕ) → 0 < steps → first ≡ n * per_block g.shape
-    → count ≡ min (per_block g.shape) (count_in g.shape (g.height + (steps - 1)) - n * per_block g.shape)
+    → count ≡ min (per_block g.shape) (digests_in g.shape (g.height + (steps - 1)) - n * per_block g.shape)
     → made g steps n ≡ filled g.shape.hash_block (digests g (steps - 1) first count)
 made-all g steps n first count some from few =
     let up : steps ≡ suc (steps - 1) = omega (arith, some) in

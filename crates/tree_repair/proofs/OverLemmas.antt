@@ -8,7 +8,7 @@ use Rattle.tree_shape.specs.Shape.{ShapeRecord, IsShape, ancestor, level_blocks,
 use Rattle.tree_shape.proofs.lemmas.ShapeLemmas.{pow_pos}
 use Rattle.tree_path.proofs.lemmas.SpanLemmas.{lower-mod, power-more, whole}
 use Rattle.tree_repair.specs.Bills.{data_over, hash_over, hash_up_to, left_of, sectors_over}
-use Rattle.tree_repair.specs.Remaking.{count_in}
+use Rattle.tree_path.specs.Unused.{digests_in}
 use Rattle.tree_repair.specs.Runs.{size_at}
 use Rattle.tree_repair.proofs.RowLemmas.{per_block-some}
 
@@ -119,13 +119,13 @@ module _ (s : ShapeRecord) (valid : IsShape s) where
   -- ---- from a block on
 
   -- block k of a height has data
-  pub block-some : (h k : ℕ) → k < count_in s h → k * per_block s ^ h < s.blocks
+  pub block-some : (h k : ℕ) → k < digests_in s h → k * per_block s ^ h < s.blocks
   block-some zero k below = (let one : per_block s ^ zero ≡ 1 = pow-zero (per_block s) in rw one (omega (arith, below)))
   block-some (suc l) k below =
       let count : level_blocks s l ≡ div_ceil s.blocks (per_block s ^ suc l) = level-is s l ∙ ap (λ (n : ℕ). div_ceil s.blocks (per_block s ^ n)) (add-one l) in
       inside-ceil (per_block s ^ suc l) (power-some (suc l)) s.blocks k (subst (λ (n : ℕ). k < n) count below)
 
-  pub left-some : (h k : ℕ) → k < count_in s h → 0 < left_of s h k
+  pub left-some : (h k : ℕ) → k < digests_in s h → 0 < left_of s h k
   left-some h k below = omega (arith, block-some h k below)
 
   pub left-above : (h i : ℕ) → i < s.blocks → 0 < left_of s h (ancestor s h i)

@@ -9,9 +9,10 @@ use Rattle.std.proofs.lemmas.Bool.{true≢false}
 use Rattle.std.proofs.lemmas.Grind.{flat_map-append}
 use Rattle.std.proofs.lemmas.List.{append-nil, append_assoc}
 use Rattle.std.proofs.lemmas.List.Elements.{All-append, All-cons, All-nil}
+use Rattle.allocation.specs.Refusal.{IsOutOfMemory, IsRefused}
 use Rattle.block_device.specs.Device.{Device, IsSameDevice}
 use Rattle.fec_area.specs.declared.layout.Layout.{Layout}
-use Rattle.fec_area.specs.Layouts.{IsLaidOn}
+use Rattle.fec_area.specs.Layouts.{IsLaidOn, largest_allocation}
 use Rattle.verity_format.specs.declared.verifying.VerifyFault.TheVariants.{Super, TooSmall, Device as DeviceFailed, NoMemory}
 use Rattle.verity_format.specs.Blocks.{IsOnlyRead}
 use Rattle.tree_path.proofs.lemmas.DeviceLemmas.{only_read-none, only_read-then, same-none, same-then}
@@ -66,7 +67,7 @@ cause-then vs us (Some (Image DeviceFailed)) before cause = record {
   found = cause.found;
   failed = cause.failed;
 }
-cause-then vs us (Some (Image NoMemory)) before cause = All-append IsDone vs us before cause
+cause-then vs us (Some (Image NoMemory)) before cause = (All-append IsDone vs us before cause.0, cause.1)
 cause-then vs us (Some Write) before cause = All-append IsDone vs us before cause
 
 -- a run that came to its end goes on
@@ -89,9 +90,16 @@ pub ended-from : {T : Type 0} {j : Job} {a b : RepairWorld} {old new : Option (L
 ended-from (Ok x) is run = absurd is
 ended-from {T} {j} {a} {b} {old} {new} (Err e) is run = subst (λ (f : RepairFault). HasRun j a b old new (Some f)) (sym is) run
 
--- a reading behind which memory was refused
-pub ends-read : {j : Job} {a b : RepairWorld} {old new : Option (List ℕ)} → IsWorldRead a b → HasRun j a b old new (Some (Image NoMemory))
-ends-read read = record { visits = []; runs = read; done = λ end. absurd (true≢false end); printed = λ end. absurd (true≢false end); cause = All-nil IsDone }
+-- an allocation of few enough elements was refused
+pub refused-within : (n : ℕ) → n ≤ largest_allocation → IsRefused n → IsOutOfMemory largest_allocation
+refused-within n few refused = (n, few, refused)
+
+pub memory-within : (n : ℕ) → n ≤ largest_allocation → IsOutOfMemory n → IsOutOfMemory largest_allocation
+memory-within n few memory = (memory.0, omega (arith, memory.1, few), memory.2)
+
+-- a reading behind which an allocation was refused
+pub ends-read : {j : Job} {a b : RepairWorld} {old new : Option (List ℕ)} → IsWorldRead a b → IsOutOfMemory largest_allocation → HasRun j a b old new (Some (Image NoMemory))
+ends-read read memory = record { visits = []; runs = read; done = λ end. absurd (true≢false end); printed = λ end. absurd (true≢false end); cause = (All-nil IsDone, memory) }
 
 -- one block
 pub runs-one : (j : Job) (v : Visit) (a b : RepairWorld) → IsVisited j v a b → VisitsAll j (v ∷ []) a b
@@ -118,9 +126,9 @@ ends-unwritten {j} {v} here found failed = ends-one (Image DeviceFailed) here (r
 pub ends-unsaid : {j : Job} {v : Visit} {a b : RepairWorld} {old new : Option (List ℕ)} → IsVisited j v a b → v.done ≡ true → HasRun j a b old new (Some Write)
 ends-unsaid {j} {v} here done = ends-one Write here (All-cons IsDone v [] done (All-nil IsDone))
 
--- or there is no memory to note it
-pub ends-unnoted : {j : Job} {v : Visit} {a b : RepairWorld} {old new : Option (List ℕ)} → IsVisited j v a b → v.done ≡ true → HasRun j a b old new (Some (Image NoMemory))
-ends-unnoted {j} {v} here done = ends-one (Image NoMemory) here (All-cons IsDone v [] done (All-nil IsDone))
+-- or the room to note it was refused
+pub ends-unnoted : {j : Job} {v : Visit} {a b : RepairWorld} {old new : Option (List ℕ)} → IsVisited j v a b → v.done ≡ true → IsOutOfMemory largest_allocation → HasRun j a b old new (Some (Image NoMemory))
+ends-unnoted {j} {v} here done memory = ends-one (Image NoMemory) here (All-cons IsDone v [] done (All-nil IsDone), memory)
 
 -- ---- the devices stay the same ones
 

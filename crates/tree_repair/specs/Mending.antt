@@ -1,6 +1,7 @@
 -- What comes of a block that is looked at: it is good, or it isn't and was found elsewhere, or it is lost. Where its device is
 -- read no failure is taken back, so each that is counted stays.
-use Rattle.std.specs.Prelude.{◌≡◌, ◌≤◌, ℕ, ◌*◌, ◌/◌, Bool, true, false, IsTrue, List, length}
+use Rattle.std.specs.Prelude.{◌≡◌, ◌≤◌, ℕ, ◌*◌, ◌/◌, Bool, true, false, IsTrue, List, [], ◌∷◌, length}
+use Rattle.block_device.specs.Call.{Call, Read, Sync, Write}
 use Rattle.block_device.specs.Device.{Device, IsWritten, sectors_of, spliced}
 use Rattle.tree_shape.specs.Digests.{digest}
 use Rattle.verity_format.specs.Blocks.{IsOnlyRead}
@@ -35,6 +36,11 @@ IsAllowedPut false old first sectors bytes done new = (new ≡ old) × (done ≡
 -- the same of all that is at hand
 abbrev pub IsPutAt : Bool → Device → ℕ → List ℕ → Bool → Device → Type 0
 IsPutAt write old first bytes done new = IsAllowedPut write old first (length bytes / 512) bytes done new
+
+-- The calls on the device: one write of exactly these bytes at that sector, or none if nothing may be written.
+abbrev pub put_calls : Bool → ℕ → List ℕ → Bool → List Call
+put_calls true first bytes done = Write first bytes done ∷ []
+put_calls false first bytes done = []
 
 -- it is good: nothing is written
 pub record IsFoundGood (l : Look) (bytes : List ℕ) : Type 0 where

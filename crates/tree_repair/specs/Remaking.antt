@@ -3,21 +3,17 @@ use Rattle.std.specs.Prelude.{◌≡◌, ◌≢◌, ℕ, zero, suc, ◌+◌, ◌
 use Rattle.std.specs.List.{concat, range_with_len}
 use Rattle.block_device.specs.Device.{Device}
 use Rattle.tree_shape.specs.Digests.{digest}
-use Rattle.tree_shape.specs.Shape.{ShapeRecord, IsShape, ancestor, level_blocks, per_block, position}
+use Rattle.tree_shape.specs.Shape.{ShapeRecord, IsShape, ancestor, per_block, position}
 use Rattle.hash_tree.specs.Tree.{filled}
 use Rattle.verity_format.specs.Blocks.{block_at}
 use Rattle.verity_format.specs.Image.{data_sectors, tree_sectors}
+use Rattle.tree_path.specs.Unused.{digests_in}
 
 -- ---- blocks by their height (a data block has height 0, a hash block of level l height l + 1) and their number within it
 
--- how many there are
-abbrev pub count_in : ShapeRecord → ℕ → ℕ
-count_in s zero = s.blocks
-count_in s (suc l) = level_blocks s l
-
 -- those of a height whose digests stand in block n of the height above
 abbrev pub children : ShapeRecord → ℕ → ℕ → List ℕ
-children s h n = range_with_len (n * per_block s) (min (per_block s) (count_in s h - n * per_block s))
+children s h n = range_with_len (n * per_block s) (min (per_block s) (digests_in s h - n * per_block s))
 
 -- block n of a height as it stands on the data device and the hash device
 abbrev pub standing_block : ShapeRecord → List (List ℕ) → List (List ℕ) → ℕ → ℕ → List ℕ

@@ -3,8 +3,10 @@ use Rattle.std.specs.Prelude.{◌≡◌, ℕ, zero, suc, ◌+◌, ◌*◌, ◌/�
 use Rattle.std.specs.List.{flat_map}
 use Rattle.std.specs.Result.{result_err}
 use Rattle.std.specs.Io.KnownBytes.{Appends}
+use Rattle.allocation.specs.Refusal.{IsOutOfMemory}
 use Rattle.block_device.specs.Device.{Device}
 use Rattle.counted_io.specs.Counted.{CountedRecord}
+use Rattle.fec_area.specs.Layouts.{largest_allocation}
 use Rattle.tree_shape.specs.Shape.{ShapeRecord, IsShape, ancestor, position}
 use Rattle.verity_format.specs.declared.verifying.VerifyFault.TheVariants.{Device as DeviceFailed, NoMemory}
 use Rattle.verity_format.specs.Blocks.{IsOnlyRead}
@@ -182,11 +184,11 @@ pub record EndsAtFailedWrite (visits : List Visit) : Type 0 where
   pub found : IsBlockFound last.mended
   pub failed : last.done ≡ false
 
--- Why a run didn't come to its end: a write failed, and it ended with that; or memory was refused or a line can't be written,
+-- Why a run didn't come to its end: a write failed, and it ended with that; or an allocation was refused or a line can't be written,
 -- and no write had failed. There is no other cause.
 abbrev pub IsEndCause : List Visit → RepairFault → Type 0
 IsEndCause visits (Image DeviceFailed) = EndsAtFailedWrite visits
-IsEndCause visits (Image NoMemory) = All IsDone visits
+IsEndCause visits (Image NoMemory) = All IsDone visits × IsOutOfMemory largest_allocation
 IsEndCause visits (Image fault) = ⊥
 IsEndCause visits Write = All IsDone visits
 

@@ -1,10 +1,12 @@
 //! Blocks that aren't good where they stand.
-ghost use Rattle.std.specs.Prelude.{◌≡◌, ◌≤◌, ◌+◌, ◌||◌, not, ◌++◌, ◌∷◌, true, false, [], IsTrue, OnOk, length};
+ghost use Rattle.std.specs.Prelude.{◌≡◌, ◌≤◌, ◌+◌, ◌||◌, not, ◌++◌, ◌∷◌, true, false, [], IfErr, IsTrue, OnOk, length};
+ghost use Rattle.allocation.specs.Asked.{WasRefused};
 ghost use Rattle.tree_repair.specs.Noting.{IsGoodBefore, IsNoted, found_of, passed_some, unless};
 
 use crate::mending::Mended;
 use crate::place::Place;
-use std::alloc::{AllocError, Global};
+use allocation::{OutOfMemory, push};
+use std::alloc::Global;
 
 /// A block that isn't good where it stands, and whether it was found elsewhere.
 #[derive(Clone, Copy)]
@@ -45,13 +47,14 @@ impl BadBlocks {
         place: Place,
         mended: Mended,
         write: bool,
-    ) -> Result<(), AllocError>
+    ) -> Result<(), OutOfMemory>
         ensures asked { self.new.asked ≡ self.old.asked }
         ensures noted { OnOk result (IsNoted self.old self.new place (found_of write mended)) }
         ensures few { OnOk result (length self.new.blocks.items ≤ length self.old.blocks.items + 1) }
         ensures any { OnOk result (self.new.any ≡ false → IsGoodBefore self.old (found_of write mended)) }
         ensures passed { self.new.passed ≡ self.old.passed }
         ensures unkept { self.new.unkept ≡ self.old.unkept }
+        ensures err { IfErr result (WasRefused 1) }
     {
         match found_of(mended, write) {
             None => Ok(()),
@@ -60,19 +63,20 @@ impl BadBlocks {
     }
 
     // Notes a block that isn't good.
-    fn push(&mut self, block: BadBlock) -> Result<(), AllocError>
+    fn push(&mut self, block: BadBlock) -> Result<(), OutOfMemory>
         ensures asked { self.new.asked ≡ self.old.asked }
         ensures noted { OnOk result (IsTrue self.old.asked → self.new.blocks.items ≡ self.old.blocks.items ++ (block ∷ [])) }
         ensures few { OnOk result (length self.new.blocks.items ≤ length self.old.blocks.items + 1) }
         ensures any { self.new.any ≡ true }
         ensures passed { self.new.passed ≡ self.old.passed }
         ensures unkept { self.new.unkept ≡ self.old.unkept }
+        ensures err { IfErr result (WasRefused 1) }
     {
         self.any = true;
         if !self.asked {
             return Ok(());
         }
-        Ok(self.blocks.push(block)?)
+        push(&mut self.blocks, block)
     }
 
     /// Notes of a block whether it was read back, if it was written. If not, it isn't known to be good.

@@ -3,6 +3,7 @@ ghost use Rattle.std.specs.Prelude.{◌≡◌};
 ghost use Rattle.tree_repair.specs.declared.fault.RepairFault.TheVariants as repair_fault;
 ghost use Rattle.verity_format.specs.declared.verifying.VerifyFault.TheVariants as verify_fault;
 
+use allocation::OutOfMemory;
 use block_device::DeviceFault;
 use counted_io::WriteFault;
 use std::alloc::AllocError;
@@ -11,7 +12,7 @@ use verity_format::VerifyFault;
 /// Why an image isn't repaired to its end.
 #[derive(Clone, Copy, Debug, PartialEq, Eq)]
 pub enum RepairFault {
-    /// There is no superblock, a device is too small, a write to it failed, or memory ran out.
+    /// There is no superblock, a device is too small, a write to it failed, or an allocation was refused.
     Image(VerifyFault),
     /// A line can't be written.
     Write,
@@ -37,6 +38,14 @@ impl From<AllocError> for RepairFault {
     ghost from_gives = { λ _ given. given ≡ repair_fault.Image verify_fault.NoMemory };
 
     fn from(_error: AllocError) -> RepairFault {
+        RepairFault::Image(VerifyFault::NoMemory)
+    }
+}
+
+impl From<OutOfMemory> for RepairFault {
+    ghost from_gives = { λ _ given. given ≡ repair_fault.Image verify_fault.NoMemory };
+
+    fn from(_error: OutOfMemory) -> RepairFault {
         RepairFault::Image(VerifyFault::NoMemory)
     }
 }

@@ -1,7 +1,9 @@
 //! The blocks of a height, gone over row by row.
-ghost use Rattle.std.specs.Prelude.{◌≡◌, ◌<◌, ◌≤◌, false, IfOk, OnOk, length, replicate, IfErr};
+ghost use Rattle.std.specs.Prelude.{◌≡◌, ◌<◌, ◌≤◌, false, IfOk, OnOk, OnErr, length, IfErr};
+ghost use Rattle.allocation.specs.Refusal.{IsOutOfMemory};
 ghost use Rattle.tree_shape.specs.Shape.{levels};
 ghost use Rattle.tree_survey.specs.Surveys.{IsWay};
+ghost use Rattle.tree_path.specs.Path.{largest_block};
 ghost use Rattle.tree_path.specs.Steps.{HasReadAtMost};
 ghost use Rattle.tree_repair.specs.Bills.{LeavesWorld, LeavesChecked, LeavesHeight, LeavesRow, checks_over, height_over, nothing_due, reading, rows_over, way_sectors};
 ghost use Rattle.tree_repair.specs.Jobs.{IsRow, job};
@@ -22,9 +24,9 @@ use crate::keeping::is_kept;
 use crate::place::{Place, Repair, Row};
 use crate::saying::say_mended;
 use crate::visiting::visit;
+use allocation::OutOfMemory;
 use block_device::BlockDev;
 use counted_io::Counted;
-use std::alloc::{AllocError, Global};
 use std::io::Write;
 use tree_path::{TreePath, span};
 
@@ -123,13 +125,14 @@ pub(crate) fn way_to<D: BlockDev, H: BlockDev, C: BlockDev>(
     image: &mut DamagedImage<D, H, C>,
     index: u64,
     height: u32,
-) -> Result<Option<TreePath>, AllocError>
+) -> Result<Option<TreePath>, OutOfMemory>
     requires inside { index < repair.now.shape.blocks }
     requires height { height ≤ levels repair.now.shape }
     requires fits { tree_sectors repair.now.shape ≤ image.old.hash_dev.size }
     ensures read { IsWorldRead image.old image.new }
     ensures way { IfOk result (IsWayOr (job repair.now).tree index height image.old.hash_dev image.new.hash_dev) }
     ensures asked { LeavesWorld (reading 0 (way_sectors repair.now.shape height)) nothing_due image.old image.new }
+    ensures err { OnErr result (IsOutOfMemory largest_block) }
 {
     way_on(repair, &mut image.hash, index, height)
 }
@@ -140,7 +143,7 @@ fn way_on<H: BlockDev>(
     device: &mut H,
     index: u64,
     height: u32,
-) -> Result<Option<TreePath>, AllocError>
+) -> Result<Option<TreePath>, OutOfMemory>
     requires inside { index < repair.now.shape.blocks }
     requires height { height ≤ levels repair.now.shape }
     requires fits { tree_sectors repair.now.shape ≤ (H.state device.old).size }
@@ -148,6 +151,7 @@ fn way_on<H: BlockDev>(
     ensures way { IfOk result (IsWayOr (job repair.now).tree index height (H.state device.old) (H.state device.new)) }
     ensures asked { HasReadAtMost (H.state device.old) (way_sectors repair.now.shape height) (H.state device.new) }
     ensures counted { (H.state device.old).failures ≤ (H.state device.new).failures }
+    ensures err { OnErr result (IsOutOfMemory largest_block) }
 {
     let mut path = TreePath::new(repair.alloc, repair.shape, repair.salt, repair.root)?;
     let top = path.levels();
@@ -156,13 +160,6 @@ fn way_on<H: BlockDev>(
         Ok(Some(_)) => Ok(None),
         Err(_) => Ok(None),
     }
-}
-
-/// So many zeros.
-pub(crate) fn zeros(alloc: Global, size: usize) -> Result<Vec<u8>, AllocError>
-    ensures { IfOk result (λ v. v.items ≡ replicate size 0) }
-{
-    vec![in alloc; 0u8; size]
 }
 
 // Goes over the blocks of a row.

@@ -1,8 +1,9 @@
 //! A block that is looked at, and written where it isn't good and was found elsewhere.
 ghost use Rattle.std.specs.Prelude.{◌/◌, ◌+◌, ◌<◌, ◌^◌, IfOk, IsTrue, is_ok, length};
+ghost use Rattle.block_device.specs.Call.{Calls, DeviceDoes};
 ghost use Rattle.block_device.specs.Device.{IsInside};
 ghost use Rattle.tree_repair.specs.Bills.{AsksOnce};
-ghost use Rattle.tree_repair.specs.Mending.{IsNotRemade, IsPutAt};
+ghost use Rattle.tree_repair.specs.Mending.{IsNotRemade, IsPutAt, put_calls};
 ghost use Rattle.tree_repair.specs.Looks.{FailsToMend, MendsBlock};
 
 use crate::place::Repair;
@@ -77,7 +78,8 @@ pub(crate) fn put<B: BlockDev>(
 ) -> Result<(), DeviceFault>
     requires inside { IsInside (B.state device.old) first (length block.now) }
     requires allowed { IsTrue write → IsTrue (B.state device.old).may_write }
-    ensures { IsPutAt write (B.state device.old) first block.now (is_ok result) (B.state device.new) }
+    ensures put { IsPutAt write (B.state device.old) first block.now (is_ok result) (B.state device.new) }
+    ensures handed { Calls (DeviceDoes B.state B.does) device.old (put_calls write first block.now (is_ok result)) device.new }
 {
     if !write {
         return Ok(());

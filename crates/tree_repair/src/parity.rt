@@ -1,6 +1,8 @@
 //! Blocks brought back by parity.
-ghost use Rattle.std.specs.Prelude.{◌≡◌, ◌<◌, ◌+◌, ◌++◌, ◌&&◌, ◌||◌, false, IfOk, IsTrue, OnOk, length, IfErr};
-ghost use Rattle.fec_area.specs.Layouts.{IsLaidOn, IsLayout, covered_blocks};
+ghost use Rattle.std.specs.Prelude.{◌≡◌, ◌<◌, ◌+◌, ◌++◌, ◌&&◌, ◌||◌, false, IfOk, IsTrue, OnErr, OnOk, length, IfErr};
+ghost use Rattle.allocation.specs.Asked.{WasRefused};
+ghost use Rattle.allocation.specs.Refusal.{IsOutOfMemory};
+ghost use Rattle.fec_area.specs.Layouts.{IsLaidOn, IsLayout, covered_blocks, largest_allocation};
 ghost use Rattle.tree_shape.specs.Digests.{digest};
 ghost use Rattle.tree_shape.specs.Shape.{levels};
 ghost use Rattle.verity_format.specs.Blocks.{IsOnlyRead};
@@ -17,11 +19,12 @@ use crate::bad::BadBlock;
 use crate::fault::RepairFault;
 use crate::image::DamagedImage;
 use crate::keeping::are_both;
-use crate::levels::{way_to, zeros};
+use crate::levels::way_to;
 use crate::losses::Losses;
 use crate::place::{Place, Repair, block_size};
 use crate::putting::{Missing, put_restored};
 use crate::seeking::is_same;
+use allocation::{OutOfMemory, push, zeros};
 use block_device::BlockDev;
 use counted_io::Counted;
 use fec_area::{Layout, LostBlock, RestoreFault, restore_block};
@@ -77,9 +80,14 @@ fn is_in_tree(tree: bool, back: bool, bad: &BadBlock) -> bool
 }
 
 // The covered blocks among these.
-fn covered_of(repair: &Repair, layout: &Layout, blocks: &[BadBlock]) -> Result<Vec<u64>, AllocError>
+fn covered_of(
+    repair: &Repair,
+    layout: &Layout,
+    blocks: &[BadBlock],
+) -> Result<Vec<u64>, OutOfMemory>
     requires { IsLayout layout.now }
-    ensures { IfOk result (λ covered. AreCovered repair.now.shape layout.now blocks.now covered.items) }
+    ensures ok { IfOk result (λ covered. AreCovered repair.now.shape layout.now blocks.now covered.items) }
+    ensures err { IfErr result (WasRefused 1) }
 {
     let mut covered = Vec::new(repair.alloc);
     'covered: for bad in blocks {
@@ -89,12 +97,13 @@ fn covered_of(repair: &Repair, layout: &Layout, blocks: &[BadBlock]) -> Result<V
     Ok(covered)
 }
 
-fn push_some(covered: &mut Vec<u64>, index: Option<u64>) -> Result<(), AllocError>
-    ensures { OnOk result (covered.new.items ≡ covered.old.items ++ listed_number index) }
+fn push_some(covered: &mut Vec<u64>, index: Option<u64>) -> Result<(), OutOfMemory>
+    ensures ok { OnOk result (covered.new.items ≡ covered.old.items ++ listed_number index) }
+    ensures err { IfErr result (WasRefused 1) }
 {
     match index {
         None => Ok(()),
-        Some(index) => Ok(covered.push(index)?),
+        Some(index) => push(covered, index),
     }
 }
 
@@ -224,6 +233,7 @@ fn make_again<D: BlockDev, H: BlockDev, C: BlockDev, P: BlockDev>(
     ensures good { IfOk result (λ made. IsTrue made → AreGoodFor missing.now bytes.new) }
     ensures vain { MakesMissing P.state missing.now losses.now image.old image.new parity.old parity.new result }
     ensures within { MakesWithin P.state missing.now losses.now image.old image.new parity.old parity.new result }
+    ensures err { OnErr result (IsOutOfMemory largest_allocation) }
 {
     let repair = missing.repair;
     let place = missing.place;
@@ -239,7 +249,7 @@ fn make_again<D: BlockDev, H: BlockDev, C: BlockDev, P: BlockDev>(
     Ok(is_same(&repair.salt.digest(bytes), &expected))
 }
 
-// Makes a covered block again, and tells whether it could be; memory that was refused is a fault.
+// Makes a covered block again, and tells whether it could be; a refused allocation is a fault.
 fn restore<D: BlockDev, H: BlockDev, C: BlockDev, P: BlockDev>(
     alloc: Global,
     losses: &Losses,
@@ -256,6 +266,7 @@ fn restore<D: BlockDev, H: BlockDev, C: BlockDev, P: BlockDev>(
     ensures bytes { IfOk result (IsBack losses.now image.old (P.state parity.old) index bytes.new) }
     ensures none { IfOk result (LacksBlock P.state losses.now index image.old image.new parity.old parity.new) }
     ensures within { AsksWithin P.state (round_bill losses.now.layout) image.old image.new parity.old parity.new }
+    ensures err { OnErr result (IsOutOfMemory largest_allocation) }
 {
     let sought = LostBlock {
         layout: &losses.layout,

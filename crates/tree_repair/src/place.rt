@@ -1,7 +1,7 @@
 //! Blocks of an image by their places, and what is repaired.
 ghost use Rattle.std.specs.Prelude.{◌≡◌, ◌≤◌, ◌^◌};
 ghost use Rattle.tree_shape.specs.Shape.{levels};
-ghost use Rattle.tree_repair.specs.Remaking.{count_in};
+ghost use Rattle.tree_path.specs.Unused.{digests_in};
 ghost use Rattle.tree_repair.specs.Runs.{size_at};
 
 use std::alloc::Global;
@@ -53,7 +53,7 @@ pub(crate) fn block_size(shape: &Shape, height: u32) -> usize
 /// How many blocks of that height there are.
 pub(crate) fn count_at(shape: &Shape, height: u32) -> u64
     requires { height ≤ levels shape.now }
-    ensures value { result ≡ count_in shape.now height }
+    ensures value { result ≡ digests_in shape.now height }
     ensures small { result ≤ 2 ^ 54 }
 {
     let blocks = shape.blocks();

@@ -7,7 +7,8 @@ ghost use Rattle.verity_format.specs.Image.{data_sectors, tree_sectors};
 ghost use Rattle.tree_path.specs.Steps.{HasReadAtMost};
 ghost use Rattle.tree_repair.specs.Bills.{LeavesBeneath, LeavesBlock, LeavesMade, made_over};
 ghost use Rattle.tree_repair.specs.Grounds.{IsMadeIn, IsNowhereIn, IsOverIn, IsUnlikeIn, made_in, stands_in};
-ghost use Rattle.tree_repair.specs.Remaking.{HaveBlocks, IsBlockOf, IsHashBlockOf, IsSure, count_in};
+ghost use Rattle.tree_path.specs.Unused.{digests_in};
+ghost use Rattle.tree_repair.specs.Remaking.{HaveBlocks, IsBlockOf, IsHashBlockOf, IsSure};
 ghost use Rattle.tree_repair.specs.Runs.{size_at};
 ghost use Rattle.tree_repair.specs.Worlds.{AreBothRead};
 
@@ -78,7 +79,7 @@ fn is_made<D: BlockDev, H: BlockDev, C: BlockDev>(
 ) -> bool
     requires have { HaveBlocks repair.now.shape image.old.data_dev image.old.hash_dev }
     requires high { making.from + making.steps ≤ levels repair.now.shape }
-    requires inside { making.number < count_in repair.now.shape (making.from + making.steps) }
+    requires inside { making.number < digests_in repair.now.shape (making.from + making.steps) }
     requires size { length block.old ≡ size_at repair.now.shape (making.from + making.steps) }
     requires room { 4096 * making.steps ≤ length memory.old }
     ensures read { AreBothRead image.old image.new }
@@ -103,7 +104,7 @@ fn make<D: BlockDev, H: BlockDev, C: BlockDev>(
 ) -> bool
     requires have { HaveBlocks repair.now.shape image.old.data_dev image.old.hash_dev }
     requires high { making.from + making.steps ≤ levels repair.now.shape }
-    requires inside { making.number < count_in repair.now.shape (making.from + making.steps) }
+    requires inside { making.number < digests_in repair.now.shape (making.from + making.steps) }
     requires size { length block.old ≡ size_at repair.now.shape (making.from + making.steps) }
     requires room { 4096 * making.steps ≤ length memory.old }
     ensures read { AreBothRead image.old image.new }
@@ -150,7 +151,7 @@ fn children_of(shape: &Shape, height: u32, number: u64) -> Children
     requires high { height < levels shape.now }
     requires inside { number < level_blocks shape.now height }
     ensures first { result.first ≡ number * per_block shape.now }
-    ensures count { result.count ≡ min (per_block shape.now) (count_in shape.now height - number * per_block shape.now) }
+    ensures count { result.count ≡ min (per_block shape.now) (digests_in shape.now height - number * per_block shape.now) }
     ensures inside { result.first + result.count ≤ 2 ^ 62 }
 {
     let per_block = shape.per_block();
@@ -178,7 +179,7 @@ fn read_at<D: BlockDev, H: BlockDev, C: BlockDev>(
 ) -> bool
     requires have { HaveBlocks shape.now image.old.data_dev image.old.hash_dev }
     requires high { height ≤ levels shape.now }
-    requires inside { number < count_in shape.now height }
+    requires inside { number < digests_in shape.now height }
     requires size { length block.old ≡ size_at shape.now height }
     ensures read { AreBothRead image.old image.new }
     ensures stands { IsTrue result → IsOverIn image.old (stands_in shape.now image.old height number) block.new }

@@ -3,7 +3,7 @@ use Rattle.tree_repair.specs.declared.bad.BadBlock.{BadBlock}
 use Rattle.tree_repair.proofs.KeepLemmas.{leaves-checked, leaves-unchecked, noted-kept}
 use Rattle.tree_repair.proofs.ParityLemmas.{size-block}
 use Rattle.tree_repair.proofs.PassLemmas.{noted-from, noted-not, noted-one}
-use Rattle.tree_repair.proofs.RunLemmas.{can-later, ends-unnoted, ends-unsaid, ends-unwritten, has-one}
+use Rattle.tree_repair.proofs.RunLemmas.{can-later, ends-unnoted, ends-unsaid, ends-unwritten, has-one, refused-within}
 use Rattle.tree_repair.proofs.levels.repair_block.Goals as goal
 
 pub returns-in_err-mended-clause-notes : goal.returns-in_err-mended-clause-notes
@@ -13,7 +13,7 @@ pub returns-in_err-say_mended-clause-notes : goal.returns-in_err-say_mended-clau
 returns-in_err-say_mended-clause-notes g c = noted-from c.from_residual-in_err-say_mended.result c.from_residual-in_err-say_mended.ensures.1 (noted-not (ends-unsaid c.in_ok-mended.ensures.ok.1 refl) refl)
 
 pub returns-in_err-note-clause-notes : goal.returns-in_err-note-clause-notes
-returns-in_err-note-clause-notes g c = noted-from c.from_residual-in_err-note.result c.from_residual-in_err-note.ensures.1 (noted-not (ends-unnoted c.in_ok-mended.ensures.ok.1 refl) c.note.ensures.asked)
+returns-in_err-note-clause-notes g c = noted-from c.from_residual-in_err-note.result c.from_residual-in_err-note.ensures.1 (noted-not (ends-unnoted c.in_ok-mended.ensures.ok.1 refl (refused-within 1 (omega arith) c.in_err-note.ensures.err.1)) c.note.ensures.asked)
 
 pub is_kept-kept-requires-clause-can : goal.is_kept-kept-requires-clause-can
 is_kept-kept-requires-clause-can g c = can-later (has-one c.in_ok-mended.ensures.ok.1 refl c.in_ok-say_mended.ensures.ok) c.requires.can

@@ -1,15 +1,15 @@
-use Rattle.std.proofs.Common.{ℕ, [], refl, subst}
+use Rattle.std.proofs.Common.{ℕ, [], arith, refl, subst}
 use Rattle.tree_repair.specs.Coverage.{IsLookedAt}
 use Rattle.tree_repair.specs.Jobs.{job}
 use Rattle.tree_repair.proofs.CountLemmas.{row-unnoted}
 use Rattle.tree_repair.proofs.HeightLemmas.{row-all, row-cut}
 use Rattle.tree_repair.proofs.LookLemmas.{looked-cut, row-above}
 use Rattle.tree_repair.proofs.PassLemmas.{noted-behind, noted-from, noted-not, noted-read}
-use Rattle.tree_repair.proofs.RunLemmas.{can-read, ends-read}
+use Rattle.tree_repair.proofs.RunLemmas.{can-read, ends-read, memory-within}
 use Rattle.tree_repair.proofs.levels.repair_row.Goals as goal
 
 pub returns-in_err-found-clause-notes : goal.returns-in_err-found-clause-notes
-returns-in_err-found-clause-notes g c = noted-from c.from_residual.result c.from_residual.ensures.1 (noted-not (ends-read c.way_to.ensures.read) refl)
+returns-in_err-found-clause-notes g c = noted-from c.from_residual.result c.from_residual.ensures.1 (noted-not (ends-read c.way_to.ensures.read (memory-within 4096 (omega arith) c.in_err-found.ensures.err)) refl)
 
 pub returns-in-None-clause-notes : goal.returns-in-None-clause-notes
 returns-in-None-clause-notes g c =

@@ -54,7 +54,7 @@ returns-in_ok-put-in-Some-clause-ok g c =
         copies_read = c.seek.ensures.read;
         copy = subst (λ (n : ℕ). AreIn cs s.copy_first (wanted c.args.sought.now.repair.now.salt s.digest n) c.in-Some.number bytes) long c.in-Some.ensures.found;
         good = (c.in-Some.ensures.found.there between).good;
-        put = subst (λ (n : ℕ). IsAllowedPut c.args.sought.now.repair.now.write between s.first n bytes true (g.B.BlockDev.state c.put.new.device)) same c.in_ok-put-in-Some.ensures;
+        put = subst (λ (n : ℕ). IsAllowedPut c.args.sought.now.repair.now.write between s.first n bytes true (g.B.BlockDev.state c.put.new.device)) same c.in_ok-put-in-Some.ensures.put;
       },
     )
 
@@ -78,7 +78,7 @@ returns-in_err-put-in-Some-clause-err g c =
           copies_read = c.seek.ensures.read;
           copy = subst (λ (n : ℕ). AreIn cs s.copy_first (wanted c.args.sought.now.repair.now.salt s.digest n) c.in-Some.number bytes) long c.in-Some.ensures.found;
           good = (c.in-Some.ensures.found.there between).good;
-          put = subst (λ (n : ℕ). IsAllowedPut c.args.sought.now.repair.now.write between s.first n bytes false (g.B.BlockDev.state c.put.new.device)) same c.in_err-put-in-Some.ensures;
+          put = subst (λ (n : ℕ). IsAllowedPut c.args.sought.now.repair.now.write between s.first n bytes false (g.B.BlockDev.state c.put.new.device)) same c.in_err-put-in-Some.ensures.put;
         },
       ),
     )
@@ -102,7 +102,7 @@ returns-in_ok-put-in-Some-clause-asked g c =
     let sectors : ℕ = length c.seek.new.block / 512 in
     let long : length c.is_there.new.block / 512 ≡ length c.args.block.now / 512 = ap (λ (n : ℕ). n / 512) c.is_there.auto.block in
     let same : sectors ≡ length c.args.block.now / 512 = ap (λ (n : ℕ). n / 512) (c.seek.auto.block ∙ c.is_there.auto.block) in
-    let once = put-once c.args.sought.now.repair.now.write between c.args.sought.now.first sectors c.seek.new.block true new c.in_ok-put-in-Some.ensures in
+    let once = put-once c.args.sought.now.repair.now.write between c.args.sought.now.first sectors c.seek.new.block true new c.in_ok-put-in-Some.ensures.put in
     record {
       reads = omega (arith, c.is_there.ensures.asked, once.reads);
       writes = omega (arith, c.is_there.ensures.read.writes, once.writes, same);
@@ -116,7 +116,7 @@ returns-in_err-put-in-Some-clause-asked g c =
     let sectors : ℕ = length c.seek.new.block / 512 in
     let long : length c.is_there.new.block / 512 ≡ length c.args.block.now / 512 = ap (λ (n : ℕ). n / 512) c.is_there.auto.block in
     let same : sectors ≡ length c.args.block.now / 512 = ap (λ (n : ℕ). n / 512) (c.seek.auto.block ∙ c.is_there.auto.block) in
-    let once = put-once c.args.sought.now.repair.now.write between c.args.sought.now.first sectors c.seek.new.block false new c.in_err-put-in-Some.ensures in
+    let once = put-once c.args.sought.now.repair.now.write between c.args.sought.now.first sectors c.seek.new.block false new c.in_err-put-in-Some.ensures.put in
     record {
       reads = omega (arith, c.is_there.ensures.asked, once.reads);
       writes = omega (arith, c.is_there.ensures.read.writes, once.writes, same);

@@ -1,4 +1,4 @@
-use Rattle.std.proofs.Common.{◌+◌, Bool, IsTrue, refl, subst, sym, take}
+use Rattle.std.proofs.Common.{◌+◌, Bool, IsTrue, arith, refl, subst, sym, take}
 use Rattle.std.proofs.lemmas.Bool.{and_parts}
 use Rattle.std.proofs.lemmas.List.{take_all}
 use Rattle.tree_path.proofs.lemmas.DeviceLemmas.{only_read-none, only_read-then}
@@ -9,7 +9,7 @@ use Rattle.fec_area.specs.declared.layout.Layout.{Layout}
 use Rattle.tree_repair.proofs.BackLemmas.{back-next, back-none}
 use Rattle.tree_repair.proofs.LosingLemmas.{all-sought-alike, alike-permuted}
 use Rattle.tree_repair.proofs.TryLemmas.{sought-next}
-use Rattle.tree_repair.proofs.RunLemmas.{can-later, ended-from, ends-read, has-none, has-then, laid-later, world-none}
+use Rattle.tree_repair.proofs.RunLemmas.{can-later, ended-from, ends-read, has-none, has-then, laid-later, refused-within, world-none}
 use Rattle.tree_repair.specs.ParityBounds.{IsAskedWithin, parity_bill, sought_among}
 use Rattle.tree_repair.proofs.ParityBillLemmas.{asked-none}
 use Rattle.tree_repair.proofs.ParityPassLemmas.{tells-came, tells-none, tells-then, work-last, work-next}
@@ -19,7 +19,7 @@ pub returns-in_err-lost-clause-parity : goal.returns-in_err-lost-clause-parity
 returns-in_err-lost-clause-parity g c = only_read-none (g.P.BlockDev.state c.args.parity.now)
 
 pub returns-in_err-lost-clause-run : goal.returns-in_err-lost-clause-run
-returns-in_err-lost-clause-run g c = ended-from c.from_residual.result c.from_residual.ensures.1 (ends-read (world-none c.args.image.now))
+returns-in_err-lost-clause-run g c = ended-from c.from_residual.result c.from_residual.ensures.1 (ends-read (world-none c.args.image.now) (refused-within 1 (omega arith) c.in_err-lost.ensures.err.1))
 
 pub each-init : goal.each-init
 each-init g c = record { back = λ yes. back-none (job c.args.repair.now) c.args.image.now; came = tells-none 1 has-none; within = asked-none _ c.args.image.now (g.P.BlockDev.state c.args.parity.now); sought = (refl, (refl, refl)); parity = only_read-none (g.P.BlockDev.state c.args.parity.now); run = has-none }
@@ -68,7 +68,7 @@ returns-clause-sought g c =
     subst (λ xs. AreSought (job c.args.repair.now) c.of-losses.result.layout sorted xs c.args.image.now c.each.image p p' c.each.tree) (take_all c.each.bad-index c.args.blocks.now c.each-test.false) c.each.invariant.sought in
     record {
       lost = given;
-      are = c.in_ok-lost.ensures;
+      are = c.in_ok-lost.ensures.ok;
       sought = all-sought-alike (job c.args.repair.now) l sorted given (λ index. alike-permuted l index given sorted c.of-losses.ensures.same) c.args.blocks.now c.args.image.now c.each.image p p' c.each.tree
           (subst (λ (x : Layout). AreSought (job c.args.repair.now) x sorted c.args.blocks.now c.args.image.now c.each.image p p' c.each.tree) c.of-losses.ensures.layout all);
     }
@@ -93,7 +93,7 @@ returns-clause-within g c =
     (take_all c.each.bad-index c.args.blocks.now c.each-test.false) c.each.invariant.within)
 
 pub returns-in_err-lost-clause-came : goal.returns-in_err-lost-clause-came
-returns-in_err-lost-clause-came g c = tells-came c.from_residual.result c.from_residual.ensures.1 (ends-read (world-none c.args.image.now))
+returns-in_err-lost-clause-came g c = tells-came c.from_residual.result c.from_residual.ensures.1 (ends-read (world-none c.args.image.now) (refused-within 1 (omega arith) c.in_err-lost.ensures.err.1))
 
 pub returns-in_err-back-clause-came : goal.returns-in_err-back-clause-came
 returns-in_err-back-clause-came g c = tells-came c.from_residual-in_err-back.result c.from_residual-in_err-back.ensures.1 (has-then c.each.invariant.run c.in_err-back.ensures.run)

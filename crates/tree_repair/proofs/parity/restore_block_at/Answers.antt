@@ -1,9 +1,9 @@
-use Rattle.std.proofs.Common.{Bool, false, inl, inr, refl, subst, sym}
+use Rattle.std.proofs.Common.{Bool, arith, false, inl, inr, refl, subst, sym}
 use Rattle.tree_repair.specs.Jobs.{job}
 use Rattle.tree_repair.specs.Tries.{IsSoughtAt, trial}
 use Rattle.tree_repair.proofs.TryLemmas.{sought-behind}
 use Rattle.tree_path.proofs.lemmas.DeviceLemmas.{only_read-none}
-use Rattle.tree_repair.proofs.RunLemmas.{can-read, ended-from, ends-read, has-behind, has-none, has-read, laid-read, world-none}
+use Rattle.tree_repair.proofs.RunLemmas.{can-read, ended-from, ends-read, has-behind, has-none, has-read, laid-read, memory-within, world-none}
 use Rattle.tree_repair.specs.ParityBounds.{IsAskedWithin, parity_bill, tries_of}
 use Rattle.tree_repair.proofs.ParityBillLemmas.{asked-none, work-along, work-way}
 use Rattle.tree_repair.proofs.ParityPassLemmas.{tells-behind, tells-from, tells-none}
@@ -31,7 +31,7 @@ pub returns-in_err-found-clause-parity : goal.returns-in_err-found-clause-parity
 returns-in_err-found-clause-parity g c = only_read-none (g.P.BlockDev.state c.args.parity.now)
 
 pub returns-in_err-found-clause-run : goal.returns-in_err-found-clause-run
-returns-in_err-found-clause-run g c = ended-from c.from_residual.result c.from_residual.ensures.1 (ends-read c.way_to.ensures.read)
+returns-in_err-found-clause-run g c = ended-from c.from_residual.result c.from_residual.ensures.1 (ends-read c.way_to.ensures.read (memory-within 4096 (omega arith) c.in_err-found.ensures.err))
 
 pub returns-in-None-clause-parity : goal.returns-in-None-clause-parity
 returns-in-None-clause-parity g c = only_read-none (g.P.BlockDev.state c.args.parity.now)
@@ -110,7 +110,7 @@ pub returns-then-not-is_place-clause-came : goal.returns-then-not-is_place-claus
 returns-then-not-is_place-clause-came g c = tells-none c.args.bad.now.place.height has-none
 
 pub returns-in_err-found-clause-came : goal.returns-in_err-found-clause-came
-returns-in_err-found-clause-came g c = tells-from c.args.bad.now.place.height c.from_residual.result c.from_residual.ensures.1 (ends-read c.way_to.ensures.read)
+returns-in_err-found-clause-came g c = tells-from c.args.bad.now.place.height c.from_residual.result c.from_residual.ensures.1 (ends-read c.way_to.ensures.read (memory-within 4096 (omega arith) c.in_err-found.ensures.err))
 
 pub returns-in-None-clause-came : goal.returns-in-None-clause-came
 returns-in-None-clause-came g c = tells-none c.args.bad.now.place.height (has-read c.way_to.ensures.read)

@@ -1,9 +1,10 @@
-use Rattle.std.proofs.Common.{ℕ, List, length, ap, ◌∙◌, inl}
+use Rattle.std.proofs.Common.{ℕ, List, length, ap, arith, ◌∙◌, inl}
 use Rattle.std.proofs.lemmas.List.{length-replicate}
 use Rattle.tree_path.proofs.lemmas.DeviceLemmas.{only_read-none}
 use Rattle.tree_repair.specs.Jobs.{job}
 use Rattle.tree_repair.proofs.TryLemmas.{tried-placed}
-use Rattle.tree_repair.proofs.RunLemmas.{can-read, ended-from, ends-read, has-behind, has-read, world-none}
+use Rattle.tree_repair.proofs.ParityLemmas.{size-block}
+use Rattle.tree_repair.proofs.RunLemmas.{can-read, ended-from, ends-read, has-behind, has-read, refused-within, world-none}
 use Rattle.tree_repair.specs.ParityBounds.{along_bill}
 use Rattle.tree_repair.specs.Runs.{size_at}
 use Rattle.tree_repair.proofs.ParityBillLemmas.{asked-along, asked-none, asked-round_alone}
@@ -14,23 +15,23 @@ pub returns-in_err-made-clause-parity : goal.returns-in_err-made-clause-parity
 returns-in_err-made-clause-parity g c = only_read-none (g.P.BlockDev.state c.args.parity.now)
 
 pub returns-in_err-made-clause-run : goal.returns-in_err-made-clause-run
-returns-in_err-made-clause-run g c = ended-from c.from_residual.result c.from_residual.ensures.1 (ends-read (world-none c.args.image.now))
+returns-in_err-made-clause-run g c = ended-from c.from_residual.result c.from_residual.ensures.1 (ends-read (world-none c.args.image.now) (refused-within c.block_size-size.result (omega (arith, c.block_size-size.ensures, (size-block c.args.missing.now.repair.now.shape c.args.missing.now.place.height c.requires.can.valid).most)) c.in_err-made.ensures.err.1))
 
 pub returns-in_err-read-clause-parity : goal.returns-in_err-read-clause-parity
 returns-in_err-read-clause-parity g c = only_read-none (g.P.BlockDev.state c.args.parity.now)
 
 pub returns-in_err-read-clause-run : goal.returns-in_err-read-clause-run
-returns-in_err-read-clause-run g c = ended-from c.from_residual-in_err-read.result c.from_residual-in_err-read.ensures.1 (ends-read (world-none c.args.image.now))
+returns-in_err-read-clause-run g c = ended-from c.from_residual-in_err-read.result c.from_residual-in_err-read.ensures.1 (ends-read (world-none c.args.image.now) (refused-within c.block_size-size.result (omega (arith, c.block_size-size.ensures, (size-block c.args.missing.now.repair.now.shape c.args.missing.now.place.height c.requires.can.valid).most)) c.in_err-read.ensures.err.1))
 
 pub make_again-requires-clause-size : goal.make_again-requires-clause-size
 make_again-requires-clause-size g c =
-    ap (λ (l : List ℕ). length l) (c.as_mut_slice-bytes.ensures.value ∙ c.in_ok-made.ensures) ∙ length-replicate {A = ℕ} c.block_size-size.result 0 ∙ c.block_size-size.ensures
+    ap (λ (l : List ℕ). length l) (c.as_mut_slice-bytes.ensures.value ∙ c.in_ok-made.ensures.ok) ∙ length-replicate {A = ℕ} c.block_size-size.result 0 ∙ c.block_size-size.ensures
 
 pub returns-in_err-back-clause-parity : goal.returns-in_err-back-clause-parity
 returns-in_err-back-clause-parity g c = c.make_again.ensures.parity
 
 pub returns-in_err-back-clause-run : goal.returns-in_err-back-clause-run
-returns-in_err-back-clause-run g c = ended-from c.from_residual-in_err-back.result c.from_residual-in_err-back.ensures.1 (ends-read c.make_again.ensures.read)
+returns-in_err-back-clause-run g c = ended-from c.from_residual-in_err-back.result c.from_residual-in_err-back.ensures.1 (ends-read c.make_again.ensures.read c.in_err-back.ensures.err)
 
 pub returns-then-not-back-clause-parity : goal.returns-then-not-back-clause-parity
 returns-then-not-back-clause-parity g c = c.make_again.ensures.parity
@@ -46,11 +47,11 @@ put_restored-requires-clause-good g c = c.in_ok-back.ensures.good c.if-not-back.
 
 pub put_restored-requires-clause-bytes : goal.put_restored-requires-clause-bytes
 put_restored-requires-clause-bytes g c =
-    c.make_again.auto.bytes ∙ ap (λ (l : List ℕ). length l) (c.as_mut_slice-bytes.ensures.value ∙ c.in_ok-made.ensures) ∙ length-replicate {A = ℕ} c.block_size-size.result 0 ∙ c.block_size-size.ensures
+    c.make_again.auto.bytes ∙ ap (λ (l : List ℕ). length l) (c.as_mut_slice-bytes.ensures.value ∙ c.in_ok-made.ensures.ok) ∙ length-replicate {A = ℕ} c.block_size-size.result 0 ∙ c.block_size-size.ensures
 
 pub put_restored-requires-clause-size : goal.put_restored-requires-clause-size
 put_restored-requires-clause-size g c =
-    ap (λ (l : List ℕ). length l) (c.as_mut_slice-block.ensures.value ∙ c.in_ok-read.ensures) ∙ length-replicate {A = ℕ} c.block_size-size.result 0 ∙ c.block_size-size.ensures
+    ap (λ (l : List ℕ). length l) (c.as_mut_slice-block.ensures.value ∙ c.in_ok-read.ensures.ok) ∙ length-replicate {A = ℕ} c.block_size-size.result 0 ∙ c.block_size-size.ensures
 
 pub returns-clause-parity : goal.returns-clause-parity
 returns-clause-parity g c = c.make_again.ensures.parity
@@ -84,13 +85,13 @@ returns-clause-within g c =
     c.make_again.ensures.within.0 (c.put_restored.ensures.within (g.P.BlockDev.state c.make_again.new.parity))
 
 pub returns-in_err-made-clause-came : goal.returns-in_err-made-clause-came
-returns-in_err-made-clause-came g c = tells-from c.args.missing.now.place.height c.from_residual.result c.from_residual.ensures.1 (ends-read (world-none c.args.image.now))
+returns-in_err-made-clause-came g c = tells-from c.args.missing.now.place.height c.from_residual.result c.from_residual.ensures.1 (ends-read (world-none c.args.image.now) (refused-within c.block_size-size.result (omega (arith, c.block_size-size.ensures, (size-block c.args.missing.now.repair.now.shape c.args.missing.now.place.height c.requires.can.valid).most)) c.in_err-made.ensures.err.1))
 
 pub returns-in_err-read-clause-came : goal.returns-in_err-read-clause-came
-returns-in_err-read-clause-came g c = tells-from c.args.missing.now.place.height c.from_residual-in_err-read.result c.from_residual-in_err-read.ensures.1 (ends-read (world-none c.args.image.now))
+returns-in_err-read-clause-came g c = tells-from c.args.missing.now.place.height c.from_residual-in_err-read.result c.from_residual-in_err-read.ensures.1 (ends-read (world-none c.args.image.now) (refused-within c.block_size-size.result (omega (arith, c.block_size-size.ensures, (size-block c.args.missing.now.repair.now.shape c.args.missing.now.place.height c.requires.can.valid).most)) c.in_err-read.ensures.err.1))
 
 pub returns-in_err-back-clause-came : goal.returns-in_err-back-clause-came
-returns-in_err-back-clause-came g c = tells-from c.args.missing.now.place.height c.from_residual-in_err-back.result c.from_residual-in_err-back.ensures.1 (ends-read c.make_again.ensures.read)
+returns-in_err-back-clause-came g c = tells-from c.args.missing.now.place.height c.from_residual-in_err-back.result c.from_residual-in_err-back.ensures.1 (ends-read c.make_again.ensures.read c.in_err-back.ensures.err)
 
 pub returns-then-not-back-clause-came : goal.returns-then-not-back-clause-came
 returns-then-not-back-clause-came g c = tells-none c.args.missing.now.place.height (has-read c.make_again.ensures.read)

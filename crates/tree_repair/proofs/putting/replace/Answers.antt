@@ -24,7 +24,7 @@ returns-clause-ok g c = record {
   more = c.is_there.ensures.counted;
   bad = rw c.requires.size at (c.is_there.ensures.bad c.if-is_there.false);
   good = c.requires.good;
-  put = c.in_ok-put.ensures;
+  put = c.in_ok-put.ensures.put;
 }
 
 pub returns-in_err-put-clause-ok : goal.returns-in_err-put-clause-ok
@@ -38,7 +38,7 @@ returns-in_err-put-clause-err g c =
       more = c.is_there.ensures.counted;
       bad = rw c.requires.size at (c.is_there.ensures.bad c.if-is_there.false);
       good = c.requires.good;
-      put = c.in_err-put.ensures;
+      put = c.in_err-put.ensures.put;
     })
 
 pub returns-then-is_there-clause-within : goal.returns-then-is_there-clause-within
@@ -46,10 +46,10 @@ returns-then-is_there-clause-within g c = record { reads = omega (arith, c.is_th
 
 pub returns-clause-within : goal.returns-clause-within
 returns-clause-within g c =
-    let once = put-once c.args.repair.now.write (g.B.BlockDev.state c.is_there.new.device) c.args.first (length c.args.bytes.now / 512) c.args.bytes.now true (g.B.BlockDev.state c.put.new.device) c.in_ok-put.ensures in
+    let once = put-once c.args.repair.now.write (g.B.BlockDev.state c.is_there.new.device) c.args.first (length c.args.bytes.now / 512) c.args.bytes.now true (g.B.BlockDev.state c.put.new.device) c.in_ok-put.ensures.put in
     record { reads = omega (arith, c.is_there.ensures.asked, ap (λ (n : ℕ). n / 512) c.requires.size, once.reads); writes = omega (arith, c.is_there.ensures.read.writes, once.writes) }
 
 pub returns-in_err-put-clause-within : goal.returns-in_err-put-clause-within
 returns-in_err-put-clause-within g c =
-    let once = put-once c.args.repair.now.write (g.B.BlockDev.state c.is_there.new.device) c.args.first (length c.args.bytes.now / 512) c.args.bytes.now false (g.B.BlockDev.state c.put.new.device) c.in_err-put.ensures in
+    let once = put-once c.args.repair.now.write (g.B.BlockDev.state c.is_there.new.device) c.args.first (length c.args.bytes.now / 512) c.args.bytes.now false (g.B.BlockDev.state c.put.new.device) c.in_err-put.ensures.put in
     record { reads = omega (arith, c.is_there.ensures.asked, ap (λ (n : ℕ). n / 512) c.requires.size, once.reads); writes = omega (arith, c.is_there.ensures.read.writes, once.writes) }

@@ -4,7 +4,8 @@ use Rattle.tree_path.proofs.lemmas.DeviceLemmas.{only_read-none}
 use Rattle.tree_repair.specs.Bills.{LeavesBlock, made_over}
 use Rattle.tree_repair.proofs.AskedLemmas.{made-data, made-hash}
 use Rattle.tree_repair.specs.Grounds.{IsOverIn, stands_in}
-use Rattle.tree_repair.specs.Remaking.{IsSure, count_in}
+use Rattle.tree_path.specs.Unused.{digests_in}
+use Rattle.tree_repair.specs.Remaking.{IsSure}
 use Rattle.tree_repair.specs.Runs.{size_at}
 use Rattle.tree_repair.specs.Worlds.{AreBothRead, RepairWorld, repair_world}
 use Rattle.tree_repair.proofs.remaking.read_at.Goals as goal
@@ -13,7 +14,7 @@ pub read_data-requires-clause-fits : goal.read_data-requires-clause-fits
 read_data-requires-clause-fits g c = subst (λ (w : RepairWorld). data_sectors c.args.shape.now ≤ w.data_dev.size) (sym c.image.view_is) c.requires.have.data_fits
 
 pub read_data-requires-clause-inside : goal.read_data-requires-clause-inside
-read_data-requires-clause-inside g c = omega (arith, c.requires.inside, ap (count_in c.args.shape.now) c.if-height-eq0.true)
+read_data-requires-clause-inside g c = omega (arith, c.requires.inside, ap (digests_in c.args.shape.now) c.if-height-eq0.true)
 
 pub read_data-requires-clause-size : goal.read_data-requires-clause-size
 read_data-requires-clause-size g c = c.requires.size ∙ ap (size_at c.args.shape.now) c.if-height-eq0.true
@@ -24,7 +25,7 @@ read_hash-requires-clause-fits g c = subst (λ (w : RepairWorld). tree_sectors c
 pub read_hash-requires-clause-inside : goal.read_hash-requires-clause-inside
 read_hash-requires-clause-inside g c =
     let some : c.args.height ≡ suc (c.args.height - 1) = omega (arith, c.if-height-eq0.false) in
-    omega (arith, c.requires.inside, ap (count_in c.args.shape.now) some)
+    omega (arith, c.requires.inside, ap (digests_in c.args.shape.now) some)
 
 pub read_hash-requires-clause-size : goal.read_hash-requires-clause-size
 read_hash-requires-clause-size g c =

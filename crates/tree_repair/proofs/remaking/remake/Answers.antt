@@ -3,7 +3,8 @@ use Rattle.std.proofs.lemmas.Bool.{cases_lt}
 use Rattle.tree_shape.specs.Shape.{ancestor}
 use Rattle.tree_shape.proofs.lemmas.ShapeFactLemmas.{levels-few}
 use Rattle.tree_repair.specs.Bills.{LeavesWorld}
-use Rattle.tree_repair.specs.Remaking.{IsUnlike, count_in, ground, made_on}
+use Rattle.tree_path.specs.Unused.{digests_in}
+use Rattle.tree_repair.specs.Remaking.{IsUnlike, ground, made_on}
 use Rattle.tree_repair.specs.Runs.{size_at}
 use Rattle.tree_repair.proofs.AskedLemmas.{tried-all, tried-at, untried_of}
 use Rattle.tree_repair.proofs.BillLemmas.{leaves-none}
@@ -29,7 +30,7 @@ returns-clause-asked g c = tried-all c.args.sought.now.repair.now.shape c.requir
 pub is_made-requires-clause-inside : goal.is_made-requires-clause-inside
 is_made-requires-clause-inside g c =
     let high : c.heights.from - 1 + (c.args.level + 1 - (c.heights.from - 1)) ≡ suc c.args.level = omega (arith, c.heights.invariant.high) in
-    omega (arith, c.block_on_path-number.ensures.inside, ap (count_in c.args.sought.now.repair.now.shape) high)
+    omega (arith, c.block_on_path-number.ensures.inside, ap (digests_in c.args.sought.now.repair.now.shape) high)
 
 pub is_made-requires-clause-size : goal.is_made-requires-clause-size
 is_made-requires-clause-size g c =

@@ -11,11 +11,11 @@ use Rattle.tree_repair.specs.Outcomes.{StandsFrom}
 use Rattle.tree_repair.proofs.OutcomeLemmas.{on_ok-from, stands-next, stands-none}
 use Rattle.tree_repair.proofs.OnceLemmas.{parts-heights}
 use Rattle.tree_repair.proofs.PassLemmas.{noted-ends, noted-from, noted-none, noted-not, noted-same, noted-then}
-use Rattle.tree_repair.proofs.RunLemmas.{can-later, ends-read, world-none}
+use Rattle.tree_repair.proofs.RunLemmas.{can-later, ends-read, refused-within, world-none}
 use Rattle.tree_repair.proofs.repair.repair_heights.Goals as goal
 
 pub returns-in_err-room-clause-notes : goal.returns-in_err-room-clause-notes
-returns-in_err-room-clause-notes g c = noted-from c.from_residual.result c.from_residual.ensures.1 (noted-not (ends-read (world-none c.args.image.now)) refl)
+returns-in_err-room-clause-notes g c = noted-from c.from_residual.result c.from_residual.ensures.1 (noted-not (ends-read (world-none c.args.image.now) (refused-within 65536 (omega arith) c.in_err-room.ensures.err.1)) refl)
 
 pub heights-init : goal.heights-init
 heights-init g c = record {
@@ -43,7 +43,7 @@ repair_height-requires-clause-few g c = omega (arith, c.heights.invariant.low, c
 
 pub repair_height-requires-clause-room : goal.repair_height-requires-clause-room
 repair_height-requires-clause-room g c =
-    omega (arith, c.heights.auto.memory, ap (λ (l : List ℕ). length l) (c.as_mut_slice-memory.ensures.value ∙ c.in_ok-room.ensures) ∙ length-replicate {A = ℕ} 65536 0)
+    omega (arith, c.heights.auto.memory, ap (λ (l : List ℕ). length l) (c.as_mut_slice-memory.ensures.value ∙ c.in_ok-room.ensures.ok) ∙ length-replicate {A = ℕ} 65536 0)
 
 pub heights-preserved : goal.heights-preserved
 heights-preserved g c = record {

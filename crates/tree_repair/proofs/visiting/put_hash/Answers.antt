@@ -17,4 +17,4 @@ returns g c =
     let a = repair_world (g.D.BlockDev.state i.data) (g.H.BlockDev.state i.hash) (map g.C.BlockDev.state i.data_copies.items) (map g.C.BlockDev.state i.hash_copies.items) in
     let b = repair_world a.data_dev (g.H.BlockDev.state c.put.new.device) a.data_copies a.hash_copies in
     subst (λ (w : RepairWorld). IsTreePut c.args.repair.now.write c.args.first c.args.block.now (is_ok c.put.result) w b) c.image.view_is
-    (record { put = c.put.ensures; keeps = record { device_is = refl; copies_are = refl }; hash_copies_are = refl })
+    (record { put = c.put.ensures.put; keeps = record { device_is = refl; copies_are = refl }; hash_copies_are = refl })
