@@ -10,8 +10,6 @@ use Rattle.stack_rules.specs.Records.{Configuration, DeviceRecord}
 use Rattle.stack_rules.specs.Lines.{key_of, key_of_line, zero_digest_of, zero_digest_at}
 use Rattle.stack_config.specs.Keys.{AreKeys, keys_from, AreZeroDigests, zero_digests_of}
 
--- ---- keys
-
 keys-past : (n l : ℕ) (lines : List Line) → l < n → find (λ (k : LineKey). k.line == l) (keys_from n lines) ≡ None
 keys-past n l [] low = refl
 keys-past n l (line ∷ more) low = go (key_of line.target) (keys-past (n + 1) l more (omega (arith, low)))
@@ -61,8 +59,6 @@ key-kept c keys d l are = ap (λ keys. option_map (λ (k : LineKey). k.key) (fin
     go [] d = refl
     go (x ∷ xs) zero = first x.table
     go (x ∷ xs) (suc d) = go xs d
-
--- ---- digests of zeros
 
 -- the digest that is kept for a line is its line's
 pub zero_digest-kept : (c : Configuration) (digests : List (List (Option (List ℕ)))) (d l : ℕ) → AreZeroDigests c.devices digests

@@ -31,15 +31,7 @@ right NoMemory xs ys none h = tt
 abbrev many_rule : Configuration → List (Option Refusal)
 many_rule c = refuse TooMany 0 0 (is_too_many c.devices) ∷ []
 
-many-none : (c : Configuration) → is_too_many c.devices ≡ false → first (many_rule c) ≡ None
-many-none c few = rw few refl
-
--- the parts that have passed
-pub record Known (c : Configuration) : Type 0 where
-  pub few : is_too_many c.devices ≡ false
-  pub known : first (unknown_names c) ≡ None
-
-abbrev outer_rules : Configuration → List (Option Refusal)
+abbrev pub outer_rules : Configuration → List (Option Refusal)
 outer_rules c = many_rule c ++ unknown_names c
 
 abbrev pub inner_rules : Configuration → List (Option Refusal)
@@ -47,27 +39,26 @@ inner_rules c = cycles c ++ each_device c (table_rules c) ++ depth_rules c
 
 parts : (c : Configuration) → rules c ≡ (outer_rules c) ++ (inner_rules c ++ cost_rules c)
 parts c =
-    let outer = outer_rules c in
-    ap (λ l. l ++ depth_rules c ++ cost_rules c) (append_assoc outer (cycles c) (each_device c (table_rules c)))
-    ∙ ap (λ l. l ++ cost_rules c) (append_assoc outer (cycles c ++ each_device c (table_rules c)) (depth_rules c)) ∙ append_assoc outer (inner_rules c) (cost_rules c)
+    ap (λ l. l ++ depth_rules c ++ cost_rules c) (append_assoc (outer_rules c) (cycles c) (each_device c (table_rules c)))
+    ∙ ap (λ l. l ++ cost_rules c) (append_assoc (outer_rules c) (cycles c ++ each_device c (table_rules c)) (depth_rules c)) ∙ append_assoc (outer_rules c) (inner_rules c) (cost_rules c)
 
-outer-none : (c : Configuration) → Known c → first (outer_rules c) ≡ None
-outer-none c k = first-none (many_rule c) (unknown_names c) (many-none c k.few) ∙ k.known
+pub outer-none : (c : Configuration) → is_too_many c.devices ≡ false → first (unknown_names c) ≡ None → first (outer_rules c) ≡ None
+outer-none c few known = first-none (many_rule c) (unknown_names c) (rw few refl) ∙ known
 
 pub unknown-first : (c : Configuration) (fault : LoadFault) → is_too_many c.devices ≡ false → IsFirst fault (unknown_names c) → IsFirst fault (rules c)
 unknown-first c fault few h =
-    subst (IsFirst fault) (sym (parts c)) (left fault (outer_rules c) (inner_rules c ++ cost_rules c) (right fault (many_rule c) (unknown_names c) (many-none c few) h))
+    subst (IsFirst fault) (sym (parts c)) (left fault (outer_rules c) (inner_rules c ++ cost_rules c) (right fault (many_rule c) (unknown_names c) (rw few refl) h))
 
-pub inner-first : (c : Configuration) (fault : LoadFault) → Known c → IsFirst fault (inner_rules c) → IsFirst fault (rules c)
-inner-first c fault k h =
-    subst (IsFirst fault) (sym (parts c)) (right fault (outer_rules c) (inner_rules c ++ cost_rules c) (outer-none c k) (left fault (inner_rules c) (cost_rules c) h))
+pub inner-first : (c : Configuration) (fault : LoadFault) → first (outer_rules c) ≡ None → IsFirst fault (inner_rules c) → IsFirst fault (rules c)
+inner-first c fault outer h =
+    subst (IsFirst fault) (sym (parts c)) (right fault (outer_rules c) (inner_rules c ++ cost_rules c) outer (left fault (inner_rules c) (cost_rules c) h))
 
-pub costs-first : (c : Configuration) (fault : LoadFault) → Known c → first (inner_rules c) ≡ None → IsFirst fault (cost_rules c) → IsFirst fault (rules c)
-costs-first c fault k inner h =
-    subst (IsFirst fault) (sym (parts c)) (right fault (outer_rules c) (inner_rules c ++ cost_rules c) (outer-none c k) (right fault (inner_rules c) (cost_rules c) inner h))
+pub costs-first : (c : Configuration) (fault : LoadFault) → first (outer_rules c) ≡ None → first (inner_rules c) ≡ None → IsFirst fault (cost_rules c) → IsFirst fault (rules c)
+costs-first c fault outer inner h =
+    subst (IsFirst fault) (sym (parts c)) (right fault (outer_rules c) (inner_rules c ++ cost_rules c) outer (right fault (inner_rules c) (cost_rules c) inner h))
 
-pub none-first : (c : Configuration) → Known c → first (inner_rules c) ≡ None → first (cost_rules c) ≡ None → first (rules c) ≡ None
-none-first c k inner cost = ap first (parts c) ∙ first-none (outer_rules c) (inner_rules c ++ cost_rules c) (outer-none c k) ∙ first-none (inner_rules c) (cost_rules c) inner ∙ cost
+pub none-first : (c : Configuration) → first (outer_rules c) ≡ None → first (inner_rules c) ≡ None → first (cost_rules c) ≡ None → first (rules c) ≡ None
+none-first c outer inner cost = ap first (parts c) ∙ first-none (outer_rules c) (inner_rules c ++ cost_rules c) outer ∙ first-none (inner_rules c) (cost_rules c) inner ∙ cost
 
 -- ---- rules on one number for each device
 

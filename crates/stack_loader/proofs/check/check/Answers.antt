@@ -20,7 +20,7 @@ use Rattle.stack_costs.proofs.lemmas.CostLemmas.{lowers-rows, write_cost-given}
 use Rattle.stack_config.specs.Facts.{AreFacts}
 use Rattle.stack_config.proofs.lemmas.WriteCostLemmas.{write_cost-low}
 use Rattle.stack_loader.proofs.FactsLemmas.{facts-are}
-use Rattle.stack_loader.proofs.RuleOrderLemmas.{Known, inner_rules, unknown-first, inner-first, costs-first, none-first, costs-above}
+use Rattle.stack_loader.proofs.RuleOrderLemmas.{inner_rules, outer-none, unknown-first, inner-first, costs-first, none-first, costs-above}
 use Rattle.stack_loader.proofs.check.check.Goals as goal
 
 pub returns-in_err-lowers : goal.returns-in_err-lowers
@@ -36,10 +36,10 @@ checked_depths-requires-clause-few c = ltb-false most_devices (length c.args.dev
 pub returns-in_err-depths : goal.returns-in_err-depths
 returns-in_err-depths c =
     let c' : Configuration = configuration c.args.leaves.now c.args.devices.now in
-    let known : Known c' = record { few = sym c.is_too_many.ensures ∙ c.if-is_too_many.false; known = c.in_ok-lowers.ensures.0 } in
+    let outer = outer-none c' (sym c.is_too_many.ensures ∙ c.if-is_too_many.false) c.in_ok-lowers.ensures.0 in
     let fault = c.in_err-depths.field-0.0 in
     let p = err_from_is_err_and c.from_residual-in_err-depths.result c.from_residual-in_err-depths.ensures.1 in
-    rw (p.1, p.2) (passed-IsFirst (AreFacts c') fault (rules c') (inner-first c' fault known (IsFirst-passed (λ depths. AreMeasured c' c.as_slice-rows.result.now depths.items) fault (inner_rules c') c.in_err-depths.ensures)))
+    rw (p.1, p.2) (passed-IsFirst (AreFacts c') fault (rules c') (inner-first c' fault outer (IsFirst-passed (λ depths. AreMeasured c' c.as_slice-rows.result.now depths.items) fault (inner_rules c') c.in_err-depths.ensures)))
 
 pub costs-requires-clause-rows : goal.costs-requires-clause-rows
 costs-requires-clause-rows c =
@@ -67,10 +67,10 @@ first_above-requires c =
 pub returns-in-Some : goal.returns-in-Some
 returns-in-Some c =
     let c' : Configuration = configuration c.args.leaves.now c.args.devices.now in
-    let known : Known c' = record { few = sym c.is_too_many.ensures ∙ c.if-is_too_many.false; known = c.in_ok-lowers.ensures.0 } in
+    let outer = outer-none c' (sym c.is_too_many.ensures ∙ c.if-is_too_many.false) c.in_ok-lowers.ensures.0 in
     let reads = c.in_ok-read_costs.ensures.ok c'.leaves (rw c.as_slice-levels.ensures.value c.in_ok-depths.ensures.1) in
     let dear = ap first (ap (above CostTooLarge most_cost) c.as_slice-reads.ensures.value ∙ costs-above c' c.in_ok-read_costs.read_costs.items reads) in
-    costs-first c' (Refused c.in-Some.refusal) known c.in_ok-depths.ensures.0 (sym dear ∙ sym c.in-Some.ensures)
+    costs-first c' (Refused c.in-Some.refusal) outer c.in_ok-depths.ensures.0 (sym dear ∙ sym c.in-Some.ensures)
 
 pub device_facts-requires-clause-lengths : goal.device_facts-requires-clause-lengths
 device_facts-requires-clause-lengths c =
@@ -91,12 +91,12 @@ unfolding IsValid
 returns c =
     let c' : Configuration = configuration c.args.leaves.now c.args.devices.now in
     let n = length c.args.devices.now in
-    let known : Known c' = record { few = sym c.is_too_many.ensures ∙ c.if-is_too_many.false; known = c.in_ok-lowers.ensures.0 } in
+    let outer = outer-none c' (sym c.is_too_many.ensures ∙ c.if-is_too_many.false) c.in_ok-lowers.ensures.0 in
     let measured = c.in_ok-depths.ensures.1 in
     let reads = c.in_ok-read_costs.ensures.ok c'.leaves (rw c.as_slice-levels.ensures.value measured) in
     let dear = ap first (ap (above CostTooLarge most_cost) c.as_slice-reads.ensures.value ∙ costs-above c' c.in_ok-read_costs.read_costs.items reads) in
     let no_cost = sym dear ∙ sym c.in-None.ensures in
-    let valid = none-first c' known c.in_ok-depths.ensures.0 no_cost in
+    let valid = none-first c' outer c.in_ok-depths.ensures.0 no_cost in
     let exact = c.as_slice-reads.ensures.value ∙ reads ∙ each-exact Read (read_cost c') (read_cost c') (λ x. refl) (λ x. omega (arith, costs-low c' no_cost x)) n in
     let given : Bor (List ℕ) = c.as_slice-reads.result in
     let writes = c.as_slice-writes.ensures.value ∙ c.in_ok-write_costs.ensures.ok c'.leaves (rw c.as_slice-levels.ensures.value measured)

@@ -27,9 +27,8 @@ loop-i-preserved c =
 
 pub returns-clause-ok : goal.returns-clause-ok
 returns-clause-ok c =
-    let k = c.loop-i.i-iterator.count in
     let inv = c.loop-i.invariant in
-    let all : k ≡ length c.args.devices.now = omega (arith, c.loop-i.i-iterator.iter.rest.ok.0, c.in-None.ensures.steps.0.0, ap (λ l. length l) inv.1, length-drop k c.args.lowers.items, inv.0, c.requires.lengths.3) in
+    let all : c.loop-i.i-iterator.count ≡ length c.args.devices.now = omega (arith, c.loop-i.i-iterator.iter.rest.ok.0, c.in-None.ensures.steps.0.0, ap (λ l. length l) inv.1, length-drop c.loop-i.i-iterator.count c.args.lowers.items, inv.0, c.requires.lengths.3) in
     rw (← all) inv.2
 
 pub returns-in_err-line_keys-clause-err : goal.returns-in_err-line_keys-clause-err
