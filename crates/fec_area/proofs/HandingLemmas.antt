@@ -42,7 +42,7 @@ handed-next does l d h p q q' n at parity so_far place call sum = record {
       let same : n ≡ 0 + length so_far.rounds = omega (arith, so_far.count) in
       let here : at ≡ (0 + length so_far.rounds) * round_sectors l = place ∙ ap (λ (m : ℕ). m * round_sectors l) same in
       subst (λ (calls : List Call). Calls does p calls q') (sym (round_writes-last (round_sectors l) 0 so_far.rounds parity))
-          (calls-last does p q q' _ _ so_far.made (subst (λ (m : ℕ). does q (Write m parity true) q') here call));
+      (calls-last does p q q' _ _ so_far.made (subst (λ (m : ℕ). does q (Write m parity true) q') here call));
   sums = λ one other.
       let same : n ≡ 0 + length so_far.rounds = omega (arith, so_far.count) in
       parities-last l d.image h.image 0 so_far.rounds parity (so_far.sums one other) (subst (λ (m : ℕ). IsParityOf l d.image h.image m parity) same (sum one other));
