@@ -33,7 +33,7 @@ def said_lines(text):
 
 def is_of_scan(text):
     """Whether a scan made the map: its `+` says that a sector could be read, and not that it was copied."""
-    return SCAN_MARK in text.split(b"\n")
+    return any(WORD.findall(line) == SCAN_MARK.split() for line in text.split(b"\n"))
 
 
 def is_status(words):

@@ -23,7 +23,7 @@ use Rattle.rescue_map.specs.declared.kind.MapKind.{MapKind}
 use Rattle.rescue_map.specs.declared.kind.MapKind.TheVariants.{Copy, Scan}
 use Rattle.rescue_map.specs.declared.map.Run.{Run}
 use Rattle.rescue_map.specs.Blocks.{block_from, map_block, is_status, is_whole_block, run_at, status_of}
-use Rattle.rescue_map.specs.Kinds.{kind_in, kind_of, mark_text, scan_mark}
+use Rattle.rescue_map.specs.Kinds.{is_mark, kind_in, kind_of, mark_text, scan_mark}
 use Rattle.rescue_map.specs.Maps.{AreRuns, marks}
 use Rattle.rescue_map.specs.MapText.{blocks_text, is_tried, map_of, map_text, map_run_text, run_words, runs_behind, map_runs_from, map_runs_text, said, status_text, status_word}
 use Rattle.rescue_map.specs.Numbers.{has_base, map_number}
@@ -252,19 +252,27 @@ mark-skipped : is_skipped (words scan_mark) ≡ true
 unfolding words
 mark-skipped = refl
 
+mark-is : is_mark (words scan_mark) ≡ true
+unfolding words
+mark-is = refl
+
 -- a line that isn't skipped is no mark
-no_mark : (line : List ℕ) (ws : List Word) → words line ≡ ws → is_skipped ws ≡ false → bytes_eq line scan_mark ≡ false
-no_mark line ws e kept =
-    not_true (bytes_eq line scan_mark) (λ is. false≢true (sym kept ∙ ap is_skipped (sym e) ∙ ap (λ (l : List ℕ). is_skipped (words l)) ((bytes_eq-Decides line scan_mark).0 is) ∙ mark-skipped))
+no_mark : (ws : List Word) → is_skipped ws ≡ false → is_mark ws ≡ false
+no_mark [] kept = refl
+no_mark (a ∷ []) kept = refl
+no_mark (a ∷ b ∷ []) kept = refl
+no_mark (a ∷ b ∷ d ∷ e ∷ more) kept = refl
+no_mark (a ∷ b ∷ d ∷ []) kept = ap (λ (s : Bool). s && bytes_eq b (codes "dmstack") && bytes_eq d (codes "scan")) (no_sign (bytes_eq a (codes "#")) refl)
   where
-    not_true : (b : Bool) → (b ≡ true → ⊥) → b ≡ false
-    not_true true h = absurd (h refl)
-    not_true false h = refl
+    no_sign : (s : Bool) → bytes_eq a (codes "#") ≡ s → s ≡ false
+    no_sign true is = absurd (false≢true (sym kept ∙ ap (λ (w : Word). is_skipped (w ∷ b ∷ d ∷ [])) ((bytes_eq-Decides a (codes "#")).0 is)))
+    no_sign false is = refl
 
 kind-line : (line : List ℕ) (ws : List Word) (more : List (List ℕ)) → words line ≡ ws → is_skipped ws ≡ false → kind_in (line ∷ more) ≡ kind_in more
-kind-line line ws more e kept = cond-false (bytes_eq line scan_mark) _ _ (no_mark line ws e kept)
+kind-line line ws more e kept = cond-false (is_mark (words line)) _ _ (ap is_mark e ∙ no_mark ws kept)
 
 kind-runs : (tried : Option ℕ) (at : ℕ) (runs : List Run) → at + length (marks runs) ≤ 2 ^ 54 → kind_in (slice_split (λ b. eqb b 10) (map_runs_text tried at runs)) ≡ Copy
+unfolding words
 kind-runs tried at [] few = refl
 kind-runs tried at (run ∷ more) few =
     let len = length-marks run more in
@@ -290,7 +298,9 @@ map-read Scan tried runs whole =
 pub map-kind : (kind : MapKind) (tried : Option ℕ) (runs : List Run) → AreRuns runs → kind_of (map_text kind tried runs) ≡ kind
 unfolding kind_of map_text text_lines
 map-kind Copy tried runs whole = kind-blocks tried runs whole
-map-kind Scan tried runs whole = ap kind_in (split-line scan_mark (blocks_text tried runs) mark-one)
+map-kind Scan tried runs whole =
+    ap kind_in (split-line scan_mark (blocks_text tried runs) mark-one)
+    ∙ cond-true (is_mark (words scan_mark)) Scan (kind_in (slice_split (λ b. eqb b 10) (blocks_text tried runs))) mark-is
 
 append-end : (l : List ℕ) → l ++ [] ≡ l
 append-end [] = refl

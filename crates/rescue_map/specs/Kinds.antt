@@ -1,7 +1,7 @@
 -- What a map is of: a copy, which has each sector with a `+`, or a scan, which copied none.
-use Rattle.std.specs.Prelude.{ℕ, List, [], ◌∷◌, ◌++◌, codes, if◌then◌else◌}
+use Rattle.std.specs.Prelude.{ℕ, Bool, false, ◌&&◌, List, [], ◌∷◌, ◌++◌, codes, if◌then◌else◌}
 use Rattle.std.specs.Str.{bytes_eq}
-use Rattle.dm_table.specs.Words.{text_lines}
+use Rattle.dm_table.specs.Words.{Word, text_lines, words}
 use Rattle.rescue_map.specs.declared.kind.MapKind.{MapKind}
 use Rattle.rescue_map.specs.declared.kind.MapKind.TheVariants.{Copy, Scan}
 
@@ -9,10 +9,15 @@ use Rattle.rescue_map.specs.declared.kind.MapKind.TheVariants.{Copy, Scan}
 abbrev pub scan_mark : List ℕ
 scan_mark = codes "# dmstack scan"
 
+-- the words of a line are those of the mark: an editor may leave white space around them
+abbrev pub is_mark : List Word → Bool
+is_mark (sign ∷ program ∷ command ∷ []) = bytes_eq sign (codes "#") && bytes_eq program (codes "dmstack") && bytes_eq command (codes "scan")
+is_mark other = false
+
 -- one of the lines is the mark
 abbrev pub kind_in : List (List ℕ) → MapKind
 kind_in [] = Copy
-kind_in (line ∷ more) = if bytes_eq line scan_mark then Scan else kind_in more
+kind_in (line ∷ more) = if is_mark (words line) then Scan else kind_in more
 
 unfoldable pub kind_of : List ℕ → MapKind
 kind_of text = kind_in (text_lines text)
