@@ -48,6 +48,7 @@ PLACES = {
     "rescue_files": (5, NOT_YET),
     "rescue_map": (25, NOT_YET),
     "stack_checks": (14, NOT_YET),
+    "stack_commands": (3, NOT_YET),
     "stack_costs": (18, NOT_YET),
     "stack_engine": (19, NOT_YET),
     "stack_json": (17, NOT_YET),

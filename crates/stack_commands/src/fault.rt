@@ -17,6 +17,7 @@ use stack_engine::IoFault;
 use stack_making::StackFault;
 use stack_session::SessionFault;
 use stack_streams::StreamFault;
+use std::alloc::AllocError;
 use tree_commands::TreeFault;
 use verity_commands::VerityFault;
 
@@ -53,6 +54,14 @@ pub enum CommandFault<'a> {
     Session(SessionFault),
     /// The service of a client ended early.
     Service(ServiceFault),
+}
+
+impl From<AllocError> for CommandFault<'_> {
+    ghost from_gives = { λ _ fault. fault ≡ command_fault.NoMemory };
+
+    fn from(_error: AllocError) -> Self {
+        CommandFault::NoMemory
+    }
 }
 
 impl From<OutOfMemory> for CommandFault<'_> {
