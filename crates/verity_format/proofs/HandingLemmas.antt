@@ -166,8 +166,11 @@ module _ {D H : Type 0} (asks : D → Call → D → Type 0) (does : H → Call 
         asked = here.asked;
         rest = record { calls = []; reads = tt; few = omega arith; made = refl };
         stopped =
-            inr (inr (count-all, subst (λ (ps : List PlacedRecord). HandsSome does s.hash_block ps h h'') all_blocks
-            (some-then does s.hash_block (completed (begun_builder s salt) ds) out h h' h'' here.handed some)));
+            inr (inr (
+              count-all,
+              subst (λ (ps : List PlacedRecord). HandsSome does s.hash_block ps h h'') all_blocks
+                  (some-then does s.hash_block (completed (begun_builder s salt) ds) out h h' h'' here.handed some),
+            ));
       }
 
       pub tree-all : (h'' : H) → Calls does h' (writes_of s.hash_block out) h'' → (root : List ℕ) → root ≡ built_root x → HandsTree asks does s salt d h d' h'' root

@@ -46,9 +46,9 @@ returns-in_err-root-clause-devices g c =
     let does = DeviceDoes g.H.BlockDev.state g.H.BlockDev.does in (
       (c.write_tree.ensures.devices.read, part-only_written (shape_of s) hash_dev mid part),
       rw result.1
-      (inl
-      (stopped-shape asks does c.shape-shape.result (shape_of s) c.salt.result s.salt c.args.data_dev.now c.args.hash_dev.now c.write_tree.new.data_dev c.write_tree.new.hash_dev c.shape-shape.ensures.value c.salt.ensures
-      c.in_err-root.ensures.handed)),
+          (inl
+          (stopped-shape asks does c.shape-shape.result (shape_of s) c.salt.result s.salt c.args.data_dev.now c.args.hash_dev.now c.write_tree.new.data_dev c.write_tree.new.hash_dev c.shape-shape.ensures.value c.salt.ensures
+          c.in_err-root.ensures.handed)),
     )
 
 pub returns-in_err-root-clause-err : goal.returns-in_err-root-clause-err
