@@ -67,14 +67,14 @@ module _ (base v v' : StackRecord) (d first : ℕ) (bytes : List ℕ) (done end 
     -- where memory ran out nothing more was written
     put-nothing : EachWrite v d (first + done / 512) (next_part bytes done end) (Err io.NoMemory) v' → WritesInPieces base d first (take (512 * (done / 512)) bytes) (Ok tt) v'
     put-nothing q =
-        let same : v ≡ v' = same-stack v v' (sym q.any.config) (sym q.any.ends) (sym q.any.capacity) (sym (q.any.short refl)) in
+        let same : v ≡ v' = same-stack v v' (sym q.any.config) (sym q.any.ends.0) (sym q.any.capacity) (sym (q.any.short refl)) in
         let sectors : done ≡ 512 * (done / 512) = omega (arith, even) in
         subst (λ x. WritesInPieces base d first (take (512 * (done / 512)) bytes) (Ok tt) x) same (subst (λ k. WritesInPieces base d first (take k bytes) (Ok tt) v) sectors p)
 
     pub put-fails : (fault : IoFault) → EachWrite v d (first + done / 512) (next_part bytes done end) (Err fault) v' → WritesWhole base (range_at d first (length bytes / 512)) bytes (Err fault) v'
     put-fails (io.Stack why) q = put-ends (io.Stack why) (λ e. cc) q
     put-fails (io.Device i) q = put-ends (io.Device i) (λ e. cc) q
-    put-fails io.NoMemory q = (done / 512, omega (arith, more, within), put-nothing q)
+    put-fails io.NoMemory q = (done / 512, omega (arith, more, within), put-nothing q, q.any.ends.1)
 
     -- memory runs out where some sector is encrypted
     pub some-encrypt : SomeEncrypt (said_at v.config (mapped d)) (first + done / 512) (length (next_part bytes done end) / 512) → SomeEncrypt (said_at base.config (mapped d)) first (length bytes / 512)

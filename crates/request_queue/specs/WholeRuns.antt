@@ -1,9 +1,11 @@
 -- A request that is run: what it is as a whole, from the stack before it to the stack after.
 use Rattle.std.specs.Prelude.{◌≡◌, ◌<◌, ℕ, ◌*◌, List, take, Result, Ok, Err}
+use Rattle.allocation.specs.Refusal.{IsOutOfMemory}
 use Rattle.stack_rules.specs.Names.{mapped}
 use Rattle.stack_rules.specs.Descend.{read_cost}
 use Rattle.stack_meaning.specs.declared.fault.IoFault.{IoFault}
 use Rattle.stack_meaning.specs.declared.fault.IoFault.TheVariants as io
+use Rattle.stack_meaning.specs.Memory.{largest_allocation}
 use Rattle.stack_meaning.specs.Outcomes.{span}
 use Rattle.stack_meaning.specs.Meaning.{sector}
 use Rattle.stack_meaning.specs.May.{MayRead, MayFault}
@@ -34,9 +36,9 @@ pub record ReadsWhole (v : StackRecord) (range : SectorRange) (answer : Result A
   pub exact : AreSteady (leaves_of v.config (mapped range.device.0)) v.leaves → Answers (λ got. got.bytes) (span (sector v.config (steady_images v.leaves) (mapped range.device.0)) range.first range.count) answer
 
 -- A write as a whole: all bytes in pieces, or up to the piece that ended it by its fault; where memory ran out, the
--- sectors before that piece are written and no others.
+-- sectors before that piece are written and no others, and an allocation was refused.
 abbrev pub WritesWhole : StackRecord → SectorRange → List ℕ → Result Unit IoFault → StackRecord → Type 0
-WritesWhole v range bytes (Err io.NoMemory) v' = (k : ℕ) × (k < range.count) × WritesInPieces v range.device.0 range.first (take (512 * k) bytes) (Ok tt) v'
+WritesWhole v range bytes (Err io.NoMemory) v' = (k : ℕ) × (k < range.count) × WritesInPieces v range.device.0 range.first (take (512 * k) bytes) (Ok tt) v' × IsOutOfMemory largest_allocation
 WritesWhole v range bytes result v' = WritesInPieces v range.device.0 range.first bytes result v'
 
 -- a request as a whole

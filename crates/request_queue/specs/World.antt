@@ -1,5 +1,6 @@
 -- Worlds, and the steps between them.
 use Rattle.std.specs.Prelude.{◌≡◌, ◌≢◌, ◌⊎◌, ℕ, ◌+◌, ◌-◌, ◌^◌, ◌<◌, ◌≤◌, ◌/◌, ◌||◌, ◌==◌, nat_le, Bool, IsTrue, List, [], ◌∷◌, ◌++◌, length, map, position, slice_get, set, remove, Some, None, Result, Ok, Err, All, if◌then◌else◌}
+use Rattle.allocation.specs.Refusal.{IsOutOfMemory}
 use Rattle.block_device.specs.Device.{Device, synced}
 use Rattle.dm_table.specs.declared.stack.Entry.{Entry}
 use Rattle.stack_rules.specs.declared.refusal.LoadFault.{LoadFault}
@@ -51,6 +52,10 @@ unless_full full (Err fault) = Err fault
 abbrev pub admission : World → RequestRecord → Result SectorRange SubmitFault
 admission w r = unless_full (is_full w) (sectors_for w.stack.config r)
 
+-- the most elements for which one allocation of a submission makes room: the bytes of a read of 2,048 sectors
+abbrev pub largest_submission : ℕ
+largest_submission = 1048576
+
 -- the request is the last of those in flight, under the next ticket
 pub record Begins (w : World) (r : RequestRecord) (ticket : ℕ) (w' : World) : Type 0 where
   pub range : SectorRange
@@ -58,8 +63,9 @@ pub record Begins (w : World) (r : RequestRecord) (ticket : ℕ) (w' : World) : 
   pub ticket_is : ticket ≡ w.given + 1
   pub leaves : w' ≡ world w.stack (w.given + 1) (w.in_flight ++ first_flight (w.given + 1) range r ∷ [])
 
+-- its first refusal, or an allocation for it was refused; nothing is begun
 pub record IsRequestRefused (w : World) (r : RequestRecord) (fault : SubmitFault) (w' : World) : Type 0 where
-  pub refuses : (admission w r ≡ Err fault) ⊎ (fault ≡ NoMemory)
+  pub refuses : (admission w r ≡ Err fault) ⊎ ((fault ≡ NoMemory) × IsOutOfMemory largest_submission)
   pub same : w' ≡ w
 
 abbrev pub Submits : World → RequestRecord → Result ℕ SubmitFault → World → Type 0

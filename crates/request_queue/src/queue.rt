@@ -26,6 +26,7 @@ use crate::range::{SectorRange, bytes_range};
 use crate::reply::{Progress, Reply, Ticket};
 use crate::request::Request;
 use crate::work::Work;
+use allocation::reserve;
 use block_device::{BlockDev, SyncDev};
 use dm_table::StackText;
 use stack_config::DevId;
@@ -134,7 +135,7 @@ impl<D: BlockDev> Queue<D> {
             Ok(range) => range,
             Err(fault) => return Err((fault, request)),
         };
-        let Ok(()) = self.flights.reserve(1) else {
+        let Ok(()) = reserve(&mut self.flights, 1) else {
             return Err((SubmitFault::NoMemory, request));
         };
         let work = match Work::new(self.alloc, request, range.count) {

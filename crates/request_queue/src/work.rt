@@ -1,16 +1,20 @@
 //! What a request in flight does.
-ghost use Rattle.std.specs.Prelude.{ℕ, ◌≡◌, ◌≤◌, ◌+◌, ◌++◌, OnOk, IfOk, IfErr};
+ghost use Rattle.std.specs.Prelude.{ℕ, ◌≡◌, ◌≤◌, ◌+◌, ◌++◌, length, OnOk, OnErr, IfOk, IfErr};
+ghost use Rattle.allocation.specs.Refusal.{IsOutOfMemory};
+ghost use Rattle.stack_meaning.specs.Memory.{largest_allocation};
 ghost use Rattle.stack_rules.specs.Names.{mapped, size};
 ghost use Rattle.request_queue.specs.Flights.{IsWorkOn, first_work, joint_answer, reply_to, work_record};
 ghost use Rattle.request_queue.specs.Requests.{request_record};
 ghost use Rattle.request_queue.specs.Serving.{PartDone, PartFailed};
+ghost use Rattle.request_queue.specs.World.{largest_submission};
 
 use crate::range::SectorRange;
 use crate::reply::Reply;
 use crate::request::Request;
+use allocation::{OutOfMemory, append, push, with_capacity};
 use block_device::BlockDev;
 use stack_engine::{Answer, Found, IoFault, Stack};
-use std::alloc::{AllocError, Global};
+use std::alloc::Global;
 
 /// What a request does, with what it has got so far.
 #[derive(Drop)]
@@ -21,17 +25,25 @@ pub(crate) enum Work {
     Write(Vec<u8>),
 }
 
-fn append_chains(chains: &mut Vec<Found>, mut more: Vec<Found>) -> Result<(), AllocError>
-    ensures { OnOk result (chains.new.items ≡ chains.old.items ++ more.items) }
+// One by one, so that what a refused allocation asked for is known.
+fn append_chains(chains: &mut Vec<Found>, mut more: Vec<Found>) -> Result<(), OutOfMemory>
+    ensures ok { OnOk result (chains.new.items ≡ chains.old.items ++ more.items) }
+    ensures err { OnErr result (IsOutOfMemory largest_allocation) }
 {
-    chains.append(&mut more)
+    more.reverse();
+    'rest: while let Some(chain) = more.pop() {
+        push(chains, chain)?;
+    }
+    Ok(())
 }
 
 /// Puts the bytes and chains of a piece behind those before.
-fn join(got: &mut Answer, piece: Answer) -> Result<(), AllocError>
-    ensures { OnOk result (got.new ≡ joint_answer got.old piece) }
+fn append_piece(got: &mut Answer, piece: Answer) -> Result<(), OutOfMemory>
+    requires { length piece.bytes ≤ largest_allocation }
+    ensures ok { OnOk result (got.new ≡ joint_answer got.old piece) }
+    ensures err { OnErr result (IsOutOfMemory largest_allocation) }
 {
-    got.bytes.extend_from_slice(piece.bytes.as_slice())?;
+    append(&mut got.bytes, piece.bytes.as_slice())?;
     append_chains(&mut got.chains, piece.chains)
 }
 
@@ -40,11 +52,12 @@ impl Work {
     pub(crate) fn new(alloc: Global, request: Request, count: u64) -> Result<Work, Request>
         requires { count ≤ 2048 }
         ensures ok { IfOk result (λ work. work_record work ≡ first_work (request_record request)) }
-        ensures err { IfErr result (λ back. back ≡ request) }
+        ensures same { IfErr result (λ back. back ≡ request) }
+        ensures err { OnErr result (IsOutOfMemory largest_submission) }
     {
         match request {
             Request::Read { .. } => {
-                let Ok(bytes) = Vec::with_capacity(alloc, count as usize * 512) else {
+                let Ok(bytes) = with_capacity(alloc, count as usize * 512) else {
                     return Err(request);
                 };
                 let chains = Vec::new(alloc);
@@ -71,7 +84,7 @@ impl Work {
         match self {
             Work::Read(got) => {
                 let more = stack.read_piece(piece.device, piece.first, piece.count as u32)?;
-                match join(got, more) {
+                match append_piece(got, more) {
                     Ok(()) => Ok(()),
                     Err(_) => Err(IoFault::NoMemory),
                 }

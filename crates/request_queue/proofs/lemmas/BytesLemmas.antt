@@ -95,7 +95,7 @@ bytes-then w v w' d first a m xs ys p q =
 fails-of : {w w' : StackRecord} (d first n : ℕ) (chains : List FoundRecord) (fault : IoFault) → EachBytes w d first n (Err fault) w' → Gets (run_expected (place_of w.config (mapped d)) chains first n) w.leaves w'.leaves (Err fault)
 fails-of d first n chains (io.Stack fault) p = record { moved = p.any.moved; may = p.any.may; exact = λ steady. (p.steady steady).exact }
 fails-of d first n chains (io.Device i) p = record { moved = p.any.moved; may = p.any.may; exact = λ steady. tt }
-fails-of d first n chains io.NoMemory p = record { moved = p.any.moved; may = tt; exact = λ steady. tt }
+fails-of d first n chains io.NoMemory p = record { moved = p.any.moved; may = p.any.may; exact = λ steady. tt }
 
 each-fails : {w w' : StackRecord} (d first n : ℕ) (chains : List FoundRecord) (fault : IoFault) → w'.config ≡ w.config → w'.capacity ≡ w.capacity → Gets (run_expected (place_of w.config (mapped d)) chains first n) w.leaves w'.leaves (Err fault)
     → TouchesOnly {A = List ℕ} (leaves_of w.config (mapped d)) w.leaves w'.leaves (Err fault) → EndsAtFailure {A = List ℕ} w.leaves w'.leaves (Err fault) → EachBytes w d first n (Err fault) w'
@@ -106,7 +106,7 @@ each-fails {w = w} {w' = w'} d first n chains (io.Device i) config capacity p to
     let any : AnyBytes w d first n (Err (io.Device i)) w' = record { config = config; capacity = capacity; moved = p.moved; may = p.may; touches = touches; fails = fails } in
     record { any = any; steady = λ steady. record { any = any; exact = tt } }
 each-fails {w = w} {w' = w'} d first n chains io.NoMemory config capacity p touches fails =
-    let any : AnyBytes w d first n (Err io.NoMemory) w' = record { config = config; capacity = capacity; moved = p.moved; may = tt; touches = touches; fails = fails } in
+    let any : AnyBytes w d first n (Err io.NoMemory) w' = record { config = config; capacity = capacity; moved = p.moved; may = p.may; touches = touches; fails = fails } in
     record { any = any; steady = λ steady. record { any = any; exact = tt } }
 
 -- a piece that ends all n sectors by its fault

@@ -62,7 +62,7 @@ no-memory : (May : StackFault → Type 0) (old new : List Device) (result : Resu
 no-memory May old new (Ok done) ends e = let clash : Ok done ≡ Err io.NoMemory = e in cc
 no-memory May old new (Err (io.Stack fault)) ends e = let clash : Err (io.Stack fault) ≡ Err io.NoMemory = e in cc
 no-memory May old new (Err (io.Device i)) ends e = let clash : Err (io.Device i) ≡ Err io.NoMemory = e in cc
-no-memory May old new (Err io.NoMemory) ends e = ends
+no-memory May old new (Err io.NoMemory) ends e = ends.0
 
 write-puts : (v : StackRecord) (d first : ℕ) (bytes : List ℕ) (result : Result Unit IoFault) (v' : StackRecord) → EachWrite v d first bytes result v'
     → Leave (part_pieces v.config d first (write_part bytes) result) v v'
