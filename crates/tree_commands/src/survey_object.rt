@@ -73,8 +73,13 @@ fn survey_line(alloc: Global, lines: &[Line], totals: Totals) -> Result<String, 
     ensures ok { IfOk result (λ line. string_bytes line ≡ json_line (survey_json lines.now totals)) }
     ensures err { IfErr result (λ fault. fault ≡ survey_fault.Image verify_fault.NoMemory) }
 {
-    let value = survey_value(alloc, lines, totals)?;
-    Ok(line_of(alloc, &value)?)
+    let Ok(value) = survey_value(alloc, lines, totals) else {
+        return Err(SurveyFault::Image(VerifyFault::NoMemory));
+    };
+    match line_of(alloc, &value) {
+        Ok(line) => Ok(line),
+        Err(_) => Err(SurveyFault::Image(VerifyFault::NoMemory)),
+    }
 }
 
 // The members in the order of their keys.
