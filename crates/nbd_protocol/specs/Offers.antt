@@ -5,6 +5,10 @@ use Rattle.stack_rules.specs.Records.{Configuration, DeviceRecord}
 use Rattle.nbd_protocol.specs.Exports.{ExportRecord, HasNoExport, IsExport, export_records}
 use Rattle.nbd_protocol.specs.declared.export.Export.{Export}
 
+-- the most bytes of a device's name
+abbrev pub longest_name : ℕ
+longest_name = 127
+
 -- these are the devices' names, in their order
 abbrev pub AreNames : List DeviceRecord → List (List ℕ) → Type 0
 AreNames devices names = names ≡ map (λ d. d.name) devices

@@ -1,7 +1,8 @@
 -- What was taken from a client and written to it.
-use Rattle.std.specs.Prelude.{◌≡◌, ◌≢◌, ◌⊎◌, ◌<◌, ◌≤◌, ◌+◌, ◌-◌, ◌*◌, ◌^◌, ℕ, Bool, true, false, List, Vec, [], length, take, drop, Option, Some, None, IfSome, option_map, Result, Ok, Err, if◌then◌else◌}
+use Rattle.std.specs.Prelude.{◌≡◌, ◌≢◌, ◌⊎◌, ◌<◌, ◌≤◌, ◌+◌, ◌-◌, ◌*◌, ◌^◌, ℕ, Bool, true, false, List, Vec, [], length, take, drop, Option, Some, None, IfNone, IfSome, option_map, Result, Ok, Err, if◌then◌else◌}
 use Rattle.std.specs.Global.{Global}
 use Rattle.std.specs.Io.KnownBytes.{Appends, Consumes, IsAtEnd}
+use Rattle.allocation.specs.Refusal.{IsOutOfMemory}
 use Rattle.block_device.specs.Device.{capped}
 use Rattle.counted_io.specs.Counted.{CountedRecord}
 use Rattle.counted_io.specs.Streams.{Streams}
@@ -69,10 +70,11 @@ pub record HavePlace (sectors start count : ℕ) : Type 0 where
   pub few : sectors < 2 ^ 32
   pub inside : start + count ≤ 512 * sectors
 
--- n bytes were taken, and stand at their place in so many sectors where there was room for these
+-- n bytes were taken, and stand at their place in so many sectors, unless an allocation of these was refused
 pub record TakesToPlace (found : Option (Vec ℕ Global)) (sectors start n : ℕ) (old new : Option (List ℕ)) : Type 0 where
   pub taken : TakesInto (option_map (λ v. take n (drop start v.items)) found) n old new
   pub room : IfSome found (λ v. length v.items ≡ 512 * sectors)
+  pub refused : IfNone found (IsOutOfMemory (512 * sectors))
 
 -- n bytes were taken from a reader so
 abbrev pub TakesSectors : {R : Type 0} → (R → Option (List ℕ)) → CountedRecord R → CountedRecord R → ℕ → ℕ → ℕ → Option (Vec ℕ Global) → Type 0

@@ -3,8 +3,9 @@ ghost use Rattle.std.specs.Prelude.{◌≡◌, ℕ, ◌<◌, ◌≤◌, ◌+◌,
 ghost use Rattle.nbd_protocol.specs.Streaming.{Fills, FillsPart, HasRead, HavePlace, IsShort, Takes, TakesSectors, result_fault};
 
 use crate::fault::ServiceFault;
+use allocation::zeros;
 use counted_io::Counted;
-use std::alloc::{AllocError, Global};
+use std::alloc::Global;
 use std::io::{ErrorKind, Read};
 
 const PIECE: usize = 4096;
@@ -69,7 +70,8 @@ pub fn fill_part<R: Read>(
     fill(reader, &mut buffer[start..start + count])
 }
 
-/// Takes so many bytes to their place in as many sectors. `None`: memory ran out, and they are gone.
+/// Takes so many bytes to their place in as many sectors. `None`: the allocator refused room for the sectors, and the bytes
+/// are gone.
 pub fn take_sectors<R: Read>(
     alloc: Global,
     reader: &mut Counted<R>,
@@ -82,19 +84,15 @@ pub fn take_sectors<R: Read>(
     ensures err { IfErr result (IsShort count (R.remaining reader.old.inner) (R.remaining reader.new.inner)) }
     ensures reader { HasRead 0 reader.old reader.new (result_fault result) }
 {
-    let Ok(mut bytes) = zeros(alloc, 512 * sectors) else {
-        skip(reader, count)?;
-        return Ok(None);
+    let mut bytes = match zeros(alloc, 512 * sectors) {
+        Ok(bytes) => bytes,
+        Err(_refused) => {
+            skip(reader, count)?;
+            return Ok(None);
+        }
     };
     if !fill_part(reader, bytes.as_mut_slice(), start, count as usize)? {
         return Err(ServiceFault::Lost);
     }
     Ok(Some(bytes))
-}
-
-/// Room for so many bytes.
-pub fn zeros(alloc: Global, count: usize) -> Result<Vec<u8>, AllocError>
-    ensures { IfOk result (λ bytes. length bytes.items ≡ count) }
-{
-    vec![in alloc; 0u8; count]
 }

@@ -4,8 +4,8 @@ ghost use Rattle.nbd_protocol.specs.Headers.{error_number};
 ghost use Rattle.nbd_protocol.specs.Headers.{error_of};
 ghost use Rattle.nbd_protocol.specs.declared.request_error.RequestError.TheVariants as request_error;
 
+use allocation::OutOfMemory;
 use stack_meaning::IoFault;
-use std::alloc::{AllocError, AllocFailed};
 use thiserror::Error;
 
 /// Why a request fails, by the number that its reply has.
@@ -54,18 +54,10 @@ impl From<IoFault> for RequestError {
     }
 }
 
-impl From<AllocError> for RequestError {
+impl From<OutOfMemory> for RequestError {
     ghost from_gives = { λ _ error. error ≡ request_error.NoMemory };
 
-    fn from(_error: AllocError) -> RequestError {
-        RequestError::NoMemory
-    }
-}
-
-impl<T: Drop> From<AllocFailed<T>> for RequestError {
-    ghost from_gives = { λ _ error. error ≡ request_error.NoMemory };
-
-    fn from(_refused: AllocFailed<T>) -> RequestError {
+    fn from(_error: OutOfMemory) -> RequestError {
         RequestError::NoMemory
     }
 }

@@ -178,7 +178,7 @@ zeroed : (e : ExportRecord) (w mid w' : World) (offset : ℕ) (bytes sectors : L
     → WritesExport e w offset bytes (no_bytes result) w' ⊎ WritesPart e w offset bytes (no_bytes result) w'
 zeroed e w mid w' offset bytes sectors (Ok done) f ok err = inl (refl, sectors, mid, f, ok)
 zeroed e w mid w' offset bytes sectors (Err error) f ok (inl err) = inl (inr (sectors, mid, f, err))
-zeroed e w mid w' offset bytes sectors (Err error) f ok (inr err) = inr (ap (λ x. Err x) err.0, sectors, mid, f, err.1)
+zeroed e w mid w' offset bytes sectors (Err error) f ok (inr err) = inr (ap (λ x. Err x) err.0, sectors, mid, f, err.1, err.2)
 
 module _ (e : ExportRecord) (w mid w' : World) (offset len : ℕ) (some : 0 < len) where
   zeros-some : 0 < length {A = ℕ} (replicate len 0)

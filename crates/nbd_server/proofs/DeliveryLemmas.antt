@@ -32,7 +32,7 @@ pub read-led : (e : ExportRecord) (w : World) (offset length : ℕ) (outcome : R
 read-led e w offset length (Ok content) w' p = p.1.led
 read-led e w offset length (Err error) w' p = p.led
 
-fails-config : (w : World) (d first count : ℕ) (error : RequestError) (w' : World) → EndsIn w d first count error w' ⊎ HasNoBuffer w error w' → w'.stack.config ≡ w.stack.config
+fails-config : (w : World) (d first count : ℕ) (error : RequestError) (w' : World) → EndsIn w d first count error w' ⊎ HasNoBuffer w count error w' → w'.stack.config ≡ w.stack.config
 fails-config w d first count error w' (inl x) = x.read.config
 fails-config w d first count error w' (inr x) = ap (λ (v : World). v.stack.config) x.1
 

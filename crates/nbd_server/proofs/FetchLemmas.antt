@@ -4,6 +4,7 @@ use Rattle.std.specs.Int.{div_ceil}
 use Rattle.std.specs.Str.{bytes_eq}
 use Rattle.std.proofs.lemmas.List.Quantifiers.{position-Some}
 use Rattle.std.specs.Prelude.{Bool, true, false, not, nat_le, if◌then◌else◌, nat_lt, ◌==◌}
+use Rattle.allocation.specs.Refusal.{IsOutOfMemory}
 use Rattle.stack_rules.specs.Names.{device_named, mapped, size}
 use Rattle.stack_rules.specs.Records.{Configuration}
 use Rattle.stack_meaning.specs.declared.fault.IoFault.{IoFault}
@@ -91,9 +92,9 @@ module _ (w w' : World) (d first count len : ℕ) (all : len ≡ count * 512) wh
       let three : (len % 512 == 0) ≡ true = grind (arith, all) in
       tests-pass (nat_le (length w.stack.config.devices) d) (nat_lt (size w.stack.config (mapped d)) (first + div_ceil len 512)) (len % 512 == 0) (range_at d first (len / 512)) fault one two three h
 
--- no memory for the bytes
-pub no-buffer : (w : World) (d first count : ℕ) → FailsToFetch w d first count NoMemory w
-no-buffer w d first count = record { cause = inr (refl, refl); led = led-none EachPart w }
+-- an allocation of the bytes was refused
+pub no-buffer : (w : World) (d first count : ℕ) → IsOutOfMemory (512 * count) → FailsToFetch w d first count NoMemory w
+no-buffer w d first count refused = record { cause = inr (refl, refl, refused); led = led-none EachPart w }
 
 -- ---- the sectors that bytes of the export touch
 

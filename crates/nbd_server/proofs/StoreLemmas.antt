@@ -4,6 +4,7 @@ use Rattle.std.specs.Int.{div_ceil}
 use Rattle.std.specs.Prelude.{◌⊎◌, IfErr, IsTrue, OnOk, not, nat_le, if◌then◌else◌}
 use Rattle.std.proofs.lemmas.List.{drop-replicate, length-append, length-replicate, take-append-drop, take-append-le, take-replicate}
 use Rattle.std.proofs.Math.Seq.{take-append-add}
+use Rattle.allocation.specs.Refusal.{IsOutOfMemory}
 use Rattle.stack_rules.specs.Names.{mapped, may_write, size}
 use Rattle.stack_rules.specs.Records.{Configuration}
 use Rattle.stack_meaning.specs.declared.fault.IoFault.{IoFault}
@@ -35,7 +36,7 @@ use Rattle.nbd_protocol.specs.declared.request_error.RequestError.TheVariants.{N
 use Rattle.nbd_protocol.specs.Exports.{ExportRecord, IsExport}
 use Rattle.nbd_protocol.specs.Headers.{error_of}
 use Rattle.nbd_server.specs.Premises.{AreExportSectors}
-use Rattle.nbd_server.specs.Sectors.{IsStored, IsPartPut, FailsToPutAll, FailsToZero, EndsPut, StopsPut}
+use Rattle.nbd_server.specs.Sectors.{IsStored, IsPartPut, FailsToPutAll, FailsToZero, EndsPut, StopsPut, most_run_bytes}
 use Rattle.nbd_server.proofs.FetchLemmas.{named-below}
 
 abbrev pub ended : IoFault → Result Unit IoFault
@@ -84,9 +85,9 @@ module _ {w v w' : StackRecord} (d first : ℕ) (x y : List ℕ) (even : length 
 pub stored-none : (w : World) (d first : ℕ) → IsStored w d first [] w
 stored-none w d first = record { put = write-none w.stack d first; led = led-none EachPart w }
 
--- there is no memory for the first run
-pub lacks-first : (w : World) (d first : ℕ) (bytes : List ℕ) → 0 < length bytes → FailsToZero w d first bytes NoMemory w
-lacks-first w d first bytes some = inr (refl, record { count = 0; few = some; put = stored-none w d first })
+-- an allocation of the first run was refused
+pub lacks-first : (w : World) (d first : ℕ) (bytes : List ℕ) → 0 < length bytes → IsOutOfMemory most_run_bytes → FailsToZero w d first bytes NoMemory w
+lacks-first w d first bytes some refused = inr (refl, record { count = 0; few = some; put = stored-none w d first }, refused)
 
 pub zero-fails : (w : World) (d first : ℕ) (bytes : List ℕ) (w' : World) (result : Result Unit RequestError) → IfErr result (λ error. FailsToPutAll w d first bytes error w') → IfErr result (λ error. FailsToZero w d first bytes error w')
 zero-fails w d first bytes w' (Ok done) p = tt
@@ -189,7 +190,7 @@ module _ (w v w' : World) (d first : ℕ) (x y z : List ℕ) (even : length x % 
 
   pub zeroed-fails : (error : RequestError) → FailsToZero v d (first + length x / 512) y error w' → FailsToZero w d first (x ++ (y ++ z)) error w'
   zeroed-fails error (inl q) = inl (stored-fails error q)
-  zeroed-fails error (inr q) = inr (q.0, part-more q.1)
+  zeroed-fails error (inr q) = inr (q.0, part-more q.1, q.2)
 
 -- ---- what is put, and what is left
 

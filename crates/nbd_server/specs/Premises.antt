@@ -9,6 +9,8 @@ use Rattle.nbd_protocol.specs.declared.header.Command.TheVariants.{Write}
 use Rattle.request_queue.specs.World.{World}
 use Rattle.nbd_server.specs.Replies.{RequestOutcome}
 use Rattle.nbd_server.specs.Transmission.{ReadsExport, WritesExport, room_behind}
+use Rattle.nbd_server.specs.Sectors.{most_run_bytes}
+use Rattle.nbd_server.specs.Zeros.{zeros_of}
 use Rattle.nbd_server.specs.declared.delivery.Delivery.{Delivery}
 use Rattle.nbd_server.specs.declared.delivery.Progress.{Progress}
 use Rattle.nbd_server.specs.declared.zeros.Zeros.{Zeros}
@@ -58,6 +60,12 @@ pub record HaveEnds (z : Zeros) : Type 0 where
   pub before : length z.before.now < 512
   pub few : z.count < 2 ^ 32
   pub behind : length z.behind.now < 512
+
+-- zeros that are put by one run, with what stands around them
+pub record IsZeroRun (z : Zeros) : Type 0 where
+  pub ends : HaveEnds z
+  pub some : 0 < z.count
+  pub few : length (zeros_of z) ≤ most_run_bytes
 
 -- bytes of the export were read, with the sectors that they touch, to the beginning of a buffer
 abbrev pub ReadsTo : ExportRecord → World → ℕ → ℕ → List ℕ → World → Type 0

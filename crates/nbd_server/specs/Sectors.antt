@@ -1,5 +1,6 @@
 -- Sectors of the export, read and written at once.
 use Rattle.std.specs.Prelude.{◌≡◌, ◌⊎◌, ◌<◌, ℕ, ◌*◌, ◌/◌, All, List, length, take, Ok, Err}
+use Rattle.allocation.specs.Refusal.{IsOutOfMemory}
 use Rattle.stack_rules.specs.Names.{mapped}
 use Rattle.stack_meaning.specs.declared.fault.IoFault.{IoFault}
 use Rattle.stack_meaning.specs.declared.fault.IoFault.TheVariants as io
@@ -37,13 +38,13 @@ pub record EndsIn (w : World) (d first count : ℕ) (error : RequestError) (w' :
   pub cause : HasCause w d first count fault
   pub read : ReadsWhole w.stack (range_at d first count) (Err fault) w'.stack
 
--- there was no memory for their bytes, and nothing was read
-abbrev pub HasNoBuffer : World → RequestError → World → Type 0
-HasNoBuffer w error w' = (error ≡ NoMemory) × (w' ≡ w)
+-- an allocation of their bytes was refused, and nothing was read
+abbrev pub HasNoBuffer : World → ℕ → RequestError → World → Type 0
+HasNoBuffer w count error w' = (error ≡ NoMemory) × (w' ≡ w) × IsOutOfMemory (512 * count)
 
 -- they couldn't be read
 pub record FailsToFetch (w : World) (d first count : ℕ) (error : RequestError) (w' : World) : Type 0 where
-  pub cause : EndsIn w d first count error w' ⊎ HasNoBuffer w error w'
+  pub cause : EndsIn w d first count error w' ⊎ HasNoBuffer w count error w'
   pub led : IsLed EachPart w w'
 
 -- The sectors of a mapped device from the first on were put: these bytes, as one write of them all.
@@ -72,9 +73,13 @@ pub record FailsToPutAll (w : World) (d first : ℕ) (bytes : List ℕ) (error :
   pub cause : EndsPut w d first bytes error w' ⊎ StopsPut w d first bytes error w'
   pub led : IsLed EachPart w w'
 
--- zeros and what stands around them, put run by run: there was no memory for a run, and those before it were put
+-- the most bytes of a run of zeros: 1 MiB
+abbrev pub most_run_bytes : ℕ
+most_run_bytes = 1048576
+
+-- zeros and what stands around them, put run by run: an allocation of a run was refused, and those before it were put
 abbrev pub LacksRun : World → ℕ → ℕ → List ℕ → RequestError → World → Type 0
-LacksRun w d first bytes error w' = (error ≡ NoMemory) × IsPartPut w d first bytes w'
+LacksRun w d first bytes error w' = (error ≡ NoMemory) × IsPartPut w d first bytes w' × IsOutOfMemory most_run_bytes
 
 -- not all of these were put
 abbrev pub FailsToZero : World → ℕ → ℕ → List ℕ → RequestError → World → Type 0

@@ -2,6 +2,7 @@
 use Rattle.std.specs.Prelude.{◌≡◌, ◌⊎◌, ◌≤◌, ℕ, ◌+◌, ◌-◌, ◌*◌, ◌/◌, ◌%◌, Bool, true, false, List, Vec, [], ◌∷◌, ◌++◌, length, take, drop, replicate, Result, Ok, Err, IfOk, Option}
 use Rattle.std.specs.Global.{Global}
 use Rattle.std.specs.Io.KnownBytes.{Consumes}
+use Rattle.allocation.specs.Refusal.{IsOutOfMemory}
 use Rattle.counted_io.specs.Counted.{CountedRecord}
 use Rattle.stack_meaning.specs.declared.fault.IoFault.{IoFault}
 use Rattle.request_queue.specs.Parts.{EachPart}
@@ -11,7 +12,7 @@ use Rattle.nbd_protocol.specs.Headers.{command_of, most_length, payload_len}
 use Rattle.nbd_protocol.specs.declared.phase.Agreement.{Agreement}
 use Rattle.nbd_server.specs.Replies.{RequestOutcome}
 use Rattle.nbd_server.specs.Status.{AreReadAsZeros, HasStatus, TouchIgnoring, TouchZeros, touched}
-use Rattle.nbd_server.specs.Sectors.{IsFetched, FailsToFetch, IsStored, IsPartPut, FailsToPutAll}
+use Rattle.nbd_server.specs.Sectors.{IsFetched, FailsToFetch, IsStored, IsPartPut, FailsToPutAll, most_run_bytes}
 use Rattle.nbd_protocol.specs.declared.header.Header.{Header}
 use Rattle.nbd_protocol.specs.declared.header.Command.{Command}
 use Rattle.nbd_protocol.specs.declared.header.Command.TheVariants.{Read, Write, Zero, Hint, Flush, Status}
@@ -75,10 +76,11 @@ abbrev pub WritesPayload : ExportRecord → World → ℕ → List ℕ → Reque
 WritesPayload e w offset [] outcome w' = Stays w outcome w'
 WritesPayload e w offset (byte ∷ more) outcome w' = WritesExport e w offset (byte ∷ more) outcome w'
 
--- there was no memory for a run of them, and those before it were put
+-- an allocation of a run of them was refused, and those before it were put
 abbrev pub WritesPart : ExportRecord → World → ℕ → List ℕ → RequestOutcome → World → Type 0
 WritesPart e w offset bytes outcome w' =
-    (outcome ≡ Err NoMemory) × (sectors : List ℕ) × (mid : World) × IsFramed e w offset bytes sectors mid × IsPartPut mid e.device (offset / 512) sectors w'
+    (outcome ≡ Err NoMemory) × (sectors : List ℕ) × (mid : World) × IsFramed e w offset bytes sectors mid
+    × IsPartPut mid e.device (offset / 512) sectors w' × IsOutOfMemory most_run_bytes
 
 -- the same of bytes that are put run by run
 abbrev pub WritesAny : ExportRecord → World → ℕ → List ℕ → RequestOutcome → World → Type 0
@@ -134,10 +136,10 @@ IsStatusRead e w offset count one w' told = ReadsStatus e w offset count one tol
 abbrev pub StaysOrReads : ExportRecord → World → ℕ → ℕ → World → Type 0
 StaysOrReads e w offset count w' = (w' ≡ w) ⊎ ((size : ℕ) × (outcome : RequestOutcome) × ReadsIgnoring e w offset count size outcome w')
 
--- the status of bytes is told, or memory ran out
+-- the status of bytes is told, or an allocation of the four bytes of a number in it was refused
 abbrev pub TellsStatus : ExportRecord → World → ℕ → ℕ → Bool → RequestOutcome → World → Type 0
 TellsStatus e w offset count one (Ok told) w' = TellsExtents e w offset count one told w'
-TellsStatus e w offset count one (Err error) w' = (error ≡ NoMemory) × StaysOrReads e w offset count w'
+TellsStatus e w offset count one (Err error) w' = (error ≡ NoMemory) × StaysOrReads e w offset count w' × IsOutOfMemory 4
 
 -- ---- requests
 
@@ -145,9 +147,13 @@ TellsStatus e w offset count one (Err error) w' = (error ≡ NoMemory) × StaysO
 abbrev pub RefusesRequest : World → RequestError → RequestOutcome → World → Type 0
 RefusesRequest w error outcome w' = (outcome ≡ Err error) × (w' ≡ w)
 
--- a write of bytes that follow the request; where there is no memory for them nothing is done
+-- an allocation of the sectors that these bytes touch was refused, and nothing happened
+abbrev pub LacksSectors : World → ℕ → List ℕ → RequestOutcome → World → Type 0
+LacksSectors w offset bytes outcome w' = (outcome ≡ Err NoMemory) × (w' ≡ w) × IsOutOfMemory (512 * touched offset (length bytes))
+
+-- a write of bytes that follow the request
 abbrev pub WritesGiven : ExportRecord → World → ℕ → List ℕ → RequestOutcome → World → Type 0
-WritesGiven e w offset bytes outcome w' = RefusesRequest w NoMemory outcome w' ⊎ WritesPayload e w offset bytes outcome w'
+WritesGiven e w offset bytes outcome w' = LacksSectors w offset bytes outcome w' ⊎ WritesPayload e w offset bytes outcome w'
 
 -- How a request ends that asks for this, or has that fault.
 abbrev pub ServesCommand : ExportRecord → World → Result Command RequestError → List ℕ → RequestOutcome → World → Type 0

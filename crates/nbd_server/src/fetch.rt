@@ -4,8 +4,9 @@ ghost use Rattle.nbd_protocol.specs.Exports.{export_record};
 ghost use Rattle.nbd_server.specs.Premises.{AreSectorsOf};
 ghost use Rattle.nbd_server.specs.Sectors.{FailsToFetch, IsFetched};
 
+use allocation::zeros;
 use block_device::BlockDev;
-use nbd_protocol::{Export, RequestError, zeros};
+use nbd_protocol::{Export, RequestError};
 use request_queue::{BytesFault, Queue};
 use std::alloc::Global;
 
@@ -41,9 +42,7 @@ pub(crate) fn fetch<D: BlockDev>(
     ensures ok { IfOk result (λ bytes. IsFetched queue.old export.now.device.0 first count bytes.items queue.new) }
     ensures err { IfErr result (λ error. FailsToFetch queue.old export.now.device.0 first count error queue.new) }
 {
-    let Ok(mut bytes) = zeros(alloc, count as usize * 512) else {
-        return Err(RequestError::NoMemory);
-    };
+    let mut bytes = zeros(alloc, count as usize * 512)?;
     read_into(queue, export, first, count, bytes.as_mut_slice())?;
     Ok(bytes)
 }

@@ -1,5 +1,6 @@
 //! The status of bytes that are read for it: those of `verity` lines that ignore blocks of zeros.
 ghost use Rattle.std.specs.Prelude.{◌≡◌, ◌<◌, ◌≤◌, ◌+◌, ◌^◌, length, replicate, take, IfOk, IsTrue, OnErr};
+ghost use Rattle.allocation.specs.Refusal.{IsOutOfMemory};
 ghost use Rattle.nbd_protocol.specs.Exports.{export_record};
 ghost use Rattle.nbd_server.specs.Premises.{AreBytesOf};
 ghost use Rattle.nbd_server.specs.Status.{IsStatusOfBytes, TouchIgnoring};
@@ -8,10 +9,11 @@ ghost use Rattle.nbd_server.specs.Transmission.{IsStatusRead, StaysOrReads};
 use crate::byte_range::read_bytes;
 use crate::content::{BLOCK, are_zeros};
 use crate::status::{BlockStatus, MOST_EXTENTS, first_status, push_status};
+use allocation::OutOfMemory;
 use block_device::BlockDev;
 use nbd_protocol::Export;
 use request_queue::Queue;
-use std::alloc::{AllocError, Global};
+use std::alloc::Global;
 
 // What is read ends at a multiple of so many bytes; where one extent is asked for at the next of fewer, since the rest of
 // them would be read for nothing.
@@ -58,11 +60,12 @@ fn first_run(at: u64, bytes: &[u8]) -> BlockStatus
 }
 
 // What is told of bytes that were read, from a place on: of the first run alone if only `one` is asked for.
-fn tell_runs(alloc: Global, at: u64, bytes: &[u8], one: bool) -> Result<Vec<u8>, AllocError>
+fn tell_runs(alloc: Global, at: u64, bytes: &[u8], one: bool) -> Result<Vec<u8>, OutOfMemory>
     requires some { 0 < length bytes.now }
     requires few { length bytes.now ≤ 262144 }
     requires place { at + length bytes.now < 2 ^ 64 }
-    ensures { IfOk result (IsStatusOfBytes at bytes.now one) }
+    ensures ok { IfOk result (IsStatusOfBytes at bytes.now one) }
+    ensures err { OnErr result (IsOutOfMemory 4) }
 {
     let first = first_run(at, bytes);
     let mut told = first_status(alloc, first)?;
@@ -91,12 +94,13 @@ pub(crate) fn read_status<D: BlockDev>(
     offset: u64,
     count: u32,
     one: bool,
-) -> Result<Vec<u8>, AllocError>
+) -> Result<Vec<u8>, OutOfMemory>
     requires bytes { AreBytesOf queue.old.stack.config (export_record export.now) offset count }
     requires some { 0 < count }
     requires ignoring { TouchIgnoring queue.old.stack.config (export_record export.now) offset count }
     ensures ok { IfOk result (IsStatusRead (export_record export.now) queue.old offset count one queue.new) }
     ensures err { OnErr result (StaysOrReads (export_record export.now) queue.old offset count queue.new) }
+    ensures memory { OnErr result (IsOutOfMemory 4) }
 {
     let room = room_at(offset, one).min(u64::from(count));
     let size = room as u32;

@@ -1,8 +1,9 @@
 //! Where the pieces of a reply are read.
-ghost use Rattle.std.specs.Prelude.{◌≡◌, ◌≤◌, ◌+◌, drop, length, take, OnOk};
+ghost use Rattle.std.specs.Prelude.{◌≡◌, ◌≤◌, ◌+◌, drop, length, max, take, OnErr, OnOk};
+ghost use Rattle.allocation.specs.Refusal.{IsOutOfMemory};
 
-use nbd_protocol::zeros;
-use std::alloc::{AllocError, Global};
+use allocation::{OutOfMemory, zeros};
+use std::alloc::Global;
 
 /// Memory, and a buffer of it that is kept from one piece to the next.
 #[derive(Drop)]
@@ -20,9 +21,11 @@ impl Room {
         }
     }
 
-    /// Sees to it that the buffer has so many bytes at least. What it had isn't kept where it grows.
-    pub(crate) fn grow(&mut self, count: usize) -> Result<(), AllocError>
-        ensures { OnOk result (count ≤ length self.new.bytes.items) }
+    /// Sees to it that the buffer has so many bytes at least, and no more where it grows. What it had isn't kept then.
+    pub(crate) fn grow(&mut self, count: usize) -> Result<(), OutOfMemory>
+        ensures ok { OnOk result (count ≤ length self.new.bytes.items) }
+        ensures few { length self.new.bytes.items ≤ max count (length self.old.bytes.items) }
+        ensures err { OnErr result (IsOutOfMemory count) }
     {
         if count <= self.bytes.len() {
             return Ok(());

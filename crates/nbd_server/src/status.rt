@@ -1,5 +1,6 @@
 //! Block status: which bytes of the export are zeros because of its lines, and which may be ignored.
-ghost use Rattle.std.specs.Prelude.{◌≡◌, ◌<◌, ◌≤◌, ◌++◌, length, IfOk, IsTrue, OnOk};
+ghost use Rattle.std.specs.Prelude.{◌≡◌, ◌<◌, ◌≤◌, ◌++◌, length, IfOk, IsTrue, OnErr, OnOk};
+ghost use Rattle.allocation.specs.Refusal.{IsOutOfMemory};
 ghost use Rattle.nbd_protocol.specs.Exports.{export_record};
 ghost use Rattle.nbd_protocol.specs.Numbers.{bytes32};
 ghost use Rattle.stack_rules.specs.Rules.{IsLoaded};
@@ -8,10 +9,11 @@ ghost use Rattle.nbd_server.specs.Premises.{AreBytesOf};
 ghost use Rattle.nbd_server.specs.Status.{IsByteExtent, IsStatus, IsStatusOfLines, TouchZeros, descriptor, status_flags};
 
 use crate::byte_range::touched;
+use allocation::{OutOfMemory, append};
 use nbd_protocol::Export;
 use stack_config::Config;
 use stack_extents::{ExtentKind, extent_at};
-use std::alloc::{AllocError, Global};
+use std::alloc::Global;
 
 /// The most extents of one reply.
 pub(crate) const MOST_EXTENTS: usize = 1024;
@@ -95,16 +97,18 @@ fn bytes_of(number: u32) -> [u8; 4]
 }
 
 /// Adds what is told of an extent.
-pub(crate) fn push_status(told: &mut Vec<u8>, status: BlockStatus) -> Result<(), AllocError>
-    ensures { OnOk result (told.new.items ≡ told.old.items ++ descriptor status) }
+pub(crate) fn push_status(told: &mut Vec<u8>, status: BlockStatus) -> Result<(), OutOfMemory>
+    ensures ok { OnOk result (told.new.items ≡ told.old.items ++ descriptor status) }
+    ensures err { OnErr result (IsOutOfMemory 4) }
 {
-    told.extend_from_slice(&bytes_of(status.count))?;
-    told.extend_from_slice(&bytes_of(status.flags()))
+    append(told, &bytes_of(status.count))?;
+    append(told, &bytes_of(status.flags()))
 }
 
 /// What is told of the first extent.
-pub(crate) fn first_status(alloc: Global, status: BlockStatus) -> Result<Vec<u8>, AllocError>
-    ensures { IfOk result (λ told. told.items ≡ descriptor status) }
+pub(crate) fn first_status(alloc: Global, status: BlockStatus) -> Result<Vec<u8>, OutOfMemory>
+    ensures ok { IfOk result (λ told. told.items ≡ descriptor status) }
+    ensures err { OnErr result (IsOutOfMemory 4) }
 {
     let mut told = Vec::new(alloc);
     push_status(&mut told, status)?;
@@ -121,11 +125,12 @@ pub(crate) fn status_of(
     offset: u64,
     len: u32,
     one: bool,
-) -> Result<Vec<u8>, AllocError>
+) -> Result<Vec<u8>, OutOfMemory>
     requires loaded { IsLoaded config.now }
     requires bytes { AreBytesOf config.now (export_record export.now) offset len }
     requires some { 0 < len }
-    ensures { IfOk result (IsStatusOfLines config.now (export_record export.now) offset len one) }
+    ensures ok { IfOk result (IsStatusOfLines config.now (export_record export.now) offset len one) }
+    ensures err { OnErr result (IsOutOfMemory 4) }
 {
     let first = status_at(config, export, offset, len);
     let mut told = first_status(alloc, first)?;

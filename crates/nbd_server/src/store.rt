@@ -2,7 +2,7 @@
 ghost use Rattle.std.specs.Prelude.{◌≡◌, ◌<◌, ◌≤◌, ◌+◌, ◌/◌, ◌%◌, ◌^◌, length, IfErr, OnOk};
 ghost use Rattle.nbd_server.specs.Sectors.{FailsToPutAll, IsStored};
 ghost use Rattle.nbd_protocol.specs.Exports.{IsExport, export_record};
-ghost use Rattle.nbd_server.specs.Premises.{AreExportSectors, HaveEnds};
+ghost use Rattle.nbd_server.specs.Premises.{AreExportSectors, HaveEnds, IsZeroRun};
 ghost use Rattle.nbd_server.specs.Zeros.{FailsToPutZeros, zeros_of};
 
 use crate::zeros::Zeros;
@@ -42,8 +42,7 @@ fn zero_run<D: BlockDev>(
     zeros: &Zeros<'_>,
 ) -> Result<(), RequestError>
     requires export { IsExport queue.old.stack.config (export_record export.now) }
-    requires ends { HaveEnds zeros.now }
-    requires some { 0 < zeros.now.count }
+    requires run { IsZeroRun zeros.now }
     requires sectors { AreExportSectors (export_record export.now) first (zeros_of zeros.now) }
     ensures ok { OnOk result (IsStored queue.old export.now.device.0 first (zeros_of zeros.now) queue.new) }
     ensures err { IfErr result (FailsToPutZeros queue.old export.now.device.0 first zeros.now queue.new) }

@@ -1,6 +1,7 @@
 //! The requests of the transmission phase.
 ghost use Rattle.std.specs.Prelude.{◌≡◌, ◌<◌, ◌≤◌, ◌+◌, ◌^◌, ℕ, List, [], length, Ok, IfOk, IfErr, IsTrue, OnErr};
 ghost use Rattle.std.specs.Io.KnownBytes.{Consumes};
+ghost use Rattle.allocation.specs.Refusal.{IsOutOfMemory};
 ghost use Rattle.counted_io.specs.Streams.{streams};
 ghost use Rattle.nbd_protocol.specs.Exports.{ExportRecord, IsExport, export_at, export_record};
 ghost use Rattle.nbd_protocol.specs.Headers.{IsWithin, most_length, payload_len};
@@ -16,6 +17,7 @@ use crate::read_status::read_status;
 use crate::reply::{Data, say_reply};
 use crate::room::Room;
 use crate::status::{bytes_at, status_of};
+use allocation::OutOfMemory;
 use block_device::{BlockDev, SyncDev};
 use counted_io::Counted;
 use nbd_protocol::{
@@ -24,7 +26,7 @@ use nbd_protocol::{
 };
 use request_queue::Queue;
 use stack_extents::ExtentKind;
-use std::alloc::{AllocError, Global};
+use std::alloc::Global;
 use std::io::{Read, Write};
 
 const MAGIC: u32 = 0x2560_9513;
@@ -121,11 +123,12 @@ fn told_of<D: BlockDev>(
     offset: u64,
     len: u32,
     one: bool,
-) -> Result<Vec<u8>, AllocError>
+) -> Result<Vec<u8>, OutOfMemory>
     requires bytes { AreBytesOf queue.old.stack.config (export_record export.now) offset len }
     requires some { 0 < len }
     ensures ok { IfOk result (AreExtentsTold (export_record export.now) queue.old offset len one queue.new) }
     ensures err { OnErr result (StaysOrReads (export_record export.now) queue.old offset len queue.new) }
+    ensures memory { OnErr result (IsOutOfMemory 4) }
 {
     let extent = bytes_at(queue.stack().config(), export, offset, len);
     match extent.kind {
@@ -150,7 +153,7 @@ fn tell_status<D: BlockDev>(
 {
     match told_of(alloc, queue, export, offset, len, one) {
         Ok(told) => Ok(Data::all(told)),
-        Err(_none) => Err(RequestError::NoMemory),
+        Err(refused) => Err(RequestError::from(refused)),
     }
 }
 

@@ -1,9 +1,11 @@
 //! Zeros, and what stands around them in the sectors that they touch.
-ghost use Rattle.std.specs.Prelude.{◌≡◌, ◌+◌, length, IfOk};
+ghost use Rattle.std.specs.Prelude.{◌≡◌, ◌+◌, length, IfOk, OnErr};
+ghost use Rattle.allocation.specs.Refusal.{IsOutOfMemory};
 ghost use Rattle.nbd_server.specs.Premises.{HaveEnds};
 ghost use Rattle.nbd_server.specs.Zeros.{zeros_of};
 
-use std::alloc::{AllocError, Global};
+use allocation::{OutOfMemory, append, resize, with_capacity};
+use std::alloc::Global;
 
 /// So many zeros, and what stands before and behind them in the sectors that they touch.
 #[derive(Clone, Copy, Debug)]
@@ -24,14 +26,15 @@ impl Zeros<'_> {
     }
 
     /// All of them.
-    pub(crate) fn bytes(&self, alloc: Global) -> Result<Vec<u8>, AllocError>
+    pub(crate) fn bytes(&self, alloc: Global) -> Result<Vec<u8>, OutOfMemory>
         requires { HaveEnds self.now }
-        ensures { IfOk result (λ bytes. bytes.items ≡ zeros_of self.now) }
+        ensures ok { IfOk result (λ bytes. bytes.items ≡ zeros_of self.now) }
+        ensures err { OnErr result (IsOutOfMemory (length (zeros_of self.now))) }
     {
-        let mut bytes = Vec::with_capacity(alloc, self.len())?;
-        bytes.extend_from_slice(self.before)?;
-        bytes.resize(self.before.len() + self.count, 0)?;
-        bytes.extend_from_slice(self.behind)?;
+        let mut bytes = with_capacity(alloc, self.len())?;
+        append(&mut bytes, self.before)?;
+        resize(&mut bytes, self.before.len() + self.count, 0)?;
+        append(&mut bytes, self.behind)?;
         Ok(bytes)
     }
 }

@@ -1,9 +1,10 @@
 -- `nbd --all`: each device of a stack is an export under its name.
 use Rattle.std.specs.Prelude.{◌≡◌, ◌⊎◌, ℕ, Bool, true, List, Result, Ok, Err}
+use Rattle.allocation.specs.Refusal.{IsOutOfMemory}
 use Rattle.counted_io.specs.Streams.{Streams}
 use Rattle.image_files.specs.Opener.{Calls}
 use Rattle.nbd_protocol.specs.Exports.{ExportRecord}
-use Rattle.nbd_protocol.specs.Offers.{AreNames, Offers}
+use Rattle.nbd_protocol.specs.Offers.{AreNames, Offers, longest_name}
 use Rattle.nbd_protocol.specs.declared.fault.ServiceFault.{ServiceFault}
 use Rattle.nbd_protocol.specs.declared.fault.ServiceFault.TheVariants as service_fault
 use Rattle.nbd_server.specs.Service.{IsService}
@@ -44,11 +45,12 @@ pub record FailsToServeExports {S D : Type 0} (w : Calls S D) (words : StackWord
   pub is : fault ≡ Service service
   pub written : service ≡ service_fault.WriteFault → failed ≡ true
 
--- the stack was made, and memory ran out before its devices were listed
+-- the stack was made, and an allocation of a name or of an export was refused before its devices were listed
 pub record FailsToOffer {S D : Type 0} (w : Calls S D) (words : StackWords) (cache : ℕ) (fault : CommandFault) : Type 0 where
   pub stack : StackRecord
   pub loaded : Loads w words cache stack
   pub is : fault ≡ NoMemory
+  pub refused : IsOutOfMemory longest_name
 
 -- The service ends early: nothing was served; or by its own fault; or all was served, and then an image isn't synced.
 abbrev pub IsExportsEnd : {S D : Type 0} → Calls S D → StackWords → ℕ → Streams → Streams → Bool → CommandFault → Type 0

@@ -4,6 +4,7 @@ ghost use Rattle.stack_commands.specs.declared.fault.CommandFault.TheVariants as
 ghost use Rattle.stack_session.specs.declared.fault.SessionFault.TheVariants as session_fault;
 ghost use Rattle.stack_commands.specs.Endings.{command_words_ending};
 
+use allocation::OutOfMemory;
 use command_line::WordsFault;
 use counted_io::WriteFault;
 use fec_commands::FecFault;
@@ -16,7 +17,7 @@ use stack_engine::IoFault;
 use stack_making::StackFault;
 use stack_session::SessionFault;
 use stack_streams::StreamFault;
-use std::alloc::{AllocError, AllocFailed};
+use std::alloc::AllocError;
 use tree_commands::TreeFault;
 use verity_commands::VerityFault;
 
@@ -63,10 +64,10 @@ impl From<AllocError> for CommandFault<'_> {
     }
 }
 
-impl<T: Drop> From<AllocFailed<T>> for CommandFault<'_> {
+impl From<OutOfMemory> for CommandFault<'_> {
     ghost from_gives = { λ _ fault. fault ≡ command_fault.NoMemory };
 
-    fn from(_refused: AllocFailed<T>) -> Self {
+    fn from(_error: OutOfMemory) -> Self {
         CommandFault::NoMemory
     }
 }

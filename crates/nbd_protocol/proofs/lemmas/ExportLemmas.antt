@@ -1,15 +1,17 @@
 -- Exports by their names and by their places.
 use Rattle.std.proofs.Common.{◌≡◌, ◌<◌, ℕ, zero, suc, ◌+◌, ◌==◌, Bool, true, false, inl, inr, List, [], ◌∷◌, ◌++◌, length, map, not, refl, ap, sym, ◌∙◌, subst, arith, Some, None}
-use Rattle.std.specs.Prelude.{◌&&◌, All, Vec, cond, nat_lt, position, if◌then◌else◌}
+use Rattle.std.specs.Prelude.{◌&&◌, ◌≤◌, All, IsTrue, Vec, cond, nat_le, nat_lt, position, if◌then◌else◌}
 use Rattle.std.specs.List.{position_or_len}
 use Rattle.std.specs.Global.{Global}
 use Rattle.std.specs.Str.{bytes_eq}
+use Rattle.std.proofs.lemmas.Bool.{and_parts}
 use Rattle.std.proofs.lemmas.List.{get_or-map, length-map, map-append}
 use Rattle.std.proofs.lemmas.List.Quantifiers.{position-Some}
 use Rattle.std.proofs.lemmas.List.Elements.{All-append, All-get_or, All-map}
+use Rattle.dm_table.specs.Names.{is_mapped_name}
 use Rattle.stack_rules.specs.Records.{Configuration}
 use Rattle.nbd_protocol.specs.Exports.{AreExports, HaveShortNames, ExportRecord, IsExport, asked, export_at, export_record, export_records, no_export, export_place}
-use Rattle.nbd_protocol.specs.Offers.{AddsExport, Offers, offers_more, offers_none}
+use Rattle.nbd_protocol.specs.Offers.{AddsExport, Offers, longest_name, offers_more, offers_none}
 use Rattle.nbd_protocol.specs.declared.export.Export.{Export}
 
 module _ {X Y : Type 0} (f : X → Y) where
@@ -49,6 +51,13 @@ placed-export c exports place p inside = All-get_or (IsExport c) (export_records
 
 pub placed-inside : (exports : List Export) (place : ℕ) → place < length (export_records exports) → place < length exports
 placed-inside exports place inside = omega (arith, inside, length-map exports export_record)
+
+-- a device's name is short
+pub name-short : (name : List ℕ) → IsTrue (is_mapped_name name) → length name ≤ longest_name
+unfolding is_mapped_name
+name-short name named =
+    let sizes = (and_parts (nat_le 1 (length name) && nat_le (length name) 127) _ named).0 in
+    grind (arith, (and_parts (nat_le 1 (length name)) _ sizes).1)
 
 -- the next name
 pub offers-next : (c : Configuration) (names names' : List (Vec ℕ Global)) (n : Vec ℕ Global) (name : List ℕ) (es es' : List ExportRecord) → names' ≡ names ++ n ∷ [] → name ≡ n.items

@@ -14,4 +14,4 @@ loop-name-preserved c =
     let i = c.loop-name.name-index in
     let n = c.name-item.result in
     let more : take (i + 1) names ≡ take i names ++ n ∷ [] = take_more names i n c.loop-name-test.true ∙ ap (λ x. take i names ++ x ∷ []) (sym c.name-item.is) in
-    offers-next c.args.config.now (take i names) (take (i + 1) names) n c.as_slice.result.now (export_records c.loop-name.exports.items) (export_records c.add.new.exports.items) more c.as_slice.ensures.value c.loop-name.invariant c.in_ok-add.ensures
+    offers-next c.args.config.now (take i names) (take (i + 1) names) n c.as_slice.result.now (export_records c.loop-name.exports.items) (export_records c.add.new.exports.items) more c.as_slice.ensures.value c.loop-name.invariant c.in_ok-add.ensures.ok

@@ -37,7 +37,7 @@ returns-in-Ok-clause-ok g c =
     let reads = part-ignores e w at c.args.count c.min-room.result (Ok content) w' (omega (arith, c.min-room.ensures, c.from.ensures)) (omega (arith, c.min-room.ensures, c.room_at.ensures.few)) c.requires.ignoring c.in-Ok.ensures.value in
     ok-as c.tell_runs.result (λ told. HasStatus (AreReadAsZeros at (Ok content)) at (length content) one told.items) (λ told. ReadsStatus e w at c.args.count one told.items w')
     (λ told status. record { size = c.min-room.result; outcome = Ok content; reads = reads; status = subst (λ (n : ℕ). HasStatus (AreReadAsZeros at (Ok content)) at n one told.items) size status })
-    (subst (λ (b : List ℕ). IfOk c.tell_runs.result (λ told. HasStatus (AreReadAsZeros at (Ok b)) at (length b) one told.items)) c.part.ensures c.tell_runs.ensures)
+    (subst (λ (b : List ℕ). IfOk c.tell_runs.result (λ told. HasStatus (AreReadAsZeros at (Ok b)) at (length b) one told.items)) c.part.ensures c.tell_runs.ensures.ok)
 
 pub returns-in-Ok-clause-err : goal.returns-in-Ok-clause-err
 returns-in-Ok-clause-err g c =
@@ -57,7 +57,7 @@ returns-in-Err-clause-ok g c =
     let reads = part-ignores e w at c.args.count size (Err error) w' (omega (arith, c.min-room.ensures, c.from.ensures)) (omega (arith, c.min-room.ensures, c.room_at.ensures.few)) c.requires.ignoring c.in-Err.ensures.value in
     let some : 0 < size = omega (arith, c.min-room.ensures, c.from.ensures, c.requires.some, c.room_at.ensures.some) in
     ok-as c.first_status.result (λ told. told.items ≡ descriptor (record { count = size; zeros = false })) (λ told. ReadsStatus e w at c.args.count c.args.one told.items w')
-    (λ told is. record { size = size; outcome = Err error; reads = reads; status = unread-status at size error c.args.one told.items some is }) c.first_status.ensures
+    (λ told is. record { size = size; outcome = Err error; reads = reads; status = unread-status at size error c.args.one told.items some is }) c.first_status.ensures.ok
 
 pub returns-in-Err-clause-err : goal.returns-in-Err-clause-err
 returns-in-Err-clause-err g c =

@@ -13,22 +13,28 @@ returns-then-one c =
     let null = AreReadAsZeros c.args.at (Ok bytes) in
     let first = c.first_run-first in
     let status = first-status c.args.at bytes first.result first.ensures.some first.ensures.few first.ensures.zeros in
-    rw c.in_ok-told.ensures (told-one null c.args.at (length bytes) first.result.count _ c.args.one (told-first null c.args.at (length bytes) first.result status))
+    record {
+      ok = rw c.in_ok-told.ensures.ok (told-one null c.args.at (length bytes) first.result.count _ c.args.one (told-first null c.args.at (length bytes) first.result status));
+      err = tt;
+    }
 
 pub loop-extent-init : goal.loop-extent-init
 loop-extent-init c =
     let bytes = c.args.bytes.now in
     let first = c.first_run-first in
     let status = first-status c.args.at bytes first.result first.ensures.some first.ensures.few first.ensures.zeros in
-    record { told = rw c.in_ok-told.ensures (told-first (AreReadAsZeros c.args.at (Ok bytes)) c.args.at (length bytes) first.result status) }
+    record { told = rw c.in_ok-told.ensures.ok (told-first (AreReadAsZeros c.args.at (Ok bytes)) c.args.at (length bytes) first.result status) }
 
 pub returns-then-done-bytes : goal.returns-then-done-bytes
 returns-then-done-bytes c =
     let bytes = c.args.bytes.now in
     let null = AreReadAsZeros c.args.at (Ok bytes) in
     let told = c.loop-extent.told.items in
-    subst (λ (b : Bool). HasStatus null c.args.at (length bytes) b told) (sym c.if-one.false)
-    (told-all null c.args.at (length bytes) c.loop-extent._extent c.loop-extent.done told (omega (arith, c.loop-extent-test.true)) c.loop-extent.invariant.told)
+    record {
+      ok = subst (λ (b : Bool). HasStatus null c.args.at (length bytes) b told) (sym c.if-one.false)
+          (told-all null c.args.at (length bytes) c.loop-extent._extent c.loop-extent.done told (omega (arith, c.loop-extent-test.true)) c.loop-extent.invariant.told);
+      err = tt;
+    }
 
 pub overflow_add-at : goal.overflow_add-at
 overflow_add-at c = omega (arith, c.requires.place, c.loop-extent.invariant.told.few)
@@ -50,12 +56,15 @@ loop-extent-preserved c =
     let zeros : IsTrue run.result.zeros → take count (drop done bytes) ≡ replicate count 0 =
     subst (λ (l : List ℕ). IsTrue run.result.zeros → take count l ≡ replicate count 0) (rest-is bytes done) run.ensures.zeros in
     let status = run-status c.args.at done bytes run.result run.ensures.some (omega (arith, few, length-drop done bytes)) zeros in
-    record { told = rw c.in_ok-push_status.ensures (told-next null c.args.at (length bytes) c.loop-extent._extent done c.loop-extent.told.items run.result c.loop-extent.invariant.told status) }
+    record { told = rw c.in_ok-push_status.ensures.ok (told-next null c.args.at (length bytes) c.loop-extent._extent done c.loop-extent.told.items run.result c.loop-extent.invariant.told status) }
 
 pub returns : goal.returns
 returns c =
     let bytes = c.args.bytes.now in
     let null = AreReadAsZeros c.args.at (Ok bytes) in
     let told = c.loop-extent.told.items in
-    subst (λ (b : Bool). HasStatus null c.args.at (length bytes) b told) (sym c.if-one.false)
-    (told-all null c.args.at (length bytes) _ c.loop-extent.done told (omega arith) c.loop-extent.invariant.told)
+    record {
+      ok = subst (λ (b : Bool). HasStatus null c.args.at (length bytes) b told) (sym c.if-one.false)
+          (told-all null c.args.at (length bytes) _ c.loop-extent.done told (omega arith) c.loop-extent.invariant.told);
+      err = tt;
+    }

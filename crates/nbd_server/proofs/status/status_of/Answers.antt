@@ -9,19 +9,25 @@ pub returns-then-one : goal.returns-then-one
 returns-then-one c =
     let first = c.status_at-first.result in
     let null = TouchZeros c.args.config.now (export_record c.args.export.now) in
-    rw c.in_ok-told.ensures (told-one null c.args.offset c.args.len first.count _ c.args.one (told-first null c.args.offset c.args.len first c.status_at-first.ensures))
+    record {
+      ok = rw c.in_ok-told.ensures.ok (told-one null c.args.offset c.args.len first.count _ c.args.one (told-first null c.args.offset c.args.len first c.status_at-first.ensures));
+      err = tt;
+    }
 
 pub loop-extent-init : goal.loop-extent-init
 loop-extent-init c = record {
-  told = rw c.in_ok-told.ensures (told-first (TouchZeros c.args.config.now (export_record c.args.export.now)) c.args.offset c.args.len c.status_at-first.result c.status_at-first.ensures);
+  told = rw c.in_ok-told.ensures.ok (told-first (TouchZeros c.args.config.now (export_record c.args.export.now)) c.args.offset c.args.len c.status_at-first.result c.status_at-first.ensures);
 }
 
 pub returns-then-done-len : goal.returns-then-done-len
 returns-then-done-len c =
     let null = TouchZeros c.args.config.now (export_record c.args.export.now) in
     let told = c.loop-extent.told.items in
-    subst (λ (b : Bool). HasStatus null c.args.offset c.args.len b told) (sym c.if-one.false)
-    (told-all null c.args.offset c.args.len c.loop-extent._extent c.loop-extent.done told (omega (arith, c.loop-extent-test.true)) c.loop-extent.invariant.told)
+    record {
+      ok = subst (λ (b : Bool). HasStatus null c.args.offset c.args.len b told) (sym c.if-one.false)
+          (told-all null c.args.offset c.args.len c.loop-extent._extent c.loop-extent.done told (omega (arith, c.loop-extent-test.true)) c.loop-extent.invariant.told);
+      err = tt;
+    }
 
 pub bytes_at-extent-requires-clause-bytes : goal.bytes_at-extent-requires-clause-bytes
 bytes_at-extent-requires-clause-bytes c =
@@ -34,15 +40,18 @@ pub returns-then-eq : goal.returns-then-eq
 returns-then-eq c =
     let null = TouchZeros c.args.config.now (export_record c.args.export.now) in
     let told = c.loop-extent.told.items in
-    subst (λ (b : Bool). HasStatus null c.args.offset c.args.len b told) (sym c.if-one.false)
-    (told-all null c.args.offset c.args.len c.loop-extent._extent c.loop-extent.done told (omega (arith, c.loop-extent-test.true)) c.loop-extent.invariant.told)
+    record {
+      ok = subst (λ (b : Bool). HasStatus null c.args.offset c.args.len b told) (sym c.if-one.false)
+          (told-all null c.args.offset c.args.len c.loop-extent._extent c.loop-extent.done told (omega (arith, c.loop-extent-test.true)) c.loop-extent.invariant.told);
+      err = tt;
+    }
 
 pub loop-extent-preserved : goal.loop-extent-preserved
 loop-extent-preserved c =
     let null = TouchZeros c.args.config.now (export_record c.args.export.now) in
     let status = c.status-status in
     record {
-      told = rw c.in_ok-push_status.ensures
+      told = rw c.in_ok-push_status.ensures.ok
           (told-next null c.args.offset c.args.len c.loop-extent._extent c.loop-extent.done c.loop-extent.told.items status.result c.loop-extent.invariant.told
           (extent-status c.args.config.now (export_record c.args.export.now) _ _ c.bytes_at-extent.result status.result (rw c.from.ensures at c.bytes_at-extent.ensures) status.ensures.count status.ensures.zeros));
     }
@@ -51,5 +60,8 @@ pub returns : goal.returns
 returns c =
     let null = TouchZeros c.args.config.now (export_record c.args.export.now) in
     let told = c.loop-extent.told.items in
-    subst (λ (b : Bool). HasStatus null c.args.offset c.args.len b told) (sym c.if-one.false)
-    (told-all null c.args.offset c.args.len _ c.loop-extent.done told (omega arith) c.loop-extent.invariant.told)
+    record {
+      ok = subst (λ (b : Bool). HasStatus null c.args.offset c.args.len b told) (sym c.if-one.false)
+          (told-all null c.args.offset c.args.len _ c.loop-extent.done told (omega arith) c.loop-extent.invariant.told);
+      err = tt;
+    }

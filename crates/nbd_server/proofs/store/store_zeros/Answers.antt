@@ -24,6 +24,22 @@ zero_run-requires-clause-sectors g c =
       allowed = c.runs.invariant.sectors.allowed;
     }
 
+pub zero_run-requires-clause-run : goal.zero_run-requires-clause-run
+zero_run-requires-clause-run g c =
+    let before = c.runs.rest.before.now in
+    record {
+      ends = record { before = c.runs.invariant.ends.before; few = omega (arith, c.runs.invariant.ends.few); behind = omega arith };
+      some = omega (arith, c.runs.invariant.ends.before);
+      few = omega (arith, length-zeros before [] (1048576 - length before), c.runs.invariant.ends.before);
+    }
+
+pub zero_run-requires-2-clause-run : goal.zero_run-requires-2-clause-run
+zero_run-requires-2-clause-run g c = record {
+  ends = c.runs.invariant.ends;
+  some = c.runs.invariant.some;
+  few = omega (arith, c.len.ensures.value, c.runs-test.false);
+}
+
 pub returns-in_err-zero_run-clause-err : goal.returns-in_err-zero_run-clause-err
 returns-in_err-zero_run-clause-err g c =
     let d = c.args.export.now.device.0 in

@@ -7,12 +7,13 @@ use Rattle.nbd_server.proofs.store.zero_run.Goals as goal
 pub returns-in_err-bytes-clause-err : goal.returns-in_err-bytes-clause-err
 returns-in_err-bytes-clause-err g c =
     let z = c.args.zeros.now in
-    let some : 0 < length (zeros_of z) = omega (arith, length-zeros z.before.now z.behind.now z.count, c.requires.some) in
+    let some : 0 < length (zeros_of z) = omega (arith, length-zeros z.before.now z.behind.now z.count, c.requires.run.some) in
+    let refused = c.in_err-bytes.ensures.err in
     let p = err_from_is_err_and c.from_residual.result c.from_residual.ensures.1 in
-    rw (p.1, p.2) (lacks-first c.args.queue.now c.args.export.now.device.0 c.args.first (zeros_of z) some)
+    rw (p.1, p.2) (lacks-first c.args.queue.now c.args.export.now.device.0 c.args.first (zeros_of z) some (refused.0, omega (arith, refused.1, c.requires.run.few), refused.2))
 
 pub returns-clause-err : goal.returns-clause-err
 returns-clause-err g c =
     let z = c.args.zeros.now in
-    let fails = rw (c.as_slice.ensures.value, c.in_ok-bytes.ensures) at c.store.ensures.err in
+    let fails = rw (c.as_slice.ensures.value, c.in_ok-bytes.ensures.ok) at c.store.ensures.err in
     zero-fails c.args.queue.now c.args.export.now.device.0 c.args.first (zeros_of z) c.store.new.queue c.store.result fails

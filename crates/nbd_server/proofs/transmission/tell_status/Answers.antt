@@ -10,4 +10,4 @@ pub returns-in-Ok-clause-value : goal.returns-in-Ok-clause-value
 returns-in-Ok-clause-value g c = rw c.all.ensures.value c.in-Ok.ensures.ok
 
 pub returns-in-Err-clause-value : goal.returns-in-Err-clause-value
-returns-in-Err-clause-value g c = (refl, c.in-Err.ensures.err)
+returns-in-Err-clause-value g c = rw c.from.ensures (refl, c.in-Err.ensures.err, c.in-Err.ensures.memory)

@@ -43,7 +43,7 @@ returns-in_default-clause-ok g c =
     let w = c.args.queue.now in
     let at = c.args.offset in
     ok-as c.status_of.result (λ told. HasStatus (TouchZeros w.stack.config e) at c.args.len c.args.one told.items) (λ told. TellsExtents e w at c.args.len c.args.one told.items w)
-    (λ told p. inl (p, refl)) (rw (c.config-in_default.ensures.value, c.stack-in_default.ensures) at c.status_of.ensures)
+    (λ told p. inl (p, refl)) (rw (c.config-in_default.ensures.value, c.stack-in_default.ensures) at c.status_of.ensures.ok)
 
 pub returns-in_default-clause-err : goal.returns-in_default-clause-err
 returns-in_default-clause-err g c =

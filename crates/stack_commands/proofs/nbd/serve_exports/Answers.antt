@@ -1,4 +1,4 @@
-use Rattle.std.proofs.Common.{ℕ, List, ap, sym, ◌∙◌, map, subst, inl, inr, refl, Some}
+use Rattle.std.proofs.Common.{ℕ, List, ap, arith, sym, ◌∙◌, map, subst, inl, inr, refl, Some}
 use Rattle.std.specs.Global.{Global}
 use Rattle.std.specs.Prelude.{Vec}
 use Rattle.nbd_protocol.specs.declared.export.Export.{Export}
@@ -19,18 +19,19 @@ returns-in_err-stack-clause-err g c =
 pub returns-in_err-names-clause-err : goal.returns-in_err-names-clause-err
 returns-in_err-names-clause-err g c =
     err-from c.from_residual-in_err-names.result _ NoMemory c.from_residual-in_err-names.ensures.1
-    (inl (refl, inr (record { stack = c.in_ok-stack.stack; loaded = c.in_ok-stack.ensures.ok; is = refl })))
+    (inl (refl, inr (record { stack = c.in_ok-stack.stack; loaded = c.in_ok-stack.ensures.ok; is = refl; refused = c.in_err-names.ensures.err })))
 
 pub returns-in_err-exports-clause-err : goal.returns-in_err-exports-clause-err
 returns-in_err-exports-clause-err g c =
+    let refused = c.in_err-exports.ensures.err in
     err-from c.from_residual-in_err-exports.result _ NoMemory c.from_residual-in_err-exports.ensures.1
-    (inl (refl, inr (record { stack = c.in_ok-stack.stack; loaded = c.in_ok-stack.ensures.ok; is = refl })))
+    (inl (refl, inr (record { stack = c.in_ok-stack.stack; loaded = c.in_ok-stack.ensures.ok; is = refl; refused = (refused.0, omega (arith, refused.1), refused.2) })))
 
 pub serve-outcome-requires : goal.serve-outcome-requires
 serve-outcome-requires g c =
     let at = c.config-config.ensures.value ∙ ap (λ (v : StackRecord). v.config) c.stack.ensures in
     let names = map (λ (n : Vec ℕ Global). n.items) c.as_slice-listed.result.now in
-    let held = subst (λ (l : List Export). Offers c.config-config.result.now names (export_records l)) (sym c.as_slice-offered.ensures.value) c.in_ok-exports.ensures in
+    let held = subst (λ (l : List Export). Offers c.config-config.result.now names (export_records l)) (sym c.as_slice-offered.ensures.value) c.in_ok-exports.ensures.ok in
     let offered = subst (λ (x : Configuration). Offers x names (export_records c.as_slice-offered.result.now)) at held in
     offers-exports _ names c.as_slice-offered.result.now offered
 
@@ -39,9 +40,9 @@ returns-in_err-outcome-clause-err g c =
     let at = c.config-config.ensures.value ∙ ap (λ (v : StackRecord). v.config) c.stack.ensures in
     let names = map (λ (n : Vec ℕ Global). n.items) c.as_slice-listed.result.now in
     let es = export_records c.as_slice-offered.result.now in
-    let said = subst (λ (l : List (Vec ℕ Global)). AreNames c.config-config.result.now.devices (map (λ n. n.items) l)) (sym c.as_slice-listed.ensures.value) c.in_ok-names.ensures in
+    let said = subst (λ (l : List (Vec ℕ Global)). AreNames c.config-config.result.now.devices (map (λ n. n.items) l)) (sym c.as_slice-listed.ensures.value) c.in_ok-names.ensures.ok in
     let named = subst (λ (x : Configuration). AreNames x.devices names) at said in
-    let held = subst (λ (l : List Export). Offers c.config-config.result.now names (export_records l)) (sym c.as_slice-offered.ensures.value) c.in_ok-exports.ensures in
+    let held = subst (λ (l : List Export). Offers c.config-config.result.now names (export_records l)) (sym c.as_slice-offered.ensures.value) c.in_ok-exports.ensures.ok in
     let offered = subst (λ (x : Configuration). Offers x names es) at held in
     err-from c.from_residual-in_err-outcome.result _ (Service c.in_err-outcome.field-0.0) c.from_residual-in_err-outcome.ensures.1
     (inr (inl (record {
@@ -58,9 +59,9 @@ returns-in_err-synced-clause-err g c =
     let at = c.config-config.ensures.value ∙ ap (λ (v : StackRecord). v.config) c.stack.ensures in
     let names = map (λ (n : Vec ℕ Global). n.items) c.as_slice-listed.result.now in
     let es = export_records c.as_slice-offered.result.now in
-    let said = subst (λ (l : List (Vec ℕ Global)). AreNames c.config-config.result.now.devices (map (λ n. n.items) l)) (sym c.as_slice-listed.ensures.value) c.in_ok-names.ensures in
+    let said = subst (λ (l : List (Vec ℕ Global)). AreNames c.config-config.result.now.devices (map (λ n. n.items) l)) (sym c.as_slice-listed.ensures.value) c.in_ok-names.ensures.ok in
     let named = subst (λ (x : Configuration). AreNames x.devices names) at said in
-    let held = subst (λ (l : List Export). Offers c.config-config.result.now names (export_records l)) (sym c.as_slice-offered.ensures.value) c.in_ok-exports.ensures in
+    let held = subst (λ (l : List Export). Offers c.config-config.result.now names (export_records l)) (sym c.as_slice-offered.ensures.value) c.in_ok-exports.ensures.ok in
     let offered = subst (λ (x : Configuration). Offers x names es) at held in
     err-from c.from_residual-in_err-synced.result _ (Io c.in_err-synced.field-0.0) c.from_residual-in_err-synced.ensures.1
     (inr (inr (
@@ -73,9 +74,9 @@ returns-clause-ok g c =
     let at = c.config-config.ensures.value ∙ ap (λ (v : StackRecord). v.config) c.stack.ensures in
     let names = map (λ (n : Vec ℕ Global). n.items) c.as_slice-listed.result.now in
     let es = export_records c.as_slice-offered.result.now in
-    let said = subst (λ (l : List (Vec ℕ Global)). AreNames c.config-config.result.now.devices (map (λ n. n.items) l)) (sym c.as_slice-listed.ensures.value) c.in_ok-names.ensures in
+    let said = subst (λ (l : List (Vec ℕ Global)). AreNames c.config-config.result.now.devices (map (λ n. n.items) l)) (sym c.as_slice-listed.ensures.value) c.in_ok-names.ensures.ok in
     let named = subst (λ (x : Configuration). AreNames x.devices names) at said in
-    let held = subst (λ (l : List Export). Offers c.config-config.result.now names (export_records l)) (sym c.as_slice-offered.ensures.value) c.in_ok-exports.ensures in
+    let held = subst (λ (l : List Export). Offers c.config-config.result.now names (export_records l)) (sym c.as_slice-offered.ensures.value) c.in_ok-exports.ensures.ok in
     let offered = subst (λ (x : Configuration). Offers x names es) at held in
     exports-served _ c.open_loaded.new.images _ _ c.in_ok-stack.stack c.new-queue.result c.serve-outcome.new.queue names es _ _ _ _
     c.in_ok-stack.ensures.ok c.new-queue.ensures.value named offered c.in_ok-outcome.ensures.service (rw c.into_stack.ensures at c.in_ok-synced.ensures)
