@@ -1,5 +1,6 @@
 -- Requests that are made of a stack.
-use Rattle.std.specs.Prelude.{◌≡◌, ℕ, List, [], Result, Ok, Err}
+use Rattle.std.specs.Prelude.{◌≡◌, ℕ, List, [], length, Result, Ok, Err}
+use Rattle.allocation.specs.Refusal.{IsOutOfMemory}
 use Rattle.command_line.specs.declared.invocation.Sectors.{Sectors}
 use Rattle.command_line.specs.declared.invocation.Transfer.{Transfer}
 use Rattle.stack_engine.specs.Stacks.{StackRecord}
@@ -26,11 +27,16 @@ pub record IsRequestRun (w : World) (r : RequestRecord) (answer : Result (Result
 abbrev pub HasReply : World → RequestRecord → Reply → World → Type 0
 HasReply w r reply w' = IsRequestRun w r (Ok (Ok reply)) w'
 
--- why it isn't: it isn't begun, or the stack answered a fault, or memory ran out before
+-- the name of the device of a request
+abbrev pub request_name : RequestRecord → List ℕ
+request_name (a_read name first count) = name
+request_name (a_write name first bytes) = name
+
+-- why it isn't: it isn't begun, or the stack answered a fault, or before that an allocation of the name was refused
 abbrev pub FailsToServe : World → RequestRecord → RequestFault → World → Type 0
 FailsToServe w r (Submit fault) w' = IsRequestRun w r (Err fault) w'
 FailsToServe w r (Io fault) w' = IsRequestRun w r (Ok (Err fault)) w'
-FailsToServe w r NoMemory w' = w' ≡ w
+FailsToServe w r NoMemory w' = (w' ≡ w) × IsOutOfMemory (length (request_name r))
 FailsToServe w r fault w' = ⊥
 
 -- the request for the sectors that are wanted

@@ -3,16 +3,16 @@ ghost use Rattle.std.specs.Prelude.{◌≡◌};
 ghost use Rattle.stack_making.specs.Endings.{opening_ending};
 ghost use Rattle.request_commands.specs.declared.fault.RequestFault.TheVariants as request_fault;
 
+use allocation::OutOfMemory;
 use request_queue::SubmitFault;
 use stack_engine::IoFault;
 use stack_making::StackFault;
 use stack_opening::OpeningFault;
-use std::alloc::{AllocError, AllocFailed};
 
 /// Why a request of a stack isn't served.
 #[derive(Clone, Copy, Debug, PartialEq, Eq)]
 pub enum RequestFault<'a> {
-    /// Memory ran out before it was begun.
+    /// An allocation was refused before it was begun.
     NoMemory,
     /// There is no stack.
     Stack(StackFault<'a>),
@@ -22,18 +22,10 @@ pub enum RequestFault<'a> {
     Io(IoFault),
 }
 
-impl From<AllocError> for RequestFault<'_> {
+impl From<OutOfMemory> for RequestFault<'_> {
     ghost from_gives = { λ _ fault. fault ≡ request_fault.NoMemory };
 
-    fn from(_error: AllocError) -> Self {
-        RequestFault::NoMemory
-    }
-}
-
-impl<T: Drop> From<AllocFailed<T>> for RequestFault<'_> {
-    ghost from_gives = { λ _ fault. fault ≡ request_fault.NoMemory };
-
-    fn from(_refused: AllocFailed<T>) -> Self {
+    fn from(_error: OutOfMemory) -> Self {
         RequestFault::NoMemory
     }
 }

@@ -5,6 +5,7 @@ ghost use Rattle.request_commands.specs.Requests.{FailsServing, HasReply, read_r
 
 use crate::fault::RequestFault;
 use crate::request::serve_request;
+use allocation::copied;
 use block_device::BlockDev;
 use command_line::Sectors;
 use image_files::Images;
@@ -39,7 +40,7 @@ fn fetch<'a, D: BlockDev + Drop>(
     ensures err { IfErr result (FailsServing queue.old (read_request sectors.entry) queue.new) }
 {
     let Sectors { name, first, count } = sectors;
-    let device = Vec::from_slice(alloc, name.as_bytes())?;
+    let device = copied(alloc, name.as_bytes())?;
     let request = Request::Read {
         device,
         first,

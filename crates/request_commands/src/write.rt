@@ -5,6 +5,7 @@ ghost use Rattle.request_commands.specs.Writes.{PutsBy, UnputBy};
 
 use crate::fault::RequestFault;
 use crate::request::serve_request;
+use allocation::copied;
 use block_device::BlockDev;
 use command_line::Transfer;
 use image_files::Images;
@@ -47,7 +48,7 @@ fn store<'a, D: BlockDev + Drop>(
     ensures ok { IfOk result (λ reply. HasReply queue.old (write_request transfer.entry bytes.items) reply queue.new) }
     ensures err { IfErr result (FailsServing queue.old (write_request transfer.entry bytes.items) queue.new) }
 {
-    let device = Vec::from_slice(alloc, transfer.name.as_bytes())?;
+    let device = copied(alloc, transfer.name.as_bytes())?;
     let request = Request::Write {
         device,
         first: transfer.first,
