@@ -34,7 +34,7 @@ PLACES = {
     "command_line": (11, NOT_YET),
     "command_parser": (11, PARSER),
     "dm_table": (45, NOT_YET),
-    "fec_area": (11, NOT_YET),
+    "fec_area": (6, NOT_YET),
     "hash_tree": (35, NOT_YET),
     "image_commands": (16, NOT_YET),
     "image_files": (2, NOT_YET),
@@ -44,16 +44,15 @@ PLACES = {
     "reed_solomon": (4, STATED),
     "repair_commands": (1, NOT_YET),
     "reply_json": (4, VALUES),
-    "request_queue": (8, NOT_YET),
+    "request_queue": (1, NOT_YET),
     "rescue_files": (5, NOT_YET),
     "rescue_map": (25, NOT_YET),
     "stack_checks": (14, NOT_YET),
     "stack_commands": (3, NOT_YET),
-    "stack_costs": (18, NOT_YET),
-    "stack_engine": (19, NOT_YET),
+    "stack_costs": (9, NOT_YET),
     "stack_json": (17, NOT_YET),
-    "stack_lines": (6, NOT_YET),
-    "stack_loader": (23, NOT_YET),
+    "stack_lines": (4, NOT_YET),
+    "stack_loader": (13, NOT_YET),
     "stack_opening": (14, NOT_YET),
     "stack_recovery": (4, NOT_YET),
     "stack_rules": (10, NOT_YET),
@@ -63,10 +62,8 @@ PLACES = {
     "text_files": (6, NOT_YET),
     "tree_commands": (6, NOT_YET),
     "tree_difference": (5, NOT_YET),
-    "tree_path": (8, NOT_YET),
-    "tree_repair": (20, NOT_YET),
+    "tree_repair": (8, NOT_YET),
     "tree_runs": (14, NOT_YET),
-    "tree_survey": (10, NOT_YET),
     "verified_cache": (3, NOT_YET),
     "verity_format": (33, NOT_YET),
 }
@@ -84,7 +81,12 @@ CALL = re.compile(
     r"|\b(?:Box|Rc|Arc|BufReader|BufWriter|Command|Arg)::new\(|\b(?:format|vec|json)!\(?\[?in |\bwrite(?:ln)?!\(|\bAlloc(?:Error|Failed)\b"
 )
 FUNCTION = re.compile(r" *(?:pub(?:\(\w+\))? )?(?:const )?fn (\w+)")
-EVIDENCE = re.compile(r"\blibrary-refused\b|\.seal\.Seal\b|\bpub use (?:crate::)?seal\b")
+# What makes evidence, by the crate whose proofs alone may name it: of a refused allocation, and of a call of the system.
+EVIDENCE = {
+    "allocation": re.compile(r"\blibrary-refused\b|\ballocation\.specs\.declared\.seal\.Seal\b"),
+    "block_device": re.compile(r"\bwas-(?:opened|said-of-path|said-of-file|lengthened|told|called)\b|\bblock_device\.specs\.declared\.seal\.Seal\b"),
+}
+EXPORT = re.compile(r"\bpub use (?:crate::)?seal\b")
 OTHER = re.compile(r"\s*(?://|ghost\b|requires\b|ensures\b)")
 
 
@@ -127,12 +129,15 @@ def faults_of(crate, places):
 
 
 def faults_of_evidence():
-    """The files that name what makes the evidence, and may not: those of other crates, and what `allocation` exports."""
+    """The files of other crates that name what makes evidence, and the crates that export it."""
     files = [it for end in ("rt", "antt") for it in glob.glob(f"{TOP}/crates/*/s*/**/*.{end}", recursive=True)]
     files += glob.glob(f"{TOP}/crates/*/proofs/**/*.antt", recursive=True)
-    paths = [os.path.relpath(it, TOP) for it in files]
-    others = [it for it in paths if not it.startswith("crates/allocation/") or it.endswith("/src/lib.rt")]
-    return [f"{it}: it names what makes the evidence of a refusal" for it in others if EVIDENCE.search(text_of(it))]
+    faults = []
+    for path in sorted(os.path.relpath(it, TOP) for it in files):
+        crate, text = path.split("/")[1], text_of(path)
+        faults += [f"{path}: it names what makes the evidence of {owner}" for owner, name in EVIDENCE.items() if owner != crate and name.search(text)]
+        faults += [f"{path}: it exports what makes evidence"] * (EXPORT.search(text) is not None)
+    return faults
 
 
 def main():

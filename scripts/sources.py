@@ -92,7 +92,7 @@ def functions(path):
             is_head = False
         elif re.match(r"\s*(requires|ensures)\b", line):
             is_head = False
-        elif is_head:
+        elif is_head and not line.lstrip().startswith("//"):
             made.signature += " " + line.strip().removesuffix("{").removesuffix(";")
         if line.strip() in ("{", "}") or line.endswith((" {", ";")):
             is_head = False
