@@ -16,10 +16,10 @@ returns-in-Ok-clause-ok g c =
       written = g.H.BlockDev.state c.format_with.new.hash_dev;
       allowed = c.in_ok-check_format.ensures.ok.none;
       clearing = c.in_ok-clear_superblock.ensures.ok;
-      formatting = c.in_ok-root.ensures;
+      formatting = c.in_ok-root.ensures.formats;
       image = λ a b.
           ap (λ (d : Device). d.image) c.in-Ok.ensures.ok
-          ∙ c.in_ok-root.ensures.ok.image a (subst IsTrue (sym (steady-cleared hash_dev cleared c.in_ok-clear_superblock.ensures.ok)) b)
+          ∙ c.in_ok-root.ensures.formats.ok.image a (subst IsTrue (sym (steady-cleared hash_dev cleared c.in_ok-clear_superblock.ensures.ok)) b)
           ∙ formatted-cleared (superblock_with o data_dev.size) data_dev.image hash_dev cleared c.in_ok-check_format.ensures.ok.some c.in_ok-clear_superblock.ensures.ok b;
       kept = c.in-Ok.ensures.ok;
       salt = refl;
