@@ -61,7 +61,7 @@ whole-ok w w' d first count len bytes p kept s = record {
 whole-err : (w w' : World) (d first count : ℕ) (fault : IoFault) → EachBytes w.stack d first count (Err fault) w'.stack → ReadKeeps w.stack d first count w'.stack → ReadsWhole w.stack (range_at d first count) (Err fault) w'.stack
 whole-err w w' d first count (io.Stack fault) p kept = record { config = p.any.config; capacity = p.any.capacity; moved = p.any.moved; may = p.any.may; touches = touches-as (Err _) p.any.touches.fault p.any.touches; fails = p.any.fails; kept = kept; exact = λ steady. (p.steady steady).exact }
 whole-err w w' d first count (io.Device i) p kept = record { config = p.any.config; capacity = p.any.capacity; moved = p.any.moved; may = p.any.may; touches = touches-as (Err _) p.any.touches.fault p.any.touches; fails = p.any.fails; kept = kept; exact = λ steady. tt }
-whole-err w w' d first count io.NoMemory p kept = record { config = p.any.config; capacity = p.any.capacity; moved = p.any.moved; may = tt; touches = touches-as (Err io.NoMemory) tt p.any.touches; fails = p.any.fails; kept = kept; exact = λ steady. tt }
+whole-err w w' d first count io.NoMemory p kept = record { config = p.any.config; capacity = p.any.capacity; moved = p.any.moved; may = p.any.may; touches = touches-as (Err io.NoMemory) tt p.any.touches; fails = p.any.fails; kept = kept; exact = λ steady. tt }
 
 module _ (w w' : World) (d first count len : ℕ) (all : len ≡ count * 512) where
   sectors-are : len / 512 ≡ count

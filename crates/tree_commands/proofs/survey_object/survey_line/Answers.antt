@@ -4,4 +4,4 @@ use Rattle.tree_commands.proofs.ObjectLemmas.{plain_survey}
 use Rattle.tree_commands.proofs.survey_object.survey_line.Goals as goal
 
 pub line_of-requires : goal.line_of-requires
-line_of-requires c = ap has_float c.in_ok-value.ensures ∙ plain_survey c.args.lines.now c.args.totals
+line_of-requires c = ap has_float c.in-Ok.ensures ∙ plain_survey c.args.lines.now c.args.totals
