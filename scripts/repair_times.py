@@ -3,7 +3,7 @@
 
 repair_times.py PROGRAM: `repair --fec` of an image whose data are all wrong under a good tree. By the processor time of the
 process, the least of three runs, 128 MiB take about four times what 32 MiB take, five where other processes fill the caches, and may
-take six: time that grows with the square of the image took nine. On a busy machine times vary, so if they take longer more
+take seven: time that grows with the square of the image took nine. On a busy machine times vary, so if they take longer more
 runs are made, in turn, up to nine of each.
 """
 
@@ -15,7 +15,7 @@ import tempfile
 
 MEBIBYTE = 1 << 20
 SMALL, LARGE = 32, 128
-MOST = 6
+MOST = 7
 RUNS, MOST_RUNS = 3, 9
 DAMAGED = 3
 
