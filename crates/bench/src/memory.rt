@@ -1,11 +1,11 @@
-//! Calls that no command makes, each made again where it had no memory: `scripts/refuse_memory.sh` refuses their allocations.
+//! Calls that no command makes, each made again where it had no memory: `scripts/gate/refuse_memory.sh` refuses their allocations.
 ghost use Rattle.std.specs.Prelude.{◌≡◌};
 
 use anyhow::{Context, Result, bail};
 use block_device::{BlockDev, MemoryDev};
 use dm_table::{ParseFault, StackText, Table};
 use hash_tree::{Chain, area};
-use std::alloc::Global;
+use std::alloc::{AllocError, Global};
 use table_reader::parse_table;
 use tree_shape::{Algorithm, Digest, Salt, Shape};
 use verity_format::{ChainFault, data_sectors, read_chain, tree_sectors};
@@ -61,7 +61,8 @@ fn table_of<R: Print + AllocGlobal>(rt: &R) -> Result<Table> {
 
 fn stack_of<R: Print + AllocGlobal>(rt: &R, table: Table) -> Result<StackText> {
     let alloc = rt.alloc();
-    match StackText::single(alloc, b"a", true, table.try_clone(alloc)?) {
+    let copy = table.try_clone(alloc).map_err(AllocError::from)?;
+    match StackText::single(alloc, b"a", true, copy) {
         Ok(stack) => Ok(stack),
         Err(ParseFault::NoMemory) => {
             println!(rt; "StackText::single: no memory")?;

@@ -14,3 +14,4 @@ pub mod Memory
 pub mod Any
 pub mod Script
 pub mod Whole
+pub mod Faithful

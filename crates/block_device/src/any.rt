@@ -4,7 +4,9 @@ ghost use Rattle.block_device.specs.Call.{DeviceDoes, Sync};
 ghost use Rattle.block_device.specs.Calls.{DeviceFailsToSync, DeviceSyncs};
 ghost use Rattle.block_device.specs.Any.{any_id};
 ghost use Rattle.block_device.specs.Counters.{capped-fits};
-ghost use Rattle.block_device.specs.Whole.{whole_bytes, whole_zeros};
+ghost use Rattle.block_device.specs.Faithful.{whole_held};
+ghost use Rattle.block_device.specs.FileId.{file_of};
+ghost use Rattle.block_device.specs.Whole.{whole_bytes};
 ghost use Rattle.block_device.specs.declared.any.AnyDev.TheVariants.{Memory, File};
 
 use crate::{BlockDev, DeviceFault, FileDev, FileId, MemoryDev, SyncDev};
@@ -35,7 +37,7 @@ impl BlockDev for AnyDev {
 
     ghost does = { elim [ Memory m ↦ λ call. elim [ Memory n ↦ ⟦<MemoryDev as BlockDev>⟧.does m call n | File f ↦ ⊥ ] | File f ↦ λ call. elim [ Memory m ↦ ⊥ | File g ↦ ⟦<FileDev as BlockDev>⟧.does f call g ] ] };
 
-    ghost whole = { elim [ Memory m ↦ whole_bytes (⟦<MemoryDev as BlockDev>⟧.state m) m.bytes.items refl refl | File f ↦ whole_zeros (⟦<AnyDev as BlockDev>⟧.state (File f)) refl ] };
+    ghost whole = { elim [ Memory m ↦ whole_bytes (⟦<MemoryDev as BlockDev>⟧.state m) m.bytes.items refl refl | File f ↦ whole_held (⟦<AnyDev as BlockDev>⟧.state (File f)) (file_of f) refl ] };
 
     ghost counters = { elim [ Memory m ↦ record { reads = capped-fits m.reads; writes = capped-fits m.writes; failures = capped-fits 0 } | File f ↦ record { reads = capped-fits f.reads; writes = capped-fits f.writes; failures = capped-fits f.failures } ] };
 

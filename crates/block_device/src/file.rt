@@ -4,10 +4,10 @@ ghost use Rattle.std.specs.Fs.{metadata_len, file_type, IsFile};
 ghost use Rattle.block_device.specs.Call.{DeviceDoes, Read, Sync, Write};
 ghost use Rattle.block_device.specs.Calls.{DeviceFails, DeviceFailsToSync, DeviceGives, DevicePuts, DeviceReads, DeviceSyncs, DeviceWrites};
 ghost use Rattle.block_device.specs.Counters.{capped-fits};
-ghost use Rattle.block_device.specs.Device.{IsInside, capped, zeros_image};
-ghost use Rattle.block_device.specs.File.{opened, HasSectors, IsRefused, IsImage, IsBlockDevice};
+ghost use Rattle.block_device.specs.Device.{IsInside, capped};
+ghost use Rattle.block_device.specs.File.{HasSectors, IsOpened, IsRefused, IsImage, IsBlockDevice};
 ghost use Rattle.block_device.specs.Identity.{IsToldId};
-ghost use Rattle.block_device.specs.Whole.{whole_zeros};
+ghost use Rattle.block_device.specs.Faithful.{held_by, is_faithful, whole_held};
 
 use crate::file_calls::{
     lengthen_file, metadata_at, metadata_of, open_at, read_at, sync_all, write_at,
@@ -32,8 +32,8 @@ const BLOCK_DEVICE: u32 = 0o060_000;
 /// A device whose sync failed stays failed: later syncs fail too, since the system reports once that writes were lost.
 ///
 /// Reads and writes are positioned: no call moves a position that another one uses. Short ones are continued
-/// by the standard library. That the file holds what was written until it is read is not proved, since no
-/// contract says what a file gives: this device is never called steady. Tests over real files show that bytes
+/// by the standard library. No contract says that a file returns what was written to it: the device is steady if the file is
+/// faithful (`specs/Faithful`), which is an assumption. Tests over real files show that bytes
 /// written are read back, that a trailing part stays as it is, and that no failure is counted where none came.
 #[derive(Drop)]
 pub struct FileDev {
@@ -63,7 +63,7 @@ impl FileDev {
         path: &str,
         writable: bool,
     ) -> Result<FileDev, OpenFault>
-        ensures state { IfOk result (λ f. (⟦<FileDev as BlockDev>⟧.state f) ≡ opened (⟦<FileDev as BlockDev>⟧.state f).size writable) }
+        ensures state { IfOk result (λ f. IsOpened (⟦<FileDev as BlockDev>⟧.state f) writable) }
         ensures image { IfOk result (λ f. (m : Metadata) × IsOfFile (file_of f) m × IsOpenedAs m (⟦<FileDev as BlockDev>⟧.state f).size (file_id f)) }
         ensures opened { IfOk result (λ f. Opened path.now writable (file_of f)) }
     {
@@ -152,7 +152,8 @@ fn sectors_in<S: Seek>(file: &mut S, metadata: &Metadata) -> Result<u64, OpenFau
 // The device of an open file of so many sectors.
 fn device_of(file: File, metadata: &Metadata, sectors: u64, writable: bool) -> FileDev
     requires { sectors ≤ 2 ^ 54 }
-    ensures state { ⟦<FileDev as BlockDev>⟧.state result ≡ opened sectors writable }
+    ensures state { IsOpened (⟦<FileDev as BlockDev>⟧.state result) writable }
+    ensures size { result.sectors ≡ sectors }
     ensures id { IsToldId metadata.now result.id }
     ensures file { result.file ≡ file }
 {
@@ -175,10 +176,10 @@ impl BlockDev for FileDev {
     ghost state = { λ f. record {
       size = f.sectors;
       may_write = f.writable;
-      steady = false;
+      steady = is_faithful f.file;
       never_fails = false;
       dirty = f.dirty;
-      image = zeros_image f.sectors;
+      image = held_by f.file f.sectors;
       reads = capped f.reads;
       writes = capped f.writes;
       failures = capped f.failures;
@@ -188,7 +189,7 @@ impl BlockDev for FileDev {
 
     ghost does = { CallsFile };
 
-    ghost whole = { λ f. whole_zeros (⟦<FileDev as BlockDev>⟧.state f) refl };
+    ghost whole = { λ f. whole_held (⟦<FileDev as BlockDev>⟧.state f) f.file refl };
 
     ghost counters = { λ d. record { reads = capped-fits d.reads; writes = capped-fits d.writes; failures = capped-fits d.failures } };
 
@@ -267,7 +268,11 @@ impl SyncDev for FileDev {
         ensures same { file_id self.new ≡ file_id self.old }
         ensures lost { FailsForGood self.old self.new result }
     {
-        if !self.has_lost_writes && sync_all(&mut self.file) {
+        if self.has_lost_writes {
+            self.failures = self.failures.saturating_add(1);
+            return Err(DeviceFault);
+        }
+        if sync_all(&mut self.file) {
             self.dirty = false;
             return Ok(());
         }

@@ -3,11 +3,11 @@ pub mod Bindings
 pub mod BindingWords
 pub mod FecFiles
 pub mod FormatOptions
-pub mod FurtherWords
+pub mod OptionGroups
 pub mod Values
 pub mod ImageCopies
 pub mod PartBindings
 pub mod words
-pub mod FurtherRecords
+pub mod Invocations
 pub mod CommandWords
 pub mod Reading

@@ -1,15 +1,15 @@
 -- That a result is the command that the words say.
-use Rattle.std.specs.Prelude.{◌≡◌, Option, Some, None, option_map, Result, Ok, Err}
+use Rattle.std.specs.Prelude.{◌≡◌, Option, Some, option_map, Result, Ok, Err}
 use Rattle.command_line.specs.declared.fault.WordsFault.{WordsFault}
-use Rattle.command_line.specs.declared.further.Further.{Further}
-use Rattle.command_line.specs.CommandWords.{IsUsage}
-use Rattle.command_line.specs.FurtherRecords.{FurtherRecord, further_record}
+use Rattle.command_line.specs.declared.invocation.Invocation.{Invocation}
+use Rattle.command_line.specs.CommandWords.{RefusesWords}
+use Rattle.command_line.specs.Invocations.{InvocationRecord, invocation_record}
 
--- it is that command; a fault is `Usage` where the words say none, or want of memory
-abbrev pub ReadsCommand : Option FurtherRecord → Result Further WordsFault → Type 0
-ReadsCommand said (Ok got) = said ≡ Some (further_record got)
-ReadsCommand said (Err fault) = IsUsage fault (said ≡ None)
+-- it is that command; a fault is `Usage` if the words say none, or memory ran out
+abbrev pub ReadsCommand : Option InvocationRecord → Result Invocation WordsFault → Type 0
+ReadsCommand said (Ok got) = said ≡ Some (invocation_record got)
+ReadsCommand said (Err fault) = RefusesWords said fault
 
 -- the same of the words of one command
-abbrev pub ReadsAs : {A : Type 0} → (A → FurtherRecord) → Option A → Result Further WordsFault → Type 0
+abbrev pub ReadsAs : {A : Type 0} → (A → InvocationRecord) → Option A → Result Invocation WordsFault → Type 0
 ReadsAs command said result = ReadsCommand (option_map command said) result

@@ -1,21 +1,43 @@
-//! What the words of a command line invoke.
-ghost use Rattle.std.specs.Prelude.{◌≡◌, ◌&&◌, not, drop, IfOk, IfErr};
+//! What a command line invokes.
+ghost use Rattle.std.specs.Prelude.{◌≡◌, ◌&&◌, not, drop};
 ghost use Rattle.std.specs.List.{list_any};
-ghost use Rattle.command_line.specs.FormatOptions.{texts_of};
-ghost use Rattle.command_line.specs.CommandWords.{IsSaid, RefusesWords, copy_of, has_late_option, invocation_at, invoked_by, is_option, load_of, nbd_of, read_invocation, scan_of, session_of, write_of};
+ghost use Rattle.command_line.specs.FormatOptions.{option_texts, texts_of};
+ghost use Rattle.command_line.specs.CommandWords.{has_late_option, invoked_by, is_option};
+ghost use Rattle.command_line.specs.Invocations.{command_said, device_said, fec_said, image_said, invocation_said, pin_said, served_said, tree_said};
+ghost use Rattle.command_line.specs.Reading.{ReadsCommand};
 
-use crate::binding_words::bindings_of;
 use crate::fault::WordsFault;
-use crate::further::further_of;
-use crate::image_words::{dump_of, format_of, table_of, verify_of};
-use crate::invocation::{Invocation, Sectors, ServedDevice, Transfer};
-use crate::option_words::{OptionWords, is_further};
-use crate::values::cache_of;
+use crate::invocation::Invocation;
+use crate::option_words::{OptionWords, has_fec_value};
+use crate::words::cat::cat_of;
+use crate::words::copy::copy_of;
+use crate::words::diff::diff_of;
+use crate::words::dump::dump_of;
+use crate::words::exports::exports_of;
+use crate::words::fec_format::fec_format_of;
+use crate::words::fec_verify::fec_verify_of;
+use crate::words::format::format_of;
+use crate::words::load::load_of;
+use crate::words::manual::{manual_of, version_of};
+use crate::words::nbd::nbd_of;
+use crate::words::partitions::partitions_of;
+use crate::words::pin_format::pin_format_of;
+use crate::words::pin_verify::pin_verify_of;
+use crate::words::read::read_of;
+use crate::words::repair::repair_of;
+use crate::words::scan::scan_of;
+use crate::words::session::session_of;
+use crate::words::store::store_of;
+use crate::words::table::table_of;
+use crate::words::tree_format::tree_format_of;
+use crate::words::tree_table::tree_table_of;
+use crate::words::tree_verify::tree_verify_of;
+use crate::words::verify::verify_of;
+use crate::words::write::write_of;
 use std::alloc::Global;
-use table_reader::number;
 
-/// What a command invokes, by the values of its options and its positional words. Unless `--` stands in front of
-/// them, none behind the first may have the form of an option.
+/// The command of that name with the values of its options and its positional words. Unless `--` stands in front of them, no
+/// positional word but the first may have the form of an option.
 #[tactic(auto, unfolding(crate::specs::CommandWords::invocation_of))]
 pub fn invocation_of<'a>(
     alloc: Global,
@@ -24,191 +46,181 @@ pub fn invocation_of<'a>(
     words: &[&'a str],
     behind_dashes: bool,
 ) -> Result<Invocation<'a>, WordsFault>
-    ensures ok { IfOk result (IsSaid (invoked_by name.now options.now words.now behind_dashes)) }
-    ensures err { IfErr result (RefusesWords (invoked_by name.now options.now words.now behind_dashes)) }
+    ensures { ReadsCommand (invoked_by name.now options.now words.now behind_dashes) result }
 {
     if is_late(words, behind_dashes) {
-        return Err(WordsFault::Usage);
-    }
-    if is_further(name, options) {
-        return match further_of(alloc, name, options, words) {
-            Ok(further) => Ok(Invocation::Further(further)),
-            Err(fault) => Err(fault),
-        };
-    }
-    match cache_of(options.cache) {
-        Some(blocks) => invocation_at(alloc, name, blocks, words),
-        None => Err(WordsFault::Usage),
+        Err(WordsFault::Usage)
+    } else {
+        said_by(alloc, name, options, words)
     }
 }
 
-fn invocation_at<'a>(
+// With `--pin` the command is one on a pin, with `--fec` one on parity, and with `--no-superblock` one on a tree that has none.
+fn said_by<'a>(
     alloc: Global,
     name: &[u8],
-    cache: u32,
+    options: &OptionWords<'a>,
     words: &[&'a str],
 ) -> Result<Invocation<'a>, WordsFault>
-    ensures ok { IfOk result (IsSaid (invocation_at name.now cache (texts_of words.now))) }
-    ensures err { IfErr result (RefusesWords (invocation_at name.now cache (texts_of words.now))) }
+    ensures { ReadsCommand (invocation_said name.now (option_texts options.now) (texts_of words.now)) result }
 {
-    if name == b"load".as_slice() {
-        load_of(alloc, words)
-    } else if name == b"read".as_slice() {
-        read_of(alloc, cache, words)
-    } else if name == b"write".as_slice() {
-        write_of(alloc, cache, words)
-    } else if name == b"session".as_slice() {
-        session_of(alloc, cache, words)
-    } else if name == b"nbd".as_slice() {
-        nbd_of(alloc, cache, words)
-    } else if name == b"scan".as_slice() {
-        scan_of(alloc, words)
-    } else if name == b"copy".as_slice() {
-        copy_of(alloc, words)
+    if options.pin.is_some() {
+        pinned_of(name, options, words)
+    } else if name == b"repair".as_slice() {
+        repair_of(alloc, options, words)
+    } else if has_fec_value(options) {
+        fec_of(name, options, words)
+    } else if options.no_superblock {
+        tree_of(name, options, words)
+    } else {
+        command_of(alloc, name, options, words)
+    }
+}
+
+// The command of that name on an image with a pin, which has a superblock. Parity isn't pinned.
+fn pinned_of<'a>(
+    name: &[u8],
+    options: &OptionWords<'a>,
+    words: &[&'a str],
+) -> Result<Invocation<'a>, WordsFault>
+    ensures { ReadsCommand (pin_said name.now (option_texts options.now) (texts_of words.now)) result }
+{
+    if options.no_superblock || has_fec_value(options) {
+        Err(WordsFault::Usage)
     } else if name == b"format".as_slice() {
-        format_of(words)
+        pin_format_of(options, words)
     } else if name == b"verify".as_slice() {
-        verify_of(words)
-    } else if name == b"dump".as_slice() {
-        dump_of(words)
-    } else if name == b"table".as_slice() {
-        table_of(words)
+        pin_verify_of(options, words)
     } else {
         Err(WordsFault::Usage)
     }
 }
 
-// `STACK BINDING...`
-fn load_of<'a>(alloc: Global, words: &[&'a str]) -> Result<Invocation<'a>, WordsFault>
-    ensures ok { IfOk result (IsSaid (load_of (texts_of words.now))) }
-    ensures err { IfErr result (RefusesWords (load_of (texts_of words.now))) }
-{
-    let [stack, rest @ ..] = words else {
-        return Err(WordsFault::Usage);
-    };
-    match bindings_of(alloc, rest) {
-        Ok(bindings) => Ok(Invocation::Load { stack, bindings }),
-        Err(fault) => Err(fault),
-    }
-}
-
-// `STACK NAME FIRST COUNT BINDING...`
-fn read_of<'a>(alloc: Global, cache: u32, words: &[&'a str]) -> Result<Invocation<'a>, WordsFault>
-    ensures ok { IfOk result (IsSaid (read_invocation cache (texts_of words.now))) }
-    ensures err { IfErr result (RefusesWords (read_invocation cache (texts_of words.now))) }
-{
-    let [stack, name, first, count, rest @ ..] = words else {
-        return Err(WordsFault::Usage);
-    };
-    let (Some(first), Some(count)) = (number(first.as_bytes()), number(count.as_bytes())) else {
-        return Err(WordsFault::Usage);
-    };
-    match bindings_of(alloc, rest) {
-        Ok(bindings) => Ok(Invocation::Read {
-            cache,
-            stack,
-            sectors: Sectors { name, first, count },
-            bindings,
-        }),
-        Err(fault) => Err(fault),
-    }
-}
-
-// `STACK NAME FIRST SOURCE BINDING...`
-fn write_of<'a>(alloc: Global, cache: u32, words: &[&'a str]) -> Result<Invocation<'a>, WordsFault>
-    ensures ok { IfOk result (IsSaid (write_of cache (texts_of words.now))) }
-    ensures err { IfErr result (RefusesWords (write_of cache (texts_of words.now))) }
-{
-    let [stack, name, first, source, rest @ ..] = words else {
-        return Err(WordsFault::Usage);
-    };
-    let Some(first) = number(first.as_bytes()) else {
-        return Err(WordsFault::Usage);
-    };
-    match bindings_of(alloc, rest) {
-        Ok(bindings) => Ok(Invocation::Write {
-            cache,
-            stack,
-            transfer: Transfer {
-                name,
-                first,
-                source,
-            },
-            bindings,
-        }),
-        Err(fault) => Err(fault),
-    }
-}
-
-// `BINDING...`
-fn session_of<'a>(
-    alloc: Global,
-    cache: u32,
+// The command of that name on an image with parity, which has a superblock.
+fn fec_of<'a>(
+    name: &[u8],
+    options: &OptionWords<'a>,
     words: &[&'a str],
 ) -> Result<Invocation<'a>, WordsFault>
-    ensures ok { IfOk result (IsSaid (session_of cache (texts_of words.now))) }
-    ensures err { IfErr result (RefusesWords (session_of cache (texts_of words.now))) }
+    ensures { ReadsCommand (fec_said name.now (option_texts options.now) (texts_of words.now)) result }
 {
-    match bindings_of(alloc, words) {
-        Ok(bindings) => Ok(Invocation::Session { cache, bindings }),
-        Err(fault) => Err(fault),
+    if options.no_superblock {
+        Err(WordsFault::Usage)
+    } else if name == b"format".as_slice() {
+        fec_format_of(options, words)
+    } else if name == b"verify".as_slice() {
+        fec_verify_of(options, words)
+    } else {
+        Err(WordsFault::Usage)
     }
 }
 
-// `STACK NAME BINDING...`, where STACK isn't the standard input, which is the client's
-fn nbd_of<'a>(alloc: Global, cache: u32, words: &[&'a str]) -> Result<Invocation<'a>, WordsFault>
-    ensures ok { IfOk result (IsSaid (nbd_of cache (texts_of words.now))) }
-    ensures err { IfErr result (RefusesWords (nbd_of cache (texts_of words.now))) }
+// The command of that name on a tree without a superblock.
+fn tree_of<'a>(
+    name: &[u8],
+    options: &OptionWords<'a>,
+    words: &[&'a str],
+) -> Result<Invocation<'a>, WordsFault>
+    ensures { ReadsCommand (tree_said name.now (option_texts options.now) (texts_of words.now)) result }
 {
-    let [stack, name, rest @ ..] = words else {
-        return Err(WordsFault::Usage);
-    };
-    if stack.as_bytes() == b"-".as_slice() {
-        return Err(WordsFault::Usage);
-    }
-    match bindings_of(alloc, rest) {
-        Ok(bindings) => Ok(Invocation::Nbd {
-            device: ServedDevice { cache, stack, name },
-            bindings,
-        }),
-        Err(fault) => Err(fault),
-    }
-}
-
-// `STACK NAME BINDING...`
-fn scan_of<'a>(alloc: Global, words: &[&'a str]) -> Result<Invocation<'a>, WordsFault>
-    ensures ok { IfOk result (IsSaid (scan_of (texts_of words.now))) }
-    ensures err { IfErr result (RefusesWords (scan_of (texts_of words.now))) }
-{
-    let [stack, name, rest @ ..] = words else {
-        return Err(WordsFault::Usage);
-    };
-    match bindings_of(alloc, rest) {
-        Ok(bindings) => Ok(Invocation::Scan {
-            stack,
-            name,
-            bindings,
-        }),
-        Err(fault) => Err(fault),
+    if name == b"format".as_slice() {
+        tree_format_of(options, words)
+    } else if name == b"verify".as_slice() {
+        tree_verify_of(options, words)
+    } else if name == b"table".as_slice() {
+        tree_table_of(options, words)
+    } else {
+        Err(WordsFault::Usage)
     }
 }
 
-// `STACK NAME OUT BINDING...`
-fn copy_of<'a>(alloc: Global, words: &[&'a str]) -> Result<Invocation<'a>, WordsFault>
-    ensures ok { IfOk result (IsSaid (copy_of (texts_of words.now))) }
-    ensures err { IfErr result (RefusesWords (copy_of (texts_of words.now))) }
+// The command of that name with none of these options.
+fn command_of<'a>(
+    alloc: Global,
+    name: &[u8],
+    options: &OptionWords<'a>,
+    words: &[&'a str],
+) -> Result<Invocation<'a>, WordsFault>
+    ensures { ReadsCommand (command_said name.now (option_texts options.now) (texts_of words.now)) result }
 {
-    let [stack, name, out, rest @ ..] = words else {
-        return Err(WordsFault::Usage);
-    };
-    match bindings_of(alloc, rest) {
-        Ok(bindings) => Ok(Invocation::Copy {
-            stack,
-            name,
-            out,
-            bindings,
-        }),
-        Err(fault) => Err(fault),
+    if name == b"load".as_slice() {
+        load_of(alloc, options, words)
+    } else if name == b"read".as_slice() {
+        read_of(alloc, options, words)
+    } else if name == b"write".as_slice() {
+        write_of(alloc, options, words)
+    } else if name == b"session".as_slice() {
+        session_of(alloc, options, words)
+    } else if name == b"nbd".as_slice() {
+        served_of(alloc, options, words)
+    } else {
+        device_of(alloc, name, options, words)
+    }
+}
+
+// One device is served to a client, or with `--all` each.
+fn served_of<'a>(
+    alloc: Global,
+    options: &OptionWords<'a>,
+    words: &[&'a str],
+) -> Result<Invocation<'a>, WordsFault>
+    ensures { ReadsCommand (served_said (option_texts options.now) (texts_of words.now)) result }
+{
+    if options.all {
+        exports_of(alloc, options, words)
+    } else {
+        nbd_of(alloc, options, words)
+    }
+}
+
+// The command of that name on a device of a stack, on images or on nothing.
+fn device_of<'a>(
+    alloc: Global,
+    name: &[u8],
+    options: &OptionWords<'a>,
+    words: &[&'a str],
+) -> Result<Invocation<'a>, WordsFault>
+    ensures { ReadsCommand (device_said name.now (option_texts options.now) (texts_of words.now)) result }
+{
+    if name == b"scan".as_slice() {
+        scan_of(alloc, options, words)
+    } else if name == b"copy".as_slice() {
+        copy_of(alloc, options, words)
+    } else if name == b"cat".as_slice() {
+        cat_of(alloc, options, words)
+    } else if name == b"store".as_slice() {
+        store_of(alloc, options, words)
+    } else {
+        image_of(name, options, words)
+    }
+}
+
+// The command of that name on images, or on nothing.
+fn image_of<'a>(
+    name: &[u8],
+    options: &OptionWords<'a>,
+    words: &[&'a str],
+) -> Result<Invocation<'a>, WordsFault>
+    ensures { ReadsCommand (image_said name.now (option_texts options.now) (texts_of words.now)) result }
+{
+    if name == b"format".as_slice() {
+        format_of(options, words)
+    } else if name == b"verify".as_slice() {
+        verify_of(options, words)
+    } else if name == b"dump".as_slice() {
+        dump_of(options, words)
+    } else if name == b"table".as_slice() {
+        table_of(options, words)
+    } else if name == b"partitions".as_slice() {
+        partitions_of(options, words)
+    } else if name == b"diff".as_slice() {
+        diff_of(options, words)
+    } else if name == b"manual".as_slice() {
+        manual_of(words)
+    } else if name == b"version".as_slice() {
+        version_of(words)
+    } else {
+        Err(WordsFault::Usage)
     }
 }
 

@@ -1,7 +1,28 @@
-//! Commands with their words.
-use crate::bindings::Binding;
-use crate::further::Further;
-use tree_shape::Digest;
+//! The commands of a command line.
+use crate::words::cat::CatWords;
+use crate::words::copy::CopyWords;
+use crate::words::diff::DiffWords;
+use crate::words::dump::DumpWords;
+use crate::words::exports::ExportsWords;
+use crate::words::fec_format::FecFormatWords;
+use crate::words::fec_verify::FecVerifyWords;
+use crate::words::format::FormatWords;
+use crate::words::load::LoadWords;
+use crate::words::nbd::NbdWords;
+use crate::words::partitions::PartitionsWords;
+use crate::words::pin_format::PinFormatWords;
+use crate::words::pin_verify::PinVerifyWords;
+use crate::words::read::ReadWords;
+use crate::words::repair::RepairWords;
+use crate::words::scan::ScanWords;
+use crate::words::session::SessionWords;
+use crate::words::store::StoreWords;
+use crate::words::table::TableWords;
+use crate::words::tree_format::TreeFormatWords;
+use crate::words::tree_table::TreeTableWords;
+use crate::words::tree_verify::TreeVerifyWords;
+use crate::words::verify::VerifyWords;
+use crate::words::write::WriteWords;
 
 /// Sectors of a mapped device.
 #[derive(Clone, Copy)]
@@ -27,80 +48,38 @@ pub struct ServedDevice<'a> {
     pub name: &'a str,
 }
 
-/// A command with its positional words, and how many blocks are cached.
+/// A command with the values of its options and its positional arguments.
 #[derive(Drop)]
 pub enum Invocation<'a> {
-    /// `load STACK BINDING...`
-    Load {
-        stack: &'a str,
-        bindings: Vec<Binding<'a>>,
-    },
-    /// `read [--cache N] STACK NAME FIRST COUNT BINDING...`
-    Read {
-        cache: u32,
-        stack: &'a str,
-        sectors: Sectors<'a>,
-        bindings: Vec<Binding<'a>>,
-    },
-    /// `write [--cache N] STACK NAME FIRST SOURCE BINDING...`
-    Write {
-        cache: u32,
-        stack: &'a str,
-        transfer: Transfer<'a>,
-        bindings: Vec<Binding<'a>>,
-    },
-    /// `session [--cache N] BINDING...`
-    Session {
-        cache: u32,
-        bindings: Vec<Binding<'a>>,
-    },
-    /// `nbd [--cache N] STACK NAME BINDING...`
-    Nbd {
-        device: ServedDevice<'a>,
-        bindings: Vec<Binding<'a>>,
-    },
-    /// `scan STACK NAME BINDING...`
-    Scan {
-        stack: &'a str,
-        name: &'a str,
-        bindings: Vec<Binding<'a>>,
-    },
-    /// `copy STACK NAME OUT BINDING...`
-    Copy {
-        stack: &'a str,
-        name: &'a str,
-        out: &'a str,
-        bindings: Vec<Binding<'a>>,
-    },
-    /// A command on images.
-    Image(ImageInvocation<'a>),
-    /// A command that the first version hasn't, or one with options that it hasn't.
-    Further(Further<'a>),
-}
-
-/// A command on images with its positional words.
-#[derive(Drop)]
-pub enum ImageInvocation<'a> {
-    /// `format [OPTIONS] DATA HASH`
-    Format {
-        data: &'a str,
-        hash: &'a str,
-    },
-    /// `verify DATA HASH ROOT`
-    Verify {
-        data: &'a str,
-        hash: &'a str,
-        root: Digest,
-    },
-    /// `dump HASH`
-    Dump {
-        hash: &'a str,
-    },
-    /// `table HASH ROOT DATANAME HASHNAME`
-    Table {
-        hash: &'a str,
-        root: Digest,
-        data_name: &'a str,
-        hash_name: &'a str,
-    },
+    Load(LoadWords<'a>),
+    Read(ReadWords<'a>),
+    Write(WriteWords<'a>),
+    Session(SessionWords<'a>),
+    Nbd(NbdWords<'a>),
+    /// `nbd --all`
+    Exports(ExportsWords<'a>),
+    Scan(ScanWords<'a>),
+    Copy(CopyWords<'a>),
+    Cat(CatWords<'a>),
+    Store(StoreWords<'a>),
+    Format(FormatWords<'a>),
+    Verify(VerifyWords<'a>),
+    Dump(DumpWords<'a>),
+    Table(TableWords<'a>),
+    Partitions(PartitionsWords<'a>),
+    Diff(DiffWords<'a>),
+    Repair(RepairWords<'a>),
+    /// `format --no-superblock`
+    FormatTree(TreeFormatWords<'a>),
+    VerifyTree(TreeVerifyWords<'a>),
+    TableTree(TreeTableWords<'a>),
+    /// `format --fec`
+    FormatFec(FecFormatWords<'a>),
+    VerifyFec(FecVerifyWords<'a>),
+    /// `format --pin`
+    FormatPin(PinFormatWords<'a>),
+    VerifyPin(PinVerifyWords<'a>),
+    /// The name of the command whose page is printed, if there is one.
+    Manual(Option<&'a str>),
+    Version,
 }

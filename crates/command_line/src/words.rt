@@ -1,4 +1,4 @@
-//! The words of each command that takes more than the first version's, a file a command.
+//! The options and positional arguments of each command, a file a command.
 pub mod cat;
 pub mod copy;
 pub mod diff;
@@ -9,14 +9,18 @@ pub mod fec_verify;
 pub mod format;
 pub mod load;
 pub mod manual;
+pub mod nbd;
 pub mod partitions;
 pub mod pin_format;
 pub mod pin_verify;
+pub mod read;
 pub mod repair;
 pub mod scan;
+pub mod session;
 pub mod store;
 pub mod table;
 pub mod tree_format;
 pub mod tree_table;
 pub mod tree_verify;
 pub mod verify;
+pub mod write;

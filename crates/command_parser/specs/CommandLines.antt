@@ -5,8 +5,9 @@ use Rattle.std.specs.Str.{bytes_eq}
 use Rattle.clap.specs.Simple.{subcommand_of}
 use Rattle.clap.specs.Takes.{takes}
 use Rattle.clap.specs.Walk.{Row, Text, all_of, first_of}
-use Rattle.command_line.specs.CommandWords.{InvocationRecord, invocation_of}
+use Rattle.command_line.specs.CommandWords.{invocation_of}
 use Rattle.command_line.specs.FormatOptions.{OptionTexts}
+use Rattle.command_line.specs.Invocations.{InvocationRecord}
 use Rattle.command_parser.specs.Grammar.{grammar}
 
 -- an option without a value stands there: clap's value of it is `true` then, and else `false`

@@ -1,6 +1,7 @@
 //! Reads the words behind the program's name.
 ghost use Rattle.std.specs.Prelude.{◌≡◌, map, length, string_bytes, Some, IfOk, IfErr};
-ghost use Rattle.command_line.specs.CommandWords.{IsUsage, invocation_record};
+ghost use Rattle.command_line.specs.CommandWords.{IsUsage};
+ghost use Rattle.command_line.specs.Invocations.{invocation_record};
 ghost use Rattle.command_line.specs.FormatOptions.{option_texts};
 ghost use Rattle.command_parser.specs.CommandLines.{IsNoCommand, invoked, is_behind_dashes, options_said};
 

@@ -12,4 +12,5 @@ any_relations = record {
   grows = λ old path sectors outcome new. Unit {0};
   measures = λ old path outcome new. Unit {0};
   replaces = λ old path bytes outcome new. Unit {0};
+  tries = λ old path outcome new. Unit {0};
 }

@@ -64,6 +64,10 @@ impl Images for FailingImages {
         self.images.replace(path, bytes)
     }
 
+    fn try_replace(&mut self, path: &str) -> Result<(), ReplaceFault> {
+        self.images.try_replace(path)
+    }
+
     // Its counts are numbers of 64 bits, which its own calls say.
     fn of_memory(memory: MemoryDev) -> FailAt<MemoryDev> {
         let _counts = (memory.reads(), memory.writes());

@@ -9,6 +9,11 @@ pub use Rattle.dm_table.specs.Crypt.{IsCryptOfGrammar}
 pub use Rattle.dm_table.specs.Verity.{AreVerityDevices, AreVerityBlocks, IsVerityOfGrammar}
 pub use Rattle.dm_table.specs.Unstriped.{IsUnstripedOfGrammar}
 
+-- at most 16 devices, each at a sector
+pub record AreBasesOfGrammar (bases : List Base) : Type 0 where
+  pub most : length bases ≤ 16
+  pub each : All IsBaseOfGrammar bases
+
 -- 1 to 16 devices, and a chunk of at least one sector
 pub record IsStripedOfGrammar (chunk : ℕ) (bases : List Base) : Type 0 where
   pub some : 1 ≤ length bases

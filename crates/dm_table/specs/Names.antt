@@ -19,6 +19,10 @@ is_name_of most test word = nat_le 1 (length word) && nat_le (length word) most 
 unfoldable pub is_mapped_name : Word → Bool
 is_mapped_name = is_name_of 127 is_mapped_byte
 
+-- no name has more bytes
+abbrev pub most_name : ℕ
+most_name = 255
+
 -- where the nodes of mapped devices stand
 abbrev pub mapper : List ℕ
 mapper = codes "/dev/mapper/"

@@ -1,10 +1,13 @@
 //! The arguments of a `crypt` line.
-ghost use Rattle.std.specs.Prelude.{◌≡◌, ◌≤◌, length, take, IfOk};
-ghost use Rattle.dm_table.specs.Crypt.{iv_large_sectors, sector_size};
+ghost use Rattle.std.specs.Prelude.{◌≡◌, ◌≤◌, length, take, IfOk, IfErr};
+ghost use Rattle.allocation.specs.Asked.{asked};
+ghost use Rattle.dm_table.specs.Crypt.{iv_large_sectors, sector_size, IsCryptOfGrammar};
+ghost use Rattle.dm_table.specs.Names.{most_name};
 
 use crate::options::{Options, is_kept};
 use crate::table::Base;
-use std::alloc::{AllocError, Global};
+use allocation::OutOfMemory;
+use std::alloc::Global;
 use std::marker::Model;
 
 /// A key of AES in XTS mode: 32 or 64 bytes, of which each half is a key of AES. It has no text.
@@ -86,8 +89,10 @@ impl Crypt {
         is_kept(&self.options, b"iv_large_sectors")
     }
 
-    pub(crate) fn try_clone(&self, alloc: Global) -> Result<Crypt, AllocError>
-        ensures { IfOk result (λ crypt. crypt ≡ self.now) }
+    pub(crate) fn try_clone(&self, alloc: Global) -> Result<Crypt, OutOfMemory>
+        requires { IsCryptOfGrammar self.now }
+        ensures ok { IfOk result (λ crypt. crypt ≡ self.now) }
+        ensures err { IfErr result (λ e. asked e ≤ most_name) }
     {
         let base = self.base.try_clone(alloc)?;
         let options = self.options.try_clone(alloc)?;

@@ -3,6 +3,7 @@ ghost use Rattle.std.specs.Prelude.{◌≡◌};
 ghost use Rattle.dm_table.specs.declared.fault.ParseFault.TheVariants as parse_fault;
 ghost use Rattle.dm_table.specs.TextKinds.{text_name, text_number};
 
+use allocation::OutOfMemory;
 use std::alloc::{AllocError, AllocFailed};
 use thiserror::Error;
 
@@ -102,6 +103,14 @@ pub enum ParseFault {
     /// Memory was refused.
     #[error("out of memory")]
     NoMemory,
+}
+
+impl From<OutOfMemory> for ParseFault {
+    ghost from_gives = { λ _ fault. fault ≡ parse_fault.NoMemory };
+
+    fn from(_error: OutOfMemory) -> ParseFault {
+        ParseFault::NoMemory
+    }
 }
 
 impl From<AllocError> for ParseFault {

@@ -1,9 +1,12 @@
 //! The optional arguments of a line.
-ghost use Rattle.std.specs.Prelude.{◌≡◌, [], ◌∷◌, ◌++◌, IfOk, MatchResult};
+ghost use Rattle.std.specs.Prelude.{◌≡◌, ◌≤◌, [], ◌∷◌, ◌++◌, length, All, IfOk, IfErr, OnOk, OnErr};
+ghost use Rattle.allocation.specs.Asked.{WasRefused, asked};
+ghost use Rattle.dm_table.specs.Names.{most_name};
 ghost use Rattle.dm_table.specs.Options.{is_one_of};
 
 use crate::table::Name;
-use std::alloc::{AllocError, Global};
+use allocation::{OutOfMemory, push};
+use std::alloc::Global;
 use std::marker::Model;
 
 /// Options as they were written, each name once.
@@ -30,14 +33,17 @@ impl Options {
         }
     }
 
-    /// One option more. It fails only where memory does, and then the options are what they were.
-    pub fn push(&mut self, word: Name) -> Result<(), AllocError>
-        ensures { MatchResult result
-            (λ _. self.new ≡ self.old ++ word ∷ [])
-            (λ _. self.new ≡ self.old) }
+    /// One option more.
+    ///
+    /// # Errors
+    ///
+    /// `OutOfMemory` if an allocation of room for one was refused; the options are what they were.
+    pub fn push(&mut self, word: Name) -> Result<(), OutOfMemory>
+        ensures ok { OnOk result (self.new ≡ self.old ++ word ∷ []) }
+        ensures same { OnErr result (self.new ≡ self.old) }
+        ensures err { IfErr result (WasRefused 1) }
     {
-        self.words.push(word)?;
-        Ok(())
+        push(&mut self.words, word)
     }
 
     /// The options, in the order read.
@@ -47,8 +53,10 @@ impl Options {
         self.words.as_slice()
     }
 
-    pub(crate) fn try_clone(&self, alloc: Global) -> Result<Options, AllocError>
-        ensures { IfOk result (λ options. options ≡ self.now) }
+    pub(crate) fn try_clone(&self, alloc: Global) -> Result<Options, OutOfMemory>
+        requires { All (λ word. length word ≤ most_name) self.now }
+        ensures ok { IfOk result (λ options. options ≡ self.now) }
+        ensures err { IfErr result (λ e. asked e ≤ most_name) }
     {
         let mut options = Options::new(alloc);
         for word in self.as_slice() {

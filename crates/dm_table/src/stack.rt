@@ -6,6 +6,7 @@ ghost use Rattle.dm_table.specs.StackText.{IsStackOfGrammar, single_of};
 use crate::fault::{ParseFault, TextFault, TextKind};
 use crate::name::is_mapped_name;
 use crate::table::{Name, Table};
+use allocation::{push, with_capacity};
 use std::alloc::Global;
 use std::marker::Model;
 
@@ -69,13 +70,16 @@ impl StackText {
             }));
         }
         let name = Name::new(alloc, name)?;
-        let mut entries = Vec::with_capacity(alloc, 1)?;
-        entries.push(Entry {
-            number: 1,
-            name,
-            writable,
-            table,
-        })?;
+        let mut entries = with_capacity(alloc, 1)?;
+        push(
+            &mut entries,
+            Entry {
+                number: 1,
+                name,
+                writable,
+                table,
+            },
+        )?;
         Ok(StackText { entries })
     }
 

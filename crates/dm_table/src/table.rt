@@ -1,11 +1,14 @@
 //! A device's table, as it was read.
-ghost use Rattle.std.specs.Prelude.{◌≡◌, List, ℕ, ◌∷◌, [], ◌++◌, length, IfOk, MatchResult};
-ghost use Rattle.dm_table.specs.Grammar.{IsTableOfGrammar};
+ghost use Rattle.std.specs.Prelude.{◌≡◌, ◌≤◌, ◌+◌, List, ℕ, ◌∷◌, [], ◌++◌, length, IfOk, IfErr, OnOk, OnErr};
+ghost use Rattle.allocation.specs.Asked.{WasRefused, asked};
+ghost use Rattle.dm_table.specs.Grammar.{IsBaseOfGrammar, AreBasesOfGrammar, IsTargetOfGrammar, IsLineOfGrammar, IsTableOfGrammar};
+ghost use Rattle.dm_table.specs.Names.{most_name};
 
 use crate::crypt::Crypt;
 use crate::unstriped::Unstriped;
 use crate::verity::Verity;
-use std::alloc::{AllocError, Global};
+use allocation::{OutOfMemory, copied, push, with_capacity};
+use std::alloc::Global;
 use std::marker::Model;
 
 /// The bytes of a name, as they were written: a mapped name has 1 to 127 of them. A device argument
@@ -24,11 +27,16 @@ impl Model for Name {
 }
 
 impl Name {
-    /// A name of these bytes. It fails only where memory does.
-    pub fn new(alloc: Global, bytes: &[u8]) -> Result<Name, AllocError>
-        ensures { IfOk result (λ name. name ≡ bytes.now) }
+    /// A name of these bytes.
+    ///
+    /// # Errors
+    ///
+    /// `OutOfMemory` if an allocation of room for the bytes was refused.
+    pub fn new(alloc: Global, bytes: &[u8]) -> Result<Name, OutOfMemory>
+        ensures ok { IfOk result (λ name. name ≡ bytes.now) }
+        ensures err { IfErr result (WasRefused (length bytes.now)) }
     {
-        let bytes = Vec::from_slice(alloc, bytes)?;
+        let bytes = copied(alloc, bytes)?;
         Ok(Name { bytes })
     }
 
@@ -51,8 +59,10 @@ pub struct Base {
 }
 
 impl Base {
-    pub(crate) fn try_clone(&self, alloc: Global) -> Result<Base, AllocError>
-        ensures { IfOk result (λ base. base ≡ self.now) }
+    pub(crate) fn try_clone(&self, alloc: Global) -> Result<Base, OutOfMemory>
+        requires { IsBaseOfGrammar self.now }
+        ensures ok { IfOk result (λ base. base ≡ self.now) }
+        ensures err { IfErr result (λ e. asked e ≤ most_name) }
     {
         let device = Name::new(alloc, self.device.as_slice())?;
         Ok(Base {
@@ -78,22 +88,30 @@ impl Model for Bases {
 }
 
 impl Bases {
-    /// No device, with room for that many. It fails only where memory does.
-    pub fn with_capacity(alloc: Global, count: usize) -> Result<Bases, AllocError>
-        ensures { IfOk result (λ bases. bases ≡ []) }
+    /// No device, with room for that many.
+    ///
+    /// # Errors
+    ///
+    /// `OutOfMemory` if an allocation of room for that many was refused.
+    pub fn with_capacity(alloc: Global, count: usize) -> Result<Bases, OutOfMemory>
+        ensures ok { IfOk result (λ bases. bases ≡ []) }
+        ensures err { IfErr result (WasRefused count) }
     {
-        let list = Vec::with_capacity(alloc, count)?;
+        let list = with_capacity(alloc, count)?;
         Ok(Bases { list })
     }
 
-    /// One device more. It fails only where memory does, and then the devices are what they were.
-    pub fn push(&mut self, base: Base) -> Result<(), AllocError>
-        ensures { MatchResult result
-            (λ _. self.new ≡ self.old ++ base ∷ [])
-            (λ _. self.new ≡ self.old) }
+    /// One device more.
+    ///
+    /// # Errors
+    ///
+    /// `OutOfMemory` if an allocation of room for one was refused; the devices are what they were.
+    pub fn push(&mut self, base: Base) -> Result<(), OutOfMemory>
+        ensures ok { OnOk result (self.new ≡ self.old ++ base ∷ []) }
+        ensures same { OnErr result (self.new ≡ self.old) }
+        ensures err { IfErr result (WasRefused 1) }
     {
-        self.list.push(base)?;
-        Ok(())
+        push(&mut self.list, base)
     }
 
     /// The devices, in the order written.
@@ -103,8 +121,10 @@ impl Bases {
         self.list.as_slice()
     }
 
-    pub(crate) fn try_clone(&self, alloc: Global) -> Result<Bases, AllocError>
-        ensures { IfOk result (λ bases. bases ≡ self.now) }
+    pub(crate) fn try_clone(&self, alloc: Global) -> Result<Bases, OutOfMemory>
+        requires { AreBasesOfGrammar self.now }
+        ensures ok { IfOk result (λ bases. bases ≡ self.now) }
+        ensures err { IfErr result (λ e. asked e ≤ most_name) }
     {
         let mut bases = Bases::with_capacity(alloc, self.list.len())?;
         for base in self.as_slice() {
@@ -134,8 +154,10 @@ pub enum Target {
 }
 
 impl Target {
-    pub(crate) fn try_clone(&self, alloc: Global) -> Result<Target, AllocError>
-        ensures { IfOk result (λ target. target ≡ self.now) }
+    pub(crate) fn try_clone(&self, alloc: Global) -> Result<Target, OutOfMemory>
+        requires { IsTargetOfGrammar self.now }
+        ensures ok { IfOk result (λ target. target ≡ self.now) }
+        ensures err { IfErr result (λ e. asked e ≤ most_name) }
     {
         Ok(match self {
             Target::Linear(base) => Target::Linear(base.try_clone(alloc)?),
@@ -162,8 +184,10 @@ pub struct Line {
 }
 
 impl Line {
-    pub(crate) fn try_clone(&self, alloc: Global) -> Result<Line, AllocError>
-        ensures { IfOk result (λ line. line ≡ self.now) }
+    pub(crate) fn try_clone(&self, alloc: Global) -> Result<Line, OutOfMemory>
+        requires { IsLineOfGrammar self.now }
+        ensures ok { IfOk result (λ line. line ≡ self.now) }
+        ensures err { IfErr result (λ e. asked e ≤ most_name) }
     {
         let target = self.target.try_clone(alloc)?;
         Ok(Line {
@@ -209,13 +233,18 @@ impl Table {
         self.lines.as_slice()
     }
 
-    /// An equal table. It fails only where memory does.
-    pub fn try_clone(&self, alloc: Global) -> Result<Table, AllocError>
-        ensures { IfOk result (λ table. table ≡ self.now) }
+    /// An equal table.
+    ///
+    /// # Errors
+    ///
+    /// `OutOfMemory` if an allocation was refused, of room for the lines or for one name.
+    pub fn try_clone(&self, alloc: Global) -> Result<Table, OutOfMemory>
+        ensures ok { IfOk result (λ table. table ≡ self.now) }
+        ensures err { IfErr result (λ e. asked e ≤ length self.now + most_name) }
     {
-        let mut lines = Vec::with_capacity(alloc, self.lines.len())?;
+        let mut lines = with_capacity(alloc, self.lines.len())?;
         for line in self.lines() {
-            lines.push(line.try_clone(alloc)?)?;
+            push(&mut lines, line.try_clone(alloc)?)?;
         }
         Ok(Table { lines })
     }

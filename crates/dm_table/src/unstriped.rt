@@ -1,8 +1,11 @@
 //! The arguments of an `unstriped` line.
-ghost use Rattle.std.specs.Prelude.{◌≡◌, IfOk};
+ghost use Rattle.std.specs.Prelude.{◌≡◌, ◌≤◌, IfOk, IfErr};
+ghost use Rattle.allocation.specs.Asked.{asked};
+ghost use Rattle.dm_table.specs.Names.{most_name};
 
 use crate::table::Base;
-use std::alloc::{AllocError, Global};
+use allocation::OutOfMemory;
+use std::alloc::Global;
 
 /// One stripe of a striped device: its chunks, side by side.
 #[derive(Drop)]
@@ -18,8 +21,12 @@ pub struct Unstriped {
 }
 
 impl Unstriped {
-    pub(crate) fn try_clone(&self, alloc: Global) -> Result<Unstriped, AllocError>
-        ensures { IfOk result (λ unstriped. unstriped ≡ self.now) }
+    ghost use Rattle.dm_table.specs.Unstriped.{IsUnstripedOfGrammar};
+
+    pub(crate) fn try_clone(&self, alloc: Global) -> Result<Unstriped, OutOfMemory>
+        requires { IsUnstripedOfGrammar self.now }
+        ensures ok { IfOk result (λ unstriped. unstriped ≡ self.now) }
+        ensures err { IfErr result (λ e. asked e ≤ most_name) }
     {
         let base = self.base.try_clone(alloc)?;
         Ok(Unstriped {

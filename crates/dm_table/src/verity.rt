@@ -1,8 +1,11 @@
 //! The arguments of a `verity` line.
-ghost use Rattle.std.specs.Prelude.{◌≡◌, IfOk};
+ghost use Rattle.std.specs.Prelude.{◌≡◌, ◌≤◌, IfOk, IfErr};
+ghost use Rattle.allocation.specs.Asked.{asked};
+ghost use Rattle.dm_table.specs.Names.{most_name};
 
 use crate::table::Name;
-use std::alloc::{AllocError, Global};
+use allocation::OutOfMemory;
+use std::alloc::Global;
 use tree_shape::{Digest, Salt};
 
 /// Blocks of one device, checked against a hash tree on another.
@@ -28,8 +31,12 @@ pub struct Verity {
 }
 
 impl Verity {
-    pub(crate) fn try_clone(&self, alloc: Global) -> Result<Verity, AllocError>
-        ensures { IfOk result (λ verity. verity ≡ self.now) }
+    ghost use Rattle.dm_table.specs.Verity.{AreVerityDevices};
+
+    pub(crate) fn try_clone(&self, alloc: Global) -> Result<Verity, OutOfMemory>
+        requires { AreVerityDevices self.now }
+        ensures ok { IfOk result (λ verity. verity ≡ self.now) }
+        ensures err { IfErr result (λ e. asked e ≤ most_name) }
     {
         let data = Name::new(alloc, self.data.as_slice())?;
         let hash = Name::new(alloc, self.hash.as_slice())?;

@@ -2,7 +2,7 @@
 use Rattle.std.proofs.Common.{◌≡◌, ℕ, Bool, true, false, IsTrue, List, subst, inl, inr, refl, ◌∙◌, arith}
 use Rattle.block_device.specs.Device.{Device, IsRead}
 use Rattle.verity_format.specs.Blocks.{AreOnlyRead, IsOnlyRead}
-use Rattle.verity_format.proofs.DeviceLemmas.{only_read-none, only_read-then, steady-then, failed-then}
+use Rattle.verity_format.proofs.lemmas.DeviceLemmas.{only_read-none, only_read-then, steady-then, failed-then}
 use Rattle.fec_area.specs.declared.layout.Layout.{Layout}
 use Rattle.fec_area.specs.Layouts.{IsLaidOn}
 use Rattle.fec_area.specs.Rounds.{AreFailuresCounted, AreUnfailed, BothNeverFail, HasOneFailed}

@@ -4,7 +4,7 @@ use Rattle.std.proofs.Math.Nat.{mul-le-mul_right, mul-le-mul_left, div-le_self, 
 use Rattle.std.proofs.lemmas.Bool.{lt-ltb, le-ltb}
 use Rattle.tree_shape.specs.Shape.{IsShape, ShapeRecord, is_block_size}
 use Rattle.verity_format.specs.Blocks.{block_at}
-use Rattle.verity_format.proofs.SizeLemmas.{block-size}
+use Rattle.verity_format.proofs.lemmas.SizeLemmas.{block-size}
 use Rattle.fec_area.specs.declared.layout.Layout.{Layout}
 use Rattle.fec_area.specs.Layouts.{IsLayout, IsLayoutOf, covered, covered_blocks, parity_sectors, round_bytes, code_rounds}
 

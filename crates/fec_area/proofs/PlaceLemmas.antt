@@ -12,7 +12,7 @@ use Rattle.reed_solomon.specs.Field.{field_product}
 use Rattle.reed_solomon.proofs.FieldLemmas.{product_zero_l, product_zero_r}
 use Rattle.tree_shape.specs.Shape.{is_block_size}
 use Rattle.verity_format.specs.Blocks.{block_at}
-use Rattle.verity_format.proofs.SizeLemmas.{block-size}
+use Rattle.verity_format.proofs.lemmas.SizeLemmas.{block-size}
 use Rattle.fec_area.specs.declared.layout.Layout.{Layout}
 use Rattle.fec_area.specs.Layouts.{covered, covered_blocks, message_byte, code_rounds}
 use Rattle.fec_area.specs.Rounds.{AreProductsAdded, IsPlaceAdded}

@@ -1,5 +1,5 @@
 -- `format --grow --fec`: which files are there.
-use Rattle.std.specs.Prelude.{◌≡◌, ◌⊎◌, ℕ, Bool, true, false, List, [], ◌∷◌, Option, None, Some, Err}
+use Rattle.std.specs.Prelude.{◌≡◌, ◌⊎◌, ℕ, Bool, true, false, List, [], ◌∷◌, Option, None, Some, Ok, Err}
 use Rattle.block_device.specs.declared.open_fault.OpenFault.TheVariants.{NotFound, SameFile}
 use Rattle.image_files.specs.declared.file_use.FileUse.{FileUse}
 use Rattle.image_files.specs.declared.images.OpenImage.{OpenImage}
@@ -7,7 +7,10 @@ use Rattle.image_files.specs.declared.opening.UnopenedFile.{UnopenedFile}
 use Rattle.image_files.specs.FileUses.{has_clash, image_use}
 use Rattle.image_files.specs.Opened.{Opens, Refuses}
 use Rattle.image_files.specs.Opener.{Calls}
+use Rattle.text_files.specs.declared.texts.ReplaceFault.{ReplaceFault}
 use Rattle.image_commands.specs.Places.{TwoPlaces}
+use Rattle.verity_commands.specs.Growing.{GrowsFile}
+use Rattle.fec_commands.specs.Growing.{IsFileUnmade}
 use Rattle.command_line.specs.FecFiles.{FecRecord}
 
 -- the image under a path was opened, or there is none
@@ -33,13 +36,38 @@ pub record LooksForThree {S D : Type 0} (w : Calls S D) (places : TwoPlaces) (fe
   pub hash_found : FindsFile (record w { old = one; new = two }) places.paths.hash_path false hash_image
   pub parity_found : FindsFile (record w { old = two }) fec.path true parity
 
--- and the last is none of the two
+-- no file can be created under a path, so it was made at once
+pub record IsMadeAtOnce {S D : Type 0} (w : Calls S D) (path : List ℕ) : Type 0 where
+  pub between : S
+  pub cause : ReplaceFault
+  pub tried : w.relations.tries w.old path (Err cause) between
+  pub made : GrowsFile (record w { old = between }) path 0
+
+-- one can, or that was done
+abbrev pub CanMake : {S D : Type 0} → Calls S D → List ℕ → Type 0
+CanMake w path = w.relations.tries w.old path (Ok tt) w.new ⊎ IsMadeAtOnce w path
+
+-- none can, nor be made
+pub record FailsToMake {S D : Type 0} (w : Calls S D) (path : List ℕ) (file : UnopenedFile) : Type 0 where
+  pub between : S
+  pub cause : ReplaceFault
+  pub tried : w.relations.tries w.old path (Err cause) between
+  pub unmade : IsFileUnmade (record w { old = between }) path 0 file
+
+-- a file that isn't there can be made
+abbrev pub IsThereOrCanBe : {S D : Type 0} → Calls S D → List ℕ → Option (OpenImage D) → Type 0
+IsThereOrCanBe w path (Some image) = w.new ≡ w.old
+IsThereOrCanBe w path None = CanMake w path
+
+-- and the last is none of the two, and can be made if it isn't there
 pub record FindsThree {S D : Type 0} (w : Calls S D) (places : TwoPlaces) (fec : FecRecord) : Type 0 where
   pub data_image : OpenImage D
   pub hash_image : Option (OpenImage D)
   pub parity : Option (OpenImage D)
-  pub looks : LooksForThree w places fec data_image hash_image parity
+  pub looked : S
+  pub looks : LooksForThree (record w { new = looked }) places fec data_image hash_image parity
   pub apart : is_used data_image hash_image parity ≡ false
+  pub ready : IsThereOrCanBe (record w { old = looked }) fec.path parity
 
 -- DATA was opened, and HASH is there and wasn't
 pub record RefusesFoundHash {S D : Type 0} (w : Calls S D) (places : TwoPlaces) (file : UnopenedFile) : Type 0 where
@@ -67,7 +95,15 @@ pub record IsOneOfThree {S D : Type 0} (w : Calls S D) (places : TwoPlaces) (fec
   pub is : (file.fault ≡ SameFile) × (file.path.now ≡ fec.path)
   pub same : (is_used data_image hash_image parity ≡ true) ⊎ ((hash_image ≡ None) × (fec.path ≡ places.paths.hash_path))
 
+-- none was refused, and the file of the parity isn't there and can't be made
+pub record RefusesNewParity {S D : Type 0} (w : Calls S D) (places : TwoPlaces) (fec : FecRecord) (file : UnopenedFile) : Type 0 where
+  pub data_image : OpenImage D
+  pub hash_image : Option (OpenImage D)
+  pub looked : S
+  pub looks : LooksForThree (record w { new = looked }) places fec data_image hash_image None
+  pub fails : FailsToMake (record w { old = looked }) fec.path file
+
 -- one of the three is refused, the first; nothing was made or made longer
 abbrev pub IsUnfound : {S D : Type 0} → Calls S D → TwoPlaces → FecRecord → UnopenedFile → Type 0
 IsUnfound w places fec file =
-    Refuses w places.paths.data_path false file ⊎ (RefusesFoundHash w places file ⊎ (RefusesFoundParity w places fec file ⊎ IsOneOfThree w places fec file))
+    Refuses w places.paths.data_path false file ⊎ (RefusesFoundHash w places file ⊎ (RefusesFoundParity w places fec file ⊎ (IsOneOfThree w places fec file ⊎ RefusesNewParity w places fec file)))

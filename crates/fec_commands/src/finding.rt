@@ -6,13 +6,14 @@ ghost use Rattle.image_files.specs.Opener.{calls};
 ghost use Rattle.fec_commands.specs.Finding.{FindsFile, FindsThree, IsUnfound, is_used};
 ghost use Rattle.fec_commands.specs.Images.{Does};
 
+use crate::growing::check_path;
 use block_device::OpenFault;
 use command_line::FecFile;
 use image_commands::ImagePlaces;
 use image_files::{FileUse, Images, OpenImage, UnopenedFile, has_clash, open_image};
 
 /// Opens DATA for reading, HASH if it is there, and the file of the parity for writing if it is there. That file may not be
-/// one of the two, nor be made under HASH's path.
+/// one of the two, nor be made under HASH's path. If it isn't there, it can be made.
 pub(crate) fn find_three<'a, I: Images>(
     images: &mut I,
     places: &ImagePlaces<'a>,
@@ -32,7 +33,10 @@ pub(crate) fn find_three<'a, I: Images>(
     if is_made_twice(&hash, path, places.hash) {
         return Err(UnopenedFile { fault, path });
     }
-    Ok(())
+    match parity {
+        Some(_) => Ok(()),
+        None => check_path(images, path),
+    }
 }
 
 // Whether HASH isn't there, and both are to be made under one path.

@@ -4,6 +4,7 @@ ghost use Rattle.image_files.specs.Opener.{calls};
 ghost use Rattle.fec_area.specs.declared.writing.ParityFault.TheVariants as parity_fault;
 ghost use Rattle.fec_commands.specs.declared.fault.FecFault.TheVariants as fec_fault;
 ghost use Rattle.verity_commands.specs.Growing.{GrowsFile};
+ghost use Rattle.fec_commands.specs.Finding.{CanMake, FailsToMake};
 ghost use Rattle.fec_commands.specs.Growing.{FailsToProtect, IsFileUnmade, Protects};
 ghost use Rattle.fec_commands.specs.Images.{Does};
 ghost use Rattle.fec_commands.specs.Layings.{IsRoots};
@@ -28,6 +29,20 @@ fn make_room<'a, I: Images>(
     match images.grow(path, sectors) {
         Ok(()) => Ok(()),
         Err(fault) => Err(UnopenedFile { fault, path }),
+    }
+}
+
+/// Checks that a file can be made under a path. If none can be created there, it is made at once, for the fault of that.
+pub(crate) fn check_path<'a, I: Images>(
+    images: &mut I,
+    path: &'a str,
+) -> Result<(), UnopenedFile<'a>>
+    ensures ok { OnOk result (CanMake (calls I.relations I.Dev.state images.old images.new) path.now) }
+    ensures err { IfErr result (FailsToMake (calls I.relations I.Dev.state images.old images.new) path.now) }
+{
+    match images.try_replace(path) {
+        Ok(()) => Ok(()),
+        Err(_) => make_room(images, path, 0),
     }
 }
 

@@ -21,7 +21,7 @@ drop-cleared old new (inr zeroed) steady =
     ∙ zeroed.written.after (subst IsTrue (sym zeroed.read.same.steady) steady)
     ∙ ap (drop 1) (zeroed.read.image steady)
 
-drop-more : (n : ℕ) → 0 < n → (a b : List (List ℕ)) → drop 1 a ≡ drop 1 b → drop n a ≡ drop n b
+pub drop-more : (n : ℕ) → 0 < n → (a b : List (List ℕ)) → drop 1 a ≡ drop 1 b → drop n a ≡ drop n b
 drop-more n some a b same =
     let count : n ≡ 1 + (n - 1) = omega arith in
     ap (λ k. drop k a) count ∙ sym (drop-drop (n - 1) 1 a) ∙ ap (drop (n - 1)) same ∙ drop-drop (n - 1) 1 b ∙ ap (λ k. drop k b) (sym count)

@@ -1,7 +1,8 @@
 -- Windows of devices that are the same.
-use Rattle.std.proofs.Common.{◌≡◌, ap, subst, ◌∙◌}
+use Rattle.std.proofs.Common.{◌≡◌, ◌+◌, ◌^◌, ◌<◌, ◌≤◌, ℕ, ap, arith, subst, ◌∙◌}
 use Rattle.block_device.specs.Device.{Device}
 use Rattle.device_window.specs.declared.part.Part.{Part}
+use Rattle.device_window.specs.Parts.{part_behind}
 use Rattle.device_window.specs.Windows.{windowed}
 use Rattle.verity_format.specs.declared.formatting.FormatFault.{FormatFault}
 use Rattle.verity_format.specs.declared.formatting.FormatOptions.{FormatOptions}
@@ -19,3 +20,7 @@ made-as o a a' b b' d e e' image x y z made =
 pub end-as : (o : FormatOptions) (a a' b b' d e e' : Device) (fault : FormatFault) → a ≡ a' → b ≡ b' → e ≡ e' → IsFormatEnd o a b d e (Format fault) → IsFormatEnd o a' b' d e' (Format fault)
 end-as o a a' b b' d e e' fault x y z ends =
     subst (λ (v : Device). IsFormatEnd o v b' d e' (Format fault)) x (subst (λ (v : Device). IsFormatEnd o a v d e' (Format fault)) y (subst (λ (v : Device). IsFormatEnd o a b d v (Format fault)) z ends))
+
+-- a device that has a sector from that one on doesn't end before it
+pub first-small : (device : Device) (first : ℕ) (part : Part) → part ≡ part_behind device first → part.first + part.count ≤ 2 ^ 54 → 0 < part.count → first ≤ 2 ^ 54
+first-small device first part is small some = omega (arith, ap (λ (p : Part). p.first) is, ap (λ (p : Part). p.count) is, small, some)

@@ -1,18 +1,20 @@
 -- A tree made in a part of a device.
-use Rattle.std.proofs.Common.{◌≡◌, ◌≤◌, ◌+◌, ℕ, IsTrue, List, ◌++◌, length, take, drop, Result, ap, subst, sym, ◌∙◌, arith, inl, inr}
+use Rattle.std.proofs.Common.{◌≡◌, ◌≤◌, ◌+◌, ◌/◌, ℕ, IsTrue, List, ◌++◌, length, take, drop, Result, ap, subst, sym, ◌∙◌, arith, inl, inr}
 use Rattle.std.specs.Prelude.{IfErr, IfOk}
+use Rattle.std.proofs.Math.Nat.{zero-mul}
 use Rattle.std.proofs.lemmas.List.{append_assoc, drop-append-le, drop-drop, length-drop, length-take-le, take-append-drop}
 use Rattle.block_device.specs.Device.{Device, IsUnsynced, IsWhole, run_of, spliced}
 use Rattle.block_device.specs.Whole.{length-sectors_of}
-use Rattle.bare_tree.specs.BareTrees.{IsBareCause, IsBareMade, IsBareWritten, area_sectors, tree_over}
-use Rattle.bare_tree.proofs.lemmas.FitLemmas.{fits-from_none}
-use Rattle.device_window.specs.Parts.{Outside, StandOutside, outside_of}
+use Rattle.device_window.specs.Parts.{Outside, StandOutside, outside_of, part_behind}
 use Rattle.device_window.specs.Windows.{windowed}
 use Rattle.verity_format.specs.declared.formatting.FormatFault.{FormatFault}
+use Rattle.verity_format.specs.Image.{area_sectors, tree_over}
 use Rattle.verity_format.specs.Superblock.{SuperRecord}
+use Rattle.verity_format.specs.Trees.{shape_alone}
+use Rattle.verity_format.proofs.lemmas.RoomLemmas.{area-within, fits-from_none}
 use Rattle.image_commands.specs.declared.format.MadeImage.{MadeImage}
+use Rattle.image_commands.specs.ClearedTrees.{IsClearedEnd, IsKeptBehind, IsMadeCleared, sectors_alone}
 use Rattle.image_commands.specs.TreeFormats.{IsFinished, IsPlacedTreeCause, IsTreeKept, IsTreeMade, IsUnfinished}
-use Rattle.image_commands.specs.TreePlaces.{tree_part}
 
 -- an image is what lies before a part, the part and what lies behind it
 parts : (image : List (List ℕ)) (f c : ℕ) → image ≡ take f image ++ (run_of image f c ++ drop (f + c) image)
@@ -37,28 +39,31 @@ joined old new sectors f c inside few part front back =
     ∙ sym (append_assoc (take f old) sectors (drop (f + m) old))
 
 module _ (s : SuperRecord) (data_dev data_dev' hash_dev hash_dev' : Device) (first : ℕ) (is_whole : IsWhole hash_dev) (image image' : Device) (root : Result (List ℕ) FormatFault)
-    (written : IsBareWritten s (windowed hash_dev (tree_part hash_dev first)) image) (back : image' ≡ windowed hash_dev' (tree_part hash_dev first))
-    (outside : StandOutside hash_dev' (tree_part hash_dev first) (outside_of hash_dev.image (tree_part hash_dev first))) where
+    (written : IsKeptBehind s (windowed hash_dev (part_behind hash_dev first)) image) (back : image' ≡ windowed hash_dev' (part_behind hash_dev first))
+    (outside : StandOutside hash_dev' (part_behind hash_dev first) (outside_of hash_dev.image (part_behind hash_dev first))) where
   -- a tree that was made and put on the medium
-  pub made-placed : (made : MadeImage) → IsBareMade s data_dev (windowed hash_dev (tree_part hash_dev first)) data_dev' image made.root → IsFinished s root image image' made → IsTreeMade s data_dev hash_dev first hash_dev' made
-  made-placed made bare done =
-      let p = tree_part hash_dev first in
-      let sectors : List (List ℕ) = tree_over s data_dev.image in
+  pub made-placed : (made : MadeImage) → IsMadeCleared s data_dev (windowed hash_dev (part_behind hash_dev first)) data_dev' image made.root → IsFinished s root image image' made → IsTreeMade s data_dev hash_dev first hash_dev' made
+  made-placed made built done =
+      let p = part_behind hash_dev first in
+      let sectors : List (List ℕ) = tree_over (shape_alone s) s.salt data_dev.image in
       let steady_is : hash_dev'.steady ≡ hash_dev.steady = sym (ap (λ (d : Device). d.steady) back) ∙ ap (λ (d : Device). d.steady) done.is_synced ∙ written.same.steady in
-      let fit = fits-from_none s data_dev (windowed hash_dev (tree_part hash_dev first)) bare.fit in
-      let count : length sectors ≡ area_sectors s = length-sectors_of (area_sectors s) _ in
-      let few : length sectors ≤ p.count = omega (arith, count, fit.1) in
+      let fit = fits-from_none (shape_alone s) (sectors_alone s) data_dev (windowed hash_dev (part_behind hash_dev first)) built.fit in
+      let count : length sectors ≡ area_sectors (shape_alone s) = length-sectors_of (area_sectors (shape_alone s)) _ in
+      let few : length sectors ≤ p.count = omega (arith, count, fit.1, area-within (shape_alone s)) in
       let inside : p.first + p.count ≤ length hash_dev.image = omega (arith, is_whole.length) in
       record {
         data_dev' = data_dev';
-        fit = bare.fit;
-        read = bare.read;
+        written = image;
+        tree = built;
+        kept = sym back ∙ done.is_synced;
+        fit = built.fit;
+        read = built.making.written.read;
         image = λ a b.
             let kept : outside_of hash_dev'.image p ≡ outside_of hash_dev.image p = outside.stands (subst IsTrue (sym steady_is) b) in
-            let run : run_of hash_dev'.image p.first p.count ≡ spliced (run_of hash_dev.image p.first p.count) 0 sectors = ap (λ (d : Device). d.image) (sym back ∙ done.is_synced) ∙ bare.image a b in
+            let run : run_of hash_dev'.image p.first p.count ≡ spliced (run_of hash_dev.image p.first p.count) 0 sectors = ap (λ (d : Device). d.image) (sym back ∙ done.is_synced) ∙ built.image a b ∙ ap (λ (n : ℕ). spliced (run_of hash_dev.image p.first p.count) n sectors) (zero-mul (s.hash_block / 512)) in
             joined hash_dev.image hash_dev'.image sectors p.first p.count inside few run (ap (λ (o : Outside). o.before) kept) (ap (λ (o : Outside). o.behind) kept);
         clean = ap (λ (d : Device). d.dirty) (sym back ∙ done.is_synced);
-        root = bare.digest;
+        root = built.making.written.root;
         salt = done.salt;
         blocks = done.blocks;
       }
@@ -67,21 +72,21 @@ module _ (s : SuperRecord) (data_dev data_dev' hash_dev hash_dev' : Device) (fir
   pub kept-placed : image'.image ≡ image.image → IsTreeKept s hash_dev first hash_dev'
   kept-placed same = record {
     outside = outside;
-    behind = λ steady. ap (λ (d : Device). drop (area_sectors s) d.image) (sym back) ∙ ap (drop (area_sectors s)) same ∙ written.behind steady;
+    behind = λ steady. ap (λ (d : Device). drop (sectors_alone s) d.image) (sym back) ∙ ap (drop (sectors_alone s)) same ∙ written.after steady;
   }
 
   -- a tree that wasn't made, or not put on the medium
-  pub end-placed : (fault : FormatFault) → IfOk root (IsBareMade s data_dev (windowed hash_dev (tree_part hash_dev first)) data_dev' image) → IfErr root (IsBareCause s data_dev (windowed hash_dev (tree_part hash_dev first)) data_dev' image)
+  pub end-placed : (fault : FormatFault) → IfOk root (IsMadeCleared s data_dev (windowed hash_dev (part_behind hash_dev first)) data_dev' image) → IfErr root (IsClearedEnd s data_dev (windowed hash_dev (part_behind hash_dev first)) data_dev' image)
       → IsUnfinished root image image' fault → IsPlacedTreeCause s data_dev hash_dev first hash_dev' fault × IsTreeKept s hash_dev first hash_dev'
   end-placed fault ok err (inl (is, same)) =
-      let cause : IsBareCause s data_dev (windowed hash_dev (tree_part hash_dev first)) data_dev' image fault =
-      subst (λ (r : Result (List ℕ) FormatFault). IfErr r (IsBareCause s data_dev (windowed hash_dev (tree_part hash_dev first)) data_dev' image)) is err in (
-        (data_dev', inl (subst (λ (d : Device). IsBareCause s data_dev (windowed hash_dev (tree_part hash_dev first)) data_dev' d fault) (sym same ∙ back) cause)),
+      let cause : IsClearedEnd s data_dev (windowed hash_dev (part_behind hash_dev first)) data_dev' image fault =
+      subst (λ (r : Result (List ℕ) FormatFault). IfErr r (IsClearedEnd s data_dev (windowed hash_dev (part_behind hash_dev first)) data_dev' image)) is err in (
+        (data_dev', inl (subst (λ (d : Device). IsClearedEnd s data_dev (windowed hash_dev (part_behind hash_dev first)) data_dev' d fault) (sym same ∙ back) cause)),
         kept-placed (ap (λ (d : Device). d.image) same),
       )
   end-placed fault ok err (inr dirty) =
-      let made : IsBareMade s data_dev (windowed hash_dev (tree_part hash_dev first)) data_dev' image dirty.made =
-      subst (λ (r : Result (List ℕ) FormatFault). IfOk r (IsBareMade s data_dev (windowed hash_dev (tree_part hash_dev first)) data_dev' image)) dirty.root_is ok in (
+      let made : IsMadeCleared s data_dev (windowed hash_dev (part_behind hash_dev first)) data_dev' image dirty.made =
+      subst (λ (r : Result (List ℕ) FormatFault). IfOk r (IsMadeCleared s data_dev (windowed hash_dev (part_behind hash_dev first)) data_dev' image)) dirty.root_is ok in (
         (data_dev', inr (record { root = dirty.made; written = image; made = made; unsynced = subst (IsUnsynced image) back dirty.unsynced; is = dirty.is })),
         kept-placed (ap (λ (d : Device). d.image) dirty.unsynced.moved),
       )

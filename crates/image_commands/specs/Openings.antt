@@ -1,10 +1,8 @@
 -- The images of a command: which paths are opened, in which order and with which rights.
-use Rattle.std.specs.Prelude.{◌≡◌, ◌⊎◌, ℕ, List, Bool, true, false, Ok}
+use Rattle.std.specs.Prelude.{◌⊎◌, ℕ, List, Bool, false, Ok}
 use Rattle.block_device.specs.Device.{Device}
-use Rattle.block_device.specs.declared.open_fault.OpenFault.TheVariants.{SameFile}
 use Rattle.image_files.specs.declared.images.OpenImage.{OpenImage}
 use Rattle.image_files.specs.declared.opening.UnopenedFile.{UnopenedFile}
-use Rattle.image_files.specs.OneFile.{is_one_file}
 use Rattle.image_files.specs.Opened.{Refuses}
 use Rattle.image_files.specs.Opener.{Calls, Opener, calls}
 use Rattle.image_commands.specs.declared.paths.ImagePaths.{ImagePaths}
@@ -35,21 +33,6 @@ pub record RefusesHash {S D : Type 0} (w : Calls S D) (paths : TwoPaths) (writab
 abbrev pub FailsToOpenTwo : {S D : Type 0} → Calls S D → TwoPaths → Bool → UnopenedFile → Type 0
 FailsToOpenTwo w paths writable file = Refuses w paths.data_path false file ⊎ RefusesHash w paths writable file
 
--- for a format both were opened, the hash image for writing, and they are two files, as far as the opener tells
-pub record OpensTwoApart {S D : Type 0} (w : Calls S D) (paths : TwoPaths) (two : TwoImages D) : Type 0 where
-  pub opened : OpensTwo w paths true two
-  pub apart : is_one_file two.data.id two.hash.id ≡ false
-
--- both were opened, but are one file
-pub record AreOneFile {S D : Type 0} (w : Calls S D) (paths : TwoPaths) (file : UnopenedFile) : Type 0 where
-  pub two : TwoImages D
-  pub opened : OpensTwo w paths true two
-  pub one : is_one_file two.data.id two.hash.id ≡ true
-  pub is : (file.fault ≡ SameFile) × (file.path.now ≡ paths.hash_path)
-
-abbrev pub FailsToOpenApart : {S D : Type 0} → Calls S D → TwoPaths → UnopenedFile → Type 0
-FailsToOpenApart w paths file = FailsToOpenTwo w paths true file ⊎ AreOneFile w paths file
-
 -- ---- as a call sees them: an opener's relations, what a proof sees of its devices, and the opener before and after
 
 abbrev pub OpensImages : {S D : Type 0} → Opener S D → (D → Device) → S → S → ImagePaths → Bool → TwoImages D → Type 0
@@ -57,9 +40,3 @@ OpensImages relations state images images' paths writable = OpensTwo (calls rela
 
 abbrev pub FailsToOpenImages : {S D : Type 0} → Opener S D → (D → Device) → S → S → ImagePaths → Bool → UnopenedFile → Type 0
 FailsToOpenImages relations state images images' paths writable = FailsToOpenTwo (calls relations state images images') (two_paths paths) writable
-
-abbrev pub OpensTwoFiles : {S D : Type 0} → Opener S D → (D → Device) → S → S → ImagePaths → TwoImages D → Type 0
-OpensTwoFiles relations state images images' paths = OpensTwoApart (calls relations state images images') (two_paths paths)
-
-abbrev pub FailsToOpenTwoFiles : {S D : Type 0} → Opener S D → (D → Device) → S → S → ImagePaths → UnopenedFile → Type 0
-FailsToOpenTwoFiles relations state images images' paths = FailsToOpenApart (calls relations state images images') (two_paths paths)

@@ -10,6 +10,7 @@ use Rattle.image_files.specs.declared.images.FileText.{FileText}
 use Rattle.image_files.specs.declared.opening.UnopenedFile.{UnopenedFile}
 use Rattle.image_files.specs.OneFile.{is_one_file}
 use Rattle.image_files.specs.Opener.{Calls}
+use Rattle.text_files.specs.declared.texts.ReplaceFault.{ReplaceFault}
 use Rattle.image_pin.specs.declared.fault.PinFault.{PinFault}
 use Rattle.image_pin.specs.declared.pin.Pin.{Pin}
 use Rattle.image_pin.specs.PinTexts.{limited_pin, pin_text}
@@ -43,16 +44,6 @@ IsPinFileEnd w path fault = ⊥
 abbrev pub pin_of_image : ImageOptions → MadeImage → Pin
 pin_of_image options made = record { root = made.root; salt = made.salt; data_block = options.data_block; hash_block = options.hash_block; blocks = made.blocks }
 
--- its text was put in the place of what the file held
-abbrev pub WritesPin : {S D : Type 0} → Calls S D → List ℕ → Pin → Type 0
-WritesPin w path pin = w.relations.replaces w.old path (pin_text pin) (Ok tt) w.new
-
--- or it wasn't, or memory for the text was refused and nothing was called
-abbrev pub IsPinUnwritten : {S D : Type 0} → Calls S D → List ℕ → Pin → ImageFault → Type 0
-IsPinUnwritten w path pin (image.PinUnwritten fault) = w.relations.replaces w.old path (pin_text pin) (Err fault) w.new
-IsPinUnwritten w path pin image.NoMemory = w.new ≡ w.old
-IsPinUnwritten w path pin fault = ⊥
-
 -- which file stands under a path, where one does and that is known
 abbrev pub TellsId : {S D : Type 0} → Calls S D → List ℕ → Option FileId → Type 0
 TellsId w path id =
@@ -77,3 +68,43 @@ AreApart w data_path hash_path path = ToldApart w data_path hash_path path false
 abbrev pub AreOne : {S D : Type 0} → Calls S D → List ℕ → List ℕ → List ℕ → ImageFault → Type 0
 AreOne w data_path hash_path path (image.Open file) = ToldApart w data_path hash_path path true × (file.fault ≡ SameFile) × (file.path.now ≡ path)
 AreOne w data_path hash_path path fault = ⊥
+
+-- it is neither of them, and a file can be created beside it
+pub record IsPinPath {S D : Type 0} (w : Calls S D) (data_path hash_path path : List ℕ) : Type 0 where
+  pub told : S
+  pub apart : AreApart (record w { new = told }) data_path hash_path path
+  pub tried : w.relations.tries told path (Ok tt) w.new
+
+-- it is neither of them, but no file can be created beside it
+pub record HasNoPinFile {S D : Type 0} (w : Calls S D) (data_path hash_path path : List ℕ) (fault : ImageFault) : Type 0 where
+  pub told : S
+  pub cause : ReplaceFault
+  pub apart : AreApart (record w { new = told }) data_path hash_path path
+  pub tried : w.relations.tries told path (Err cause) w.new
+  pub is : fault ≡ image.PinUnwritten cause
+
+-- one of these; no file was changed
+abbrev pub IsNoPinPath : {S D : Type 0} → Calls S D → List ℕ → List ℕ → List ℕ → ImageFault → Type 0
+IsNoPinPath w data_path hash_path path fault = AreOne w data_path hash_path path fault ⊎ HasNoPinFile w data_path hash_path path fault
+
+-- the file is neither of two images, and then the text of the pin replaced what it held
+pub record WritesPin {S D : Type 0} (w : Calls S D) (data_path hash_path path : List ℕ) (pin : Pin) : Type 0 where
+  pub told : S
+  pub apart : AreApart (record w { new = told }) data_path hash_path path
+  pub replaced : w.relations.replaces told path (pin_text pin) (Ok tt) w.new
+
+-- it didn't, or memory for the text was refused and nothing was called
+abbrev pub IsUnreplaced : {S D : Type 0} → Calls S D → List ℕ → Pin → ImageFault → Type 0
+IsUnreplaced w path pin (image.PinUnwritten fault) = w.relations.replaces w.old path (pin_text pin) (Err fault) w.new
+IsUnreplaced w path pin image.NoMemory = w.new ≡ w.old
+IsUnreplaced w path pin fault = ⊥
+
+-- it is neither of them, but wasn't replaced
+pub record FailsToReplace {S D : Type 0} (w : Calls S D) (data_path hash_path path : List ℕ) (pin : Pin) (fault : ImageFault) : Type 0 where
+  pub told : S
+  pub apart : AreApart (record w { new = told }) data_path hash_path path
+  pub unreplaced : IsUnreplaced (record w { old = told }) path pin fault
+
+-- it is one of them, or wasn't replaced
+abbrev pub IsPinUnwritten : {S D : Type 0} → Calls S D → List ℕ → List ℕ → List ℕ → Pin → ImageFault → Type 0
+IsPinUnwritten w data_path hash_path path pin fault = AreOne w data_path hash_path path fault ⊎ FailsToReplace w data_path hash_path path pin fault

@@ -123,7 +123,8 @@ abbrev pub IsPinnedMatchesEnd : {S D : Type 0} → Calls S D → TwoPlaces → P
 IsPinnedMatchesEnd w places pin failed fault =
     EndsUnpinnable w places pin fault ⊎ (IsUnopened (FailsToOpenTwo w places.paths false) fault ⊎ EndsPinned w places pin failed fault)
 
--- ---- as a call sees them, in the order of `ImageCommands`
+-- ---- as a call sees them: an opener's relations and what a proof sees of its devices, what gives generators and what a proof sees of one,
+-- and what a proof sees of a writer, each with its value before and after
 
 abbrev pub VerifiesPinned : {S D W : Type 0} → Opener S D → (D → Device) → S → S → (W → Option (List ℕ)) → CountedRecord W → CountedRecord W → WatchedPlaces → Pin → Type 0
 VerifiesPinned relations state images images' contents writer writer' watched pin =

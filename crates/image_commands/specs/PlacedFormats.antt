@@ -109,7 +109,8 @@ IsMakingPlacedEnd w d options places fault =
     EndsUnaligned w d options places fault ⊎ (EndsUnopenedPlaced w d places fault ⊎ (EndsUndrawnPlaced w d options places fault ⊎ (EndsPlaced w d options places fault
     ⊎ EndsOverlapping w d options places fault)))
 
--- ---- as a call sees them, in the order of `ImageCommands`
+-- ---- as a call sees them: an opener's relations and what a proof sees of its devices, what gives generators and what a proof sees of one,
+-- and what a proof sees of a writer, each with its value before and after
 
 abbrev pub MakesImagesAt : {S D T G : Type 0} → Opener S D → (D → Device) → S → S → Gives T G → (G → Stream) → T → T → ImageOptions → WatchedPlaces → MadeImage → Type 0
 MakesImagesAt relations state images images' gives stream generators generators' options watched =

@@ -1,4 +1,4 @@
--- What the other commands on a hash image behind a sector of a file print, and how they end early.
+-- What the commands on a hash image print, and how they end early. It begins at a sector of its file.
 use Rattle.std.specs.Borrow.{Bor}
 use Rattle.std.specs.Prelude.{◌≡◌, ◌⊎◌, ℕ, Bool, true, false, List, codes, Option}
 use Rattle.std.specs.Io.KnownBytes.{Appends}
@@ -20,9 +20,9 @@ use Rattle.image_commands.specs.declared.table.LineWords.{LineWords}
 use Rattle.image_commands.specs.declared.watching.WatchedPlaces.{WatchedPlaces}
 use Rattle.image_commands.specs.Endings.{IsComparisonEnd, IsUnopened, IsVerifyEnd}
 use Rattle.image_commands.specs.Openings.{FailsToOpenTwo, OpensTwo}
-use Rattle.image_commands.specs.PlacedLines.{text_at}
 use Rattle.image_commands.specs.Places.{TwoPlaces, before, behind, data_end, is_aligned, two_places}
 use Rattle.image_commands.specs.SuperblockJson.{dump_text}
+use Rattle.image_commands.specs.TableLines.{placed_line}
 
 -- the superblock behind that sector was read, and a text of it written; where it must be, its tree may stand there
 pub record SaysPlaced (device : Device) (first : ℕ) (may : SuperRecord → Bool) (text : SuperRecord → List ℕ) (old new : Option (List ℕ)) : Type 0 where
@@ -91,7 +91,8 @@ pub record EndsPlacedMatches {S D : Type 0} (w : Calls S D) (places : TwoPlaces)
 abbrev pub IsPlacedMatchesEnd : {S D : Type 0} → Calls S D → TwoPlaces → List ℕ → Bool → ImageFault → Type 0
 IsPlacedMatchesEnd w places root failed fault = IsUnopened (FailsToOpenTwo w places.paths false) fault ⊎ EndsPlacedMatches w places root failed fault
 
--- ---- as a call sees them, in the order of `ImageCommands`
+-- ---- as a call sees them: an opener's relations and what a proof sees of its devices, what gives generators and what a proof sees of one,
+-- and what a proof sees of a writer, each with its value before and after
 
 abbrev pub DumpsImageAt : {S D W : Type 0} → Opener S D → (D → Device) → S → S → (W → Option (List ℕ)) → CountedRecord W → CountedRecord W → HashPlace → Bool → Type 0
 DumpsImageAt relations state images images' contents writer writer' place json =
@@ -99,7 +100,7 @@ DumpsImageAt relations state images images' contents writer writer' place json =
 
 abbrev pub PrintsLineAt : {S D W : Type 0} → Opener S D → (D → Device) → S → S → (W → Option (List ℕ)) → CountedRecord W → CountedRecord W → HashPlace → Option (Bor (List ℕ)) → LineWords → Type 0
 PrintsLineAt relations state images images' contents writer writer' place name words =
-    PrintsPlacedSuper (calls relations state images images') place.path.now place.first (λ s. is_aligned place.first s.hash_block) (λ s. text_at name s words place.first) (contents writer.inner) (contents writer'.inner)
+    PrintsPlacedSuper (calls relations state images images') place.path.now place.first (λ s. is_aligned place.first s.hash_block) (λ s. placed_line name s words place.first) (contents writer.inner) (contents writer'.inner)
 
 abbrev pub FailsToPrintAt : {S D W : Type 0} → Opener S D → (D → Device) → S → S → CountedRecord W → HashPlace → ImageFault → Type 0
 FailsToPrintAt relations state images images' writer' place = IsPlacedImageEnd (calls relations state images images') place.path.now place.first writer'.failed
@@ -111,7 +112,7 @@ SaysFieldsAt state hash_dev contents writer writer' first json =
 
 abbrev pub SaysLineAt : {H W : Type 0} → (H → Device) → H × ℕ → (W → Option (List ℕ)) → CountedRecord W → CountedRecord W → Option (Bor (List ℕ)) → LineWords → Type 0
 SaysLineAt state placed contents writer writer' name words =
-    SaysPlaced (state placed.0) placed.1 (λ s. is_aligned placed.1 s.hash_block) (λ s. text_at name s words placed.1) (contents writer.inner) (contents writer'.inner)
+    SaysPlaced (state placed.0) placed.1 (λ s. is_aligned placed.1 s.hash_block) (λ s. placed_line name s words placed.1) (contents writer.inner) (contents writer'.inner)
 
 -- two images, or two devices that are open, are compared
 abbrev pub VerifiesImagesAt : {S D W : Type 0} → Opener S D → (D → Device) → S → S → (W → Option (List ℕ)) → CountedRecord W → CountedRecord W → WatchedPlaces → List ℕ → Type 0

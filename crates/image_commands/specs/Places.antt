@@ -23,9 +23,9 @@ two_places places = record { paths = record { data_path = places.data.now; hash_
 abbrev pub is_aligned : ℕ → ℕ → Bool
 is_aligned first size = if nat_lt size 512 then true else first % (size / 512) == 0
 
--- the hash block of the file at which a tree begins whose superblock stands at that sector
-abbrev pub start_behind : ℕ → ℕ → ℕ
-start_behind first size = if nat_lt size 512 then 1 else first / (size / 512) + 1
+-- the hash block of the file at which a tree begins, so many blocks after that sector: 1 if its superblock is stored there, else 0
+abbrev pub tree_start : ℕ → ℕ → ℕ → ℕ
+tree_start first size ahead = if nat_lt size 512 then ahead else first / (size / 512) + ahead
 
 -- the hash image, and what lies before a sector, as devices of their own
 abbrev pub behind : Device → ℕ → Device

@@ -1,12 +1,9 @@
--- The printed fields of a superblock, and what is found of one on a device.
-use Rattle.std.specs.Prelude.{ℕ, List, ◌++◌, codes, decimal, Option}
-use Rattle.std.specs.Io.KnownBytes.{Appends}
+-- The printed fields of a superblock.
+use Rattle.std.specs.Prelude.{ℕ, List, ◌++◌, codes, decimal}
 use Rattle.hex.specs.Hex.{encode_lower}
 use Rattle.uuid.specs.Text.{hyphenated_text, lower}
-use Rattle.block_device.specs.Device.{Device}
-use Rattle.verity_format.specs.Line.{salt_word, table_text}
+use Rattle.verity_format.specs.Line.{salt_word}
 use Rattle.verity_format.specs.Superblock.{SuperRecord}
-use Rattle.verity_format.specs.Verifying.{IsReadFrom}
 
 unfoldable pub root_text : List ℕ → List ℕ
 root_text root = codes "root " ++ (encode_lower root ++ codes "\n")
@@ -40,11 +37,3 @@ algorithm_text = codes "hash_type 1\nalgorithm sha256\n"
 -- the fields, a line each
 unfoldable pub superblock_text : SuperRecord → List ℕ
 superblock_text s = uuid_text s.uuid ++ (algorithm_text ++ (sizes_text s ++ salt_text s.salt))
-
--- the table line of an image and a newline
-abbrev pub table_line_text : SuperRecord → List ℕ → List ℕ → List ℕ → List ℕ
-table_line_text s data_name hash_name root = table_text s data_name hash_name root ++ codes "\n"
-
--- the text of the superblock that is read from a device was written
-abbrev pub SaysSuperblock : Device → (SuperRecord → List ℕ) → Option (List ℕ) → Option (List ℕ) → Type 0
-SaysSuperblock device text old new = (s : SuperRecord) × (((sector : List ℕ) × IsReadFrom device sector s) × Appends old new (text s))

@@ -4,16 +4,16 @@ use Rattle.std.specs.Io.KnownBytes.{Appends}
 use Rattle.rand_core.specs.Stream.{Stream}
 use Rattle.counted_io.specs.Counted.{CountedRecord}
 use Rattle.block_device.specs.Device.{Device, IsUnsynced, spliced, synced}
-use Rattle.bare_tree.specs.BareTrees.{IsBareCause, IsBareMade, area_sectors, bare_refusal, tree_over}
-use Rattle.device_window.specs.Parts.{StandOutside, outside_of}
+use Rattle.device_window.specs.Parts.{StandOutside, outside_of, part_behind}
 use Rattle.device_window.specs.Windows.{windowed}
 use Rattle.verity_format.specs.declared.formatting.FormatFault.{FormatFault}
 use Rattle.verity_format.specs.declared.formatting.FormatFault.TheVariants.{Device as DeviceFailed}
 use Rattle.verity_format.specs.declared.formatting.FormatOptions.{FormatOptions}
 use Rattle.verity_format.specs.Blocks.{IsFullRead}
-use Rattle.verity_format.specs.Image.{data_sectors, root_over}
+use Rattle.verity_format.specs.Image.{data_sectors, root_over, tree_over}
 use Rattle.verity_format.specs.Options.{superblock_with}
 use Rattle.verity_format.specs.Superblock.{SuperRecord, shape_of}
+use Rattle.verity_format.specs.Trees.{shape_alone, tree_refusal}
 use Rattle.command_line.specs.declared.image_options.ImageOptions.{ImageOptions}
 use Rattle.image_files.specs.Opener.{Calls, Opener, calls}
 use Rattle.image_commands.specs.declared.fault.ImageFault.{ImageFault}
@@ -22,24 +22,29 @@ use Rattle.image_commands.specs.declared.format.MadeImage.{MadeImage}
 use Rattle.image_commands.specs.declared.paths.TwoImages.{TwoImages}
 use Rattle.image_commands.specs.declared.places.Bounds.{Bounds}
 use Rattle.image_commands.specs.declared.watching.WatchedPlaces.{WatchedPlaces}
+use Rattle.image_commands.specs.ClearedTrees.{IsClearedEnd, IsMadeCleared, sectors_alone}
 use Rattle.image_commands.specs.Drawing.{AreGiven, Drawing, Gives, drawing}
 use Rattle.image_commands.specs.Endings.{IsLineUnwritten}
 use Rattle.image_commands.specs.PlacedFormats.{EndsOverlapping, EndsUnaligned, EndsUndrawnPlaced, EndsUnopenedPlaced}
-use Rattle.image_commands.specs.Places.{OpensPlaced, TwoPlaces, before, data_end, is_aligned, overlaps, two_places}
+use Rattle.image_commands.specs.Places.{OpensPlaced, TwoPlaces, before, behind, data_end, is_aligned, overlaps, two_places}
 use Rattle.image_commands.specs.SuperblockTexts.{blocks_text, root_text, salt_text}
-use Rattle.image_commands.specs.TreePlaces.{HasNoShape, tree_part, tree_place, unnamed}
+use Rattle.image_commands.specs.TreePlaces.{HasNoShape, unnamed}
 
 -- a tree's root digest, salt and number of data blocks
 unfoldable pub tree_text : MadeImage → List ℕ
 tree_text made = root_text made.root ++ (salt_text made.salt ++ blocks_text made.blocks)
 
--- No refusal applied and no call failed. Over steady devices the tree over the data stands in the hash image from that
--- sector on, every other sector is as it was, and that is its root. What was written was put on the medium.
+-- No refusal applied and no call failed. An old superblock at the tree's first sector was cleared; then the tree was made there
+-- and synced. Over steady devices the tree over the data is in the hash image from that sector on, every other sector is as it
+-- was, and that is its root hash.
 pub record IsTreeMade (s : SuperRecord) (data_dev hash_dev : Device) (first : ℕ) (hash_dev' : Device) (made : MadeImage) : Type 0 where
   pub data_dev' : Device
-  pub fit : bare_refusal s data_dev (tree_place hash_dev first) ≡ None
+  pub written : Device
+  pub tree : IsMadeCleared s data_dev (behind hash_dev first) data_dev' written made.root
+  pub kept : windowed hash_dev' (part_behind hash_dev first) ≡ synced written
+  pub fit : tree_refusal (shape_alone s) data_dev (behind hash_dev first) ≡ None
   pub read : IsFullRead data_dev (data_sectors (shape_of s)) data_dev'
-  pub image : IsTrue data_dev.steady → IsTrue hash_dev.steady → hash_dev'.image ≡ spliced hash_dev.image (min first hash_dev.size) (tree_over s data_dev.image)
+  pub image : IsTrue data_dev.steady → IsTrue hash_dev.steady → hash_dev'.image ≡ spliced hash_dev.image (min first hash_dev.size) (tree_over (shape_alone s) s.salt data_dev.image)
   pub clean : hash_dev'.dirty ≡ false
   pub root : IsTrue data_dev.steady → made.root ≡ root_over (shape_of s) s.salt data_dev.image
   pub salt : made.salt ≡ s.salt
@@ -47,8 +52,8 @@ pub record IsTreeMade (s : SuperRecord) (data_dev hash_dev : Device) (first : �
 
 -- whatever came of it, over a steady device only the sectors of the tree changed
 pub record IsTreeKept (s : SuperRecord) (hash_dev : Device) (first : ℕ) (hash_dev' : Device) : Type 0 where
-  pub outside : StandOutside hash_dev' (tree_part hash_dev first) (outside_of hash_dev.image (tree_part hash_dev first))
-  pub behind : IsTrue hash_dev.steady → drop (area_sectors s) (windowed hash_dev' (tree_part hash_dev first)).image ≡ drop (area_sectors s) (tree_place hash_dev first).image
+  pub outside : StandOutside hash_dev' (part_behind hash_dev first) (outside_of hash_dev.image (part_behind hash_dev first))
+  pub behind : IsTrue hash_dev.steady → drop (sectors_alone s) (windowed hash_dev' (part_behind hash_dev first)).image ≡ drop (sectors_alone s) (windowed hash_dev (part_behind hash_dev first)).image
 
 -- a tree that was made was put on the medium, and that is what is printed of it
 pub record IsFinished (s : SuperRecord) (root : Result (List ℕ) FormatFault) (old new : Device) (made : MadeImage) : Type 0 where
@@ -72,15 +77,15 @@ IsUnfinished root old new fault = ((root ≡ Err fault) × (new ≡ old)) ⊎ Is
 pub record IsTreeUnsynced (s : SuperRecord) (data_dev hash_dev data_dev' hash_dev' : Device) (fault : FormatFault) : Type 0 where
   pub root : List ℕ
   pub written : Device
-  pub made : IsBareMade s data_dev hash_dev data_dev' written root
+  pub made : IsMadeCleared s data_dev hash_dev data_dev' written root
   pub unsynced : IsUnsynced written hash_dev'
   pub is : fault ≡ DeviceFailed
 
--- a refusal applied, it wasn't finished, or it wasn't synced
+-- a refusal applied, an old superblock wasn't cleared, the tree wasn't finished, or it wasn't synced
 abbrev pub IsPlacedTreeCause : SuperRecord → Device → Device → ℕ → Device → FormatFault → Type 0
 IsPlacedTreeCause s data_dev hash_dev first hash_dev' fault =
-    (data_dev' : Device) × (IsBareCause s data_dev (tree_place hash_dev first) data_dev' (windowed hash_dev' (tree_part hash_dev first)) fault
-    ⊎ IsTreeUnsynced s data_dev (tree_place hash_dev first) data_dev' (windowed hash_dev' (tree_part hash_dev first)) fault)
+    (data_dev' : Device) × (IsClearedEnd s data_dev (behind hash_dev first) data_dev' (windowed hash_dev' (part_behind hash_dev first)) fault
+    ⊎ IsTreeUnsynced s data_dev (behind hash_dev first) data_dev' (windowed hash_dev' (part_behind hash_dev first)) fault)
 
 -- so it ended, and only the sectors of the tree changed
 abbrev pub IsTreeUnmade : SuperRecord → Device → Device → ℕ → Device → FormatFault → Type 0
@@ -134,7 +139,8 @@ IsFormatTreeEnd w d options places failed fault =
     EndsUnaligned w d options places fault ⊎ (EndsUnopenedPlaced w d places fault ⊎ (EndsUndrawnPlaced w d (unnamed options) places fault ⊎ (EndsTree w d options places fault
     ⊎ (((made : MadeImage) × MakesTree w d options places made × IsLineUnwritten failed fault) ⊎ EndsOverlapping w d options places fault))))
 
--- ---- as a call sees them, in the order of `ImageCommands`
+-- ---- as a call sees them: an opener's relations and what a proof sees of its devices, what gives generators and what a proof sees of one,
+-- and what a proof sees of a writer, each with its value before and after
 
 abbrev pub FormatsTree : {S D T G W : Type 0} → Opener S D → (D → Device) → S → S → Gives T G → (G → Stream) → T → T → (W → Option (List ℕ)) → CountedRecord W → CountedRecord W → ImageOptions → WatchedPlaces → Type 0
 FormatsTree relations state images images' gives stream generators generators' contents writer writer' options watched =

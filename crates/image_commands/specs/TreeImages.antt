@@ -1,15 +1,16 @@
 -- What `verify` and `table` say of a tree without a superblock, and how they end early.
-use Rattle.std.specs.Prelude.{◌≡◌, ◌≢◌, ◌⊎◌, ◌++◌, ℕ, Bool, false, true, List, codes, Option, None}
+use Rattle.std.specs.Prelude.{◌≡◌, ◌≢◌, ◌⊎◌, ℕ, Bool, false, true, List, codes, Option, None}
 use Rattle.std.specs.Borrow.{Bor}
 use Rattle.std.specs.Io.KnownBytes.{Appends}
 use Rattle.counted_io.specs.Counted.{CountedRecord}
 use Rattle.block_device.specs.Device.{Device}
-use Rattle.bare_tree.specs.BareTrees.{IsBareFound, IsBareVerifyCause}
 use Rattle.tree_shape.specs.Shape.{first_fault}
 use Rattle.verity_format.specs.declared.formatting.FormatOptions.{FormatOptions}
 use Rattle.verity_format.specs.declared.verifying.Verdict.TheVariants.{Matches}
 use Rattle.verity_format.specs.Options.{superblock_with}
 use Rattle.verity_format.specs.Superblock.{SuperRecord, shape_of}
+use Rattle.verity_format.specs.Trees.{shape_alone}
+use Rattle.verity_format.specs.Verifying.{IsTreeFound, IsTreeVerifyCause}
 use Rattle.image_files.specs.Opener.{Calls, Opener, calls}
 use Rattle.image_commands.specs.declared.fault.ImageFault.{ImageFault}
 use Rattle.image_commands.specs.declared.fault.ImageFault.TheVariants.{Differs, Format, Unaligned, Verify}
@@ -18,25 +19,27 @@ use Rattle.image_commands.specs.declared.places.Bounds.{Bounds}
 use Rattle.image_commands.specs.declared.table.LineWords.{LineWords}
 use Rattle.image_commands.specs.declared.tree_verify.ExpectedTree.{ExpectedTree}
 use Rattle.image_commands.specs.declared.watching.WatchedPlaces.{WatchedPlaces}
-use Rattle.image_commands.specs.Endings.{IsUnopened, IsLineUnwritten}
+use Rattle.image_commands.specs.Endings.{IsCommonEnd, IsLineUnwritten, IsUnopened}
 use Rattle.image_commands.specs.Openings.{FailsToOpenTwo, OpensTwo}
-use Rattle.image_commands.specs.PlacedLines.{entry_head, tree_line}
-use Rattle.image_commands.specs.Places.{TwoPlaces, before, is_aligned, two_places}
+use Rattle.image_commands.specs.Places.{TwoPlaces, before, behind, is_aligned, two_places}
+use Rattle.image_commands.specs.TableLines.{tree_line}
 use Rattle.image_commands.specs.TreeFormats.{data_of, tree_with}
-use Rattle.image_commands.specs.TreePlaces.{HasNoShape, tree_place}
+use Rattle.image_commands.specs.TreePlaces.{HasNoShape}
 
 -- the tree over the data stands at that sector of the hash device, and that is its root
 pub record MatchesTree (s : SuperRecord) (data_dev hash_dev : Device) (first : ℕ) (root : List ℕ) (old new : Option (List ℕ)) : Type 0 where
   pub data_dev' : Device
-  pub found : IsBareFound s data_dev (tree_place hash_dev first) data_dev' root Matches
+  pub hash_dev' : Device
+  pub found : IsTreeFound (shape_alone s) s.salt data_dev (behind hash_dev first) data_dev' hash_dev' root Matches
   pub printed : Appends old new (codes "matches\n")
 
 -- no tree has that shape, the two weren't compared, they differ, or the line can't be written
 abbrev pub IsTreeComparisonEnd : SuperRecord → Device → Device → ℕ → List ℕ → Bool → ImageFault → Type 0
 IsTreeComparisonEnd s data_dev hash_dev first root failed (Format fault) = HasNoShape s fault
-IsTreeComparisonEnd s data_dev hash_dev first root failed (Verify fault) = (data_dev' : Device) × IsBareVerifyCause s data_dev (tree_place hash_dev first) data_dev' fault
+IsTreeComparisonEnd s data_dev hash_dev first root failed (Verify fault) =
+    (data_dev' : Device) × ((hash_dev' : Device) × IsTreeVerifyCause (shape_alone s) data_dev (behind hash_dev first) data_dev' hash_dev' fault)
 IsTreeComparisonEnd s data_dev hash_dev first root failed (Differs verdict) =
-    (verdict ≢ Matches) × ((data_dev' : Device) × IsBareFound s data_dev (tree_place hash_dev first) data_dev' root verdict)
+    (verdict ≢ Matches) × ((data_dev' : Device) × ((hash_dev' : Device) × IsTreeFound (shape_alone s) s.salt data_dev (behind hash_dev first) data_dev' hash_dev' root verdict))
 IsTreeComparisonEnd s data_dev hash_dev first root failed fault = IsLineUnwritten failed fault
 
 -- `verify --no-superblock`
@@ -65,15 +68,16 @@ IsTreeMatchesEnd w places options root failed fault =
 pub record PrintsTreeLine (first : ℕ) (name : Option (Bor (List ℕ))) (words : LineWords) (options : FormatOptions) (old new : Option (List ℕ)) : Type 0 where
   pub aligned : is_aligned first options.hash_block ≡ true
   pub shape : first_fault (shape_of (superblock_with options 0)) ≡ None
-  pub printed : Appends old new (entry_head name ++ tree_line (superblock_with options 0) words first)
+  pub printed : Appends old new (tree_line name (superblock_with options 0) words first)
 
--- no hash block begins there, no tree has that shape, or the line can't be written
+-- no hash block begins there, no tree has that shape, memory ran out, or the line can't be written
 abbrev pub IsTreeLineEnd : ℕ → FormatOptions → Bool → ImageFault → Type 0
 IsTreeLineEnd first options failed Unaligned = is_aligned first options.hash_block ≡ false
 IsTreeLineEnd first options failed (Format fault) = HasNoShape (superblock_with options 0) fault
-IsTreeLineEnd first options failed fault = IsLineUnwritten failed fault
+IsTreeLineEnd first options failed fault = IsCommonEnd failed fault
 
--- ---- as a call sees them, in the order of `ImageCommands`
+-- ---- as a call sees them: an opener's relations and what a proof sees of its devices, what gives generators and what a proof sees of one,
+-- and what a proof sees of a writer, each with its value before and after
 
 abbrev pub VerifiesTree : {S D W : Type 0} → Opener S D → (D → Device) → S → S → (W → Option (List ℕ)) → CountedRecord W → CountedRecord W → WatchedPlaces → ExpectedTree → Type 0
 VerifiesTree relations state images images' contents writer writer' watched expected =

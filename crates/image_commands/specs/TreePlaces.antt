@@ -1,25 +1,11 @@
--- Where a tree without a superblock stands in a file, and what it is.
-use Rattle.std.specs.Prelude.{◌≡◌, ℕ, ◌-◌, ◌/◌, ◌^◌, min, nat_lt, List, replicate, Option, None, Some, IsSome, option_map, if◌then◌else◌}
-use Rattle.block_device.specs.Device.{Device}
-use Rattle.device_window.specs.declared.part.Part.{Part}
-use Rattle.device_window.specs.Windows.{windowed}
+-- What a tree without a superblock is.
+use Rattle.std.specs.Prelude.{◌≡◌, ℕ, List, replicate, Option, None, Some, IsSome, option_map}
 use Rattle.tree_shape.specs.Shape.{first_fault}
 use Rattle.verity_format.specs.declared.formatting.FormatFault.{FormatFault}
 use Rattle.verity_format.specs.declared.formatting.FormatFault.TheVariants.{Shape}
 use Rattle.verity_format.specs.declared.formatting.FormatOptions.{FormatOptions}
 use Rattle.verity_format.specs.Superblock.{SuperRecord, shape_of}
 use Rattle.command_line.specs.declared.image_options.ImageOptions.{ImageOptions}
-
--- what lies from a sector on, at most 2^54 - 8 sectors
-abbrev pub tree_part : Device → ℕ → Part
-tree_part device first = record { first = min first device.size; count = min (device.size - first) (2 ^ 54 - 8) }
-
-abbrev pub tree_place : Device → ℕ → Device
-tree_place device first = windowed device (tree_part device first)
-
--- the hash block of the file at which a tree begins that stands at that sector
-abbrev pub start_at : ℕ → ℕ → ℕ
-start_at first size = if nat_lt size 512 then 0 else first / (size / 512)
 
 -- 16 zeros, since no identifier stands anywhere
 abbrev pub no_uuid : List ℕ

@@ -1,21 +1,17 @@
-//! The command `format`: makes a hash image over a data image.
-ghost use Rattle.std.specs.Prelude.{◌≡◌, IfErr, IfOk, OnOk};
+//! Makes a hash image over a data image.
+ghost use Rattle.std.specs.Prelude.{IfErr, IfOk};
 ghost use Rattle.counted_io.specs.Counted.{Writes};
 ghost use Rattle.image_commands.specs.Drawing.{DrawsOptions, FailsToDraw};
-ghost use Rattle.image_commands.specs.Endings.{IsQuiet};
 ghost use Rattle.image_commands.specs.Formats.{IsUnmade, MakesImage, made_text};
-ghost use Rattle.image_commands.specs.ImageCommands.{FailsToFormatFiles, FormatsImages};
 
 use crate::clearing::clear_superblock;
 use crate::fault::ImageFault;
-use crate::paths::{ImagePaths, TwoImages, open_apart};
 use crate::random::{Generators, draw};
 use crate::refusal::check_format;
 use crate::superblock_text::{say_blocks, say_root, say_salt, say_uuid};
 use block_device::{BlockDev, SyncDev};
 use command_line::ImageOptions;
 use counted_io::{Counted, WriteFault};
-use image_files::{Images, OpenImage};
 use std::alloc::Global;
 use std::io::Write;
 use tree_shape::{Digest, Salt};
@@ -28,37 +24,6 @@ pub struct MadeImage {
     pub salt: Salt,
     pub uuid: [u8; 16],
     pub blocks: u64,
-}
-
-/// `format [OPTIONS] DATA HASH`: formats the hash image, and writes its root, salt, identifier and number of blocks.
-/// The hash image is synced and given back before anything is written.
-#[tactic(auto, using(crate::proofs::lemmas::EndingLemmas::quiet))]
-pub fn format_images<'a, I: Images, G: Generators, W: Write>(
-    alloc: Global,
-    images: &mut I,
-    generators: &mut G,
-    options: ImageOptions,
-    paths: ImagePaths<'a>,
-    writer: &mut Counted<W>,
-) -> Result<(), ImageFault<'a>>
-    ensures ok { OnOk result (FormatsImages I.relations I.Dev.state images.old images.new G.gives G.Generator.stream generators.old generators.new W.contents writer.old writer.new options paths.entry) }
-    ensures err { IfErr result (FailsToFormatFiles I.relations I.Dev.state images.old images.new G.gives G.Generator.stream generators.old generators.new writer.new options paths.entry) }
-    ensures quiet { IfErr result (λ fault. IsQuiet fault (W.contents writer.old.inner) (W.contents writer.new.inner)) }
-{
-    let TwoImages {
-        data: OpenImage {
-            device: mut data_dev,
-            id: _,
-        },
-        hash: OpenImage {
-            device: mut hash_dev,
-            id: _,
-        },
-    } = open_apart(images, paths)?;
-    let options = given_or_drawn(generators, options)?;
-    let made = make(alloc, &mut data_dev, &mut hash_dev, options)?;
-    images.close(paths.hash, hash_dev);
-    Ok(say_made(writer, &made)?)
 }
 
 /// Formats the hash device over the data device, and has that put on the medium. A superblock that stood there is cleared first,

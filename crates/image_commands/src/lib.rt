@@ -1,16 +1,16 @@
 //! The program's commands on verity images.
 #![tactic(auto)]
 
+mod cleared_tree;
 mod clearing;
-mod dump;
 mod fault;
 mod format;
+mod line;
 mod paths;
 mod pin_file;
 mod pinned;
 mod placed;
 mod placed_format;
-mod placed_line;
 mod places;
 mod preparing;
 mod random;
@@ -26,9 +26,8 @@ mod tree_verify;
 mod verify;
 mod watching;
 
-pub use dump::dump_image;
 pub use fault::ImageFault;
-pub use format::{MadeImage, format_images, say_made};
+pub use format::{MadeImage, say_made};
 pub use paths::ImagePaths;
 pub use pin_file::{check_pin_path, pin_of_image, read_pin, write_pin};
 pub use pinned::verify_pinned;
@@ -38,10 +37,9 @@ pub use places::{HashPlace, ImagePlaces, is_aligned};
 pub use preparing::prepare_image;
 pub use random::{Generators, NoRandomBytes, SystemGenerators, draw};
 pub use root_file::read_root;
-pub use table::{LineWords, print_table_of_image};
+pub use table::LineWords;
 pub use tree_format::format_tree;
 pub use tree_line::print_tree_line;
 pub use tree_place::{given_options, unnamed};
 pub use tree_verify::{ExpectedTree, verify_tree};
-pub use verify::verify_images;
 pub use watching::WatchedPlaces;

@@ -1,10 +1,9 @@
 //! The two images of a command, opened one behind the other.
-ghost use Rattle.std.specs.Prelude.{◌≡◌, true, IfOk, IfErr};
+ghost use Rattle.std.specs.Prelude.{IfOk, IfErr};
 ghost use Rattle.image_files.specs.Opener.{IsFresh};
-ghost use Rattle.image_commands.specs.Openings.{FailsToOpenImages, FailsToOpenTwoFiles, OpensImages, OpensTwoFiles};
+ghost use Rattle.image_commands.specs.Openings.{FailsToOpenImages, OpensImages};
 
-use block_device::OpenFault;
-use image_files::{Images, OpenImage, UnopenedFile, is_one_file, open_image};
+use image_files::{Images, OpenImage, UnopenedFile, open_image};
 
 /// The paths of a data image and of its hash image.
 #[derive(Clone, Copy, Debug, PartialEq, Eq)]
@@ -40,22 +39,4 @@ pub fn open_two<'a, I: Images>(
     let data = open_image(images, paths.data, false)?;
     let hash = open_image(images, paths.hash, writable)?;
     Ok(TwoImages { data, hash })
-}
-
-/// Opens the two as a format does: the hash image for writing too, which may not be the data image.
-pub fn open_apart<'a, I: Images>(
-    images: &mut I,
-    paths: ImagePaths<'a>,
-) -> Result<TwoImages<I::Dev>, UnopenedFile<'a>>
-    ensures ok { IfOk result (OpensTwoFiles I.relations I.Dev.state images.old images.new paths.entry) }
-    ensures fresh { IfOk result (λ two. IsFresh (I.Dev.state two.hash.device) true) }
-    ensures err { IfErr result (FailsToOpenTwoFiles I.relations I.Dev.state images.old images.new paths.entry) }
-{
-    let two = open_two(images, paths, true)?;
-    if is_one_file(two.data.id, two.hash.id) {
-        let fault = OpenFault::SameFile;
-        let path = paths.hash;
-        return Err(UnopenedFile { fault, path });
-    }
-    Ok(two)
 }

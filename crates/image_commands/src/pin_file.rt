@@ -1,7 +1,7 @@
 //! Pins in files.
 ghost use Rattle.std.specs.Prelude.{◌≡◌, IfErr, IfOk, OnOk};
 ghost use Rattle.image_files.specs.Opener.{calls};
-ghost use Rattle.image_commands.specs.PinFiles.{AreApart, AreOne, IsPinFileEnd, IsPinUnwritten, ReadsPin, TellsId, WritesPin, pin_of_image};
+ghost use Rattle.image_commands.specs.PinFiles.{AreApart, AreOne, IsNoPinPath, IsPinFileEnd, IsPinPath, IsPinUnwritten, ReadsPin, TellsId, WritesPin, pin_of_image};
 
 use crate::fault::ImageFault;
 use crate::format::MadeImage;
@@ -40,16 +40,23 @@ pub fn pin_of_image(options: &ImageOptions, made: &MadeImage) -> Pin
     }
 }
 
-/// Puts the text of a pin in the place of what the file held.
+/// Replaces what a file holds by the text of a pin. The file may be one of the two images only since these were made: that is
+/// looked for again.
+///
+/// # Errors
+///
+/// `SameFile`, `NoMemory`, or `PinUnwritten` with the fault of the file that isn't replaced.
 pub fn write_pin<'a, I: Images>(
     alloc: Global,
     images: &mut I,
-    path: &str,
+    places: ImagePlaces<'a>,
+    path: &'a str,
     pin: &Pin,
 ) -> Result<(), ImageFault<'a>>
-    ensures ok { OnOk result (WritesPin (calls I.relations I.Dev.state images.old images.new) path.now pin.now) }
-    ensures err { IfErr result (IsPinUnwritten (calls I.relations I.Dev.state images.old images.new) path.now pin.now) }
+    ensures ok { OnOk result (WritesPin (calls I.relations I.Dev.state images.old images.new) places.entry.data.now places.entry.hash.now path.now pin.now) }
+    ensures err { IfErr result (IsPinUnwritten (calls I.relations I.Dev.state images.old images.new) places.entry.data.now places.entry.hash.now path.now pin.now) }
 {
+    check_apart(images, places, path)?;
     let text = print_pin(alloc, pin)?;
     match images.replace(path, text.as_slice()) {
         Ok(()) => Ok(()),
@@ -57,8 +64,31 @@ pub fn write_pin<'a, I: Images>(
     }
 }
 
-/// The file of a pin isn't one of the two images, which it would replace.
+/// Checks that a pin can be written to a file, before an image is made: the file isn't one of the two images, which the pin would
+/// replace, and another one can be created in its folder.
+///
+/// # Errors
+///
+/// `SameFile`, or `PinUnwritten` with the fault of a file that can't be created.
 pub fn check_pin_path<'a, I: Images>(
+    images: &mut I,
+    places: ImagePlaces<'a>,
+    path: &'a str,
+) -> Result<(), ImageFault<'a>>
+    ensures ok { OnOk result (IsPinPath (calls I.relations I.Dev.state images.old images.new) places.entry.data.now places.entry.hash.now path.now) }
+    ensures err { IfErr result (IsNoPinPath (calls I.relations I.Dev.state images.old images.new) places.entry.data.now places.entry.hash.now path.now) }
+{
+    if let Err(fault) = check_apart(images, places, path) {
+        return Err(fault);
+    }
+    match images.try_replace(path) {
+        Ok(()) => Ok(()),
+        Err(fault) => Err(ImageFault::PinUnwritten(fault)),
+    }
+}
+
+// The file of a pin isn't one of the two images.
+fn check_apart<'a, I: Images>(
     images: &mut I,
     places: ImagePlaces<'a>,
     path: &'a str,

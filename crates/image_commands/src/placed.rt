@@ -1,27 +1,25 @@
-//! The commands `dump`, `table` and `verify` with a place for the hash image in its file.
+//! The commands `dump`, `table` and `verify`.
 ghost use Rattle.std.specs.Prelude.{IfErr, OnOk};
-ghost use Rattle.counted_io.specs.Counted.{Writes};
 ghost use Rattle.image_commands.specs.Endings.{IsQuiet};
 ghost use Rattle.image_commands.specs.PlacedImages.{DumpsImageAt, FailsToMatchAt, FailsToPrintAt, FailsToVerifyAt, IsPlacedSuperEnd, MatchesAt, PrintsLineAt, SaysFieldsAt, SaysLineAt, VerifiesImagesAt};
-ghost use Rattle.image_commands.specs.PlacedLines.{entry_head, text_at};
 
 use crate::fault::ImageFault;
+use crate::line::say_line;
 use crate::paths::{ImagePair, ImagePaths, open_two};
-use crate::placed_line::say_placed_line;
-use crate::places::{Bounds, HashPlace, ImagePlaces, data_end, is_aligned};
+use crate::places::{Bounds, HashPlace, ImagePlaces, data_end, is_aligned, tree_start};
 use crate::superblock_json::say_dump;
 use crate::table::LineWords;
 use crate::verify::compare;
 use crate::watching::{WatchedPlaces, watch};
 use block_device::BlockDev;
-use counted_io::{Counted, WriteFault};
+use counted_io::Counted;
 use device_window::Window;
 use image_files::{Images, open_image};
 use std::alloc::Global;
 use std::io::Write;
 use std::marker::Brand;
 use tree_shape::Digest;
-use verity_format::{Superblock, read_superblock};
+use verity_format::read_superblock;
 use watched_device::{Watchers, bytes_before};
 
 /// `dump [--hash-offset BYTES] [--json] HASH`: the fields of the superblock at that place, as a JSON object or a line each.
@@ -59,10 +57,11 @@ fn dump_behind<'a, H: BlockDev + Drop, W: Write>(
     say_dump(alloc, writer, &superblock, json)
 }
 
-/// `table --hash-offset BYTES [--name NAME] HASH ROOT DATANAME HASHNAME`: the table line, its tree counted from the
+/// `table [--hash-offset BYTES] [--name NAME] HASH ROOT DATANAME HASHNAME`: the table line, its tree counted from the
 /// beginning of the file; with a name the whole entry of a read-only device.
 #[tactic(auto, using(crate::proofs::lemmas::EndingLemmas::quiet))]
 pub fn table_placed<'a, I: Images, W: Write>(
+    alloc: Global,
     images: &mut I,
     place: HashPlace<'a>,
     name: Option<&str>,
@@ -75,11 +74,12 @@ pub fn table_placed<'a, I: Images, W: Write>(
 {
     let HashPlace { path, first } = place;
     let image = open_image(images, path, false)?;
-    table_behind((image.device, first), name, words, writer)
+    table_behind(alloc, (image.device, first), name, words, writer)
 }
 
 #[tactic(auto, using(crate::proofs::lemmas::EndingLemmas::quiet))]
 fn table_behind<'a, H: BlockDev + Drop, W: Write>(
+    alloc: Global,
     placed: (H, u64),
     name: Option<&str>,
     words: LineWords<'_>,
@@ -92,45 +92,17 @@ fn table_behind<'a, H: BlockDev + Drop, W: Write>(
     let (hash_dev, first) = placed;
     let mut window = Window::<H, Brand>::behind(hash_dev, first);
     let superblock = read_superblock(&mut window)?;
-    if !is_aligned(first, superblock.hash_block()) {
+    let size = superblock.hash_block();
+    if !is_aligned(first, size) {
         return Err(ImageFault::Unaligned);
     }
-    say_named_line(writer, name, &superblock, words, first)?;
-    Ok(())
+    let start = tree_start(first, size, 1);
+    say_line(alloc, writer, name, &superblock, words, start)
 }
 
-// The line, or the whole entry.
-fn say_named_line<W: Write>(
-    writer: &mut Counted<W>,
-    name: Option<&str>,
-    superblock: &Superblock,
-    words: LineWords<'_>,
-    first: u64,
-) -> Result<(), WriteFault>
-    ensures { Writes W.contents writer.old writer.new (text_at name.entry superblock.now words.entry first) result }
-{
-    say_head(writer, name)?;
-    say_placed_line(writer, superblock, words, first)
-}
-
-/// What makes the line a whole entry, where there is a name.
-pub(crate) fn say_head<W: Write>(
-    writer: &mut Counted<W>,
-    name: Option<&str>,
-) -> Result<(), WriteFault>
-    ensures { Writes W.contents writer.old writer.new (entry_head name.entry) result }
-{
-    match name {
-        Some(name) => {
-            writer.put(name.as_bytes())?;
-            writer.put(b",,,ro,")
-        }
-        None => Ok(()),
-    }
-}
-
-/// `verify --hash-offset BYTES DATA HASH ROOT`: as `verify_images`, of the hash image that begins at that sector of HASH.
-/// Where both are one file, the data are what lies before.
+/// `verify [--hash-offset BYTES] DATA HASH ROOT`: prints `matches` if the hash image that begins at that sector of HASH has the tree of
+/// the data under this root; a difference is the fault `Differs`. If both are one file and that sector isn't the first, the data are
+/// what lies before it.
 #[tactic(auto, using(crate::proofs::lemmas::EndingLemmas::quiet))]
 pub fn verify_placed<'a, I: Images, S: Watchers, W: Write>(
     alloc: Global,

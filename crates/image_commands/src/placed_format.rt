@@ -1,4 +1,4 @@
-//! The command `format` with a place for the hash image in its file.
+//! The command `format`.
 ghost use Rattle.std.specs.Prelude.{◌≡◌, Some, IfErr, IfOk};
 ghost use Rattle.std.specs.Option.{ForSome};
 ghost use Rattle.device_window.specs.Parts.{StandOutside, outside_of, part_behind};
@@ -18,8 +18,8 @@ use std::marker::Brand;
 use verity_format::{FormatFault, FormatOptions};
 use watched_device::{Watchers, bytes_before};
 
-/// `format --hash-offset BYTES [OPTIONS] DATA HASH`: makes the hash image that begins at that sector of HASH. Both may be one
-/// file; the data are then as many blocks as the options say, which lie before it.
+/// `format [--hash-offset BYTES] [OPTIONS] DATA HASH`: makes the hash image that begins at that sector of HASH. Both may be one
+/// file if that sector isn't the first; the data are then as many blocks as the options say, which lie before it.
 pub fn make_placed<'a, I: Images, G: Generators + Watchers>(
     alloc: Global,
     images: &mut I,

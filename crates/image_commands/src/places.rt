@@ -1,7 +1,7 @@
 //! Hash images that begin behind a sector of a file.
-ghost use Rattle.std.specs.Prelude.{◌≡◌, ◌&&◌, nat_lt, true, false, IfOk, IfErr};
+ghost use Rattle.std.specs.Prelude.{◌≡◌, ◌+◌, ◌^◌, ◌<◌, ◌&&◌, nat_lt, true, false, IfOk, IfErr};
 ghost use Rattle.image_files.specs.Opener.{IsFresh};
-ghost use Rattle.image_commands.specs.Places.{FailsToOpenPlaces, OpensPlaces, data_end, is_aligned, overlaps, start_behind};
+ghost use Rattle.image_commands.specs.Places.{FailsToOpenPlaces, OpensPlaces, data_end, is_aligned, overlaps, tree_start};
 
 use crate::paths::{ImagePaths, TwoImages, open_two};
 use block_device::OpenFault;
@@ -41,14 +41,15 @@ pub fn is_aligned(first: u64, size: u32) -> bool
     first % u64::from(size / 512) == 0
 }
 
-/// The hash block of the file at which a tree begins whose superblock stands at that sector.
-pub(crate) fn start_behind(first: u64, size: u32) -> u128
-    ensures { result ≡ start_behind first size }
+/// The hash block of the file at which a tree begins, `ahead` blocks after that sector.
+pub(crate) fn tree_start(first: u64, size: u32, ahead: u64) -> u64
+    requires { first + ahead < 2 ^ 64 }
+    ensures { result ≡ tree_start first size ahead }
 {
     if size < 512 {
-        return 1;
+        return ahead;
     }
-    u128::from(first / u64::from(size / 512)) + 1
+    first / u64::from(size / 512) + ahead
 }
 
 /// Opens the two as a format does: the hash image for writing too. They may be one file where the hash image doesn't

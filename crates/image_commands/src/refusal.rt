@@ -1,13 +1,10 @@
 //! Whether an image may be made of two devices.
-ghost use Rattle.std.specs.Prelude.{◌≡◌, IfErr, OnOk};
+ghost use Rattle.std.specs.Prelude.{IfErr, OnOk};
 ghost use Rattle.image_commands.specs.Refusals.{IsAllowed, IsRefusedAs};
-ghost use Rattle.verity_format.specs.Image.{image_sectors};
-ghost use Rattle.verity_format.specs.Superblock.{shape_of};
 
 use crate::tree_place::tree_of;
-use bare_tree::area_sectors;
 use block_device::BlockDev;
-use verity_format::{FormatFault, FormatOptions, Superblock, data_sectors};
+use verity_format::{FormatFault, FormatOptions, check_room, image_sectors};
 
 /// Whether an image may be made of the devices: `format_with` refuses it for the same reasons.
 pub(crate) fn check_format<D: BlockDev, H: BlockDev>(
@@ -19,22 +16,6 @@ pub(crate) fn check_format<D: BlockDev, H: BlockDev>(
     ensures err { IfErr result (IsRefusedAs options.now (D.state data_dev.now) (H.state hash_dev.now)) }
 {
     let params = tree_of(*options, data_dev.sectors())?;
-    if data_dev.sectors() < data_sectors(&params.shape()) {
-        return Err(FormatFault::DataTooSmall);
-    }
-    let needed = image_sectors(&params);
-    if hash_dev.sectors() < needed {
-        return Err(FormatFault::HashTooSmall { needed });
-    }
-    if !hash_dev.writable() {
-        return Err(FormatFault::HashReadOnly);
-    }
-    Ok(())
-}
-
-// How many sectors hash block 0 and the tree take.
-fn image_sectors(params: &Superblock) -> u64
-    ensures { result ≡ image_sectors (shape_of params.now) }
-{
-    area_sectors(params) + u64::from(params.hash_block() / 512)
+    let shape = params.shape();
+    check_room(data_dev, hash_dev, &shape, image_sectors(&shape))
 }

@@ -1,23 +1,22 @@
 //! The command `format --no-superblock`: makes a tree alone.
 ghost use Rattle.std.specs.Prelude.{◌≡◌, Some, IfErr, IfOk, OnOk};
 ghost use Rattle.counted_io.specs.Counted.{Writes};
-ghost use Rattle.device_window.specs.Parts.{outside_of};
+ghost use Rattle.device_window.specs.Parts.{outside_of, part_behind};
 ghost use Rattle.image_commands.specs.Endings.{IsQuiet};
 ghost use Rattle.image_commands.specs.TreeFormats.{FailsToMakeShape, FailsToPlaceTree, FailsToMakeTree, FormatsTree, IsFinished, IsTreeMade, IsUnfinished, MakesTreeBehind, tree_text};
-ghost use Rattle.image_commands.specs.TreePlaces.{tree_part};
 
+use crate::cleared_tree::make_cleared;
 use crate::fault::ImageFault;
 use crate::format::{MadeImage, given_or_drawn};
 use crate::places::{Bounds, data_end, is_aligned, open_placed, overlaps};
 use crate::random::Generators;
 use crate::superblock_text::{say_blocks, say_root, say_salt};
-use crate::tree_place::{tree_of, tree_part, unnamed};
+use crate::tree_place::{tree_of, unnamed};
 use crate::watching::{WatchedPlaces, bytes_of_blocks, watch};
-use bare_tree::format_bare;
 use block_device::{BlockDev, SyncDev};
 use command_line::ImageOptions;
 use counted_io::{Counted, WriteFault};
-use device_window::{Beside, Window};
+use device_window::{Beside, Part, Window};
 use image_files::Images;
 use std::alloc::Global;
 use std::io::Write;
@@ -103,17 +102,17 @@ fn make_beside<D: BlockDev, H: SyncDev + Drop, K: Beside>(
     first: u64,
     params: Superblock,
 ) -> (H, Result<MadeImage, FormatFault>)
-    requires { K.outside ≡ Some (outside_of (H.state hash_dev).image (tree_part (H.state hash_dev) first)) }
+    requires { K.outside ≡ Some (outside_of (H.state hash_dev).image (part_behind (H.state hash_dev) first)) }
     ensures ok { IfOk result.1 (IsTreeMade params (D.state data_dev.old) (H.state hash_dev) first (H.state result.0)) }
     ensures err { IfErr result.1 (FailsToMakeShape params D.state H.state data_dev.old hash_dev result.0 first) }
 {
-    let part = tree_part(&hash_dev, first);
-    let window = Window::<H, K> {
+    let part = Part::behind(&hash_dev, first);
+    let mut image = Window::<H, K> {
         inner: hash_dev,
         part,
         beside: PhantomData,
     };
-    let (mut image, root) = format_bare(alloc, data_dev, window, params);
+    let root = make_cleared(alloc, data_dev, &mut image, &params);
     let made = finish(&mut image, root, params);
     (image.into_inner(), made)
 }

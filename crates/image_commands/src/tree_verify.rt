@@ -6,12 +6,11 @@ ghost use Rattle.image_commands.specs.TreeImages.{FailsAtShape, FailsAtTree, Fai
 use crate::fault::ImageFault;
 use crate::paths::{ImagePaths, open_two};
 use crate::places::{Bounds, ImagePlaces, data_end, is_aligned};
-use crate::tree_place::{tree_of, tree_part};
+use crate::tree_place::tree_of;
 use crate::watching::{WatchedPlaces, bytes_of_blocks, watch};
-use bare_tree::verify_bare;
 use block_device::BlockDev;
 use counted_io::Counted;
-use device_window::Window;
+use device_window::{Part, Window};
 use image_files::Images;
 use std::alloc::Global;
 use std::io::Write;
@@ -110,13 +109,13 @@ fn compare_tree<'a, D: BlockDev, H: BlockDev + Drop, W: Write>(
     ensures quiet { IfErr result (λ fault. IsQuiet fault (W.contents writer.old.inner) (W.contents writer.new.inner)) }
 {
     let (hash_dev, first) = placed;
-    let part = tree_part(&hash_dev, first);
-    let window = Window::<H, Brand> {
+    let part = Part::behind(&hash_dev, first);
+    let mut window = Window::<H, Brand> {
         inner: hash_dev,
         part,
         beside: PhantomData,
     };
-    match verify_bare(alloc, data_dev, window, params, root)? {
+    match verity_format::verify_tree(alloc, data_dev, &mut window, &params.tree_alone(), root)? {
         Verdict::Matches => {
             writer.put(b"matches\n")?;
             Ok(())

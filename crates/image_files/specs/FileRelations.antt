@@ -6,7 +6,7 @@ use Rattle.std.specs.declared.fs.attrs.Metadata.{Metadata}
 use Rattle.block_device.specs.declared.file_id.FileId.{FileId}
 use Rattle.block_device.specs.declared.open_fault.OpenFault.{OpenFault}
 use Rattle.block_device.specs.Device.{Device}
-use Rattle.block_device.specs.File.{opened}
+use Rattle.block_device.specs.File.{IsOpened}
 use Rattle.block_device.specs.FileCalls.{IsOfPath, Opened}
 use Rattle.block_device.specs.Identity.{IsLongEnough}
 use Rattle.device_window.specs.declared.part.Part.{Part}
@@ -27,14 +27,14 @@ pub record FileView (S D : Type 0) : Type 1 where
 -- a file as it was opened under its path, of its own size, and which one it is
 pub record IsOpenFile {S D : Type 0} (view : FileView S D) (image : OpenImage D) (path : List ℕ) (writable : Bool) : Type 0 where
   pub asked : view.opened image.device path writable
-  pub device : view.state image.device ≡ opened (view.state image.device).size writable
+  pub device : IsOpened (view.state image.device) writable
   pub id : image.id ≡ view.id image.device
 
 -- a part of one, inside of it
 pub record IsOpenPart {S D : Type 0} (view : FileView S D) (image : OpenImage D) (path : List ℕ) (writable : Bool) (part : Part) : Type 0 where
   pub asked : view.opened image.device path writable
   pub whole : Device
-  pub is : whole ≡ opened whole.size writable
+  pub is : IsOpened whole writable
   pub inside : LiesInside whole part
   pub device : view.state image.device ≡ windowed whole part
   pub id : image.id ≡ view.id image.device
@@ -68,4 +68,5 @@ file_relations view = record {
   grows = λ old path sectors outcome new. LocksAtMost (view.locked old) (view.locked new) × Grows path sectors outcome;
   measures = λ old path outcome new. (new ≡ old) × EndsInPart path outcome;
   replaces = λ old path bytes outcome new. new ≡ old;
+  tries = λ old path outcome new. new ≡ old;
 }

@@ -27,6 +27,8 @@ pub record Opener (S D : Type 0) : Type 1 where
   pub measures : S → List ℕ → Result Bool OpenFault → S → Type 0
   -- a path, and the bytes that are put in the place of what its file holds
   pub replaces : S → List ℕ → List ℕ → Result (Unit {0}) ReplaceFault → S → Type 0
+  -- a path, and whether a file can be created beside it
+  pub tries : S → List ℕ → Result (Unit {0}) ReplaceFault → S → Type 0
 
 -- a device that was just opened
 pub record IsFresh (device : Device) (writable : Bool) : Type 0 where

@@ -88,3 +88,5 @@ pub record KeepsFiles {S D : Type 0} (o : Opener S D) (state : D → Device) (at
   pub replaced : (old new : S) (path bytes : List ℕ) → o.replaces old path bytes (Ok tt) new → (file : FileRecord) × (at new path ≡ Some file) × (file.bytes ≡ bytes)
   pub kept_replacing : (old new : S) (path other bytes : List ℕ) (outcome : Result (Unit {0}) ReplaceFault) (another : FileRecord) → o.replaces old path bytes outcome new → at old other ≡ Some another
       → IsApartFrom (at old path) another → at new other ≡ Some another
+  -- to find out whether a file can be created beside a path changes no file
+  pub kept_trying : (old new : S) (path : List ℕ) (outcome : Result (Unit {0}) ReplaceFault) → o.tries old path outcome new → at new ≡ at old

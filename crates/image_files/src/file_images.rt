@@ -1,7 +1,7 @@
 //! Images in files.
 ghost use Rattle.std.specs.Prelude.{◌≡◌, ◌≤◌, length, OnErr, OnOk, IfErr, IfOk};
 ghost use Rattle.block_device.specs.Any.{any_id, any_opened};
-ghost use Rattle.block_device.specs.File.{opened};
+ghost use Rattle.block_device.specs.File.{IsOpened};
 ghost use Rattle.block_device.specs.FileCalls.{Opened};
 ghost use Rattle.block_device.specs.FileId.{file_id, file_of};
 ghost use Rattle.image_files.specs.FileLocks.{Locks, LocksAtMost};
@@ -47,7 +47,7 @@ fn open_file<R: Files<File = File>>(
     path: &str,
     writable: bool,
 ) -> Result<FileDev, OpenFault>
-    ensures state { IfOk result (λ f. (⟦<FileDev as BlockDev>⟧.state f) ≡ opened (⟦<FileDev as BlockDev>⟧.state f).size writable) }
+    ensures state { IfOk result (λ f. IsOpened (⟦<FileDev as BlockDev>⟧.state f) writable) }
     ensures locked { IfOk result (λ f. Locks writable (file_id f) locks.old.files.items locks.new.files.items × Opened path.now writable (file_of f)) }
     ensures same { OnErr result (locks.new.files.items ≡ locks.old.files.items) }
 {
@@ -150,6 +150,11 @@ impl<R: Files<File = File> + AllocGlobal + Input> Images for FileImages<'_, R> {
     fn replace(&mut self, path: &str, bytes: &[u8]) -> Result<(), ReplaceFault> {
         let calls = SystemCalls::new(self.rt);
         FileTexts::new(self.rt.alloc(), calls).replace(path, bytes)
+    }
+
+    fn try_replace(&mut self, path: &str) -> Result<(), ReplaceFault> {
+        let calls = SystemCalls::new(self.rt);
+        FileTexts::new(self.rt.alloc(), calls).try_replace(path)
     }
 
     fn of_memory(memory: MemoryDev) -> Window<AnyDev> {

@@ -72,6 +72,14 @@ pub trait Images {
     fn replace(&mut self, path: &str, bytes: &[u8]) -> Result<(), ReplaceFault>
         ensures { relations.replaces self.old path.now bytes.now result self.new };
 
+    /// Finds out whether `replace` can create its file: creates one beside the path, and removes it again.
+    ///
+    /// # Errors
+    ///
+    /// `NoMemory`, or `Write` if no file can be created.
+    fn try_replace(&mut self, path: &str) -> Result<(), ReplaceFault>
+        ensures { relations.tries self.old path.now result self.new };
+
     /// A device in memory as one of these, which is under no path.
     fn of_memory(memory: MemoryDev) -> Self::Dev
         ensures { Self.Dev.state result ≡ ⟦<MemoryDev as BlockDev>⟧.state memory };

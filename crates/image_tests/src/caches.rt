@@ -93,7 +93,7 @@ fn the_least_recently_used_block_goes(rt: HostRuntime) -> Result<(), Fail> {
     cache.forget_all();
     assert!(rt; found(&mut cache, key_of(1, 1), 1).is_none());
     for (capacity, kept) in [(0, 0), (1, 1), (65_536, 65_536), (u32::MAX, 65_540)] {
-        let mut cache = BlockCache::new(alloc, capacity)?;
+        let mut cache = BlockCache::empty(alloc, capacity);
         for block in 0..65_540 {
             let bytes = [1].to_vec(alloc)?;
             cache.keep(key_of(0, block), Digest::new([1; 32]), bytes)?;

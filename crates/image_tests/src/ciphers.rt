@@ -1,5 +1,5 @@
 //! AES and XTS of what no `crypt` line asks for: single blocks, units of other lengths, the last numbers, many units in one call.
-//! Beside other implementations; `scripts/cipher_digests.py` prints the digests.
+//! Beside other implementations; `scripts/by_hand/cipher_digests.py` prints the digests.
 
 use crate::has_digits;
 use aes_block::AesKey;

@@ -43,7 +43,7 @@ pub fn stack_of<D: BlockDev + Drop>(
     let leaves = pair(alloc, leaf_of(alloc, b"A", &a)?, leaf_of(alloc, b"B", &b)?)?;
     let devices = pair(alloc, a, b)?;
     let config = config_over(alloc, leaves)?;
-    let mut stack = Stack::new(alloc, config, devices, capacity).map_err(|_| "no stack")?;
+    let mut stack = Stack::over(alloc, config, devices, capacity);
     let text = parse_stack(alloc, text)?;
     stack.load(&text).map_err(|_| "not loaded")?;
     Ok(stack)

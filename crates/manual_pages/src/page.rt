@@ -1,15 +1,14 @@
 //! A page of the manual.
 ghost use Rattle.counted_io.specs.Counted.{Writes};
 
-use crate::pages::{FURTHER_PAGES, STACK_PAGES};
+use crate::pages::{IMAGE_PAGES, STACK_PAGES};
 use counted_io::{Counted, WriteFault};
 use std::io::Write;
 
-/// A command's name, or no letter for the page of the program; its words; and what is printed.
+/// A command's name, or no letter for the page of the program; and what is printed.
 #[derive(Clone, Copy)]
 pub struct Page {
     pub name: &'static str,
-    pub usage: &'static str,
     pub text: &'static str,
 }
 
@@ -18,7 +17,7 @@ pub fn page_of(command: Option<&str>) -> Option<Page> {
     let wanted = command.unwrap_or("").as_bytes();
     match stack_page(wanted) {
         Some(page) => Some(page),
-        None => further_page(wanted),
+        None => image_page(wanted),
     }
 }
 
@@ -31,8 +30,8 @@ fn stack_page(wanted: &[u8]) -> Option<Page> {
     None
 }
 
-fn further_page(wanted: &[u8]) -> Option<Page> {
-    for page in FURTHER_PAGES.iter() {
+fn image_page(wanted: &[u8]) -> Option<Page> {
+    for page in IMAGE_PAGES.iter() {
         if page.name.as_bytes() == wanted {
             return Some(*page);
         }

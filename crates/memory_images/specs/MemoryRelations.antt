@@ -1,5 +1,5 @@
 -- What a proof sees of images in memory.
-use Rattle.std.specs.Prelude.{◌≡◌, ◌==◌, ℕ, Bool, not, List, length, ◌/◌, ◌%◌, take, Option, Some, None, Result, Ok, Err}
+use Rattle.std.specs.Prelude.{◌≡◌, ◌==◌, ℕ, Bool, not, IsSome, List, length, ◌/◌, ◌%◌, take, Option, Some, None, Result, Ok, Err}
 use Rattle.block_device.specs.declared.file_id.FileId.{FileId}
 use Rattle.block_device.specs.declared.file_id.FileId.TheVariants.{Inode}
 use Rattle.block_device.specs.declared.memory.MemoryDev.{MemoryDev}
@@ -112,6 +112,11 @@ abbrev pub ReplacesAt : MemoryImages → List ℕ → List ℕ → Result (Unit 
 ReplacesAt old path bytes (Ok done) new = IsReplaced old path bytes new
 ReplacesAt old path bytes (Err fault) new = new ≡ old
 
+-- what stands under no name isn't made
+abbrev pub IsTrial : MemoryImages → List ℕ → Result (Unit {0}) ReplaceFault → Type 0
+IsTrial m path (Ok done) = IsSome (named_place m.names.items path)
+IsTrial m path (Err fault) = named_place m.names.items path ≡ None
+
 abbrev pub memory_relations : Opener MemoryImages MemoryDev
 memory_relations = record {
   opens = λ old path writable outcome new. (new ≡ old) × OpensCopy old path writable outcome;
@@ -122,4 +127,5 @@ memory_relations = record {
   grows = GrowsAt;
   measures = λ old path outcome new. (new ≡ old) × Measures old path outcome;
   replaces = ReplacesAt;
+  tries = λ old path outcome new. (new ≡ old) × IsTrial old path outcome;
 }

@@ -179,6 +179,13 @@ impl Images for MemoryImages {
         Ok(())
     }
 
+    fn try_replace(&mut self, path: &str) -> Result<(), ReplaceFault> {
+        match place_of(&self.names, path) {
+            Some(_) => Ok(()),
+            None => Err(ReplaceFault::Write),
+        }
+    }
+
     fn of_memory(memory: MemoryDev) -> MemoryDev {
         memory
     }

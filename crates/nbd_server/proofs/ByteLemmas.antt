@@ -1,7 +1,7 @@
 -- Bytes of the export and the sectors that they touch.
 use Rattle.std.proofs.Common.{◌≡◌, ◌≢◌, ◌<◌, ◌≤◌, ℕ, ◌+◌, ◌-◌, ◌*◌, ◌/◌, ◌%◌, ◌^◌, ◌==◌, List, [], ◌∷◌, ◌++◌, length, take, drop, replicate, refl, ap, sym, ◌∙◌, subst, append-nil, append_assoc, arith, inl, inr, Result, Ok, Err}
 use Rattle.std.specs.Prelude.{◌&&◌, ◌⊎◌, Bool, true, false, not, nat_le, nat_lt, IfErr, IfOk, OnOk, if◌then◌else◌}
-use Rattle.std.proofs.lemmas.List.{length-append, length-drop, length-replicate, length-take, length-take-le, drop_all}
+use Rattle.std.proofs.lemmas.List.{length-drop, length-replicate, length-take, length-take-le, drop_all}
 use Rattle.std.proofs.Math.Seq.{take-append-add}
 use borrow.Rule.Slice.PartMut.{put_mid, post_of}
 use Rattle.request_queue.specs.World.{World}
@@ -27,12 +27,6 @@ module _ (offset len : ℕ) (bytes : List ℕ) (room : length bytes ≡ 512 * to
   meant-length = length-take-le len (drop (offset % 512) bytes) (omega (arith, length-drop (offset % 512) bytes, room))
 
   module _ (before : List ℕ) (start : length before ≡ offset % 512) where
-    begun-length : length (before ++ drop (offset % 512) bytes) ≡ length bytes
-    begun-length = omega (arith, length-append before (drop (offset % 512) bytes), length-drop (offset % 512) bytes, start, room)
-
-    pub room-is : length (before ++ drop (offset % 512) bytes) - (offset % 512 + len) ≡ room_behind offset len
-    room-is = ap (λ n. n - (offset % 512 + len)) (begun-length ∙ room)
-
     -- the buffer in the end
     sectors-are : (behind : List ℕ) (k : ℕ) → k ≡ length (before ++ drop (offset % 512) bytes) - (offset % 512 + len)
         → put_mid (offset % 512 + len) k (before ++ drop (offset % 512) bytes) behind ≡ before ++ (take len (drop (offset % 512) bytes) ++ behind)

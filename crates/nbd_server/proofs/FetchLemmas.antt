@@ -102,8 +102,5 @@ module _ (c : Configuration) (e : ExportRecord) (offset len : ℕ) (a : AreBytes
   pub sectors-of : len < 2 ^ 32 → AreSectorsOf c e (offset / 512) (touched offset len)
   sectors-of few = record { export = a.export; inside = omega (arith, a.within, a.export.size); few = omega (arith, few) }
 
-  pub bytes-before : AreBytesOf c e (offset - offset % 512) (offset % 512)
-  bytes-before = record { export = a.export; within = omega (arith, a.within) }
-
   pub bytes-behind : AreBytesOf c e (offset + len) (room_behind offset len)
   bytes-behind = record { export = a.export; within = omega (arith, a.within, a.export.size) }

@@ -84,7 +84,6 @@ fn say_root_stack<'a, W: Write>(
     say_root_entry(alloc, writer, superblock, root)
 }
 
-#[tactic(auto, unfolding(crate::specs::RootStacks::root_entry))]
 fn say_root_entry<'a, W: Write>(
     alloc: Global,
     writer: &mut Counted<W>,

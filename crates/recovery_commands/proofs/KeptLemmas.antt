@@ -2,7 +2,7 @@
 use Rattle.std.proofs.Common.{◌≡◌, ℕ, Bool, false, List, [], Some, subst}
 use Rattle.block_device.specs.Device.{Device}
 use Rattle.stack_engine.specs.Stacks.{StackRecord}
-use Rattle.stack_recovery.specs.declared.lost_run.LostRun.{LostRun}
+use Rattle.stack_recovery.specs.LostRuns.{LostRun}
 use Rattle.stack_recovery.specs.declared.recovery.Counts.{Counts}
 use Rattle.stack_recovery.specs.Listings.{listed}
 use Rattle.stack_recovery.specs.Recoveries.{Recovers, Sides, sides}

@@ -7,7 +7,7 @@ use Rattle.stack_rules.specs.Names.{mapped, size}
 use Rattle.stack_making.specs.NamedDevices.{DeviceWords, FailsToFindDevice, FindsDevice, DevicePlace, words_for}
 use Rattle.stack_making.specs.declared.device.NamedDevice.{NamedDevice}
 use Rattle.stack_recovery.specs.declared.listing.KeptRuns.{KeptRuns}
-use Rattle.stack_recovery.specs.declared.lost_run.LostRun.{LostRun}
+use Rattle.stack_recovery.specs.LostRuns.{LostRun}
 use Rattle.stack_recovery.specs.declared.recovery.Counts.{Counts}
 use Rattle.stack_recovery.specs.Listings.{Listed, listed}
 use Rattle.stack_recovery.specs.Recoveries.{Parties, Recovers, RecoversBy, Sides, parties, sides}

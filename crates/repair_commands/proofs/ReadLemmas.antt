@@ -1,7 +1,7 @@
 -- What is said behind a reading of the hash device is said of it before.
 use Rattle.std.proofs.Common.{◌≤◌, ◌<◌, ℕ, Bool, List, [], ◌∷◌, Option, None, Some, refl, ap, ◌∙◌, subst, arith, inl, inr}
 use Rattle.block_device.specs.Device.{Device}
-use Rattle.tree_path.proofs.lemmas.DeviceLemmas.{failed-then, only_read-then, steady-then}
+use Rattle.verity_format.proofs.lemmas.DeviceLemmas.{failed-then, only_read-then, steady-then}
 use Rattle.tree_repair.specs.declared.fault.RepairFault.{RepairFault}
 use Rattle.tree_repair.specs.declared.fault.RepairFault.TheVariants.{Image, Write}
 use Rattle.tree_repair.specs.declared.repair.Plan.{Plan}

@@ -9,6 +9,7 @@ use Rattle.stack_rules.specs.declared.refusal.RemoveFault.{RemoveFault}
 use Rattle.stack_rules.specs.Names.{mapped, may_write, size}
 use Rattle.stack_rules.specs.Removal.{removal_fault, after_removal}
 use Rattle.stack_rules.specs.Records.{Configuration}
+use Rattle.stack_rules.specs.Passing.{largest_load_allocation}
 use Rattle.stack_rules.specs.Rules.{first_refusal, IsLoaded, IsRefusal, after_load}
 use Rattle.stack_meaning.specs.declared.fault.IoFault.{IoFault}
 use Rattle.stack_engine.specs.Stacks.{StackRecord, AnswerRecord}
@@ -160,7 +161,7 @@ pub record LoadDone (w : World) (text : List Entry) (w' : World) : Type 0 where
 
 abbrev pub LoadFails : World → List Entry → LoadFault → Type 0
 LoadFails w text (load_fault.Refused refusal) = IsRefusal w.stack.config text refusal
-LoadFails w text load_fault.NoMemory = Unit {0}
+LoadFails w text load_fault.NoMemory = IsOutOfMemory largest_load_allocation
 
 abbrev pub LoadsText : World → List Entry → Result Unit (Held LoadFault) → World → Type 0
 LoadsText w text (Ok done) w' = LoadDone w text w'

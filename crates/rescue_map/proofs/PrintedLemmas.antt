@@ -248,10 +248,6 @@ mark-one =
     (All-cons P 115 (codes "tack scan") refl (All-cons P 116 (codes "ack scan") refl (All-cons P 97 (codes "ck scan") refl (All-cons P 99 (codes "k scan") refl (All-cons P 107 (codes " scan") refl
     (All-cons P 32 (codes "scan") refl (All-cons P 115 (codes "can") refl (All-cons P 99 (codes "an") refl (All-cons P 97 (codes "n") refl (All-cons P 110 [] refl (All-nil P))))))))))))))
 
-mark-skipped : is_skipped (words scan_mark) ≡ true
-unfolding words
-mark-skipped = refl
-
 mark-is : is_mark (words scan_mark) ≡ true
 unfolding words
 mark-is = refl

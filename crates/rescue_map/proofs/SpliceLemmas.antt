@@ -1,5 +1,5 @@
 -- Sectors that are moved from one map to another, and totals.
-use Rattle.std.proofs.Common.{◌≡◌, ℕ, zero, suc, ◌+◌, ◌-◌, ◌≤◌, Bool, true, false, List, ◌∷◌, ◌++◌, length, take, drop, replicate, sym, ap, ◌∙◌, append_assoc, append-nil, arith}
+use Rattle.std.proofs.Common.{◌≡◌, ℕ, zero, suc, ◌+◌, ◌-◌, ◌≤◌, Bool, true, false, List, ◌∷◌, ◌++◌, length, take, drop, replicate, sym, ap, ◌∙◌, append_assoc, arith}
 use Rattle.std.proofs.lemmas.List.{drop-drop, length-append, length-drop, length-replicate, length-take-le, take_all}
 use Rattle.rescue_map.specs.declared.map.Run.{Run}
 use Rattle.rescue_map.specs.declared.totals.Totals.{Totals}
@@ -33,9 +33,6 @@ module _ (now next : List Bool) (n m : ℕ) (h : Bool) (le : n ≤ m) (is : now 
 
 pub length-more : (old new : List Bool) (n : ℕ) (h : Bool) → new ≡ old ++ replicate n h → length new ≡ length old + n
 length-more old new n h e = ap length e ∙ length-append old (replicate n h) ∙ ap (λ (k : ℕ). length old + k) (length-replicate {A = Bool} n h)
-
-pub moved-all : (map whole : List Bool) (ahead : List Bool) → map ++ take 0 ahead ≡ whole → map ≡ whole
-moved-all map whole ahead e = sym (append-nil map) ∙ e
 
 -- a run more
 sum-either : (t : Totals) (count : ℕ) (had : Bool) → (with_run t (record { count = count; had = had })).had + (with_run t (record { count = count; had = had })).lost ≡ t.had + t.lost + count

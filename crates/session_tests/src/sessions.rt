@@ -279,7 +279,7 @@ fn queue_of(alloc: Global, text: &[u8]) -> Result<Queue<MemoryDev>, Fail> {
         return Err(Fail::from("the text is too long"));
     }
     let config = config_over(alloc, Vec::new(alloc))?;
-    let stack = Stack::new(alloc, config, Vec::new(alloc), 0).map_err(|_| "no stack")?;
+    let stack = Stack::over(alloc, config, Vec::new(alloc), 0);
     let mut queue = Queue::new(alloc, stack);
     let text = parse_stack(alloc, text)?;
     queue.load(&text).map_err(|_| "not loaded")?;

@@ -1,23 +1,26 @@
 //! Leaves and devices by their names.
-ghost use Rattle.std.specs.Prelude.{◌≡◌, ◌<◌, ◌^◌, ℕ, List, length, position, IfOk};
+ghost use Rattle.std.specs.Prelude.{◌≡◌, ◌<◌, ◌^◌, ℕ, List, length, position, IfOk, IfErr};
 ghost use Rattle.std.specs.Str.{bytes_eq};
 ghost use Rattle.std.specs.HashMap.{get_by};
+ghost use Rattle.allocation.specs.Asked.{WasRefused};
 ghost use Rattle.stack_rules.specs.Names.{path_of};
 ghost use Rattle.stack_rules.specs.Records.{DeviceRecord};
 ghost use Rattle.stack_checks.specs.Places.{IsPlaces};
 
+use allocation::{OutOfMemory, insert};
 use stack_rules::{DevId, Leaf, Lower, Planned};
-use std::alloc::{AllocError, Global};
+use std::alloc::Global;
 use std::collections::HashMap;
 
 /// The place of the first leaf of each name.
-fn leaf_places<'a>(alloc: Global, leaves: &'a [Leaf]) -> Result<HashMap<&'a [u8], u32>, AllocError>
+fn leaf_places<'a>(alloc: Global, leaves: &'a [Leaf]) -> Result<HashMap<&'a [u8], u32>, OutOfMemory>
     requires { length leaves.now < 2 ^ 32 }
-    ensures { IfOk result (λ m. (q : List ℕ) → get_by (λ k. bytes_eq q k.now) m ≡ position (λ l. bytes_eq l.name q) leaves.now) }
+    ensures ok { IfOk result (λ m. (q : List ℕ) → get_by (λ k. bytes_eq q k.now) m ≡ position (λ l. bytes_eq l.name q) leaves.now) }
+    ensures err { IfErr result (WasRefused 1) }
 {
     let mut places = HashMap::new(alloc);
     for i in (0..leaves.len()).rev() {
-        places.insert(leaves[i].name(), i as u32)?;
+        insert(&mut places, leaves[i].name(), i as u32)?;
     }
     Ok(places)
 }
@@ -26,13 +29,14 @@ fn leaf_places<'a>(alloc: Global, leaves: &'a [Leaf]) -> Result<HashMap<&'a [u8]
 fn device_places<'a>(
     alloc: Global,
     devices: &[Planned<'a>],
-) -> Result<HashMap<&'a [u8], u32>, AllocError>
+) -> Result<HashMap<&'a [u8], u32>, OutOfMemory>
     requires { length devices.now < 2 ^ 32 }
-    ensures { IfOk result (λ m. (q : List ℕ) → get_by (λ k. bytes_eq q k.now) m ≡ position (λ d. bytes_eq d.name q) devices.now) }
+    ensures ok { IfOk result (λ m. (q : List ℕ) → get_by (λ k. bytes_eq q k.now) m ≡ position (λ d. bytes_eq d.name q) devices.now) }
+    ensures err { IfErr result (WasRefused 1) }
 {
     let mut places = HashMap::new(alloc);
     for i in (0..devices.len()).rev() {
-        places.insert(devices[i].name(), i as u32)?;
+        insert(&mut places, devices[i].name(), i as u32)?;
     }
     Ok(places)
 }
@@ -59,7 +63,8 @@ pub(crate) struct Index<'a> {
 }
 
 impl<'a> Index<'a> {
-    ghost use Rattle.std.specs.Prelude.{◌≡◌, ◌<◌, ◌^◌, length, IfOk};
+    ghost use Rattle.std.specs.Prelude.{◌≡◌, ◌<◌, ◌^◌, length, IfOk, IfErr};
+    ghost use Rattle.allocation.specs.Asked.{WasRefused};
     ghost use Rattle.stack_rules.specs.Names.{named};
     ghost use Rattle.stack_rules.specs.Records.{Configuration};
     ghost use Rattle.stack_checks.specs.Index.{IsIndex};
@@ -68,10 +73,11 @@ impl<'a> Index<'a> {
         alloc: Global,
         leaves: &'a [Leaf],
         devices: &[Planned<'a>],
-    ) -> Result<Index<'a>, AllocError>
+    ) -> Result<Index<'a>, OutOfMemory>
         requires leaves { length leaves.now < 2 ^ 32 }
         requires devices { length devices.now < 2 ^ 32 }
-        ensures { IfOk result (IsIndex (record { leaves = leaves.now; devices = devices.now })) }
+        ensures ok { IfOk result (IsIndex (record { leaves = leaves.now; devices = devices.now })) }
+        ensures err { IfErr result (WasRefused 1) }
     {
         Ok(Index {
             leaves: leaf_places(alloc, leaves)?,

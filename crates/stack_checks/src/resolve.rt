@@ -1,5 +1,7 @@
 //! What the names of each line mean.
-ghost use Rattle.std.specs.Prelude.{◌≡◌, ◌<◌, ◌≤◌, ◌^◌, length, slice_index_or, All, IfOk};
+ghost use Rattle.std.specs.Prelude.{◌≡◌, ◌<◌, ◌≤◌, length, slice_index_or, All, IfOk, IfErr};
+ghost use Rattle.allocation.specs.Asked.{asked};
+ghost use Rattle.dm_table.specs.Grammar.{IsTargetOfGrammar, IsLineOfGrammar};
 ghost use Rattle.stack_rules.specs.Records.{Configuration, configuration};
 ghost use Rattle.stack_rules.specs.Descend.{most_devices};
 ghost use Rattle.stack_checks.specs.Index.{IsIndex};
@@ -9,11 +11,12 @@ ghost use Rattle.stack_rules.specs.Passing.{IsPassed, AreFound, RowsMean};
 ghost use Rattle.stack_rules.specs.Rules.{unknown_in, unknown_names, most_leaves, most_lines};
 
 use crate::index::Index;
+use allocation::{OutOfMemory, push, with_capacity};
 use dm_table::{Line, Target};
 use stack_rules::{
     DeviceLowers, Leaf, LineLowers, LoadFault, LoadKind, Planned, Refusal, name_count,
 };
-use std::alloc::{AllocError, Global};
+use std::alloc::Global;
 
 /// The i-th name of a target, from 0.
 fn name_at(target: &Target, i: usize) -> &[u8]
@@ -41,14 +44,15 @@ fn line_lowers(
     alloc: Global,
     index: &Index,
     target: &Target,
-) -> Result<Option<LineLowers>, AllocError>
-    ensures { (c : Configuration) → IsIndex c index.now → IfOk result (λ found. AreFound c found (names target.now)) }
+) -> Result<Option<LineLowers>, OutOfMemory>
+    ensures ok { (c : Configuration) → IsIndex c index.now → IfOk result (λ found. AreFound c found (names target.now)) }
+    ensures err { IsTargetOfGrammar target.now → IfErr result (λ e. asked e ≤ 16) }
 {
     let count = name_count(target);
-    let mut list = Vec::with_capacity(alloc, count)?;
+    let mut list = with_capacity(alloc, count)?;
     for i in 0..count {
         match index.named(name_at(target, i)) {
-            Some(lower) => list.push(lower)?,
+            Some(lower) => push(&mut list, lower)?,
             None => return Ok(None),
         }
     }
@@ -62,13 +66,14 @@ fn device_lowers(
     lines: &[Line],
     d: u32,
 ) -> Result<DeviceLowers, LoadFault>
-    requires { length lines.now < 2 ^ 32 }
+    requires few { length lines.now ≤ most_lines }
+    requires grammar { All IsLineOfGrammar lines.now }
     ensures { (c : Configuration) → IsIndex c index.now → IsPassed result (unknown_in c d lines.now) (λ rows. RowsMean c rows lines.now) }
 {
-    let mut rows = Vec::with_capacity(alloc, lines.len())?;
+    let mut rows = with_capacity(alloc, lines.len())?;
     for (i, line) in lines.iter().enumerate() {
         match line_lowers(alloc, index, &line.target)? {
-            Some(row) => rows.push(row)?,
+            Some(row) => push(&mut rows, row)?,
             None => {
                 return Err(LoadFault::Refused(Refusal {
                     kind: LoadKind::NoSuchDevice,
@@ -93,9 +98,10 @@ pub fn lowers_of(
     ensures { let c = configuration leaves.now devices.now in IsPassed result (unknown_names c) (λ lowers. AreLowers c lowers.items) }
 {
     let index = Index::new(alloc, leaves, devices)?;
-    let mut lowers = Vec::with_capacity(alloc, devices.len())?;
+    let mut lowers = with_capacity(alloc, devices.len())?;
     for (i, device) in devices.iter().enumerate() {
-        lowers.push(device_lowers(alloc, &index, device.table().lines(), i as u32 + 1)?)?;
+        let rows = device_lowers(alloc, &index, device.table().lines(), i as u32 + 1)?;
+        push(&mut lowers, rows)?;
     }
     Ok(lowers)
 }

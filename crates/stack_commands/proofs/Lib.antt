@@ -4,6 +4,4 @@ pub mod ListedLemmas
 pub mod OpeningLemmas
 mod RepairingLemmas
 pub mod ServeLemmas
-pub mod StackFileLemmas
 pub mod UsageLemmas
-pub mod VerityLemmas

@@ -12,16 +12,20 @@ use Rattle.command_line.specs.declared.invocation.Transfer.{Transfer}
 use Rattle.command_line.specs.declared.words.cat.CatWords.{CatWords}
 use Rattle.command_line.specs.declared.words.copy.CopyWords.{CopyWords}
 use Rattle.command_line.specs.declared.words.load.LoadWords.{LoadWords}
+use Rattle.command_line.specs.declared.words.read.ReadWords.{ReadWords}
 use Rattle.command_line.specs.declared.words.repair.RepairWords.{RepairWords}
 use Rattle.command_line.specs.declared.words.scan.ScanWords.{ScanWords}
 use Rattle.command_line.specs.declared.words.verify.VerifyWords.{VerifyWords}
+use Rattle.command_line.specs.declared.words.write.WriteWords.{WriteWords}
 use Rattle.command_line.specs.FecFiles.{fec_record}
 use Rattle.command_line.specs.words.Cat.{cat_record}
 use Rattle.command_line.specs.words.Copy.{copy_record}
 use Rattle.command_line.specs.words.Load.{load_record}
+use Rattle.command_line.specs.words.Read.{read_record}
 use Rattle.command_line.specs.words.Repair.{repair_record}
 use Rattle.command_line.specs.words.Scan.{scan_record}
 use Rattle.command_line.specs.words.Verify.{verify_record}
+use Rattle.command_line.specs.words.Write.{write_record}
 use Rattle.image_files.specs.Opener.{Calls, Opener, calls}
 use Rattle.recovery_commands.specs.declared.output.Output.{Output}
 use Rattle.recovery_commands.specs.Copies.{CopyWords as OutputWords, copy_words}
@@ -41,14 +45,14 @@ use Rattle.stack_making.specs.declared.device.NamedDevice.{NamedDevice}
 use Rattle.stack_making.specs.NamedDevices.{DeviceWords, device_words}
 use Rattle.stack_opening.specs.declared.stack_file.StackFile.{StackFile}
 use Rattle.stack_opening.specs.OpenStacks.{stack_words}
-use Rattle.stack_recovery.specs.declared.lost_run.LostRun.{LostRun}
+use Rattle.stack_recovery.specs.LostRuns.{LostRun}
 use Rattle.stack_recovery.specs.declared.recovery.Counts.{Counts}
 use Rattle.stack_recovery.specs.Recoveries.{sides}
 use Rattle.stack_rules.specs.Records.{Configuration}
 use Rattle.stack_commands.specs.declared.desk.Desk.{Desk}
 use Rattle.stack_commands.specs.declared.fault.CommandFault.{CommandFault}
 use Rattle.stack_commands.specs.Endings.{IsEnd, IsSilent}
-use Rattle.stack_commands.specs.Further.{CatsSectors, CopiesSectors, IsCatCommandEnd, IsCopyWordsEnd, IsLoadWordsEnd, IsPageEnd, IsScanWordsEnd, ListsDevices, ScansSectors}
+use Rattle.stack_commands.specs.Invocations.{CatsSectors, CopiesSectors, IsCatCommandEnd, IsCopyWordsEnd, IsLoadWordsEnd, IsPageEnd, IsReadWordsEnd, IsScanWordsEnd, IsWriteWordsEnd, ListsDevices, ReadsDevice, ScansSectors, WritesDevice}
 use Rattle.stack_commands.specs.MappedCopies.{CopiesByMap, CutsCopying, IsMappedCopyEnd, IsMappedScanEnd, PrintsMappedCopy, PrintsMappedScan, ScansByMap}
 use Rattle.stack_commands.specs.Repairing.{IsParityWordsEnd, IsRepairWordsEnd, RepairsImage}
 use Rattle.stack_commands.specs.ScanObjects.{IsMappedObjectEnd, IsObjectEnd, IsScanObjectEnd, PrintsLost, PrintsScanObject}
@@ -91,6 +95,18 @@ module _ {S D T E : Type 0} (relations : Opener S D) (state : D → Device) (con
 
   abbrev pub EndsLoad : LoadWords → CommandFault → Type 0
   EndsLoad words = IsLoadWordsEnd desk_calls (load_record words) desk_before desk_behind desk_failed
+
+  abbrev pub DoesRead : ReadWords → Type 0
+  DoesRead words = ReadsDevice desk_calls (read_record words) desk_before desk_behind
+
+  abbrev pub EndsRead : ReadWords → CommandFault → Type 0
+  EndsRead words = IsReadWordsEnd desk_calls (read_record words) desk_before desk_behind desk_failed
+
+  abbrev pub DoesWrite : WriteWords → Type 0
+  DoesWrite words = WritesDevice desk_calls (write_record words) desk_before desk_behind
+
+  abbrev pub EndsWrite : WriteWords → CommandFault → Type 0
+  EndsWrite words = IsWriteWordsEnd desk_calls (write_record words) desk_before desk_behind desk_failed
 
   abbrev pub DoesCat : CatWords → Type 0
   DoesCat words = CatsSectors desk_calls (cat_record words) desk_before desk_behind

@@ -2,7 +2,7 @@ pub mod Commands
 pub mod Desks
 pub mod Endings
 pub mod FaultTexts
-pub mod Further
+pub mod Invocations
 pub mod Lines
 pub mod ManyExports
 pub mod MappedCopies

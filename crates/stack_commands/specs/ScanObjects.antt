@@ -4,7 +4,7 @@ use Rattle.std.specs.Io.KnownBytes.{Appends}
 use Rattle.image_files.specs.Opener.{Calls}
 use Rattle.reply_json.specs.Lines.{json_line}
 use Rattle.stack_json.specs.Lost.{lost_json}
-use Rattle.stack_recovery.specs.declared.lost_run.LostRun.{LostRun}
+use Rattle.stack_recovery.specs.LostRuns.{LostRun}
 use Rattle.stack_recovery.specs.declared.recovery.Counts.{Counts}
 use Rattle.stack_recovery.specs.Listings.{Listed, listed}
 use Rattle.stack_recovery.specs.Texts.{lost_text}

@@ -7,14 +7,18 @@ use Rattle.counted_io.specs.Streams.{Streams, streams}
 use Rattle.command_line.specs.declared.bindings.Binding.{Binding}
 use Rattle.command_line.specs.declared.invocation.ServedDevice.{ServedDevice}
 use Rattle.command_line.specs.declared.words.exports.ExportsWords.{ExportsWords}
+use Rattle.command_line.specs.declared.words.nbd.NbdWords.{NbdWords}
+use Rattle.command_line.specs.declared.words.session.SessionWords.{SessionWords}
 use Rattle.command_line.specs.declared.words.store.StoreWords.{StoreWords}
 use Rattle.command_line.specs.Bindings.{binding_record}
 use Rattle.command_line.specs.words.Exports.{exports_record}
+use Rattle.command_line.specs.words.Nbd.{nbd_record}
+use Rattle.command_line.specs.words.Session.{session_record}
 use Rattle.command_line.specs.words.Store.{store_record}
 use Rattle.image_files.specs.Opener.{Calls, Opener, calls}
 use Rattle.stack_making.specs.NamedDevices.{DeviceWords}
 use Rattle.stack_commands.specs.declared.fault.CommandFault.{CommandFault}
-use Rattle.stack_commands.specs.Further.{IsExportsWordsEnd, IsStoreCommandEnd, ServesDevices, StoresSectors}
+use Rattle.stack_commands.specs.Invocations.{IsExportsWordsEnd, IsNbdWordsEnd, IsSessionWordsEnd, IsStoreCommandEnd, ServesDevices, ServesInputLines, ServesNamedDevice, StoresSectors}
 use Rattle.stack_commands.specs.ManyExports.{IsExportsEnd, ServesExports}
 use Rattle.stack_commands.specs.StackCommands.{IsClientEnd, IsServeEnd, ServesClient, ServesSession, device_on, on}
 
@@ -44,6 +48,18 @@ module _ {S D R T : Type 0} (relations : Opener S D) (state : D → Device) (rem
 
   abbrev pub EndsExports : ExportsWords → CommandFault → Type 0
   EndsExports words = IsExportsWordsEnd served_calls (exports_record words) served_before served_behind writer'.failed
+
+  abbrev pub DoesSession : SessionWords → Type 0
+  DoesSession words = ServesInputLines served_calls (session_record words) served_before served_behind
+
+  abbrev pub EndsSession : SessionWords → CommandFault → Type 0
+  EndsSession words = IsSessionWordsEnd served_calls (session_record words) served_before served_behind writer'.failed
+
+  abbrev pub DoesNbd : NbdWords → Type 0
+  DoesNbd words = ServesNamedDevice served_calls (nbd_record words) served_before served_behind
+
+  abbrev pub EndsNbd : NbdWords → CommandFault → Type 0
+  EndsNbd words = IsNbdWordsEnd served_calls (nbd_record words) served_before served_behind writer'.failed
 
   -- the lines of the input
   abbrev pub ServesInput : ℕ → List Binding → Type 0

@@ -1,11 +1,12 @@
 //! The commands of the program: words and a reader in, a written text and a status out.
 #![tactic(auto)]
 
+mod copy;
 mod desk;
 mod ending;
 mod fault;
 mod fault_texts;
-mod further;
+mod invocation;
 mod load;
 mod mapped_copy;
 mod mapped_scan;
@@ -13,8 +14,10 @@ mod nbd;
 mod program;
 mod read;
 mod repair;
+mod scan;
 mod scan_object;
 mod serve;
+mod streams;
 mod verify;
 mod words;
 mod write;

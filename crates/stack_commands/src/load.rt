@@ -1,10 +1,12 @@
 //! The command `load`: checks a stack, and says what its devices are.
 ghost use Rattle.std.specs.Prelude.{◌≡◌, ◌⊎◌, IfErr, OnOk};
 ghost use Rattle.stack_commands.specs.Endings.{IsSilent, IsReplyUnwritten};
-ghost use Rattle.stack_commands.specs.Desks.{EndsListing, IsSilentOn, ListsFile, PrintsConfiguration};
+ghost use Rattle.stack_commands.specs.Desks.{DoesLoad, EndsListing, EndsLoad, IsSilentOn, ListsFile, PrintsConfiguration};
 
 use crate::desk::Desk;
 use crate::fault::CommandFault;
+use crate::words::stack_file;
+use command_line::LoadWords;
 use counted_io::Counted;
 use image_files::Images;
 use stack_config::Config;
@@ -15,8 +17,26 @@ use std::alloc::Global;
 use std::io::Write;
 
 /// `load [--json] STACK BINDING...`: the devices of a stack file over the bindings, as a JSON object or a line each.
+pub fn invoke_load<'a, I: Images, W: Write>(
+    alloc: Global,
+    desk: Desk<'_, I, W>,
+    words: LoadWords<'a>,
+) -> Result<(), CommandFault<'a>>
+    ensures ok { OnOk result (DoesLoad I.relations I.Dev.state W.contents desk.entry desk.exit words.entry) }
+    ensures err { IfErr result (EndsLoad I.relations I.Dev.state W.contents desk.entry desk.exit words.entry) }
+{
+    let LoadWords {
+        stack,
+        bindings,
+        json,
+    } = words;
+    let file = stack_file(stack, &bindings);
+    load_stack_file(alloc, desk, file, json)
+}
+
+// The devices of a stack file, as a JSON object or a line each.
 #[tactic(auto, using(crate::proofs::EndingLemmas::quiet))]
-pub fn load_stack_file<'a, I: Images, W: Write>(
+fn load_stack_file<'a, I: Images, W: Write>(
     alloc: Global,
     desk: Desk<'_, I, W>,
     file: StackFile<'a, '_>,

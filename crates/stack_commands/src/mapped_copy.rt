@@ -49,7 +49,10 @@ pub fn copy_by_map<'a, I: Images, W: Write, P: Progress>(
     images.close(path, image);
     match outcome {
         Ok(counts) => Ok(tell_counts(counts, writer)?),
-        Err(end) => Err(CommandFault::Map(end)),
+        Err(end) => {
+            drop(stack);
+            Err(CommandFault::Map(end))
+        }
     }
 }
 

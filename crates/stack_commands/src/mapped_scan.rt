@@ -39,5 +39,6 @@ pub fn scan_by_map<'a, I: Images, W: Write, P: Progress>(
     let counts = rescue_by_map(
         alloc, images, &mut stack, device, &mut out, file, writer, progress,
     )?;
+    drop(stack);
     Ok(tell_counts(counts, writer)?)
 }

@@ -1,10 +1,10 @@
 //! The command `nbd`: serves a device, or each device, of a stack to a client of the NBD protocol.
 ghost use Rattle.std.specs.Prelude.{OnOk, IfErr};
-ghost use Rattle.stack_commands.specs.Served.{EndsAll, EndsClient, ServesDevice, ServesEach};
+ghost use Rattle.stack_commands.specs.Served.{DoesExports, DoesNbd, EndsAll, EndsClient, EndsExports, EndsNbd, ServesDevice, ServesEach};
 
 use crate::fault::CommandFault;
 use block_device::BlockDev;
-use command_line::{Binding, ServedDevice};
+use command_line::{Binding, ExportsWords, NbdWords, ServedDevice};
 use counted_io::Counted;
 use image_files::Images;
 use nbd_protocol::{Export, exports_of, names_of};
@@ -17,7 +17,50 @@ use std::io::{Read, Write};
 
 /// `nbd [--cache N] STACK NAME BINDING...`: a device of a stack file over the bindings, whose images are synced and given
 /// back at the end.
-pub fn serve_client<'a, I: Images, R: Read, W: Write>(
+pub fn invoke_nbd<'a, I: Images, S: Read, W: Write>(
+    alloc: Global,
+    images: &mut I,
+    words: NbdWords<'a>,
+    reader: &mut Counted<S>,
+    writer: &mut Counted<W>,
+) -> Result<(), CommandFault<'a>>
+    ensures ok { OnOk result (DoesNbd I.relations I.Dev.state S.remaining W.contents images.old images.new reader.old reader.new writer.old writer.new words.entry) }
+    ensures err { IfErr result (EndsNbd I.relations I.Dev.state S.remaining W.contents images.old images.new reader.old reader.new writer.old writer.new words.entry) }
+{
+    let NbdWords { device, bindings } = words;
+    serve_client(alloc, images, device, bindings.as_slice(), reader, writer)
+}
+
+/// `nbd --all [--cache N] STACK BINDING...`: each device of a stack file over the bindings, under its name; the images are
+/// synced and given back at the end.
+pub fn invoke_exports<'a, I: Images, S: Read, W: Write>(
+    alloc: Global,
+    images: &mut I,
+    words: ExportsWords<'a>,
+    reader: &mut Counted<S>,
+    writer: &mut Counted<W>,
+) -> Result<(), CommandFault<'a>>
+    ensures ok { OnOk result (DoesExports I.relations I.Dev.state S.remaining W.contents images.old images.new reader.old reader.new writer.old writer.new words.entry) }
+    ensures err { IfErr result (EndsExports I.relations I.Dev.state S.remaining W.contents images.old images.new reader.old reader.new writer.old writer.new words.entry) }
+{
+    let ExportsWords {
+        cache,
+        stack,
+        bindings,
+    } = words;
+    serve_exports(
+        alloc,
+        images,
+        cache,
+        stack,
+        bindings.as_slice(),
+        reader,
+        writer,
+    )
+}
+
+// A device of a stack file, whose images are synced and given back at the end.
+fn serve_client<'a, I: Images, R: Read, W: Write>(
     alloc: Global,
     images: &mut I,
     device: ServedDevice<'a>,
@@ -43,9 +86,8 @@ pub fn serve_client<'a, I: Images, R: Read, W: Write>(
     Ok(synced?)
 }
 
-/// `nbd --all [--cache N] STACK BINDING...`: each device of a stack file over the bindings, under its name; the images are
-/// synced and given back at the end.
-pub fn serve_exports<'a, I: Images, R: Read, W: Write>(
+// Each device of a stack file, under its name.
+fn serve_exports<'a, I: Images, R: Read, W: Write>(
     alloc: Global,
     images: &mut I,
     cache: u32,

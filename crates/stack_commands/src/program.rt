@@ -3,44 +3,33 @@ ghost use Rattle.std.specs.Prelude.{false, ◌≡◌, ◌⊎◌, ℕ, List, Opti
 ghost use Rattle.counted_io.specs.Streams.{streams};
 ghost use Rattle.image_commands.specs.Drawing.{drawing};
 ghost use Rattle.image_files.specs.Opener.{calls};
-ghost use Rattle.stack_commands.specs.Commands.{EndsCommand, IsCommandDone, is_usage, output_is_data, told_to, writes_data};
-ghost use Rattle.stack_commands.specs.Lines.{DoesLine, DoesOnDevice, DoesOnStack, DoesWords, EndsLine, EndsOnDevice, EndsOnStack, EndsWords, IsOnDevice, IsOnStack};
+ghost use Rattle.stack_commands.specs.Commands.{EndsCommand, IsCommandDone, is_output_failed, is_usage, output_is_data, told_to, writes_data};
+ghost use Rattle.stack_commands.specs.Lines.{DoesWords, EndsWords};
 ghost use Rattle.stack_commands.specs.Uses.{uses};
 
-use crate::desk::Desk;
 use crate::ending::end;
 use crate::fault::CommandFault;
-use crate::further::{FurtherLine, invoke_further};
-use crate::load::load_stack_file;
-use crate::nbd::serve_client;
-use crate::read::read_stack_file;
-use crate::serve::serve_lines;
-use crate::words::stack_file;
-use crate::write::write_stack_file;
-use command_line::Invocation;
-use command_parser::{CommandLine, parse};
+use crate::invocation::invoke;
+use command_parser::parse;
 use counted_io::Counted;
 use image_commands::Generators;
 use image_files::Images;
 use manual_pages::say_wrong_words;
 use progress::Progress;
-use recovery_commands::{Output, copy_device, scan_device};
-use stack_making::NamedDevice;
+use recovery_commands::RecoveringFault;
+use rescue_files::RescueFault;
 use std::alloc::Global;
 use std::io::{Read, Write};
-use verity_commands::{VerityFault, invoke_on_images};
+use verity_commands::VerityFault;
 use watched_device::Watchers;
 
 const DONE: u8 = 0;
-
-// How many hash blocks are kept where the words say no number.
-const CACHED_BLOCKS: u32 = 64;
 
 /// Runs the words behind the program's name, and answers the status: 0 done, 1 refused, 2 usage, 3 a fault of
 /// the stack or images that differ, 4 a client that breaks the NBD protocol.
 ///
 /// All that is opened is opened by `images`. Why `cat` and `nbd` end early goes to `errors`, since what they write is
-/// data for another program; so does what is said of words that are no command, beside `usage`.
+/// data for another program; so do the explanation of a usage error, beside `usage`, and the line that OUT of `copy` failed.
 pub fn command<I: Images, G: Generators + Progress + Watchers, S: Read, W: Write, E: Write>(
     alloc: Global,
     images: &mut I,
@@ -62,6 +51,7 @@ pub fn command<I: Images, G: Generators + Progress + Watchers, S: Read, W: Write
             if output_is_data(words) {
                 end(errors, fault)
             } else {
+                tell_output(errors, fault);
                 end(writer, fault)
             }
         }
@@ -74,6 +64,26 @@ fn explain<E: Write>(errors: &mut Counted<E>, words: &[String], fault: CommandFa
 {
     if is_usage(fault) {
         let _said = say_wrong_words(errors, words);
+    }
+}
+
+// Says on standard error that OUT of `copy` failed, since the printed line doesn't name the device.
+fn tell_output<E: Write>(errors: &mut Counted<E>, fault: CommandFault<'_>)
+    ensures { is_output_failed fault.entry ≡ false → E.contents errors.new.inner ≡ E.contents errors.old.inner }
+{
+    if is_output_failed(fault) {
+        let _said = errors.put(b"dmstack: OUT failed\n");
+    }
+}
+
+// Whether OUT failed, the image to which `copy` writes.
+fn is_output_failed(fault: CommandFault<'_>) -> bool
+    ensures { result ≡ is_output_failed fault.entry }
+{
+    match fault {
+        CommandFault::Recovering(fault) => fault == RecoveringFault::OutputFailed,
+        CommandFault::Map(map) => map.fault == RescueFault::Output,
+        _ => false,
     }
 }
 
@@ -121,119 +131,4 @@ fn run<'a, I: Images, G: Generators + Progress + Watchers, S: Read, W: Write>(
 {
     let line = parse(alloc, words)?;
     invoke(alloc, images, generators, line, reader, writer)
-}
-
-// Runs a command; the options are those of `format`.
-fn invoke<'a, I: Images, G: Generators + Progress + Watchers, S: Read, W: Write>(
-    alloc: Global,
-    images: &mut I,
-    generators: &mut G,
-    line: CommandLine<'a>,
-    reader: &mut Counted<S>,
-    writer: &mut Counted<W>,
-) -> Result<(), CommandFault<'a>>
-    requires reader { reader.old.failed ≡ false }
-    requires writer { writer.old.failed ≡ false }
-    ensures ok { OnOk result (DoesLine I.relations I.Dev.state S.remaining W.contents images.old images.new (drawing G.gives G.Generator.stream generators.old generators.new) reader.old reader.new writer.old writer.new line.entry) }
-    ensures err { IfErr result (EndsLine I.relations I.Dev.state S.remaining W.contents images.old images.new (drawing G.gives G.Generator.stream generators.old generators.new) reader.old reader.new writer.old writer.new line.entry) }
-{
-    let CommandLine {
-        invocation,
-        options,
-    } = line;
-    match invocation {
-        Invocation::Session { cache, bindings } => {
-            serve_lines(alloc, images, cache, bindings.as_slice(), reader, writer)
-        }
-        Invocation::Nbd { device, bindings } => {
-            serve_client(alloc, images, device, bindings.as_slice(), reader, writer)
-        }
-        Invocation::Image(invocation) => {
-            Ok(invoke_on_images(alloc, images, generators, invocation, &options, writer)?)
-        }
-        Invocation::Further(further) => {
-            let line = FurtherLine { further, options };
-            invoke_further(alloc, images, generators, line, reader, writer)
-        }
-        invocation => invoke_on_stack(alloc, Desk { images, writer }, invocation, generators),
-    }
-}
-
-// The commands on a stack file that read no input.
-fn invoke_on_stack<'a, I: Images, W: Write, P: Progress>(
-    alloc: Global,
-    desk: Desk<'_, I, W>,
-    invocation: Invocation<'a>,
-    progress: &mut P,
-) -> Result<(), CommandFault<'a>>
-    requires { IsOnStack invocation }
-    ensures ok { OnOk result (DoesOnStack I.relations I.Dev.state W.contents desk.entry desk.exit invocation.entry) }
-    ensures err { IfErr result (EndsOnStack I.relations I.Dev.state W.contents desk.entry desk.exit invocation.entry) }
-{
-    match invocation {
-        Invocation::Load { stack, bindings } => {
-            let file = stack_file(stack, &bindings);
-            load_stack_file(alloc, desk, file, false)
-        }
-        Invocation::Read {
-            cache,
-            stack,
-            sectors,
-            bindings,
-        } => {
-            let file = stack_file(stack, &bindings);
-            read_stack_file(alloc, desk, file, cache, sectors)
-        }
-        Invocation::Write {
-            cache,
-            stack,
-            transfer,
-            bindings,
-        } => {
-            let file = stack_file(stack, &bindings);
-            write_stack_file(alloc, desk, file, cache, transfer)
-        }
-        invocation => invoke_on_device(alloc, desk, invocation, progress),
-    }
-}
-
-// Those that go over a device.
-fn invoke_on_device<'a, I: Images, W: Write, P: Progress>(
-    alloc: Global,
-    desk: Desk<'_, I, W>,
-    invocation: Invocation<'a>,
-    progress: &mut P,
-) -> Result<(), CommandFault<'a>>
-    requires { IsOnDevice invocation }
-    ensures ok { OnOk result (DoesOnDevice I.relations I.Dev.state W.contents desk.entry desk.exit invocation.entry) }
-    ensures err { IfErr result (EndsOnDevice I.relations I.Dev.state W.contents desk.entry desk.exit invocation.entry) }
-{
-    let Desk { images, writer } = desk;
-    let cache = CACHED_BLOCKS;
-    match invocation {
-        Invocation::Scan {
-            stack,
-            name,
-            bindings,
-        } => {
-            let file = stack_file(stack, &bindings);
-            let device = NamedDevice { name, cache };
-            Ok(scan_device(alloc, images, file, device, writer, progress)?)
-        }
-        Invocation::Copy {
-            stack,
-            name,
-            out,
-            bindings,
-        } => {
-            let file = stack_file(stack, &bindings);
-            let device = NamedDevice { name, cache };
-            let output = Output {
-                path: out,
-                differing: false,
-            };
-            Ok(copy_device(alloc, images, file, device, output, writer, progress)?)
-        }
-        _ => Err(CommandFault::Usage),
-    }
 }

@@ -1,10 +1,11 @@
 //! The command `read`: prints sectors of a device.
 ghost use Rattle.std.specs.Prelude.{OnOk, IfErr};
-ghost use Rattle.stack_commands.specs.Desks.{EndsReading, IsSilentOn, ReadsFile};
+ghost use Rattle.stack_commands.specs.Desks.{DoesRead, EndsRead, EndsReading, IsSilentOn, ReadsFile};
 
 use crate::desk::Desk;
 use crate::fault::CommandFault;
-use command_line::Sectors;
+use crate::words::stack_file;
+use command_line::{ReadWords, Sectors};
 use image_files::Images;
 use request_commands::read_sectors;
 use stack_opening::StackFile;
@@ -14,8 +15,27 @@ use std::io::Write;
 
 /// `read [--cache N] STACK NAME FIRST COUNT BINDING...`: sectors of a device of a stack file over the bindings, written as a
 /// session does.
+pub fn invoke_read<'a, I: Images, W: Write>(
+    alloc: Global,
+    desk: Desk<'_, I, W>,
+    words: ReadWords<'a>,
+) -> Result<(), CommandFault<'a>>
+    ensures ok { OnOk result (DoesRead I.relations I.Dev.state W.contents desk.entry desk.exit words.entry) }
+    ensures err { IfErr result (EndsRead I.relations I.Dev.state W.contents desk.entry desk.exit words.entry) }
+{
+    let ReadWords {
+        cache,
+        stack,
+        sectors,
+        bindings,
+    } = words;
+    let file = stack_file(stack, &bindings);
+    read_stack_file(alloc, desk, file, cache, sectors)
+}
+
+// Sectors of a device of a stack file, written as a session does.
 #[tactic(auto, using(crate::proofs::EndingLemmas::quiet))]
-pub fn read_stack_file<'a, I: Images, W: Write>(
+fn read_stack_file<'a, I: Images, W: Write>(
     alloc: Global,
     desk: Desk<'_, I, W>,
     file: StackFile<'a, '_>,

@@ -58,6 +58,7 @@ pub fn scan_to_object_by_map<'a, I: Images, W: Write, P: Progress>(
     let counts = rescue_by_map(
         alloc, images, &mut stack, device, &mut out, file, &mut kept, progress,
     )?;
+    drop(stack);
     if kept.refused {
         return Err(CommandFault::NoMemory);
     }

@@ -1,10 +1,10 @@
 //! The command `session`: serves the lines of a reader.
 ghost use Rattle.std.specs.Prelude.{false, ◌≡◌, OnOk, IfErr};
-ghost use Rattle.stack_commands.specs.Served.{EndsLines, ServesInput};
+ghost use Rattle.stack_commands.specs.Served.{DoesSession, EndsLines, EndsSession, ServesInput};
 
 use crate::fault::CommandFault;
 use block_device::BlockDev;
-use command_line::Binding;
+use command_line::{Binding, SessionWords};
 use counted_io::Counted;
 use image_files::Images;
 use request_queue::Queue;
@@ -14,7 +14,24 @@ use std::alloc::Global;
 use std::io::{Read, Write};
 
 /// `session [--cache N] BINDING...`: a session over the bindings, whose images are synced and given back at its end.
-pub fn serve_lines<'a, I: Images, R: Read, W: Write>(
+pub fn invoke_session<'a, I: Images, R: Read, W: Write>(
+    alloc: Global,
+    images: &mut I,
+    words: SessionWords<'a>,
+    reader: &mut Counted<R>,
+    writer: &mut Counted<W>,
+) -> Result<(), CommandFault<'a>>
+    requires reader { reader.old.failed ≡ false }
+    requires writer { writer.old.failed ≡ false }
+    ensures ok { OnOk result (DoesSession I.relations I.Dev.state R.remaining W.contents images.old images.new reader.old reader.new writer.old writer.new words.entry) }
+    ensures err { IfErr result (EndsSession I.relations I.Dev.state R.remaining W.contents images.old images.new reader.old reader.new writer.old writer.new words.entry) }
+{
+    let SessionWords { cache, bindings } = words;
+    serve_lines(alloc, images, cache, bindings.as_slice(), reader, writer)
+}
+
+// A session over the bindings, whose images are synced and given back at its end.
+fn serve_lines<'a, I: Images, R: Read, W: Write>(
     alloc: Global,
     images: &mut I,
     cache: u32,

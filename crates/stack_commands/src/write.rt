@@ -1,10 +1,11 @@
 //! The command `write`: writes a file's bytes to a device.
 ghost use Rattle.std.specs.Prelude.{OnOk, IfErr};
-ghost use Rattle.stack_commands.specs.Desks.{EndsWriting, IsSilentOn, WritesFile};
+ghost use Rattle.stack_commands.specs.Desks.{DoesWrite, EndsWrite, EndsWriting, IsSilentOn, WritesFile};
 
 use crate::desk::Desk;
 use crate::fault::CommandFault;
-use command_line::Transfer;
+use crate::words::stack_file;
+use command_line::{Transfer, WriteWords};
 use image_files::Images;
 use request_commands::write_source;
 use stack_opening::StackFile;
@@ -12,10 +13,29 @@ use stack_session::say_written;
 use std::alloc::Global;
 use std::io::Write;
 
-/// `write [--cache N] STACK NAME FIRST SOURCE BINDING..`: the bytes of the source file to a device of a stack file
-/// over the bindings, whose images are synced and given back before anything is printed.
+/// `write [--cache N] STACK NAME FIRST SOURCE BINDING...`: the bytes of the source file to a device of a stack file over the
+/// bindings, whose images are synced and given back before anything is printed.
+pub fn invoke_write<'a, I: Images, W: Write>(
+    alloc: Global,
+    desk: Desk<'_, I, W>,
+    words: WriteWords<'a>,
+) -> Result<(), CommandFault<'a>>
+    ensures ok { OnOk result (DoesWrite I.relations I.Dev.state W.contents desk.entry desk.exit words.entry) }
+    ensures err { IfErr result (EndsWrite I.relations I.Dev.state W.contents desk.entry desk.exit words.entry) }
+{
+    let WriteWords {
+        cache,
+        stack,
+        transfer,
+        bindings,
+    } = words;
+    let file = stack_file(stack, &bindings);
+    write_stack_file(alloc, desk, file, cache, transfer)
+}
+
+// The bytes of the source file to a device of a stack file, whose images are synced and given back before anything is printed.
 #[tactic(auto, using(crate::proofs::EndingLemmas::quiet))]
-pub fn write_stack_file<'a, I: Images, W: Write>(
+fn write_stack_file<'a, I: Images, W: Write>(
     alloc: Global,
     desk: Desk<'_, I, W>,
     file: StackFile<'a, '_>,

@@ -116,11 +116,10 @@ module _ {c : Configuration} {p : VerityPart} {n : ℕ} (b : BlockAt c p n) wher
 
   -- from a chain that was walked
   pub part_walked : {old new : List Device} (found : List FoundRecord) (chain : ChainRecord) {bytes : List ℕ} → AllKept c old found
-      → ((k : ℕ) → k < length found → (y : FoundRecord) → found_entry (get_or found k y) ≡ (p.device.0, p.line, p.first / block_sectors p.verity.now) → ⊥)
       → GetsChain (block_in c p.verity.now (p.first / block_sectors p.verity.now)) old new (Ok chain)
       → bytes ≡ take (512 * n) (drop (512 * (p.first % block_sectors p.verity.now)) chain.content)
       → ReadsSource c (Block p) n (record { old = old; new = new; before = found; after = found ++ (record { device = p.device.0; line = p.line; chain = chain } ∷ []) }) (Ok bytes)
-  part_walked {old = old} {new = new} found chain kept none q is =
+  part_walked {old = old} {new = new} found chain kept q is =
       let x : FoundRecord = record { device = p.device.0; line = p.line; chain = chain } in
       let here : found_entry x ≡ (p.device.0, p.line, p.first / block_sectors p.verity.now) = ap (λ (k : ℕ). (p.device.0, p.line, k)) q.may.0 in
       let one : IsOfVerity (said_by_name c p.verity.now.data) (said_by_name c p.verity.now.hash) (target_leaves c (verity_target p.verity.now)) new p.verity.now chain = record {
@@ -133,7 +132,7 @@ module _ {c : Configuration} {p : VerityPart} {n : ℕ} (b : BlockAt c p n) wher
       pass passes (record { old = old; new = new; before = found; after = found ++ (x ∷ []) }) (Ok _) (record {
         got = chain_fills (block_in c p.verity.now (p.first / block_sectors p.verity.now)) (p.device.0, p.line) p.first n (read_cost c (mapped p.device.0)) refl b.within b.size.whole (found ++ (x ∷ [])) x
             (AreRead-more (let most = mul-le-mul_right (read_cost c (mapped p.device.0)) b.some in omega (arith, most, block-cost)) q.moved) q.exact q.may.1 here (Contains-push found x) is;
-        grown = Grown-push _ 0 n found x b.some (0, omega arith, (let e : p.first + 0 ≡ p.first = omega arith in ap (λ (k : ℕ). (p.device.0, p.line, k / block_sectors p.verity.now)) e ∙ sym here)) (λ k h y same. none k h y (same ∙ here));
+        grown = Grown-push _ 0 n found x b.some (0, omega arith, (let e : p.first + 0 ≡ p.first = omega arith in ap (λ (k : ℕ). (p.device.0, p.line, k / block_sectors p.verity.now)) e ∙ sym here));
         kept = AllKept-push c new found x (kept-later c found q.moved kept) (record { line = b.line.line; is = b.line.is; keeps = subst (λ (t : Target). LineKeeps c new t chain) (sym b.line.has) one });
       })
 

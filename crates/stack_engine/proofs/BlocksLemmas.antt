@@ -247,7 +247,7 @@ module _ {c : Configuration} {p : VerityPart} {n : ℕ} {found : List FoundRecor
 
   -- ---- the read goes on
 
-  none-more : (now : List FoundRecord) (j : ℕ) → AreBefore p.device.0 p.line (index + j) now → (k : ℕ) → k < length now → (y : FoundRecord) → found_entry (get_or now k y) ≡ (p.device.0, p.line, index + j) → ⊥
+  pub none-more : (now : List FoundRecord) (j : ℕ) → AreBefore p.device.0 p.line (index + j) now → (k : ℕ) → k < length now → (y : FoundRecord) → found_entry (get_or now k y) ≡ (p.device.0, p.line, index + j) → ⊥
   none-more now j before k below y same =
       let number : (get_or now k y).chain.index ≡ index + j = ap (λ (e : Entry). e.2) same in
       omega (arith, number, before k y below (ap (λ (e : Entry). e.0) same) (ap (λ (e : Entry). e.1) same))
@@ -281,11 +281,11 @@ module _ {c : Configuration} {p : VerityPart} {n : ℕ} {found : List FoundRecor
     within = omega (arith, at-begin j)
 
     -- by one block
-    pub blocks-more : (content : List ℕ) (path : List (List ℕ)) {now : List Device} → length content ≡ 512 * block_sectors p.verity.now → AreBefore p.device.0 p.line (index + j) w
+    pub blocks-more : (content : List ℕ) (path : List (List ℕ)) {now : List Device} → length content ≡ 512 * block_sectors p.verity.now
         → GetsChain (block_in c p.verity.now (index + j)) mid now (Ok (record { index = index + j; content = content; path = path }))
         → Finds (blocks_place c p n) c 0 (j * block_sectors p.verity.now + block_sectors p.verity.now)
         (record { old = old; new = new; before = u; after = w ++ (record { device = p.device.0; line = p.line; chain = record { index = index + j; content = content; path = path } } ∷ []) }) (Ok (x ++ content))
-    blocks-more content path len before got =
+    blocks-more content path len got =
         let chain : ChainRecord = record { index = index + j; content = content; path = path } in
         let one : FoundRecord = record { device = p.device.0; line = p.line; chain = chain } in
         let whole : IsOfVerity (said_by_name c p.verity.now.data) (said_by_name c p.verity.now.hash) (target_leaves c (verity_target p.verity.now)) new p.verity.now chain = record {
@@ -302,8 +302,7 @@ module _ {c : Configuration} {p : VerityPart} {n : ℕ} {found : List FoundRecor
           got = chain_fills (block_in c p.verity.now (index + j)) (p.device.0, p.line) (p.first + j * block_sectors p.verity.now) (block_sectors p.verity.now) (n * read_cost c (mapped p.device.0)) (sym (at-index j)) within b.size.whole (w ++ (one ∷ [])) one
               (AreRead-more step-cost moved) got.exact got.may.1 refl (Contains-push w one) is;
           grown = Grown-push _ 0 (block_sectors p.verity.now) w one b.size.some
-              (0, omega arith, (let e : p.first + j * block_sectors p.verity.now + 0 ≡ p.first + j * block_sectors p.verity.now = omega arith in ap (λ (s : ℕ). (p.device.0, p.line, s / block_sectors p.verity.now)) e ∙ ap (λ (i : ℕ). (p.device.0, p.line, i)) (at-index j)))
-              (none-more w j before);
+              (0, omega arith, (let e : p.first + j * block_sectors p.verity.now + 0 ≡ p.first + j * block_sectors p.verity.now = omega arith in ap (λ (s : ℕ). (p.device.0, p.line, s / block_sectors p.verity.now)) e ∙ ap (λ (i : ℕ). (p.device.0, p.line, i)) (at-index j)));
           kept = AllKept-push c new w one (kept-later c w moved so_far.kept) (record { line = b.line.line; is = b.line.is; keeps = subst (λ (t : Target). LineKeeps c new t chain) (sym b.line.has) whole });
         }))
 

@@ -20,5 +20,4 @@ pub mod UnitStepLemmas
 pub mod UnitChangeLemmas
 pub mod HeldLemmas
 pub mod RunBytesLemmas
-pub mod TableLineLemmas
 pub mod RefusedLemmas

@@ -27,7 +27,7 @@ use Rattle.stack_lines.specs.declared.source.Source.TheVariants.{Blocks}
 use Rattle.stack_meaning.specs.Changes.{AllWhole}
 use Rattle.stack_meaning.specs.Blocks.{is_ignored}
 use Rattle.stack_meaning.specs.Outcomes.{Outcome, mismatch, span}
-use Rattle.stack_meaning.specs.Found.{FoundRecord}
+use Rattle.stack_meaning.specs.Found.{FoundRecord, AreDistinct}
 use Rattle.stack_meaning.specs.Kept.{AllKept}
 use Rattle.stack_meaning.specs.Leaves.{steady_images, AreRead}
 use Rattle.stack_meaning.specs.Places.{Place, place_of, LeafRead}
@@ -48,9 +48,10 @@ use Rattle.stack_lines.proofs.lemmas.UnitReadLemmas.{images-whole}
 use Rattle.stack_lines.proofs.lemmas.VerityLineLemmas.{place-named}
 use Rattle.stack_engine.specs.declared.path.Chains.{Chains}
 use Rattle.stack_engine.specs.Bytes.{GetsBytes}
-use Rattle.stack_engine.specs.Keeping.{AreHandedOut, ReadsBlocks}
-use Rattle.stack_engine.proofs.KeepingLemmas.{none-out}
-use Rattle.stack_engine.proofs.BlocksLemmas.{blocks_place, path_cost, read_cost_so_far, BlocksAt, IsRead, block-had, block-zeros, block-other, total-cost, before-more, none-read, blocks-more, blocks-stop, blocks-differ, blocks-full, row-stops, blocks-read}
+use Rattle.stack_engine.specs.Keeping.{AreHandedOut, ReadsSourceAs}
+use Rattle.stack_engine.proofs.KeepingLemmas.{finds-as, none-out}
+use Rattle.stack_engine.proofs.BlocksLemmas.{blocks_place, path_cost, read_cost_so_far, BlocksAt, IsRead, block-had, block-zeros, block-other, total-cost, before-more, none-more, none-read, blocks-more, blocks-stop, blocks-differ, blocks-full, row-stops, blocks-read}
+use Rattle.stack_engine.proofs.lemmas.BlockLemmas.{distinct-push}
 use Rattle.stack_engine.proofs.SpentLemmas.{way-spent, row-spent}
 use Rattle.allocation.specs.Refusal.{IsOutOfMemory}
 use Rattle.stack_meaning.specs.Memory.{largest_allocation}
@@ -98,6 +99,7 @@ pub record WereHad (c : Configuration) (p : VerityPart) (n r j : ℕ) (bytes : L
   pub so_far : Finds (blocks_place c p n) c 0 (j * block_sectors p.verity.now) did (Ok (take (512 * (j * block_sectors p.verity.now)) bytes))
   pub moved : AreRead did.old (read_cost_so_far c p.verity.now (r * block_sectors p.verity.now) j) did.new
   pub before : AreBefore p.device.0 p.line (p.first / block_sectors p.verity.now + j) did.after
+  pub distinct : AreDistinct did.before → AreDistinct did.after
 
 -- the blocks from block j on, as far as block r, stand in the bytes as they were read, and their digests were made
 abbrev pub AreReadAhead : Configuration → VerityPart → ℕ → ℕ → List ℕ → List (List ℕ) → List Device → Type 0
@@ -115,6 +117,7 @@ pub record IsNext (c : Configuration) (p : VerityPart) (n r j : ℕ) (bytes expe
   pub moved : AreRead did.old (read_cost_so_far c p.verity.now (r * block_sectors p.verity.now) (j + 1)) did.new
   pub rest : AreRead mid (read_cost_so_far c p.verity.now (r * block_sectors p.verity.now) (j + 1)) did.new
   pub before : AreBefore p.device.0 p.line (p.first / block_sectors p.verity.now + j) did.after
+  pub distinct : AreDistinct did.before → AreDistinct did.after
 
 -- ---- costs
 
@@ -228,6 +231,7 @@ module _ {c : Configuration} {p : VerityPart} {n : ℕ} {found : List FoundRecor
         so_far = subst (λ (l : List ℕ). Finds (blocks_place c p n) c 0 (0 * block_sectors p.verity.now) (record { old = old; new = old; before = found; after = found }) (Ok l)) front (none-read b found kept);
         moved = AreRead-none _ old;
         before = subst (λ (k : ℕ). AreBefore p.device.0 p.line k found) start b.before;
+        distinct = λ d. d;
       }
 
   cost : (block_in c p.verity.now 0).on_data.cost ≡ read_cost c p.data
@@ -324,18 +328,15 @@ module _ {c : Configuration} {p : VerityPart} {found : List FoundRecord} {start 
 
   -- after the last one
   pub checked-all : {chains : Chains} {r j : ℕ} {bytes : List ℕ} {made : List (List ℕ)} {path : List CachedBlock} {old new : List Device} {before now : List FoundRecord} → AreChecked c p chains start r j bytes made path old new before now
-      → length start % 512 ≡ 0 → (j < length start / p.verity.now.data_block → ⊥) → ReadsBlocks c p (length start / 512) chains (record { old = old; new = new; before = before; after = now }) (Ok bytes)
-  checked-all {r = r} {j = j} {bytes = bytes} {old = old} {new = new} {before = before} inv whole last =
+      → length start % 512 ≡ 0 → (j < length start / p.verity.now.data_block → ⊥) → ReadsSourceAs chains c (Blocks p) (length start / 512) (record { old = old; new = new; before = before; after = now }) (Ok bytes)
+  checked-all {chains = chains} {r = r} {j = j} {bytes = bytes} {old = old} {new = new} {before = before} inv whole last =
       let all : j ≡ (length start / 512) / block_sectors p.verity.now = omega (arith, last, inv.within, digest-count b start (omega (arith, whole))) in
       let count : j * block_sectors p.verity.now ≡ (length start / 512) = ap (λ (k : ℕ). k * block_sectors p.verity.now) all ∙ b.count in
       let front : take (512 * (j * block_sectors p.verity.now)) bytes ≡ bytes = take_all (512 * (j * block_sectors p.verity.now)) bytes (omega (arith, inv.size, whole, count)) in
       let did : LeafRead = record { old = old; new = new; before = before; after = inv.after } in
-      record {
-        after = inv.after;
-        out = inv.out;
-        reads = blocks-read b did (Ok bytes) r j inv.most inv.within inv.had.moved
-            (subst (λ (k : ℕ). Finds (blocks_place c p (length start / 512)) c 0 k did (Ok bytes)) count (subst (λ (l : List ℕ). Finds (blocks_place c p (length start / 512)) c 0 (j * block_sectors p.verity.now) did (Ok l)) front inv.had.so_far));
-      }
+      finds-as chains (blocks-read b did (Ok bytes) r j inv.most inv.within inv.had.moved
+      (subst (λ (k : ℕ). Finds (blocks_place c p (length start / 512)) c 0 k did (Ok bytes)) count (subst (λ (l : List ℕ). Finds (blocks_place c p (length start / 512)) c 0 (j * block_sectors p.verity.now) did (Ok l)) front inv.had.so_far)))
+      inv.out inv.had.distinct
 
   -- ---- a turn
 
@@ -442,6 +443,7 @@ module _ {c : Configuration} {p : VerityPart} {found : List FoundRecord} {start 
           moved = all-moved;
           rest = rest-moved;
           before = had.before;
+          distinct = had.distinct;
         }
 
       -- and the read of the data after it failed
@@ -598,7 +600,7 @@ module _ {c : Configuration} {p : VerityPart} {n : ℕ} {found : List FoundRecor
           → WereHad c p n r (j + 1) written (record { old = did.old; new = did.new; before = did.before; after = did.after ++ (record { device = p.device.0; line = p.line; chain = record { index = number; content = content; path = way } } ∷ []) })
       block-checked {number = number} {way = way} here goes =
           let u : ℕ = block_sectors p.verity.now in
-          let more = blocks-more b j inside next.so_far next.rest few content path content-len next.before got-content in
+          let more = blocks-more b j inside next.so_far next.rest few content path content-len got-content in
           let count : j * u + u ≡ (j + 1) * u = omega (arith, add-mul j 1 u) in
           let one : FoundRecord = record { device = p.device.0; line = p.line; chain = record { index = p.first / u + j; content = content; path = path } } in
           let own : record { device = p.device.0; line = p.line; chain = record { index = number; content = content; path = way } } ≡ one =
@@ -615,6 +617,7 @@ module _ {c : Configuration} {p : VerityPart} {n : ℕ} {found : List FoundRecor
                 (subst (λ (l : List ℕ). Finds (blocks_place c p n) c 0 (j * u + u) after (Ok l)) longer more);
             moved = next.moved;
             before = before-more b did.after j content path next.before;
+            distinct = λ d. distinct-push did.after one (none-more b did.after j next.before) (next.distinct d);
           })
 
       -- those after it stay

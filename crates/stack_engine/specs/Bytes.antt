@@ -10,12 +10,11 @@ use Rattle.stack_rules.specs.Descend.{read_cost}
 use Rattle.stack_rules.specs.Trees.{tree_of}
 use Rattle.stack_meaning.specs.declared.fault.IoFault.{IoFault}
 use Rattle.stack_meaning.specs.Outcomes.{span}
-use Rattle.stack_meaning.specs.Found.{FoundRecord, AreUsed}
-use Rattle.stack_meaning.specs.Kept.{AllKept}
+use Rattle.stack_meaning.specs.Found.{FoundRecord}
 use Rattle.stack_meaning.specs.Meaning.{sector}
 use Rattle.stack_meaning.specs.May.{MayRead, MayFault}
 use Rattle.stack_meaning.specs.Leaves.{steady_images, AreSteady, AreRead}
-use Rattle.stack_meaning.specs.Places.{Place, place_of, run_expected}
+use Rattle.stack_meaning.specs.Places.{place_of, run_expected}
 use Rattle.stack_meaning.specs.Reading.{Ends, Answers, Gets}
 use Rattle.stack_lines.specs.Touches.{EndsAtFailure, TouchesOnly, leaves_of}
 use Rattle.stack_lines.specs.Walks.{HasVerity}
@@ -53,14 +52,6 @@ pub record EachBytes (w : StackRecord) (d first n : ℕ) (answer : Result (List 
   pub steady : AreSteady (leaves_of w.config (mapped d)) w.leaves → SteadyBytes w d first n answer w'
 
 -- ---- on the way
-
--- A read of n sectors of a place, from the first on, that hands out no chains. Each may be its bytes with those that
--- were found.
-pub record FindsBytes (place : Place) (c : Configuration) (first n : ℕ) (old new : List Device) (answer : Result (List ℕ) IoFault) : Type 0 where
-  pub chains : List FoundRecord
-  pub got : Gets (run_expected place chains first n) old new answer
-  pub used : AreUsed (λ s. (place.said s).entries) first n chains
-  pub kept : AllKept c new chains
 
 -- A read of n sectors of a leaf or device, from the first on, whose chains were dropped.
 pub record GetsBytes (c : Configuration) (lower : Lower) (first n : ℕ) (old new : List Device) (answer : Result (List ℕ) IoFault) : Type 0 where

@@ -12,4 +12,3 @@ pub mod ReadSteps
 pub mod WriteSteps
 pub mod Syncs
 pub mod Laws
-pub mod TableLines

@@ -21,7 +21,7 @@ use Rattle.stack_lines.specs.declared.tree.Extent.{Extent}
 use Rattle.stack_lines.specs.declared.tree.Tree.{Tree}
 use Rattle.stack_lines.specs.Budgets.{ReadsAtMost, budget, source_budget}
 use Rattle.stack_lines.specs.Caches.{KeepsCache}
-use Rattle.stack_lines.specs.Sources.{source_place, source_said}
+use Rattle.stack_lines.specs.Sources.{source_said}
 use Rattle.stack_lines.specs.Touches.{AsksOnly, leaves_of, source_leaves}
 use Rattle.stack_lines.specs.Walks.{block_in, checked_expected, data_expected, GetsChain, IsWalked}
 use Rattle.hash_tree.specs.Chain.{ChainRecord}
@@ -29,7 +29,7 @@ use Rattle.verified_cache.specs.Cache.{CachedBlock}
 use Rattle.stack_engine.specs.declared.backing.Backing.{Backing}
 use Rattle.stack_engine.specs.declared.path.WantedBlock.{WantedBlock}
 use Rattle.stack_engine.specs.Backings.{BackingRecord, backing_of, leaves_in}
-use Rattle.stack_engine.specs.Bytes.{FindsBytes, GetsBytes}
+use Rattle.stack_engine.specs.Bytes.{GetsBytes}
 use Rattle.stack_engine.specs.Premises.{CanRead}
 
 -- the buffer can be filled from the source, where those chains were found before
@@ -69,16 +69,9 @@ StepFrom state c source out old new result = IsReadStep c (run_of c source (leng
 abbrev pub StepAt : {D : Type 0} → (D → Device) → Configuration → Lower → ℕ → List ℕ → Backing D → Backing D → Result Unit IoFault → Type 0
 StepAt state c lower first out old new result = IsReadStep c (run_beneath c lower first (length out / 512)) (backing_of state old) (backing_of state new) result
 
--- ---- of a source, or of a leaf or a device
+-- ---- of a leaf or a device
 
--- its bytes, or a fault; the chains that show them aren't handed out
-abbrev pub BytesFrom : {D : Type 0} → (D → Device) → Configuration → Source → List ℕ → Backing D → Backing D → Result (List ℕ) IoFault → Type 0
-BytesFrom state c source out old new answer = FindsBytes (source_place c source) c 0 (length out / 512) (leaves_in state old) (leaves_in state new) answer
-
-abbrev pub BytesAt : {D : Type 0} → (D → Device) → Configuration → Lower → ℕ → List ℕ → Backing D → Backing D → Result (List ℕ) IoFault → Type 0
-BytesAt state c lower first out old new answer = FindsBytes (place_of c lower) c first (length out / 512) (leaves_in state old) (leaves_in state new) answer
-
--- the same of a read whose chains were dropped
+-- its bytes, or a fault, of a read whose chains were dropped
 abbrev pub GotAt : {D : Type 0} → (D → Device) → Configuration → Lower → ℕ → List ℕ → Backing D → Backing D → Result (List ℕ) IoFault → Type 0
 GotAt state c lower first out old new answer = GetsBytes c lower first (length out / 512) (leaves_in state old) (leaves_in state new) answer
 

@@ -1,6 +1,5 @@
 //! Laws of the definitions: each function's contract is the law, and its call gives it.
 ghost use Rattle.stack_engine.specs.Laws.{FormattedDataIsRead, IgnoredBlocksCollide, SpansStandOnLeaves, AnsweredChainsAreGood, ForgedAnswersCollide, ForgedBytesCollide, ForgedSectorsCollide, OtherLeavesChangeNoAnswer, WrittenLeavesAreForgotten};
-ghost use Rattle.stack_engine.specs.TableLines.{TableLinesReadBack};
 
 use hash_tree::laws::{forged_blocks_collide, formed_chains_are_good};
 
@@ -58,11 +57,6 @@ pub fn forged_sectors_collide()
 {
     forged_blocks_collide();
 }
-
-/// The text that `verity_format::table_line` gives reads back as one `verity` line with those arguments.
-pub fn table_lines_read_back()
-    ensures { TableLinesReadBack }
-{}
 
 /// Behind a write, or several pieces of one, no block is kept that wasn't kept before, and none of a `verity` line whose hash
 /// device is, or stands on, a leaf that was written.

@@ -4,7 +4,6 @@
 mod answer;
 mod backing;
 mod buffer;
-mod bytes;
 mod counters;
 pub mod laws;
 mod path;

@@ -3,7 +3,7 @@ ghost use Rattle.std.specs.Prelude.{◌≡◌, ◌<◌, ◌≤◌, ◌++◌, ◌
 ghost use Rattle.allocation.specs.Refusal.{IsOutOfMemory};
 ghost use Rattle.stack_meaning.specs.Memory.{largest_allocation};
 ghost use Rattle.verified_cache.specs.Cache.{CachedBlock};
-ghost use Rattle.stack_engine.specs.Keeping.{AreSmall, handed_out, one_found};
+ghost use Rattle.stack_engine.specs.Keeping.{AreHandedOut, AreSmall, handed_out, one_found};
 
 use allocation::{OutOfMemory, copied, push};
 use hash_tree::Chain;
@@ -87,6 +87,17 @@ impl Chains {
         match self {
             Chains::Kept => keep_chain(part, index, path, content, found),
             Chains::Dropped => Ok(()),
+        }
+    }
+
+    /// Hands out the chains from place `at` on, or drops them.
+    pub(crate) fn hand_out(self, found: &mut Vec<Found>, at: usize)
+        requires { at ≤ length found.old.items }
+        ensures { AreHandedOut self (take at found.old.items) found.old.items found.new.items }
+    {
+        match self {
+            Chains::Kept => {}
+            Chains::Dropped => found.truncate(at),
         }
     }
 }

@@ -5,8 +5,7 @@ ghost use Rattle.tree_shape.specs.Shape.{levels};
 ghost use Rattle.stack_rules.specs.Trees.{tree_of};
 ghost use Rattle.stack_rules.specs.Names.{mapped, size};
 ghost use Rattle.stack_lines.specs.declared.source.Source.TheVariants.{Below};
-ghost use Rattle.stack_meaning.specs.Reading.{Reads, buffer_answer};
-ghost use Rattle.stack_lines.specs.Sources.{ReadsSource};
+ghost use Rattle.stack_meaning.specs.Reading.{buffer_answer};
 ghost use Rattle.stack_lines.specs.Extents.{LiesInsideLower};
 ghost use Rattle.stack_lines.specs.Touches.{leaves_of};
 ghost use Rattle.stack_lines.specs.Walks.{HasDataBlock};
@@ -17,7 +16,7 @@ ghost use Rattle.stack_engine.specs.Premises.{FitsIn};
 ghost use Rattle.stack_engine.specs.LeafCalls.{IsLeafCall};
 ghost use Rattle.stack_engine.specs.Backings.{leaves_in, IsBacking, Asks, StaysSound, did};
 ghost use Rattle.stack_engine.specs.ReadSteps.{CanFill, ReadsLeaf, StepFrom, StepAt, GotAt, GetsBy, extent_wanted, data_wanted, way_wanted, ChainBy, WalkedBy, ReadsWay};
-ghost use Rattle.stack_engine.specs.Keeping.{ReadsBlocks};
+ghost use Rattle.stack_engine.specs.Keeping.{ReadsAs, ReadsSourceAs};
 
 use crate::backing::Backing;
 use crate::buffer::{fill_zeros, zero_block, zero_sectors};
@@ -56,54 +55,58 @@ fn read_leaf<D: BlockDev>(
     }
 }
 
-/// The sectors of a leaf or a mapped device.
+/// The sectors of a leaf or a mapped device, from that one on. The chains that are found are handed out or dropped.
 #[cycle(read)]
 fn read_lower<D: BlockDev>(
     config: &Config,
     backing: &mut Backing<D>,
-    lower: Lower,
-    first: u64,
+    from: (Lower, u64),
     out: &mut [u8],
+    chains: Chains,
     found: &mut Vec<Found>,
 ) -> Result<(), IoFault>
-    requires { CanFill D.state config.now backing.old found.old.items (Below lower first) out.old }
-    ensures reads { Reads config.now lower first (length out.old / 512)
+    requires { CanFill D.state config.now backing.old found.old.items (Below from.0 from.1) out.old }
+    ensures reads { ReadsAs chains config.now from.0 from.1 (length out.old / 512)
         (did D.state backing.old found.old.items backing.new found.new.items)
         (buffer_answer result out.new) }
-    ensures step { StepAt D.state config.now lower first out.old backing.old backing.new result }
+    ensures step { StepAt D.state config.now from.0 from.1 out.old backing.old backing.new result }
 {
-    match lower {
+    let first = from.1;
+    match from.0 {
         Lower::Leaf(leaf) => read_leaf(config, backing.devices.as_mut_slice(), leaf, first, out),
-        Lower::Device(d) => read_device(config, backing, d, first, out, found),
+        Lower::Device(d) => read_device(config, backing, (d, first), out, chains, found),
     }
 }
 
 /// The sectors of one run.
 #[cycle(read)]
-pub(crate) fn read_run<D: BlockDev>(
+fn read_run<D: BlockDev>(
     config: &Config,
     backing: &mut Backing<D>,
     source: Source<'_>,
     out: &mut [u8],
+    chains: Chains,
     found: &mut Vec<Found>,
 ) -> Result<(), IoFault>
     requires { CanFill D.state config.now backing.old found.old.items source out.old }
-    ensures reads { ReadsSource config.now source.entry (length out.old / 512)
+    ensures reads { ReadsSourceAs chains config.now source.entry (length out.old / 512)
         (did D.state backing.old found.old.items backing.new found.new.items)
         (buffer_answer result out.new) }
     ensures step { StepFrom D.state config.now source.entry out.old backing.old backing.new result }
 {
     match source {
-        Source::Below { lower, first } => read_lower(config, backing, lower, first, out, found),
-        Source::Units(part) => read_units(config, backing, part, out, found),
-        Source::UnitPart(part) => read_unit_part(config, backing, part, out, found),
+        Source::Below { lower, first } => {
+            read_lower(config, backing, (lower, first), out, chains, found)
+        }
+        Source::Units(part) => read_units(config, backing, part, out, chains, found),
+        Source::UnitPart(part) => read_unit_part(config, backing, part, out, chains, found),
         Source::Zeros => {
             fill_zeros(out);
             Ok(())
         }
         Source::Fails => Err(IoFault::Stack(Fault::ErrorTarget)),
-        Source::Block(part) => read_block(config, backing, part, out, found),
-        Source::Blocks(part) => read_blocks(config, backing, part, out, Chains::Kept, found),
+        Source::Block(part) => read_block(config, backing, part, out, chains, found),
+        Source::Blocks(part) => read_blocks(config, backing, part, out, chains, found),
     }
 }
 
@@ -114,16 +117,18 @@ pub(crate) fn read_units<D: BlockDev>(
     backing: &mut Backing<D>,
     part: CryptPart<'_>,
     out: &mut [u8],
+    chains: Chains,
     found: &mut Vec<Found>,
 ) -> Result<(), IoFault>
     requires { CanFill D.state config.now backing.old found.old.items (Source.Units part) out.old }
-    ensures reads { ReadsSource config.now (Source.Units part.entry) (length out.old / 512)
+    ensures reads { ReadsSourceAs chains config.now (Source.Units part.entry) (length out.old / 512)
         (did D.state backing.old found.old.items backing.new found.new.items)
         (buffer_answer result out.new) }
     ensures step { StepFrom D.state config.now (Source.Units part.entry) out.old backing.old backing.new result }
 {
     let unit = unit_at(&part);
-    match read_lower(config, backing, part.lower, unit.first, out, found) {
+    let from = (part.lower, unit.first);
+    match read_lower(config, backing, from, out, chains, found) {
         Ok(()) => {
             decrypt(&part, unit.index, out);
             Ok(())
@@ -139,10 +144,11 @@ fn read_unit_part<D: BlockDev>(
     backing: &mut Backing<D>,
     part: CryptPart<'_>,
     out: &mut [u8],
+    chains: Chains,
     found: &mut Vec<Found>,
 ) -> Result<(), IoFault>
     requires { CanFill D.state config.now backing.old found.old.items (Source.UnitPart part) out.old }
-    ensures reads { ReadsSource config.now (Source.UnitPart part.entry) (length out.old / 512)
+    ensures reads { ReadsSourceAs chains config.now (Source.UnitPart part.entry) (length out.old / 512)
         (did D.state backing.old found.old.items backing.new found.new.items)
         (buffer_answer result out.new) }
     ensures step { StepFrom D.state config.now (Source.UnitPart part.entry) out.old backing.old backing.new result }
@@ -151,7 +157,7 @@ fn read_unit_part<D: BlockDev>(
     let mut room = [0u8; MOST];
     let all = room.as_mut_slice();
     let unit = &mut all[..whole.sectors as usize * 512];
-    match read_units(config, backing, whole.from, unit, found) {
+    match read_units(config, backing, whole.from, unit, chains, found) {
         Ok(()) => {
             take_sectors(unit, whole.within, out);
             Ok(())
@@ -160,17 +166,18 @@ fn read_unit_part<D: BlockDev>(
     }
 }
 
-/// Sectors of one data block of a verity line: of its chain, which is found here once.
+/// Sectors of one data block of a verity line: of its chain, which was found before, or is found here and kept or dropped.
 #[cycle(read)]
 fn read_block<D: BlockDev>(
     config: &Config,
     backing: &mut Backing<D>,
     part: VerityPart<'_>,
     out: &mut [u8],
+    chains: Chains,
     found: &mut Vec<Found>,
 ) -> Result<(), IoFault>
     requires { CanFill D.state config.now backing.old found.old.items (Source.Block part) out.old }
-    ensures reads { ReadsSource config.now (Source.Block part.entry) (length out.old / 512)
+    ensures reads { ReadsSourceAs chains config.now (Source.Block part.entry) (length out.old / 512)
         (did D.state backing.old found.old.items backing.new found.new.items)
         (buffer_answer result out.new) }
     ensures step { StepFrom D.state config.now (Source.Block part.entry) out.old backing.old backing.new result }
@@ -199,6 +206,7 @@ fn read_block<D: BlockDev>(
                         Err(_) => Err(IoFault::NoMemory),
                         Ok(()) => {
                             copy_part(found.as_slice(), at, within, out);
+                            chains.hand_out(found, at);
                             Ok(())
                         }
                     }
@@ -211,7 +219,7 @@ fn read_block<D: BlockDev>(
 /// Whole data blocks of a verity line, of their chains, which are found here and kept or dropped. Each is checked once the
 /// way to it was read. It is read with those behind it, as far as the line ignores none, unless that was done.
 #[cycle(read)]
-pub(crate) fn read_blocks<D: BlockDev>(
+fn read_blocks<D: BlockDev>(
     config: &Config,
     backing: &mut Backing<D>,
     part: VerityPart<'_>,
@@ -220,7 +228,7 @@ pub(crate) fn read_blocks<D: BlockDev>(
     found: &mut Vec<Found>,
 ) -> Result<(), IoFault>
     requires { CanFill D.state config.now backing.old found.old.items (Source.Blocks part) out.old }
-    ensures reads { ReadsBlocks config.now part.entry (length out.old / 512) chains
+    ensures reads { ReadsSourceAs chains config.now (Source.Blocks part.entry) (length out.old / 512)
         (did D.state backing.old found.old.items backing.new found.new.items)
         (buffer_answer result out.new) }
     ensures step { StepFrom D.state config.now (Source.Blocks part.entry) out.old backing.old backing.new result }
@@ -294,7 +302,14 @@ fn read_beneath<D: BlockDev>(
         return Ok(());
     }
     let mut beneath = Vec::new(backing.alloc);
-    read_lower(config, backing, lower, first, out, &mut beneath)
+    read_lower(
+        config,
+        backing,
+        (lower, first),
+        out,
+        Chains::Kept,
+        &mut beneath,
+    )
 }
 
 /// The chain of a data block, from the root down to the first block that has another digest.
@@ -503,9 +518,9 @@ fn read_checked<D: BlockDev>(
     match read_lower(
         config,
         backing,
-        extent.lower,
-        extent.first,
+        (extent.lower, extent.first),
         block.as_mut_slice(),
+        Chains::Kept,
         &mut beneath,
     ) {
         Err(fault) => return Err(fault),
@@ -518,28 +533,30 @@ fn read_checked<D: BlockDev>(
     }
 }
 
-/// The sectors of a mapped device, run by run.
+/// The sectors of a mapped device from that one on, run by run.
 #[cycle(read)]
 pub(crate) fn read_device<D: BlockDev>(
     config: &Config,
     backing: &mut Backing<D>,
-    d: DevId,
-    first: u64,
+    from: (DevId, u64),
     out: &mut [u8],
+    chains: Chains,
     found: &mut Vec<Found>,
 ) -> Result<(), IoFault>
-    requires { CanFill D.state config.now backing.old found.old.items (Below (mapped d.0) first) out.old }
-    ensures reads { Reads config.now (mapped d.0) first (length out.old / 512)
+    requires { CanFill D.state config.now backing.old found.old.items (Below (mapped from.0.0) from.1) out.old }
+    ensures reads { ReadsAs chains config.now (mapped from.0.0) from.1 (length out.old / 512)
         (did D.state backing.old found.old.items backing.new found.new.items)
         (buffer_answer result out.new) }
-    ensures step { StepAt D.state config.now (mapped d.0) first out.old backing.old backing.new result }
+    ensures step { StepAt D.state config.now (mapped from.0.0) from.1 out.old backing.old backing.new result }
 {
     let mut at = 0;
     while at < out.len() {
         let rest = (out.len() - at) as u64 / 512;
-        let run = run_to_read(config, d, first + at as u64 / 512, rest, found.as_slice());
+        let first = from.1 + at as u64 / 512;
+        let run = run_to_read(config, from.0, first, rest, found.as_slice());
         let end = at + run.count as usize * 512;
-        match read_run(config, backing, run.source, &mut out[at..end], found) {
+        let part = &mut out[at..end];
+        match read_run(config, backing, run.source, part, chains, found) {
             Ok(()) => at = end,
             Err(fault) => return Err(fault),
         }

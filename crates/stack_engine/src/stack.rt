@@ -1,10 +1,12 @@
 //! A stack: a configuration, and the devices of its leaves.
-ghost use Rattle.std.specs.Prelude.{◌≡◌, ◌<◌, ◌≤◌, ◌+◌, ◌/◌, [], length, map, IsTrue, IsOk, IfOk, IfErr, OnOk, OnErr, None, Some, Err};
+ghost use Rattle.std.specs.Prelude.{◌≡◌, ◌<◌, ◌≤◌, ◌+◌, ◌/◌, [], length, map, IsTrue, IsOk, IfOk, IfErr, OnOk, OnErr, None, Some, Ok, Err};
 ghost use Rattle.block_device.specs.Device.{capped, synced};
 ghost use Rattle.stack_rules.specs.Names.{mapped, size, may_write};
 ghost use Rattle.stack_rules.specs.Rules.{after_load, IsRefusal, first_refusal};
 ghost use Rattle.stack_rules.specs.Removal.{removal_fault, after_removal};
 ghost use Rattle.stack_rules.specs.declared.refusal.Refusal.{Refusal};
+ghost use Rattle.stack_rules.specs.Passing.{largest_load_allocation};
+ghost use Rattle.allocation.specs.Refusal.{IsOutOfMemory};
 ghost use Rattle.stack_meaning.specs.Leaves.{ServeLeaves, reads_of, writes_of};
 ghost use Rattle.stack_engine.specs.Bytes.{AnyBytes, SteadyBytes};
 ghost use Rattle.stack_engine.specs.KeptBlocks.{AreChecked, ReadKeeps};
@@ -18,8 +20,8 @@ ghost use Rattle.stack_engine.specs.WritePieces.{ArePiece, AnyWrite, SteadyWrite
 use crate::answer::Answer;
 use crate::backing::Backing;
 use crate::buffer::{bytes_to_encrypt, zero_sectors};
-use crate::bytes::device_bytes;
 use crate::counters::counted;
+use crate::path::Chains;
 use crate::read::read_device;
 use crate::sync::sync_leaves;
 use crate::write::write_device;
@@ -52,7 +54,23 @@ impl<D: BlockDev> Model for Stack<D> {
 
 impl<D: BlockDev> Stack<D> {
     /// A stack of that configuration, whose leaves the devices are, in order. Its cache keeps at most `capacity`
-    /// hash blocks. It fails only where memory does, and hands both back.
+    /// hash blocks, and needs no memory before it keeps one.
+    pub fn over(alloc: Global, config: Config, devices: Vec<D>, capacity: u32) -> Stack<D>
+        requires { ServeLeaves config.leaves (map D.state devices.items) }
+        ensures { result ≡ stack_over config (map D.state devices.items) capacity }
+    {
+        // What holds of every loaded configuration is learned from a call.
+        let _loaded = config.count();
+        let cache = Cache::new(alloc, &config, capacity);
+        let backing = Backing {
+            alloc,
+            devices,
+            cache,
+        };
+        Stack { config, backing }
+    }
+
+    /// The same stack as `over` returns. It never fails.
     pub fn new(
         alloc: Global,
         config: Config,
@@ -60,22 +78,9 @@ impl<D: BlockDev> Stack<D> {
         capacity: u32,
     ) -> Result<Stack<D>, (Config, Vec<D>)>
         requires { ServeLeaves config.leaves (map D.state devices.items) }
-        ensures ok { IfOk result (λ s. s ≡ stack_over config (map D.state devices.items) capacity) }
-        ensures err { IfErr result (λ p. (p.0 ≡ config) × (p.1 ≡ devices)) }
+        ensures { result ≡ Ok (stack_over config (map D.state devices.items) capacity) }
     {
-        // What holds of every loaded configuration is learned from a call.
-        let _loaded = config.count();
-        match Cache::new(alloc, &config, capacity) {
-            Err(_) => Err((config, devices)),
-            Ok(cache) => {
-                let backing = Backing {
-                    alloc,
-                    devices,
-                    cache,
-                };
-                Ok(Stack { config, backing })
-            }
-        }
+        Ok(Stack::over(alloc, config, devices, capacity))
     }
 
     /// The configuration and the devices of its leaves, in order.
@@ -114,9 +119,9 @@ impl<D: BlockDev> Stack<D> {
         match read_device(
             &self.config,
             &mut self.backing,
-            d,
-            first,
+            (d, first),
             bytes.as_mut_slice(),
+            Chains::Kept,
             &mut chains,
         ) {
             Err(fault) => Err(fault),
@@ -137,7 +142,15 @@ impl<D: BlockDev> Stack<D> {
         ensures spent { ReadsAtMost (piece_budget self.old d.0 first (length out.old / 512)) self.old.leaves self.new.leaves }
         ensures kept { ReadKeeps self.old d.0 first (length out.old / 512) self.new }
     {
-        device_bytes(&self.config, &mut self.backing, d, first, out)
+        let mut dropped = Vec::new(self.backing.alloc);
+        read_device(
+            &self.config,
+            &mut self.backing,
+            (d, first),
+            out,
+            Chains::Dropped,
+            &mut dropped,
+        )
     }
 
     /// Writes whole sectors of a device, 1 to 128, from `first` on, in rising order up to the first fault: `stops` in
@@ -173,6 +186,7 @@ impl<D: BlockDev> Stack<D> {
         ensures ok { OnOk result (first_refusal self.old.config text.now ≡ None) }
         ensures after { OnOk result (self.new ≡ record self.old { config = after_load self.old.config text.now; kept = [] }) }
         ensures refused { (r : Refusal) → result ≡ Err (LoadFault.Refused r) → IsRefusal self.old.config text.now r }
+        ensures memory { result ≡ Err LoadFault.NoMemory → IsOutOfMemory largest_load_allocation }
         ensures same { OnErr result (self.new ≡ self.old) }
     {
         let outcome = load(&mut self.config, text);

@@ -12,6 +12,7 @@ ghost use Rattle.stack_engine.specs.LeafCalls.{IsLeafCall};
 ghost use Rattle.stack_engine.specs.WriteSteps.{CanPut, PutTo, WriteStepTo, PutAt, WriteStepAt};
 
 use crate::backing::Backing;
+use crate::path::Chains;
 use crate::read::read_units;
 use block_device::BlockDev;
 use stack_config::{Config, DevId, Lower, unit_sectors};
@@ -182,8 +183,8 @@ fn write_unit_part<D: BlockDev>(
     let mut room = [0u8; MOST];
     let all = room.as_mut_slice();
     let unit = &mut all[..whole.sectors as usize * 512];
-    let mut found = Vec::new(backing.alloc);
-    match read_units(config, backing, whole.from, unit, &mut found) {
+    let mut own = Vec::new(backing.alloc);
+    match read_units(config, backing, whole.from, unit, Chains::Kept, &mut own) {
         Ok(()) => {}
         Err(fault) => return Err(fault),
     }

@@ -7,7 +7,7 @@ use Rattle.serde_json.specs.Written.{has_float, items_have_float}
 use Rattle.stack_meaning.specs.declared.fault.IoFault.{IoFault}
 use Rattle.stack_meaning.specs.declared.fault.IoFault.TheVariants.{Device, NoMemory, Stack}
 use Rattle.stack_rules.specs.Records.{Configuration}
-use Rattle.stack_recovery.specs.declared.lost_run.LostRun.{LostRun}
+use Rattle.stack_recovery.specs.LostRuns.{LostRun}
 use Rattle.stack_recovery.specs.declared.recovery.Counts.{Counts}
 use Rattle.stack_json.specs.Lost.{lost_json, lost_run_json, lost_runs_json}
 use Rattle.stack_json.specs.Devices.{device_json, devices_json, load_json}
@@ -25,14 +25,14 @@ plain_devices c (suc n) = both_plain (devices_json c n) (device_json c n ∷ [])
 pub plain_load : (c : Configuration) → has_float (load_json c) ≡ false
 plain_load c = or_from _ _ (plain_devices c (length c.devices)) refl
 
-plain_run : (first count : ℕ) (fault : IoFault) → has_float (lost_run_json (record { first = first; count = count; fault = fault })) ≡ false
+plain_run : (first count : ℕ) (fault : IoFault) → has_float (lost_run_json (record { first = first; count = count; kind = fault })) ≡ false
 plain_run first count (Stack fault) = refl
 plain_run first count (Device leaf) = refl
 plain_run first count NoMemory = refl
 
 plain_runs : (runs : List LostRun) → items_have_float (items_of (lost_runs_json runs)) ≡ false
 plain_runs [] = refl
-plain_runs (run ∷ more) = or_from _ _ (plain_run run.first run.count run.fault) (plain_runs more)
+plain_runs (run ∷ more) = or_from _ _ (plain_run run.first run.count run.kind) (plain_runs more)
 
 pub plain_lost : (runs : List LostRun) (counts : Counts) → has_float (lost_json runs counts) ≡ false
 plain_lost runs counts = or_from _ _ (plain_runs runs) refl

@@ -5,7 +5,7 @@ use Rattle.serde_json.specs.View.{items_of}
 use Rattle.stack_meaning.specs.declared.fault.IoFault.{IoFault}
 use Rattle.stack_meaning.specs.declared.fault.IoFault.TheVariants.{Device}
 use Rattle.stack_meaning.specs.IoFaults.{io_name}
-use Rattle.stack_recovery.specs.declared.lost_run.LostRun.{LostRun}
+use Rattle.stack_recovery.specs.LostRuns.{LostRun}
 use Rattle.stack_recovery.specs.declared.recovery.Counts.{Counts}
 
 -- of a device's fault the number of the leaf that failed
@@ -18,9 +18,9 @@ abbrev pub lost_run_json : LostRun → Data
 lost_run_json run =
     object
     (member (codes "count") (number (unsigned run.count))
-    (member (codes "fault") (string (io_name run.fault))
+    (member (codes "fault") (string (io_name run.kind))
     (member (codes "first") (number (unsigned run.first))
-    (leaf_member run.fault))))
+    (leaf_member run.kind))))
 
 abbrev pub lost_runs_json : List LostRun → List Data
 lost_runs_json runs = map lost_run_json runs

@@ -49,7 +49,7 @@ fn run_value(alloc: Global, run: LostRun) -> Result<Value, AllocError>
     let LostRun {
         first,
         count,
-        fault,
+        kind: fault,
     } = run;
     match fault {
         IoFault::Device(leaf) => {

@@ -35,17 +35,16 @@ impl Model for Cache {
 }
 
 impl Cache {
-    /// An empty cache of at most `capacity` blocks.
-    pub fn new(alloc: Global, config: &Config, capacity: u32) -> Result<Cache, AllocError>
+    /// An empty cache of at most `capacity` blocks. It needs no memory before a block is kept.
+    pub fn new(alloc: Global, config: &Config, capacity: u32) -> Cache
         requires { IsLoaded config.now }
-        ensures { IfOk result (IsFreshCache config.now capacity) }
+        ensures { IsFreshCache config.now capacity result }
     {
-        let blocks = BlockCache::new(alloc, capacity)?;
-        Ok(Cache {
-            blocks,
+        Cache {
+            blocks: BlockCache::empty(alloc, capacity),
             beneath: leaf_sets(config),
             covered: LeafSet::empty(),
-        })
+        }
     }
 
     /// Drops all blocks, and finds out anew which leaves stand beneath which device.
@@ -103,7 +102,7 @@ impl Cache {
         if self.blocks.capacity() == 0 {
             return Ok(());
         }
-        let copy = Vec::from_slice(alloc, block)?;
+        let copy = copied(alloc, block)?;
         self.blocks.keep(key, digest, copy)
     }
 

@@ -132,7 +132,7 @@ mapped-names : (P : List ℕ → Type 0) (devices : List DeviceRecord) → AllBy
 mapped-names P [] all = tt
 mapped-names P (d ∷ more) all = (all.0, mapped-names P more all.1)
 
-mapped-after : (c : Configuration) (text : List Entry) → All (λ d. IsTrue (is_mapped_name d.name)) c.devices → IsStackOfGrammar text → All (λ d. IsTrue (is_mapped_name d.name)) (after_load c text).devices
+pub mapped-after : (c : Configuration) (text : List Entry) → All (λ d. IsTrue (is_mapped_name d.name)) c.devices → IsStackOfGrammar text → All (λ d. IsTrue (is_mapped_name d.name)) (after_load c text).devices
 mapped-after c text old grammar =
     All-from_recursion (λ (d : DeviceRecord). IsTrue (is_mapped_name d.name)) (after_load c text).devices
     (mapped-names (λ n. IsTrue (is_mapped_name n)) (after_load c text).devices

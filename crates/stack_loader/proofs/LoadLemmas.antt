@@ -1,5 +1,6 @@
 -- From the check of a load to the loaded configuration.
-use Rattle.std.proofs.Common.{◌≡◌, List, Option, Some, None, sym, subst}
+use Rattle.std.proofs.Common.{◌≡◌, ◌≤◌, List, Option, Some, None, All, length, get_or, sym, subst}
+use Rattle.std.proofs.lemmas.Option.{slice_get-get_or}
 use Rattle.dm_table.specs.declared.stack.Entry.{Entry}
 use Rattle.dm_table.specs.StackText.{IsStackOfGrammar}
 use Rattle.stack_config.specs.declared.facts.Facts.{Facts}
@@ -11,7 +12,9 @@ use Rattle.stack_rules.specs.Records.{Configuration, DeviceRecord, LeafRecord, c
 use Rattle.stack_config.specs.Facts.{AreFacts, IsLoadedWith}
 use Rattle.stack_loader.specs.Next.{IsNext}
 use Rattle.stack_rules.specs.Passing.{IsFirst}
-use Rattle.stack_rules.specs.Rules.{first, rules, after_load, IsLoaded}
+use Rattle.stack_rules.specs.Descend.{most_devices}
+use Rattle.stack_rules.specs.Rules.{first, rules, after_load, most_lines, IsLoaded, IsValid}
+use Rattle.stack_rules.proofs.lemmas.ValidLineLemmas.{few, few_lines}
 use Rattle.stack_loader.proofs.AfterLoadLemmas.{loaded-after}
 
 pub moved : (P : Configuration → List Entry → Type 0) (l m : List LeafRecord) (d e : List DeviceRecord) (t u : List Entry) → l ≡ m → d ≡ e → t ≡ u → P (configuration l d) t → P (configuration m e) u
@@ -37,3 +40,12 @@ kept-next c text next loaded grammar is =
 
 pub refused-first : (fault : LoadFault) (rules : List (Option Refusal)) (r : Refusal) → fault ≡ Refused r → IsFirst fault rules → first rules ≡ Some r
 refused-first fault rules r is h = let P : LoadFault → Type 0 = λ fault. IsFirst fault rules in subst P is h
+
+-- no rule refuses so many devices, and so many lines in each
+pub few-checked : (leaves : List LeafRecord) (devices : List DeviceRecord) → first (rules (configuration leaves devices)) ≡ None → length devices ≤ most_devices
+unfolding IsValid
+few-checked leaves devices valid = few (configuration leaves devices) valid
+
+pub lines-checked : (leaves : List LeafRecord) (devices : List DeviceRecord) → first (rules (configuration leaves devices)) ≡ None → All (λ d. length d.table ≤ most_lines) devices
+unfolding IsValid
+lines-checked leaves devices valid = λ k d low. few_lines (configuration leaves devices) valid k (get_or devices k d) (slice_get-get_or devices k d low)

@@ -22,11 +22,11 @@ use Rattle.stack_rules.proofs.lemmas.FirstRefusalLemmas.{first-none, first-some}
 
 pub left : (fault : LoadFault) (xs ys : List (Option Refusal)) → IsFirst fault xs → IsFirst fault (xs ++ ys)
 left (Refused r) xs ys h = first-some xs ys r h
-left NoMemory xs ys h = tt
+left NoMemory xs ys h = h
 
 pub right : (fault : LoadFault) (xs ys : List (Option Refusal)) → first xs ≡ None → IsFirst fault ys → IsFirst fault (xs ++ ys)
 right (Refused r) xs ys none h = first-none xs ys none ∙ h
-right NoMemory xs ys none h = tt
+right NoMemory xs ys none h = h
 
 abbrev many_rule : Configuration → List (Option Refusal)
 many_rule c = refuse TooMany 0 0 (is_too_many c.devices) ∷ []

@@ -1,5 +1,7 @@
 //! A configuration to come, checked by all rules.
-ghost use Rattle.std.specs.Prelude.{◌≡◌, ◌≤◌, ◌++◌, length, nat_lt, All};
+ghost use Rattle.std.specs.Prelude.{◌≡◌, ◌≤◌, ◌++◌, length, nat_lt, All, IsTrue};
+ghost use Rattle.dm_table.specs.Names.{is_mapped_name};
+ghost use Rattle.dm_table.specs.StackText.{IsStackOfGrammar};
 ghost use Rattle.std.specs.List.{list_any};
 ghost use Rattle.stack_rules.specs.Records.{configuration};
 ghost use Rattle.stack_rules.specs.Kept.{AreLowers};
@@ -134,6 +136,8 @@ pub(crate) fn next_load(
 ) -> Result<Next, LoadFault>
     requires leaves { length leaves.now ≤ most_leaves }
     requires devices { length devices.now ≤ most_devices }
+    requires names { All (λ d. IsTrue (is_mapped_name d.name)) devices.now }
+    requires grammar { IsStackOfGrammar entries.now }
     ensures { let c = configuration leaves.now devices.now in IsPassed result (load_rules c entries.now) (IsNext c entries.now) }
 {
     let refusal = duplicate(alloc, entries)?;

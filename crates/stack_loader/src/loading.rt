@@ -1,6 +1,8 @@
 //! New configurations, and loads into them.
 ghost use Rattle.std.specs.Prelude.{◌≡◌, None, Some, [], IfOk, IfErr, OnOk, OnErr, Err};
 ghost use Rattle.stack_rules.specs.Leaves.{first_leaf_fault};
+ghost use Rattle.allocation.specs.Refusal.{IsOutOfMemory};
+ghost use Rattle.stack_rules.specs.Passing.{largest_load_allocation};
 ghost use Rattle.stack_rules.specs.declared.refusal.Refusal.{Refusal};
 ghost use Rattle.stack_rules.specs.Rules.{IsRefusal, after_load, first_refusal};
 
@@ -24,10 +26,15 @@ pub fn config_over(alloc: Global, leaves: Vec<Leaf>) -> Result<Config, ConfigFau
 }
 
 /// Creates each device that the text names, or replaces its table and flag: all or none.
+///
+/// # Errors
+///
+/// `Refused` if a rule refuses the configuration to come. `NoMemory` if an allocation was refused; its size is bounded.
 pub fn load(config: &mut Config, text: &StackText) -> Result<(), LoadFault>
     ensures ok { OnOk result (first_refusal config.old text.now ≡ None) }
     ensures after { OnOk result (config.new ≡ after_load config.old text.now) }
     ensures refused { (r : Refusal) → result ≡ Err (LoadFault.Refused r) → IsRefusal config.old text.now r }
+    ensures memory { result ≡ Err LoadFault.NoMemory → IsOutOfMemory largest_load_allocation }
     ensures same { OnErr result (config.new ≡ config.old) }
 {
     let next = next_load(

@@ -1,22 +1,26 @@
 //! The devices after a load.
-ghost use Rattle.std.specs.Prelude.{◌≡◌, ◌++◌, [], is_none, map, filter, find, position, option_copied, ◌+◌, length, IfOk, OnErr};
-ghost use Rattle.allocation.specs.Refusal.{IsOutOfMemory};
+ghost use Rattle.std.specs.Prelude.{◌≡◌, ◌≤◌, ◌++◌, [], is_none, map, filter, find, position, option_copied, ◌+◌, length, All, IsTrue, IfOk, IfErr};
+ghost use Rattle.allocation.specs.Asked.{WasRefused, asked};
+ghost use Rattle.dm_table.specs.Names.{is_mapped_name};
 ghost use Rattle.std.specs.Str.{bytes_eq};
-ghost use Rattle.stack_rules.specs.Rules.{replacement, new_device, first, duplicate_names};
+ghost use Rattle.stack_rules.specs.Descend.{most_devices};
+ghost use Rattle.stack_rules.specs.Passing.{largest_load_allocation};
+ghost use Rattle.stack_rules.specs.Rules.{replacement, new_device, first, duplicate_names, most_lines};
 
-use allocation::{push, with_capacity};
+use allocation::{OutOfMemory, insert, push, with_capacity};
 use dm_table::Entry;
 use stack_rules::{LoadKind, Mapped, Planned, Refusal, place_of};
-use std::alloc::{AllocError, Global};
+use std::alloc::Global;
 use std::collections::HashMap;
 
 /// The first entry whose name an earlier one has.
-pub(crate) fn duplicate(alloc: Global, entries: &[Entry]) -> Result<Option<Refusal>, AllocError>
-    ensures { IfOk result (λ refusal. refusal ≡ first (duplicate_names [] entries.now)) }
+pub(crate) fn duplicate(alloc: Global, entries: &[Entry]) -> Result<Option<Refusal>, OutOfMemory>
+    ensures ok { IfOk result (λ refusal. refusal ≡ first (duplicate_names [] entries.now)) }
+    ensures err { IfErr result (WasRefused 1) }
 {
     let mut names: HashMap<&[u8], ()> = HashMap::new(alloc);
     for entry in entries {
-        let earlier = names.insert(entry.name.as_slice(), ())?;
+        let earlier = insert(&mut names, entry.name.as_slice(), ())?;
         if earlier.is_some() {
             return Ok(Some(Refusal {
                 kind: LoadKind::DuplicateName,
@@ -50,9 +54,9 @@ pub(crate) fn planned_devices<'a>(
     alloc: Global,
     devices: &'a [Mapped],
     entries: &'a [Entry],
-) -> Result<Vec<Planned<'a>>, AllocError>
+) -> Result<Vec<Planned<'a>>, OutOfMemory>
     ensures ok { IfOk result (λ next. next.items ≡ map (replacement entries.now) devices.now ++ map new_device (filter (λ e. is_none (position (λ d. bytes_eq d.name e.name) devices.now)) entries.now)) }
-    ensures err { OnErr result (IsOutOfMemory (length devices.now + 1)) }
+    ensures err { IfErr result (λ e. asked e ≤ length devices.now + 1) }
 {
     let mut next = with_capacity(alloc, devices.len())?;
     for device in devices {
@@ -73,12 +77,17 @@ pub(crate) fn planned_devices<'a>(
 pub(crate) fn copied_devices(
     alloc: Global,
     planned: &[Planned<'_>],
-) -> Result<Vec<Mapped>, AllocError>
-    ensures { IfOk result (λ devices. devices.items ≡ planned.now) }
+) -> Result<Vec<Mapped>, OutOfMemory>
+    requires few { length planned.now ≤ most_devices }
+    requires names { All (λ d. IsTrue (is_mapped_name d.name)) planned.now }
+    requires lines { All (λ d. length d.table ≤ most_lines) planned.now }
+    ensures ok { IfOk result (λ devices. devices.items ≡ planned.now) }
+    ensures err { IfErr result (λ e. asked e ≤ largest_load_allocation) }
 {
-    let mut devices = Vec::with_capacity(alloc, planned.len())?;
+    let mut devices = with_capacity(alloc, planned.len())?;
     for device in planned {
-        devices.push(Mapped::new(alloc, device.name(), device.writable(), device.table())?)?;
+        let copy = Mapped::new(alloc, device.name(), device.writable(), device.table())?;
+        push(&mut devices, copy)?;
     }
     Ok(devices)
 }

@@ -12,7 +12,7 @@ use Rattle.stack_opening.specs.declared.leaves.OpenLeaves.{OpenLeaves}
 use Rattle.stack_opening.specs.Bindings.{AreBound}
 use Rattle.stack_opening.specs.Openings.{IsBindingEnd}
 use Rattle.stack_making.specs.declared.fault.StackFault.{StackFault}
-use Rattle.stack_making.specs.declared.fault.StackFault.TheVariants.{Leaves, NoMemory}
+use Rattle.stack_making.specs.declared.fault.StackFault.TheVariants.{Leaves}
 use Rattle.stack_making.specs.Configuration.{leaves_alone}
 use Rattle.stack_making.specs.Endings.{IsOpeningEnd}
 
@@ -22,10 +22,9 @@ pub record StandsOnLeaves {S D : Type 0} (w : Calls S D) (bindings : List Bindin
   pub bound : AreBound w [] bindings over.leaves.items over.devices.items
   pub is : stack ≡ stack_over (leaves_alone over.leaves.items) (map w.state over.devices.items) cache
 
--- leaves are refused, or memory ran out
+-- leaves are refused
 abbrev pub RefusesLeaves : List LeafRecord → StackFault → Type 0
 RefusesLeaves leaves (Leaves fault) = first_leaf_fault leaves ≡ Some fault
-RefusesLeaves leaves NoMemory = Unit {0}
 RefusesLeaves leaves fault = ⊥
 
 -- those of the bindings were opened, and aren't taken

@@ -5,7 +5,6 @@ ghost use Rattle.stack_making.specs.NamedDevices.{FailsToFind, FailsToFindBy, Fi
 
 use crate::configuration::configuration_of;
 use crate::fault::StackFault;
-use crate::stack::stack_on;
 use block_device::BlockDev;
 use image_files::{Images, OpenImage};
 use stack_config::DevId;
@@ -75,9 +74,8 @@ pub fn find_device<'a, D: BlockDev + Drop>(
         Ok(config) => config,
         Err(fault) => return Err(fault),
     };
-    // A name that isn't there is told before any room is asked for the stack's cache.
     match config.device(name.as_bytes()) {
-        Some(device) => Ok((stack_on(alloc, config, devices, cache)?, device)),
+        Some(device) => Ok((Stack::over(alloc, config, devices, cache), device)),
         None => Err(StackFault::NoSuchDevice),
     }
 }

@@ -1,7 +1,6 @@
 //! Stacks of configurations, with a cache of so many hash blocks.
 ghost use Rattle.std.specs.Prelude.{◌≡◌, ◌≤◌, ◌^◌, length, map, IfOk, IfErr};
 ghost use Rattle.stack_meaning.specs.Leaves.{ServeLeaves};
-ghost use Rattle.stack_engine.specs.Pieces.{stack_over};
 ghost use Rattle.stack_making.specs.BareLeaves.{FailsStanding, StandsBy};
 ghost use Rattle.stack_making.specs.StacksOfTexts.{FailsLoading, FailsToLoad, IsStackOf, LoadsBy};
 
@@ -10,7 +9,6 @@ use crate::fault::StackFault;
 use block_device::BlockDev;
 use command_line::Binding;
 use image_files::Images;
-use stack_config::Config;
 use stack_engine::Stack;
 use stack_loader::config_over;
 use stack_opening::{OpenLeaves, OpenStack, StackFile, open_all, open_stack};
@@ -42,7 +40,7 @@ pub fn open_leaves<'a, I: Images>(
 {
     let OpenLeaves { leaves, devices } = open_all(alloc, images, &[], bindings)?;
     let config = config_over(alloc, leaves)?;
-    stack_on(alloc, config, devices, cache)
+    Ok(Stack::over(alloc, config, devices, cache))
 }
 
 /// The stack that a text makes of the open leaves.
@@ -65,22 +63,5 @@ pub fn load_stack<'a, D: BlockDev + Drop>(
         Ok(config) => config,
         Err(fault) => return Err(fault),
     };
-    stack_on(alloc, config, devices, cache)
-}
-
-/// The stack of a configuration over the devices of its leaves.
-pub fn stack_on<'a, D: BlockDev + Drop>(
-    alloc: Global,
-    config: Config,
-    devices: Vec<D>,
-    cache: u32,
-) -> Result<Stack<D>, StackFault<'a>>
-    requires { ServeLeaves config.leaves (map D.state devices.items) }
-    ensures ok { IfOk result (λ stack. stack ≡ stack_over config (map D.state devices.items) cache) }
-    ensures err { IfErr result (λ fault. fault ≡ StackFault.NoMemory) }
-{
-    match Stack::new(alloc, config, devices, cache) {
-        Ok(stack) => Ok(stack),
-        Err(_) => Err(StackFault::NoMemory),
-    }
+    Ok(Stack::over(alloc, config, devices, cache))
 }

@@ -24,9 +24,8 @@ AreDistinct found = AllPairs (λ x y. found_entry x ≢ found_entry y) found
 abbrev pub AreUsed : (ℕ → List Entry) → ℕ → ℕ → List FoundRecord → Type 0
 AreUsed entries first n found = All (λ x. SomeOf (λ s. Contains (entries s) (found_entry x)) first n) found
 
--- some were added behind those that were there, each on the way of one of n sectors, and none twice
+-- some were added behind those that were there, each on the way of one of n sectors
 pub record HasGrown (entries : ℕ → List Entry) (first n : ℕ) (old new : List FoundRecord) : Type 0 where
   pub added : List FoundRecord
   pub is : new ≡ old ++ added
   pub used : AreUsed entries first n added
-  pub distinct : AreDistinct old → AreDistinct new

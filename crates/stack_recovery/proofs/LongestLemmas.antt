@@ -4,9 +4,9 @@ use Rattle.std.specs.Prelude.{All}
 use Rattle.std.proofs.lemmas.Bool.{eqb-true, eq-eqb, and_from, and_parts, cases_lt, false≢true}
 use Rattle.std.proofs.lemmas.List.Elements.{All-nil, All-cons}
 use Rattle.stack_meaning.specs.declared.fault.IoFault.{IoFault}
-use Rattle.stack_recovery.specs.declared.lost_run.LostRun.{LostRun}
+use Rattle.runs.specs.Runs.{follows, run, run_before, runs_of}
+use Rattle.stack_recovery.specs.LostRuns.{LostRun, is_same_fault}
 use Rattle.stack_recovery.specs.Laws.{IsLongestRun, RunsAreLongest}
-use Rattle.stack_recovery.specs.LostRuns.{follows_lost, is_same_fault, lost_runs, run_lost, lost_before}
 use Rattle.stack_recovery.specs.Surveys.{SectorState}
 use Rattle.stack_recovery.proofs.LostRunLemmas.{is_same-refl, is_same-true}
 
@@ -42,9 +42,9 @@ state_at-first s x more = let none : s - s ≡ 0 = omega arith in ap (λ (k : �
 record IsRunFrom (s : ℕ) (states : List SectorState) (r : LostRun) : Type 0 where
   some : 1 ≤ r.count
   from : s ≤ r.first
-  lost : (j : ℕ) → j < r.count → state_at s states (r.first + j) ≡ Some r.fault
-  before : (t : ℕ) → s ≤ t → suc t ≡ r.first → state_at s states t ≢ Some r.fault
-  behind : state_at s states (r.first + r.count) ≢ Some r.fault
+  lost : (j : ℕ) → j < r.count → state_at s states (r.first + j) ≡ Some r.kind
+  before : (t : ℕ) → s ≤ t → suc t ≡ r.first → state_at s states t ≢ Some r.kind
+  behind : state_at s states (r.first + r.count) ≢ Some r.kind
 
 -- runs from s on, each behind the one before
 abbrev AreRunsFrom : ℕ → ℕ → List SectorState → List LostRun → Type 0
@@ -52,7 +52,7 @@ AreRunsFrom low s states [] = Unit {0}
 AreRunsFrom low s states (r ∷ more) = (low ≤ r.first) × IsRunFrom s states r × AreRunsFrom (r.first + r.count) s states more
 
 -- a sector before those from s on, of another fault than the run's, where that begins at s
-lift : (s : ℕ) (x : SectorState) (more : List SectorState) (r : LostRun) → (r.first ≡ suc s → x ≢ Some r.fault) → IsRunFrom (suc s) more r → IsRunFrom s (x ∷ more) r
+lift : (s : ℕ) (x : SectorState) (more : List SectorState) (r : LostRun) → (r.first ≡ suc s → x ≢ Some r.kind) → IsRunFrom (suc s) more r → IsRunFrom s (x ∷ more) r
 lift s x more r apart p = record {
   some = p.some;
   from = omega (arith, p.from);
@@ -71,24 +71,24 @@ lift-behind low s x more (r ∷ rs) above p =
     (p.0, lift s x more r (λ e. absurd (omega (arith, e, above, p.0))) p.1, lift-behind (r.first + r.count) s x more rs (omega (arith, above, p.0, p.1.some)) p.2)
 
 -- the first run begins where the first sector is lost
-first-run : (s : ℕ) (states : List SectorState) (f : IoFault) (rs : List LostRun) → lost_runs s states ≡ rs → get_or states 0 None ≡ Some f → (b : LostRun) × (more : List LostRun) × (rs ≡ b ∷ more) × (b.first ≡ s) × (b.fault ≡ f)
+first-run : (s : ℕ) (states : List SectorState) (f : IoFault) (rs : List LostRun) → runs_of is_same_fault s states ≡ rs → get_or states 0 None ≡ Some f → (b : LostRun) × (more : List LostRun) × (rs ≡ b ∷ more) × (b.first ≡ s) × (b.kind ≡ f)
 first-run s [] f rs is e = let clash : None ≡ Some f = e in cc
 first-run s (None ∷ states) f rs is e = let clash : None ≡ Some f = e in cc
-first-run s (Some g ∷ states) f rs is e = go (lost_runs (suc s) states) is
+first-run s (Some g ∷ states) f rs is e = go (runs_of is_same_fault (suc s) states) is
   where
     same : g ≡ f
     same = let both : Some g ≡ Some f = e in cc
 
-    go : (below : List LostRun) → lost_before (run_lost s 1 g) below ≡ rs → (b : LostRun) × (more : List LostRun) × (rs ≡ b ∷ more) × (b.first ≡ s) × (b.fault ≡ f)
-    go [] at = (run_lost s 1 g, [], sym at, refl, same)
-    go (x ∷ more) at = split (follows_lost (run_lost s 1 g) x) at
+    go : (below : List LostRun) → run_before is_same_fault (run s 1 g) below ≡ rs → (b : LostRun) × (more : List LostRun) × (rs ≡ b ∷ more) × (b.first ≡ s) × (b.kind ≡ f)
+    go [] at = (run s 1 g, [], sym at, refl, same)
+    go (x ∷ more) at = split (follows is_same_fault (run s 1 g) x) at
       where
-        split : (b : Bool) → cond b (run_lost s (1 + x.count) g ∷ more) (run_lost s 1 g ∷ x ∷ more) ≡ rs → (b : LostRun) × (more : List LostRun) × (rs ≡ b ∷ more) × (b.first ≡ s) × (b.fault ≡ f)
-        split true by = (run_lost s (1 + x.count) g, more, sym by, refl, same)
-        split false by = (run_lost s 1 g, x ∷ more, sym by, refl, same)
+        split : (b : Bool) → cond b (run s (1 + x.count) g ∷ more) (run s 1 g ∷ x ∷ more) ≡ rs → (b : LostRun) × (more : List LostRun) × (rs ≡ b ∷ more) × (b.first ≡ s) × (b.kind ≡ f)
+        split true by = (run s (1 + x.count) g, more, sym by, refl, same)
+        split false by = (run s 1 g, x ∷ more, sym by, refl, same)
 
 -- one sector, behind which none is lost by its fault
-alone : (s : ℕ) (f : IoFault) (more : List SectorState) → state_at (suc s) more (suc s) ≢ Some f → IsRunFrom s (Some f ∷ more) (run_lost s 1 f)
+alone : (s : ℕ) (f : IoFault) (more : List SectorState) → state_at (suc s) more (suc s) ≢ Some f → IsRunFrom s (Some f ∷ more) (run s 1 f)
 alone s f more none = record {
   some = omega arith;
   from = omega arith;
@@ -98,7 +98,7 @@ alone s f more none = record {
 }
 
 -- one sector and a run of its fault behind it
-grown : (s : ℕ) (f : IoFault) (more : List SectorState) (b : LostRun) → b.first ≡ s + 1 → f ≡ b.fault → IsRunFrom (suc s) more b → IsRunFrom s (Some f ∷ more) (run_lost s (1 + b.count) f)
+grown : (s : ℕ) (f : IoFault) (more : List SectorState) (b : LostRun) → b.first ≡ s + 1 → f ≡ b.kind → IsRunFrom (suc s) more b → IsRunFrom s (Some f ∷ more) (run s (1 + b.count) f)
 grown s f more b at same p = record {
   some = omega arith;
   from = omega arith;
@@ -119,44 +119,44 @@ state_at-here : (s : ℕ) (states : List SectorState) → state_at s states s �
 unfolding state_at
 state_at-here s states = let none : s - s ≡ 0 = omega arith in ap (λ (k : ℕ). get_or states k None) none
 
-runs-from : (s : ℕ) (states : List SectorState) → AreRunsFrom s s states (lost_runs s states)
+runs-from : (s : ℕ) (states : List SectorState) → AreRunsFrom s s states (runs_of is_same_fault s states)
 runs-from s [] = tt
-runs-from s (None ∷ more) = go (lost_runs (suc s) more) (runs-from (suc s) more)
+runs-from s (None ∷ more) = go (runs_of is_same_fault (suc s) more) (runs-from (suc s) more)
   where
     go : (rs : List LostRun) → AreRunsFrom (suc s) (suc s) more rs → AreRunsFrom s s (None ∷ more) rs
     go [] p = tt
     go (r ∷ rs) p =
-        (omega (arith, p.0), lift s None more r (λ e clash. had-none r.fault clash) p.1, lift-behind (r.first + r.count) s None more rs (omega (arith, p.0, p.1.some)) p.2)
-runs-from s (Some f ∷ more) = go (lost_runs (suc s) more) refl (runs-from (suc s) more)
+        (omega (arith, p.0), lift s None more r (λ e clash. had-none r.kind clash) p.1, lift-behind (r.first + r.count) s None more rs (omega (arith, p.0, p.1.some)) p.2)
+runs-from s (Some f ∷ more) = go (runs_of is_same_fault (suc s) more) refl (runs-from (suc s) more)
   where
-    next : (rs : List LostRun) → lost_runs (suc s) more ≡ rs → state_at (suc s) more (suc s) ≡ Some f → (b : LostRun) × (rest : List LostRun) × (rs ≡ b ∷ rest) × (b.first ≡ suc s) × (b.fault ≡ f)
+    next : (rs : List LostRun) → runs_of is_same_fault (suc s) more ≡ rs → state_at (suc s) more (suc s) ≡ Some f → (b : LostRun) × (rest : List LostRun) × (rs ≡ b ∷ rest) × (b.first ≡ suc s) × (b.kind ≡ f)
     next rs is e = first-run (suc s) more f rs is (sym (state_at-here (suc s) more) ∙ e)
 
-    go : (rs : List LostRun) → lost_runs (suc s) more ≡ rs → AreRunsFrom (suc s) (suc s) more rs → AreRunsFrom s s (Some f ∷ more) (lost_before (run_lost s 1 f) rs)
+    go : (rs : List LostRun) → runs_of is_same_fault (suc s) more ≡ rs → AreRunsFrom (suc s) (suc s) more rs → AreRunsFrom s s (Some f ∷ more) (run_before is_same_fault (run s 1 f) rs)
     go [] is p = (omega arith, alone s f more (λ e. let found = next [] is e in empty-none found.0 found.1 found.2), tt)
-    go (b ∷ rest) is p = split (follows_lost (run_lost s 1 f) b) refl
+    go (b ∷ rest) is p = split (follows is_same_fault (run s 1 f) b) refl
       where
-        split : (t : Bool) → follows_lost (run_lost s 1 f) b ≡ t → AreRunsFrom s s (Some f ∷ more) (cond t (run_lost s (1 + b.count) f ∷ rest) (run_lost s 1 f ∷ b ∷ rest))
+        split : (t : Bool) → follows is_same_fault (run s 1 f) b ≡ t → AreRunsFrom s s (Some f ∷ more) (cond t (run s (1 + b.count) f ∷ rest) (run s 1 f ∷ b ∷ rest))
         split true e =
-            let both = and_parts (b.first == (s + 1)) (is_same_fault f b.fault) e in
+            let both = and_parts (b.first == (s + 1)) (is_same_fault f b.kind) e in
             let at : b.first ≡ s + 1 = eqb-true b.first (s + 1) both.0 in
             let end : b.first + b.count ≡ s + (1 + b.count) = omega (arith, at) in (
               omega arith,
-              grown s f more b at (is_same-true f b.fault both.1) p.1,
+              grown s f more b at (is_same-true f b.kind both.1) p.1,
               lift-behind (s + (1 + b.count)) s (Some f) more rest (omega (arith, p.1.some)) (subst (λ (k : ℕ). AreRunsFrom k (suc s) more rest) end p.2),
             )
         split false e =
-            let apart : b.first ≡ suc s → f ≡ b.fault → ⊥ = λ at same.
+            let apart : b.first ≡ suc s → f ≡ b.kind → ⊥ = λ at same.
             let here : b.first ≡ s + 1 = omega (arith, at) in
-            false≢true (sym e ∙ and_from (b.first == (s + 1)) (is_same_fault f b.fault) (eq-eqb b.first (s + 1) here) (ap (is_same_fault f) (sym same) ∙ is_same-refl f)) in (
+            false≢true (sym e ∙ and_from (b.first == (s + 1)) (is_same_fault f b.kind) (eq-eqb b.first (s + 1) here) (ap (is_same_fault f) (sym same) ∙ is_same-refl f)) in (
               omega arith,
               alone s f more (λ e'. let found = next (b ∷ rest) is e' in
                   let lists : b ∷ rest ≡ found.0 ∷ found.1 = found.2 in
                   let same : b ≡ found.0 = cc in
-                  apart (ap (λ (x : LostRun). x.first) same ∙ found.3) (sym (ap (λ (x : LostRun). x.fault) same ∙ found.4))),
+                  apart (ap (λ (x : LostRun). x.first) same ∙ found.3) (sym (ap (λ (x : LostRun). x.kind) same ∙ found.4))),
               (
                 omega (arith, p.0),
-                lift s (Some f) more b (λ at clash. apart at (let both : Some f ≡ Some b.fault = clash in cc)) p.1,
+                lift s (Some f) more b (λ at clash. apart at (let both : Some f ≡ Some b.kind = clash in cc)) p.1,
                 lift-behind (b.first + b.count) s (Some f) more rest (omega (arith, p.0, p.1.some)) p.2,
               ),
             )
@@ -179,4 +179,4 @@ each-longest low states [] p = All-nil (IsLongestRun states)
 each-longest low states (r ∷ rs) p = All-cons (IsLongestRun states) r rs (longest states r p.1) (each-longest (r.first + r.count) states rs p.2)
 
 pub runs-longest : RunsAreLongest
-runs-longest states = each-longest 0 states (lost_runs 0 states) (runs-from 0 states)
+runs-longest states = each-longest 0 states (runs_of is_same_fault 0 states) (runs-from 0 states)

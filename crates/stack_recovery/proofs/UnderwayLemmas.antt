@@ -12,21 +12,22 @@ use Rattle.rescue_map.specs.declared.map.Run.{Run}
 use Rattle.rescue_map.specs.Maps.{marks}
 use Rattle.stack_recovery.specs.declared.fault.RecoveryFault.{RecoveryFault}
 use Rattle.stack_recovery.specs.declared.fault.RecoveryFault.TheVariants as recovery
-use Rattle.stack_recovery.specs.declared.lost_run.LostRun.{LostRun}
+use Rattle.runs.specs.Runs.{run}
+use Rattle.runs.specs.Tallies.{closed_by, listed, opened_by}
+use Rattle.stack_recovery.specs.LostRuns.{LostRun, is_same_fault, lost_in}
 use Rattle.stack_recovery.specs.declared.recovery.Counts.{Counts}
 use Rattle.stack_recovery.specs.declared.tally.Tally.{Tally}
 use Rattle.stack_recovery.specs.Alike.{AreAlike}
 use Rattle.stack_recovery.specs.Copies.{IsCopied}
 use Rattle.stack_recovery.specs.Listings.{Listed, Tells}
-use Rattle.stack_recovery.specs.LostRuns.{lost_in, run_lost}
 use Rattle.stack_recovery.specs.Losses.{StopsInPiece}
 use Rattle.stack_recovery.specs.Recoveries.{EndsEarly, FindsNoMemory, GoesOver, IsBegunOver, AreMarksNoted, IsRecoveryEnd, NotesMore, Recovers, RunsShort, Sides, sides}
 use Rattle.stack_recovery.specs.Surveys.{AreMarked, IsPieceSurveyed, IsSurveyOver, PieceRead, SectorState, again, all_states, had, kept, lost, states_of}
-use Rattle.stack_recovery.specs.Tallies.{closed_lost, listed_lost, opened_lost}
 use Rattle.stack_recovery.specs.Texts.{lost_text}
 use Rattle.stack_recovery.proofs.AheadLemmas.{length-noted, marks-none, noted-more}
 use Rattle.stack_recovery.proofs.CopyLemmas.{copied-had, copied-lost, copied-none}
-use Rattle.stack_recovery.proofs.LostRunLemmas.{IsTallied, lost_in-append, lost_in-had, lost_in-lost, lost_in-most, tallied-all, tallied-had, tallied-lost, tallied-none}
+use Rattle.runs.proofs.lemmas.RunLemmas.{IsTallied, tallied-all, tallied-had, tallied-lost, tallied-none}
+use Rattle.stack_recovery.proofs.LostRunLemmas.{is_same-equality, lost_in-append, lost_in-had, lost_in-lost, lost_in-most}
 use Rattle.stack_recovery.proofs.SurveyLemmas.{states-push, survey-push, survey-same}
 use Rattle.stack_recovery.proofs.WritingLemmas.{runs-then, tells_nothing}
 
@@ -36,7 +37,7 @@ pub record IsUnderway (before : List Bool) (d : ℕ) (old new : Sides) (at : ℕ
   pub closed : List LostRun
   pub survey : IsSurveyOver before d 0 old.stack reads new.stack
   pub here : at ≡ length (all_states reads)
-  pub tallied : IsTallied (all_states reads) closed tally.last
+  pub tallied : IsTallied is_same_fault (all_states reads) closed tally.last
   pub lost : tally.lost ≡ lost_in (all_states reads)
   pub copied : IsCopied reads old.out new.out
   pub printed : Tells old.printed new.printed (lost_text closed)
@@ -48,7 +49,7 @@ underway-none before d old noted p = record {
   closed = [];
   survey = refl;
   here = refl;
-  tallied = tallied-none;
+  tallied = tallied-none is_same_fault is_same-equality;
   lost = refl;
   copied = copied-none old.out;
   printed = tells_nothing old.printed;
@@ -62,9 +63,9 @@ module _ (before : List Bool) (d : ℕ) (old now : Sides) (at : ℕ) (tally : Ta
     reads = u.reads;
     left = now.stack;
     runs = u.closed;
-    more = listed_lost tally.last;
+    more = listed tally.last;
     survey = u.survey;
-    first = tallied-all (all_states u.reads) u.closed tally.last u.tallied;
+    first = tallied-all is_same_fault is_same-equality (all_states u.reads) u.closed tally.last u.tallied;
     printed = u.printed;
   }
 
@@ -107,56 +108,56 @@ module _ (before : List Bool) (d : ℕ) (old now : Sides) (at : ℕ) (tally : Ta
   -- a piece that was had, written, and told
   pub underway-had : (n : ℕ) (bytes : List ℕ) (stack : StackRecord) (k : ℕ) (ok : Bool) (out : Device) (printed : Listed) (next : Tally) (more : Option (List Run)) → 1 ≤ n → EachBytes now.stack d at n (Ok bytes) stack → AreMarked before at n false → NotesMore noted more (replicate n true) → k ≡ n
       → IsWritten now.out at k ok out → (IsTrue now.out.steady → out.image ≡ spliced now.out.image at (sectors_of k bytes))
-      → Tells now.printed printed (lost_text (listed_lost tally.last)) → next ≡ record { last = None; lost = tally.lost } → IsUnderway before d old (sides stack out printed) (at + n) next more
+      → Tells now.printed printed (lost_text (listed tally.last)) → next ≡ record { last = None; lost = tally.lost } → IsUnderway before d old (sides stack out printed) (at + n) next more
   underway-had n bytes stack k ok out printed next more some p marked noting count w image told is =
       let r : PieceRead = record { count = n; found = had bytes; after = stack } in
       let states : all_states (u.reads ++ r ∷ []) ≡ all_states u.reads ++ replicate n None = states-push u.reads r in
       subst (λ (t : Tally). IsUnderway before d old (sides stack out printed) (at + n) t more) (sym is) (record {
         reads = u.reads ++ r ∷ [];
-        closed = u.closed ++ listed_lost tally.last;
+        closed = u.closed ++ listed tally.last;
         survey = next-survey r (record { answered = p; may = tt; marked = marked });
         here = omega (arith, u.here, ap length states, length-append (all_states u.reads) (states_of r), length-replicate {A = SectorState} n None);
-        tallied = rw states (tallied-had (all_states u.reads) u.closed tally.last n some u.tallied);
+        tallied = rw states (tallied-had is_same_fault is_same-equality (all_states u.reads) u.closed tally.last n some u.tallied);
         lost = u.lost ∙ sym (ap lost_in states ∙ lost_in-append (all_states u.reads) (states_of r) ∙ ap (λ (m : ℕ). lost_in (all_states u.reads) + m) (lost_in-had n) ∙ omega arith);
         copied = copied-had u.reads n at k bytes stack ok old.out now.out out u.here count u.copied w image;
-        printed = runs-then old.printed now.printed printed u.closed (listed_lost tally.last) u.printed told;
+        printed = runs-then old.printed now.printed printed u.closed (listed tally.last) u.printed told;
         noted = rw states (noted-more noted more (all_states u.reads) n None u.noted noting);
       })
 
   -- sectors that were had before
   pub underway-kept : (n : ℕ) (printed : Listed) (next : Tally) (more : Option (List Run)) → 1 ≤ n → AreMarked before at n true → NotesMore noted more (replicate n true)
-      → Tells now.printed printed (lost_text (listed_lost tally.last)) → next ≡ record { last = None; lost = tally.lost } → IsUnderway before d old (sides now.stack now.out printed) (at + n) next more
+      → Tells now.printed printed (lost_text (listed tally.last)) → next ≡ record { last = None; lost = tally.lost } → IsUnderway before d old (sides now.stack now.out printed) (at + n) next more
   underway-kept n printed next more some marked noting told is =
       let r : PieceRead = record { count = n; found = kept; after = now.stack } in
       let states : all_states (u.reads ++ r ∷ []) ≡ all_states u.reads ++ replicate n None = states-push u.reads r in
       subst (λ (t : Tally). IsUnderway before d old (sides now.stack now.out printed) (at + n) t more) (sym is) (record {
         reads = u.reads ++ r ∷ [];
-        closed = u.closed ++ listed_lost tally.last;
+        closed = u.closed ++ listed tally.last;
         survey = next-survey r (record { answered = refl; may = some; marked = marked });
         here = omega (arith, u.here, ap length states, length-append (all_states u.reads) (states_of r), length-replicate {A = SectorState} n None);
-        tallied = rw states (tallied-had (all_states u.reads) u.closed tally.last n some u.tallied);
+        tallied = rw states (tallied-had is_same_fault is_same-equality (all_states u.reads) u.closed tally.last n some u.tallied);
         lost = u.lost ∙ sym (ap lost_in states ∙ lost_in-append (all_states u.reads) (states_of r) ∙ ap (λ (m : ℕ). lost_in (all_states u.reads) + m) (lost_in-had n) ∙ omega arith);
         copied = copied-lost u.reads r old.out now.out (λ first m image. refl) u.copied;
-        printed = runs-then old.printed now.printed printed u.closed (listed_lost tally.last) u.printed told;
+        printed = runs-then old.printed now.printed printed u.closed (listed tally.last) u.printed told;
         noted = rw states (noted-more noted more (all_states u.reads) n None u.noted noting);
       })
 
   -- a piece that is lost, and told
   pub underway-lost : (n : ℕ) (fault : IoFault) (stack : StackRecord) (printed : Listed) (next : Tally) (more : Option (List Run)) → 1 ≤ n → EachBytes now.stack d at n (Err fault) stack → AreMarked before at n false → NotesMore noted more (replicate n false) → AreAlike now.stack.config d at n → fault ≢ NoMemory
-      → Tells now.printed printed (lost_text (closed_lost tally.last (run_lost at n fault))) → next ≡ record { last = Some (opened_lost tally.last (run_lost at n fault)); lost = tally.lost + n }
+      → Tells now.printed printed (lost_text (closed_by is_same_fault tally.last (run at n fault))) → next ≡ record { last = Some (opened_by is_same_fault tally.last (run at n fault)); lost = tally.lost + n }
       → IsUnderway before d old (sides stack now.out printed) (at + n) next more
   underway-lost n fault stack printed next more some p marked noting alike kind told is =
       let r : PieceRead = record { count = n; found = lost fault; after = stack } in
       let states : all_states (u.reads ++ r ∷ []) ≡ all_states u.reads ++ replicate n (Some fault) = states-push u.reads r in
       subst (λ (t : Tally). IsUnderway before d old (sides stack now.out printed) (at + n) t more) (sym is) (record {
         reads = u.reads ++ r ∷ [];
-        closed = u.closed ++ closed_lost tally.last (run_lost at n fault);
+        closed = u.closed ++ closed_by is_same_fault tally.last (run at n fault);
         survey = next-survey r (record { answered = p; may = (alike, kind); marked = marked });
         here = omega (arith, u.here, ap length states, length-append (all_states u.reads) (states_of r), length-replicate {A = SectorState} n (Some fault));
-        tallied = rw states (tallied-lost (all_states u.reads) u.closed tally.last at n fault u.here some u.tallied);
+        tallied = rw states (tallied-lost is_same_fault is_same-equality (all_states u.reads) u.closed tally.last at n fault u.here some u.tallied);
         lost = ap (λ (m : ℕ). m + n) u.lost ∙ sym (ap lost_in states ∙ lost_in-append (all_states u.reads) (states_of r) ∙ ap (λ (m : ℕ). lost_in (all_states u.reads) + m) (lost_in-lost n fault));
         copied = copied-lost u.reads r old.out now.out (λ first m image. refl) u.copied;
-        printed = runs-then old.printed now.printed printed u.closed (closed_lost tally.last (run_lost at n fault)) u.printed told;
+        printed = runs-then old.printed now.printed printed u.closed (closed_by is_same_fault tally.last (run at n fault)) u.printed told;
         noted = rw states (noted-more noted more (all_states u.reads) n (Some fault) u.noted noting);
       })
 
@@ -178,7 +179,7 @@ module _ (before : List Bool) (d : ℕ) (old now : Sides) (at : ℕ) (tally : Ta
       }
 
   -- all sectors
-  pub underway-all : (printed : Listed) (sectors : ℕ) (counts : Counts) → at ≡ size old.stack.config (mapped d) → sectors ≡ at → Tells now.printed printed (lost_text (listed_lost tally.last))
+  pub underway-all : (printed : Listed) (sectors : ℕ) (counts : Counts) → at ≡ size old.stack.config (mapped d) → sectors ≡ at → Tells now.printed printed (lost_text (listed tally.last))
       → counts ≡ record { read = sectors - tally.lost; lost = tally.lost } → now.out.failures ≡ old.out.failures → GoesOver before d old counts noted (sides now.stack now.out printed)
   underway-all printed sectors counts end all told is unfailed = record {
     reads = u.reads;
@@ -186,7 +187,7 @@ module _ (before : List Bool) (d : ℕ) (old now : Sides) (at : ℕ) (tally : Ta
     whole = sym u.here ∙ end;
     copied = u.copied;
     unfailed = unfailed;
-    printed = rw (tallied-all (all_states u.reads) u.closed tally.last u.tallied) (runs-then old.printed now.printed printed u.closed (listed_lost tally.last) u.printed told);
+    printed = rw (tallied-all is_same_fault is_same-equality (all_states u.reads) u.closed tally.last u.tallied) (runs-then old.printed now.printed printed u.closed (listed tally.last) u.printed told);
     counted = is ∙ ap (λ (m : ℕ). record { read = m - tally.lost; lost = tally.lost }) (all ∙ u.here) ∙ ap (λ (m : ℕ). record { read = length (all_states u.reads) - m; lost = m }) u.lost;
     noted = u.noted;
   }

@@ -17,8 +17,8 @@ use Rattle.stack_meaning.specs.Meaning.{sector}
 use Rattle.stack_meaning.specs.declared.fault.Fault.{Fault}
 use Rattle.stack_meaning.specs.Outcomes.{Images, Outcome}
 use Rattle.stack_engine.specs.Stacks.{StackRecord}
-use Rattle.stack_recovery.specs.declared.lost_run.LostRun.{LostRun}
-use Rattle.stack_recovery.specs.LostRuns.{lost_runs}
+use Rattle.runs.specs.Runs.{runs_of}
+use Rattle.stack_recovery.specs.LostRuns.{LostRun, is_same_fault}
 use Rattle.stack_recovery.specs.Surveys.{IsStackSurvey, PieceRead, SectorState, all_states}
 
 -- ---- over leaves that are steady and never fail
@@ -48,13 +48,13 @@ StatesAreMeant = (d first : ℕ) (w : StackRecord) (reads : List PieceRead) (w' 
 -- sectors that are lost by the run's fault, while those directly before and behind it aren't
 pub record IsLongestRun (states : List SectorState) (r : LostRun) : Type 0 where
   pub some : 1 ≤ r.count
-  pub lost : (j : ℕ) → j < r.count → get_or states (r.first + j) None ≡ Some r.fault
-  pub before : (s : ℕ) → suc s ≡ r.first → get_or states s None ≢ Some r.fault
-  pub behind : get_or states (r.first + r.count) None ≢ Some r.fault
+  pub lost : (j : ℕ) → j < r.count → get_or states (r.first + j) None ≡ Some r.kind
+  pub before : (s : ℕ) → suc s ≡ r.first → get_or states s None ≢ Some r.kind
+  pub behind : get_or states (r.first + r.count) None ≢ Some r.kind
 
 -- each run is one of the longest
 abbrev pub RunsAreLongest : Type 0
-RunsAreLongest = (states : List SectorState) → All (IsLongestRun states) (lost_runs 0 states)
+RunsAreLongest = (states : List SectorState) → All (IsLongestRun states) (runs_of is_same_fault 0 states)
 
 -- ---- verity lines
 

@@ -6,6 +6,5 @@ pub mod LostRuns
 pub mod Pieces
 pub mod Recoveries
 pub mod Surveys
-pub mod Tallies
 pub mod Texts
 pub mod Losses

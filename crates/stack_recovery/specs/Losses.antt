@@ -5,11 +5,11 @@ use Rattle.stack_meaning.specs.declared.fault.IoFault.TheVariants as io
 use Rattle.rescue_map.specs.declared.map.Run.{Run}
 use Rattle.stack_recovery.specs.declared.fault.RecoveryFault.{RecoveryFault}
 use Rattle.stack_recovery.specs.declared.fault.RecoveryFault.TheVariants.{NoMemory, Output}
-use Rattle.stack_recovery.specs.declared.lost_run.LostRun.{LostRun}
+use Rattle.runs.specs.Tallies.{closed_by, opened_by}
+use Rattle.stack_recovery.specs.LostRuns.{LostRun, is_same_fault}
 use Rattle.stack_recovery.specs.declared.tally.Tally.{Tally}
 use Rattle.stack_recovery.specs.Listings.{Listed, Tells}
 use Rattle.stack_recovery.specs.Recoveries.{NotesMore}
-use Rattle.stack_recovery.specs.Tallies.{closed_lost, opened_lost}
 use Rattle.stack_recovery.specs.Texts.{lost_text}
 
 -- what is noted, where they are lost or not
@@ -19,12 +19,12 @@ NotesLost count old new false = new ≡ old
 
 -- what is counted
 abbrev pub TalliesLost : LostRun → Tally → Tally → Bool → Type 0
-TalliesLost run old new true = new ≡ record { last = Some (opened_lost old.last run); lost = old.lost + run.count }
+TalliesLost run old new true = new ≡ record { last = Some (opened_by is_same_fault old.last run); lost = old.lost + run.count }
 TalliesLost run old new false = new ≡ old
 
 -- and what is told: the run that doesn't grow further
 abbrev pub ListsLost : {L : Type 0} → (L → Listed) → LostRun → Tally → L → L → Bool → Type 0
-ListsLost told run tally old new true = Tells (told old) (told new) (lost_text (closed_lost tally.last run))
+ListsLost told run tally old new true = Tells (told old) (told new) (lost_text (closed_by is_same_fault tally.last run))
 ListsLost told run tally old new false = new ≡ old
 
 -- why the recovery ends there: the read found no memory, or the map that is made

@@ -12,12 +12,12 @@ use Rattle.rescue_map.specs.declared.map.Run.{Run}
 use Rattle.rescue_map.specs.Maps.{marks}
 use Rattle.stack_recovery.specs.declared.fault.RecoveryFault.{RecoveryFault}
 use Rattle.stack_recovery.specs.declared.fault.RecoveryFault.TheVariants.{NoMemory, Output}
-use Rattle.stack_recovery.specs.declared.lost_run.LostRun.{LostRun}
+use Rattle.runs.specs.Runs.{runs_of}
+use Rattle.stack_recovery.specs.LostRuns.{LostRun, is_same_fault, lost_in}
 use Rattle.stack_recovery.specs.declared.recovery.Counts.{Counts}
 use Rattle.stack_recovery.specs.declared.rescued.Rescued.{Rescued}
 use Rattle.stack_recovery.specs.Copies.{IsCopied}
 use Rattle.stack_recovery.specs.Listings.{Listed, Tells}
-use Rattle.stack_recovery.specs.LostRuns.{lost_in, lost_runs}
 use Rattle.stack_recovery.specs.Surveys.{IsStackSurvey, IsSurveyOver, PieceRead, SectorState, all_states}
 use Rattle.stack_recovery.specs.Texts.{lost_text}
 
@@ -38,7 +38,7 @@ pub record Recovers (d : ℕ) (old : Sides) (counts : Counts) (new : Sides) : Ty
   pub whole : length (all_states reads) ≡ size old.stack.config (mapped d)
   pub copied : IsCopied reads old.out new.out
   pub unfailed : new.out.failures ≡ old.out.failures
-  pub printed : Tells old.printed new.printed (lost_text (lost_runs 0 (all_states reads)))
+  pub printed : Tells old.printed new.printed (lost_text (runs_of is_same_fault 0 (all_states reads)))
   pub counted : counts ≡ record { read = length (all_states reads) - lost_in (all_states reads); lost = lost_in (all_states reads) }
 
 -- some first pieces of the device were read, and the first of their lost runs printed
@@ -48,7 +48,7 @@ pub record IsBegunOver (marks : List Bool) (d : ℕ) (old new : Sides) : Type 0 
   pub runs : List LostRun
   pub more : List LostRun
   pub survey : IsSurveyOver marks d 0 old.stack reads left
-  pub first : lost_runs 0 (all_states reads) ≡ runs ++ more
+  pub first : runs_of is_same_fault 0 (all_states reads) ≡ runs ++ more
   pub printed : Tells old.printed new.printed (lost_text runs)
 
 -- a read of some sectors from that one on found no memory, and a `verity` line is on their way: no other read takes any
@@ -120,7 +120,7 @@ pub record GoesOver (before : List Bool) (d : ℕ) (old : Sides) (counts : Count
   pub whole : length (all_states reads) ≡ size old.stack.config (mapped d)
   pub copied : IsCopied reads old.out new.out
   pub unfailed : new.out.failures ≡ old.out.failures
-  pub printed : Tells old.printed new.printed (lost_text (lost_runs 0 (all_states reads)))
+  pub printed : Tells old.printed new.printed (lost_text (runs_of is_same_fault 0 (all_states reads)))
   pub counted : counts ≡ record { read = length (all_states reads) - lost_in (all_states reads); lost = lost_in (all_states reads) }
   pub noted : AreMarksNoted made (all_states reads)
 

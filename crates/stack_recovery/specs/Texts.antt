@@ -2,11 +2,11 @@
 use Rattle.std.specs.Prelude.{ℕ, List, ◌++◌, codes, decimal}
 use Rattle.std.specs.List.{flat_map}
 use Rattle.io_fault_text.specs.Texts.{io_words}
-use Rattle.stack_recovery.specs.declared.lost_run.LostRun.{LostRun}
+use Rattle.stack_recovery.specs.LostRuns.{LostRun}
 
 -- `lost FIRST COUNT FAULT`
 unfoldable pub lost_run_text : LostRun → List ℕ
-lost_run_text run = codes "lost " ++ (decimal run.first ++ (codes " " ++ (decimal run.count ++ (codes " " ++ io_words run.fault))))
+lost_run_text run = codes "lost " ++ (decimal run.first ++ (codes " " ++ (decimal run.count ++ (codes " " ++ io_words run.kind))))
 
 -- a line for each run
 abbrev pub lost_text : List LostRun → List ℕ

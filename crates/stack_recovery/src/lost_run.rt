@@ -6,16 +6,12 @@ ghost use Rattle.stack_recovery.specs.Texts.{lost_run_text};
 
 use counted_io::{Counted, WriteFault};
 use io_fault_text::say_io_words;
+use runs::Run;
 use stack_engine::{Fault, IoFault};
 use std::io::Write;
 
-/// So many sectors from one on, counted from 0, and the fault in which a read of them ends.
-#[derive(Clone, Copy, Debug, PartialEq, Eq)]
-pub struct LostRun {
-    pub first: u64,
-    pub count: u64,
-    pub fault: IoFault,
-}
+/// A run of sectors, counted from 0, and the fault in which a read of each ends.
+pub type LostRun = Run<IoFault>;
 
 /// Whether both are one fault, of a device also of one leaf.
 pub fn is_same(a: IoFault, b: IoFault) -> bool
@@ -35,11 +31,7 @@ pub fn is_same(a: IoFault, b: IoFault) -> bool
 pub(crate) fn say_run<W: Write>(writer: &mut Counted<W>, run: LostRun) -> Result<(), WriteFault>
     ensures { Writes W.contents writer.old writer.new (lost_run_text run) result }
 {
-    let LostRun {
-        first,
-        count,
-        fault,
-    } = run;
+    let Run { first, count, kind } = run;
     writer.print(format_args!("lost {first} {count} "))?;
-    say_io_words(writer, fault)
+    say_io_words(writer, kind)
 }

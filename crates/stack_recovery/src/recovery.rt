@@ -4,10 +4,10 @@ ghost use Rattle.stack_rules.specs.Names.{mapped, size};
 ghost use Rattle.std.specs.Option.{ForSome, is_some};
 ghost use Rattle.rescue_map.specs.Maps.{marks};
 ghost use Rattle.rescue_map.specs.Aheads.{marks_ahead};
-ghost use Rattle.stack_recovery.specs.LostRuns.{run_lost};
 ghost use Rattle.stack_recovery.specs.Losses.{ListsLost, NotesLost, StopsInPiece, TalliesLost};
 ghost use Rattle.stack_recovery.specs.Recoveries.{EndsEarlyBy, EndsRecovery, GoesOverBy, AreMarksNoted, Recovered, parties};
-ghost use Rattle.stack_recovery.specs.Tallies.{EndsAtSector};
+ghost use Rattle.runs.specs.Runs.{run};
+ghost use Rattle.runs.specs.Tallies.{EndsAt};
 
 use crate::fault::RecoveryFault;
 use crate::listing::Listing;
@@ -176,14 +176,14 @@ fn lose_piece<L: Listing>(
 ) -> Result<bool, RecoveryFault>
     requires some { 1 ≤ piece.count }
     requires marks { ForSome noted.old (λ map. length (marks map) + piece.count ≤ 2 ^ 54) }
-    requires ends { EndsAtSector tally.old.last at }
+    requires ends { EndsAt tally.old.last at }
     requires few { tally.old.lost ≤ at }
     requires room { at + piece.count < 2 ^ 64 }
     ensures alike { IfOk result (λ lost. lost ≡ piece.alike) }
     ensures kind { OnOk result (fault ≢ IoFault.NoMemory) }
     ensures noted { IfOk result (NotesLost piece.count noted.old noted.new) }
-    ensures tallied { IfOk result (TalliesLost (run_lost at piece.count fault) tally.old tally.new) }
-    ensures told { IfOk result (ListsLost L.told (run_lost at piece.count fault) tally.old listing.old listing.new) }
+    ensures tallied { IfOk result (TalliesLost (run at piece.count fault) tally.old tally.new) }
+    ensures told { IfOk result (ListsLost L.told (run at piece.count fault) tally.old listing.old listing.new) }
     ensures err { IfErr result (StopsInPiece fault (is_some noted.old) listing.old listing.new) }
 {
     if is_same(fault, IoFault::NoMemory) {
@@ -197,7 +197,7 @@ fn lose_piece<L: Listing>(
     let run = LostRun {
         first: at,
         count,
-        fault,
+        kind: fault,
     };
     tally.lose(listing, run);
     Ok(true)

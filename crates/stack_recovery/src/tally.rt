@@ -1,7 +1,8 @@
 //! The lost sectors of a device, while it is gone over.
 ghost use Rattle.std.specs.Prelude.{◌≡◌, ◌+◌, ◌-◌, ◌<◌, ◌≤◌, ◌^◌, None, Some};
 ghost use Rattle.stack_recovery.specs.Listings.{Tells};
-ghost use Rattle.stack_recovery.specs.Tallies.{EndsAtSector, closed_lost, joined_lost, listed_lost, opened_lost};
+ghost use Rattle.runs.specs.Tallies.{EndsAt, closed_by, joined_run, listed, opened_by};
+ghost use Rattle.stack_recovery.specs.LostRuns.{is_same_fault};
 ghost use Rattle.stack_recovery.specs.Texts.{lost_text};
 
 use crate::listing::Listing;
@@ -15,21 +16,18 @@ pub(crate) struct Tally {
     pub(crate) lost: u64,
 }
 
-/// Both runs as one, where they are lost by one fault.
+/// Both runs as one, if they are lost by one fault.
 fn joined(last: Option<LostRun>, run: LostRun) -> Option<LostRun>
-    requires ends { EndsAtSector last run.first }
+    requires ends { EndsAt last run.first }
     requires room { run.first + run.count < 2 ^ 64 }
-    ensures { result ≡ joined_lost last run }
+    ensures { result ≡ joined_run is_same_fault last run }
 {
     let last = last?;
-    if !is_same(last.fault, run.fault) {
-        return None;
+    if is_same(last.kind, run.kind) {
+        Some(last.longer(run.count))
+    } else {
+        None
     }
-    Some(LostRun {
-        first: last.first,
-        count: last.count + run.count,
-        fault: last.fault,
-    })
 }
 
 impl Tally {
@@ -56,7 +54,7 @@ impl Tally {
     /// Tells the run that may still grow, since it doesn't.
     #[tactic(auto, using(crate::proofs::WritingLemmas::tells_nothing))]
     pub(crate) fn close<L: Listing>(&mut self, listing: &mut L)
-        ensures text { Tells (L.told listing.old) (L.told listing.new) (lost_text (listed_lost self.old.last)) }
+        ensures text { Tells (L.told listing.old) (L.told listing.new) (lost_text (listed self.old.last)) }
         ensures last { self.new.last ≡ None }
         ensures lost { self.new.lost ≡ self.old.lost }
     {
@@ -69,11 +67,11 @@ impl Tally {
     /// Adds a run that begins where the sectors so far end.
     #[tactic(auto, using(crate::proofs::WritingLemmas::tells_nothing))]
     pub(crate) fn lose<L: Listing>(&mut self, listing: &mut L, run: LostRun)
-        requires ends { EndsAtSector self.old.last run.first }
+        requires ends { EndsAt self.old.last run.first }
         requires lost { self.old.lost ≤ run.first }
         requires room { run.first + run.count < 2 ^ 64 }
-        ensures text { Tells (L.told listing.old) (L.told listing.new) (lost_text (closed_lost self.old.last run)) }
-        ensures last { self.new.last ≡ Some (opened_lost self.old.last run) }
+        ensures text { Tells (L.told listing.old) (L.told listing.new) (lost_text (closed_by is_same_fault self.old.last run)) }
+        ensures last { self.new.last ≡ Some (opened_by is_same_fault self.old.last run) }
         ensures lost { self.new.lost ≡ self.old.lost + run.count }
     {
         match joined(self.last, run) {

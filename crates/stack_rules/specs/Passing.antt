@@ -1,6 +1,8 @@
 -- What a check of rules answers.
-use Rattle.std.specs.Prelude.{◌≡◌, ℕ, List, Option, Some, None, Result, Ok, Err, map, true, is_none, nat_lt, flat_map, [], ◌∷◌}
+use Rattle.std.specs.Prelude.{◌≡◌, ◌+◌, ℕ, List, Option, Some, None, Result, Ok, Err, map, true, is_none, nat_lt, flat_map, [], ◌∷◌}
 use Rattle.std.specs.List.{list_any, enumerate_from}
+use Rattle.allocation.specs.Refusal.{IsOutOfMemory}
+use Rattle.dm_table.specs.Names.{most_name}
 use Rattle.dm_table.specs.declared.table.Line.{Line}
 use Rattle.stack_rules.specs.declared.lower.Lower.{Lower}
 use Rattle.stack_rules.specs.declared.refusal.LoadFault.{LoadFault}
@@ -9,13 +11,17 @@ use Rattle.stack_rules.specs.declared.refusal.LoadKind.{LoadKind}
 use Rattle.stack_rules.specs.declared.refusal.Refusal.{Refusal}
 use Rattle.stack_rules.specs.Records.{Configuration}
 use Rattle.stack_rules.specs.Names.{named, names}
-use Rattle.stack_rules.specs.Rules.{first, refuse}
+use Rattle.stack_rules.specs.Rules.{first, refuse, most_lines}
 
--- a value only where no rule refuses, and otherwise the first refusal, unless memory ran out
+-- no check and no load asks for room for more elements
+abbrev pub largest_load_allocation : ℕ
+largest_load_allocation = most_lines + most_name
+
+-- a value only if no rule refuses, and otherwise the first refusal, unless an allocation was refused
 abbrev pub IsPassed : {A : Type 0} → Result A LoadFault → List (Option Refusal) → (A → Type 0) → Type 0
 IsPassed (Ok x) rules P = (first rules ≡ None) × P x
 IsPassed (Err (Refused refusal)) rules P = first rules ≡ Some refusal
-IsPassed (Err NoMemory) rules P = Unit {0}
+IsPassed (Err NoMemory) rules P = IsOutOfMemory largest_load_allocation
 
 -- the lower devices are what the names mean
 abbrev pub Mean : Configuration → List Lower → List (List ℕ) → Type 0
@@ -38,7 +44,7 @@ RowsMean c rows lines = map (map (λ lower. Some lower)) rows ≡ map (λ line. 
 abbrev pub above : LoadKind → ℕ → List ℕ → List (Option Refusal)
 above kind most values = flat_map (λ p. refuse kind p.0 0 (nat_lt most p.1) ∷ []) (enumerate_from 1 values)
 
--- the first refusal, unless memory ran out
+-- the first refusal, unless an allocation was refused
 abbrev pub IsFirst : LoadFault → List (Option Refusal) → Type 0
 IsFirst (Refused refusal) rules = first rules ≡ Some refusal
-IsFirst NoMemory rules = Unit {0}
+IsFirst NoMemory rules = IsOutOfMemory largest_load_allocation

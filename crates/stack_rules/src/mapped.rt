@@ -1,10 +1,13 @@
 //! A mapped device of a configuration.
-ghost use Rattle.std.specs.Prelude.{◌≡◌, IfOk, position};
+ghost use Rattle.std.specs.Prelude.{◌≡◌, ◌≤◌, ◌+◌, length, IfOk, IfErr, position};
+ghost use Rattle.allocation.specs.Asked.{asked};
+ghost use Rattle.dm_table.specs.Names.{most_name};
 ghost use Rattle.std.specs.Str.{bytes_eq};
 ghost use Rattle.stack_rules.specs.Names.{table_sectors};
 
+use allocation::{OutOfMemory, copied};
 use dm_table::{Line, Table};
-use std::alloc::{AllocError, Global};
+use std::alloc::Global;
 use std::marker::Model;
 
 /// A mapped device, by the name that its entry gave it. The size is the sum of its lines' lengths.
@@ -40,19 +43,24 @@ pub fn sectors_of(lines: &[Line]) -> u128
 }
 
 impl Mapped {
-    ghost use Rattle.std.specs.Prelude.{◌≡◌, IfOk};
+    ghost use Rattle.std.specs.Prelude.{◌≡◌, ◌≤◌, ◌+◌, length, IfOk, IfErr};
     ghost use Rattle.stack_rules.specs.Names.{table_sectors};
 
     /// A device of these parts, which are copied.
+    ///
+    /// # Errors
+    ///
+    /// `OutOfMemory` if an allocation was refused, of room for the name, the lines or a name in one.
     pub fn new(
         alloc: Global,
         name: &[u8],
         writable: bool,
         table: &Table,
-    ) -> Result<Mapped, AllocError>
-        ensures { IfOk result (λ d. d ≡ record { name = name.now; writable = writable; table = table.now }) }
+    ) -> Result<Mapped, OutOfMemory>
+        ensures ok { IfOk result (λ d. d ≡ record { name = name.now; writable = writable; table = table.now }) }
+        ensures err { length name.now ≤ most_name → IfErr result (λ e. asked e ≤ length table.now + most_name) }
     {
-        let name = Vec::from_slice(alloc, name)?;
+        let name = copied(alloc, name)?;
         let table = table.try_clone(alloc)?;
         let size = sectors_of(table.lines());
         Ok(Mapped {

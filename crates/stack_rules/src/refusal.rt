@@ -2,7 +2,8 @@
 ghost use Rattle.std.specs.Prelude.{◌≡◌};
 ghost use Rattle.stack_rules.specs.declared.refusal.LoadFault.TheVariants as load_fault;
 
-use std::alloc::{AllocError, AllocFailed};
+use allocation::OutOfMemory;
+use std::alloc::AllocError;
 use thiserror::Error;
 
 /// Why leaves aren't taken, in the order of the checks.
@@ -140,7 +141,7 @@ pub enum LoadFault {
     /// A rule refuses the configuration to come.
     #[error("a rule refuses the load")]
     Refused(Refusal),
-    /// Memory ran out.
+    /// An allocation was refused.
     #[error("NoMemory")]
     NoMemory,
 }
@@ -153,10 +154,10 @@ impl From<AllocError> for LoadFault {
     }
 }
 
-impl<T: Drop> From<AllocFailed<T>> for LoadFault {
+impl From<OutOfMemory> for LoadFault {
     ghost from_gives = { λ _ fault. fault ≡ load_fault.NoMemory };
 
-    fn from(_refused: AllocFailed<T>) -> LoadFault {
+    fn from(_error: OutOfMemory) -> LoadFault {
         LoadFault::NoMemory
     }
 }

@@ -13,7 +13,7 @@ use Rattle.table_printer.specs.ArgumentWords.{crypt_words}
 use Rattle.dm_table.specs.TableText.{table_of}
 use Rattle.table_printer.specs.Print.{target_words, line_text, printed_table}
 use Rattle.table_printer.specs.Keys.{crypt_without_key, target_without_key, line_without_key, printed_lines}
-use Rattle.table_printer.proofs.RoundTripLemmas.{table-shown}
+use Rattle.table_printer.proofs.RoundTripLemmas.{line-shown, table-shown}
 
 -- zeros are the digits of bytes that are 0
 digits-zeros : (n : ℕ) → encode_lower (replicate n 0) ≡ replicate (2 * n) 48
@@ -42,12 +42,14 @@ target-without_key : (target : Target) → IsTargetOfGrammar target → IsTarget
 target-without_key (crypt_target crypt) h = crypt-without_key crypt h
 target-without_key target h = h
 
+line-without_key : (line : Line) → IsLineOfGrammar line → IsLineOfGrammar (line_without_key line)
+line-without_key line h = record { start = h.start; sectors = h.sectors; target = target-without_key line.target h.target }
+
 lines-without_key : (lines : List Line) → All IsLineOfGrammar lines → All IsLineOfGrammar (map line_without_key lines)
 lines-without_key [] h = h
 lines-without_key (line ∷ lines) h =
-    let first = All-head IsLineOfGrammar line lines h in
     All-cons IsLineOfGrammar (line_without_key line) (map line_without_key lines)
-    (record { start = first.start; sectors = first.sectors; target = target-without_key line.target first.target })
+    (line-without_key line (All-head IsLineOfGrammar line lines h))
     (lines-without_key lines (All-tail IsLineOfGrammar line lines h))
 
 -- without its keys a table is printed as the table of zero keys is with them
@@ -64,7 +66,12 @@ table_text-hidden : (lines : List Line) → printed_table false lines ≡ printe
 table_text-hidden [] = refl
 table_text-hidden (line ∷ lines) = rw (line_text-hidden line, table_text-hidden lines) refl
 
--- what was printed gives the table back, with the keys or without them
+-- what was printed gives the line back, with its key or without it
+pub one_line-printed : (show : Bool) (line : Line) → IsLineOfGrammar line → table_of (line_text show line) ≡ Ok (printed_lines show (line ∷ []))
+one_line-printed true line h = line-shown line h
+one_line-printed false line h = ap table_of (line_text-hidden line) ∙ line-shown (line_without_key line) (line-without_key line h)
+
+-- the same of a table
 pub table-printed : (show : Bool) (lines : List Line) → IsTableOfGrammar lines → table_of (printed_table show lines) ≡ Ok (printed_lines show lines)
 table-printed true lines h = table-shown lines h
 table-printed false lines h =

@@ -17,7 +17,7 @@ use Rattle.dm_table.specs.Numbers.{number, number_if}
 use Rattle.dm_table.specs.Reading.{◌>>=◌}
 use Rattle.dm_table.specs.Arguments.{device_at}
 use Rattle.dm_table.specs.Options.{is_one_of, AreOptionsOfGrammar}
-use Rattle.table_printer.specs.ArgumentWords.{options_words, table_salt_word, verity_words}
+use Rattle.table_printer.specs.ArgumentWords.{options_words, salt_word, verity_words}
 use Rattle.dm_table.specs.Verity.{version_at, block_size_at, salt_at, ignore_zero_blocks, verity_options, verity_at}
 use Rattle.dm_table.specs.Grammar.{IsVerityOfGrammar}
 use Rattle.table_printer.proofs.PrintedTargetLemmas.{ReadBack, read_back}
@@ -45,7 +45,7 @@ version_at-printed : version_at (codes "1") ≡ Ok 1
 unfolding number
 version_at-printed = refl
 
-salt_at-printed : (salt : List ℕ) → length salt ≤ 256 → IsBytes salt → salt_at (table_salt_word salt) ≡ Ok salt
+salt_at-printed : (salt : List ℕ) → length salt ≤ 256 → IsBytes salt → salt_at (salt_word salt) ≡ Ok salt
 salt_at-printed [] fits each = salt_at-none (codes "-") refl
 salt_at-printed (byte ∷ more) fits each =
     let word = encode_lower (byte ∷ more) in
@@ -81,7 +81,7 @@ verity-printed verity h =
     let options = options-printed (verity_options true) (verity_options verity.ignore_zero_blocks) (options-grammar verity.ignore_zero_blocks) in
     rw (version_at-printed, below, hash, data_block, hash_block, blocks, start, root, salt, options, ignores-printed verity.ignore_zero_blocks) refl
 
-printed-salt : (salt : List ℕ) → IsBytes salt → IsPrinted (table_salt_word salt)
+printed-salt : (salt : List ℕ) → IsBytes salt → IsPrinted (salt_word salt)
 printed-salt [] each = (omega arith, refl)
 printed-salt (byte ∷ more) each = printed-bytes (byte ∷ more) (omega arith) each
 

@@ -24,12 +24,12 @@ crypt_words show crypt =
     cipher_name ∷ key_word show crypt.key ∷ decimal crypt.iv_offset ∷ crypt.base.device ∷ decimal crypt.base.offset ∷ options_words crypt.options
 
 -- a salt's digits, or `-` where it is empty
-abbrev pub table_salt_word : List ℕ → Word
-table_salt_word [] = codes "-"
-table_salt_word (byte ∷ more) = encode_lower (byte ∷ more)
+abbrev pub salt_word : List ℕ → Word
+salt_word [] = codes "-"
+salt_word (byte ∷ more) = encode_lower (byte ∷ more)
 
 -- of a `verity` line
 unfoldable pub verity_words : Verity → List Word
 verity_words verity =
     codes "1" ∷ verity.data ∷ verity.hash ∷ decimal verity.data_block ∷ decimal verity.hash_block ∷ decimal verity.blocks ∷ decimal verity.start
-    ∷ algorithm_name Sha256 ∷ encode_lower verity.root ∷ table_salt_word verity.salt ∷ options_words (verity_options verity.ignore_zero_blocks)
+    ∷ algorithm_name Sha256 ∷ encode_lower verity.root ∷ salt_word verity.salt ∷ options_words (verity_options verity.ignore_zero_blocks)

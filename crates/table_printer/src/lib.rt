@@ -8,4 +8,4 @@ mod print_options;
 mod print_unstriped;
 mod print_verity;
 
-pub use crate::print::print_table;
+pub use crate::print::{print_line, print_table};

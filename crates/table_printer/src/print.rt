@@ -1,6 +1,7 @@
 //! Tables printed as text.
 ghost use Rattle.std.specs.Prelude.{◌≡◌, ◌∷◌, ◌++◌, [], OnOk, IfOk, Ok, codes, decimal, flat_map, length};
 ghost use Rattle.table_printer.specs.Keys.{printed_lines};
+ghost use Rattle.dm_table.specs.Grammar.{IsLineOfGrammar};
 ghost use Rattle.dm_table.specs.TableText.{table_of};
 ghost use Rattle.table_printer.specs.Print.{PrintsWords, base_words, line_text, striped_words, printed_table, target_words};
 
@@ -23,18 +24,32 @@ pub fn print_table(alloc: Global, table: &Table, show_keys: bool) -> Result<Vec<
 {
     let mut text = Vec::new(alloc);
     for line in table.lines() {
-        print_line(&mut text, line, show_keys)?;
+        push_line(&mut text, line, show_keys)?;
+        text.push(b'\n')?;
     }
     Ok(text)
 }
 
-fn print_line(text: &mut Vec<u8>, line: &Line, show_keys: bool) -> Result<(), AllocError>
-    ensures { OnOk result (text.new.items ≡ text.old.items ++ (line_text show_keys line.now ++ 10 ∷ [])) }
+/// Prints one line, without a newline. A `crypt` line's key is printed as zeros, unless `show_keys` asks for it.
+///
+/// # Errors
+///
+/// Memory for the text was refused.
+pub fn print_line(alloc: Global, line: &Line, show_keys: bool) -> Result<Vec<u8>, AllocError>
+    ensures text { IfOk result (λ text. text.items ≡ line_text show_keys line.now) }
+    ensures reads_back { IsLineOfGrammar line.now → IfOk result (λ text. table_of text.items ≡ Ok (printed_lines show_keys (line.now ∷ []))) }
+{
+    let mut text = Vec::new(alloc);
+    push_line(&mut text, line, show_keys)?;
+    Ok(text)
+}
+
+fn push_line(text: &mut Vec<u8>, line: &Line, show_keys: bool) -> Result<(), AllocError>
+    ensures { OnOk result (text.new.items ≡ text.old.items ++ line_text show_keys line.now) }
 {
     push_number(text, line.start)?;
     push_spaced_number(text, line.length)?;
     print_target(text, &line.target, show_keys)?;
-    text.push(b'\n')?;
     Ok(())
 }
 

@@ -1,6 +1,6 @@
 //! The arguments of a `verity` line, printed.
 ghost use Rattle.std.specs.Prelude.{◌≡◌, ◌≤◌, ◌∷◌, ◌++◌, OnOk, codes, length};
-ghost use Rattle.table_printer.specs.ArgumentWords.{options_words, table_salt_word, verity_words};
+ghost use Rattle.table_printer.specs.ArgumentWords.{options_words, salt_word, verity_words};
 ghost use Rattle.dm_table.specs.Verity.{verity_options};
 ghost use Rattle.table_printer.specs.Print.{PrintsWords};
 
@@ -30,7 +30,7 @@ pub(crate) fn print_verity(text: &mut Vec<u8>, verity: &Verity) -> Result<(), Al
 
 fn print_salt(text: &mut Vec<u8>, salt: &[u8]) -> Result<(), AllocError>
     requires { length salt.now ≤ 256 }
-    ensures { OnOk result (text.new.items ≡ text.old.items ++ 32 ∷ table_salt_word salt.now) }
+    ensures { OnOk result (text.new.items ≡ text.old.items ++ 32 ∷ salt_word salt.now) }
 {
     if salt.is_empty() {
         push_spaced(text, b"-")

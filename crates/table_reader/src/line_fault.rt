@@ -2,6 +2,7 @@
 ghost use Rattle.std.specs.Prelude.{◌≡◌};
 ghost use Rattle.table_reader.specs.declared.line_fault.LineFault.TheVariants as line_fault;
 
+use allocation::OutOfMemory;
 use dm_table::TextKind;
 use std::alloc::AllocError;
 
@@ -16,6 +17,14 @@ impl From<AllocError> for LineFault {
     ghost from_gives = { λ _ fault. fault ≡ line_fault.NoMemory };
 
     fn from(_error: AllocError) -> LineFault {
+        LineFault::NoMemory
+    }
+}
+
+impl From<OutOfMemory> for LineFault {
+    ghost from_gives = { λ _ fault. fault ≡ line_fault.NoMemory };
+
+    fn from(_error: OutOfMemory) -> LineFault {
         LineFault::NoMemory
     }
 }

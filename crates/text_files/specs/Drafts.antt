@@ -105,3 +105,15 @@ abbrev pub Replaces : {S F : Type 0} → FileRelations S F → S → List ℕ �
 Replaces r old path bytes (Ok done) new = IsReplaced r old path bytes new
 Replaces r old path bytes (Err fault) new =
     IsUndrafted r old path fault new ⊎ (IsWithdrawn r old path bytes fault new ⊎ IsUnlisted r old path bytes fault new)
+
+-- a draft was created, and removed again
+pub record IsTried {S F : Type 0} (r : FileRelations S F) (old : S) (path : List ℕ) (new : S) : Type 0 where
+  pub draft : Draft F
+  pub begun : S
+  pub is_draft : IsDraft r old path draft begun
+  pub removed : r.removes begun (string_bytes draft.name) new
+
+-- what a trial leaves
+abbrev pub Tries : {S F : Type 0} → FileRelations S F → S → List ℕ → Result (Unit {0}) ReplaceFault → S → Type 0
+Tries r old path (Ok done) new = IsTried r old path new
+Tries r old path (Err fault) new = IsUndrafted r old path fault new

@@ -1,6 +1,6 @@
 //! A new text beside the file whose place it takes.
 ghost use Rattle.std.specs.Prelude.{◌≡◌, IfErr, IfOk, OnErr, OnOk, string_bytes};
-ghost use Rattle.text_files.specs.Drafts.{IsDraft, IsFilled, IsPlaced, IsUndrafted, IsUnfilled, IsUnplaced, Replaces, beside};
+ghost use Rattle.text_files.specs.Drafts.{IsDraft, IsFilled, IsPlaced, IsUndrafted, IsUnfilled, IsUnplaced, Replaces, Tries, beside};
 
 use crate::calls::{CallFault, CreateFault, FileCalls};
 use crate::texts::ReplaceFault;
@@ -105,4 +105,13 @@ pub fn replace_text<C: FileCalls>(
         Ok(()) => Ok(()),
         Err(CallFault) => Err(ReplaceFault::Sync),
     }
+}
+
+/// Creates a draft beside the file under a path, and removes it again.
+pub fn try_draft<C: FileCalls>(alloc: Global, calls: &mut C, path: &str) -> Result<(), ReplaceFault>
+    ensures { Tries C.relations calls.old path.now result calls.new }
+{
+    let tried = create_draft(alloc, calls, path)?;
+    calls.remove(tried.name.as_str());
+    Ok(())
 }

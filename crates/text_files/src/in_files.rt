@@ -1,6 +1,6 @@
 //! Texts in files.
 use crate::calls::FileCalls;
-use crate::draft::replace_text;
+use crate::draft::{replace_text, try_draft};
 use crate::texts::{ReplaceFault, Texts};
 use std::alloc::Global;
 
@@ -18,11 +18,17 @@ impl<C> FileTexts<C> {
 }
 
 impl<C: FileCalls> Texts for FileTexts<C> {
-    ghost use Rattle.text_files.specs.Drafts.{Replaces};
+    ghost use Rattle.text_files.specs.Drafts.{Replaces, Tries};
 
     ghost replaces = { λ old path bytes result new. Replaces C.relations old.calls path bytes result new.calls };
 
+    ghost tries = { λ old path result new. Tries C.relations old.calls path result new.calls };
+
     fn replace(&mut self, path: &str, bytes: &[u8]) -> Result<(), ReplaceFault> {
         replace_text(self.alloc, &mut self.calls, path, bytes)
+    }
+
+    fn try_replace(&mut self, path: &str) -> Result<(), ReplaceFault> {
+        try_draft(self.alloc, &mut self.calls, path)
     }
 }

@@ -26,6 +26,8 @@ impl Texts for MemoryText {
 
     ghost replaces = { λ old path bytes result new. MatchResult result (λ _. new.bytes.items ≡ bytes) (λ _. new ≡ old) };
 
+    ghost tries = { λ old path result new. new ≡ old };
+
     fn replace(&mut self, _path: &str, bytes: &[u8]) -> Result<(), ReplaceFault> {
         match Vec::from_slice(self.alloc, bytes) {
             Ok(text) => {
@@ -34,5 +36,9 @@ impl Texts for MemoryText {
             }
             Err(_) => Err(ReplaceFault::NoMemory),
         }
+    }
+
+    fn try_replace(&mut self, _path: &str) -> Result<(), ReplaceFault> {
+        Ok(())
     }
 }

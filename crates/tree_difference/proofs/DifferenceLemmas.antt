@@ -14,7 +14,7 @@ use Rattle.verity_format.specs.Superblock.{SuperRecord, shape_of}
 use Rattle.verity_format.specs.Verifying.{IsReadFrom}
 use Rattle.tree_path.specs.Path.{PathRecord, IsPathOf, LeadsTo, AreStored}
 use Rattle.tree_path.specs.Steps.{IsDown, steps}
-use Rattle.tree_path.proofs.lemmas.DeviceLemmas.{failed-then, full_read-then, steady-then}
+use Rattle.verity_format.proofs.lemmas.DeviceLemmas.{failed-then, full_read-then, steady-then}
 use Rattle.tree_path.proofs.lemmas.PathLemmas.{leads-down, stored-down}
 use Rattle.tree_runs.specs.Runs.{State}
 use Rattle.tree_difference.specs.declared.difference.Roots.{Roots}

@@ -11,7 +11,7 @@ use Rattle.verity_format.specs.Blocks.{IsFullRead}
 use Rattle.tree_path.specs.Spans.{IsTopAt}
 use Rattle.tree_runs.specs.declared.run.Kind.{Kind}
 use Rattle.tree_runs.specs.declared.run.Kind.TheVariants.{Changed}
-use Rattle.tree_runs.specs.declared.run.Run.{Run}
+use Rattle.runs.specs.declared.run.Run.{Run}
 use Rattle.tree_runs.specs.Limits.{limited_lines}
 use Rattle.tree_runs.specs.Runs.{State, count_of, is_state, one_if}
 use Rattle.tree_runs.proofs.lemmas.ListingLemmas.{IsListed}
@@ -86,7 +86,7 @@ module _ (w0 w : Walk) (d e : Device) (have : HaveTrees w0 d e) (i : DifferenceW
     seen = record { seen = u.seen.seen; stored = u.seen.stored };
     totals_are = totals-are end totals is;
     printed_are = listed-rest w0.blocks w0.first.shape.blocks w0.second.shape.blocks most u.compared g.tally i.printed i.printed' new have.of.blocks (sym u.here ∙ end) u.listed
-        (subst (λ (r : Option Run). Appends i.printed' new (limited_lines g.tally.limit (last_runs g.tally.last r))) rest-same told);
+        (subst (λ (r : Option (Run Kind)). Appends i.printed' new (limited_lines g.tally.limit (last_runs g.tally.last r))) rest-same told);
   }
 
   pub reads-all : (new : Option (List ℕ)) → ReadsDiffering (trees_in w0) (record i { printed' = new }) 0 0

@@ -13,7 +13,7 @@ use Rattle.tree_shape.specs.Shape.{ShapeRecord, levels, per_block}
 use Rattle.verity_format.specs.Blocks.{IsFullRead, IsOnlyRead}
 use Rattle.tree_path.specs.Path.{PathRecord, IsPathOf, digest_on, stored_digest}
 use Rattle.tree_path.specs.Spans.{IsTopAt}
-use Rattle.tree_path.proofs.lemmas.DeviceLemmas.{full_read-none, full_read-then}
+use Rattle.verity_format.proofs.lemmas.DeviceLemmas.{full_read-none, full_read-then}
 use Rattle.tree_path.proofs.lemmas.PathLemmas.{digest_on-along, digest_on-stored, leads-higher}
 use Rattle.tree_path.proofs.lemmas.SpanLemmas.{along, lower-mod}
 use Rattle.tree_shape.proofs.lemmas.ShapeFactLemmas.{two}

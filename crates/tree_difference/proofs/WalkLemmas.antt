@@ -9,7 +9,7 @@ use Rattle.verity_format.specs.Blocks.{IsFullRead, IsOnlyRead}
 use Rattle.verity_format.specs.Image.{tree_sectors}
 use Rattle.tree_path.specs.Path.{PathRecord, IsPathOf, LeadsTo, AreStored, digest_on}
 use Rattle.tree_path.specs.Steps.{IsDown, IsStopped, steps}
-use Rattle.tree_path.proofs.lemmas.DeviceLemmas.{failed-then, same-then, steady-then}
+use Rattle.verity_format.proofs.lemmas.DeviceLemmas.{failed-then, same-then, steady-then}
 use Rattle.tree_path.proofs.lemmas.PathLemmas.{digests-down, leads-down, stored-down}
 use Rattle.tree_difference.specs.declared.fault.DifferenceFault.{DifferenceFault}
 use Rattle.tree_difference.specs.declared.fault.DifferenceFault.TheVariants.{Image, Unlike, Hash, NoMemory, Write}

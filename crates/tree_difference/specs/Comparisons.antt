@@ -7,7 +7,8 @@ use Rattle.tree_shape.specs.Shape.{ShapeRecord, levels, per_block}
 use Rattle.verity_format.specs.Blocks.{IsFullRead}
 use Rattle.tree_path.specs.Path.{PathRecord, digest_on}
 use Rattle.tree_runs.specs.declared.run.Kind.TheVariants.{Changed, Removed, Added}
-use Rattle.tree_runs.specs.Runs.{State, count_of, runs_of}
+use Rattle.runs.specs.Runs.{runs_of}
+use Rattle.tree_runs.specs.Runs.{is_same, State, count_of}
 use Rattle.tree_runs.specs.Texts.{listing_text}
 use Rattle.tree_difference.specs.declared.difference.Totals.{Totals}
 use Rattle.tree_difference.specs.Trees.{Trees, HashImages, AreWays, IsSeenAs, IsStoredAs, common_blocks, common_levels}
@@ -92,4 +93,4 @@ pub record Compares (t : Trees) (w : DifferenceWorld) (most : Option ℕ) (total
   pub count : length compared ≡ common_blocks t
   pub seen : AreStatesSeen t w compared
   pub totals_are : totals ≡ compared_totals t compared
-  pub printed_are : Appends w.printed w.printed' (listing_text most (runs_of 0 (compared ++ rest_states t)))
+  pub printed_are : Appends w.printed w.printed' (listing_text most (runs_of is_same 0 (compared ++ rest_states t)))

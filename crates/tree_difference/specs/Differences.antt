@@ -8,10 +8,11 @@ use Rattle.verity_format.specs.Verifying.{IsReadCause}
 use Rattle.tree_path.specs.Path.{IsPathOf}
 use Rattle.tree_path.specs.Steps.{IsDown, steps}
 use Rattle.tree_runs.specs.declared.run.Kind.TheVariants.{Removed, Added}
-use Rattle.tree_runs.specs.declared.run.Run.{Run}
+use Rattle.runs.specs.declared.run.Run.{Run}
+use Rattle.tree_runs.specs.declared.run.Kind.{Kind}
 use Rattle.tree_runs.specs.declared.tally.Tally.{Tally}
 use Rattle.tree_runs.specs.Limits.{limited_lines}
-use Rattle.tree_runs.specs.Runs.{run}
+use Rattle.runs.specs.Runs.{run}
 use Rattle.tree_difference.specs.declared.difference.Roots.{Roots}
 use Rattle.tree_difference.specs.declared.difference.Totals.{Totals}
 use Rattle.tree_difference.specs.declared.fault.DifferenceFault.{DifferenceFault}
@@ -62,7 +63,7 @@ pub record CanCompare (w : Walk) (first second : Device) : Type 0 where
   pub on : IsOn w first second 0 w.levels
 
 -- the data blocks that one of the two trees alone has
-abbrev pub rest_run : Walk → Option Run
+abbrev pub rest_run : Walk → Option (Run Kind)
 rest_run w =
     if nat_lt w.blocks w.first.shape.blocks then Some (run w.blocks (w.first.shape.blocks - w.blocks) Removed)
     else if nat_lt w.blocks w.second.shape.blocks then Some (run w.blocks (w.second.shape.blocks - w.blocks) Added)

@@ -1,9 +1,11 @@
 -- The last runs of a comparison.
 use Rattle.std.specs.Prelude.{List, [], ◌∷◌, ◌++◌, Option, Some, None}
-use Rattle.tree_runs.specs.declared.run.Run.{Run}
-use Rattle.tree_runs.specs.Tallies.{closed_by, listed, opened_by}
+use Rattle.runs.specs.declared.run.Run.{Run}
+use Rattle.tree_runs.specs.declared.run.Kind.{Kind}
+use Rattle.runs.specs.Tallies.{closed_by, listed, opened_by}
+use Rattle.tree_runs.specs.Runs.{is_same}
 
 -- the run that may still grow, and one behind it
-abbrev pub last_runs : Option Run → Option Run → List Run
+abbrev pub last_runs : Option (Run Kind) → Option (Run Kind) → List (Run Kind)
 last_runs last None = listed last
-last_runs last (Some next) = closed_by last next ++ listed (Some (opened_by last next))
+last_runs last (Some next) = closed_by is_same last next ++ listed (Some (opened_by is_same last next))

@@ -1,7 +1,7 @@
 //! Two trees compared from their roots down.
 ghost use Rattle.std.specs.Prelude.{◌≡◌, ◌≤◌, ◌<◌, ◌+◌, ◌^◌, OnOk, IfOk, IfErr, IfSome};
 ghost use Rattle.tree_runs.specs.Listings.{Tells};
-ghost use Rattle.tree_runs.specs.Tallies.{EndsAt};
+ghost use Rattle.runs.specs.Tallies.{EndsAt};
 ghost use Rattle.tree_difference.specs.Causes.{EndsWalk};
 ghost use Rattle.tree_difference.specs.Differences.{Aligns, CanCompare, EndsDifference, HaveTrees, IsDifference, IsDifferenceCause, IsWalkOf, ReadsPairs, ComparesBlocks, last_lines, rest_run, seen_world, totals_in, trees_of};
 
@@ -11,9 +11,10 @@ use crate::superblocks::{check_alike, superblock_of};
 use crate::walk::Walk;
 use block_device::BlockDev;
 use counted_io::WriteFault;
+use runs::Run;
 use std::alloc::{AllocError, Global};
 use tree_path::{TreePath, span, top_at};
-use tree_runs::{Kind, Listing, Run, Tally};
+use tree_runs::{Kind, Listing, Tally};
 use tree_shape::Digest;
 use verity_format::Superblock;
 
@@ -168,7 +169,7 @@ fn totals_after(walk: &Walk, changed: u64) -> Totals
 }
 
 // The data blocks that one of the two trees alone has.
-fn rest(walk: &Walk) -> Option<Run>
+fn rest(walk: &Walk) -> Option<Run<Kind>>
     ensures value { result ≡ rest_run walk.now }
     ensures inside { IfSome result (λ r. r.first + r.count < 2 ^ 64) }
 {

@@ -1,6 +1,5 @@
 //! The ways down two trees to one data block.
 ghost use Rattle.std.specs.Prelude.{◌≡◌, ◌≤◌, OnOk, IfOk, IfErr};
-ghost use Rattle.std.specs.Str.{bytes_eq};
 ghost use Rattle.tree_difference.specs.Causes.{EndsWalk};
 ghost use Rattle.tree_difference.specs.Walks.{CanEnter, CanWalk, Enters, StopsWalk};
 
@@ -9,6 +8,7 @@ use crate::reading::read_down;
 use block_device::BlockDev;
 use tree_path::TreePath;
 use tree_shape::{Digest, Shape};
+use verity_format::is_same;
 
 /// A path of each tree, the first tree's shape, and how many levels and data blocks both trees have.
 #[derive(Drop)]
@@ -83,10 +83,4 @@ impl Walk {
             level,
         )
     }
-}
-
-fn is_same(a: &Digest, b: &Digest) -> bool
-    ensures { result ≡ bytes_eq a.now b.now }
-{
-    a == b
 }

@@ -1,5 +1,5 @@
 -- What callers may cite.
 pub mod ChainLemmas
-pub mod DeviceLemmas
+pub mod AtMostLemmas
 pub mod PathLemmas
 pub mod SpanLemmas

@@ -1,6 +1,5 @@
 //! The hash blocks on the way to a data block.
 ghost use Rattle.std.specs.Prelude.{◌≡◌, ◌≤◌, ◌<◌, ◌+◌, ◌-◌, ◌*◌, ◌/◌, IsTrue, IsOk, OnErr, IfOk};
-ghost use Rattle.std.specs.Str.{bytes_eq};
 ghost use Rattle.allocation.specs.Refusal.{IsOutOfMemory};
 ghost use Rattle.block_device.specs.Device.{HasFailed};
 ghost use Rattle.tree_shape.specs.Shape.{ancestor, levels};
@@ -17,6 +16,7 @@ use block_device::{BlockDev, DeviceFault};
 use std::alloc::Global;
 use std::marker::Model;
 use tree_shape::{Digest, Salt, Shape, digest_in};
+use verity_format::is_same;
 
 /// A tree, and a hash block of each of its levels, which stand on the way to a data block.
 #[derive(Drop)]
@@ -162,10 +162,4 @@ impl TreePath {
         }
         Ok(None)
     }
-}
-
-fn is_same(a: &Digest, b: &Digest) -> bool
-    ensures { result ≡ bytes_eq a.now b.now }
-{
-    a == b
 }

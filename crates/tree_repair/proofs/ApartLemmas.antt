@@ -6,7 +6,7 @@ use Rattle.std.proofs.lemmas.Bool.{cases_lt}
 use Rattle.std.proofs.lemmas.List.Sums.{sum_by-cons}
 use Rattle.tree_shape.specs.Shape.{ShapeRecord, IsShape, ancestor, area_end, blocks_above, level_blocks, levels, per_block, position}
 use Rattle.tree_shape.proofs.lemmas.ShapeFactLemmas.{ancestor-lt, ancestor-more, ancestor-none, position-lt}
-use Rattle.tree_path.proofs.lemmas.DeviceLemmas.{block-inside}
+use Rattle.verity_format.proofs.lemmas.SizeLemmas.{block-inside}
 use Rattle.tree_repair.specs.Parity.{IsPlace, end_at}
 use Rattle.tree_repair.specs.Runs.{sector_at, size_at}
 

@@ -4,7 +4,7 @@ use Rattle.std.proofs.Math.Nat.{mul-le-mul_right, mul_assoc, pow-succ'}
 use Rattle.block_device.specs.Device.{Device}
 use Rattle.tree_shape.specs.Shape.{ShapeRecord, IsShape, ancestor, per_block}
 use Rattle.verity_format.specs.Blocks.{IsOnlyRead}
-use Rattle.tree_path.proofs.lemmas.DeviceLemmas.{only_read-none}
+use Rattle.verity_format.proofs.lemmas.DeviceLemmas.{only_read-none}
 use Rattle.tree_path.specs.Steps.{HasReadAtMost}
 use Rattle.tree_repair.specs.Bills.{Bill, IsAskedOnce, LeavesWorld, LeavesBeneath, LeavesBlock, LeavesHashVisit, LeavesVisit, beneath_over, data_over, hash_over, hash_up_to, left_of, made_over, reading, sectors_over, visits_over}
 use Rattle.tree_repair.specs.Mending.{IsFoundNowhere, Look}

@@ -8,7 +8,7 @@ use Rattle.fec_area.specs.declared.restoring.RestoreFault.TheVariants.{TooManyLo
 use Rattle.fec_area.specs.Rounds.{AllNeverFail}
 use Rattle.tree_shape.specs.Shape.{ShapeRecord, IsShape, ancestor, levels}
 use Rattle.tree_path.specs.Path.{PathRecord}
-use Rattle.tree_path.proofs.lemmas.DeviceLemmas.{only_read-none, only_read-then}
+use Rattle.verity_format.proofs.lemmas.DeviceLemmas.{only_read-none, only_read-then}
 use Rattle.verity_format.specs.Blocks.{IsOnlyRead}
 use Rattle.tree_repair.specs.declared.bad.BadBlock.{BadBlock}
 use Rattle.tree_repair.specs.declared.mending.Mended.{Mended}

@@ -14,7 +14,7 @@ use Rattle.tree_shape.specs.Digests.{digest}
 use Rattle.tree_shape.specs.Shape.{ShapeRecord, IsShape, ancestor, position}
 use Rattle.tree_path.specs.Laws.{Collide}
 use Rattle.tree_path.proofs.lemmas.ChainLemmas.{same-or}
-use Rattle.tree_path.proofs.lemmas.DeviceLemmas.{block-size}
+use Rattle.verity_format.proofs.lemmas.SizeLemmas.{block-size}
 use Rattle.verity_format.specs.Blocks.{block_at}
 use Rattle.tree_repair.specs.declared.bad.BadBlock.{BadBlock}
 use Rattle.tree_repair.specs.declared.mending.Mended.{Mended}

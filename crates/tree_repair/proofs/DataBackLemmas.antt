@@ -12,7 +12,7 @@ use Rattle.tree_shape.specs.Shape.{ShapeRecord, IsShape, ancestor, position}
 use Rattle.tree_path.specs.Laws.{Collide}
 use Rattle.tree_path.specs.Path.{PathRecord, digest_on, stored_block}
 use Rattle.tree_path.proofs.lemmas.PathLemmas.{digest_on-along, leads-along}
-use Rattle.tree_path.proofs.lemmas.DeviceLemmas.{only_read-none}
+use Rattle.verity_format.proofs.lemmas.DeviceLemmas.{only_read-none}
 use Rattle.tree_survey.specs.Surveys.{IsWay}
 use Rattle.verity_format.specs.Blocks.{IsOnlyRead, block_at}
 use Rattle.tree_repair.specs.Beyond.{IsUnderBad}

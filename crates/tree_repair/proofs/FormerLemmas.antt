@@ -12,8 +12,8 @@ use Rattle.hash_tree.specs.Laws.{FormedChainsAreGood, HasBlock, StandsInShape}
 use Rattle.hash_tree.specs.Tree.{level}
 use Rattle.verity_format.specs.Blocks.{block_at, blocks_at}
 use Rattle.verity_format.specs.Image.{area_over, digests_of}
-use Rattle.verity_format.proofs.AreaLemmas.{area-stands}
-use Rattle.verity_format.proofs.RunLemmas.{blocks-sized}
+use Rattle.verity_format.proofs.lemmas.AreaLemmas.{area-stands}
+use Rattle.verity_format.proofs.lemmas.RunLemmas.{blocks-sized}
 use Rattle.fec_area.specs.declared.layout.Layout.{Layout}
 use Rattle.fec_area.specs.Layouts.{covered}
 use Rattle.tree_path.specs.Laws.{Collide}
@@ -135,7 +135,7 @@ module _ (t : Tree) (valid : IsShape t.shape) (f : FormerImage) (former : IsForm
       ∙ get_or-map-range_with_len (block_at f.data_image t.shape.data_block) 0 t.shape.blocks i i [] inside (zero-add i))
 
   -- a hash block, by its place in the area
-  former-area : (l a : ℕ) → HasBlock t.shape l a
+  pub former-area : (l a : ℕ) → HasBlock t.shape l a
       → block_at f.hash_image t.shape.hash_block (position t.shape l a) ≡ get_or (level t.shape.hash_block t.salt (digests_of t.shape t.salt f.data_image) l) a []
   unfolding position
   former-area l a has =

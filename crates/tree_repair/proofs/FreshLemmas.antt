@@ -13,10 +13,10 @@ use Rattle.hash_tree.proofs.lemmas.PackingLemmas.{cut-concat, length-concat}
 use Rattle.verity_format.specs.Blocks.{blocks_at}
 use Rattle.verity_format.specs.Image.{area_over, digests_of, first_block, formatted, image_sectors}
 use Rattle.verity_format.specs.Superblock.{SuperRecord, IsSuperblock, shape_of, spelling}
-use Rattle.verity_format.proofs.AreaLemmas.{area-stands}
-use Rattle.verity_format.proofs.RunLemmas.{blocks-sized, run-blocks}
-use Rattle.verity_format.proofs.SizeLemmas.{block-size}
-use Rattle.verity_format.proofs.SpellingLemmas.{carried-spelling}
+use Rattle.verity_format.proofs.lemmas.AreaLemmas.{area-stands}
+use Rattle.verity_format.proofs.lemmas.RunLemmas.{blocks-sized, run-blocks}
+use Rattle.verity_format.proofs.lemmas.SizeLemmas.{block-size}
+use Rattle.verity_format.proofs.lemmas.SpellingLemmas.{carried-spelling}
 use Rattle.tree_repair.specs.WithinParity.{FormattedImagesAreFormer}
 
 module _ (s : SuperRecord) (valid : IsSuperblock s) (data_image hash_image : List (List ℕ)) where

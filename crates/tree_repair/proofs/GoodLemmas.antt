@@ -12,7 +12,7 @@ use Rattle.tree_shape.specs.Digests.{digest}
 use Rattle.tree_shape.specs.Shape.{ShapeRecord, IsShape, ancestor}
 use Rattle.tree_shape.proofs.lemmas.ShapeFactLemmas.{ancestor-none}
 use Rattle.tree_path.specs.Path.{PathRecord, digest_on}
-use Rattle.tree_path.proofs.lemmas.DeviceLemmas.{only_read-none}
+use Rattle.verity_format.proofs.lemmas.DeviceLemmas.{only_read-none}
 use Rattle.tree_survey.specs.Pieces.{IsRunRead}
 use Rattle.tree_survey.specs.Surveys.{IsWay}
 use Rattle.verity_format.specs.Blocks.{IsOnlyRead, block_at, blocks_at}

@@ -11,7 +11,7 @@ use Rattle.tree_repair.specs.Passes.{HasNoted}
 use Rattle.tree_repair.specs.Runs.{HasRun, Job, VisitsAll, Visit, size_at}
 use Rattle.tree_repair.specs.Worlds.{IsWorldRead, RepairWorld, repair_world}
 use Rattle.tree_repair.proofs.AskedLemmas.{next-here}
-use Rattle.tree_path.proofs.lemmas.DeviceLemmas.{only_read-none}
+use Rattle.verity_format.proofs.lemmas.DeviceLemmas.{only_read-none}
 use Rattle.tree_repair.specs.ParityBounds.{TellsOfHash}
 use Rattle.tree_path.specs.Unused.{digests_in}
 use Rattle.tree_repair.specs.declared.fault.RepairFault.{RepairFault}

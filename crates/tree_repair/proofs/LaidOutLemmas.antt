@@ -7,7 +7,7 @@ use Rattle.fec_area.proofs.LayoutLemmas.{covered-hash}
 use Rattle.hash_tree.proofs.lemmas.LawLemmas.{places-inside}
 use Rattle.tree_shape.specs.Shape.{ShapeRecord, IsShape, ancestor, area_end, levels, position}
 use Rattle.tree_shape.proofs.lemmas.ShapeFactLemmas.{ancestor-lt}
-use Rattle.tree_path.proofs.lemmas.DeviceLemmas.{block-size}
+use Rattle.verity_format.proofs.lemmas.SizeLemmas.{block-size}
 use Rattle.verity_format.specs.Blocks.{block_at}
 use Rattle.verity_format.specs.Image.{tree_sectors}
 use Rattle.tree_repair.specs.Parity.{IsCoveredAt, IsPlace}

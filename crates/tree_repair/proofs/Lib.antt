@@ -41,6 +41,7 @@ mod StayFormedLemmas
 mod StayLemmas
 mod TryLemmas
 mod UnknownLemmas
+mod UnusedEntryLemmas
 mod VisitLemmas
 mod WayLemmas
 mod WholeLemmas

@@ -17,7 +17,7 @@ use Rattle.hash_tree.specs.Tree.{filled}
 use Rattle.hash_tree.proofs.lemmas.PackingLemmas.{length-concat}
 use Rattle.hash_tree.proofs.lemmas.TreeLemmas.{length-digest}
 use Rattle.verity_format.specs.Blocks.{AreOnlyRead}
-use Rattle.tree_path.proofs.lemmas.DeviceLemmas.{only_read-none, only_read-then, steady-then}
+use Rattle.verity_format.proofs.lemmas.DeviceLemmas.{only_read-none, only_read-then, steady-then}
 use Rattle.tree_path.specs.Unused.{digests_in}
 use Rattle.tree_repair.specs.Remaking.{Ground, HaveBlocks, IsOver, IsUnlike, ground, made, standing_block}
 use Rattle.tree_repair.specs.Worlds.{AreBothRead, RepairWorld}

@@ -10,7 +10,7 @@ use Rattle.tree_shape.specs.Digests.{digest}
 use Rattle.tree_shape.specs.Shape.{IsShape, ancestor}
 use Rattle.tree_path.specs.Laws.{Collide}
 use Rattle.tree_path.proofs.lemmas.ChainLemmas.{same-or}
-use Rattle.tree_path.proofs.lemmas.DeviceLemmas.{only_read-none}
+use Rattle.verity_format.proofs.lemmas.DeviceLemmas.{only_read-none}
 use Rattle.verity_format.specs.Blocks.{IsOnlyRead}
 use Rattle.tree_repair.specs.declared.mending.Mended.TheVariants as mended
 use Rattle.tree_repair.specs.Beyond.{IsUnderBad}

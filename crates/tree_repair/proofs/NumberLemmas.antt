@@ -10,7 +10,7 @@ use Rattle.fec_area.proofs.LayoutLemmas.{covered-data, covered-hash}
 use Rattle.hash_tree.proofs.lemmas.PackingLemmas.{length-concat}
 use Rattle.tree_shape.specs.Shape.{ShapeRecord, IsShape, ancestor, is_block_size, position}
 use Rattle.tree_shape.proofs.lemmas.ShapeFactLemmas.{ancestor-none}
-use Rattle.tree_path.proofs.lemmas.DeviceLemmas.{block-inside, block-size}
+use Rattle.verity_format.proofs.lemmas.SizeLemmas.{block-inside, block-size}
 use Rattle.verity_format.specs.Blocks.{block_at}
 use Rattle.tree_repair.specs.Parity.{IsCoveredAt}
 use Rattle.tree_repair.specs.Tries.{IsOffPlace, IsUncovered}

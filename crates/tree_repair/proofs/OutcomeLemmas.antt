@@ -8,7 +8,7 @@ use Rattle.tree_shape.specs.Digests.{digest}
 use Rattle.tree_shape.specs.Shape.{ShapeRecord, IsShape, ancestor, levels}
 use Rattle.tree_path.specs.Laws.{Collide}
 use Rattle.tree_path.specs.Path.{digest_on}
-use Rattle.tree_path.proofs.lemmas.DeviceLemmas.{steady-then}
+use Rattle.verity_format.proofs.lemmas.DeviceLemmas.{steady-then}
 use Rattle.tree_survey.specs.Causes.{AreImages}
 use Rattle.tree_survey.specs.Surveys.{IsWay}
 use Rattle.verity_format.specs.Blocks.{IsOnlyRead}

@@ -6,7 +6,8 @@ use Rattle.fec_area.specs.declared.layout.Layout.{Layout}
 use Rattle.fec_area.specs.Layouts.{IsOfData, IsOfHash, IsOffHash}
 use Rattle.tree_shape.specs.Shape.{ShapeRecord, IsShape, ancestor, position, area_end}
 use Rattle.tree_path.specs.Path.{PathRecord, digest_on}
-use Rattle.tree_path.proofs.lemmas.DeviceLemmas.{IsBlock, block-inside, block-size, only_read-none}
+use Rattle.verity_format.proofs.lemmas.DeviceLemmas.{only_read-none}
+use Rattle.verity_format.proofs.lemmas.SizeLemmas.{IsBlock, block-inside, block-size}
 use Rattle.tree_survey.specs.Surveys.{IsWay}
 use Rattle.tree_repair.specs.declared.mending.Mended.TheVariants as mended
 use Rattle.tree_repair.specs.Mending.{IsBlockReplaced}

@@ -12,7 +12,7 @@ use Rattle.tree_shape.specs.Shape.{is_block_size}
 use Rattle.hash_tree.specs.Tree.{cut}
 use Rattle.hash_tree.proofs.lemmas.PackingLemmas.{AllOf, length-concat, cut-concat}
 use Rattle.verity_format.specs.Blocks.{block_at, blocks_at}
-use Rattle.tree_path.proofs.lemmas.DeviceLemmas.{block-size, block-inside}
+use Rattle.verity_format.proofs.lemmas.SizeLemmas.{block-size, block-inside}
 
 module _ (image : List (List ℕ)) (size : ℕ) where
   -- a run of sectors is the blocks that stand there

@@ -7,7 +7,7 @@ use Rattle.block_device.specs.Device.{Device, IsWritten, run_of, sectors_of, spl
 use Rattle.block_device.specs.Whole.{length-sectors_of}
 use Rattle.block_device.proofs.lemmas.SectorLemmas.{concat-sectors_of}
 use Rattle.tree_shape.specs.Digests.{digest}
-use Rattle.tree_path.proofs.lemmas.DeviceLemmas.{steady-then}
+use Rattle.verity_format.proofs.lemmas.DeviceLemmas.{steady-then}
 use Rattle.tree_repair.specs.declared.mending.Mended.{Mended}
 use Rattle.tree_repair.specs.declared.mending.Mended.TheVariants as mended
 use Rattle.tree_repair.specs.Mending.{IsAllowedPut, IsBlockPut, IsMended, Look}

@@ -3,7 +3,7 @@ use Rattle.std.proofs.Common.{◌≡◌, ◌<◌, ℕ, Bool, true, false, List, 
 use Rattle.block_device.specs.Device.{Device}
 use Rattle.fec_area.specs.declared.layout.Layout.{Layout}
 use Rattle.tree_shape.specs.Shape.{ancestor}
-use Rattle.tree_path.proofs.lemmas.DeviceLemmas.{only_read-none, only_read-then}
+use Rattle.verity_format.proofs.lemmas.DeviceLemmas.{only_read-none, only_read-then}
 use Rattle.verity_format.specs.Blocks.{IsOnlyRead}
 use Rattle.tree_repair.specs.declared.bad.BadBlock.{BadBlock}
 use Rattle.tree_repair.specs.declared.mending.Mended.TheVariants as mended

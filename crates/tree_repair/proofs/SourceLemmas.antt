@@ -8,7 +8,7 @@ use Rattle.std.proofs.lemmas.List.{get_or-map, get_or-set_same, get_or-set_other
 use Rattle.block_device.specs.Device.{Device, run_of}
 use Rattle.tree_shape.specs.Digests.{digest}
 use Rattle.verity_format.specs.Blocks.{IsOnlyRead}
-use Rattle.tree_path.proofs.lemmas.DeviceLemmas.{only_read-none, only_read-then, steady-then}
+use Rattle.verity_format.proofs.lemmas.DeviceLemmas.{only_read-none, only_read-then, steady-then}
 use Rattle.tree_repair.specs.Sources.{AreEachRead, AreIn, AreNotIn, IsThere, IsWithout, Wanted, bytes_on_device}
 
 bytes-before : (a b : Device) (first n : ℕ) → IsOnlyRead a b → IsTrue a.steady → bytes_on_device b first n ≡ bytes_on_device a first n

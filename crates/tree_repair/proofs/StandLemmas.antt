@@ -8,7 +8,7 @@ use Rattle.tree_shape.specs.Shape.{ShapeRecord, IsShape, ancestor}
 use Rattle.hash_tree.specs.Chain.{formed}
 use Rattle.hash_tree.specs.Laws.{FormedChainsAreGood}
 use Rattle.tree_path.specs.Path.{PathRecord}
-use Rattle.tree_path.proofs.lemmas.DeviceLemmas.{steady-then}
+use Rattle.verity_format.proofs.lemmas.DeviceLemmas.{steady-then}
 use Rattle.tree_path.proofs.lemmas.PathLemmas.{digest_on-along, leads-along}
 use Rattle.tree_survey.specs.Surveys.{Tree, IsWay}
 use Rattle.verity_format.specs.Image.{data_sectors, tree_sectors}

@@ -10,7 +10,8 @@ use Rattle.fec_area.proofs.LayoutLemmas.{covered-data, covered-hash, covered-pas
 use Rattle.hash_tree.specs.Laws.{FormedChainsAreGood}
 use Rattle.tree_shape.specs.Shape.{ShapeRecord, IsShape, ancestor, position}
 use Rattle.tree_path.specs.Laws.{Collide}
-use Rattle.tree_path.proofs.lemmas.DeviceLemmas.{block-inside, steady-then}
+use Rattle.verity_format.proofs.lemmas.DeviceLemmas.{steady-then}
+use Rattle.verity_format.proofs.lemmas.SizeLemmas.{block-inside}
 use Rattle.verity_format.specs.Blocks.{block_at}
 use Rattle.tree_repair.specs.declared.mending.Mended.{Mended}
 use Rattle.tree_repair.specs.declared.mending.Mended.TheVariants as mended

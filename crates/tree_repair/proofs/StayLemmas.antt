@@ -3,7 +3,7 @@ use Rattle.std.proofs.Common.{◌≡◌, ◌+◌, ◌-◌, ℕ, zero, suc, Bool,
 use Rattle.std.proofs.lemmas.List.{get_or-drop, get_or-take}
 use Rattle.block_device.specs.Device.{Device, IsWritten}
 use Rattle.tree_path.specs.Path.{PathRecord}
-use Rattle.tree_path.proofs.lemmas.DeviceLemmas.{steady-then}
+use Rattle.verity_format.proofs.lemmas.DeviceLemmas.{steady-then}
 use Rattle.tree_repair.specs.declared.mending.Mended.{Mended}
 use Rattle.tree_repair.specs.declared.mending.Mended.TheVariants as mended
 use Rattle.tree_repair.specs.Laws.{AreOff, IsOffData, IsOffTree, IsSectorOutside, OtherSectorsStay}

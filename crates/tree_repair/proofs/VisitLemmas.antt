@@ -5,7 +5,7 @@ use Rattle.block_device.specs.Device.{Device, IsSameDevice}
 use Rattle.tree_shape.specs.Digests.{digest}
 use Rattle.tree_shape.specs.Shape.{ancestor, position}
 use Rattle.verity_format.specs.Blocks.{AreOnlyRead, IsOnlyRead}
-use Rattle.tree_path.proofs.lemmas.DeviceLemmas.{only_read-none, only_read-then, same-then}
+use Rattle.verity_format.proofs.lemmas.DeviceLemmas.{only_read-none, only_read-then, same-then}
 use Rattle.tree_path.specs.Path.{PathRecord, digest_on}
 use Rattle.tree_survey.specs.Surveys.{IsWay}
 use Rattle.tree_repair.specs.declared.mending.Mended.{Mended}

@@ -9,7 +9,7 @@ use Rattle.block_device.specs.Device.{Device, run_of}
 use Rattle.tree_shape.specs.Digests.{digest}
 use Rattle.tree_shape.specs.Shape.{ShapeRecord, IsShape, levels}
 use Rattle.tree_path.specs.Laws.{Collide}
-use Rattle.tree_path.proofs.lemmas.DeviceLemmas.{steady-then}
+use Rattle.verity_format.proofs.lemmas.DeviceLemmas.{steady-then}
 use Rattle.tree_survey.specs.Causes.{AreImages}
 use Rattle.tree_survey.specs.Surveys.{IsContentStoredAs}
 use Rattle.verity_format.specs.Superblock.{SuperRecord, shape_of}

@@ -12,7 +12,7 @@ use Rattle.tree_shape.specs.Digests.{digest}
 use Rattle.tree_shape.specs.Shape.{ShapeRecord, IsShape, levels}
 use Rattle.tree_path.specs.Laws.{Collide}
 use Rattle.tree_path.specs.Path.{PathRecord, digest_on}
-use Rattle.tree_path.proofs.lemmas.DeviceLemmas.{only_read-none, steady-then}
+use Rattle.verity_format.proofs.lemmas.DeviceLemmas.{only_read-none, steady-then}
 use Rattle.tree_survey.specs.Surveys.{IsWay}
 use Rattle.verity_format.specs.Blocks.{IsOnlyRead}
 use Rattle.verity_format.specs.Superblock.{shape_of}

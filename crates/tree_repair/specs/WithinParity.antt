@@ -10,6 +10,7 @@ use Rattle.fec_area.specs.Rounds.{AllNeverFail, BothNeverFail}
 use Rattle.tree_shape.specs.Shape.{ShapeRecord, ancestor, area_blocks, levels}
 use Rattle.tree_path.specs.Laws.{Collide}
 use Rattle.tree_path.specs.Path.{PathRecord}
+use Rattle.tree_survey.specs.Hashes.{is_zero_after_used}
 use Rattle.tree_survey.specs.Surveys.{Tree, IsWay}
 use Rattle.verity_format.specs.Blocks.{IsOnlyRead, blocks_at}
 use Rattle.verity_format.specs.Formatting.{IsFormatted}
@@ -47,6 +48,13 @@ FormattedImagesAreFormer =
     (s : SuperRecord) → IsSuperblock s → (data_dev hash_dev data_dev' hash_dev' : Device) → IsWhole data_dev → IsWhole hash_dev → IsTrue data_dev.steady → IsTrue hash_dev.steady
     → data_sectors (shape_of s) ≤ data_dev.size → (root : List ℕ) → IsFormatted s data_dev hash_dev data_dev' hash_dev' root
     → IsFormerOf (record { shape = shape_of s; salt = s.salt; root = root }) (former_image data_dev.image hash_dev'.image)
+
+-- And each hash block that formatting leaves is zero after its last used entry.
+abbrev pub FormattedEntriesAreZero : Type 0
+FormattedEntriesAreZero =
+    (s : SuperRecord) → IsSuperblock s → (data_dev hash_dev data_dev' hash_dev' : Device) → IsWhole data_dev → IsWhole hash_dev → IsTrue data_dev.steady → IsTrue hash_dev.steady
+    → data_sectors (shape_of s) ≤ data_dev.size → (root : List ℕ) → IsFormatted s data_dev hash_dev data_dev' hash_dev' root
+    → (l i : ℕ) → l < levels (shape_of s) → i < (shape_of s).blocks → is_zero_after_used (shape_of s) hash_dev'.image l i ≡ true
 
 -- covered blocks have the size of the tree's own
 pub record HasTreeSizes (s : ShapeRecord) (l : Layout) : Type 0 where

@@ -12,11 +12,11 @@ ghost use Rattle.tree_repair.specs.Worlds.{IsWorldRead};
 
 use crate::image::DamagedImage;
 use crate::place::{ROOM, Repair, Row};
-use crate::seeking::is_same;
 use block_device::BlockDev;
 use hash_tree::digest_blocks;
 use tree_path::TreePath;
 use tree_shape::{Digest, Salt};
+use verity_format::is_same;
 
 // How many of the smallest blocks fit a visit's room.
 const MOST_BLOCKS: usize = 128;

@@ -3,7 +3,7 @@ ghost use Rattle.tree_repair.specs.Beyond.{WhatStaysLostIsBeyondParity};
 ghost use Rattle.tree_repair.specs.Excuses.{BlocksArePassedByForCause, BlocksAreTouchedForCause, GoodBlocksAreLeftAlone, IntactBlocksAreLeftAlone, UnreadBlocksAreCounted};
 ghost use Rattle.tree_repair.specs.Laws.{MendedBlocksAreFormatted, MendedBlocksAreGood, NoHashBlockIsLost, OtherSectorsStay};
 ghost use Rattle.tree_repair.specs.Standing.{LeftGoodBlocksAreFormatted, LeftGoodBlocksStand, LeftGoodWaysStand, RepairsWriteAll};
-ghost use Rattle.tree_repair.specs.WithinParity.{DamagedBlocksWithinParityComeBack, DataUnderWholeTreeComeBack, FormattedBlocksStay, FormattedImagesAreFormer, LaidOutParityCoversTheTree, LostBlocksWithinParityComeBack, NoBlockStaysLostWithinParity};
+ghost use Rattle.tree_repair.specs.WithinParity.{DamagedBlocksWithinParityComeBack, DataUnderWholeTreeComeBack, FormattedBlocksStay, FormattedEntriesAreZero, FormattedImagesAreFormer, LaidOutParityCoversTheTree, LostBlocksWithinParityComeBack, NoBlockStaysLostWithinParity};
 
 use hash_tree::laws::formed_chains_are_good;
 
@@ -117,6 +117,11 @@ pub fn no_block_stays_lost_within_parity()
 /// Formatting leaves an image as these laws suppose it.
 pub fn formatted_images_are_former()
     ensures { FormattedImagesAreFormer }
+{}
+
+/// Each hash block that formatting leaves is zero after its last used entry, so that no survey lists it for these bytes.
+pub fn formatted_entries_are_zero()
+    ensures { FormattedEntriesAreZero }
 {}
 
 /// Parity that is laid out for a tree and a hash device on which the tree fits covers all the tree's hash blocks, and of the data device

@@ -23,13 +23,13 @@ use crate::levels::way_to;
 use crate::losses::Losses;
 use crate::place::{Place, Repair, block_size};
 use crate::putting::{Missing, put_restored};
-use crate::seeking::is_same;
 use allocation::{OutOfMemory, push, zeros};
 use block_device::BlockDev;
 use counted_io::Counted;
 use fec_area::{Layout, LostBlock, RestoreFault, restore_block};
 use std::alloc::{AllocError, Global};
 use std::io::Write;
+use verity_format::is_same;
 
 /// Whether a hash block came back by parity; and of some blocks whether all came back, of a pass whether all of the image is good.
 #[derive(Clone, Copy)]

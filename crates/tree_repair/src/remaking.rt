@@ -15,9 +15,9 @@ ghost use Rattle.tree_repair.specs.Worlds.{AreBothRead};
 use crate::image::DamagedImage;
 use crate::mending::Sought;
 use crate::place::{Repair, block_size, count_at};
-use crate::seeking::is_same;
 use block_device::BlockDev;
 use tree_shape::{Digest, Shape};
+use verity_format::is_same;
 
 /// Makes the hash block of a level again that stands on the way to a data block, from the blocks of the height just beneath
 /// it, else from those of the next one, down to the data. Tells whether one that was made has the digest that is sought; it is

@@ -1,6 +1,5 @@
 //! The bytes of a block, sought by their digest.
 ghost use Rattle.std.specs.Prelude.{◌≡◌, ◌≤◌, ◌/◌, ◌%◌, ◌+◌, ◌<◌, ◌^◌, false, IfNone, IfSome, IsTrue, length, map};
-ghost use Rattle.std.specs.Str.{bytes_eq};
 ghost use Rattle.block_device.specs.Device.{IsInside};
 ghost use Rattle.verity_format.specs.Blocks.{IsOnlyRead};
 ghost use Rattle.tree_path.specs.Steps.{HasReadAtMost};
@@ -9,6 +8,7 @@ ghost use Rattle.tree_repair.specs.Sources.{AreEachRead, AreInNone, FindsBad, Ha
 
 use block_device::BlockDev;
 use tree_shape::{Digest, Salt};
+use verity_format::is_same;
 
 /// Reads the sectors from the first on that fill `block`, and tells whether they have that digest; not so where the read fails.
 pub(crate) fn is_there<B: BlockDev>(
@@ -30,13 +30,6 @@ pub(crate) fn is_there<B: BlockDev>(
         Ok(()) => is_same(&salt.digest(block), digest),
         Err(_) => false,
     }
-}
-
-/// Whether two digests are the same.
-pub(crate) fn is_same(a: &Digest, b: &Digest) -> bool
-    ensures { result ≡ bytes_eq a.now b.now }
-{
-    a == b
 }
 
 /// The same where the device may end before.

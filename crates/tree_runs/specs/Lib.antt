@@ -1,6 +1,5 @@
 pub mod Limits
 pub mod Runs
-pub mod Tallies
 pub mod Texts
 pub mod Lines
 pub mod Listings

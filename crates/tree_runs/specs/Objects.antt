@@ -4,11 +4,12 @@ use Rattle.std.specs.List.{flat_map}
 use Rattle.serde_json.specs.Data.{Data, number, object, string, unsigned, member, no_members}
 use Rattle.tree_runs.specs.declared.line.Line.{Line}
 use Rattle.tree_runs.specs.declared.line.Line.TheVariants as line
-use Rattle.tree_runs.specs.declared.run.Run.{Run}
+use Rattle.runs.specs.declared.run.Run.{Run}
+use Rattle.tree_runs.specs.declared.run.Kind.{Kind}
 use Rattle.tree_runs.specs.Texts.{kind_name}
 
 -- a run by its kind, its first data block and how many it has
-abbrev pub run_json : Run → Data
+abbrev pub run_json : Run Kind → Data
 run_json run =
     object
     (member (codes "count") (number (unsigned run.count))

@@ -1,10 +1,9 @@
--- The longest runs of blocks that are alike.
-use Rattle.std.specs.Prelude.{ℕ, suc, ◌+◌, ◌==◌, ◌&&◌, Bool, true, false, List, [], ◌∷◌, Option, Some, None, if◌then◌else◌}
+-- The kinds of data blocks, and how many blocks are of a kind.
+use Rattle.std.specs.Prelude.{ℕ, ◌+◌, ◌==◌, Bool, true, false, List, [], ◌∷◌, Option, Some, None}
 use Rattle.tree_runs.specs.declared.run.Kind.{Kind}
 use Rattle.tree_runs.specs.declared.run.Kind.TheVariants.{Changed, Unknown, Removed, Added}
-use Rattle.tree_runs.specs.declared.run.Run.{Run}
 
--- what is said of a block, or nothing where it is good, or the same
+-- the kind of a block, or nothing if it is good or the same
 abbrev pub State : Type 0
 State = Option Kind
 
@@ -16,24 +15,6 @@ kind_number Added = 4
 
 abbrev pub is_same : Kind → Kind → Bool
 is_same a b = kind_number a == kind_number b
-
-abbrev pub run : ℕ → ℕ → Kind → Run
-run first count kind = record { first = first; count = count; kind = kind }
-
--- the second begins where the first ends, and is of the same kind
-abbrev pub follows : Run → Run → Bool
-follows a b = (b.first == a.first + a.count) && is_same a.kind b.kind
-
--- a run before those behind it
-abbrev pub run_before : Run → List Run → List Run
-run_before a [] = a ∷ []
-run_before a (b ∷ more) = if follows a b then run a.first (a.count + b.count) a.kind ∷ more else a ∷ b ∷ more
-
--- the runs of blocks from the first on, of which these are the states
-abbrev pub runs_of : ℕ → List State → List Run
-runs_of first [] = []
-runs_of first (None ∷ more) = runs_of (suc first) more
-runs_of first (Some kind ∷ more) = run_before (run first 1 kind) (runs_of (suc first) more)
 
 abbrev pub is_state : Kind → State → Bool
 is_state kind None = false

@@ -3,7 +3,7 @@ use Rattle.std.specs.Prelude.{ℕ, List, [], ◌++◌, codes, decimal, Option, S
 use Rattle.std.specs.List.{flat_map}
 use Rattle.tree_runs.specs.declared.run.Kind.{Kind}
 use Rattle.tree_runs.specs.declared.run.Kind.TheVariants.{Changed, Unknown, Removed, Added}
-use Rattle.tree_runs.specs.declared.run.Run.{Run}
+use Rattle.runs.specs.declared.run.Run.{Run}
 
 abbrev pub kind_name : Kind → List ℕ
 kind_name Changed = codes "changed"
@@ -12,11 +12,11 @@ kind_name Removed = codes "removed"
 kind_name Added = codes "added"
 
 -- `KIND FIRST COUNT`
-unfoldable pub run_text : Run → List ℕ
+unfoldable pub run_text : Run Kind → List ℕ
 run_text run = kind_name run.kind ++ (codes " " ++ (decimal run.first ++ (codes " " ++ (decimal run.count ++ codes "\n"))))
 
 -- a line for each run
-abbrev pub runs_text : List Run → List ℕ
+abbrev pub runs_text : List (Run Kind) → List ℕ
 runs_text runs = flat_map run_text runs
 
 -- `hash LEVEL INDEX`
@@ -27,6 +27,6 @@ unfoldable pub more_text : List ℕ
 more_text = codes "more\n"
 
 -- a line for each run, of so many first ones alone where a number is given, and `more` where there are more
-abbrev pub listing_text : Option ℕ → List Run → List ℕ
+abbrev pub listing_text : Option ℕ → List (Run Kind) → List ℕ
 listing_text None runs = runs_text runs
 listing_text (Some n) runs = runs_text (take n runs) ++ (if nat_lt n (length runs) then more_text else [])

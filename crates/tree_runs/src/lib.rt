@@ -12,5 +12,5 @@ pub use limit::Limit;
 pub use line::Line;
 pub use listing::{KeptLines, Listing};
 pub use object::{hashes_value, runs_value, says_more};
-pub use run::{Kind, Run};
+pub use run::Kind;
 pub use tally::Tally;

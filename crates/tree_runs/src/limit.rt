@@ -5,8 +5,9 @@ ghost use Rattle.tree_runs.specs.Listings.{Tells};
 
 use crate::line::Line;
 use crate::listing::Listing;
-use crate::run::Run;
+use crate::run::Kind;
 use counted_io::WriteFault;
+use runs::Run;
 
 /// How many lines may still be printed, without a number all, and whether `more` was printed.
 #[derive(Clone, Copy, Debug, PartialEq, Eq)]
@@ -28,7 +29,11 @@ impl Limit {
 
     /// Tells a run's line, or `more` once where no line is left.
     #[tactic(auto, using(crate::proofs::WritingLemmas::writes_nothing))]
-    pub(crate) fn say<L: Listing>(&mut self, listing: &mut L, run: Run) -> Result<(), WriteFault>
+    pub(crate) fn say<L: Listing>(
+        &mut self,
+        listing: &mut L,
+        run: Run<Kind>,
+    ) -> Result<(), WriteFault>
         ensures text { Tells L.told L.failed listing.old listing.new (limited_line self.old run) result }
         ensures next { OnOk result (self.new ≡ limit_next self.old) }
     {

@@ -4,15 +4,16 @@ ghost use Rattle.counted_io.specs.Counted.{Writes};
 ghost use Rattle.tree_runs.specs.Lines.{is_more, listing_line};
 ghost use Rattle.tree_runs.specs.Texts.{hash_text, more_text};
 
-use crate::run::{Run, say_run};
+use crate::run::{Kind, say_run};
 use counted_io::{Counted, WriteFault};
+use runs::Run;
 use std::io::Write;
 
 /// A line that is told while trees are gone over.
 #[derive(Clone, Copy, Debug, PartialEq, Eq)]
 pub enum Line {
     /// A run of data blocks.
-    Run(Run),
+    Run(Run<Kind>),
     /// There are more runs than may be told.
     More,
     /// A hash block whose digest doesn't stand above it, by its level, counted from the data up, and its number within

@@ -7,7 +7,8 @@ ghost use Rattle.tree_runs.specs.Lines.{says_more};
 ghost use Rattle.tree_runs.specs.Objects.{hash_items, hash_json, hashes_json, run_items, run_json, runs_json};
 
 use crate::line::Line;
-use crate::run::Run;
+use crate::run::Kind;
+use runs::Run;
 use serde_json::{Value, json};
 use std::alloc::{AllocError, Global};
 
@@ -68,7 +69,7 @@ fn add_hash(alloc: Global, values: &mut Vec<Value>, line: Line) -> Result<(), Al
     }
 }
 
-fn run_value(alloc: Global, run: Run) -> Result<Value, AllocError>
+fn run_value(alloc: Global, run: Run<Kind>) -> Result<Value, AllocError>
     ensures { IfOk result (λ value. view value ≡ run_json run) }
 {
     json!(in alloc; {"count": run.count, "first": run.first, "state": run.kind.name()})

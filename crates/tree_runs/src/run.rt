@@ -1,10 +1,11 @@
-//! A run of blocks.
+//! The kinds of data blocks, and the line of a run of one kind.
 ghost use Rattle.std.specs.Prelude.{◌≡◌};
 ghost use Rattle.counted_io.specs.Counted.{Writes};
 ghost use Rattle.tree_runs.specs.Runs.{kind_number, is_same};
 ghost use Rattle.tree_runs.specs.Texts.{kind_name, run_text};
 
 use counted_io::{Counted, WriteFault};
+use runs::Run;
 use std::io::Write;
 
 /// What is said of data blocks.
@@ -47,17 +48,9 @@ impl Kind {
     }
 }
 
-/// So many data blocks from one on, counted from 0.
-#[derive(Clone, Copy, Debug, PartialEq, Eq)]
-pub struct Run {
-    pub first: u64,
-    pub count: u64,
-    pub kind: Kind,
-}
-
 /// `KIND FIRST COUNT`
 #[tactic(auto, unfolding(crate::specs::Texts::run_text))]
-pub(crate) fn say_run<W: Write>(writer: &mut Counted<W>, run: Run) -> Result<(), WriteFault>
+pub(crate) fn say_run<W: Write>(writer: &mut Counted<W>, run: Run<Kind>) -> Result<(), WriteFault>
     ensures { Writes W.contents writer.old writer.new (run_text run) result }
 {
     let Run { first, count, kind } = run;

@@ -2,35 +2,34 @@
 ghost use Rattle.std.specs.Prelude.{◌≡◌, ◌+◌, ◌<◌, ◌^◌, None, Some, OnOk};
 ghost use Rattle.tree_runs.specs.Limits.{begun, limit_after, limited_lines};
 ghost use Rattle.tree_runs.specs.Listings.{Tells};
-ghost use Rattle.tree_runs.specs.Tallies.{EndsAt, closed_by, joined_run, listed, opened_by};
+ghost use Rattle.runs.specs.Tallies.{EndsAt, closed_by, joined_run, listed, opened_by};
+ghost use Rattle.tree_runs.specs.Runs.{is_same};
 
 use crate::limit::Limit;
 use crate::listing::Listing;
-use crate::run::Run;
+use crate::run::Kind;
 use counted_io::WriteFault;
+use runs::Run;
 
 /// The run that may still grow, and how many lines may still be printed.
 #[derive(Clone, Copy, Debug, PartialEq, Eq)]
 pub struct Tally {
-    pub last: Option<Run>,
+    pub last: Option<Run<Kind>>,
     pub limit: Limit,
 }
 
-/// Both runs as one, where they are of one kind.
-fn joined(last: Option<Run>, run: Run) -> Option<Run>
+/// Both runs as one, if they are of one kind.
+fn joined(last: Option<Run<Kind>>, run: Run<Kind>) -> Option<Run<Kind>>
     requires ends { EndsAt last run.first }
     requires room { run.first + run.count < 2 ^ 64 }
-    ensures { result ≡ joined_run last run }
+    ensures { result ≡ joined_run is_same last run }
 {
     let last = last?;
-    if !last.kind.is_same(run.kind) {
-        return None;
+    if last.kind.is_same(run.kind) {
+        Some(last.longer(run.count))
+    } else {
+        None
     }
-    Some(Run {
-        first: last.first,
-        count: last.count + run.count,
-        kind: last.kind,
-    })
 }
 
 impl Tally {
@@ -63,12 +62,12 @@ impl Tally {
 
     /// Adds a run that begins where the blocks so far end.
     #[tactic(auto, using(crate::proofs::WritingLemmas::writes_nothing))]
-    pub fn add<L: Listing>(&mut self, listing: &mut L, run: Run) -> Result<(), WriteFault>
+    pub fn add<L: Listing>(&mut self, listing: &mut L, run: Run<Kind>) -> Result<(), WriteFault>
         requires ends { EndsAt self.old.last run.first }
         requires room { run.first + run.count < 2 ^ 64 }
-        ensures text { Tells L.told L.failed listing.old listing.new (limited_lines self.old.limit (closed_by self.old.last run)) result }
-        ensures last { OnOk result (self.new.last ≡ Some (opened_by self.old.last run)) }
-        ensures limit { OnOk result (self.new.limit ≡ limit_after self.old.limit (closed_by self.old.last run)) }
+        ensures text { Tells L.told L.failed listing.old listing.new (limited_lines self.old.limit (closed_by is_same self.old.last run)) result }
+        ensures last { OnOk result (self.new.last ≡ Some (opened_by is_same self.old.last run)) }
+        ensures limit { OnOk result (self.new.limit ≡ limit_after self.old.limit (closed_by is_same self.old.last run)) }
     {
         match joined(self.last, run) {
             Some(both) => self.last = Some(both),

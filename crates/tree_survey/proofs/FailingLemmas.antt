@@ -5,7 +5,7 @@ use Rattle.std.proofs.lemmas.Bool.{cases_lt}
 use Rattle.block_device.specs.Device.{Device, HasFailed, IsRead, run_of}
 use Rattle.verity_format.specs.Blocks.{IsFullRead, IsOnlyRead, block_at}
 use Rattle.tree_path.specs.Steps.{IsUnloaded, Steps}
-use Rattle.tree_path.proofs.lemmas.DeviceLemmas.{full_read-none, full_read-then, only_read-none, only_read-then}
+use Rattle.verity_format.proofs.lemmas.DeviceLemmas.{full_read-none, full_read-then, only_read-none, only_read-then}
 use Rattle.tree_survey.specs.Failing.{HasFailedRead, HasFailedTimes, IsAttempt, IsBlockTried, IsReadOver, IsReadThrough, IsSectorsRead}
 
 -- ---- one read

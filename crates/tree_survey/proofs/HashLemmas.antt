@@ -9,7 +9,7 @@ use Rattle.tree_shape.specs.Shape.{ShapeRecord, ancestor, levels}
 use Rattle.tree_path.specs.Path.{PathRecord, IsPathOf, block_of, digest_on, stored_block, stored_digest}
 use Rattle.tree_path.specs.Steps.{IsDown, IsStepLoaded, IsUnloaded, steps}
 use Rattle.tree_path.specs.Unused.{is_unused_zero}
-use Rattle.tree_path.proofs.lemmas.DeviceLemmas.{steady-then}
+use Rattle.verity_format.proofs.lemmas.DeviceLemmas.{steady-then}
 use Rattle.tree_path.proofs.lemmas.PathLemmas.{digest_on-stored, down-bad, down-good, down-none, down-read}
 use Rattle.tree_survey.specs.Failing.{IsReadOver}
 use Rattle.tree_survey.specs.Hashes.{IsAbove, IsCompared, has_digest_above, is_zero_after_used, tree_of_path}

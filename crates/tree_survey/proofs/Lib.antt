@@ -5,10 +5,8 @@ mod LawLemmas
 mod LostLemmas
 mod PieceLemmas
 mod ReachLemmas
-mod RunLemmas
 mod SayingLemmas
 mod SightLemmas
-mod SizeLemmas
 mod StateLemmas
 mod SurveyLemmas
 mod UnderwayLemmas

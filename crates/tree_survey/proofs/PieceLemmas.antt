@@ -7,16 +7,16 @@ use Rattle.block_device.specs.Device.{Device}
 use Rattle.tree_shape.specs.Digests.{digest}
 use Rattle.tree_shape.specs.Shape.{ShapeRecord, IsShape, is_block_size}
 use Rattle.tree_shape.proofs.lemmas.ShapeFaultLemmas.{is_block_size-cases}
-use Rattle.tree_path.proofs.lemmas.DeviceLemmas.{steady-then}
+use Rattle.verity_format.proofs.lemmas.DeviceLemmas.{steady-then}
 use Rattle.verity_format.specs.Blocks.{IsFullRead, block_at}
 use Rattle.verity_format.specs.Image.{data_sectors}
 use Rattle.verity_format.specs.Premises.{IsBlockOn}
 use Rattle.tree_survey.specs.Failing.{HasFailedRead, IsReadOver, IsReadThrough}
 use Rattle.tree_survey.specs.Pieces.{IsDigestFound, IsDigestRead, LieOnDevice, IsRunRead, IsRunTried, blocks_of}
 use Rattle.tree_survey.proofs.FailingLemmas.{failed-later, failed-more, over-then, through-failed, through-full}
-use Rattle.tree_survey.proofs.RunLemmas.{quotient-some}
+use Rattle.verity_format.proofs.lemmas.RunLemmas.{quotient-some}
 use Rattle.tree_survey.proofs.SightLemmas.{IsDigestOr}
-use Rattle.tree_survey.proofs.SizeLemmas.{block-inside, block-size}
+use Rattle.verity_format.proofs.lemmas.SizeLemmas.{block-inside, block-size}
 
 -- ---- how many blocks a piece has
 

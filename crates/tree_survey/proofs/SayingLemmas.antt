@@ -12,7 +12,7 @@ use Rattle.tree_shape.specs.Shape.{ShapeRecord, IsShape, level_blocks, levels, p
 use Rattle.tree_shape.proofs.lemmas.ShapeFactLemmas.{level_blocks-is, two}
 use Rattle.tree_shape.proofs.lemmas.ShapeLemmas.{pow_pos}
 use Rattle.tree_path.specs.Path.{PathRecord, IsPathOf}
-use Rattle.tree_path.proofs.lemmas.DeviceLemmas.{steady-then}
+use Rattle.verity_format.proofs.lemmas.DeviceLemmas.{steady-then}
 use Rattle.tree_survey.specs.Failing.{HasFailedRead, IsReadOver}
 use Rattle.tree_survey.specs.Hashes.{AreBad, HashBlock, IsCompared, AreWithinHashes, SaysLevel, TellsHashes, bad_of_level, bad_of_levels, first_below, hash_line, hash_lines, is_good_on, is_whole, tree_of_path, with_bad}
 use Rattle.tree_survey.specs.Surveys.{Tree}

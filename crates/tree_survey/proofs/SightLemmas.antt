@@ -14,7 +14,7 @@ use Rattle.hash_tree.proofs.lemmas.LawLemmas.{levels-least}
 use Rattle.verity_format.specs.Blocks.{IsOnlyRead}
 use Rattle.tree_path.specs.Path.{IsPathOf, AreStored, block_of, digest_on, stored_block, stored_digest}
 use Rattle.tree_path.specs.Spans.{IsTopAt}
-use Rattle.tree_path.proofs.lemmas.DeviceLemmas.{steady-then}
+use Rattle.verity_format.proofs.lemmas.DeviceLemmas.{steady-then}
 use Rattle.tree_path.proofs.lemmas.PathLemmas.{digest_on-along, digest_on-stored, leads-along, leads-higher, stored-along, stored-higher}
 use Rattle.tree_path.proofs.lemmas.SpanLemmas.{behind, lower-mod, power-least}
 use Rattle.tree_runs.specs.declared.run.Kind.TheVariants.{Changed, Unknown}

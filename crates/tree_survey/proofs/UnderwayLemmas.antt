@@ -16,7 +16,7 @@ use Rattle.tree_path.specs.Spans.{IsTopAt}
 use Rattle.tree_runs.specs.declared.run.Kind.TheVariants.{Changed, Unknown, Removed, Added}
 use Rattle.tree_runs.specs.Limits.{begun, limited_lines}
 use Rattle.tree_runs.specs.Runs.{State}
-use Rattle.tree_runs.specs.Tallies.{EndsAt, listed}
+use Rattle.runs.specs.Tallies.{EndsAt, listed}
 use Rattle.tree_runs.proofs.lemmas.ListingLemmas.{IsListed, listed-all, listed-ends, listed-none}
 use Rattle.tree_survey.specs.declared.counts.Counts.{Counts}
 use Rattle.tree_survey.specs.declared.counts.Totals.{Totals}

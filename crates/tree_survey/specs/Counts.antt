@@ -1,11 +1,13 @@
 -- Runs and counts of data blocks, one block after another.
 use Rattle.std.specs.Prelude.{◌≡◌, ℕ, suc, ◌+◌, ◌^◌, ◌<◌, List, [], ◌∷◌, Option, Some, None}
 use Rattle.tree_runs.specs.declared.run.Kind.TheVariants.{Changed, Unknown}
-use Rattle.tree_runs.specs.declared.run.Run.{Run}
+use Rattle.runs.specs.declared.run.Run.{Run}
+use Rattle.tree_runs.specs.declared.run.Kind.{Kind}
 use Rattle.tree_runs.specs.declared.tally.Tally.{Tally}
 use Rattle.tree_runs.specs.Limits.{begun, limit_after, limited_lines}
-use Rattle.tree_runs.specs.Runs.{State, count_of, run}
-use Rattle.tree_runs.specs.Tallies.{closed_by, listed, opened_by}
+use Rattle.runs.specs.Runs.{run}
+use Rattle.tree_runs.specs.Runs.{is_same, State, count_of}
+use Rattle.runs.specs.Tallies.{closed_by, listed, opened_by}
 use Rattle.tree_survey.specs.declared.counts.Counts.{Counts}
 use Rattle.tree_survey.specs.declared.counts.Totals.{Totals}
 
@@ -31,13 +33,13 @@ pub record AreFew (totals : Totals) : Type 0 where
   pub unknown : totals.unknown < 2 ^ 54
 
 -- the runs that don't grow further once a block of that state comes behind, and the one that may
-abbrev pub closed_at : Option Run → ℕ → State → List Run
+abbrev pub closed_at : Option (Run Kind) → ℕ → State → List (Run Kind)
 closed_at last i None = listed last
-closed_at last i (Some kind) = closed_by last (run i 1 kind)
+closed_at last i (Some kind) = closed_by is_same last (run i 1 kind)
 
-abbrev pub opened_at : Option Run → ℕ → State → Option Run
+abbrev pub opened_at : Option (Run Kind) → ℕ → State → Option (Run Kind)
 opened_at last i None = None
-opened_at last i (Some kind) = Some (opened_by last (run i 1 kind))
+opened_at last i (Some kind) = Some (opened_by is_same last (run i 1 kind))
 
 -- what is told of the runs that it ends
 abbrev pub lines_at : Tally → ℕ → State → List ℕ

@@ -8,7 +8,8 @@ use Rattle.verity_format.specs.Blocks.{blocks_at}
 use Rattle.verity_format.specs.Image.{data_sectors, tree_sectors}
 use Rattle.verity_format.specs.Superblock.{SuperRecord, shape_of}
 use Rattle.tree_path.specs.Path.{IsPathOf}
-use Rattle.tree_runs.specs.Runs.{State, runs_of}
+use Rattle.runs.specs.Runs.{runs_of}
+use Rattle.tree_runs.specs.Runs.{is_same, State}
 use Rattle.tree_runs.specs.Texts.{runs_text}
 use Rattle.tree_survey.specs.declared.counts.Totals.{Totals}
 use Rattle.tree_survey.specs.declared.sight.Sight.{Sight}
@@ -83,7 +84,7 @@ pub record Surveys (t : Tree) (w : Pass) (totals : Totals) : Type 0 where
   pub states : List State
   pub seen : AreSeen t w states
   pub totals_are : totals ≡ totals_of states
-  pub printed_are : Appends w.printed w.printed' (runs_text (runs_of 0 states))
+  pub printed_are : Appends w.printed w.printed' (runs_text (runs_of is_same 0 states))
   pub data_read : IsReadThrough w.data_dev (data_sectors t.shape) w.data_dev'
 
 -- the tree of a superblock under a root

@@ -1,6 +1,5 @@
 //! The hash blocks on the way to a data block, while data blocks are gone over.
 ghost use Rattle.std.specs.Prelude.{◌≡◌};
-ghost use Rattle.std.specs.Str.{bytes_eq};
 ghost use Rattle.tree_shape.specs.Shape.{levels};
 ghost use Rattle.tree_survey.specs.Failing.{IsReadOver};
 ghost use Rattle.tree_survey.specs.Sights.{CanGoDown, HasGone, none_read, state_at, state_by};
@@ -10,6 +9,7 @@ use block_device::BlockDev;
 use tree_path::{TreePath, top_at};
 use tree_runs::Kind;
 use tree_shape::{Digest, Shape};
+use verity_format::is_same;
 
 /// A path, its shape, the level from which up its hash blocks are good, and whether the one below that can't be read.
 #[derive(Drop)]
@@ -82,11 +82,4 @@ impl Sight {
         }
         Some(Kind::Changed)
     }
-}
-
-// Whether two digests are the same.
-fn is_same(a: &Digest, b: &Digest) -> bool
-    ensures { result ≡ bytes_eq a.now b.now }
-{
-    a == b
 }

@@ -11,7 +11,7 @@ use Rattle.std.proofs.lemmas.List.{map-append, take-append-drop, drop_all}
 use Rattle.std.proofs.lemmas.List.Elements.{filter-append}
 use Rattle.lru.specs.LruCache.{promoted}
 use Rattle.verified_cache.specs.declared.key.Key.{Key}
-use Rattle.verified_cache.specs.declared.cache.DigestedBlock.{DigestedBlock}
+use Rattle.verified_cache.specs.declared.slots.DigestedBlock.{DigestedBlock}
 use Rattle.verified_cache.specs.Cache.{CachedBlock, CacheRecord, IsCache, same_key, cache_after_moves, cache_without, blocks_without}
 use Rattle.verified_cache.specs.Slots.{slot_block}
 use Rattle.verified_cache.proofs.lemmas.KeyLemmas.{same_key-refl, same_key-symm}

@@ -9,7 +9,7 @@ use Rattle.std.proofs.lemmas.Option.{same_Some}
 use Rattle.std.proofs.lemmas.List.{length-map, take_all}
 use Rattle.lru.specs.LruCache.{LruCache, promoted, put_entries}
 use Rattle.verified_cache.specs.declared.key.Key.{Key}
-use Rattle.verified_cache.specs.declared.cache.DigestedBlock.{DigestedBlock}
+use Rattle.verified_cache.specs.declared.slots.DigestedBlock.{DigestedBlock}
 use Rattle.verified_cache.specs.Cache.{CachedBlock, CacheRecord, IsCache, same_key, block_under, blocks_with, cache_after_find, cache_after_keep}
 use Rattle.verified_cache.specs.Slots.{slot_block}
 use Rattle.verified_cache.proofs.lemmas.KeyLemmas.{same_key-exact}
@@ -167,7 +167,7 @@ module _ (key : Key) (held : DigestedBlock) (old : LruCache Key DigestedBlock) (
   at_capacity (suc n) some room within = put_either n room within (lookup (same_key key) old.entries) refl
 
   -- it leaves what keeping the block leaves
-  pub map-put_entries : (capacity : ℕ) → IsCache (record { capacity = capacity; blocks = map slot_block old.entries }) → capacity ≢ 0 → old.cap ≡ max 1 capacity
+  pub map-put_entries : (capacity : ℕ) → IsCache (record { capacity = capacity; blocks = map slot_block old.entries }) → capacity ≢ 0 → old.cap ≡ capacity
       → (seen : CacheRecord) → record { capacity = capacity; blocks = map slot_block old.entries } ≡ seen
       → record { capacity = capacity; blocks = map slot_block (put_entries same_key old key held) } ≡ cache_after_keep block seen
   map-put_entries capacity valid some room seen is =

@@ -1,10 +1,11 @@
 //! The cache itself.
-ghost use Rattle.std.specs.Prelude.{◌≡◌, ◌⊎◌, [], length, option_map, IfOk, OnOk, OnErr, IsOk, IsSome};
+ghost use Rattle.std.specs.Prelude.{◌≡◌, ◌⊎◌, [], length, option_map, Ok, OnOk, OnErr, IsOk, IsSome};
 ghost use Rattle.std.specs.Option.{option_copied};
 ghost use Rattle.std.specs.Borrow.{sem};
 ghost use Rattle.verified_cache.specs.Cache.{IsCache, cached_at, block_under, cache_after_find, cache_after_keep, cache_without, cache_without_line, cache_after_moves};
 
 use crate::keys::KeysOfLine;
+use crate::slots::{DigestedBlock, slots_or_new};
 use crate::{Key, Keys};
 use lru::LruCache;
 use std::alloc::{AllocError, Global};
@@ -12,23 +13,17 @@ use std::marker::Model;
 use std::num::NonZeroUsize;
 use tree_shape::Digest;
 
-/// A block and the digest that it is kept under.
-#[derive(Drop)]
-struct DigestedBlock {
-    digest: Digest,
-    bytes: Vec<u8>,
-}
-
 /// At most a given number of blocks, each under its key and its digest.
 #[derive(Drop)]
 pub struct BlockCache {
+    alloc: Global,
     capacity: u32,
-    // A cache of no blocks has one slot, which stays empty.
-    slots: LruCache<Key, DigestedBlock>,
+    // None before a block is kept, so that an empty cache needs no memory.
+    slots: Option<LruCache<Key, DigestedBlock>>,
 }
 
 impl Model for BlockCache {
-    ghost use Rattle.std.specs.Prelude.{◌≡◌, map, max};
+    ghost use Rattle.std.specs.Prelude.{◌≡◌, IfSome};
     ghost use Rattle.verified_cache.specs.Cache.{CacheRecord, IsCache};
 
     ghost Value = { CacheRecord };
@@ -37,21 +32,28 @@ impl Model for BlockCache {
 
     ghost view = { cache_of };
 
-    ghost invariant = { λ c. (c.slots.cap ≡ max 1 c.capacity) × IsCache (cache_of c) };
+    ghost invariant = { λ c. IfSome c.slots (λ slots. slots.cap ≡ c.capacity) × IsCache (cache_of c) };
 }
 
 impl BlockCache {
     ghost use Rattle.verified_cache.specs.Lending.{EndsAs};
 
-    /// An empty cache of at most `capacity` blocks. Room for a block is taken when it is kept.
-    pub fn new(alloc: Global, capacity: u32) -> Result<BlockCache, AllocError>
-        ensures { IfOk result (λ c. c ≡ record { capacity = capacity; blocks = [] }) }
+    /// An empty cache of at most `capacity` blocks. It needs no memory before a block is kept.
+    pub fn empty(alloc: Global, capacity: u32) -> BlockCache
+        ensures { result ≡ record { capacity = capacity; blocks = [] } }
     {
-        let slots = NonZeroUsize::new(capacity as usize).unwrap_or(NonZeroUsize::MIN);
-        Ok(BlockCache {
+        BlockCache {
+            alloc,
             capacity,
-            slots: LruCache::sparse(alloc, slots)?,
-        })
+            slots: None,
+        }
+    }
+
+    /// The same cache as `empty` returns. It never fails.
+    pub fn new(alloc: Global, capacity: u32) -> Result<BlockCache, AllocError>
+        ensures { result ≡ Ok (record { capacity = capacity; blocks = [] }) }
+    {
+        Ok(BlockCache::empty(alloc, capacity))
     }
 
     /// The block kept under this key and this digest, which is then the most recently used.
@@ -59,11 +61,14 @@ impl BlockCache {
         ensures* leaves { sem 𝓛 (EndsAs self.entry (cache_after_find key digest.now self.old)) }
         ensures answer { option_copied result ≡ option_map (λ b. b.bytes) (block_under key digest.now self.old) }
     {
-        let kept = self.slots.peek(&key)?;
+        let Some(slots) = &mut self.slots else {
+            return None;
+        };
+        let kept = slots.peek(&key)?;
         if kept.digest != *digest {
             return None;
         }
-        let kept = self.slots.get(&key)?;
+        let kept = slots.get(&key)?;
         Some(kept.bytes.as_slice())
     }
 
@@ -73,14 +78,17 @@ impl BlockCache {
         ensures err { OnErr result (self.new ≡ self.old) }
         ensures succeeds { (self.old.capacity ≡ 0) ⊎ IsSome (cached_at key self.old) → IsOk result }
     {
-        if self.capacity == 0 {
+        let Some(most) = NonZeroUsize::new(self.capacity as usize) else {
             return Ok(());
-        }
+        };
         let block = DigestedBlock {
             digest,
             bytes: block,
         };
-        self.slots.put(key, block)?;
+        let mut slots = slots_or_new(self.alloc, self.slots.take(), most)?;
+        let outcome = slots.put(key, block);
+        self.slots = Some(slots);
+        outcome?;
         Ok(())
     }
 
@@ -106,14 +114,17 @@ impl BlockCache {
         requires { K.can_tell keys.now }
         ensures { self.new ≡ cache_after_moves (K.has keys.now) 1 self.old }
     {
-        let Some((key, _)) = self.slots.peek_lru() else {
+        let Some(slots) = &mut self.slots else {
+            return;
+        };
+        let Some((key, _)) = slots.peek_lru() else {
             return;
         };
         let key = *key;
         if keys.has(key) {
-            drop(self.slots.pop_lru());
+            drop(slots.pop_lru());
         } else {
-            self.slots.promote(&key);
+            slots.promote(&key);
         }
     }
 
@@ -121,7 +132,7 @@ impl BlockCache {
     pub fn forget_all(&mut self)
         ensures { self.new ≡ record self.old { blocks = [] } }
     {
-        self.slots.clear();
+        self.slots = None;
     }
 
     /// How many blocks there are.
@@ -129,7 +140,10 @@ impl BlockCache {
         ensures value { result ≡ length self.now.blocks }
         ensures valid { IsCache self.now }
     {
-        self.slots.len()
+        match &self.slots {
+            None => 0,
+            Some(slots) => slots.len(),
+        }
     }
 
     /// How many blocks there may be.

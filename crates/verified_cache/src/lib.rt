@@ -5,6 +5,7 @@ mod cache;
 mod key;
 mod keys;
 pub mod laws;
+mod slots;
 
 pub use cache::BlockCache;
 pub use key::Key;

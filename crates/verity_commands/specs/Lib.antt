@@ -1,6 +1,5 @@
 pub mod Endings
 pub mod Growing
-pub mod Images
 pub mod Placed
 pub mod Pinned
 pub mod Places

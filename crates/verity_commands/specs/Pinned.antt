@@ -16,7 +16,7 @@ use Rattle.image_commands.specs.declared.format.MadeImage.{MadeImage}
 use Rattle.image_commands.specs.Drawing.{Drawing}
 use Rattle.image_commands.specs.Endings.{IsLineUnwritten}
 use Rattle.image_commands.specs.Formats.{made_text}
-use Rattle.image_commands.specs.PinFiles.{AreApart, AreOne, IsPinFileEnd, IsPinUnwritten, ReadsPin, WritesPin, pin_of_image}
+use Rattle.image_commands.specs.PinFiles.{IsNoPinPath, IsPinFileEnd, IsPinPath, IsPinUnwritten, ReadsPin, WritesPin, pin_of_image}
 use Rattle.image_commands.specs.Pinned.{IsPinnedMatchesEnd, PrintsPinnedMatches}
 use Rattle.image_commands.specs.Places.{TwoPlaces}
 use Rattle.image_files.specs.Opener.{Calls, Opener, calls}
@@ -30,17 +30,17 @@ use Rattle.verity_commands.specs.Places.{image_places}
 abbrev pub places_said : FormatRecord → TwoPlaces
 places_said f = image_places f.data_path f.hash_path f.hash_offset
 
--- FILE was told to be neither DATA nor HASH, and then the image was made
+-- FILE is neither DATA nor HASH and can be written, and then the image was made
 pub record MakesApart {S D T G : Type 0} (w : Calls S D) (d : Drawing T G) (options : ImageOptions) (f : PinFormatRecord) (image : MadeImage) : Type 0 where
   pub between : S
-  pub apart : AreApart (record w { new = between }) f.format.data_path f.format.hash_path f.pin
+  pub path : IsPinPath (record w { new = between }) f.format.data_path f.format.hash_path f.pin
   pub makes : MakesImage f.format.grow (record w { old = between }) d options (places_said f.format) image
 
--- then its pin was put in the place of what FILE held
+-- then FILE still was neither DATA nor HASH, and its pin replaced what FILE held
 pub record MakesPinned {S D T G : Type 0} (w : Calls S D) (d : Drawing T G) (options : ImageOptions) (f : PinFormatRecord) (image : MadeImage) : Type 0 where
   pub between : S
   pub makes : MakesApart (record w { new = between }) d options f image
-  pub writes : WritesPin (record w { old = between }) f.pin (pin_of_image options image)
+  pub writes : WritesPin (record w { old = between }) f.format.data_path f.format.hash_path f.pin (pin_of_image options image)
 
 -- and then the image's root, salt, identifier and number of blocks were printed
 abbrev pub FormatsByPin : {S D T G : Type 0} → OptionTexts → Calls S D → Drawing T G → PinFormatRecord → Option (List ℕ) → Option (List ℕ) → Type 0
@@ -50,7 +50,7 @@ FormatsByPin texts w d f old new =
 -- the image isn't made
 pub record EndsUnmade {S D T G : Type 0} (w : Calls S D) (d : Drawing T G) (options : ImageOptions) (f : PinFormatRecord) (fault : ImageFault) : Type 0 where
   pub between : S
-  pub apart : AreApart (record w { new = between }) f.format.data_path f.format.hash_path f.pin
+  pub path : IsPinPath (record w { new = between }) f.format.data_path f.format.hash_path f.pin
   pub ends : IsMakingEnd f.format.grow (record w { old = between }) d options (places_said f.format) fault
 
 -- it was made, but its pin isn't written
@@ -58,12 +58,12 @@ pub record EndsUnpinned {S D T G : Type 0} (w : Calls S D) (d : Drawing T G) (op
   pub between : S
   pub image : MadeImage
   pub makes : MakesApart (record w { new = between }) d options f image
-  pub unwritten : IsPinUnwritten (record w { old = between }) f.pin (pin_of_image options image) fault
+  pub unwritten : IsPinUnwritten (record w { old = between }) f.format.data_path f.format.hash_path f.pin (pin_of_image options image) fault
 
--- FILE is one of the two images, and nothing was drawn; one of these; or the text of what was made can't be written
+-- FILE is one of the two images or can't be written, and nothing was drawn or made; one of these; or the text of what was made can't be written
 abbrev pub IsPinFormatCause : {S D T G : Type 0} → Calls S D → Drawing T G → ImageOptions → PinFormatRecord → Bool → ImageFault → Type 0
 IsPinFormatCause w d options f failed fault =
-    (AreOne w f.format.data_path f.format.hash_path f.pin fault × (d.new ≡ d.old))
+    (IsNoPinPath w f.format.data_path f.format.hash_path f.pin fault × (d.new ≡ d.old))
     ⊎ (EndsUnmade w d options f fault ⊎ (EndsUnpinned w d options f fault ⊎ ((image : MadeImage) × MakesPinned w d options f image × IsLineUnwritten failed fault)))
 
 -- a word of the options says no value, or memory ran out while they were read, and nothing was opened; or it ended so

@@ -1,7 +1,7 @@
--- What `format`, `verify`, `dump` and `table` print where superblock and tree have a place in their file, and how they end early.
+-- What `format`, `verify`, `dump` and `table` print, and how they end early.
 use Rattle.std.specs.Borrow.{Bor}
 use Rattle.std.specs.Io.KnownBytes.{Appends}
-use Rattle.std.specs.Prelude.{◌≡◌, ◌⊎◌, ℕ, ◌/◌, ◌++◌, Bool, true, false, List, Option}
+use Rattle.std.specs.Prelude.{◌≡◌, ◌⊎◌, ℕ, ◌/◌, Bool, true, false, List, Option}
 use Rattle.block_device.specs.Device.{Device}
 use Rattle.counted_io.specs.Counted.{CountedRecord}
 use Rattle.command_line.specs.declared.image_options.ImageOptions.{ImageOptions}
@@ -26,9 +26,9 @@ use Rattle.image_commands.specs.Formats.{made_text}
 use Rattle.image_commands.specs.PlacedFormats.{IsMakingPlacedEnd, MakesPlaced}
 use Rattle.image_commands.specs.Preparing.{IsPreparingEnd}
 use Rattle.image_commands.specs.PlacedImages.{IsPlacedImageEnd, IsPlacedMatchesEnd, PrintsPlacedMatches, PrintsPlacedSuper}
-use Rattle.image_commands.specs.PlacedLines.{entry_head, placed_line}
 use Rattle.image_commands.specs.Places.{TwoPlaces, is_aligned, two_places}
 use Rattle.image_commands.specs.SuperblockJson.{dump_text}
+use Rattle.image_commands.specs.TableLines.{placed_line}
 use Rattle.image_files.specs.Opener.{Calls, Opener, calls}
 use Rattle.verity_commands.specs.declared.fault.VerityFault.{VerityFault}
 use Rattle.verity_commands.specs.declared.fault.VerityFault.TheVariants.{Usage}
@@ -65,7 +65,7 @@ pub record PrintsEntry {S D : Type 0} (w : Calls S D) (t : TableRecord) (old new
   pub told : TellsRoot (record w { new = between }) t.root words.root.now
   pub names : (words.data_name.now ≡ t.data_name) × (words.hash_name.now ≡ t.hash_name)
   pub entry : text_of name ≡ t.name
-  pub prints : PrintsPlacedSuper (record w { old = between }) t.hash_path (t.hash_offset / 512) (λ s. is_aligned (t.hash_offset / 512) s.hash_block) (λ s. entry_head name ++ placed_line s words (t.hash_offset / 512)) old new
+  pub prints : PrintsPlacedSuper (record w { old = between }) t.hash_path (t.hash_offset / 512) (λ s. is_aligned (t.hash_offset / 512) s.hash_block) (λ s. placed_line name s words (t.hash_offset / 512)) old new
 
 pub record EndsEntry {S D : Type 0} (w : Calls S D) (t : TableRecord) (failed : Bool) (fault : ImageFault) : Type 0 where
   pub between : S

@@ -3,7 +3,6 @@
 
 mod fault;
 mod growing;
-mod images;
 mod pinned;
 mod placed;
 mod places;
@@ -12,7 +11,6 @@ mod texts;
 mod trees;
 
 pub use fault::VerityFault;
-pub use images::invoke_on_images;
 pub use pinned::{invoke_format_pinned, invoke_verify_pinned};
 pub use placed::{invoke_dump, invoke_format, invoke_table, invoke_verify};
 pub use places::{root_in, sector_at};

@@ -17,8 +17,8 @@ use std::alloc::Global;
 use std::io::Write;
 use watched_device::Watchers;
 
-/// `format --pin FILE [--grow] [--progress] [--hash-offset BYTES] [OPTION..] DATA HASH`: FILE is written once the image is on its
-/// medium, and before the root is printed.
+/// `format --pin FILE [--grow] [--progress] [--hash-offset BYTES] [OPTION..] DATA HASH`: whether FILE can be written is found out
+/// before anything is made. It is written once the image is synced, and before the root is printed.
 pub fn invoke_format_pinned<'a, I: Images, G: Generators + Watchers, W: Write>(
     alloc: Global,
     images: &mut I,
@@ -36,7 +36,7 @@ pub fn invoke_format_pinned<'a, I: Images, G: Generators + Watchers, W: Write>(
     let grow = words.format.grow;
     let made = make_image(alloc, images, generators, options, &watched, grow)?;
     let pin = pin_of_image(&options, &made);
-    write_pin(alloc, images, words.pin, &pin)?;
+    write_pin(alloc, images, watched.places, words.pin, &pin)?;
     Ok(print_made(writer, &made)?)
 }
 

@@ -1,4 +1,4 @@
-//! The commands on verity images with a place for superblock and tree.
+//! The commands on verity images with a superblock: `format`, `verify`, `dump` and `table`.
 ghost use Rattle.std.specs.Prelude.{◌≡◌, OnOk, IfErr, IfOk};
 ghost use Rattle.image_commands.specs.Drawing.{drawing};
 ghost use Rattle.image_commands.specs.Endings.{IsLineUnwritten};
@@ -129,6 +129,7 @@ pub fn invoke_dump<'a, I: Images, W: Write>(
 
 /// `table [--hash-offset BYTES] [--name NAME] [--root-hash-file FILE] HASH [ROOT] DATANAME HASHNAME`
 pub fn invoke_table<'a, I: Images, W: Write>(
+    alloc: Global,
     images: &mut I,
     words: &TableWords<'a>,
     writer: &mut Counted<W>,
@@ -146,5 +147,5 @@ pub fn invoke_table<'a, I: Images, W: Write>(
         data_name: words.data_name,
         hash_name: words.hash_name,
     };
-    Ok(table_placed(images, place, words.name, line, writer)?)
+    Ok(table_placed(alloc, images, place, words.name, line, writer)?)
 }

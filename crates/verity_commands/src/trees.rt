@@ -93,7 +93,7 @@ pub fn invoke_table_tree<'a, I: Images, W: Write>(
         data_name: words.data_name,
         hash_name: words.hash_name,
     };
-    Ok(print_tree_line(first, words.name, line, given, writer)?)
+    Ok(print_tree_line(alloc, first, words.name, line, given, writer)?)
 }
 
 // What the options say of a tree, whose salt has to be given.

@@ -1,6 +1,6 @@
 -- Hash blocks compared one after another.
 use Rattle.std.proofs.Common.{◌≡◌, ◌≢◌, ◌≤◌, ◌<◌, ◌+◌, ◌-◌, ◌*◌, ◌/◌, ◌^◌, ℕ, List, [], ◌++◌, All, IsTrue, length, take, get_or, min, refl, sym, ap, ◌∙◌, subst, arith, Option, None, Some, Bool, true, false, not}
-use Rattle.std.proofs.Math.Nat.{zero-mul, mul-le-mul_right}
+use Rattle.std.proofs.Math.Nat.{zero-mul}
 use Rattle.std.proofs.lemmas.List.{length-append, ext_get_or, length-take-le, get_or-take}
 use Rattle.std.proofs.lemmas.List.Elements.{All-nil}
 use Rattle.std.proofs.lemmas.List.FromFn.{get_or-map-range_with_len, length-map-range_with_len}
@@ -21,10 +21,10 @@ use Rattle.verity_format.specs.Blocks.{IsFullRead, block_at, blocks_at}
 use Rattle.verity_format.specs.Image.{tree_sectors, area_over}
 use Rattle.verity_format.specs.Growth.{IsRunTaken}
 use Rattle.verity_format.specs.Comparing.{LiesOn, IsLeastWith, IsComparing, IsTreeCompared}
-use Rattle.verity_format.proofs.DeviceLemmas.{full_read-none, full_read-then, steady-then}
+use Rattle.verity_format.proofs.lemmas.DeviceLemmas.{full_read-none, full_read-then, steady-then}
 use Rattle.verity_format.proofs.GrowthLemmas.{taken-none, taken-then, out-then, digests-all, read-all, over-all, length-all}
-use Rattle.verity_format.proofs.RunLemmas.{sectors-more}
-use Rattle.verity_format.proofs.SizeLemmas.{tree-room}
+use Rattle.verity_format.proofs.lemmas.RunLemmas.{sectors-more}
+use Rattle.verity_format.proofs.lemmas.SizeLemmas.{tree-room}
 
 differ_at : (xs ys : List ℕ) (b : Bool) → bytes_eq xs ys ≡ b → true ≡ not b → xs ≢ ys
 differ_at xs ys true is h = cc
@@ -42,20 +42,17 @@ pub ne_same : (xs ys : List ℕ) → false ≡ not (bytes_eq xs ys) → xs ≡ y
 ne_same xs ys h = same_at xs ys (bytes_eq xs ys) refl h
 
 -- the tree's blocks lie on a device that has room for the tree
-pub lies-on : (s : ShapeRecord) → IsShape s → s.start ≡ 1 → (device : Device) → tree_sectors s ≤ device.size → (size : ℕ) → size ≡ s.hash_block
+pub lies-on : (s : ShapeRecord) → IsShape s → (device : Device) → tree_sectors s ≤ device.size → (size : ℕ) → size ≡ s.hash_block
     → (out ps : List PlacedRecord) → out ≡ ps → All (IsAreaBlock s) ps → All (LiesOn device size) out
-lies-on s valid start device room size same out ps is all =
+lies-on s valid device room size same out ps is all =
     subst (λ ps. All (LiesOn device size) ps) (sym is)
     (λ i d inside.
     let p : PlacedRecord = get_or ps i d in
     let k = s.hash_block / 512 in
     let here = all i d inside in
-    let low : p.block < s.start + area_blocks s = here.below in
-    let some : 0 < area_blocks s = omega (arith, low, here.from) in
-    let whole : area_blocks s * k + k ≤ device.size = tree-room s valid start device.size room some in
-    let small : area_blocks s * k + k ≤ 2 ^ 54 = tree-room s valid start (2 ^ 54) valid.tree_fits some in
-    let most : p.block * k ≤ area_blocks s * k = mul-le-mul_right k (omega (arith, low, start)) in
-    let fits : p.block * k + k ≤ min device.size (2 ^ 54) = omega (arith, most, whole, small) in
+    let whole : p.block * k + k ≤ device.size = tree-room s valid device.size room p.block here.from here.below in
+    let small : p.block * k + k ≤ 2 ^ 54 = tree-room s valid (2 ^ 54) valid.tree_fits p.block here.from here.below in
+    let fits : p.block * k + k ≤ min device.size (2 ^ 54) = omega (arith, whole, small) in
     rw same fits)
 
 module _ (s : ShapeRecord) (salt : List ℕ) where
@@ -101,13 +98,14 @@ module _ (s : ShapeRecord) (salt : List ℕ) where
         }
 
     -- and the last ones
-    pub compared-all : IsShape s → s.start ≡ 1 → x.left ≡ 0 → out ≡ last_completed x → (digest : List ℕ) → digest ≡ built_root x → IsTreeCompared s salt data_dev hash_dev data' hash'' next digest
-    compared-all valid start none is digest root_is =
+    pub compared-all : IsShape s → x.left ≡ 0 → out ≡ last_completed x → (digest : List ℕ) → digest ≡ built_root x → IsTreeCompared s salt data_dev hash_dev data' hash'' next digest
+    compared-all valid none is digest root_is =
         let t = here.taken in
         let b0 = begun_builder s salt in
         let are = digests-all s salt data_dev data' x t valid none in
         let built = builds-area s valid salt t.digests are in
         record {
+          valid = valid;
           data_read = read-all s salt data_dev data' x t valid none;
           hash_read = read-then (area_blocks s) (ap (λ ps. length (completed b0 t.digests) + length ps) is ∙ length-all s salt data_dev data' x t valid none);
           root = λ steady. root_is ∙ ap built_root t.after ∙ built.root ∙ ap (root s.hash_block salt) (over-all s salt data_dev data' x t valid none steady);
@@ -117,31 +115,30 @@ module _ (s : ShapeRecord) (salt : List ℕ) where
               let least : IsLeastDiffering device (numbered s.start (area s.hash_block salt t.digests)) next =
               least-permutation device (completed b0 t.digests ++ last_completed (pushed b0 t.digests)) (numbered s.start (area s.hash_block salt t.digests)) built.area next
               (subst (λ ps. IsLeastDiffering device ps next) all (least-then hash_steady)) in
-              subst (λ (n : ℕ). IsLeastDiffering device (numbered n (area_over s salt data_dev.image)) next) start
-              (subst (λ ds. IsLeastDiffering device (numbered s.start (area s.hash_block salt ds)) next) (over-all s salt data_dev data' x t valid none data_steady) least);
+              subst (λ ds. IsLeastDiffering device (numbered s.start (area s.hash_block salt ds)) next) (over-all s salt data_dev data' x t valid none data_steady) least;
         }
 
 -- what the least differing number says of the blocks as they stand
-module _ (image : List (List ℕ)) (size n : ℕ) (blocks : List (List ℕ)) (count : length blocks ≡ n) where
-  long : length (blocks_at image size 1 n) ≡ n
-  long = length-map-range_with_len (block_at image size) 1 n
+module _ (image : List (List ℕ)) (size first n : ℕ) (blocks : List (List ℕ)) (count : length blocks ≡ n) where
+  long : length (blocks_at image size first n) ≡ n
+  long = length-map-range_with_len (block_at image size) first n
 
-  at : (i : ℕ) → i < n → get_or (blocks_at image size 1 n) i [] ≡ block_at image size (1 + i)
-  at i inside = get_or-map-range_with_len (block_at image size) 1 n i (1 + i) [] inside refl
+  at : (i : ℕ) → i < n → get_or (blocks_at image size first n) i [] ≡ block_at image size (first + i)
+  at i inside = get_or-map-range_with_len (block_at image size) first n i (first + i) [] inside refl
 
-  pub stands-none : IsLeastDiffering (block_at image size) (numbered 1 blocks) None → blocks_at image size 1 n ≡ blocks
+  pub stands-none : IsLeastDiffering (block_at image size) (numbered first blocks) None → blocks_at image size first n ≡ blocks
   stands-none none =
-      ext_get_or [] (blocks_at image size 1 n) blocks (long ∙ sym count)
-      (λ i inside. let here : i < n = omega (arith, long) in at i here ∙ same-inside 1 blocks (numbered 1 blocks) (IsPermutation-refl (numbered 1 blocks)) (block_at image size) none i (omega (arith, count)))
+      ext_get_or [] (blocks_at image size first n) blocks (long ∙ sym count)
+      (λ i inside. let here : i < n = omega (arith, long) in at i here ∙ same-inside first blocks (numbered first blocks) (IsPermutation-refl (numbered first blocks)) (block_at image size) none i (omega (arith, count)))
 
-  pub differs-least : (m : ℕ) → IsLeastDiffering (block_at image size) (numbered 1 blocks) (Some m) → (k : ℕ) × ((m ≡ 1 + k) × FirstDiffer (blocks_at image size 1 n) blocks k)
-  differs-least m first =
-      let all = IsPermutation-refl (numbered 1 blocks) in
-      let among = least-among 1 blocks (numbered 1 blocks) all (block_at image size) m first in
-      let k : ℕ = m - 1 in
-      let is : m ≡ 1 + k = omega (arith, among.0) in
+  pub differs-least : (m : ℕ) → IsLeastDiffering (block_at image size) (numbered first blocks) (Some m) → (k : ℕ) × ((m ≡ first + k) × FirstDiffer (blocks_at image size first n) blocks k)
+  differs-least m least =
+      let all = IsPermutation-refl (numbered first blocks) in
+      let among = least-among first blocks (numbered first blocks) all (block_at image size) m least in
+      let k : ℕ = m - first in
+      let is : m ≡ first + k = omega (arith, among.0) in
       let low : k < length blocks = omega (arith, among.0, among.1) in
-      let found = least-inside 1 blocks (numbered 1 blocks) all (block_at image size) k (subst (λ (j : ℕ). IsLeastDiffering (block_at image size) (numbered 1 blocks) (Some j)) is first) low in
+      let found = least-inside first blocks (numbered first blocks) all (block_at image size) k (subst (λ (j : ℕ). IsLeastDiffering (block_at image size) (numbered first blocks) (Some j)) is least) low in
       let below : k < n = omega (arith, count, low) in (
         k,
         (
@@ -149,12 +146,12 @@ module _ (image : List (List ℕ)) (size n : ℕ) (blocks : List (List ℕ)) (co
           record {
             inside = omega (arith, long, below);
             above =
-                let front : length (take k (blocks_at image size 1 n)) ≡ k = length-take-le k (blocks_at image size 1 n) (omega (arith, long, below)) in
+                let front : length (take k (blocks_at image size first n)) ≡ k = length-take-le k (blocks_at image size first n) (omega (arith, long, below)) in
                 let front2 : length (take k blocks) ≡ k = length-take-le k blocks (omega (arith, low)) in
-                ext_get_or [] (take k (blocks_at image size 1 n)) (take k blocks) (front ∙ sym front2)
+                ext_get_or [] (take k (blocks_at image size first n)) (take k blocks) (front ∙ sym front2)
                 (λ i inside.
                 let less : i < k = omega (arith, front) in
-                get_or-take k (blocks_at image size 1 n) i [] less ∙ at i (omega (arith, less, below)) ∙ found.1 i less ∙ sym (get_or-take k blocks i [] less));
+                get_or-take k (blocks_at image size first n) i [] less ∙ at i (omega (arith, less, below)) ∙ found.1 i less ∙ sym (get_or-take k blocks i [] less));
             differ = λ equal. found.0 (sym (at k below) ∙ equal);
           },
         ),

@@ -18,8 +18,8 @@ use Rattle.hash_tree.proofs.lemmas.PlacingLemmas.{length-numbered}
 use Rattle.verity_format.specs.Blocks.{IsFullRead, blocks_at}
 use Rattle.verity_format.specs.Image.{data_sectors, digests_of}
 use Rattle.verity_format.specs.Growth.{IsDigest, IsRunTaken, IsTaken}
-use Rattle.verity_format.proofs.DeviceLemmas.{full_read-none, full_read-then, steady-then}
-use Rattle.verity_format.proofs.RunLemmas.{blocks-more, sectors-more}
+use Rattle.verity_format.proofs.lemmas.DeviceLemmas.{full_read-none, full_read-then, steady-then}
+use Rattle.verity_format.proofs.lemmas.RunLemmas.{blocks-more, sectors-more}
 
 module _ (s : ShapeRecord) (salt : List ℕ) where
   -- no block yet

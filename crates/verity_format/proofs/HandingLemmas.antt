@@ -12,7 +12,7 @@ use Rattle.hash_tree.specs.Tree.{cut}
 use Rattle.hash_tree.proofs.lemmas.BuilderLemmas.{completed-append, completed-none, left-begun, left-pushed, pushed-append, pushed-none}
 use Rattle.verity_format.specs.Handing.{AreReadsFrom, AsksOnce, GivesRun, HandsBlocks, HandsGrowth, HandsPart, HandsSome, HandsTree, digests_read, tree_blocks, writes_of}
 use Rattle.verity_format.specs.Image.{data_sectors}
-use Rattle.verity_format.proofs.RunLemmas.{sectors-more}
+use Rattle.verity_format.proofs.lemmas.RunLemmas.{sectors-more}
 
 pub writes-append : (size : ℕ) (ps qs : List PlacedRecord) → writes_of size (ps ++ qs) ≡ writes_of size ps ++ writes_of size qs
 writes-append size [] qs = refl

@@ -1,10 +1,6 @@
+pub mod lemmas
 pub mod FieldLemmas
-pub mod SpellingLemmas
-pub mod DeviceLemmas
 pub mod BlockLemmas
-pub mod AreaLemmas
-pub mod SizeLemmas
-pub mod RunLemmas
 pub mod GrowthLemmas
 pub mod ComparingLemmas
 pub mod WritingLemmas
@@ -12,4 +8,5 @@ pub mod HandingLemmas
 pub mod RefusalLemmas
 pub mod FormattingLemmas
 pub mod VerifyingLemmas
+pub mod LineLemmas
 mod WorkedValueLemmas

@@ -1,11 +1,11 @@
 -- Hash blocks compared with those that stand on a device.
 use Rattle.std.specs.Prelude.{◌≡◌, ℕ, ◌+◌, ◌*◌, ◌/◌, ◌^◌, ◌≤◌, min, IsTrue, Option, List, ◌++◌, length}
 use Rattle.block_device.specs.Device.{Device}
-use Rattle.tree_shape.specs.Shape.{ShapeRecord, blocks_sectors, area_blocks}
+use Rattle.tree_shape.specs.Shape.{IsShape, ShapeRecord}
 use Rattle.hash_tree.specs.Building.{BuilderRecord, PlacedRecord, begun_builder, completed, numbered}
 use Rattle.hash_tree.specs.Placing.{IsLeastDiffering}
 use Rattle.verity_format.specs.Blocks.{IsFullRead, block_at}
-use Rattle.verity_format.specs.Image.{data_sectors, area_over, root_over}
+use Rattle.verity_format.specs.Image.{data_sectors, area_sectors, area_over, root_over}
 use Rattle.verity_format.specs.Growth.{IsTaken}
 
 -- a block of that size that lies on the device
@@ -31,10 +31,11 @@ pub record IsComparing (shape : ShapeRecord) (salt : List ℕ) (data_dev hash_de
 -- All data blocks and all hash blocks of the tree were read, each once, and no call failed. Over steady devices this
 -- is the least hash block that differs from the tree over the data, and its root.
 pub record IsTreeCompared (shape : ShapeRecord) (salt : List ℕ) (data_dev hash_dev data_dev' hash_dev' : Device) (least : Option ℕ) (digest : List ℕ) : Type 0 where
+  pub valid : IsShape shape
   pub data_read : IsFullRead data_dev (data_sectors shape) data_dev'
-  pub hash_read : IsFullRead hash_dev (blocks_sectors (area_blocks shape) shape.hash_block) hash_dev'
+  pub hash_read : IsFullRead hash_dev (area_sectors shape) hash_dev'
   pub root : IsTrue data_dev.steady → digest ≡ root_over shape salt data_dev.image
-  pub found : IsTrue data_dev.steady → IsTrue hash_dev.steady → IsLeastDiffering (block_at hash_dev.image shape.hash_block) (numbered 1 (area_over shape salt data_dev.image)) least
+  pub found : IsTrue data_dev.steady → IsTrue hash_dev.steady → IsLeastDiffering (block_at hash_dev.image shape.hash_block) (numbered shape.start (area_over shape salt data_dev.image)) least
 
 -- ---- calls, by what a proof sees of the devices: as they were before, and then after
 

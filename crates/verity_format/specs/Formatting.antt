@@ -1,7 +1,7 @@
 -- When formatting is refused, and what each fault says.
 use Rattle.std.specs.Prelude.{◌≡◌, ◌⊎◌, ℕ, ◌/◌, true, false, not, nat_lt, Option, Some, None, is_some, if◌then◌else◌, IsTrue, List, drop, Result, Err, IfOk, IfErr}
 use Rattle.block_device.specs.Device.{Device, HasFailed, IsWritten}
-use Rattle.tree_shape.specs.Shape.{first_fault}
+use Rattle.tree_shape.specs.Shape.{ShapeRecord, first_fault}
 use Rattle.verity_format.specs.declared.access.TreeFault.{TreeFault}
 use Rattle.verity_format.specs.declared.access.TreeFault.TheVariants as tree
 use Rattle.verity_format.specs.declared.formatting.FormatFault.{FormatFault}
@@ -25,14 +25,19 @@ abbrev pub format_fault_of : TreeFault → FormatFault
 format_fault_of tree.Device = DeviceFailed
 format_fault_of tree.NoMemory = NoMemory
 
+-- Why no tree is made that needs so many sectors of the hash device: the first of these that holds.
+abbrev pub room_refusal : ShapeRecord → ℕ → Device → Device → Option FormatFault
+room_refusal shape needed data_dev hash =
+    if nat_lt data_dev.size (data_sectors shape) then Some DataTooSmall
+    else if nat_lt hash.size needed then Some (HashTooSmall needed)
+    else if not hash.may_write then Some HashReadOnly
+    else None
+
 -- Why nothing is formatted: the first of these that holds.
 unfoldable pub format_refusal : SuperRecord → Device → Device → Option FormatFault
 format_refusal s data_dev hash =
     if is_some (first_fault (shape_of s)) then Some Shape
-    else if nat_lt data_dev.size (data_sectors (shape_of s)) then Some DataTooSmall
-    else if nat_lt hash.size (image_sectors (shape_of s)) then Some (HashTooSmall (image_sectors (shape_of s)))
-    else if not hash.may_write then Some HashReadOnly
-    else None
+    else room_refusal (shape_of s) (image_sectors (shape_of s)) data_dev hash
 
 -- the data device failed: of the hash device at most the tree's blocks were written
 pub record FailsAtData (s : SuperRecord) (data_dev hash data_dev' hash' : Device) : Type 0 where

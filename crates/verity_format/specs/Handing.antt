@@ -111,7 +111,7 @@ pub record HandsPart {D H : Type 0} (asks : D → Call → D → Type 0) (does :
   pub rest : AsksOnce asks between d'
   pub stopped : StopsHanding does shape salt (digests_read salt shape.data_block reads) h h'
 
-abbrev pub HandsTreeOver : {D H : Type 0} → (D → Call → D → Type 0) → (H → Call → H → Type 0) → ShapeRecord → List ℕ → D → H → D → H → Result (List ℕ) TreeFault → Type 0
+abbrev pub HandsTreeOver : {D H F : Type 0} → (D → Call → D → Type 0) → (H → Call → H → Type 0) → ShapeRecord → List ℕ → D → H → D → H → Result (List ℕ) F → Type 0
 HandsTreeOver asks does shape salt d h d' h' (Ok root) = HandsTree asks does shape salt d h d' h' root
 HandsTreeOver asks does shape salt d h d' h' (Err fault) = HandsPart asks does shape salt d h d' h'
 

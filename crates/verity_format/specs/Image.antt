@@ -27,6 +27,18 @@ data_sectors shape = blocks_sectors shape.blocks shape.data_block
 abbrev pub tree_sectors : ShapeRecord → ℕ
 tree_sectors shape = blocks_sectors (area_end shape) shape.hash_block
 
+-- how many sectors the tree's hash blocks take
+abbrev pub area_sectors : ShapeRecord → ℕ
+area_sectors shape = blocks_sectors (area_blocks shape) shape.hash_block
+
+-- the sectors of the tree over a data image
+abbrev pub tree_over : ShapeRecord → List ℕ → List (List ℕ) → List (List ℕ)
+tree_over shape salt data_image = cut_into (area_sectors shape) (concat (area_over shape salt data_image))
+
+-- a hash image with the tree over a data image from hash block `start` on; all else is as it was
+abbrev pub with_tree : ShapeRecord → List ℕ → List (List ℕ) → List (List ℕ) → List (List ℕ)
+with_tree shape salt data_image hash_image = spliced hash_image (blocks_sectors shape.start shape.hash_block) (tree_over shape salt data_image)
+
 -- how many sectors hash block 0 takes
 abbrev pub first_sectors : SuperRecord → ℕ
 first_sectors s = s.hash_block / 512

@@ -14,3 +14,4 @@ pub mod Comparing
 pub mod Writing
 pub mod Handing
 pub mod Premises
+pub mod Trees

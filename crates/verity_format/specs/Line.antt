@@ -1,24 +1,51 @@
--- The table line that opens a formatted image.
-use Rattle.std.specs.Prelude.{ℕ, List, [], ◌∷◌, ◌++◌, codes, decimal}
-use Rattle.hex.specs.Hex.{encode_lower}
-use Rattle.tree_shape.specs.declared.algorithm.Algorithm.TheVariants.{Sha256}
-use Rattle.tree_shape.specs.Algorithms.{algorithm_name}
-use Rattle.verity_format.specs.Superblock.{SuperRecord, shape_of}
+-- The line of a table that opens a verity image, and what such a text reads as.
+use Rattle.std.specs.Prelude.{◌≡◌, ℕ, ◌^◌, ◌<◌, false, true, IsTrue, List, [], ◌∷◌, length, Ok}
+use Rattle.hex.specs.Hex.{IsBytes}
+use Rattle.dm_table.specs.declared.table.Line.{Line}
+use Rattle.dm_table.specs.declared.table.Target.TheVariants.{Verity as verity_target}
+use Rattle.dm_table.specs.Names.{is_device}
+use Rattle.dm_table.specs.TableText.{table_of}
+use Rattle.table_printer.specs.Print.{line_text}
+pub use Rattle.table_printer.specs.ArgumentWords.{salt_word}
+use Rattle.verity_format.specs.Superblock.{SuperRecord, IsSuperblock, shape_of}
 use Rattle.verity_format.specs.Image.{data_sectors}
 
--- a salt in hexadecimal digits, or "-" where it is empty
-abbrev pub salt_word : List ℕ → List ℕ
-salt_word [] = codes "-"
-salt_word (byte ∷ more) = encode_lower (byte ∷ more)
+-- all data blocks of an image, from sector 0 on, checked against the tree that begins at that block of the hash device
+abbrev pub verity_line : SuperRecord → List ℕ → List ℕ → List ℕ → ℕ → Line
+verity_line s data_name hash_name root start = record {
+  start = 0;
+  length = data_sectors (shape_of s);
+  target = verity_target (record {
+    «data» = data_name;
+    hash = hash_name;
+    data_block = s.data_block;
+    hash_block = s.hash_block;
+    blocks = s.blocks;
+    start = start;
+    root = root;
+    salt = s.salt;
+    ignore_zero_blocks = false;
+  });
+}
 
--- a space and a word
-abbrev pub spaced : List ℕ → List ℕ
-spaced word = 32 ∷ word
+-- its text, without a newline
+abbrev pub verity_text : SuperRecord → List ℕ → List ℕ → List ℕ → ℕ → List ℕ
+verity_text s data_name hash_name root start = line_text true (verity_line s data_name hash_name root start)
 
--- From sector 0 on, as many sectors as the data blocks have: version 1, the two devices, the block
--- sizes, the number of data blocks, the tree's first hash block, the algorithm, the root and the salt.
+-- of an image whose tree follows its superblock, at hash block 1
 abbrev pub table_text : SuperRecord → List ℕ → List ℕ → List ℕ → List ℕ
-table_text s data_name hash_name root =
-    codes "0" ++ spaced (decimal (data_sectors (shape_of s))) ++ spaced (codes "verity") ++ spaced (codes "1") ++ spaced data_name ++ spaced hash_name
-    ++ spaced (decimal s.data_block) ++ spaced (decimal s.hash_block) ++ spaced (decimal s.blocks) ++ spaced (codes "1") ++ spaced (algorithm_name Sha256)
-    ++ spaced (encode_lower root) ++ spaced (salt_word s.salt)
+table_text s data_name hash_name root = verity_text s data_name hash_name root 1
+
+-- a superblock, the device arguments of its two devices, and a root digest
+pub record AreLineParts (s : SuperRecord) (data_name hash_name root : List ℕ) : Type 0 where
+  pub superblock : IsSuperblock s
+  pub salt : IsBytes s.salt
+  pub data_is : IsTrue (is_device data_name)
+  pub hash_is : IsTrue (is_device hash_name)
+  pub root_size : length root ≡ 32
+  pub root_bytes : IsBytes root
+
+-- wherever the tree begins, the text is read as that one line
+abbrev pub TableLinesReadBack : Type 0
+TableLinesReadBack = (s : SuperRecord) (data_name hash_name root : List ℕ) (start : ℕ) → AreLineParts s data_name hash_name root → start < 2 ^ 64
+    → table_of (verity_text s data_name hash_name root start) ≡ Ok (verity_line s data_name hash_name root start ∷ [])

@@ -5,7 +5,7 @@ use Rattle.block_device.specs.Device.{Device}
 use Rattle.tree_shape.specs.Shape.{ShapeRecord, IsShape, is_block_size, levels}
 use Rattle.hash_tree.specs.Building.{BuilderRecord, PlacedRecord}
 use Rattle.verity_format.specs.Comparing.{LiesOn}
-use Rattle.verity_format.specs.Image.{data_sectors, tree_sectors, image_sectors}
+use Rattle.verity_format.specs.Image.{data_sectors, tree_sectors}
 use Rattle.verity_format.specs.Writing.{MayStand}
 
 -- block i of that size lies on the device
@@ -48,15 +48,13 @@ pub record CanTake (shape : ShapeRecord) (device : Device) (builder : BuilderRec
   pub run : shape.data_block ≤ bytes
   pub room : data_sectors shape ≤ device.size
 
--- the data blocks and the tree, which begins at hash block 1, lie on the two devices
+-- the data blocks and the tree lie on the two devices
 pub record HaveTree (shape : ShapeRecord) (data_dev hash_dev : Device) : Type 0 where
-  pub start : shape.start ≡ 1
   pub data_room : data_sectors shape ≤ data_dev.size
   pub tree_room : tree_sectors shape ≤ hash_dev.size
 
--- the data blocks lie on a device, and the tree, which begins at hash block 1, can be written to the other one
+-- they lie there, and the hash device may be written
 pub record CanWriteTree (shape : ShapeRecord) (data_dev hash_dev : Device) : Type 0 where
-  pub start : shape.start ≡ 1
   pub data_room : data_sectors shape ≤ data_dev.size
-  pub tree_room : image_sectors shape ≤ hash_dev.size
+  pub tree_room : tree_sectors shape ≤ hash_dev.size
   pub allowed : IsTrue hash_dev.may_write

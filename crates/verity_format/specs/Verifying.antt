@@ -1,38 +1,39 @@
 -- What is found on a data device and a hash device, and when they cannot be compared.
-use Rattle.std.specs.Prelude.{◌≡◌, ◌≢◌, ◌⊎◌, ℕ, ◌+◌, ◌<◌, ◌≤◌, ◌==◌, ◌||◌, nat_lt, Bool, Option, Some, None, if◌then◌else◌, IsTrue, List}
+use Rattle.std.specs.Prelude.{◌≡◌, ◌≢◌, ◌⊎◌, ℕ, ◌+◌, ◌<◌, ◌==◌, ◌||◌, nat_lt, Bool, true, false, Option, Some, None, if◌then◌else◌, IsTrue, List}
 use Rattle.block_device.specs.Device.{Device, HasFailed}
-use Rattle.tree_shape.specs.Shape.{blocks_sectors, area_blocks}
+use Rattle.tree_shape.specs.Shape.{ShapeRecord, area_blocks}
 use Rattle.hash_tree.specs.Difference.{FirstDiffer}
 use Rattle.verity_format.specs.declared.access.TreeFault.{TreeFault}
 use Rattle.verity_format.specs.declared.access.TreeFault.TheVariants as tree
 use Rattle.verity_format.specs.declared.decoding.SuperFault.{SuperFault}
+use Rattle.verity_format.specs.declared.tree.VerityTree.{VerityTree}
 use Rattle.verity_format.specs.declared.verifying.Verdict.{Verdict}
 use Rattle.verity_format.specs.declared.verifying.Verdict.TheVariants.{Matches, RootDiffers, AreaDiffers}
 use Rattle.verity_format.specs.declared.verifying.VerifyFault.{VerifyFault}
 use Rattle.verity_format.specs.declared.verifying.VerifyFault.TheVariants.{Super, TooSmall, Device as DeviceFailed, NoMemory}
 use Rattle.verity_format.specs.Superblock.{SuperRecord, shape_of, Carries, super_fault, read_of}
 use Rattle.verity_format.specs.Blocks.{IsFullRead, block_at, blocks_at}
-use Rattle.verity_format.specs.Image.{data_sectors, tree_sectors, area_over, root_over}
+use Rattle.verity_format.specs.Image.{area_sectors, data_sectors, tree_sectors, area_over, root_over}
 
--- the hash blocks of a superblock's tree as they stand on the hash device
-abbrev pub stored_area : SuperRecord → List (List ℕ) → List (List ℕ)
-stored_area s image = blocks_at image s.hash_block 1 (area_blocks (shape_of s))
+-- the hash blocks of a tree as they are on the hash device
+abbrev pub stored_area : ShapeRecord → List (List ℕ) → List (List ℕ)
+stored_area shape image = blocks_at image shape.hash_block shape.start (area_blocks shape)
 
--- the hash blocks that stand on the hash device are those of the tree over the data image
-abbrev pub AreaStands : SuperRecord → List (List ℕ) → List (List ℕ) → Type 0
-AreaStands s data_image hash_image = stored_area s hash_image ≡ area_over (shape_of s) s.salt data_image
+-- the hash blocks on the hash device are those of the tree over the data image
+abbrev pub IsTreeStored : ShapeRecord → List ℕ → List (List ℕ) → List (List ℕ) → Type 0
+IsTreeStored shape salt data_image hash_image = stored_area shape hash_image ≡ area_over shape salt data_image
 
--- What is found: the area is looked at first, and the root last. Hash blocks are counted from the
--- beginning of the hash device, so that the area's first is block 1.
-abbrev pub IsVerdict : SuperRecord → List (List ℕ) → List (List ℕ) → List ℕ → Verdict → Type 0
-IsVerdict s data_image hash_image root Matches = AreaStands s data_image hash_image × (root_over (shape_of s) s.salt data_image ≡ root)
-IsVerdict s data_image hash_image root RootDiffers = AreaStands s data_image hash_image × (root_over (shape_of s) s.salt data_image ≢ root)
-IsVerdict s data_image hash_image root (AreaDiffers block) =
-    (k : ℕ) × ((block ≡ 1 + k) × FirstDiffer (stored_area s hash_image) (area_over (shape_of s) s.salt data_image) k)
+-- What is found: the hash blocks are compared first, and the root last. Hash blocks are counted from the
+-- beginning of the hash device, so that the tree's first is block `start`.
+abbrev pub IsVerdict : ShapeRecord → List ℕ → List (List ℕ) → List (List ℕ) → List ℕ → Verdict → Type 0
+IsVerdict shape salt data_image hash_image root Matches = IsTreeStored shape salt data_image hash_image × (root_over shape salt data_image ≡ root)
+IsVerdict shape salt data_image hash_image root RootDiffers = IsTreeStored shape salt data_image hash_image × (root_over shape salt data_image ≢ root)
+IsVerdict shape salt data_image hash_image root (AreaDiffers block) =
+    (k : ℕ) × ((block ≡ shape.start + k) × FirstDiffer (stored_area shape hash_image) (area_over shape salt data_image) k)
 
 -- the data or the tree goes past its device
-abbrev pub is_too_small : SuperRecord → Device → Device → Bool
-is_too_small s data_dev hash_dev = nat_lt data_dev.size (data_sectors (shape_of s)) || nat_lt hash_dev.size (tree_sectors (shape_of s))
+abbrev pub is_too_small : ShapeRecord → Device → Device → Bool
+is_too_small shape data_dev hash_dev = nat_lt data_dev.size (data_sectors shape) || nat_lt hash_dev.size (tree_sectors shape)
 
 -- a wrong field of the superblock, else a device that is too small
 abbrev pub refusal_of : Option SuperFault → Bool → Option VerifyFault
@@ -42,7 +43,7 @@ refusal_of None small = if small then Some TooSmall else None
 -- Why the devices cannot be compared, by their sizes and the first sector of the hash device.
 unfoldable pub verify_refusal : Device → Device → List ℕ → Option VerifyFault
 verify_refusal data_dev hash_dev sector =
-    if hash_dev.size == 0 then Some TooSmall else refusal_of (super_fault sector) (is_too_small (read_of sector) data_dev hash_dev)
+    if hash_dev.size == 0 then Some TooSmall else refusal_of (super_fault sector) (is_too_small (shape_of (read_of sector)) data_dev hash_dev)
 
 -- that may have been read as the first sector: of a steady device, the one that stands there
 abbrev pub IsFirstSector : Device → List ℕ → Type 0
@@ -72,9 +73,25 @@ IsVerifyCause data_dev hash_dev data_dev' hash_dev' NoMemory = (data_dev'.failur
 IsVerifyCause data_dev hash_dev data_dev' hash_dev' (Super f) = IsRefusedSuper data_dev hash_dev (Super f)
 IsVerifyCause data_dev hash_dev data_dev' hash_dev' TooSmall = IsRefusedSuper data_dev hash_dev TooSmall
 
+-- The data and the tree lie on their devices. No call failed, and each sector of the data blocks and of the tree's hash blocks
+-- was read once. Over steady devices the verdict is true of what the devices hold.
+pub record IsTreeFound (shape : ShapeRecord) (salt : List ℕ) (data_dev hash_dev data_dev' hash_dev' : Device) (root : List ℕ) (verdict : Verdict) : Type 0 where
+  pub fit : is_too_small shape data_dev hash_dev ≡ false
+  pub data_read : IsFullRead data_dev (data_sectors shape) data_dev'
+  pub hash_read : IsFullRead hash_dev (area_sectors shape) hash_dev'
+  pub found : IsTrue data_dev.steady → IsTrue hash_dev.steady → IsVerdict shape salt data_dev.image hash_dev.image root verdict
+
+-- why a tree isn't compared: one of the two devices failed in the call, memory ran out and neither failed, or the data or the
+-- tree goes past its device and neither was read
+abbrev pub IsTreeVerifyCause : ShapeRecord → Device → Device → Device → Device → VerifyFault → Type 0
+IsTreeVerifyCause shape data_dev hash_dev data_dev' hash_dev' DeviceFailed = HasFailed data_dev data_dev' ⊎ HasFailed hash_dev hash_dev'
+IsTreeVerifyCause shape data_dev hash_dev data_dev' hash_dev' NoMemory = (data_dev'.failures ≡ data_dev.failures) × (hash_dev'.failures ≡ hash_dev.failures)
+IsTreeVerifyCause shape data_dev hash_dev data_dev' hash_dev' (Super f) = ⊥
+IsTreeVerifyCause shape data_dev hash_dev data_dev' hash_dev' TooSmall = (is_too_small shape data_dev hash_dev ≡ true) × (data_dev' ≡ data_dev) × (hash_dev' ≡ hash_dev)
+
 -- how many sectors of the hash device were read: the superblock's and those of the tree's hash blocks
 abbrev pub hash_sectors_read : SuperRecord → ℕ
-hash_sectors_read s = 1 + blocks_sectors (area_blocks (shape_of s)) s.hash_block
+hash_sectors_read s = 1 + area_sectors (shape_of s)
 
 -- No refusal applies to the sector that was read as the first. No call failed, each sector of the data blocks was read
 -- once, and so was each of the superblock and the hash blocks. Over steady devices the verdict is what stands there.
@@ -84,25 +101,7 @@ pub record IsFound (data_dev hash_dev data_dev' hash_dev' : Device) (root : List
   pub fit : verify_refusal data_dev hash_dev sector ≡ None
   pub data_read : IsFullRead data_dev (data_sectors (shape_of (read_of sector))) data_dev'
   pub hash_read : IsFullRead hash_dev (hash_sectors_read (read_of sector)) hash_dev'
-  pub found : IsTrue data_dev.steady → IsTrue hash_dev.steady → IsVerdict (read_of sector) data_dev.image hash_dev.image root verdict
-
--- the record in the sector that was read, where no refusal applies to it
-pub record IsFoundIn (data_dev hash_dev : Device) (sector : List ℕ) (s : SuperRecord) : Type 0 where
-  pub first : IsFirstSector hash_dev sector
-  pub value : s ≡ read_of sector
-  pub fit : verify_refusal data_dev hash_dev sector ≡ None
-  pub data_fits : data_sectors (shape_of s) ≤ data_dev.size
-  pub tree_fits : tree_sectors (shape_of s) ≤ hash_dev.size
-
-abbrev pub IsFoundSuper : Device → Device → SuperRecord → Type 0
-IsFoundSuper data_dev hash_dev s = (sector : List ℕ) × IsFoundIn data_dev hash_dev sector s
-
--- why there is no superblock: the hash device failed in the call, or a refusal applies
-abbrev pub IsSuperCause : Device → Device → Device → VerifyFault → Type 0
-IsSuperCause data_dev hash_dev hash_dev' DeviceFailed = HasFailed hash_dev hash_dev'
-IsSuperCause data_dev hash_dev hash_dev' NoMemory = ⊥
-IsSuperCause data_dev hash_dev hash_dev' (Super f) = IsRefusedSuper data_dev hash_dev (Super f)
-IsSuperCause data_dev hash_dev hash_dev' TooSmall = IsRefusedSuper data_dev hash_dev TooSmall
+  pub found : IsTrue data_dev.steady → IsTrue hash_dev.steady → IsVerdict (shape_of (read_of sector)) (read_of sector).salt data_dev.image hash_dev.image root verdict
 
 -- what stands for the fault of a tree
 abbrev pub verify_fault_of : TreeFault → VerifyFault
@@ -114,6 +113,14 @@ verify_fault_of tree.NoMemory = NoMemory
 -- both were compared, and that was found
 abbrev pub FindsBoth : {D H : Type 0} → (D → Device) → (H → Device) → D → H → D → H → List ℕ → Verdict → Type 0
 FindsBoth data_state hash_state d h d' h' root verdict = IsFound (data_state d) (hash_state h) (data_state d') (hash_state h') root verdict
+
+-- a tree was compared with the one on the hash device, and that was found
+abbrev pub FindsTree : {D H : Type 0} → (D → Device) → (H → Device) → VerityTree → D → H → D → H → List ℕ → Verdict → Type 0
+FindsTree data_state hash_state tree d h d' h' root verdict = IsTreeFound tree.shape tree.salt (data_state d) (hash_state h) (data_state d') (hash_state h') root verdict
+
+-- why it wasn't
+abbrev pub FailsToFindTree : {D H : Type 0} → (D → Device) → (H → Device) → VerityTree → D → H → D → H → VerifyFault → Type 0
+FailsToFindTree data_state hash_state tree d h d' h' fault = IsTreeVerifyCause tree.shape (data_state d) (hash_state h) (data_state d') (hash_state h') fault
 
 -- why they weren't
 abbrev pub FailsToVerify : {D H : Type 0} → (D → Device) → (H → Device) → D → H → D → H → VerifyFault → Type 0

@@ -1,30 +1,30 @@
 -- Hash blocks written to a device.
 use Rattle.std.specs.Prelude.{◌≡◌, ◌⊎◌, ℕ, ◌+◌, ◌*◌, ◌/◌, ◌≤◌, IsTrue, All, List, length, take, drop}
 use Rattle.block_device.specs.Device.{Device, IsSameDevice, HasFailed, capped}
-use Rattle.tree_shape.specs.Shape.{ShapeRecord, blocks_sectors, area_blocks}
+use Rattle.tree_shape.specs.Shape.{ShapeRecord, area_blocks}
 use Rattle.hash_tree.specs.Building.{BuilderRecord, PlacedRecord, begun_builder, completed}
 use Rattle.hash_tree.specs.Placing.{written}
 use Rattle.verity_format.specs.declared.access.TreeFault.{TreeFault}
 use Rattle.verity_format.specs.declared.access.TreeFault.TheVariants.{Device as DeviceFailed, NoMemory}
-use Rattle.verity_format.specs.Blocks.{IsOnlyRead, IsFullRead, block_at, blocks_at}
+use Rattle.verity_format.specs.Blocks.{IsOnlyRead, IsFullRead, block_at}
 use Rattle.verity_format.specs.Comparing.{LiesOn}
 use Rattle.verity_format.specs.Growth.{IsTaken}
-use Rattle.verity_format.specs.Image.{data_sectors, image_sectors, area_over, root_over}
+use Rattle.verity_format.specs.Image.{area_sectors, data_sectors, root_over, tree_sectors, with_tree}
 
 -- a block of that size that lies on the device
 abbrev pub MayStand : Device → ℕ → PlacedRecord → Type 0
 MayStand device size p = (length p.bytes ≡ size) × LiesOn device size p
 
--- a block behind hash block 0 and within the first sectors
-abbrev pub StandsWithin : ℕ → ℕ → PlacedRecord → Type 0
-StandsWithin size last p = (1 ≤ p.block) × (p.block * (size / 512) + size / 512 ≤ last)
+-- a block from block `first` on, and within the first `last` sectors
+abbrev pub LiesBetween : ℕ → ℕ → ℕ → PlacedRecord → Type 0
+LiesBetween size first last p = (first ≤ p.block) × (p.block * (size / 512) + size / 512 ≤ last)
 
--- At most n blocks of that size were written, each behind hash block 0 and within the first sectors, whether that failed or not.
-pub record IsPartWritten (size last n : ℕ) (old new : Device) : Type 0 where
+-- At most n blocks of that size were written, each from block `first` on and within the first `last` sectors, whether that failed or not.
+pub record IsPartWritten (size first last n : ℕ) (old new : Device) : Type 0 where
   pub same : IsSameDevice old new
   pub reads : new.reads ≡ old.reads
   pub writes : new.writes ≤ old.writes + n * (size / 512)
-  pub before : IsTrue old.steady → take (size / 512) new.image ≡ take (size / 512) old.image
+  pub before : IsTrue old.steady → take (first * (size / 512)) new.image ≡ take (first * (size / 512)) old.image
   pub after : IsTrue old.steady → drop last new.image ≡ drop last old.image
 
 -- these blocks were written, each once, and no call failed
@@ -35,7 +35,7 @@ pub record AreBlocksWritten (size : ℕ) (old : Device) (ps : List PlacedRecord)
 
 -- at most the tree's blocks were written, whether that failed or not
 abbrev pub IsPartOfTree : ShapeRecord → Device → Device → Type 0
-IsPartOfTree shape old new = IsPartWritten shape.hash_block (image_sectors shape) (area_blocks shape) old new
+IsPartOfTree shape old new = IsPartWritten shape.hash_block shape.start (tree_sectors shape) (area_blocks shape) old new
 
 -- the data device was only read, and of the other at most the tree's blocks were written
 pub record IsTreeMoved (shape : ShapeRecord) (data_dev hash_dev data_dev' hash_dev' : Device) : Type 0 where
@@ -45,17 +45,17 @@ pub record IsTreeMoved (shape : ShapeRecord) (data_dev hash_dev data_dev' hash_d
 -- the blocks that the first data blocks completed were written, each once
 pub record IsWriting (shape : ShapeRecord) (salt : List ℕ) (data_dev hash_dev data_dev' hash_dev' : Device) (b : BuilderRecord) : Type 0 where
   pub taken : IsTaken shape salt data_dev data_dev' b
-  pub part : IsPartWritten shape.hash_block (image_sectors shape) (length (completed (begun_builder shape salt) taken.digests)) hash_dev hash_dev'
+  pub part : IsPartWritten shape.hash_block shape.start (tree_sectors shape) (length (completed (begun_builder shape salt) taken.digests)) hash_dev hash_dev'
   pub done : AreBlocksWritten shape.hash_block hash_dev (completed (begun_builder shape salt) taken.digests) hash_dev'
 
 -- All data blocks were read and all blocks of the tree written, each once, and no call failed. Over steady devices
--- the tree over the data stands there, and that is its root.
+-- the hash device holds the tree over the data and is unchanged elsewhere, and that is the tree's root.
 pub record IsTreeWritten (shape : ShapeRecord) (salt : List ℕ) (data_dev hash_dev data_dev' hash_dev' : Device) (digest : List ℕ) : Type 0 where
   pub read : IsFullRead data_dev (data_sectors shape) data_dev'
-  pub writes : capped hash_dev'.writes ≡ capped (hash_dev.writes + blocks_sectors (area_blocks shape) shape.hash_block)
+  pub writes : capped hash_dev'.writes ≡ capped (hash_dev.writes + area_sectors shape)
   pub failures : hash_dev'.failures ≡ hash_dev.failures
   pub root : IsTrue data_dev.steady → digest ≡ root_over shape salt data_dev.image
-  pub tree : IsTrue data_dev.steady → IsTrue hash_dev.steady → blocks_at hash_dev'.image shape.hash_block 1 (area_blocks shape) ≡ area_over shape salt data_dev.image
+  pub image : IsTrue data_dev.steady → IsTrue hash_dev.steady → hash_dev'.image ≡ with_tree shape salt data_dev.image hash_dev.image
 
 -- the data device failed and the hash device didn't, or the hash device failed; where memory ran out neither did
 abbrev pub IsWriteCause : Device → Device → Device → Device → TreeFault → Type 0
@@ -64,9 +64,9 @@ IsWriteCause data_dev hash_dev data_dev' hash_dev' NoMemory = (data_dev'.failure
 
 -- ---- calls, by what a proof sees of the devices: as they were before, and then after
 
--- where each of these blocks lies within the first sectors, nothing else was written
+-- if each of these blocks lies between two places, nothing else was written
 abbrev pub WritesWithin : {H : Type 0} → (H → Device) → ℕ → List PlacedRecord → H → H → Type 0
-WritesWithin state size blocks h h' = (last : ℕ) → All (StandsWithin size last) blocks → IsPartWritten size last (length blocks) (state h) (state h')
+WritesWithin state size blocks h h' = (first last : ℕ) → All (LiesBetween size first last) blocks → IsPartWritten size first last (length blocks) (state h) (state h')
 
 -- the data device was only read, and of the other at most the tree's blocks were written
 abbrev pub MovesTree : {D H : Type 0} → (D → Device) → (H → Device) → ShapeRecord → D → H → D → H → Type 0

@@ -1,5 +1,6 @@
 //! Blocks read from a device, and the tree over a device's blocks.
 ghost use Rattle.std.specs.Prelude.{◌≡◌, ◌^◌, ◌≤◌, OnOk, OnErr, IfOk, is_ok, length, replicate};
+ghost use Rattle.std.specs.Str.{bytes_eq};
 ghost use Rattle.block_device.specs.Call.{DeviceDoes};
 ghost use Rattle.block_device.specs.Device.{HasFailed};
 ghost use Rattle.verity_format.specs.Blocks.{IsOnlyRead, ReadsBlock};
@@ -59,11 +60,18 @@ pub fn tree_sectors(shape: &Shape) -> u64
 }
 
 /// How many sectors hash block 0 and the tree take.
-pub(crate) fn image_sectors(shape: &Shape) -> u64
+pub fn image_sectors(shape: &Shape) -> u64
     ensures { result ≡ image_sectors shape.now }
 {
     let sectors = u64::from(shape.hash_block() / 512);
     (1 + shape.area_blocks()) * sectors
+}
+
+/// Whether two digests are the same.
+pub fn is_same(a: &Digest, b: &Digest) -> bool
+    ensures { result ≡ bytes_eq a.now b.now }
+{
+    a == b
 }
 
 /// So many zero bytes.

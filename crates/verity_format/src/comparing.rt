@@ -46,7 +46,7 @@ fn compare_blocks<H: BlockDev>(
     Ok(least)
 }
 
-/// The least hash block that differs from the tree over the data device, which begins at block 1, and its root.
+/// The least hash block that differs from the tree over the data device, and the tree's root.
 /// The tree is made and compared level by level.
 pub(crate) fn compare_tree<D: BlockDev, H: BlockDev>(
     alloc: Global,

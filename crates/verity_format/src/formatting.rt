@@ -1,14 +1,14 @@
 //! Making a hash image over a data image.
 ghost use Rattle.std.specs.Prelude.{◌≡◌, IfOk, IfErr, length};
-ghost use Rattle.std.specs.Result.{result_err};
 ghost use Rattle.verity_format.specs.Image.{first_block};
 ghost use Rattle.verity_format.specs.FaultNames.{format_number, format_name};
 ghost use Rattle.verity_format.specs.Options.{FormatsWith, HandsWith};
-ghost use Rattle.verity_format.specs.Formatting.{FormatEnds, Formats, RefusesFormat, format_refusal, given_blocks, whole_blocks};
+ghost use Rattle.verity_format.specs.Formatting.{FormatEnds, Formats, RefusesFormat, given_blocks, whole_blocks};
 ghost use Rattle.verity_format.specs.Handing.{MovesImage};
 
 use crate::Superblock;
-use crate::access::{TreeFault, data_sectors, image_sectors, zeros};
+use crate::access::{TreeFault, image_sectors, zeros};
+use crate::making::check_room;
 use crate::superblock::put;
 use crate::writing::write_tree;
 use block_device::{BlockDev, DeviceFault};
@@ -123,8 +123,8 @@ pub fn format<D: BlockDev, H: BlockDev>(
     // where a refusal applies it is answered, and neither device was asked
     ensures refused { RefusesFormat D.state H.state params data_dev.old hash_dev.old data_dev.new hash_dev.new result }
 {
-    check_devices(data_dev, hash_dev, &params)?;
     let shape = params.shape();
+    check_room(data_dev, hash_dev, &shape, image_sectors(&shape))?;
     let first = encoded_block(alloc, &params)?;
     let root = write_tree(alloc, data_dev, hash_dev, &shape, &params.salt())?;
     hash_dev.write(0, &first)?;
@@ -188,28 +188,6 @@ fn whole_blocks(sectors: u64, size: u32) -> u64
         return 0;
     }
     sectors / u64::from(size / 512)
-}
-
-// Whether the devices have room for the blocks and the tree.
-fn check_devices<D: BlockDev, H: BlockDev>(
-    data_dev: &D,
-    hash_dev: &H,
-    params: &Superblock,
-) -> Result<(), FormatFault>
-    ensures { result_err result ≡ format_refusal params.now (D.state data_dev.now) (H.state hash_dev.now) }
-{
-    let shape = params.shape();
-    if data_dev.sectors() < data_sectors(&shape) {
-        return Err(FormatFault::DataTooSmall);
-    }
-    let needed = image_sectors(&shape);
-    if hash_dev.sectors() < needed {
-        return Err(FormatFault::HashTooSmall { needed });
-    }
-    if !hash_dev.writable() {
-        return Err(FormatFault::HashReadOnly);
-    }
-    Ok(())
 }
 
 // Hash block 0: the superblock, and zeros.

@@ -3,7 +3,9 @@ ghost use Rattle.std.specs.Prelude.{◌≡◌, ◌+◌, ◌≤◌, ◌++◌, len
 ghost use Rattle.std.specs.Result.{result_err};
 ghost use Rattle.tree_shape.specs.Shape.{IsShape, first_fault};
 ghost use Rattle.verity_format.specs.Superblock.{shape_of, shape_after, super_of, IsSuperblock, Carries, spelling};
+ghost use Rattle.verity_format.specs.Trees.{superblock_tree, tree_alone};
 
+use crate::VerityTree;
 use std::marker::Model;
 use tree_shape::{Salt, Shape, ShapeFault};
 
@@ -99,6 +101,33 @@ impl Superblock {
         ensures valid { IsShape (shape_of self.now) }
     {
         self.shape
+    }
+
+    /// The tree after the superblock, which begins at hash block 1.
+    pub fn tree(&self) -> VerityTree
+        ensures value { result ≡ superblock_tree self.now }
+        ensures valid { IsShape (shape_of self.now) }
+    {
+        VerityTree {
+            shape: self.shape,
+            salt: self.salt,
+        }
+    }
+
+    /// The tree of the same parts without a superblock before it, which begins at hash block 0.
+    pub fn tree_alone(&self) -> VerityTree
+        ensures value { result ≡ tree_alone self.now }
+        ensures valid { IsShape (tree_alone self.now).shape }
+    {
+        let after = self.shape();
+        let blocks = after.blocks();
+        match Shape::new(after.data_block(), after.hash_block(), blocks, 0) {
+            Ok(shape) => VerityTree {
+                shape,
+                salt: self.salt,
+            },
+            Err(_) => unreachable!(),
+        }
     }
 
     /// The 512 bytes at the beginning of a hash image. Every byte that no field uses is zero.

@@ -1,14 +1,19 @@
-//! The table line of a formatted image.
-ghost use Rattle.std.specs.Prelude.{◌≡◌, ◌++◌, IfOk, OnOk, decimal, string_bytes};
-ghost use Rattle.hex.specs.Hex.{encode_lower};
-ghost use Rattle.verity_format.specs.Line.{table_text, salt_word, spaced};
+//! The line of a table that opens a verity image.
+ghost use Rattle.std.specs.Prelude.{◌≡◌, IfOk};
+ghost use Rattle.verity_format.specs.Line.{table_text, verity_line, verity_text};
 
 use crate::Superblock;
 use crate::access::data_sectors;
+use dm_table::{Line, Name, Target, Verity};
 use std::alloc::{AllocError, Global};
+use table_printer::print_line;
 use tree_shape::Digest;
 
 /// The table line of the image, `0 N verity 1 DATA HASH ..`, without a newline.
+///
+/// # Errors
+///
+/// Memory for the text was refused.
 pub fn table_line(
     alloc: Global,
     superblock: &Superblock,
@@ -18,61 +23,54 @@ pub fn table_line(
 ) -> Result<Vec<u8>, AllocError>
     ensures { IfOk result (λ line. line.items ≡ table_text superblock.now data_name.now hash_name.now root.now) }
 {
+    table_line_at(alloc, superblock, data_name, hash_name, root, 1)
+}
+
+/// The table line of an image whose tree begins at block `start` of the hash device, counted in hash blocks from 0, without a newline.
+///
+/// # Errors
+///
+/// Memory for the text was refused.
+pub fn table_line_at(
+    alloc: Global,
+    superblock: &Superblock,
+    data_name: &[u8],
+    hash_name: &[u8],
+    root: &Digest,
+    start: u64,
+) -> Result<Vec<u8>, AllocError>
+    ensures { IfOk result (λ text. text.items ≡ verity_text superblock.now data_name.now hash_name.now root.now start) }
+{
+    let line = verity_line(alloc, superblock, data_name, hash_name, root, start)?;
+    print_line(alloc, &line, true)
+}
+
+fn verity_line(
+    alloc: Global,
+    superblock: &Superblock,
+    data_name: &[u8],
+    hash_name: &[u8],
+    root: &Digest,
+    start: u64,
+) -> Result<Line, AllocError>
+    ensures { IfOk result (λ line. line ≡ verity_line superblock.now data_name.now hash_name.now root.now start) }
+{
+    let data = Name::new(alloc, data_name)?;
+    let hash = Name::new(alloc, hash_name)?;
     let shape = superblock.shape();
-    let salt = superblock.salt();
-    let mut line = Vec::new(alloc);
-    line.push(b'0')?;
-    push_number(alloc, &mut line, data_sectors(&shape))?;
-    push_word(&mut line, b"verity")?;
-    push_word(&mut line, b"1")?;
-    push_word(&mut line, data_name)?;
-    push_word(&mut line, hash_name)?;
-    push_number(alloc, &mut line, u64::from(superblock.data_block()))?;
-    push_number(alloc, &mut line, u64::from(superblock.hash_block()))?;
-    push_number(alloc, &mut line, superblock.blocks())?;
-    push_word(&mut line, b"1")?;
-    push_word(&mut line, salt.algorithm().name())?;
-    push_digits(alloc, &mut line, root.as_bytes())?;
-    push_salt(alloc, &mut line, salt.bytes())?;
-    Ok(line)
-}
-
-// A space and the word.
-fn push_word(line: &mut Vec<u8>, word: &[u8]) -> Result<(), AllocError>
-    ensures { OnOk result (line.new.items ≡ line.old.items ++ spaced word.now) }
-{
-    line.push(b' ')?;
-    line.extend_from_slice(word)?;
-    Ok(())
-}
-
-fn push_number(alloc: Global, line: &mut Vec<u8>, number: u64) -> Result<(), AllocError>
-    ensures { OnOk result (line.new.items ≡ line.old.items ++ spaced (decimal number)) }
-{
-    let text = number_text(alloc, number)?;
-    push_word(line, text.as_bytes())
-}
-
-fn number_text(alloc: Global, number: u64) -> Result<String, AllocError>
-    ensures { IfOk result (λ t. string_bytes t ≡ decimal number) }
-{
-    format!(in alloc; "{number}")
-}
-
-// A space and the bytes in hexadecimal digits.
-fn push_digits(alloc: Global, line: &mut Vec<u8>, bytes: &[u8]) -> Result<(), AllocError>
-    ensures { OnOk result (line.new.items ≡ line.old.items ++ spaced (encode_lower bytes.now)) }
-{
-    let text = hex::encode(alloc, bytes)?;
-    push_word(line, text.as_bytes())
-}
-
-// A space and the salt's hexadecimal digits, or `-`.
-fn push_salt(alloc: Global, line: &mut Vec<u8>, salt: &[u8]) -> Result<(), AllocError>
-    ensures { OnOk result (line.new.items ≡ line.old.items ++ spaced (salt_word salt.now)) }
-{
-    if salt.is_empty() {
-        return push_word(line, b"-");
-    }
-    push_digits(alloc, line, salt)
+    Ok(Line {
+        start: 0,
+        length: data_sectors(&shape),
+        target: Target::Verity(Verity {
+            data,
+            hash,
+            data_block: superblock.data_block(),
+            hash_block: superblock.hash_block(),
+            blocks: superblock.blocks(),
+            start,
+            root: *root,
+            salt: superblock.salt(),
+            ignore_zero_blocks: false,
+        }),
+    })
 }

@@ -1,17 +1,16 @@
 //! Comparing a hash image with a data image.
 ghost use Rattle.std.specs.Prelude.{◌≡◌, List, ℕ, OnOk, IfOk, IfErr};
-ghost use Rattle.std.specs.Str.{bytes_eq};
-ghost use Rattle.verity_format.specs.Blocks.{IsOnlyRead, IsFullRead};
+ghost use Rattle.verity_format.specs.Blocks.{BothOnlyRead, IsOnlyRead, IsFullRead};
 ghost use Rattle.verity_format.specs.FaultNames.{verify_number, verify_name};
-ghost use Rattle.verity_format.specs.Verifying.{FailsToVerify, FindsBoth, IsReadFrom, IsReadCause, IsFoundSuper, IsSuperCause};
+ghost use Rattle.verity_format.specs.Verifying.{FailsToFindTree, FailsToVerify, FindsBoth, FindsTree, IsReadFrom, IsReadCause, is_too_small};
 
-use crate::access::{TreeFault, data_sectors, read_block, tree_sectors};
+use crate::access::{TreeFault, data_sectors, is_same, read_block, tree_sectors};
 use crate::comparing::compare_tree;
-use crate::{SuperFault, Superblock, decode};
+use crate::{SuperFault, Superblock, VerityTree, decode};
 use block_device::{BlockDev, DeviceFault};
 use std::alloc::{AllocError, Global};
 use thiserror::Error;
-use tree_shape::Digest;
+use tree_shape::{Digest, Shape};
 
 /// What was found.
 #[derive(Clone, Copy, Debug, PartialEq, Eq)]
@@ -125,9 +124,32 @@ pub fn verify<D: BlockDev, H: BlockDev>(
     ensures ok { IfOk result (FindsBoth D.state H.state data_dev.old hash_dev.old data_dev.new hash_dev.new root.now) }
     ensures err { IfErr result (FailsToVerify D.state H.state data_dev.old hash_dev.old data_dev.new hash_dev.new) }
 {
-    let superblock = fitting_superblock(data_dev, hash_dev)?;
-    let shape = superblock.shape();
-    let (least, expected) = compare_tree(alloc, data_dev, hash_dev, &shape, &superblock.salt())?;
+    let superblock = read_superblock(hash_dev)?;
+    verify_tree(alloc, data_dev, hash_dev, &superblock.tree(), root)
+}
+
+/// Compares the tree over the data device with the one on the hash device from hash block `tree.shape.start()` on, and its root
+/// with the one given, as `verify` does. Nothing before the tree is read.
+///
+/// # Errors
+///
+/// `TooSmall` if the data or the tree goes past its device, before either is read; `Device` if one of the two devices fails;
+/// `NoMemory` if an allocation fails.
+pub fn verify_tree<D: BlockDev, H: BlockDev>(
+    alloc: Global,
+    data_dev: &mut D,
+    hash_dev: &mut H,
+    tree: &VerityTree,
+    root: &Digest,
+) -> Result<Verdict, VerifyFault>
+    ensures read { BothOnlyRead D.state H.state data_dev.old hash_dev.old data_dev.new hash_dev.new }
+    ensures ok { IfOk result (FindsTree D.state H.state tree.now data_dev.old hash_dev.old data_dev.new hash_dev.new root.now) }
+    ensures err { IfErr result (FailsToFindTree D.state H.state tree.now data_dev.old hash_dev.old data_dev.new hash_dev.new) }
+{
+    if is_too_small(data_dev, hash_dev, &tree.shape) {
+        return Err(VerifyFault::TooSmall);
+    }
+    let (least, expected) = compare_tree(alloc, data_dev, hash_dev, &tree.shape, &tree.salt)?;
     if let Some(block) = least {
         return Ok(Verdict::AreaDiffers(block));
     }
@@ -135,12 +157,6 @@ pub fn verify<D: BlockDev, H: BlockDev>(
         return Ok(Verdict::RootDiffers);
     }
     Ok(Verdict::Matches)
-}
-
-fn is_same(a: &Digest, b: &Digest) -> bool
-    ensures { result ≡ bytes_eq a.now b.now }
-{
-    a == b
 }
 
 /// The superblock at the beginning of the hash device. It is refused as `verify` refuses it: the first wrong
@@ -159,20 +175,9 @@ pub fn read_superblock<H: BlockDev>(hash_dev: &mut H) -> Result<Superblock, Veri
     Ok(decode(&sector)?)
 }
 
-// The superblock, where the data and the tree that it speaks of fit the devices.
-fn fitting_superblock<D: BlockDev, H: BlockDev>(
-    data_dev: &D,
-    hash_dev: &mut H,
-) -> Result<Superblock, VerifyFault>
-    ensures read { IsOnlyRead (H.state hash_dev.old) (H.state hash_dev.new) }
-    ensures found { IfOk result (IsFoundSuper (D.state data_dev.now) (H.state hash_dev.old)) }
-    ensures full { OnOk result (IsFullRead (H.state hash_dev.old) 1 (H.state hash_dev.new)) }
-    ensures err { IfErr result (IsSuperCause (D.state data_dev.now) (H.state hash_dev.old) (H.state hash_dev.new)) }
+// Whether the data or the tree goes past its device.
+fn is_too_small<D: BlockDev, H: BlockDev>(data_dev: &D, hash_dev: &H, shape: &Shape) -> bool
+    ensures { result ≡ is_too_small shape.now (D.state data_dev.now) (H.state hash_dev.now) }
 {
-    let superblock = read_superblock(hash_dev)?;
-    let shape = superblock.shape();
-    if data_dev.sectors() < data_sectors(&shape) || hash_dev.sectors() < tree_sectors(&shape) {
-        return Err(VerifyFault::TooSmall);
-    }
-    Ok(superblock)
+    data_dev.sectors() < data_sectors(shape) || hash_dev.sectors() < tree_sectors(shape)
 }

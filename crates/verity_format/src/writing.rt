@@ -32,7 +32,7 @@ fn write_blocks<H: BlockDev>(
     Ok(())
 }
 
-/// Writes the tree over the data device level by level, from hash block 1 on, and gives its root.
+/// Writes the tree over the data device level by level, from its first hash block on, and gives its root.
 pub(crate) fn write_tree<D: BlockDev, H: BlockDev>(
     alloc: Global,
     data_dev: &mut D,

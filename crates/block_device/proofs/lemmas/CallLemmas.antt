@@ -1,12 +1,10 @@
 -- What follows from a list of calls.
-use Rattle.std.proofs.Common.{◌≡◌, ◌∙◌, ℕ, ◌+◌, ◌-◌, ◌/◌, ◌^◌, ◌≤◌, inl, inr, true, false, IsTrue, List, [], ◌∷◌, ◌++◌, length, refl, sym, ap, subst, arith}
-use Rattle.std.specs.Prelude.{OnOk, IsOk, is_ok, Result, Ok, Err}
-use Rattle.std.specs.List.{concat}
+use Rattle.std.proofs.Common.{◌≡◌, ◌∙◌, ℕ, ◌+◌, ◌-◌, ◌^◌, ◌≤◌, inl, inr, true, false, IsTrue, List, [], ◌∷◌, ◌++◌, refl, sym, ap, subst, arith}
 use Rattle.std.proofs.Math.Logic.{⊎_elim}
 use Rattle.std.proofs.Math.Nat.{eq-or-lt_of_le}
 use Rattle.block_device.specs.Call.{Call, Calls, DeviceDoes, IsCall, Read, Sync, Write}
 use Rattle.block_device.specs.CallList.{AllReads, AllSucceeded, DeviceCalls, all_read, all_written, has_succeeded, image_after, is_read, sectors_read, sectors_written}
-use Rattle.block_device.specs.Device.{CountersFit, Device, HasFailed, IsRead, IsSameDevice, IsWritten, capped, failures_after, run_of, sectors_of, spliced}
+use Rattle.block_device.specs.Device.{CountersFit, Device, HasFailed, IsSameDevice, capped, failures_after}
 
 -- one more call
 pub calls-last : {D : Type 0} (does : D → Call → D → Type 0) (a b c : D) (calls : List Call) (call : Call) → Calls does a calls b → does b call c → Calls does a (calls ++ call ∷ []) c
@@ -127,14 +125,3 @@ pub failed-call : (old new : Device) (call : Call) → CountersFit old → IsCal
 failed-call old new (Read first bytes ok) fits h failed = has-failed old new fits (h.moved.failures ∙ ap (failures_after old) failed)
 failed-call old new (Write first bytes ok) fits h failed = has-failed old new fits (h.moved.failures ∙ ap (failures_after old) failed)
 failed-call old new (Sync ok) fits h failed = (h.not_done failed).failed
-
--- a call, from the clauses of `read` and from those of `write`
-pub read-call : {E : Type 0} (old new : Device) (first : ℕ) (buffer bytes : List ℕ) (result : Result (Unit {0}) E) → length bytes ≡ length buffer → IsRead old (length buffer / 512) (is_ok result) new
-    → OnOk result (IsTrue old.steady → bytes ≡ concat (run_of old.image first (length buffer / 512))) → (IsTrue old.never_fails → IsOk result) → IsCall old (Read first bytes (is_ok result)) new
-read-call old new first buffer bytes (Ok x) full moved answer sure = record { moved = rw full moved; answer = λ _. rw full answer; sure = λ _. refl }
-read-call old new first buffer bytes (Err e) full moved answer sure = record { moved = rw full moved; answer = λ bad. cc; sure = λ h. sure h }
-
-pub write-call : {E : Type 0} (old new : Device) (first : ℕ) (bytes : List ℕ) (result : Result (Unit {0}) E) → IsWritten old first (length bytes / 512) (is_ok result) new
-    → OnOk result (IsTrue old.steady → new.image ≡ spliced old.image first (sectors_of (length bytes / 512) bytes)) → (IsTrue old.never_fails → IsOk result) → IsCall old (Write first bytes (is_ok result)) new
-write-call old new first bytes (Ok x) moved image sure = record { moved = moved; image = λ _. image; sure = λ _. refl }
-write-call old new first bytes (Err e) moved image sure = record { moved = moved; image = λ bad. cc; sure = λ h. sure h }

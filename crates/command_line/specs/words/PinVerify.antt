@@ -1,7 +1,7 @@
 -- What `verify --pin FILE [--hash-offset BYTES] [--progress] DATA HASH` says.
 use Rattle.std.specs.Prelude.{Bool, List, None, Option, Some, [], ℕ, ◌∷◌, ◌||◌, is_some, if◌then◌else◌}
 use Rattle.command_line.specs.FormatOptions.{OptionTexts}
-use Rattle.command_line.specs.FurtherWords.{has_tree_value}
+use Rattle.command_line.specs.OptionGroups.{has_tree_value}
 use Rattle.command_line.specs.Values.{offset_of, pin_of, when}
 use Rattle.command_line.specs.declared.words.pin_verify.PinVerifyWords.{PinVerifyWords}
 

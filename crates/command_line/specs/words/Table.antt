@@ -1,7 +1,7 @@
 -- What `table [--hash-offset BYTES] [--name NAME] [--root-hash-file FILE] HASH [ROOT] DATANAME HASHNAME` says.
 use Rattle.std.specs.Prelude.{List, None, Option, Some, ℕ, ◌∷◌, if◌then◌else◌}
 use Rattle.command_line.specs.FormatOptions.{OptionTexts, text_of}
-use Rattle.command_line.specs.FurtherWords.{has_tree_value}
+use Rattle.command_line.specs.OptionGroups.{has_tree_value}
 use Rattle.command_line.specs.Values.{RootRecord, device_names, name_said, offset_of, root_first, root_record, when}
 use Rattle.command_line.specs.declared.words.table.TableWords.{TableWords}
 

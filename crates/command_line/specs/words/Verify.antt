@@ -1,7 +1,7 @@
 -- What `verify [--all [--json]] [--hash-offset BYTES] [--root-hash-file FILE] [--progress] DATA HASH [ROOT]` says.
 use Rattle.std.specs.Prelude.{Bool, List, None, Option, Some, ℕ, ◌∷◌, ◌||◌, ◌&&◌, not, if◌then◌else◌}
 use Rattle.command_line.specs.FormatOptions.{OptionTexts}
-use Rattle.command_line.specs.FurtherWords.{has_tree_value}
+use Rattle.command_line.specs.OptionGroups.{has_tree_value}
 use Rattle.command_line.specs.Values.{RootRecord, offset_of, root_alone, root_record, when}
 use Rattle.command_line.specs.declared.words.verify.VerifyWords.{VerifyWords}
 

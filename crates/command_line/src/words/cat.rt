@@ -1,5 +1,5 @@
 //! `cat [--cache N] [--progress] [--first N] [--count N] STACK NAME BINDING...`
-ghost use Rattle.command_line.specs.FurtherRecords.{cat};
+ghost use Rattle.command_line.specs.Invocations.{cat};
 ghost use Rattle.command_line.specs.Reading.{ReadsAs};
 ghost use Rattle.command_line.specs.FormatOptions.{option_texts, texts_of};
 ghost use Rattle.command_line.specs.words.Cat.{cat_said};
@@ -7,7 +7,7 @@ ghost use Rattle.command_line.specs.words.Cat.{cat_said};
 use crate::binding_words::bindings_of;
 use crate::bindings::Binding;
 use crate::fault::WordsFault;
-use crate::further::Further;
+use crate::invocation::Invocation;
 use crate::option_words::OptionWords;
 use crate::values::{cache_of, count_of, first_of};
 use std::alloc::Global;
@@ -30,7 +30,7 @@ pub fn cat_of<'a>(
     alloc: Global,
     options: &OptionWords<'a>,
     words: &[&'a str],
-) -> Result<Further<'a>, WordsFault>
+) -> Result<Invocation<'a>, WordsFault>
     ensures { ReadsAs cat (cat_said (option_texts options.now) (texts_of words.now)) result }
 {
     let [stack, name, rest @ ..] = words else {
@@ -46,7 +46,7 @@ pub fn cat_of<'a>(
         return Err(WordsFault::Usage);
     };
     match bindings_of(alloc, rest) {
-        Ok(bindings) => Ok(Further::Cat(CatWords {
+        Ok(bindings) => Ok(Invocation::Cat(CatWords {
             cache,
             first,
             count,

@@ -1,5 +1,5 @@
 //! `copy [--cache N] [--differing] [--map FILE] [--progress] STACK NAME OUT BINDING...`
-ghost use Rattle.command_line.specs.FurtherRecords.{copy};
+ghost use Rattle.command_line.specs.Invocations.{copy};
 ghost use Rattle.command_line.specs.Reading.{ReadsAs};
 ghost use Rattle.command_line.specs.FormatOptions.{option_texts, texts_of};
 ghost use Rattle.command_line.specs.words.Copy.{copy_said};
@@ -7,7 +7,7 @@ ghost use Rattle.command_line.specs.words.Copy.{copy_said};
 use crate::binding_words::bindings_of;
 use crate::bindings::Binding;
 use crate::fault::WordsFault;
-use crate::further::Further;
+use crate::invocation::Invocation;
 use crate::option_words::OptionWords;
 use crate::values::{cache_of, map_of};
 use std::alloc::Global;
@@ -32,7 +32,7 @@ pub fn copy_of<'a>(
     alloc: Global,
     options: &OptionWords<'a>,
     words: &[&'a str],
-) -> Result<Further<'a>, WordsFault>
+) -> Result<Invocation<'a>, WordsFault>
     ensures { ReadsAs copy (copy_said (option_texts options.now) (texts_of words.now)) result }
 {
     let [stack, name, out, rest @ ..] = words else {
@@ -45,7 +45,7 @@ pub fn copy_of<'a>(
         return Err(WordsFault::Usage);
     };
     match bindings_of(alloc, rest) {
-        Ok(bindings) => Ok(Further::Copy(CopyWords {
+        Ok(bindings) => Ok(Invocation::Copy(CopyWords {
             cache,
             differing: options.differing,
             stack,

@@ -1,12 +1,12 @@
 //! `diff [--blocks N] [--json] HASH1 ROOT1 HASH2 ROOT2`
 ghost use Rattle.std.specs.Prelude.{◌≡◌, option_map};
-ghost use Rattle.command_line.specs.FurtherRecords.{diff};
+ghost use Rattle.command_line.specs.Invocations.{diff};
 ghost use Rattle.command_line.specs.Reading.{ReadsAs};
 ghost use Rattle.command_line.specs.FormatOptions.{option_texts, texts_of};
 ghost use Rattle.command_line.specs.words.Diff.{diff_said, trees_record, two_trees};
 
 use crate::fault::WordsFault;
-use crate::further::Further;
+use crate::invocation::Invocation;
 use crate::option_words::OptionWords;
 use crate::values::{runs_of, two_roots};
 use tree_shape::Digest;
@@ -24,7 +24,10 @@ pub struct DiffWords<'a> {
 
 /// `[--blocks N] [--json] HASH1 ROOT1 HASH2 ROOT2`
 #[tactic(auto, unfolding(crate::specs::words::Diff::diff_said))]
-pub fn diff_of<'a>(options: &OptionWords<'a>, words: &[&'a str]) -> Result<Further<'a>, WordsFault>
+pub fn diff_of<'a>(
+    options: &OptionWords<'a>,
+    words: &[&'a str],
+) -> Result<Invocation<'a>, WordsFault>
     ensures { ReadsAs diff (diff_said (option_texts options.now) (texts_of words.now)) result }
 {
     let Some((old_path, old_root, new_path, new_root)) = two_trees(words) else {
@@ -33,7 +36,7 @@ pub fn diff_of<'a>(options: &OptionWords<'a>, words: &[&'a str]) -> Result<Furth
     let Some(blocks) = runs_of(options.blocks) else {
         return Err(WordsFault::Usage);
     };
-    Ok(Further::Diff(DiffWords {
+    Ok(Invocation::Diff(DiffWords {
         old_path,
         old_root,
         new_path,

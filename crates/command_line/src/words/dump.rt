@@ -1,11 +1,11 @@
 //! `dump [--hash-offset BYTES] [--json] HASH`
-ghost use Rattle.command_line.specs.FurtherRecords.{dump};
+ghost use Rattle.command_line.specs.Invocations.{dump};
 ghost use Rattle.command_line.specs.Reading.{ReadsAs};
 ghost use Rattle.command_line.specs.FormatOptions.{option_texts, texts_of};
 ghost use Rattle.command_line.specs.words.Dump.{dump_said};
 
 use crate::fault::WordsFault;
-use crate::further::Further;
+use crate::invocation::Invocation;
 use crate::option_words::OptionWords;
 use crate::values::offset_of;
 
@@ -19,7 +19,10 @@ pub struct DumpWords<'a> {
 
 /// `[--hash-offset BYTES] [--json] HASH`
 #[tactic(auto, unfolding(crate::specs::words::Dump::dump_said))]
-pub fn dump_of<'a>(options: &OptionWords<'a>, words: &[&'a str]) -> Result<Further<'a>, WordsFault>
+pub fn dump_of<'a>(
+    options: &OptionWords<'a>,
+    words: &[&'a str],
+) -> Result<Invocation<'a>, WordsFault>
     ensures { ReadsAs dump (dump_said (option_texts options.now) (texts_of words.now)) result }
 {
     let [hash_path] = words else {
@@ -28,7 +31,7 @@ pub fn dump_of<'a>(options: &OptionWords<'a>, words: &[&'a str]) -> Result<Furth
     let Some(hash_offset) = offset_of(options.hash_offset) else {
         return Err(WordsFault::Usage);
     };
-    Ok(Further::Dump(DumpWords {
+    Ok(Invocation::Dump(DumpWords {
         hash_path,
         hash_offset,
         json: options.json,

@@ -1,5 +1,5 @@
 //! `nbd --all [--cache N] STACK BINDING...`
-ghost use Rattle.command_line.specs.FurtherRecords.{exports};
+ghost use Rattle.command_line.specs.Invocations.{exports};
 ghost use Rattle.command_line.specs.Reading.{ReadsAs};
 ghost use Rattle.command_line.specs.FormatOptions.{option_texts, texts_of};
 ghost use Rattle.command_line.specs.words.Exports.{exports_said};
@@ -7,7 +7,7 @@ ghost use Rattle.command_line.specs.words.Exports.{exports_said};
 use crate::binding_words::bindings_of;
 use crate::bindings::Binding;
 use crate::fault::WordsFault;
-use crate::further::Further;
+use crate::invocation::Invocation;
 use crate::option_words::OptionWords;
 use crate::values::cache_of;
 use crate::words::store::is_input;
@@ -27,7 +27,7 @@ pub fn exports_of<'a>(
     alloc: Global,
     options: &OptionWords<'a>,
     words: &[&'a str],
-) -> Result<Further<'a>, WordsFault>
+) -> Result<Invocation<'a>, WordsFault>
     ensures { ReadsAs exports (exports_said (option_texts options.now) (texts_of words.now)) result }
 {
     let [stack, rest @ ..] = words else {
@@ -40,7 +40,7 @@ pub fn exports_of<'a>(
         return Err(WordsFault::Usage);
     };
     match bindings_of(alloc, rest) {
-        Ok(bindings) => Ok(Further::Exports(ExportsWords {
+        Ok(bindings) => Ok(Invocation::Exports(ExportsWords {
             cache,
             stack,
             bindings,

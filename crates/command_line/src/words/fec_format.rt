@@ -1,12 +1,12 @@
 //! `format --fec FILE [--fec-roots N] [OPTIONS] DATA HASH`
-ghost use Rattle.command_line.specs.FurtherRecords.{format_fec};
+ghost use Rattle.command_line.specs.Invocations.{format_fec};
 ghost use Rattle.command_line.specs.Reading.{ReadsAs};
 ghost use Rattle.command_line.specs.FormatOptions.{option_texts, texts_of};
 ghost use Rattle.command_line.specs.words.FecFormat.{fec_format_said};
 
 use crate::fault::WordsFault;
 use crate::fec_file::{FecFile, fec_file_of};
-use crate::further::Further;
+use crate::invocation::Invocation;
 use crate::option_words::OptionWords;
 use crate::words::format::{FormatWords, format_words};
 
@@ -22,14 +22,14 @@ pub struct FecFormatWords<'a> {
 pub fn fec_format_of<'a>(
     options: &OptionWords<'a>,
     words: &[&'a str],
-) -> Result<Further<'a>, WordsFault>
+) -> Result<Invocation<'a>, WordsFault>
     ensures { ReadsAs format_fec (fec_format_said (option_texts options.now) (texts_of words.now)) result }
 {
     let Some(fec) = fec_file_of(options.fec, options.fec_roots) else {
         return Err(WordsFault::Usage);
     };
     match format_words(options, words) {
-        Some(format) => Ok(Further::FormatFec(FecFormatWords { format, fec })),
+        Some(format) => Ok(Invocation::FormatFec(FecFormatWords { format, fec })),
         None => Err(WordsFault::Usage),
     }
 }

@@ -1,12 +1,12 @@
 //! `verify --fec FILE [--fec-roots N] [--hash-offset BYTES] [--root-hash-file FILE] [--progress] DATA HASH [ROOT]`
-ghost use Rattle.command_line.specs.FurtherRecords.{verify_fec};
+ghost use Rattle.command_line.specs.Invocations.{verify_fec};
 ghost use Rattle.command_line.specs.Reading.{ReadsAs};
 ghost use Rattle.command_line.specs.FormatOptions.{option_texts, texts_of};
 ghost use Rattle.command_line.specs.words.FecVerify.{fec_verify_said};
 
 use crate::fault::WordsFault;
 use crate::fec_file::{FecFile, fec_file_of};
-use crate::further::Further;
+use crate::invocation::Invocation;
 use crate::option_words::OptionWords;
 use crate::words::verify::{VerifyWords, verify_words};
 
@@ -22,7 +22,7 @@ pub struct FecVerifyWords<'a> {
 pub fn fec_verify_of<'a>(
     options: &OptionWords<'a>,
     words: &[&'a str],
-) -> Result<Further<'a>, WordsFault>
+) -> Result<Invocation<'a>, WordsFault>
     ensures { ReadsAs verify_fec (fec_verify_said (option_texts options.now) (texts_of words.now)) result }
 {
     if options.all {
@@ -32,7 +32,7 @@ pub fn fec_verify_of<'a>(
         return Err(WordsFault::Usage);
     };
     match verify_words(options, words) {
-        Some(verify) => Ok(Further::VerifyFec(FecVerifyWords { verify, fec })),
+        Some(verify) => Ok(Invocation::VerifyFec(FecVerifyWords { verify, fec })),
         None => Err(WordsFault::Usage),
     }
 }

@@ -1,12 +1,12 @@
 //! `format [OPTIONS] DATA HASH`
 ghost use Rattle.std.specs.Prelude.{◌≡◌, option_map};
-ghost use Rattle.command_line.specs.FurtherRecords.{format};
+ghost use Rattle.command_line.specs.Invocations.{format};
 ghost use Rattle.command_line.specs.Reading.{ReadsAs};
 ghost use Rattle.command_line.specs.FormatOptions.{option_texts, texts_of};
 ghost use Rattle.command_line.specs.words.Format.{format_record, format_said};
 
 use crate::fault::WordsFault;
-use crate::further::Further;
+use crate::invocation::Invocation;
 use crate::option_words::OptionWords;
 use crate::values::offset_of;
 
@@ -24,11 +24,11 @@ pub struct FormatWords<'a> {
 pub fn format_of<'a>(
     options: &OptionWords<'a>,
     words: &[&'a str],
-) -> Result<Further<'a>, WordsFault>
+) -> Result<Invocation<'a>, WordsFault>
     ensures { ReadsAs format (format_said (option_texts options.now) (texts_of words.now)) result }
 {
     match format_words(options, words) {
-        Some(format) => Ok(Further::Format(format)),
+        Some(format) => Ok(Invocation::Format(format)),
         None => Err(WordsFault::Usage),
     }
 }

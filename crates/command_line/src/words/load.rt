@@ -1,5 +1,5 @@
 //! `load [--json] STACK BINDING...`
-ghost use Rattle.command_line.specs.FurtherRecords.{load};
+ghost use Rattle.command_line.specs.Invocations.{load};
 ghost use Rattle.command_line.specs.Reading.{ReadsAs};
 ghost use Rattle.command_line.specs.FormatOptions.{option_texts, texts_of};
 ghost use Rattle.command_line.specs.words.Load.{load_said};
@@ -7,7 +7,7 @@ ghost use Rattle.command_line.specs.words.Load.{load_said};
 use crate::binding_words::bindings_of;
 use crate::bindings::Binding;
 use crate::fault::WordsFault;
-use crate::further::Further;
+use crate::invocation::Invocation;
 use crate::option_words::OptionWords;
 use std::alloc::Global;
 
@@ -25,14 +25,14 @@ pub fn load_of<'a>(
     alloc: Global,
     options: &OptionWords<'a>,
     words: &[&'a str],
-) -> Result<Further<'a>, WordsFault>
+) -> Result<Invocation<'a>, WordsFault>
     ensures { ReadsAs load (load_said (option_texts options.now) (texts_of words.now)) result }
 {
     let [stack, rest @ ..] = words else {
         return Err(WordsFault::Usage);
     };
     match bindings_of(alloc, rest) {
-        Ok(bindings) => Ok(Further::Load(LoadWords {
+        Ok(bindings) => Ok(Invocation::Load(LoadWords {
             stack,
             bindings,
             json: options.json,

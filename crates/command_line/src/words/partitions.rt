@@ -1,11 +1,11 @@
 //! `partitions [--sector-size 512|4096] [--json | --stack | --root ROOT] IMAGE`
-ghost use Rattle.command_line.specs.FurtherRecords.{partitions};
+ghost use Rattle.command_line.specs.Invocations.{partitions};
 ghost use Rattle.command_line.specs.Reading.{ReadsAs};
 ghost use Rattle.command_line.specs.FormatOptions.{option_texts, texts_of};
 ghost use Rattle.command_line.specs.words.Partitions.{partitions_said};
 
 use crate::fault::WordsFault;
-use crate::further::Further;
+use crate::invocation::Invocation;
 use crate::option_words::OptionWords;
 use crate::values::{PartitionForm, form_of, sector_size_of};
 
@@ -22,7 +22,7 @@ pub struct PartitionsWords<'a> {
 pub fn partitions_of<'a>(
     options: &OptionWords<'a>,
     words: &[&'a str],
-) -> Result<Further<'a>, WordsFault>
+) -> Result<Invocation<'a>, WordsFault>
     ensures { ReadsAs partitions (partitions_said (option_texts options.now) (texts_of words.now)) result }
 {
     let [image] = words else {
@@ -34,7 +34,7 @@ pub fn partitions_of<'a>(
     let Some(form) = form_of(options.root, options.stack, options.json) else {
         return Err(WordsFault::Usage);
     };
-    Ok(Further::Partitions(PartitionsWords {
+    Ok(Invocation::Partitions(PartitionsWords {
         image,
         sector_size,
         form,

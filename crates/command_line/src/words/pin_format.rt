@@ -1,11 +1,11 @@
 //! `format --pin FILE [OPTIONS] DATA HASH`
-ghost use Rattle.command_line.specs.FurtherRecords.{format_pin};
+ghost use Rattle.command_line.specs.Invocations.{format_pin};
 ghost use Rattle.command_line.specs.Reading.{ReadsAs};
 ghost use Rattle.command_line.specs.FormatOptions.{option_texts, texts_of};
 ghost use Rattle.command_line.specs.words.PinFormat.{pin_format_said};
 
 use crate::fault::WordsFault;
-use crate::further::Further;
+use crate::invocation::Invocation;
 use crate::option_words::OptionWords;
 use crate::values::pin_of;
 use crate::words::format::{FormatWords, format_words};
@@ -22,14 +22,14 @@ pub struct PinFormatWords<'a> {
 pub fn pin_format_of<'a>(
     options: &OptionWords<'a>,
     words: &[&'a str],
-) -> Result<Further<'a>, WordsFault>
+) -> Result<Invocation<'a>, WordsFault>
     ensures { ReadsAs format_pin (pin_format_said (option_texts options.now) (texts_of words.now)) result }
 {
     let Some(pin) = pin_of(options.pin) else {
         return Err(WordsFault::Usage);
     };
     match format_words(options, words) {
-        Some(format) => Ok(Further::FormatPin(PinFormatWords { format, pin })),
+        Some(format) => Ok(Invocation::FormatPin(PinFormatWords { format, pin })),
         None => Err(WordsFault::Usage),
     }
 }

@@ -1,11 +1,11 @@
 //! `verify --pin FILE [--hash-offset BYTES] [--progress] DATA HASH`
-ghost use Rattle.command_line.specs.FurtherRecords.{verify_pin};
+ghost use Rattle.command_line.specs.Invocations.{verify_pin};
 ghost use Rattle.command_line.specs.Reading.{ReadsAs};
 ghost use Rattle.command_line.specs.FormatOptions.{option_texts, texts_of};
 ghost use Rattle.command_line.specs.words.PinVerify.{pin_verify_said};
 
 use crate::fault::WordsFault;
-use crate::further::Further;
+use crate::invocation::Invocation;
 use crate::option_words::{OptionWords, has_tree_value};
 use crate::values::{offset_of, pin_of};
 
@@ -24,7 +24,7 @@ pub struct PinVerifyWords<'a> {
 pub fn pin_verify_of<'a>(
     options: &OptionWords<'a>,
     words: &[&'a str],
-) -> Result<Further<'a>, WordsFault>
+) -> Result<Invocation<'a>, WordsFault>
     ensures { ReadsAs verify_pin (pin_verify_said (option_texts options.now) (texts_of words.now)) result }
 {
     let [data_path, hash_path] = words else {
@@ -39,7 +39,7 @@ pub fn pin_verify_of<'a>(
     let Some(hash_offset) = offset_of(options.hash_offset) else {
         return Err(WordsFault::Usage);
     };
-    Ok(Further::VerifyPin(PinVerifyWords {
+    Ok(Invocation::VerifyPin(PinVerifyWords {
         data_path,
         hash_path,
         pin,

@@ -1,13 +1,13 @@
 //! `repair [OPTIONS] DATA HASH [ROOT] [COPY..]`
-ghost use Rattle.command_line.specs.FurtherRecords.{repair};
+ghost use Rattle.command_line.specs.Invocations.{repair};
 ghost use Rattle.command_line.specs.Reading.{ReadsAs};
 ghost use Rattle.command_line.specs.FormatOptions.{option_texts, texts_of};
 ghost use Rattle.command_line.specs.words.Repair.{repair_said};
 
 use crate::fault::WordsFault;
 use crate::fec_file::{FecFile, fec_choice_of};
-use crate::further::Further;
 use crate::image_copies::{ImageCopy, copies_of};
+use crate::invocation::Invocation;
 use crate::option_words::OptionWords;
 use crate::values::{RootWord, offset_of, root_first};
 use std::alloc::Global;
@@ -30,7 +30,7 @@ pub fn repair_of<'a>(
     alloc: Global,
     options: &OptionWords<'a>,
     words: &[&'a str],
-) -> Result<Further<'a>, WordsFault>
+) -> Result<Invocation<'a>, WordsFault>
     ensures { ReadsAs repair (repair_said (option_texts options.now) (texts_of words.now)) result }
 {
     let [data_path, hash_path, behind @ ..] = words else {
@@ -46,7 +46,7 @@ pub fn repair_of<'a>(
         return Err(WordsFault::Usage);
     };
     match copies_of(alloc, data_path, hash_path, rest) {
-        Ok(copies) => Ok(Further::Repair(RepairWords {
+        Ok(copies) => Ok(Invocation::Repair(RepairWords {
             data_path,
             hash_path,
             root,

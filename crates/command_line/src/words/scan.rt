@@ -1,5 +1,5 @@
 //! `scan [--cache N] [--map FILE] [--progress] [--json] STACK NAME BINDING...`
-ghost use Rattle.command_line.specs.FurtherRecords.{scan};
+ghost use Rattle.command_line.specs.Invocations.{scan};
 ghost use Rattle.command_line.specs.Reading.{ReadsAs};
 ghost use Rattle.command_line.specs.FormatOptions.{option_texts, texts_of};
 ghost use Rattle.command_line.specs.words.Scan.{scan_said};
@@ -7,7 +7,7 @@ ghost use Rattle.command_line.specs.words.Scan.{scan_said};
 use crate::binding_words::bindings_of;
 use crate::bindings::Binding;
 use crate::fault::WordsFault;
-use crate::further::Further;
+use crate::invocation::Invocation;
 use crate::option_words::OptionWords;
 use crate::values::{cache_of, map_of};
 use std::alloc::Global;
@@ -30,7 +30,7 @@ pub fn scan_of<'a>(
     alloc: Global,
     options: &OptionWords<'a>,
     words: &[&'a str],
-) -> Result<Further<'a>, WordsFault>
+) -> Result<Invocation<'a>, WordsFault>
     ensures { ReadsAs scan (scan_said (option_texts options.now) (texts_of words.now)) result }
 {
     let [stack, name, rest @ ..] = words else {
@@ -43,7 +43,7 @@ pub fn scan_of<'a>(
         return Err(WordsFault::Usage);
     };
     match bindings_of(alloc, rest) {
-        Ok(bindings) => Ok(Further::Scan(ScanWords {
+        Ok(bindings) => Ok(Invocation::Scan(ScanWords {
             cache,
             stack,
             name,

@@ -1,7 +1,7 @@
 //! `store [--cache N] [--progress] [--first N] STACK NAME SOURCE BINDING...`
 ghost use Rattle.std.specs.Prelude.{◌≡◌, codes};
 ghost use Rattle.std.specs.Str.{bytes_eq};
-ghost use Rattle.command_line.specs.FurtherRecords.{store};
+ghost use Rattle.command_line.specs.Invocations.{store};
 ghost use Rattle.command_line.specs.Reading.{ReadsAs};
 ghost use Rattle.command_line.specs.FormatOptions.{option_texts, texts_of};
 ghost use Rattle.command_line.specs.words.Store.{store_said};
@@ -9,7 +9,7 @@ ghost use Rattle.command_line.specs.words.Store.{store_said};
 use crate::binding_words::bindings_of;
 use crate::bindings::Binding;
 use crate::fault::WordsFault;
-use crate::further::Further;
+use crate::invocation::Invocation;
 use crate::option_words::OptionWords;
 use crate::values::{cache_of, first_of};
 use std::alloc::Global;
@@ -39,7 +39,7 @@ pub fn store_of<'a>(
     alloc: Global,
     options: &OptionWords<'a>,
     words: &[&'a str],
-) -> Result<Further<'a>, WordsFault>
+) -> Result<Invocation<'a>, WordsFault>
     ensures { ReadsAs store (store_said (option_texts options.now) (texts_of words.now)) result }
 {
     let [stack, name, source, rest @ ..] = words else {
@@ -55,7 +55,7 @@ pub fn store_of<'a>(
         return Err(WordsFault::Usage);
     };
     match bindings_of(alloc, rest) {
-        Ok(bindings) => Ok(Further::Store(StoreWords {
+        Ok(bindings) => Ok(Invocation::Store(StoreWords {
             cache,
             first,
             stack,

@@ -1,11 +1,11 @@
 //! `table [--hash-offset BYTES] [--name NAME] [--root-hash-file FILE] HASH [ROOT] DATANAME HASHNAME`
-ghost use Rattle.command_line.specs.FurtherRecords.{table};
+ghost use Rattle.command_line.specs.Invocations.{table};
 ghost use Rattle.command_line.specs.Reading.{ReadsAs};
 ghost use Rattle.command_line.specs.FormatOptions.{option_texts, texts_of};
 ghost use Rattle.command_line.specs.words.Table.{table_said};
 
 use crate::fault::WordsFault;
-use crate::further::Further;
+use crate::invocation::Invocation;
 use crate::option_words::{OptionWords, has_tree_value};
 use crate::values::{RootWord, device_names, name_of, offset_of, root_first};
 
@@ -22,7 +22,10 @@ pub struct TableWords<'a> {
 
 /// `[--hash-offset BYTES] [--name NAME] [--root-hash-file FILE] HASH [ROOT] DATANAME HASHNAME`
 #[tactic(auto, unfolding(crate::specs::words::Table::table_said))]
-pub fn table_of<'a>(options: &OptionWords<'a>, words: &[&'a str]) -> Result<Further<'a>, WordsFault>
+pub fn table_of<'a>(
+    options: &OptionWords<'a>,
+    words: &[&'a str],
+) -> Result<Invocation<'a>, WordsFault>
     ensures { ReadsAs table (table_said (option_texts options.now) (texts_of words.now)) result }
 {
     let [hash_path, rest @ ..] = words else {
@@ -43,7 +46,7 @@ pub fn table_of<'a>(options: &OptionWords<'a>, words: &[&'a str]) -> Result<Furt
     let Some((data_name, hash_name)) = device_names(behind) else {
         return Err(WordsFault::Usage);
     };
-    Ok(Further::Table(TableWords {
+    Ok(Invocation::Table(TableWords {
         hash_path,
         root,
         data_name,

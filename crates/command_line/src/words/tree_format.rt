@@ -1,11 +1,11 @@
 //! `format --no-superblock [OPTIONS] DATA HASH`
-ghost use Rattle.command_line.specs.FurtherRecords.{format_tree};
+ghost use Rattle.command_line.specs.Invocations.{format_tree};
 ghost use Rattle.command_line.specs.Reading.{ReadsAs};
 ghost use Rattle.command_line.specs.FormatOptions.{option_texts, texts_of};
 ghost use Rattle.command_line.specs.words.TreeFormat.{tree_format_said};
 
 use crate::fault::WordsFault;
-use crate::further::Further;
+use crate::invocation::Invocation;
 use crate::option_words::OptionWords;
 use crate::values::offset_of;
 
@@ -24,7 +24,7 @@ pub struct TreeFormatWords<'a> {
 pub fn tree_format_of<'a>(
     options: &OptionWords<'a>,
     words: &[&'a str],
-) -> Result<Further<'a>, WordsFault>
+) -> Result<Invocation<'a>, WordsFault>
     ensures { ReadsAs format_tree (tree_format_said (option_texts options.now) (texts_of words.now)) result }
 {
     let [data_path, hash_path] = words else {
@@ -36,7 +36,7 @@ pub fn tree_format_of<'a>(
     let Some(hash_offset) = offset_of(options.hash_offset) else {
         return Err(WordsFault::Usage);
     };
-    Ok(Further::FormatTree(TreeFormatWords {
+    Ok(Invocation::FormatTree(TreeFormatWords {
         data_path,
         hash_path,
         hash_offset,

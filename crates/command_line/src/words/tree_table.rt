@@ -1,11 +1,11 @@
 //! `table --no-superblock --blocks N --salt HEX [OPTIONS] HASH [ROOT] DATANAME HASHNAME`
-ghost use Rattle.command_line.specs.FurtherRecords.{table_tree};
+ghost use Rattle.command_line.specs.Invocations.{table_tree};
 ghost use Rattle.command_line.specs.Reading.{ReadsAs};
 ghost use Rattle.command_line.specs.FormatOptions.{option_texts, texts_of};
 ghost use Rattle.command_line.specs.words.TreeTable.{tree_table_said};
 
 use crate::fault::WordsFault;
-use crate::further::Further;
+use crate::invocation::Invocation;
 use crate::option_words::OptionWords;
 use crate::values::{RootWord, device_names, name_of, offset_of, root_first};
 
@@ -25,7 +25,7 @@ pub struct TreeTableWords<'a> {
 pub fn tree_table_of<'a>(
     options: &OptionWords<'a>,
     words: &[&'a str],
-) -> Result<Further<'a>, WordsFault>
+) -> Result<Invocation<'a>, WordsFault>
     ensures { ReadsAs table_tree (tree_table_said (option_texts options.now) (texts_of words.now)) result }
 {
     let [hash_path, rest @ ..] = words else {
@@ -46,7 +46,7 @@ pub fn tree_table_of<'a>(
     let Some((data_name, hash_name)) = device_names(behind) else {
         return Err(WordsFault::Usage);
     };
-    Ok(Further::TableTree(TreeTableWords {
+    Ok(Invocation::TableTree(TreeTableWords {
         hash_path,
         root,
         data_name,

@@ -1,11 +1,11 @@
 //! `verify --no-superblock --salt HEX [OPTIONS] DATA HASH [ROOT]`
-ghost use Rattle.command_line.specs.FurtherRecords.{verify_tree};
+ghost use Rattle.command_line.specs.Invocations.{verify_tree};
 ghost use Rattle.command_line.specs.Reading.{ReadsAs};
 ghost use Rattle.command_line.specs.FormatOptions.{option_texts, texts_of};
 ghost use Rattle.command_line.specs.words.TreeVerify.{tree_verify_said};
 
 use crate::fault::WordsFault;
-use crate::further::Further;
+use crate::invocation::Invocation;
 use crate::option_words::OptionWords;
 use crate::values::{RootWord, offset_of, root_alone};
 
@@ -24,7 +24,7 @@ pub struct TreeVerifyWords<'a> {
 pub fn tree_verify_of<'a>(
     options: &OptionWords<'a>,
     words: &[&'a str],
-) -> Result<Further<'a>, WordsFault>
+) -> Result<Invocation<'a>, WordsFault>
     ensures { ReadsAs verify_tree (tree_verify_said (option_texts options.now) (texts_of words.now)) result }
 {
     let [data_path, hash_path, rest @ ..] = words else {
@@ -39,7 +39,7 @@ pub fn tree_verify_of<'a>(
     let Some(root) = root_alone(options.root_hash_file, rest) else {
         return Err(WordsFault::Usage);
     };
-    Ok(Further::VerifyTree(TreeVerifyWords {
+    Ok(Invocation::VerifyTree(TreeVerifyWords {
         data_path,
         hash_path,
         root,

@@ -1,12 +1,12 @@
 //! `verify [--all [--json]] [--hash-offset BYTES] [--root-hash-file FILE] [--progress] DATA HASH [ROOT]`
 ghost use Rattle.std.specs.Prelude.{◌≡◌, option_map};
-ghost use Rattle.command_line.specs.FurtherRecords.{verify};
+ghost use Rattle.command_line.specs.Invocations.{verify};
 ghost use Rattle.command_line.specs.Reading.{ReadsAs};
 ghost use Rattle.command_line.specs.FormatOptions.{option_texts, texts_of};
 ghost use Rattle.command_line.specs.words.Verify.{verify_record, verify_said};
 
 use crate::fault::WordsFault;
-use crate::further::Further;
+use crate::invocation::Invocation;
 use crate::option_words::{OptionWords, has_tree_value};
 use crate::values::{RootWord, offset_of, root_alone};
 
@@ -26,11 +26,11 @@ pub struct VerifyWords<'a> {
 pub fn verify_of<'a>(
     options: &OptionWords<'a>,
     words: &[&'a str],
-) -> Result<Further<'a>, WordsFault>
+) -> Result<Invocation<'a>, WordsFault>
     ensures { ReadsAs verify (verify_said (option_texts options.now) (texts_of words.now)) result }
 {
     match verify_words(options, words) {
-        Some(verify) => Ok(Further::Verify(verify)),
+        Some(verify) => Ok(Invocation::Verify(verify)),
         None => Err(WordsFault::Usage),
     }
 }

@@ -14,7 +14,7 @@ use Rattle.stack_rules.specs.Trees.{tree_of, block_sectors}
 use Rattle.stack_meaning.specs.declared.fault.IoFault.{IoFault}
 use Rattle.stack_meaning.specs.Sectors.{SomeOf}
 use Rattle.stack_meaning.specs.Outcomes.{Outcome, Images, then_outcome, part}
-use Rattle.stack_meaning.specs.Found.{FoundRecord, Entry, found_entry, HasGrown}
+use Rattle.stack_meaning.specs.Found.{FoundRecord, Entry, found_entry, AreDistinct, HasGrown}
 use Rattle.stack_meaning.specs.Blocks.{verified_block, BlockMeets}
 use Rattle.stack_meaning.specs.Meaning.{content_part, verity_said}
 use Rattle.stack_meaning.specs.Kept.{IsKept, AllKept}
@@ -63,27 +63,29 @@ length-content v chain good = hangs-content (tree_of v) v.salt chain.index chain
 pub AllKept-push : (c : Configuration) (leaves : List Device) (found : List FoundRecord) (x : FoundRecord) → AllKept c leaves found → IsKept c leaves x → AllKept c leaves (found ++ (x ∷ []))
 AllKept-push c leaves found x kept one = All-append (IsKept c leaves) found (x ∷ []) kept (All-cons (IsKept c leaves) x [] one (All-nil (IsKept c leaves)))
 
-pub Grown-push : (entries : ℕ → List Entry) (first n : ℕ) (found : List FoundRecord) (x : FoundRecord) → 0 < n → Contains (entries first) (found_entry x)
-    → ((k : ℕ) → k < length found → (y : FoundRecord) → found_entry (get_or found k y) ≡ found_entry x → ⊥) → HasGrown entries first n found (found ++ (x ∷ []))
-Grown-push entries first n found x some is none = record {
+pub Grown-push : (entries : ℕ → List Entry) (first n : ℕ) (found : List FoundRecord) (x : FoundRecord) → 0 < n → Contains (entries first) (found_entry x) → HasGrown entries first n found (found ++ (x ∷ []))
+Grown-push entries first n found x some is = record {
   added = x ∷ [];
   is = refl;
   used =
       let at : first + 0 ≡ first = omega arith in
       let Used : FoundRecord → Type 0 = λ y. SomeOf (λ s. Contains (entries s) (found_entry y)) first n in
       All-cons Used x [] (0, some, subst (λ (s : ℕ). Contains (entries s) (found_entry x)) (sym at) is) (All-nil Used);
-  distinct = λ distinct a b y lower below same.
-      let len : length (found ++ (x ∷ [])) ≡ length found + 1 = length-append found (x ∷ []) in
-      let low : a < length found = omega (arith, len, lower, below) in
-      let left : get_or (found ++ (x ∷ [])) a y ≡ get_or found a y = get_or_append_left found (x ∷ []) y a low in
-      elim (cases_lt b (length found)) [
-        | inl within ↦ distinct a b y lower within (ap found_entry (sym left) ∙ same ∙ ap found_entry (get_or_append_left found (x ∷ []) y b within))
-        | inr past ↦
-            let last : b - length found ≡ 0 = omega (arith, len, below, past) in
-            let right : get_or (found ++ (x ∷ [])) b y ≡ x = get_or-append_right found (x ∷ []) (length found) b y refl past ∙ ap (λ (k : ℕ). get_or (x ∷ []) k y) last in
-            none a low y (ap found_entry (sym left) ∙ same ∙ ap found_entry right)
-      ];
 }
+
+-- of a block of which there was none
+pub distinct-push : (found : List FoundRecord) (x : FoundRecord) → ((k : ℕ) → k < length found → (y : FoundRecord) → found_entry (get_or found k y) ≡ found_entry x → ⊥) → AreDistinct found → AreDistinct (found ++ (x ∷ []))
+distinct-push found x none distinct a b y lower below same =
+    let len : length (found ++ (x ∷ [])) ≡ length found + 1 = length-append found (x ∷ []) in
+    let low : a < length found = omega (arith, len, lower, below) in
+    let left : get_or (found ++ (x ∷ [])) a y ≡ get_or found a y = get_or_append_left found (x ∷ []) y a low in
+    elim (cases_lt b (length found)) [
+      | inl within ↦ distinct a b y lower within (ap found_entry (sym left) ∙ same ∙ ap found_entry (get_or_append_left found (x ∷ []) y b within))
+      | inr past ↦
+          let last : b - length found ≡ 0 = omega (arith, len, below, past) in
+          let right : get_or (found ++ (x ∷ [])) b y ≡ x = get_or-append_right found (x ∷ []) (length found) b y refl past ∙ ap (λ (k : ℕ). get_or (x ∷ []) k y) last in
+          none a low y (ap found_entry (sym left) ∙ same ∙ ap found_entry right)
+    ]
 
 -- ---- a chain answers a read
 

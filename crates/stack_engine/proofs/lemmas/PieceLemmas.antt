@@ -6,7 +6,7 @@ use Rattle.stack_rules.specs.declared.lower.Lower.{Lower}
 use Rattle.stack_rules.specs.Records.{Configuration}
 use Rattle.stack_rules.specs.Names.{mapped}
 use Rattle.stack_meaning.specs.declared.fault.IoFault.{IoFault}
-use Rattle.stack_meaning.specs.Found.{FoundRecord}
+use Rattle.stack_meaning.specs.Found.{FoundRecord, AreDistinct}
 use Rattle.stack_meaning.specs.Meaning.{said_at}
 use Rattle.stack_meaning.specs.May.{MayRead, MayBe}
 use Rattle.stack_meaning.specs.Leaves.{AreRead}
@@ -48,12 +48,13 @@ abbrev pub joined_answers : AnswerRecord → AnswerRecord → AnswerRecord
 joined_answers a b = record { bytes = a.bytes ++ b.bytes; chains = a.chains ++ b.chains }
 
 pub piece_ok : (c : Configuration) (lower : Lower) (first n : ℕ) {old new : List Device} {chains : List FoundRecord} {bytes : List ℕ}
-    → Reads c lower first n (record { old = old; new = new; before = []; after = chains }) (Ok bytes) → Gets (piece_expected c lower first n) old new (Ok (record { bytes = bytes; chains = chains }))
-piece_ok c lower first n p = record {
+    → Reads c lower first n (record { old = old; new = new; before = []; after = chains }) (Ok bytes) → (AreDistinct [] → AreDistinct chains)
+    → Gets (piece_expected c lower first n) old new (Ok (record { bytes = bytes; chains = chains }))
+piece_ok c lower first n p distinct = record {
   moved = p.got.moved;
   may = record {
     read = record { run = p.got.may; used = rw p.grown.is p.grown.used };
-    distinct = p.grown.distinct (λ i j d low high. absurd (omega (arith, high)));
+    distinct = distinct (λ i j d low high. absurd (omega (arith, high)));
   };
   exact = p.got.exact;
 }

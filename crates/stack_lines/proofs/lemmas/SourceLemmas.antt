@@ -1,5 +1,5 @@
 -- What is read from where a device's sectors come from, and what is read of the device.
-use Rattle.std.proofs.Common.{◌≡◌, ℕ, ◌+◌, ◌-◌, ◌*◌, ◌<◌, ◌≤◌, List, length, ◌++◌, take, replicate, Option, Result, Ok, Err, refl, sym, ap, ◌∙◌, subst, arith}
+use Rattle.std.proofs.Common.{◌≡◌, ℕ, ◌+◌, ◌-◌, ◌*◌, ◌<◌, ◌≤◌, List, length, take, replicate, Option, Result, Ok, Err, refl, sym, ap, ◌∙◌, arith}
 use Rattle.std.proofs.lemmas.List.{take-replicate, drop-replicate, length-replicate}
 use Rattle.block_device.specs.Device.{Device}
 use Rattle.dm_table.specs.declared.table.Line.{Line}
@@ -32,11 +32,11 @@ use Rattle.stack_meaning.proofs.lemmas.SectorLemmas.{said_at-line, line_said-ben
 use Rattle.stack_meaning.proofs.lemmas.CostLemmas.{cost-falls}
 use Rattle.stack_meaning.proofs.lemmas.LoadedLemmas.{depth-falls}
 use Rattle.stack_meaning.proofs.lemmas.LeafListLemmas.{AreRead-none}
-use Rattle.stack_meaning.proofs.lemmas.FoundLemmas.{said_at-mono, Grown-none, kept-later}
+use Rattle.stack_meaning.proofs.lemmas.FoundLemmas.{Grown-none, kept-later}
 use Rattle.stack_meaning.proofs.lemmas.SpanLemmas.{span_zeros, span_fails}
 use Rattle.stack_lines.specs.Touches.{leaves_of, source_leaves}
 use Rattle.stack_lines.proofs.lemmas.TouchLemmas.{one-within, served-within}
-use Rattle.stack_meaning.proofs.lemmas.RunLemmas.{run_ok, run_err, Passes, pass}
+use Rattle.stack_meaning.proofs.lemmas.RunLemmas.{Passes, pass}
 use Rattle.stack_meaning.proofs.lemmas.PlainLemmas.{plain-none, plain-as, plain-then}
 
 -- ---- what is said of the sectors where those of a device come from
@@ -109,7 +109,7 @@ served-holds c d s n (Blocks x) r = r.come.3
 
 -- ---- reads
 
-served-passes : (c : Configuration) (d s n : ℕ) (source : Source) → IsLoaded c → 0 < n → IsServed c d s n source → Passes (source_place c source) (place_of c (mapped d)) 0 s n
+pub served-passes : (c : Configuration) (d s n : ℕ) (source : Source) → IsLoaded c → 0 < n → IsServed c d s n source → Passes (source_place c source) (place_of c (mapped d)) 0 s n
 served-passes c d s n source loaded some r = record {
   said = λ j h. let e : 0 + j ≡ j = omega arith in ap (source_said c source) e ∙ served-said c d s n j source loaded h r;
   cost = served-cost c d s n source loaded some r;
@@ -153,22 +153,6 @@ fails_of c n leaves found kept some = record {
   kept = kept;
 }
 
--- ---- runs of one device
-
-module _ (c : Configuration) (d first a m : ℕ) (source : Source) {old mid new : List Device} {u v w : List FoundRecord} {x : List ℕ} (loaded : IsLoaded c) (some : 0 < m) (r : IsServed c d (first + a) m source)
-    (p : Reads c (mapped d) first a (record { old = old; new = mid; before = u; after = v }) (Ok x)) where
-  pub device_ok : {y : List ℕ} → ReadsSource c source m (record { old = mid; new = new; before = v; after = w }) (Ok y)
-      → Reads c (mapped d) first (a + m) (record { old = old; new = new; before = u; after = w }) (Ok (x ++ y))
-  device_ok {y = y} q =
-      run_ok (place_of c (mapped d)) c (said_at-mono c (mapped d)) first a m p
-      (pass (served-passes c d (first + a) m source loaded some r) (record { old = mid; new = new; before = v; after = w }) (Ok y) q)
-
-  pub device_err : (n : ℕ) (fault : IoFault) → a + m ≤ n → ReadsSource c source m (record { old = mid; new = new; before = v; after = w }) (Err fault)
-      → Reads c (mapped d) first n (record { old = old; new = new; before = u; after = w }) (Err fault)
-  device_err n fault h q =
-      run_err (place_of c (mapped d)) c (said_at-mono c (mapped d)) first a m p n fault h
-      (pass (served-passes c d (first + a) m source loaded some r) (record { old = mid; new = new; before = v; after = w }) (Err fault) q)
-
 -- the reads of some sectors of a device, and of the run behind them
 pub device_plain : (c : Configuration) (d first a m n : ℕ) (source : Source) {old mid new : List Device} {result : Result Unit IoFault} → IsLoaded c → a + m ≤ n → IsServed c d (first + a) m source
     → IsPlain (said_at c (mapped d)) first a old mid (Ok tt) → IsPlain (source_said c source) 0 m mid new result → IsPlain (said_at c (mapped d)) first n old new result
@@ -196,8 +180,3 @@ leaf_of c i first n found kept p = record {
   grown = Grown-none (λ s. (said_at c (Leaf i) s).entries) first n found;
   kept = kept-later c found p.moved kept;
 }
-
--- the same read by equal numbers and bytes
-pub same_reads : (c : Configuration) (lower : Lower) (first : ℕ) {n m : ℕ} (did : LeafRead) {x y : List ℕ} → n ≡ m → x ≡ y → Reads c lower first n did (Ok x) → Reads c lower first m did (Ok y)
-same_reads c lower first {n = n} {m = m} did {x = x} e f p =
-    subst (λ (b : List ℕ). Reads c lower first m did (Ok b)) f (subst (λ (j : ℕ). Reads c lower first j did (Ok x)) e p)

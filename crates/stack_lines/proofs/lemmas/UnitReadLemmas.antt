@@ -187,7 +187,6 @@ module _ (c : Configuration) (lower : Lower) (crypt : Crypt) (w n cost : ℕ) (t
     used = λ k x below.
         units-some (said_at c lower) crypt w aligned (λ y. Contains y.entries (found_entry (get_or p.added k x))) (λ y. Contains y.entries (found_entry (get_or p.added k x)))
         (λ s some. in-gathered (λ t. (said_at c lower t).entries) (unit_first crypt s) (unit_sectors crypt) some.0 (found_entry (get_or p.added k x)) some.1 some.2) n (p.used k x below);
-    distinct = p.distinct;
   }
 
   -- they were decrypted in place
@@ -288,7 +287,6 @@ module _ (c : Configuration) (lower : Lower) (crypt : Crypt) (w0 r n cost dear :
     added = p.added;
     is = p.is;
     used = λ k x below. unit-some (λ first. Contains (gathered (λ t. (said_at c lower t).entries) first (unit_sectors crypt)) (found_entry (get_or p.added k x))) (p.used k x below);
-    distinct = p.distinct;
   }
 
   part-said : (j : ℕ) → units_said c lower crypt w0 (0 + (r + j)) ≡ units_said c lower crypt (w0 + r) (0 + j)

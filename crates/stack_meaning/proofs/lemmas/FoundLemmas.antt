@@ -20,7 +20,7 @@ use Rattle.stack_meaning.specs.Found.{FoundRecord, Entry, found_entry, AreUsed, 
 use Rattle.stack_meaning.specs.Kept.{LineKeeps, AllKept, target_leaves}
 
 pub Grown-none : (entries : ℕ → List Entry) (first n : ℕ) (found : List FoundRecord) → HasGrown entries first n found found
-Grown-none entries first n found = record { added = []; is = sym (append-nil found); used = All-nil _; distinct = λ h. h }
+Grown-none entries first n found = record { added = []; is = sym (append-nil found); used = All-nil _ }
 
 -- on the way of some of more sectors
 used-more : (entries : ℕ → List Entry) (first a m n : ℕ) (found : List FoundRecord) → a + m ≤ n → AreUsed entries (first + a) m found → AreUsed entries first n found
@@ -39,7 +39,6 @@ Grown-then {entries = entries} {first = first} {a = a} {m = m} {n = n} {u = u} h
   added = p.added ++ q.added;
   is = q.is ∙ ap (λ (x : List FoundRecord). x ++ q.added) p.is ∙ append_assoc u p.added q.added;
   used = used-less entries first (a + m) n (p.added ++ q.added) h (used-append entries first a m p.added q.added p.used q.used);
-  distinct = λ d. q.distinct (p.distinct d);
 }
 
 pub grown-keeps : {entries : ℕ → List Entry} {first n : ℕ} {u v : List FoundRecord} → HasGrown entries first n u v → (x : FoundRecord) → Contains u x → Contains v x

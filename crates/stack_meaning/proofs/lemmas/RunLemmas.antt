@@ -185,7 +185,6 @@ module _ {place place' : Place} {first first' n : ℕ} (passes : Passes place pl
       used = λ k d below.
           let some = p.grown.used k d below in
           (some.0, some.1, subst (λ (x : Said). Contains x.entries (found_entry (get_or p.grown.added k d))) (passes.said some.0 some.1) some.2);
-      distinct = p.grown.distinct;
     };
     kept = p.kept;
   }

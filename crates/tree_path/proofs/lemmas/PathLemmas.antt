@@ -9,7 +9,7 @@ use Rattle.tree_shape.specs.Shape.{ShapeRecord, levels, slot, ancestor, position
 use Rattle.verity_format.specs.Blocks.{IsFullRead, block_at}
 use Rattle.tree_path.specs.Path.{PathRecord, LeadsTo, AreStored, block_of, digest_on, stored_block, stored_digest}
 use Rattle.tree_path.specs.Steps.{steps, IsDown, IsKeptAbove, IsStepLoaded, IsUnloaded}
-use Rattle.tree_path.proofs.lemmas.DeviceLemmas.{full_read-none, full_read-then, steady-then}
+use Rattle.verity_format.proofs.lemmas.DeviceLemmas.{full_read-none, full_read-then, steady-then}
 
 module _ (p : PathRecord) (i m : ℕ) where
   pub digest_on-top : m ≡ levels p.shape → digest_on p i m ≡ p.root

@@ -1,7 +1,7 @@
 -- What a repair doesn't change of its devices: their sizes, and whether they may be written.
 use Rattle.std.proofs.Common.{ℕ, Bool, List, Option, inl, inr, subst, sym}
 use Rattle.block_device.specs.Device.{IsSameDevice}
-use Rattle.tree_path.proofs.lemmas.DeviceLemmas.{same-none}
+use Rattle.verity_format.proofs.lemmas.DeviceLemmas.{same-none}
 use Rattle.tree_repair.specs.declared.fault.RepairFault.{RepairFault}
 use Rattle.tree_repair.specs.declared.repair.Plan.{Plan}
 use Rattle.tree_repair.specs.Repairs.{IsUnrepairedBy, job_of}

@@ -15,7 +15,7 @@ returns-in-Ok-clause-ok c =
     c.as_bytes.ensures.value c.option_words-options.ensures
     (ap (λ s. texts_of s.now) c.unwrap_or-positional.ensures ∙ (texts-are c.get_strs.result _ refl ∙ ap (λ o. unwrap_or o []) c.get_strs.ensures))
     (c.is_behind_dashes-behind_dashes.ensures ∙ ap (is_behind_dashes (map string_bytes c.args.words.now)) (sym (length-map c.unwrap_or-positional.result.now (λ word. word.now))))
-    ∙ c.in-Ok.ensures.ok
+    ∙ c.in-Ok.ensures
 
 pub returns-clause-err : goal.returns-clause-err
 returns-clause-err c =
@@ -24,7 +24,7 @@ returns-clause-err c =
     c.as_bytes.ensures.value c.option_words-options.ensures
     (ap (λ s. texts_of s.now) c.unwrap_or-positional.ensures ∙ (texts-are c.get_strs.result _ refl ∙ ap (λ o. unwrap_or o []) c.get_strs.ensures))
     (c.is_behind_dashes-behind_dashes.ensures ∙ ap (is_behind_dashes (map string_bytes c.args.words.now)) (sym (length-map c.unwrap_or-positional.result.now (λ word. word.now)))) in
-    usage-map c.in-Err.fault (λ none. inr (is ∙ none)) c.in-Err.ensures.err
+    usage-map c.in-Err.fault (λ none. inr (is ∙ none)) c.in-Err.ensures
 
 pub returns-in-Ok-clause-options : goal.returns-in-Ok-clause-options
 returns-in-Ok-clause-options c =

@@ -2,7 +2,7 @@ use Rattle.std.proofs.Common.{◌≡◌, ◌/◌, ℕ, List, length, sym, ap, �
 use Rattle.std.proofs.lemmas.Result.{err_from_is_err_and}
 use Rattle.fec_area.specs.Layouts.{IsParityOf, round_bytes}
 use Rattle.verity_format.specs.Blocks.{block_at}
-use Rattle.verity_format.proofs.DeviceLemmas.{only_read-none, only_read-then, steady-then}
+use Rattle.verity_format.proofs.lemmas.DeviceLemmas.{only_read-none, only_read-then, steady-then}
 use Rattle.fec_area.proofs.CallLemmas.{call-read, other-told, same-told, read-none, read-then, unfailed-none, unfailed-then, one_failed-then, laid-then, image-then}
 use Rattle.fec_area.proofs.LayoutLemmas.{round-quotient}
 use Rattle.fec_area.proofs.WritingLemmas.{round-at, round-more, round-other, write-inside}

@@ -2,7 +2,7 @@ use Rattle.std.proofs.Common.{◌+◌, ◌*◌, ◌/◌, ◌<◌, ◌≤◌, ℕ
 use Rattle.std.proofs.lemmas.Result.{err_from_is_err_and}
 use Rattle.block_device.specs.Call.{DeviceDoes}
 use Rattle.fec_area.specs.Layouts.{IsParityOf, parity_sectors, code_rounds}
-use Rattle.verity_format.proofs.DeviceLemmas.{only_written-none, only_written-write, only_written-then, steady-then, failed-then}
+use Rattle.verity_format.proofs.lemmas.DeviceLemmas.{only_written-none, only_written-write, only_written-then, steady-then, failed-then}
 use Rattle.fec_area.proofs.CallLemmas.{read-none, read-then, unfailed-none, unfailed-then, one_failed-then, laid-then, image-then}
 use Rattle.fec_area.proofs.HandingLemmas.{handed-end, handed-failed, handed-next, handed-none, handed-stop}
 use Rattle.fec_area.proofs.LayoutLemmas.{round-quotient}

@@ -26,4 +26,5 @@ returns c = record {
   measured = λ old new path part is. part-measured old path part is.1;
   replaced = text-replaced;
   kept_replacing = others-unreplaced;
+  kept_trying = λ old new path outcome is. ap file_under is.0;
 }

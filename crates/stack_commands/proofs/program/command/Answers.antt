@@ -22,5 +22,5 @@ returns-else-output_is_data g c = inr (record {
   unwritten = c.run.new.writer.failed;
   fails = c.in-Err.ensures.err;
   kept = c.end-else-output_is_data.ensures.failed;
-  told_so = told-here _ c.in-Err.fault _ _ _ _ (sym c.output_is_data.ensures ∙ c.if-output_is_data.false) c.end-else-output_is_data.ensures.told;
+  told_so = told-here _ c.in-Err.fault _ _ _ _ (sym c.output_is_data.ensures ∙ c.if-output_is_data.false) c.end-else-output_is_data.ensures.told (λ command output. c.tell_output.ensures output ∙ c.explain.ensures command);
 })

@@ -2,7 +2,7 @@ use Rattle.std.proofs.Common.{map, refl, inl, inr}
 use Rattle.std.specs.Prelude.{string_bytes}
 use Rattle.std.proofs.lemmas.Result.{IfErr-weaker, on_ok_weaker}
 use Rattle.command_parser.specs.CommandLines.{IsNoCommand}
-use Rattle.command_line.specs.CommandWords.{invocation_record}
+use Rattle.command_line.specs.Invocations.{invocation_record}
 use Rattle.command_line.specs.FormatOptions.{option_texts}
 use Rattle.stack_commands.specs.Endings.{command_words_ending}
 use Rattle.stack_commands.proofs.OpeningLemmas.{err-from}

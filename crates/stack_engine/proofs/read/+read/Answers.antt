@@ -1,11 +1,11 @@
 use Rattle.std.proofs.Common.{All, ◌≡◌, ◌<◌, ◌≤◌, ◌+◌, ◌/◌, ◌*◌, ◌-◌, ◌%◌, length, take, drop, map, replicate, get_or, ℕ, List, [], ◌∷◌, ◌++◌, Vec, Global, Option, Result, Ok, Err, inl, refl, sym, ap, ◌∙◌, subst, arith}
-use Rattle.std.proofs.lemmas.List.{length-take, length-take-le, length-drop, length-append, map-append}
-use Rattle.std.proofs.Math.Seq.{get_or-append_seam}
+use Rattle.std.proofs.lemmas.List.{length-take, length-take-le, length-drop, length-append, map-append, take_all}
+use Rattle.std.proofs.Math.Seq.{get_or-append_seam, take-append_seam}
 use Rattle.std.proofs.lemmas.Slice.Eq.{bytes_eq-Decides}
 use Rattle.std.proofs.lemmas.Bool.{eqb-true}
 use Rattle.std.proofs.lemmas.Slice.{take-put_mid}
 use Rattle.std.proofs.lemmas.List.{with_items_is}
-use Rattle.std.specs.Prelude.{option_map, IfErr}
+use Rattle.std.specs.Prelude.{option_map}
 use Rattle.std.specs.Vec.{with_items}
 use borrow.Rule.Slice.PartMut.{put_mid, same_len_mid}
 use Rattle.tree_shape.specs.Digests.{digest, digest_in}
@@ -26,12 +26,11 @@ use Rattle.stack_meaning.specs.Blocks.{hash_sectors, hash_start, next_digest}
 use Rattle.stack_lines.specs.Walks.{block_in, checked_expected, GetsChain, IsWalked}
 use Rattle.stack_meaning.specs.declared.fault.IoFault.{IoFault}
 use Rattle.stack_meaning.specs.Places.{place_of, run_expected, LeafRead}
-use Rattle.stack_meaning.specs.Reading.{Gets, Reads, buffer_answer}
-use Rattle.stack_lines.specs.Sources.{ReadsSource}
+use Rattle.stack_meaning.specs.Reading.{Gets, buffer_answer}
 use Rattle.stack_engine.proofs.RunBytesLemmas.{room_sectors, next-run, run-can}
 use Rattle.stack_engine.proofs.StackLemmas.{stack-later}
 use Rattle.stack_meaning.proofs.lemmas.LoadedLemmas.{size-small}
-use Rattle.stack_lines.proofs.lemmas.SourceLemmas.{served-depth, below_of, leaf_of, empty_read, zeros_of, fails_of, device_ok, device_err, same_reads}
+use Rattle.stack_lines.proofs.lemmas.SourceLemmas.{served-depth, below_of, leaf_of, empty_read, zeros_of, fails_of}
 use Rattle.stack_lines.proofs.lemmas.VerityLineLemmas.{data-whole, hash-whole, hash-depth, data-depth}
 use Rattle.stack_engine.proofs.PathBlockLemmas.{bytes, hash_place_of, hash-lies, block_there, checked_as, place_key, hash_read, hash_failed, data_had, data_failed}
 use Rattle.stack_meaning.specs.Memory.{largest_allocation}
@@ -40,7 +39,7 @@ use Rattle.stack_lines.proofs.lemmas.StandingLemmas.{named-inside, knows-all}
 use Rattle.stack_engine.proofs.BlockPartLemmas.{kept_length, contains_at, part-room, part_found, part_walked, part_err, part_full, block-at, block-meets}
 use Rattle.stack_lines.specs.declared.source.CryptPart.{CryptPart}
 use Rattle.stack_lines.specs.Sources.{AreUnits}
-use Rattle.stack_engine.proofs.lemmas.BlockLemmas.{length-content}
+use Rattle.stack_engine.proofs.lemmas.BlockLemmas.{distinct-push, length-content}
 use Rattle.stack_engine.proofs.lemmas.WalkLemmas.{checked_ok, checked_err, data_zeros, data_read, walk_full}
 use Rattle.stack_meaning.proofs.lemmas.LeafLemmas.{all-whole}
 use Rattle.stack_rules.specs.Units.{unit_sectors}
@@ -54,10 +53,10 @@ use Rattle.stack_lines.specs.Caches.{IsCached}
 use Rattle.stack_engine.proofs.PathLemmas.{path-read, path-hit, path-put, path-down, path-failed, path-stopped, path-ended, path-whole, no_block}
 use Rattle.stack_engine.proofs.BlocksLemmas.{blocks-at, blocks-meet}
 use Rattle.stack_engine.proofs.NextBlockLemmas.{sub-same, way-whole, block-begin, far, row-next, row-fails, row-ahead, checked-none, turn-at, way-fails, way-costs, row-at, row-got, row-costs, put-at, row-covers, checked-as, checked-all, block-differs, block-full, block-checked, rest-ahead}
-use Rattle.stack_engine.specs.Keeping.{AreHandedOut, one_found}
-use Rattle.stack_engine.proofs.KeepingLemmas.{kept-reads, one-out, gets-none}
-use Rattle.stack_lines.specs.Touches.{NamesOneOf, failures_behind, leaves_of}
-use Rattle.stack_meaning.proofs.lemmas.FoundLemmas.{Grown-none}
+use Rattle.stack_engine.specs.declared.path.Chains.TheVariants.{Kept}
+use Rattle.stack_engine.specs.Keeping.{with_chains, AreHandedOut, ReadsAs, ReadsSourceAs, one_found}
+use Rattle.stack_engine.proofs.KeepingLemmas.{device_err, device_ok, finds-as, finds-begin, finds-kept, finds-none, finds-up, gets-none, one-out, same_reads}
+use Rattle.stack_lines.specs.Touches.{leaves_of}
 use Rattle.stack_meaning.proofs.lemmas.LeafListLemmas.{AreRead-none}
 use Rattle.stack_engine.proofs.SpentLemmas.{IsCutBehind, block-spent, had-spent}
 use Rattle.stack_lines.proofs.lemmas.TouchLemmas.{data-within}
@@ -70,19 +69,19 @@ use Rattle.stack_engine.proofs.read.+read.Goals as goal
 
 pub read_device-overflow_add-first : goal.read_device-overflow_add-first
 read_device-overflow_add-first g t c =
-    let small = size-small c.args.config.now (mapped c.args.d.0) c.requires.stack.sound.loaded in omega (arith, small, c.requires.fits.holds)
+    let small = size-small c.args.config.now (mapped c.args.from.0.0) c.requires.stack.sound.loaded in omega (arith, small, c.requires.fits.holds)
 
 pub read_device-read_run-requires : goal.read_device-read_run-requires
 read_device-read_run-requires g t c κs within =
     let config = c.args.config.now in
     let next = c.run_to_read-run in
     let inv = c.loop-at.invariant in
-    let run = next-run c.args.first c.loop-at.at (length c.args.out.now / 512) c.loop-at.out inv.whole c.loop-at-test.true (omega (arith, c.loop-at.auto.out)) next.ensures.served next.ensures.some next.ensures.most next.ensures.ends in
-    let deep = served-depth config c.args.d.0 (c.args.first + c.loop-at.at / 512) next.result.count next.result.source c.requires.stack.sound.loaded run.some run.served in (
+    let run = next-run c.args.from.1 c.loop-at.at (length c.args.out.now / 512) c.loop-at.out inv.whole c.loop-at-test.true (omega (arith, c.loop-at.auto.out)) next.ensures.served next.ensures.some next.ensures.most next.ensures.ends in
+    let deep = served-depth config c.args.from.0.0 (c.args.from.1 + c.loop-at.at / 512) next.result.count next.result.source c.requires.stack.sound.loaded run.some run.served in (
       omega (arith, deep),
       (
         within,
-        run-can run (stack-later config inv.so_far.got.moved.moved.fixed c.requires.stack inv.step.cached) inv.so_far.kept (subst (CanGo config next.result.source next.result.count) c.as_slice.ensures.value next.ensures.can_go),
+        run-can run (stack-later config inv.so_far.reads.got.moved.moved.fixed c.requires.stack inv.step.cached) (finds-kept c.args.chains c.requires.kept inv.so_far) (subst (CanGo config next.result.source next.result.count) c.as_slice.ensures.value next.ensures.can_go),
       ),
     )
 
@@ -97,15 +96,15 @@ read_device-loop-at-preserved g t c =
     let source = next.result.source in
     let count = next.result.count in
     let end : ℕ = at + count * 512 in
-    let run = next-run c.args.first at (length c.args.out.now / 512) out inv.whole c.loop-at-test.true (omega (arith, c.loop-at.auto.out)) next.ensures.served next.ensures.some next.ensures.most next.ensures.ends in
+    let run = next-run c.args.from.1 at (length c.args.out.now / 512) out inv.whole c.loop-at-test.true (omega (arith, c.loop-at.auto.out)) next.ensures.served next.ensures.some next.ensures.most next.ensures.ends in
     let front : take end (put_mid at (end - at) out c.read_run.new.out) ≡ take at out ++ c.read_run.new.out = take-put_mid at (end - at) out c.read_run.new.out end (omega (arith, c.read_run.auto.out, run.len)) inv.within in
-    let more = subst (λ (n : ℕ). ReadsSource config source n (did g.D.BlockDev.state c.loop-at.backing c.loop-at.found.items c.read_run.new.backing c.read_run.new.found.items) (Ok c.read_run.new.out)) run.sectors c.in-Ok.ensures.reads in
+    let more = subst (λ (n : ℕ). ReadsSourceAs c.args.chains config source n (did g.D.BlockDev.state c.loop-at.backing c.loop-at.found.items c.read_run.new.backing c.read_run.new.found.items) (Ok c.read_run.new.out)) run.sectors c.in-Ok.ensures.reads in
     record {
       whole = omega (arith, inv.whole);
       within = omega (arith, length-take end (put_mid at (end - at) out c.read_run.new.out), ap length front, length-append (take at out) c.read_run.new.out, length-take at out, c.read_run.auto.out, run.len, inv.within);
-      so_far = same_reads config (mapped c.args.d.0) c.args.first _ run.next (sym front) (device_ok config c.args.d.0 c.args.first (at / 512) count source loaded run.some run.served inv.so_far more);
+      so_far = same_reads config (mapped c.args.from.0.0) c.args.from.1 run.next (sym front) (device_ok config c.args.from.0.0 c.args.from.1 (at / 512) count source c.args.chains loaded run.some run.served inv.so_far more);
       step = device-step-ok loaded run inv.cut run.sectors inv.step c.in-Ok.ensures.step;
-      cut = subst (λ (k : ℕ). IsCutBehind config c.args.d.0 c.args.first k (length c.args.out.now / 512)) run.next run.behind;
+      cut = subst (λ (k : ℕ). IsCutBehind config c.args.from.0.0 c.args.from.1 k (length c.args.out.now / 512)) run.next run.behind;
     }
 
 pub read_device-returns-in-Err-clause-reads : goal.read_device-returns-in-Err-clause-reads
@@ -113,9 +112,15 @@ read_device-returns-in-Err-clause-reads g t c =
     let config = c.args.config.now in
     let next = c.run_to_read-run in
     let inv = c.loop-at.invariant in
-    let run = next-run c.args.first c.loop-at.at (length c.args.out.now / 512) c.loop-at.out inv.whole c.loop-at-test.true (omega (arith, c.loop-at.auto.out)) next.ensures.served next.ensures.some next.ensures.most next.ensures.ends in
-    let more = subst (λ (n : ℕ). ReadsSource config next.result.source n (did g.D.BlockDev.state c.loop-at.backing c.loop-at.found.items c.read_run.new.backing c.read_run.new.found.items) (Err c.in-Err.fault)) run.sectors c.in-Err.ensures.reads in
-    device_err config c.args.d.0 c.args.first (c.loop-at.at / 512) next.result.count next.result.source c.requires.stack.sound.loaded run.some run.served inv.so_far _ c.in-Err.fault run.inside more
+    let run = next-run c.args.from.1 c.loop-at.at (length c.args.out.now / 512) c.loop-at.out inv.whole c.loop-at-test.true (omega (arith, c.loop-at.auto.out)) next.ensures.served next.ensures.some next.ensures.most next.ensures.ends in
+    let more = subst (λ (n : ℕ). ReadsSourceAs c.args.chains config next.result.source n (did g.D.BlockDev.state c.loop-at.backing c.loop-at.found.items c.read_run.new.backing c.read_run.new.found.items) (Err c.in-Err.fault)) run.sectors c.in-Err.ensures.reads in
+    device_err config c.args.from.0.0 c.args.from.1 (c.loop-at.at / 512) next.result.count next.result.source c.args.chains c.requires.stack.sound.loaded run.some run.served inv.so_far _ c.in-Err.fault run.inside more
+
+pub read_device-returns-clause-reads : goal.read_device-returns-clause-reads
+read_device-returns-clause-reads g t c =
+    let inv = c.loop-at.invariant in
+    let all : c.loop-at.at / 512 ≡ length c.args.out.now / 512 = omega (arith, inv.within, c.loop-at-test.false, c.loop-at.auto.out) in
+    same_reads c.args.config.now (mapped c.args.from.0.0) c.args.from.1 all (take_all c.loop-at.at c.loop-at.out (omega (arith, c.loop-at-test.false))) inv.so_far
 
 pub read_lower-returns-in-Leaf-clause-reads : goal.read_lower-returns-in-Leaf-clause-reads
 read_lower-returns-in-Leaf-clause-reads g t c =
@@ -127,10 +132,10 @@ read_lower-returns-in-Leaf-clause-reads g t c =
     let answer : Result (List ℕ) IoFault = buffer_answer c.read_leaf.result c.read_leaf.new.out in
     let stands : (with_items devices c.read_leaf.new.devices).items ≡ c.read_leaf.new.devices =
     with_items_is devices c.read_leaf.new.devices (c.read_leaf.auto.devices ∙ ap (λ l. length l) c.as_mut_slice.ensures.value ∙ sym devices.ok.0) in
-    let one = subst (λ ds. Gets (run_expected (place_of config (Leaf c.in-Leaf.leaf)) found c.args.first n) (map state ds) (map state c.read_leaf.new.devices) answer) c.as_mut_slice.ensures.value (c.read_leaf.ensures.reads.got found) in
-    subst (λ ds. Reads config c.args.lower c.args.first n (record { old = map state devices.items; new = map state ds; before = found; after = found }) answer) (sym stands)
-    (subst (λ (x : Lower). Reads config x c.args.first n (record { old = map state devices.items; new = map state c.read_leaf.new.devices; before = found; after = found }) answer) (sym c.in-Leaf.is)
-    (leaf_of config c.in-Leaf.leaf c.args.first n found c.requires.kept one))
+    let one = subst (λ ds. Gets (run_expected (place_of config (Leaf c.in-Leaf.leaf)) found c.args.from.1 n) (map state ds) (map state c.read_leaf.new.devices) answer) c.as_mut_slice.ensures.value (c.read_leaf.ensures.reads.got found) in
+    subst (λ ds. ReadsAs c.args.chains config c.args.from.0 c.args.from.1 n (record { old = map state devices.items; new = map state ds; before = found; after = found }) answer) (sym stands)
+    (subst (λ (x : Lower). ReadsAs c.args.chains config x c.args.from.1 n (record { old = map state devices.items; new = map state c.read_leaf.new.devices; before = found; after = found }) answer) (sym c.in-Leaf.is)
+    (finds-none c.args.chains (leaf_of config c.in-Leaf.leaf c.args.from.1 n found c.requires.kept one)))
 
 pub read_lower-returns-in-Device-clause-reads : goal.read_lower-returns-in-Device-clause-reads
 read_lower-returns-in-Device-clause-reads g t c = rw c.in-Device.is c.read_device.ensures.reads
@@ -144,8 +149,8 @@ read_lower-returns-in-Leaf-clause-step g t c =
     let cache = c.args.backing.now.cache in
     let stands : (with_items devices c.read_leaf.new.devices).items ≡ c.read_leaf.new.devices =
     with_items_is devices c.read_leaf.new.devices (c.read_leaf.auto.devices ∙ ap (λ l. length l) c.as_mut_slice.ensures.value ∙ sym devices.ok.0) in
-    subst (λ ds. IsReadStep config (run_beneath config c.args.lower c.args.first n) (backing_of state c.args.backing.now) (record { leaves = map state ds; cache = cache }) c.read_leaf.result) (sym stands)
-    (subst (λ (x : Lower). IsReadStep config (run_beneath config x c.args.first n) (backing_of state c.args.backing.now) (record { leaves = map state c.read_leaf.new.devices; cache = cache }) c.read_leaf.result) (sym c.in-Leaf.is)
+    subst (λ ds. IsReadStep config (run_beneath config c.args.from.0 c.args.from.1 n) (backing_of state c.args.backing.now) (record { leaves = map state ds; cache = cache }) c.read_leaf.result) (sym stands)
+    (subst (λ (x : Lower). IsReadStep config (run_beneath config x c.args.from.1 n) (backing_of state c.args.backing.now) (record { leaves = map state c.read_leaf.new.devices; cache = cache }) c.read_leaf.result) (sym c.in-Leaf.is)
     (leaf-step (backing_of state c.args.backing.now) c.read_leaf.ensures.reads (ap (map state) c.as_mut_slice.ensures.value) c.requires.stack.cached))
 
 pub read_lower-returns-in-Device-clause-step : goal.read_lower-returns-in-Device-clause-step
@@ -155,22 +160,22 @@ pub read_run-returns-in-Below-clause-reads : goal.read_run-returns-in-Below-clau
 read_run-returns-in-Below-clause-reads g t c =
     let state = g.D.BlockDev.state in
     let did : LeafRead = record { old = map state c.args.backing.now.devices.items; new = map state c.read_lower.new.backing.devices.items; before = c.args.found.now.items; after = c.read_lower.new.found.items } in
-    rw c.in-Below.is (below_of c.args.config.now c.in-Below.lower c.in-Below.first (length c.args.out.now / 512) did (buffer_answer c.read_lower.result c.read_lower.new.out) c.read_lower.ensures.reads)
+    rw c.in-Below.is (finds-up c.read_lower.ensures.reads (λ after. below_of c.args.config.now c.in-Below.lower c.in-Below.first (length c.args.out.now / 512) (with_chains did after) (buffer_answer c.read_lower.result c.read_lower.new.out)))
 
 pub read_run-returns-in-Fails-clause-reads : goal.read_run-returns-in-Fails-clause-reads
 read_run-returns-in-Fails-clause-reads g t c =
     let old = map g.D.BlockDev.state c.args.backing.now.devices.items in
     let n : ℕ = length c.args.out.now / 512 in
-    subst (λ (s : Source). ReadsSource c.args.config.now s n (empty_read old c.args.found.now.items) (Err (Stack ErrorTarget))) (sym c.in-Fails.is)
-    (fails_of c.args.config.now n old c.args.found.now.items c.requires.kept (omega (arith, c.requires.fits.sectors.some, c.requires.fits.sectors.whole)))
+    subst (λ (s : Source). ReadsSourceAs c.args.chains c.args.config.now s n (empty_read old c.args.found.now.items) (Err (Stack ErrorTarget))) (sym c.in-Fails.is)
+    (finds-none c.args.chains (fails_of c.args.config.now n old c.args.found.now.items c.requires.kept (omega (arith, c.requires.fits.sectors.some, c.requires.fits.sectors.whole))))
 
 pub read_run-returns-in-Zeros-clause-reads : goal.read_run-returns-in-Zeros-clause-reads
 read_run-returns-in-Zeros-clause-reads g t c =
     let old = map g.D.BlockDev.state c.args.backing.now.devices.items in
     let n : ℕ = length c.args.out.now / 512 in
     let whole : length c.args.out.now ≡ 512 * n = omega (arith, c.requires.fits.sectors.whole) in
-    subst (λ (s : Source). ReadsSource c.args.config.now s n (empty_read old c.args.found.now.items) (Ok c.fill_zeros.new.out)) (sym c.in-Zeros.is)
-    (zeros_of c.args.config.now n old c.args.found.now.items c.fill_zeros.new.out c.requires.kept (c.fill_zeros.ensures ∙ ap (λ (k : ℕ). replicate k 0) whole))
+    subst (λ (s : Source). ReadsSourceAs c.args.chains c.args.config.now s n (empty_read old c.args.found.now.items) (Ok c.fill_zeros.new.out)) (sym c.in-Zeros.is)
+    (finds-none c.args.chains (zeros_of c.args.config.now n old c.args.found.now.items c.fill_zeros.new.out c.requires.kept (c.fill_zeros.ensures ∙ ap (λ (k : ℕ). replicate k 0) whole)))
 
 pub read_run-returns-in-Units-clause-reads : goal.read_run-returns-in-Units-clause-reads
 read_run-returns-in-Units-clause-reads g t c = rw c.in-Units.is c.read_units.ensures.reads
@@ -203,9 +208,9 @@ read_units-returns-in-Ok-clause-reads g t c =
     let x = c.args.part in
     let n : ℕ = length c.args.out.now / 512 in
     let did : LeafRead = record { old = map state c.args.backing.now.devices.items; new = map state c.read_lower.new.backing.devices.items; before = c.args.found.now.items; after = c.read_lower.new.found.items } in
-    subst (λ (b : List ℕ). ReadsSource config (Units x) n did (Ok b)) (sym (c.decrypt.ensures ∙ ap (λ (k : ℕ). decrypted_units x.crypt.now k c.read_lower.new.out) c.unit_at-unit.ensures.index))
-    (units-read config x n c.requires.stack.sound.loaded c.requires.fits.holds did (all-whole state g.met.D.BlockDev.whole c.args.backing.now.devices.items) c.read_lower.new.out
-    (subst (λ (k : ℕ). Reads config x.lower k n did (Ok c.read_lower.new.out)) c.unit_at-unit.ensures.first c.in-Ok.ensures.reads))
+    subst (λ (b : List ℕ). ReadsSourceAs c.args.chains config (Units x) n did (Ok b)) (sym (c.decrypt.ensures ∙ ap (λ (k : ℕ). decrypted_units x.crypt.now k c.read_lower.new.out) c.unit_at-unit.ensures.index))
+    (finds-up (subst (λ (k : ℕ). ReadsAs c.args.chains config x.lower k n did (Ok c.read_lower.new.out)) c.unit_at-unit.ensures.first c.in-Ok.ensures.reads)
+    (λ after. units-read config x n c.requires.stack.sound.loaded c.requires.fits.holds (with_chains did after) (all-whole state g.met.D.BlockDev.whole c.args.backing.now.devices.items) c.read_lower.new.out))
 
 pub read_units-returns-in-Err-clause-reads : goal.read_units-returns-in-Err-clause-reads
 read_units-returns-in-Err-clause-reads g t c =
@@ -214,14 +219,14 @@ read_units-returns-in-Err-clause-reads g t c =
     let x = c.args.part in
     let n : ℕ = length c.args.out.now / 512 in
     let did : LeafRead = record { old = map state c.args.backing.now.devices.items; new = map state c.read_lower.new.backing.devices.items; before = c.args.found.now.items; after = c.read_lower.new.found.items } in
-    units-failed config x n c.requires.stack.sound.loaded c.requires.fits.holds did (all-whole state g.met.D.BlockDev.whole c.args.backing.now.devices.items) c.in-Err.fault
-    (subst (λ (k : ℕ). Reads config x.lower k n did (Err c.in-Err.fault)) c.unit_at-unit.ensures.first c.in-Err.ensures.reads)
+    finds-up (subst (λ (k : ℕ). ReadsAs c.args.chains config x.lower k n did (Err c.in-Err.fault)) c.unit_at-unit.ensures.first c.in-Err.ensures.reads)
+    (λ after. units-failed config x n c.requires.stack.sound.loaded c.requires.fits.holds (with_chains did after) (all-whole state g.met.D.BlockDev.whole c.args.backing.now.devices.items) c.in-Err.fault)
 
 pub read_units-returns-in-Ok-clause-step : goal.read_units-returns-in-Ok-clause-step
-read_units-returns-in-Ok-clause-step g t c = units-step c.args.part c.unit_at-unit.result.first (length c.args.out.now / 512) c.requires.fits.holds c.unit_at-unit.ensures.first c.in-Ok.ensures.reads.got.moved c.in-Ok.ensures.step
+read_units-returns-in-Ok-clause-step g t c = units-step c.args.part c.unit_at-unit.result.first (length c.args.out.now / 512) c.requires.fits.holds c.unit_at-unit.ensures.first c.in-Ok.ensures.reads.reads.got.moved c.in-Ok.ensures.step
 
 pub read_units-returns-in-Err-clause-step : goal.read_units-returns-in-Err-clause-step
-read_units-returns-in-Err-clause-step g t c = units-step c.args.part c.unit_at-unit.result.first (length c.args.out.now / 512) c.requires.fits.holds c.unit_at-unit.ensures.first c.in-Err.ensures.reads.got.moved c.in-Err.ensures.step
+read_units-returns-in-Err-clause-step g t c = units-step c.args.part c.unit_at-unit.result.first (length c.args.out.now / 512) c.requires.fits.holds c.unit_at-unit.ensures.first c.in-Err.ensures.reads.reads.got.moved c.in-Err.ensures.step
 
 -- ---- part of a unit
 
@@ -265,12 +270,12 @@ read_unit_part-returns-in-Ok-clause-reads g t c =
     let of = whole.ensures.whole in
     let count = room_sectors c.as_mut_slice-all.result.now whole.result.sectors (ap (λ (l : List ℕ). length l) c.as_mut_slice-all.ensures.value) whole.ensures.few in
     let did : LeafRead = record { old = map state c.args.backing.now.devices.items; new = map state c.read_units.new.backing.devices.items; before = c.args.found.now.items; after = c.read_units.new.found.items } in
-    let one = subst (λ (k : ℕ). ReadsSource config (Units whole.result.from) k did (Ok c.read_units.new.out)) count c.in-Ok.ensures.reads in
+    let one = subst (λ (k : ℕ). ReadsSourceAs c.args.chains config (Units whole.result.from) k did (Ok c.read_units.new.out)) count c.in-Ok.ensures.reads in
     let len : length c.args.out.now ≡ 512 * n = omega (arith, c.requires.fits.sectors.whole) in
     let is : c.take_sectors.new.out ≡ take (512 * n) (drop (512 * (x.first % unit_sectors x.crypt.now)) c.read_units.new.out) =
     c.take_sectors.ensures ∙ ap (λ (k : ℕ). take k (drop (512 * whole.result.within) c.read_units.new.out)) len ∙ ap (λ (k : ℕ). take (512 * n) (drop (512 * k) c.read_units.new.out)) of.within in
-    subst (λ (b : List ℕ). ReadsSource config (UnitPart x) n did (Ok b)) (sym is)
-    (part-read config x whole.result n of c.requires.fits.holds (omega (arith, c.requires.fits.sectors.some, c.requires.fits.sectors.whole)) c.requires.stack.sound.loaded did (all-whole state g.met.D.BlockDev.whole c.args.backing.now.devices.items) c.read_units.new.out one)
+    subst (λ (b : List ℕ). ReadsSourceAs c.args.chains config (UnitPart x) n did (Ok b)) (sym is)
+    (finds-up one (λ after. part-read config x whole.result n of c.requires.fits.holds (omega (arith, c.requires.fits.sectors.some, c.requires.fits.sectors.whole)) c.requires.stack.sound.loaded (with_chains did after) (all-whole state g.met.D.BlockDev.whole c.args.backing.now.devices.items) c.read_units.new.out))
 
 pub read_unit_part-returns-in-Err-clause-reads : goal.read_unit_part-returns-in-Err-clause-reads
 read_unit_part-returns-in-Err-clause-reads g t c =
@@ -281,8 +286,8 @@ read_unit_part-returns-in-Err-clause-reads g t c =
     let whole = c.whole_unit-whole in
     let count = room_sectors c.as_mut_slice-all.result.now whole.result.sectors (ap (λ (l : List ℕ). length l) c.as_mut_slice-all.ensures.value) whole.ensures.few in
     let did : LeafRead = record { old = map state c.args.backing.now.devices.items; new = map state c.read_units.new.backing.devices.items; before = c.args.found.now.items; after = c.read_units.new.found.items } in
-    part-failed config x whole.result n whole.ensures.whole c.requires.fits.holds (omega (arith, c.requires.fits.sectors.some, c.requires.fits.sectors.whole)) c.requires.stack.sound.loaded did (all-whole state g.met.D.BlockDev.whole c.args.backing.now.devices.items) c.in-Err.fault
-    (subst (λ (k : ℕ). ReadsSource config (Units whole.result.from) k did (Err c.in-Err.fault)) count c.in-Err.ensures.reads)
+    finds-up (subst (λ (k : ℕ). ReadsSourceAs c.args.chains config (Units whole.result.from) k did (Err c.in-Err.fault)) count c.in-Err.ensures.reads)
+    (λ after. part-failed config x whole.result n whole.ensures.whole c.requires.fits.holds (omega (arith, c.requires.fits.sectors.some, c.requires.fits.sectors.whole)) c.requires.stack.sound.loaded (with_chains did after) (all-whole state g.met.D.BlockDev.whole c.args.backing.now.devices.items) c.in-Err.fault)
 
 pub read_unit_part-returns-in-Ok-clause-step : goal.read_unit_part-returns-in-Ok-clause-step
 read_unit_part-returns-in-Ok-clause-step g t c =
@@ -361,14 +366,14 @@ read_block-returns-in-Some-clause-reads g t c =
     ∙ ap (λ (l : List FoundRecord). take (length c.args.out.now) (drop (512 * (p.first % c.from-sectors.result)) ((get_or l c.in-Some.at any_found).chain.content))) c.as_slice-in-Some.ensures.value
     ∙ ap (λ (k : ℕ). take k (drop (512 * (p.first % c.from-sectors.result)) x.chain.content)) len
     ∙ ap (λ (k : ℕ). take (512 * n) (drop (512 * (p.first % k)) x.chain.content)) sectors in
-    part_found (block-at c.requires) _ found x at (contains_at found c.in-Some.at any_found there) c.requires.kept is
+    finds-none c.args.chains (part_found (block-at c.requires) _ found x at (contains_at found c.in-Some.at any_found there) c.requires.kept is)
 
 pub read_block-returns-in-Err-clause-reads : goal.read_block-returns-in-Err-clause-reads
 read_block-returns-in-Err-clause-reads g t c =
     let v = c.args.part.verity.now in
     let p = c.args.part in
     let q = subst (λ (k : ℕ). GetsChain (block_in c.args.config.now v (p.first / k)) (map g.D.BlockDev.state c.args.backing.now.devices.items) (map g.D.BlockDev.state c.walk.new.backing.devices.items) (Err c.in-Err.fault)) c.from-sectors.ensures c.in-Err.ensures.reads in
-    part_err (block-at c.requires) c.args.found.now.items c.in-Err.fault c.requires.kept q
+    finds-none c.args.chains (part_err (block-at c.requires) c.args.found.now.items c.in-Err.fault c.requires.kept q)
 
 pub read_block-returns-in-Err-push-clause-reads : goal.read_block-returns-in-Err-push-clause-reads
 read_block-returns-in-Err-push-clause-reads g t c =
@@ -382,8 +387,8 @@ read_block-returns-in-Err-push-clause-reads g t c =
     let b = block-at c.requires in
     let sectors : c.from-sectors.result ≡ block_sectors v = c.from-sectors.ensures in
     let q = subst (λ (k : ℕ). GetsChain (block_in config v (p.first / k)) old new (Ok c.in-Ok.chain)) sectors c.in-Ok.ensures.reads in
-    let Does : List FoundRecord → Result (List ℕ) IoFault → Type 0 = λ u r. ReadsSource config (Block p) n (record { old = old; new = new; before = found; after = u }) r in
-    subst (λ (u : List FoundRecord). Does u (Err NoMemory)) (sym c.in-Err-push.ensures.same) (part_full b (1, omega arith, c.in-Err-push.ensures.err.1) found c.in-Ok.chain c.requires.kept q)
+    let Does : List FoundRecord → Result (List ℕ) IoFault → Type 0 = λ u r. ReadsSourceAs c.args.chains config (Block p) n (record { old = old; new = new; before = found; after = u }) r in
+    subst (λ (u : List FoundRecord). Does u (Err NoMemory)) (sym c.in-Err-push.ensures.same) (finds-none c.args.chains (part_full b (1, omega arith, c.in-Err-push.ensures.err.1) found c.in-Ok.chain c.requires.kept q))
 
 pub read_block-returns-in-Ok-push-clause-reads : goal.read_block-returns-in-Ok-push-clause-reads
 read_block-returns-in-Ok-push-clause-reads g t c =
@@ -397,7 +402,6 @@ read_block-returns-in-Ok-push-clause-reads g t c =
     let b = block-at c.requires in
     let sectors : c.from-sectors.result ≡ block_sectors v = c.from-sectors.ensures in
     let q = subst (λ (k : ℕ). GetsChain (block_in config v (p.first / k)) old new (Ok c.in-Ok.chain)) sectors c.in-Ok.ensures.reads in
-    let Does : List FoundRecord → Result (List ℕ) IoFault → Type 0 = λ u r. ReadsSource config (Block p) n (record { old = old; new = new; before = found; after = u }) r in
     let one : FoundRecord = record { device = p.device.0; line = p.line; chain = c.in-Ok.chain } in
     let items : c.push.new.v.items ≡ found ++ (one ∷ []) = c.in-Ok-push.ensures.ok in
     let value : c.as_slice-in-Ok-push.result.now ≡ found ++ (one ∷ []) = c.as_slice-in-Ok-push.ensures.value ∙ items in
@@ -410,11 +414,16 @@ read_block-returns-in-Ok-push-clause-reads g t c =
     ∙ ap (λ (y : FoundRecord). take (length c.args.out.now) (drop (512 * (p.first % c.from-sectors.result)) y.chain.content)) here
     ∙ ap (λ (k : ℕ). take k (drop (512 * (p.first % c.from-sectors.result)) c.in-Ok.chain.content)) len
     ∙ ap (λ (k : ℕ). take (512 * n) (drop (512 * (p.first % k)) c.in-Ok.chain.content)) sectors in
-    subst (λ (u : List FoundRecord). Does u (Ok c.copy_part-in-Ok-push.new.out)) (sym items)
-    (part_walked b found c.in-Ok.chain c.requires.kept
-    (λ k h y same. c.in-None.ensures.none k (omega (arith, h, ap (λ (l : List FoundRecord). length l) c.as_slice.ensures.value)) y
-    (ap (λ (l : List FoundRecord). found_entry (get_or l k y)) c.as_slice.ensures.value ∙ same ∙ ap (λ (k : ℕ). (p.device.0, p.line, p.first / k)) (sym sectors)))
-    q is)
+    let front : take c.len-at.result c.push.new.v.items ≡ found = ap (take c.len-at.result) items ∙ ap (λ (k : ℕ). take k (found ++ (one ∷ []))) at ∙ take-append_seam found (one ∷ []) in
+    let out = subst (λ (l : List FoundRecord). AreHandedOut c.args.chains l (found ++ (one ∷ [])) c.hand_out.new.found.items) front (subst (λ (l : List FoundRecord). AreHandedOut c.args.chains (take c.len-at.result c.push.new.v.items) l c.hand_out.new.found.items) items c.hand_out.ensures) in
+    finds-as c.args.chains (part_walked b found c.in-Ok.chain c.requires.kept q is) out
+    (distinct-push found one (λ k h y same. c.in-None.ensures.none k (omega (arith, h, ap (λ (l : List FoundRecord). length l) c.as_slice.ensures.value)) y
+    (ap (λ (l : List FoundRecord). found_entry (get_or l k y)) c.as_slice.ensures.value ∙ same ∙ ap (λ (i : ℕ). (p.device.0, p.line, i)) q.may.0 ∙ ap (λ (k : ℕ). (p.device.0, p.line, p.first / k)) (sym sectors))))
+
+pub read_block-hand_out-requires : goal.read_block-hand_out-requires
+read_block-hand_out-requires g t c =
+    let one : FoundRecord = record { device = c.args.part.device.0; line = c.args.part.line; chain = c.in-Ok.chain } in
+    omega (arith, c.len-at.ensures, c.args.found.now.ok.0, ap (λ (l : List FoundRecord). length l) c.in-Ok-push.ensures.ok, length-append c.args.found.now.items (one ∷ []))
 
 pub read_block-returns-in-Some-clause-step : goal.read_block-returns-in-Some-clause-step
 read_block-returns-in-Some-clause-step g t c =
@@ -459,8 +468,8 @@ read_checked-returns-in-Err-read_lower-clause-reads g t c =
     let held : length out ≡ block.len = c.read_lower.auto.out ∙ ap (λ (l : List ℕ). length l) c.as_mut_slice.ensures.value ∙ sym block.ok.0 in
     let size : block.len ≡ e.sectors * 512 = c.in-Ok.ensures.ok in
     let count : length c.as_mut_slice.result.now / 512 ≡ e.sectors = omega (arith, held, size, c.read_lower.auto.out) in
-    let got = subst (λ (k : ℕ). Reads c.args.config.now e.lower e.first k (record { old = map state c.args.backing.now.devices.items; new = map state c.read_lower.new.backing.devices.items; before = c.new-beneath.result.items; after = c.read_lower.new.found.items }) (Err fault)) count c.in-Err-read_lower.ensures.reads in
-    checked_err bytes (place_of c.args.config.now e.lower) e.first e.sectors c.args.salt.now c.args.expected.now c.read_lower.new.found.items fault got.got
+    let got = subst (λ (k : ℕ). ReadsAs Kept c.args.config.now e.lower e.first k (record { old = map state c.args.backing.now.devices.items; new = map state c.read_lower.new.backing.devices.items; before = c.new-beneath.result.items; after = c.read_lower.new.found.items }) (Err fault)) count c.in-Err-read_lower.ensures.reads in
+    checked_err bytes (place_of c.args.config.now e.lower) e.first e.sectors c.args.salt.now c.args.expected.now got.after fault got.reads.got
 
 pub read_checked-returns-then-eq-clause-reads : goal.read_checked-returns-then-eq-clause-reads
 read_checked-returns-then-eq-clause-reads g t c =
@@ -474,9 +483,9 @@ read_checked-returns-then-eq-clause-reads g t c =
     let value : c.as_slice.result.now ≡ out = c.as_slice.ensures.value ∙ items in
     let good : c.digest.result ≡ c.args.expected.now = (bytes_eq-Decides c.digest.result c.args.expected.now).0 (sym c.eq.ensures ∙ c.if-eq.true) in
     let count : length c.as_mut_slice.result.now / 512 ≡ e.sectors = omega (arith, held, size, c.read_lower.auto.out) in
-    let got = subst (λ (k : ℕ). Reads c.args.config.now e.lower e.first k (record { old = map state c.args.backing.now.devices.items; new = map state c.read_lower.new.backing.devices.items; before = c.new-beneath.result.items; after = c.read_lower.new.found.items }) (Ok out)) count c.in-Ok-read_lower.ensures.reads in
-    checked_ok bytes (place_of c.args.config.now e.lower) e.first e.sectors c.args.salt.now c.args.expected.now c.read_lower.new.found.items (with_items block out) items
-    (ap (digest c.args.salt.now) (sym value) ∙ sym c.digest.ensures ∙ good) got.got
+    let got = subst (λ (k : ℕ). ReadsAs Kept c.args.config.now e.lower e.first k (record { old = map state c.args.backing.now.devices.items; new = map state c.read_lower.new.backing.devices.items; before = c.new-beneath.result.items; after = c.read_lower.new.found.items }) (Ok out)) count c.in-Ok-read_lower.ensures.reads in
+    checked_ok bytes (place_of c.args.config.now e.lower) e.first e.sectors c.args.salt.now c.args.expected.now got.after (with_items block out) items
+    (ap (digest c.args.salt.now) (sym value) ∙ sym c.digest.ensures ∙ good) got.reads.got
 
 -- ---- the walk
 
@@ -768,7 +777,7 @@ abbrev block_bytes : CachedBlock → List ℕ
 block_bytes b = b.bytes
 
 pub read_run-returns-in-Blocks-clause-reads : goal.read_run-returns-in-Blocks-clause-reads
-read_run-returns-in-Blocks-clause-reads g t c = rw c.in-Blocks.is (kept-reads c.read_blocks.ensures.reads)
+read_run-returns-in-Blocks-clause-reads g t c = rw c.in-Blocks.is c.read_blocks.ensures.reads
 
 pub read_run-returns-in-Below-clause-step : goal.read_run-returns-in-Below-clause-step
 read_run-returns-in-Below-clause-step g t c = rw c.in-Below.is (below-step c.in-Below.lower c.in-Below.first (length c.args.out.now / 512) c.read_lower.ensures.step)
@@ -817,7 +826,7 @@ read_blocks-returns-in-Err-clause-reads g t c =
     let inv = c.checks.invariant.checked in
     let b = blocks-at c.requires in
     let turn = turn-at b inv c.requires.fits.sectors.whole c.from.ensures c.checks-test.true in
-    record { after = inv.after; out = inv.out; reads = way-fails b turn c.in-Err.first inv.had c.in-Err.ensures.moved c.in-Err.ensures.err }
+    finds-as c.args.chains (way-fails b turn c.in-Err.first inv.had c.in-Err.ensures.moved c.in-Err.ensures.err) inv.out inv.had.distinct
 
 pub read_blocks-overflow_add-index : goal.read_blocks-overflow_add-index
 read_blocks-overflow_add-index g t c =
@@ -850,7 +859,7 @@ read_blocks-returns-in-Err-read_beneath-clause-reads g t c =
     let turn = turn-at b inv c.requires.fits.sectors.whole c.from.ensures c.checks-test.true in
     let row = row-at b turn c.row_len-many.result c.row_len-many.ensures.most in
     let gets = row-got b turn row c.tree_of-tree.ensures.data c.data_extent-extent.ensures c.in-Err-read_beneath.ensures.reads in
-    record { after = inv.after; out = inv.out; reads = row-fails b turn row c.row_len-many.ensures.fresh c.in-Err-read_beneath.met inv.had c.in-Ok.ensures.moved c.in-Ok.ensures.ok gets }
+    finds-as c.args.chains (row-fails b turn row c.row_len-many.ensures.fresh c.in-Err-read_beneath.met inv.had c.in-Ok.ensures.moved c.in-Ok.ensures.ok gets) inv.out inv.had.distinct
 
 pub read_blocks-shape_of-out-in-Err : goal.read_blocks-shape_of-out-in-Err
 read_blocks-shape_of-out-in-Err g t c = c.checks.invariant.checked.size
@@ -950,11 +959,7 @@ read_blocks-returns-then-not-settle-clause-reads g t c =
     let next = row-next b turn row many.ensures.fresh inv.had c.in-Ok.ensures.moved c.in-Ok.ensures.ok gets in
     let far_to = far b turn row many.ensures.fresh inv.had c.in-Ok.ensures.moved c.in-Ok.ensures.ok gets in
     let ahead = row-ahead b turn row many.ensures.fresh c.checks.made inv.had c.in-Ok.ensures.moved gets (all-whole g.D.BlockDev.state g.met.D.BlockDev.whole c.walk_path.new.backing.devices.items) inv.room inv.ahead put c.digest_blocks.ensures in
-    record {
-      after = inv.after;
-      out = inv.out;
-      reads = block-differs b _ turn.inside far_to next put.len put.end _ c.index-made-at.result c.is_ignored-ignored.ensures ahead (row-covers many.ensures.some) (c.if-not-settle.ensures.other refl);
-    }
+    finds-as c.args.chains (block-differs b _ turn.inside far_to next put.len put.end _ c.index-made-at.result c.is_ignored-ignored.ensures ahead (row-covers many.ensures.some) (c.if-not-settle.ensures.other refl)) inv.out inv.had.distinct
 
 pub read_blocks-keep-requires : goal.read_blocks-keep-requires
 read_blocks-keep-requires g t c =
@@ -981,11 +986,7 @@ read_blocks-returns-in-Err-keep-clause-reads g t c =
     let gets = row-got b turn row c.tree_of-tree.ensures.data c.data_extent-extent.ensures c.in-Ok-read_beneath.ensures.reads in
     let next = row-next b turn row many.ensures.fresh inv.had c.in-Ok.ensures.moved c.in-Ok.ensures.ok gets in
     let far_to = far b turn row many.ensures.fresh inv.had c.in-Ok.ensures.moved c.in-Ok.ensures.ok gets in
-    record {
-      after = inv.after;
-      out = subst (AreHandedOut c.args.chains c.args.found.now.items inv.after) (sym c.in-Err-keep.ensures.same) inv.out;
-      reads = block-full b _ turn.inside far_to next put.len put.end c.in-Err-keep.ensures.err;
-    }
+    finds-as c.args.chains (block-full b _ turn.inside far_to next put.len put.end c.in-Err-keep.ensures.err) (subst (AreHandedOut c.args.chains c.args.found.now.items inv.after) (sym c.in-Err-keep.ensures.same) inv.out) inv.had.distinct
 
 pub read_blocks-checks-preserved : goal.read_blocks-checks-preserved
 read_blocks-checks-preserved g t c =
@@ -1102,6 +1103,9 @@ pub read_beneath-returns-then-is_empty-clause-reads : goal.read_beneath-returns-
 read_beneath-returns-then-is_empty-clause-reads g t c =
     gets-none c.args.config.now c.args.lower c.args.first (map g.D.BlockDev.state c.args.backing.now.devices.items) c.args.out.now (eqb-true (length c.args.out.now) 0 (sym c.if-is_empty.ensures))
 
+pub read_beneath-returns-clause-reads : goal.read_beneath-returns-clause-reads
+read_beneath-returns-clause-reads g t c = record { chains = c.read_lower.ensures.reads.after; got = c.read_lower.ensures.reads.reads.got }
+
 -- ---- which leaves are touched
 
 pub read_checked-returns-then-eq-clause-touches : goal.read_checked-returns-then-eq-clause-touches
@@ -1153,16 +1157,11 @@ walk_path-returns-clause-touches g t c = asks-as (Ok c.loop-left.digest) tt (λ 
 
 pub read_device-loop-at-init : goal.read_device-loop-at-init
 read_device-loop-at-init g t c =
-    let old = map g.D.BlockDev.state c.args.backing.now.devices.items in
     record {
       whole = refl;
       within = omega arith;
-      so_far = record {
-        got = record { moved = AreRead-none _ old; may = record { len = refl; sectors = λ j h. absurd (omega (arith, h)) }; exact = λ steady. refl };
-        grown = Grown-none _ c.args.first 0 c.args.found.now.items;
-        kept = c.requires.kept;
-      };
-      step = device-begin c.args.d.0 c.args.first c.requires.stack.cached;
+      so_far = finds-begin c.args.chains c.requires.kept;
+      step = device-begin c.args.from.0.0 c.args.from.1 c.requires.stack.cached;
       cut = inl refl;
     }
 
@@ -1170,10 +1169,10 @@ pub read_device-returns-in-Err-clause-step : goal.read_device-returns-in-Err-cla
 read_device-returns-in-Err-clause-step g t c =
     let next = c.run_to_read-run in
     let inv = c.loop-at.invariant in
-    let run = next-run c.args.first c.loop-at.at (length c.args.out.now / 512) c.loop-at.out inv.whole c.loop-at-test.true (omega (arith, c.loop-at.auto.out)) next.ensures.served next.ensures.some next.ensures.most next.ensures.ends in
+    let run = next-run c.args.from.1 c.loop-at.at (length c.args.out.now / 512) c.loop-at.out inv.whole c.loop-at-test.true (omega (arith, c.loop-at.auto.out)) next.ensures.served next.ensures.some next.ensures.most next.ensures.ends in
     device-step-err c.requires.stack.sound.loaded run inv.cut run.sectors inv.step c.in-Err.ensures.step
 
 pub read_device-returns-clause-step : goal.read_device-returns-clause-step
 read_device-returns-clause-step g t c =
     let all : c.loop-at.at / 512 ≡ length c.args.out.now / 512 = omega (arith, c.loop-at.invariant.within, c.loop-at-test.false, c.loop-at.auto.out) in
-    subst (λ (n : ℕ). IsReadStep c.args.config.now (run_beneath c.args.config.now (mapped c.args.d.0) c.args.first n) (backing_of g.D.BlockDev.state c.args.backing.now) (backing_of g.D.BlockDev.state c.loop-at.backing) (Ok tt)) all c.loop-at.invariant.step
+    subst (λ (n : ℕ). IsReadStep c.args.config.now (run_beneath c.args.config.now (mapped c.args.from.0.0) c.args.from.1 n) (backing_of g.D.BlockDev.state c.args.backing.now) (backing_of g.D.BlockDev.state c.loop-at.backing) (Ok tt)) all c.loop-at.invariant.step

@@ -1,7 +1,6 @@
 use Rattle.std.proofs.Common.{All, length, take, map, ◌-◌, ◌≡◌, ◌≤◌, ◌+◌, ◌/◌, ◌*◌, ◌%◌, Ok}
 use Rattle.stack_rules.specs.Names.{mapped}
 use Rattle.stack_rules.specs.Descend.{depth}
-use Rattle.stack_meaning.specs.Reading.{Reads}
 use Rattle.stack_lines.specs.Sources.{source_depth}
 use Rattle.stack_lines.specs.Walks.{block_in, IsWalked}
 use Rattle.stack_lines.specs.Caches.{IsCached, KeepsCache}
@@ -9,6 +8,7 @@ use Rattle.stack_lines.specs.Touches.{AsksOnly, leaves_of}
 use Rattle.stack_engine.proofs.SpentLemmas.{IsCutBehind}
 use Rattle.stack_engine.proofs.NextBlockLemmas.{AreChecked}
 use Rattle.stack_engine.specs.Backings.{backing_of}
+use Rattle.stack_engine.specs.Keeping.{ReadsAs}
 use Rattle.stack_engine.specs.ReadSteps.{run_beneath, IsReadStep}
 use Rattle.stack_engine.proofs.read.+read.Given as goal
 
@@ -17,10 +17,10 @@ use Rattle.stack_engine.proofs.read.+read.Given as goal
 -- 8 times its own depth and 8
 
 abbrev pub decreases-read_lower : goal.decreases-read_lower
-decreases-read_lower g l = 8 * depth l.config.now l.lower + 7
+decreases-read_lower g l = 8 * depth l.config.now l.from.0 + 7
 
 abbrev pub decreases-read_device : goal.decreases-read_device
-decreases-read_device g l = 8 * depth l.config.now (mapped l.d.0) + 6
+decreases-read_device g l = 8 * depth l.config.now (mapped l.from.0.0) + 6
 
 abbrev pub decreases-read_run : goal.decreases-read_run
 decreases-read_run g l = 8 * source_depth l.config.now l.source + 5
@@ -30,10 +30,10 @@ abbrev pub invariant-read_device-loop-at : goal.invariant-read_device-loop-at
 invariant-read_device-loop-at g l = record {
   whole : l.at % 512 ≡ 0;
   within : l.at ≤ length l.out;
-  so_far : Reads l.config (mapped l.d.0) l.first (l.at / 512)
+  so_far : ReadsAs l.chains l.config (mapped l.from.0.0) l.from.1 (l.at / 512)
       (record { old = map g.D.BlockDev.state l.fn.backing.devices.items; new = map g.D.BlockDev.state l.backing.devices.items; before = l.fn.found.items; after = l.found.items }) (Ok (take l.at l.out));
-  step : IsReadStep l.config (run_beneath l.config (mapped l.d.0) l.first (l.at / 512)) (backing_of g.D.BlockDev.state l.fn.backing) (backing_of g.D.BlockDev.state l.backing) (Ok tt);
-  cut : IsCutBehind l.config l.d.0 l.first (l.at / 512) (length l.fn.out / 512);
+  step : IsReadStep l.config (run_beneath l.config (mapped l.from.0.0) l.from.1 (l.at / 512)) (backing_of g.D.BlockDev.state l.fn.backing) (backing_of g.D.BlockDev.state l.backing) (Ok tt);
+  cut : IsCutBehind l.config l.from.0.0 l.from.1 (l.at / 512) (length l.fn.out / 512);
 }
 
 abbrev pub decreases-read_device-loop-at : goal.decreases-read_device-loop-at

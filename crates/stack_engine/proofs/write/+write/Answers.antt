@@ -44,6 +44,7 @@ use Rattle.stack_engine.proofs.HeldLemmas.{rest-later, one-none, none-of_units, 
 use Rattle.stack_engine.specs.Backings.{backing_of}
 use Rattle.stack_engine.specs.WriteSteps.{write_to, write_beneath, IsWriteStep}
 use Rattle.stack_engine.proofs.WriteStepLemmas.{write_some, write-step-none, device-write-step, device-write-err, unit-write-step, unit-write-err, part-read-step, part-write-step}
+use Rattle.stack_engine.proofs.KeepingLemmas.{kept-reads}
 use Rattle.stack_engine.proofs.write.+write.Goals as goal
 
 -- ---- the loop
@@ -548,10 +549,10 @@ write_unit_part-returns-in-Err-clause-writes g t c =
     let count = room_sectors c.as_mut_slice-all.result.now whole.result.sectors (ap (λ (l : List ℕ). length l) c.as_mut_slice-all.ensures.value) whole.ensures.few in
     let old = map state c.args.backing.now.devices.items in
     let new = map state c.read_units.new.backing.devices.items in
-    let did : LeafRead = record { old = old; new = new; before = c.new-found.result.items; after = c.read_units.new.found.items } in
+    let did : LeafRead = record { old = old; new = new; before = c.new-own.result.items; after = c.read_units.new.found.items } in
     part-ended config p whole.result bytes n c.requires.stack.sound.loaded whole.ensures.whole c.requires.fits.holds (omega (arith, c.requires.fits.sectors.some, c.requires.fits.sectors.whole)) (omega (arith, c.requires.fits.sectors.whole)) c.requires.allowed c.in-Err.fault
     (all-whole state g.met.D.BlockDev.whole c.args.backing.now.devices.items)
-    (subst (λ (k : ℕ). ReadsSource config (Units whole.result.from) k did (Err c.in-Err.fault)) count c.in-Err.ensures.reads)
+    (subst (λ (k : ℕ). ReadsSource config (Units whole.result.from) k did (Err c.in-Err.fault)) count (kept-reads c.in-Err.ensures.reads))
     (subst (λ (k : ℕ). IsPlain (source_said config (Units whole.result.from)) 0 k old new (Err c.in-Err.fault)) count c.in-Err.ensures.step.plain)
     c.in-Err.ensures.step.touches.ends
 
@@ -578,7 +579,7 @@ write_unit_part-write_units-requires g t c κs within =
       (
         within,
         record {
-          stack = stack-later config c.in-Ok.ensures.reads.got.moved.moved.fixed c.requires.stack c.in-Ok.ensures.step.cached;
+          stack = stack-later config c.in-Ok.ensures.reads.reads.got.moved.moved.fixed c.requires.stack c.in-Ok.ensures.step.cached;
           allowed = subst (λ (x : CryptPart). IsTrue (may_write config x.lower)) (sym of.from) c.requires.allowed;
           fits = record {
             sectors = record { some = omega (arith, size, whole.ensures.some); whole = omega (arith, size) };
@@ -599,11 +600,11 @@ write_unit_part-returns-clause-writes g t c =
     let count = room_sectors c.as_mut_slice-all.result.now whole.result.sectors (ap (λ (l : List ℕ). length l) c.as_mut_slice-all.ensures.value) whole.ensures.few in
     let old = map state c.args.backing.now.devices.items in
     let mid = map state c.read_units.new.backing.devices.items in
-    let did : LeafRead = record { old = old; new = mid; before = c.new-found.result.items; after = c.read_units.new.found.items } in
+    let did : LeafRead = record { old = old; new = mid; before = c.new-own.result.items; after = c.read_units.new.found.items } in
     let plain = c.read_units.new.out in
     part-written config c.args.part whole.result bytes n c.requires.stack.sound.loaded of c.requires.fits.holds (omega (arith, c.requires.fits.sectors.some, c.requires.fits.sectors.whole)) (omega (arith, c.requires.fits.sectors.whole)) c.requires.allowed
     (all-whole state g.met.D.BlockDev.whole c.args.backing.now.devices.items)
-    (subst (λ (k : ℕ). ReadsSource config (Units whole.result.from) k did (Ok plain)) count c.in-Ok.ensures.reads)
+    (subst (λ (k : ℕ). ReadsSource config (Units whole.result.from) k did (Ok plain)) count (kept-reads c.in-Ok.ensures.reads))
     (subst (λ (k : ℕ). IsPlain (source_said config (Units whole.result.from)) 0 k old mid (Ok tt)) count c.in-Ok.ensures.step.plain)
     c.in-Ok.ensures.step.touches.ends
     (c.put_sectors.ensures ∙ ap (λ (k : ℕ). take (512 * k) plain ++ bytes ++ drop (512 * k + length bytes) plain) of.within)
@@ -613,11 +614,11 @@ pub write_unit_part-returns-in-Err-clause-step : goal.write_unit_part-returns-in
 write_unit_part-returns-in-Err-clause-step g t c =
     let whole = c.whole_unit-whole in
     let count = room_sectors c.as_mut_slice-all.result.now whole.result.sectors (ap (λ (l : List ℕ). length l) c.as_mut_slice-all.ensures.value) whole.ensures.few in
-    part-read-step c.args.config.now c.args.part whole.result c.args.bytes.now c.requires.stack.sound.loaded whole.ensures.whole c.requires.fits c.requires.allowed count c.in-Err.ensures.reads.got.moved c.in-Err.ensures.step
+    part-read-step c.args.config.now c.args.part whole.result c.args.bytes.now c.requires.stack.sound.loaded whole.ensures.whole c.requires.fits c.requires.allowed count c.in-Err.ensures.reads.reads.got.moved c.in-Err.ensures.step
 
 pub write_unit_part-returns-clause-step : goal.write_unit_part-returns-clause-step
 write_unit_part-returns-clause-step g t c =
     let whole = c.whole_unit-whole in
     let count = room_sectors c.as_mut_slice-all.result.now whole.result.sectors (ap (λ (l : List ℕ). length l) c.as_mut_slice-all.ensures.value) whole.ensures.few in
     let same : length c.put_sectors.new.unit / 512 ≡ whole.result.sectors = ap (λ (j : ℕ). j / 512) (c.put_sectors.auto.unit ∙ c.read_units.auto.out) ∙ count in
-    part-write-step c.args.config.now c.args.part whole.result c.args.bytes.now c.requires.stack.sound.loaded whole.ensures.whole c.requires.fits c.requires.allowed count c.in-Ok.ensures.reads.got.moved c.in-Ok.ensures.step same c.write_units.ensures.step
+    part-write-step c.args.config.now c.args.part whole.result c.args.bytes.now c.requires.stack.sound.loaded whole.ensures.whole c.requires.fits c.requires.allowed count c.in-Ok.ensures.reads.reads.got.moved c.in-Ok.ensures.step same c.write_units.ensures.step

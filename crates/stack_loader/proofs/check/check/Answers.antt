@@ -1,4 +1,4 @@
-use Rattle.std.proofs.Common.{ℕ, List, ◌++◌, refl, sym, ap, ◌∙◌, length, arith}
+use Rattle.std.proofs.Common.{ℕ, List, ◌+◌, refl, sym, ap, ◌∙◌, length, arith}
 use Rattle.std.specs.Borrow.{Bor}
 use Rattle.std.proofs.lemmas.Bool.{ltb-false}
 use Rattle.std.proofs.lemmas.Result.{err_from_is_err_and}
@@ -7,10 +7,10 @@ use Rattle.stack_rules.specs.declared.refusal.LoadKind.TheVariants.{CostTooLarge
 use Rattle.stack_rules.specs.Records.{Configuration, configuration}
 use Rattle.stack_rules.specs.Descend.{most_devices, depth, read_cost, write_cost}
 use Rattle.stack_rules.specs.Kept.{AreLowers}
-use Rattle.stack_rules.specs.Passing.{above}
-use Rattle.stack_rules.specs.Rules.{IsValid, first, rules, unknown_names, cost_rules, most_cost}
+use Rattle.stack_rules.specs.Passing.{above, largest_load_allocation}
+use Rattle.stack_rules.specs.Rules.{IsValid, first, rules, unknown_names, most_cost, most_lines}
 use Rattle.stack_rules.proofs.lemmas.KeptLemmas.{length-each_mapped, length-lowers}
-use Rattle.stack_rules.proofs.lemmas.PassingLemmas.{IsFirst-passed, passed-IsFirst}
+use Rattle.stack_rules.proofs.lemmas.PassingLemmas.{IsFirst-passed, passed-IsFirst, out_of_memory-more}
 use Rattle.stack_rules.proofs.lemmas.ValidLemmas.{costs-low}
 use Rattle.stack_rules.proofs.lemmas.ValidLineLemmas.{or-false}
 use Rattle.stack_costs.specs.declared.cost.Direction.TheVariants.{Read, Write}
@@ -56,6 +56,24 @@ costs-requires-2-clause-rows c =
 pub costs-requires-2-clause-depths : goal.costs-requires-2-clause-depths
 costs-requires-2-clause-depths c =
     rw c.as_slice-levels.ensures.value (length-each_mapped (depth (configuration c.args.leaves.now c.args.devices.now)) (length c.args.devices.now) c.in_ok-depths.depths.items c.in_ok-depths.ensures.1.depths)
+
+pub returns-in_err-read_costs : goal.returns-in_err-read_costs
+returns-in_err-read_costs c =
+    let p = err_from_is_err_and c.from_residual-in_err-read_costs.result c.from_residual-in_err-read_costs.ensures.1 in
+    let low = ltb-false most_devices (length c.args.devices.now) (or-false _ _ (sym c.is_too_many.ensures ∙ c.if-is_too_many.false)).0 in
+    rw (p.1, p.2) (out_of_memory-more (length c.args.devices.now) largest_load_allocation (omega (arith, low)) c.in_err-read_costs.ensures.err)
+
+pub returns-in_err-write_costs : goal.returns-in_err-write_costs
+returns-in_err-write_costs c =
+    let p = err_from_is_err_and c.from_residual-in_err-write_costs.result c.from_residual-in_err-write_costs.ensures.1 in
+    let low = ltb-false most_devices (length c.args.devices.now) (or-false _ _ (sym c.is_too_many.ensures ∙ c.if-is_too_many.false)).0 in
+    rw (p.1, p.2) (out_of_memory-more (length c.args.devices.now) largest_load_allocation (omega (arith, low)) c.in_err-write_costs.ensures.err)
+
+pub returns-in_err-devices : goal.returns-in_err-devices
+returns-in_err-devices c =
+    let p = err_from_is_err_and c.from_residual-in_err-devices.result c.from_residual-in_err-devices.ensures.1 in
+    let low = ltb-false most_devices (length c.args.devices.now) (or-false _ _ (sym c.is_too_many.ensures ∙ c.if-is_too_many.false)).0 in
+    rw (p.1, p.2) (out_of_memory-more (length c.args.devices.now + most_lines) largest_load_allocation (omega (arith, low)) c.in_err-devices.ensures.err)
 
 pub first_above-requires : goal.first_above-requires
 first_above-requires c =

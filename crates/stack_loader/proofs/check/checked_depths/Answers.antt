@@ -1,16 +1,38 @@
 use Rattle.std.proofs.Common.{◌++◌, sym, ap, ◌∙◌, length, arith}
+use Rattle.std.proofs.lemmas.Result.{err_from_is_err_and}
 use Rattle.stack_rules.specs.declared.refusal.LoadFault.TheVariants.{Refused}
 use Rattle.stack_rules.specs.declared.refusal.LoadKind.TheVariants.{TooDeep}
 use Rattle.stack_rules.specs.Records.{Configuration, configuration}
 use Rattle.stack_rules.specs.Descend.{most_devices, depth}
-use Rattle.stack_rules.specs.Passing.{above}
+use Rattle.stack_rules.specs.Passing.{above, largest_load_allocation}
 use Rattle.stack_rules.specs.Rules.{first, cycles, each_device, table_rules, depth_rules, most_depth}
 use Rattle.stack_rules.proofs.lemmas.FirstRefusalLemmas.{first-none}
-use Rattle.stack_rules.proofs.lemmas.KeptLemmas.{length-each_mapped}
+use Rattle.stack_rules.proofs.lemmas.KeptLemmas.{length-each_mapped, length-lowers}
+use Rattle.stack_rules.proofs.lemmas.PassingLemmas.{out_of_memory-more}
 use Rattle.stack_costs.specs.Depths.{depth_rounds}
 use Rattle.stack_costs.proofs.lemmas.DepthLemmas.{rounds-depths}
 use Rattle.stack_loader.proofs.RuleOrderLemmas.{left, right, depths-above, measured-of}
 use Rattle.stack_loader.proofs.check.checked_depths.Goals as goal
+
+pub returns-in_err-named : goal.returns-in_err-named
+returns-in_err-named c =
+    let p = err_from_is_err_and c.from_residual.result c.from_residual.ensures.1 in
+    let same = length-lowers (configuration c.args.leaves.now c.args.devices.now) c.args.lowers.now c.requires.lowers in
+    rw (p.1, p.2) (out_of_memory-more (length c.args.lowers.now) largest_load_allocation (omega (arith, same, c.requires.few)) c.in_err-named.ensures.err)
+
+pub returns-in_err-cycle : goal.returns-in_err-cycle
+returns-in_err-cycle c =
+    let p = err_from_is_err_and c.from_residual-in_err-cycle.result c.from_residual-in_err-cycle.ensures.1 in
+    let sets = c.in_ok-named.ensures.ok (configuration c.args.leaves.now c.args.devices.now) c.requires.lowers in
+    let few = rw c.as_slice-sets.ensures.value at c.in_err-cycle.ensures.err in
+    rw (p.1, p.2) (out_of_memory-more (length c.in_ok-named.named.items) largest_load_allocation (omega (arith, sets.count, c.requires.few)) few)
+
+pub returns-in_err-depths : goal.returns-in_err-depths
+returns-in_err-depths c =
+    let p = err_from_is_err_and c.from_residual-in_err-depths.result c.from_residual-in_err-depths.ensures.1 in
+    let sets = c.in_ok-named.ensures.ok (configuration c.args.leaves.now c.args.devices.now) c.requires.lowers in
+    let few = rw c.as_slice-sets.ensures.value at c.in_err-depths.ensures.err in
+    rw (p.1, p.2) (out_of_memory-more (length c.in_ok-named.named.items) largest_load_allocation (omega (arith, sets.count, c.requires.few)) few)
 
 pub cycle_refusal-requires : goal.cycle_refusal-requires
 cycle_refusal-requires c =

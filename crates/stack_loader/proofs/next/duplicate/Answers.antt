@@ -15,6 +15,6 @@ loop-entry-preserved c =
       (
         duplicate_more earlier c.args.entries.now c.loop-entry.entry-index c.entry-item.result (first (duplicate_names [] c.args.entries.now)) c.loop-entry-test.true c.entry-item.is (rw c.as_slice.ensures at fresh) c.loop-entry.invariant.1.0,
         λ q. names_more c.entry-item.result.name q earlier _ (get_by (λ k. bytes_eq q k.now) c.loop-entry.names)
-            (rw c.as_slice.ensures at (hash_map_updates_str c.as_slice.result.now c.loop-entry.names c.insert.new.self _ c.in_ok-earlier.ensures.updates q)) (c.loop-entry.invariant.1.1 q),
+            (rw c.as_slice.ensures at (hash_map_updates_str c.as_slice.result.now c.loop-entry.names c.insert.new.map _ c.in_ok-earlier.ensures.updates q)) (c.loop-entry.invariant.1.1 q),
       ),
     )

@@ -28,9 +28,9 @@ loop-entry-preserved c =
 pub returns-in_err-push-clause-err : goal.returns-in_err-push-clause-err
 returns-in_err-push-clause-err c =
     let was = err_from_is_err_and c.from_residual-in_err-push.result c.from_residual-in_err-push.ensures.1 in
-    rw was.1 (1, omega arith, c.in_err-push.ensures.err.1)
+    rw (was.1, was.2) (omega (arith, c.in_err-push.ensures.err.0))
 
 pub returns-in_err-push-2-clause-err : goal.returns-in_err-push-2-clause-err
 returns-in_err-push-2-clause-err c =
     let was = err_from_is_err_and c.from_residual-in_err-push-2.result c.from_residual-in_err-push-2.ensures.1 in
-    rw was.1 (1, omega arith, c.in_err-push-2.ensures.err.1)
+    rw (was.1, was.2) (omega (arith, c.in_err-push-2.ensures.err.0))

@@ -1,8 +1,7 @@
 use Rattle.std.proofs.Common.{inl, inr, refl, ap, map, sym, subst, ◌∙◌}
-use Rattle.std.proofs.lemmas.Result.{IfErr-weaker, IfOk-weaker}
 use Rattle.stack_engine.specs.Pieces.{stack_over}
 use Rattle.stack_rules.specs.Records.{Configuration}
-use Rattle.stack_making.specs.declared.fault.StackFault.TheVariants.{Leaves, NoMemory}
+use Rattle.stack_making.specs.declared.fault.StackFault.TheVariants.{Leaves}
 use Rattle.stack_making.specs.Endings.{opening_ending}
 use Rattle.stack_making.proofs.OpeningLemmas.{err-from}
 use Rattle.stack_making.proofs.stack.open_leaves.Goals as goal
@@ -17,15 +16,8 @@ returns-in_err-config-clause-err g c =
     (inr (record { over = c.in_ok-leaves.field-0; bound = c.in_ok-leaves.ensures.ok; refused = c.in_err-config.ensures.err }))
 
 pub returns-clause-ok : goal.returns-clause-ok
-returns-clause-ok g c =
-    IfOk-weaker c.stack_on.result _ _
-    (λ stack is. record {
-      over = c.in_ok-leaves.field-0;
-      bound = c.in_ok-leaves.ensures.ok;
-      is = is ∙ ap (λ (config : Configuration). stack_over config (map g.I.Dev.BlockDev.state c.in_ok-leaves.field-0.devices.items) c.args.cache) c.in_ok-config.ensures.ok;
-    }) c.stack_on.ensures.ok
-
-pub returns-clause-err : goal.returns-clause-err
-returns-clause-err g c =
-    IfErr-weaker c.stack_on.result _ _
-    (λ fault is. inr (record { over = c.in_ok-leaves.field-0; bound = c.in_ok-leaves.ensures.ok; refused = rw is tt })) c.stack_on.ensures.err
+returns-clause-ok g c = record {
+  over = c.in_ok-leaves.field-0;
+  bound = c.in_ok-leaves.ensures.ok;
+  is = c.over.ensures ∙ ap (λ (config : Configuration). stack_over config (map g.I.Dev.BlockDev.state c.in_ok-leaves.field-0.devices.items) c.args.cache) c.in_ok-config.ensures.ok;
+}

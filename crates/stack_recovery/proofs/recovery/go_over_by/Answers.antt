@@ -8,14 +8,14 @@ use Rattle.stack_meaning.specs.declared.fault.IoFault.{IoFault}
 use Rattle.rescue_map.specs.Aheads.{marks_ahead}
 use Rattle.rescue_map.specs.declared.map.Run.{Run}
 use Rattle.stack_recovery.specs.declared.fault.RecoveryFault.TheVariants.{Output}
-use Rattle.stack_recovery.specs.declared.lost_run.LostRun.{LostRun}
+use Rattle.runs.specs.Runs.{run}
+use Rattle.runs.specs.Tallies.{EndsAt}
+use Rattle.stack_recovery.specs.LostRuns.{LostRun}
 use Rattle.stack_recovery.specs.declared.tally.Tally.{Tally}
 use Rattle.stack_recovery.specs.Alike.{AreAlike}
-use Rattle.stack_recovery.specs.LostRuns.{run_lost}
 use Rattle.stack_recovery.specs.Losses.{ListsLost, NotesLost, TalliesLost}
 use Rattle.stack_recovery.specs.Recoveries.{EndsEarly, Sides, sides}
 use Rattle.stack_recovery.specs.Surveys.{AreMarked}
-use Rattle.stack_recovery.specs.Tallies.{EndsAtSector}
 use Rattle.stack_recovery.proofs.AheadLemmas.{ahead-inside, ahead-next, first-run, marked-next, notes-some}
 use Rattle.stack_recovery.proofs.UnderwayLemmas.{IsUnderway, begun, ends-in-piece, few, note-room, runs-short, underway-again, underway-all, underway-had, underway-kept, underway-lost, underway-none}
 use Rattle.stack_recovery.proofs.WritingLemmas.{err-from}
@@ -194,7 +194,7 @@ lose_piece-requires g c =
     record {
       some = c.piece_at-piece.ensures.some;
       marks = λ x e. note-room _ _ _ _ _ _ _ u.so_far n (omega (arith, inside, u.few, c.piece_at-piece.ensures.inside)) x e;
-      ends = subst (EndsAtSector c.pieces.tally.last) (sym u.so_far.here) u.so_far.tallied.ends;
+      ends = subst (EndsAt c.pieces.tally.last) (sym u.so_far.here) u.so_far.tallied.ends;
       few = few _ _ _ _ _ _ _ u.so_far;
       room = omega (arith, inside, u.few, c.piece_at-piece.ensures.inside);
     }
@@ -224,7 +224,7 @@ pieces-preserved-then-branch g c =
     let wide : length (take (n * 512) c.pieces.room) ≡ n * 512 = length-take-le (n * 512) c.pieces.room (omega (arith, c.requires.buffer, c.pieces.auto.room, c.piece_at-piece.ensures.few)) in
     let number : length (take (n * 512) c.pieces.room) / 512 ≡ n = omega (arith, wide) in
     let piece = subst (λ (m : ℕ). EachBytes c.pieces.stack c.args.d.0 c.pieces.at m (Err c.in-Err.fault) c.read_bytes.new.self) number (record { any = c.in-Err.ensures.any; steady = c.in-Err.ensures.steady }) in
-    let grown : LostRun = run_lost c.pieces.at n c.in-Err.fault in
+    let grown : LostRun = run c.pieces.at n c.in-Err.fault in
     let call = c.in_ok-lose_piece-in-Err in
     let is : call.field-0 ≡ true = c.if-branch.true in
     let alike : AreAlike c.pieces.stack.config c.args.d.0 c.pieces.at n = subst (λ (x : Configuration). AreAlike x c.args.d.0 c.pieces.at n) c.config-else-run.ensures.value (c.piece_at-piece.ensures.alike (sym call.ensures.alike ∙ is)) in
@@ -262,8 +262,8 @@ pieces-preserved g c =
     let call = c.in_ok-lose_piece-in-Err in
     let isnt : call.field-0 ≡ false = c.if-branch.false in
     let noted = subst (NotesLost n c.pieces.noted c.lose_piece.new.noted) isnt call.ensures.noted in
-    let tally = subst (TalliesLost (run_lost c.pieces.at n c.in-Err.fault) c.pieces.tally c.lose_piece.new.tally) isnt call.ensures.tallied in
-    let told = subst (ListsLost g.L.Listing.told (run_lost c.pieces.at n c.in-Err.fault) c.pieces.tally c.pieces.listing c.lose_piece.new.listing) isnt call.ensures.told in
+    let tally = subst (TalliesLost (run c.pieces.at n c.in-Err.fault) c.pieces.tally c.lose_piece.new.tally) isnt call.ensures.tallied in
+    let told = subst (ListsLost g.L.Listing.told (run c.pieces.at n c.in-Err.fault) c.pieces.tally c.pieces.listing c.lose_piece.new.listing) isnt call.ensures.told in
     record {
       so_far = rw (noted, tally, told) (underway-again _ _ _ _ _ _ _ u.so_far n c.in-Err.fault c.read_bytes.new.self piece marked);
       ahead = u.ahead ∙ sym c.next_run-run.ensures.same;

@@ -1,14 +1,10 @@
-use Rattle.std.proofs.Common.{◌≡◌, ◌∷◌, ◌++◌, [], decimal, flat_map, ap, sym, ◌∙◌, rules, append_assoc}
-use Rattle.table_printer.specs.Print.{spaced_word, target_words, line_text}
-use Rattle.table_printer.proofs.PrintLemmas.{join-spaced}
+use Rattle.std.proofs.Common.{◌≡◌, ap, ◌∙◌, rules}
+use Rattle.dm_table.specs.TableText.{table_of}
+use Rattle.table_printer.specs.Print.{line_text}
+use Rattle.table_printer.proofs.HiddenKeyLemmas.{one_line-printed}
 use Rattle.table_printer.proofs.print.print_line.Goals as goal
 
-pub returns : goal.returns
-unfolding line_text
-returns c =
-    let line = c.args.line.now in
-    let text = c.args.text.now.items in
-    let words = join-spaced (decimal line.start) (decimal line.length ∷ target_words c.args.show_keys line.target) in
-    let pushed : c.push.new.self.items ≡ text ++ ((decimal line.start ++ (spaced_word (decimal line.length) ++ flat_map spaced_word (target_words c.args.show_keys line.target))) ++ 10 ∷ []) =
-    search (rules, append_assoc) in
-    pushed ∙ ap (λ t. text ++ (t ++ 10 ∷ [])) (sym words)
+pub returns-clause-reads_back : goal.returns-clause-reads_back
+returns-clause-reads_back c h =
+    let printed : c.push_line.new.text.items ≡ line_text c.args.show_keys c.args.line.now = search rules in
+    ap table_of printed ∙ one_line-printed c.args.show_keys c.args.line.now h

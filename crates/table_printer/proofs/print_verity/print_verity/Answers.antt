@@ -2,7 +2,7 @@ use Rattle.std.proofs.Common.{List, ◌∷◌, codes, decimal, refl, ap, ◌∙�
 use Rattle.hex.specs.Hex.{encode_lower}
 use Rattle.tree_shape.specs.Algorithms.{algorithm_name}
 use Rattle.dm_table.specs.Words.{Word}
-use Rattle.table_printer.specs.ArgumentWords.{options_words, table_salt_word, verity_words}
+use Rattle.table_printer.specs.ArgumentWords.{options_words, salt_word, verity_words}
 use Rattle.dm_table.specs.Verity.{verity_options}
 use Rattle.table_printer.proofs.PrintLemmas.{then_word}
 use Rattle.table_printer.proofs.print_verity.print_verity.Goals as goal
@@ -13,7 +13,7 @@ returns c =
     let v = c.args.verity.now in
     let last = c.print_options.new.text.items in
     let w11 : List Word = options_words (verity_options v.ignore_zero_blocks) in
-    let w10 = (table_salt_word v.salt) ∷ w11 in
+    let w10 = (salt_word v.salt) ∷ w11 in
     let w9 = (encode_lower v.root) ∷ w10 in
     let w8 = (codes "sha256") ∷ w9 in
     let w7 = (decimal v.start) ∷ w8 in
@@ -33,5 +33,5 @@ returns c =
     then_word c.push_spaced_number-3.new.text.items c.push_spaced_number-4.new.text.items last (decimal v.start) (decimal v.start) w8 refl c.in_ok-push_spaced_number-4.ensures (
     then_word c.push_spaced_number-4.new.text.items c.push_spaced-5.new.text.items last (codes "sha256") c.name.result.now w9 (c.name.ensures.value ∙ ap algorithm_name c.algorithm.ensures) c.in_ok-push_spaced-5.ensures (
     then_word c.push_spaced-5.new.text.items c.push_digits.new.text.items last (encode_lower v.root) (encode_lower c.as_bytes.result.now) w10 (ap encode_lower c.as_bytes.ensures.value) c.in_ok-push_digits.ensures (
-    then_word c.push_digits.new.text.items c.print_salt.new.text.items last (table_salt_word v.salt) (table_salt_word c.bytes.result.now) w11 (ap table_salt_word c.bytes.ensures.value) c.in_ok-print_salt.ensures
+    then_word c.push_digits.new.text.items c.print_salt.new.text.items last (salt_word v.salt) (salt_word c.bytes.result.now) w11 (ap salt_word c.bytes.ensures.value) c.in_ok-print_salt.ensures
     c.in_ok-print_options.ensures))))))))))

@@ -13,7 +13,7 @@ returns-then-not-is_new c =
 pub words-preserved : goal.words-preserved
 words-preserved c =
     let known = map (λ word. word.now) c.args.known.now in
-    let pushed = c.in_ok-push.ensures ∙ ap (λ w. c.words.options ++ w ∷ []) c.in_ok-new.ensures in (
+    let pushed = c.in_ok-push.ensures.ok ∙ ap (λ w. c.words.options ++ w ∷ []) c.in_ok-new.ensures.ok in (
       c.words.invariant.0 ∙ ap (λ ws. c.words.options ++ ws) c.in-Some.ensures
           ∙ sym (append_assoc c.words.options (c.in-Some.word.now ∷ []) c.next_word.new.self)
           ∙ ap (λ os. os ++ c.next_word.new.self) (sym pushed),

@@ -32,4 +32,4 @@ returns c =
     let head = ap head_of (sym c.new.ensures) ∙ c.in-Ok.ensures in
     entry-lines c.args.number _ _ head
     ∙ ap (λ r. r >>= (λ table. Ok (record { number = c.args.number; name = c.in-Ok.head.name.now; writable = c.in-Ok.head.writable; table = table }))) c.in_ok-table.ensures
-    ∙ ap (λ name. Ok (record { number = c.args.number; name = name; writable = c.in-Ok.head.writable; table = c.in_ok-table.table })) (sym c.in_ok-name.ensures)
+    ∙ ap (λ name. Ok (record { number = c.args.number; name = name; writable = c.in-Ok.head.writable; table = c.in_ok-table.table })) (sym c.in_ok-name.ensures.ok)

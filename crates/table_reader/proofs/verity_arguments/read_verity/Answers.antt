@@ -66,4 +66,4 @@ returns-in_err-options c =
 
 pub returns : goal.returns
 unfolding verity_at
-returns c = rw (c.in_ok-words.ensures, sym c.in_ok-check_version.ensures, c.in_ok-check_device.ensures, c.in_ok-check_device-2.ensures, sym c.in_ok-data_block.ensures, sym c.in_ok-hash_block.ensures, sym c.in_ok-blocks.ensures, sym c.in_ok-start.ensures, sym c.in_ok-algorithm.ensures, sym c.in_ok-root.ensures, sym c.in_ok-salt.ensures, c.in_ok-options.ensures, c.in_ok-data.ensures, c.in_ok-hash.ensures, c.is_kept-ignore_zero_blocks.ensures) refl
+returns c = rw (c.in_ok-words.ensures, sym c.in_ok-check_version.ensures, c.in_ok-check_device.ensures, c.in_ok-check_device-2.ensures, sym c.in_ok-data_block.ensures, sym c.in_ok-hash_block.ensures, sym c.in_ok-blocks.ensures, sym c.in_ok-start.ensures, sym c.in_ok-algorithm.ensures, sym c.in_ok-root.ensures, sym c.in_ok-salt.ensures, c.in_ok-options.ensures, c.in_ok-data.ensures.ok, c.in_ok-hash.ensures.ok, c.is_kept-ignore_zero_blocks.ensures) refl

@@ -9,7 +9,7 @@ use Rattle.tree_path.specs.Spans.{IsTopAt}
 use Rattle.tree_runs.specs.declared.run.Kind.TheVariants.{Changed}
 use Rattle.tree_runs.specs.declared.tally.Tally.{Tally}
 use Rattle.tree_runs.specs.Runs.{State, count_of}
-use Rattle.tree_runs.specs.Tallies.{EndsAt}
+use Rattle.runs.specs.Tallies.{EndsAt}
 use Rattle.tree_runs.proofs.lemmas.ListingLemmas.{listed-ends, listed-had, listed-none, listed-run}
 use Rattle.tree_runs.proofs.lemmas.RunLemmas.{count_of-append, count_of-had, count_of-some}
 use Rattle.tree_difference.specs.declared.walk.Walk.{Walk}

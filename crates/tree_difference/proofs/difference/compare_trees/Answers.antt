@@ -4,7 +4,7 @@ use Rattle.block_device.specs.Device.{Device}
 use Rattle.tree_shape.specs.Shape.{ShapeRecord}
 use Rattle.verity_format.specs.Blocks.{IsFullRead, IsOnlyRead}
 use Rattle.verity_format.specs.Superblock.{SuperRecord, shape_of}
-use Rattle.tree_path.proofs.lemmas.DeviceLemmas.{only_read-then}
+use Rattle.verity_format.proofs.lemmas.DeviceLemmas.{only_read-then}
 use Rattle.tree_difference.specs.declared.walk.Walk.{Walk}
 use Rattle.tree_difference.specs.Comparisons.{Compares, ReadsDiffering, difference_world}
 use Rattle.tree_difference.specs.Differences.{HaveTrees, IsWalkOf, trees_in, trees_of}

@@ -3,7 +3,7 @@ use Rattle.std.proofs.Math.Nat.{div-le_self, mul-le-mul_right}
 use Rattle.tree_shape.specs.Shape.{ShapeRecord, IsShape, level_blocks, per_block}
 use Rattle.tree_shape.proofs.lemmas.ShapeFactLemmas.{level_blocks-is}
 use Rattle.tree_shape.proofs.lemmas.ShapeFaultLemmas.{blocks-le}
-use Rattle.tree_path.proofs.lemmas.DeviceLemmas.{block-size}
+use Rattle.verity_format.proofs.lemmas.SizeLemmas.{block-size}
 use Rattle.tree_path.proofs.unused.used_entries.Goals as goal
 
 -- the digests before those of a hash block
@@ -11,7 +11,7 @@ first-small : (s : ShapeRecord) → IsShape s → (l n : ℕ) → n < level_bloc
 first-small s valid l n inside =
     let few : n ≤ 2 ^ 54 = omega (arith, inside, level_blocks-is s valid l, div-le_self (s.blocks - 1) (per_block s ^ (l + 1)), (blocks-le s valid).0) in
     let product : n * per_block s ≤ 2 ^ 54 * per_block s = mul-le-mul_right (per_block s) few in
-    omega (arith, product, (block-size s.hash_block valid.hash_size).most)
+    omega (arith, product, (block-size s.hash_block valid.hash_size).most_bytes)
 
 pub overflow_mul-first : goal.overflow_mul-first
 overflow_mul-first c =

@@ -1,5 +1,6 @@
 use Rattle.std.proofs.Common.{◌≡◌, ◌+◌, ◌-◌, ◌/◌, ℕ, arith, subst}
-use Rattle.tree_path.proofs.lemmas.DeviceLemmas.{at_most-fewer, only_read-none, only_read-then}
+use Rattle.verity_format.proofs.lemmas.DeviceLemmas.{only_read-none, only_read-then}
+use Rattle.tree_path.proofs.lemmas.AtMostLemmas.{at_most-fewer}
 use Rattle.tree_repair.specs.Coverage.{AreGoodFrom}
 use Rattle.tree_repair.specs.Jobs.{job}
 use Rattle.tree_repair.proofs.BillLemmas.{at_most-then, piece-few}

@@ -2,7 +2,7 @@ use Rattle.std.proofs.Common.{◌≤◌, ◌-◌, ◌*◌, ◌/◌, ℕ, arith, 
 use Rattle.std.specs.Prelude.{IfOk}
 use Rattle.verity_format.specs.Image.{tree_sectors}
 use Rattle.tree_shape.specs.Shape.{levels}
-use Rattle.tree_path.proofs.lemmas.DeviceLemmas.{only_read-none}
+use Rattle.verity_format.proofs.lemmas.DeviceLemmas.{only_read-none}
 use Rattle.tree_repair.specs.Bills.{LeavesWorld, nothing_due, reading}
 use Rattle.tree_repair.specs.Jobs.{job}
 use Rattle.tree_repair.specs.Tries.{IsWayOr}

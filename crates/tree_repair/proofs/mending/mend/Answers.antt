@@ -1,5 +1,5 @@
 use Rattle.std.proofs.Common.{◌≡◌, ◌/◌, ℕ, [], true, false, length, map, arith, ap, ◌∙◌, subst}
-use Rattle.tree_path.proofs.lemmas.DeviceLemmas.{only_read-none}
+use Rattle.verity_format.proofs.lemmas.DeviceLemmas.{only_read-none}
 use Rattle.tree_repair.specs.Mending.{IsAllowedPut}
 use Rattle.tree_repair.specs.Sources.{AreIn, AreInNone, wanted}
 use Rattle.tree_repair.proofs.BillLemmas.{at_most-none, put-once}

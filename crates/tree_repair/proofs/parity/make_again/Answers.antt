@@ -2,7 +2,7 @@ use Rattle.std.proofs.Common.{List, ℕ, sym, ap, ◌∙◌, inl, inr}
 use Rattle.std.specs.Str.{bytes_eq}
 use Rattle.std.proofs.lemmas.Bool.{false≢true}
 use Rattle.tree_shape.specs.Digests.{digest}
-use Rattle.tree_path.proofs.lemmas.DeviceLemmas.{only_read-none}
+use Rattle.verity_format.proofs.lemmas.DeviceLemmas.{only_read-none}
 use Rattle.tree_repair.specs.Jobs.{job}
 use Rattle.tree_repair.specs.Tries.{trial}
 use Rattle.tree_repair.proofs.TryLemmas.{made-or}

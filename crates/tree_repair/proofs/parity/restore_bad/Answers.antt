@@ -1,7 +1,7 @@
 use Rattle.std.proofs.Common.{◌+◌, Bool, IsTrue, arith, refl, subst, sym, take}
 use Rattle.std.proofs.lemmas.Bool.{and_parts}
 use Rattle.std.proofs.lemmas.List.{take_all}
-use Rattle.tree_path.proofs.lemmas.DeviceLemmas.{only_read-none, only_read-then}
+use Rattle.verity_format.proofs.lemmas.DeviceLemmas.{only_read-none, only_read-then}
 use Rattle.tree_repair.specs.Jobs.{job}
 use Rattle.tree_repair.specs.Passes.{AreBack}
 use Rattle.tree_repair.specs.Tries.{AreSought}

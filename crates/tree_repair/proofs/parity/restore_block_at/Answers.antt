@@ -2,7 +2,7 @@ use Rattle.std.proofs.Common.{Bool, arith, false, inl, inr, refl, subst, sym}
 use Rattle.tree_repair.specs.Jobs.{job}
 use Rattle.tree_repair.specs.Tries.{IsSoughtAt, trial}
 use Rattle.tree_repair.proofs.TryLemmas.{sought-behind}
-use Rattle.tree_path.proofs.lemmas.DeviceLemmas.{only_read-none}
+use Rattle.verity_format.proofs.lemmas.DeviceLemmas.{only_read-none}
 use Rattle.tree_repair.proofs.RunLemmas.{can-read, ended-from, ends-read, has-behind, has-none, has-read, laid-read, memory-within, world-none}
 use Rattle.tree_repair.specs.ParityBounds.{IsAskedWithin, parity_bill, tries_of}
 use Rattle.tree_repair.proofs.ParityBillLemmas.{asked-none, work-along, work-way}

@@ -1,6 +1,6 @@
 use Rattle.std.proofs.Common.{ℕ, List, length, ap, arith, ◌∙◌, inl}
 use Rattle.std.proofs.lemmas.List.{length-replicate}
-use Rattle.tree_path.proofs.lemmas.DeviceLemmas.{only_read-none}
+use Rattle.verity_format.proofs.lemmas.DeviceLemmas.{only_read-none}
 use Rattle.tree_repair.specs.Jobs.{job}
 use Rattle.tree_repair.proofs.TryLemmas.{tried-placed}
 use Rattle.tree_repair.proofs.ParityLemmas.{size-block}

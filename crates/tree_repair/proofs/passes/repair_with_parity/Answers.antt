@@ -1,5 +1,5 @@
 use Rattle.std.proofs.Common.{inl, true, ap, inr, refl, None, subst, sym}
-use Rattle.tree_path.proofs.lemmas.DeviceLemmas.{only_read-none}
+use Rattle.verity_format.proofs.lemmas.DeviceLemmas.{only_read-none}
 use Rattle.tree_repair.specs.Jobs.{job}
 use Rattle.tree_repair.specs.Outcomes.{IsParityOutcome}
 use Rattle.tree_repair.specs.Runs.{Job}

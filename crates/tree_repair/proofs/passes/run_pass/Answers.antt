@@ -1,6 +1,6 @@
 use Rattle.std.proofs.Common.{IsTrue, false, sym, ◌∙◌, ◌&&◌, Bool, ap}
 use Rattle.std.proofs.lemmas.Bool.{false≢true}
-use Rattle.tree_path.proofs.lemmas.DeviceLemmas.{only_read-none}
+use Rattle.verity_format.proofs.lemmas.DeviceLemmas.{only_read-none}
 use Rattle.tree_repair.proofs.BackLemmas.{all-good-pass}
 use Rattle.tree_repair.proofs.PassLemmas.{pass-of}
 use Rattle.tree_repair.proofs.RunLemmas.{can-later, ended-from, has-then, laid-later}

@@ -1,6 +1,6 @@
 use Rattle.std.proofs.Common.{◌+◌, ◌-◌, arith, ◌∙◌, ℕ, subst, sym}
 use Rattle.std.proofs.lemmas.Bool.{false≢true}
-use Rattle.tree_path.proofs.lemmas.DeviceLemmas.{only_read-then}
+use Rattle.verity_format.proofs.lemmas.DeviceLemmas.{only_read-then}
 use Rattle.tree_repair.specs.Jobs.{job}
 use Rattle.tree_repair.specs.Passes.{ArePasses}
 use Rattle.tree_repair.proofs.BackLemmas.{all-good-behind}

@@ -1,6 +1,6 @@
 use Rattle.std.proofs.Common.{◌≡◌, ◌≤◌, ◌-◌, IsTrue, map, suc, ap, refl, subst, sym, ◌∙◌, arith}
 use Rattle.verity_format.specs.Image.{data_sectors, tree_sectors}
-use Rattle.tree_path.proofs.lemmas.DeviceLemmas.{only_read-none}
+use Rattle.verity_format.proofs.lemmas.DeviceLemmas.{only_read-none}
 use Rattle.tree_repair.specs.Bills.{LeavesBlock, made_over}
 use Rattle.tree_repair.proofs.AskedLemmas.{made-data, made-hash}
 use Rattle.tree_repair.specs.Grounds.{IsOverIn, stands_in}

@@ -1,5 +1,5 @@
 use Rattle.std.proofs.Common.{◌/◌, arith}
-use Rattle.tree_path.proofs.lemmas.DeviceLemmas.{block-inside, block-size}
+use Rattle.verity_format.proofs.lemmas.SizeLemmas.{block-inside, block-size}
 use Rattle.tree_repair.proofs.remaking.read_data.Goals as goal
 
 pub overflow_mul-first : goal.overflow_mul-first

@@ -1,6 +1,6 @@
 use Rattle.std.proofs.Common.{◌/◌, arith}
 use Rattle.tree_shape.specs.Shape.{area_end}
-use Rattle.tree_path.proofs.lemmas.DeviceLemmas.{block-inside, block-size}
+use Rattle.verity_format.proofs.lemmas.SizeLemmas.{block-inside, block-size}
 use Rattle.tree_repair.proofs.remaking.read_hash.Goals as goal
 
 pub overflow_mul-first : goal.overflow_mul-first

@@ -1,7 +1,7 @@
 use Rattle.std.proofs.Common.{◌≤◌, arith, map, refl, subst}
 use Rattle.std.specs.Prelude.{IfErr, IfOk, OnOk}
 use Rattle.tree_survey.specs.Causes.{AreImages}
-use Rattle.tree_path.proofs.lemmas.DeviceLemmas.{only_read-none}
+use Rattle.verity_format.proofs.lemmas.DeviceLemmas.{only_read-none}
 use Rattle.tree_path.specs.Steps.{HasReadAtMost}
 use Rattle.tree_repair.specs.Bills.{LeavesWorld, nothing_due, reading}
 use Rattle.tree_repair.specs.Repairs.{IsNoImageCause}

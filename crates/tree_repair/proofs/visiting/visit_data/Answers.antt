@@ -1,6 +1,6 @@
 use Rattle.std.proofs.Common.{◌/◌, map, refl, subst, sym, arith}
 use Rattle.std.specs.Prelude.{IfOk, OnErr}
-use Rattle.tree_path.proofs.lemmas.DeviceLemmas.{block-inside, block-size}
+use Rattle.verity_format.proofs.lemmas.SizeLemmas.{block-inside, block-size}
 use Rattle.tree_repair.specs.Bills.{LeavesVisit}
 use Rattle.tree_repair.specs.Jobs.{job}
 use Rattle.tree_repair.specs.Runs.{CanRun}

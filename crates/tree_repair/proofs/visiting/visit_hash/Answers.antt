@@ -1,6 +1,6 @@
 use Rattle.std.proofs.Common.{◌≡◌, false, true, [], length, IsTrue, ◌∙◌, subst, sym, arith}
 use Rattle.tree_shape.proofs.lemmas.ShapeFactLemmas.{levels-few}
-use Rattle.tree_path.proofs.lemmas.DeviceLemmas.{block-size}
+use Rattle.verity_format.proofs.lemmas.SizeLemmas.{block-size}
 use Rattle.tree_repair.specs.declared.mending.Mended.TheVariants as mended
 use Rattle.tree_repair.specs.Jobs.{job}
 use Rattle.tree_repair.proofs.SourceLemmas.{on_err-from}

@@ -3,7 +3,7 @@ use Rattle.block_device.specs.Device.{Device}
 use Rattle.tree_shape.specs.Shape.{ShapeRecord}
 use Rattle.tree_path.specs.Path.{PathRecord}
 use Rattle.tree_path.specs.Steps.{HasReadAtMost, IsDown, IsStepLoaded, steps}
-use Rattle.tree_path.proofs.lemmas.DeviceLemmas.{at_most-fewer, at_most-more}
+use Rattle.tree_path.proofs.lemmas.AtMostLemmas.{at_most-fewer, at_most-more}
 use Rattle.tree_path.proofs.lemmas.PathLemmas.{down-bad, down-good, down-read}
 use Rattle.tree_survey.proofs.FailingLemmas.{over-full, over-then}
 use Rattle.tree_survey.proofs.ReachLemmas.{cut-off}

@@ -2,7 +2,7 @@ use Rattle.std.proofs.Common.{◌≡◌, ◌*◌, ◌/◌, ◌∙◌, ℕ, ap, s
 use Rattle.hash_tree.specs.Tree.{cut}
 use Rattle.verity_format.specs.Blocks.{IsFullRead, blocks_at}
 use Rattle.tree_survey.specs.Failing.{IsSectorsRead}
-use Rattle.tree_survey.proofs.RunLemmas.{run-cut, run-sectors}
+use Rattle.verity_format.proofs.lemmas.RunLemmas.{run-cut, run-sectors}
 use Rattle.tree_survey.proofs.pieces.read_run.Goals as goal
 
 pub returns-clause-ends : goal.returns-clause-ends

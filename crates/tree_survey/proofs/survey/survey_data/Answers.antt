@@ -9,7 +9,7 @@ use Rattle.tree_survey.specs.Passes.{tree_in}
 use Rattle.tree_survey.specs.Pieces.{blocks_of}
 use Rattle.tree_survey.proofs.FailingLemmas.{over-none, over-then, through-none}
 use Rattle.tree_survey.proofs.PieceLemmas.{IsContent, IsPiece, block-on, content-of, piece-is, piece-read, run-on}
-use Rattle.tree_survey.proofs.SizeLemmas.{block-size}
+use Rattle.verity_format.proofs.lemmas.SizeLemmas.{block-size}
 use Rattle.tree_survey.proofs.UnderwayLemmas.{IsUnderway, are-few, can-go, ends-at, underway-all, underway-more, underway-next, underway-none}
 use Rattle.tree_survey.proofs.survey.survey_data.Goals as goal
 

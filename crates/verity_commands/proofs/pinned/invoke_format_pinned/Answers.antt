@@ -13,9 +13,9 @@ returns-in_err-check_pin_path-clause-err g c =
 pub returns-in_err-write_pin-clause-err : goal.returns-in_err-write_pin-clause-err
 returns-in_err-write_pin-clause-err g c =
     let fault = c.in_err-write_pin.field-0.0 in
-    let apart = rw c.places_of-watched.ensures at c.in_ok-check_pin_path.ensures.ok in
+    let path = rw c.places_of-watched.ensures at c.in_ok-check_pin_path.ensures.ok in
     let makes = rw c.places_of-watched.ensures at c.in_ok-made.ensures.ok in
-    let unwritten = rw c.pin_of_image-pin.ensures at c.in_err-write_pin.ensures.err in
+    let unwritten = rw (c.places_of-watched.ensures, c.pin_of_image-pin.ensures) at c.in_err-write_pin.ensures.err in
     err-from c.from_residual-in_err-write_pin.result _ (Image fault) c.from_residual-in_err-write_pin.ensures.1 (
       inr (
         c.in_ok-options.options,
@@ -23,7 +23,7 @@ returns-in_err-write_pin-clause-err g c =
         inr (inr (inl (record {
           between = c.make_image.new.images;
           image = c.in_ok-made.made;
-          makes = record { between = c.check_pin_path.new.images; apart = apart; makes = makes };
+          makes = record { between = c.check_pin_path.new.images; path = path; makes = makes };
           unwritten = unwritten;
         }))),
       ),
@@ -33,9 +33,9 @@ returns-in_err-write_pin-clause-err g c =
 pub returns-in_err-print_made-clause-err : goal.returns-in_err-print_made-clause-err
 returns-in_err-print_made-clause-err g c =
     let fault = c.in_err-print_made.field-0.0 in
-    let apart = rw c.places_of-watched.ensures at c.in_ok-check_pin_path.ensures.ok in
+    let path = rw c.places_of-watched.ensures at c.in_ok-check_pin_path.ensures.ok in
     let makes = rw c.places_of-watched.ensures at c.in_ok-made.ensures.ok in
-    let writes = rw c.pin_of_image-pin.ensures at c.in_ok-write_pin.ensures.ok in
+    let writes = rw (c.places_of-watched.ensures, c.pin_of_image-pin.ensures) at c.in_ok-write_pin.ensures.ok in
     err-from c.from_residual-in_err-print_made.result _ (Image fault) c.from_residual-in_err-print_made.ensures.1 (
       inr (
         c.in_ok-options.options,
@@ -44,7 +44,7 @@ returns-in_err-print_made-clause-err g c =
           c.in_ok-made.made,
           record {
             between = c.make_image.new.images;
-            makes = record { between = c.check_pin_path.new.images; apart = apart; makes = makes };
+            makes = record { between = c.check_pin_path.new.images; path = path; makes = makes };
             writes = writes;
           },
           c.in_err-print_made.ensures.err,

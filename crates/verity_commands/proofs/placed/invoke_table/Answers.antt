@@ -2,12 +2,14 @@ use Rattle.std.proofs.Common.{refl}
 use Rattle.verity_commands.proofs.placed.invoke_table.Goals as goal
 
 pub returns-clause-ok : goal.returns-clause-ok
-returns-clause-ok g c = record {
-  between = c.root_in.new.images;
-  words = _;
-  name = c.args.words.now.name;
-  told = c.in_ok-root.ensures.ok;
-  names = (refl, refl);
-  entry = refl;
-  prints = rw c.sector_at.ensures at c.in_ok-table_placed.ensures.ok;
-}
+returns-clause-ok g c =
+    let words = c.args.words.now in
+    record {
+      between = c.root_in.new.images;
+      words = record { root = record { ref_ptr = words.data_name.ref_ptr; now = c.in_ok-root.root }; data_name = words.data_name; hash_name = words.hash_name };
+      name = words.name;
+      told = c.in_ok-root.ensures.ok;
+      names = (refl, refl);
+      entry = refl;
+      prints = rw c.sector_at.ensures at c.in_ok-table_placed.ensures.ok;
+    }

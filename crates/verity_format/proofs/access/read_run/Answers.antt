@@ -5,7 +5,7 @@ use Rattle.tree_shape.specs.Digests.{digest}
 use Rattle.hash_tree.specs.Tree.{cut}
 use Rattle.hash_tree.proofs.lemmas.TreeLemmas.{length-digest}
 use Rattle.verity_format.specs.Blocks.{blocks_at}
-use Rattle.verity_format.proofs.RunLemmas.{run-digests, run-sectors}
+use Rattle.verity_format.proofs.lemmas.RunLemmas.{run-digests, run-sectors}
 use Rattle.verity_format.proofs.access.read_run.Goals as goal
 
 pub returns-clause-ok : goal.returns-clause-ok

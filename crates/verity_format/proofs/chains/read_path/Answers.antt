@@ -5,9 +5,9 @@ use Rattle.std.proofs.lemmas.List.Elements.{All-set}
 use Rattle.tree_shape.specs.Shape.{position, ancestor, area_end, levels}
 use Rattle.verity_format.specs.Blocks.{block_at, IsFullRead}
 use Rattle.verity_format.specs.Chain.{stored_path}
-use Rattle.verity_format.proofs.DeviceLemmas.{only_read-then, full_read-then, steady-then}
+use Rattle.verity_format.proofs.lemmas.DeviceLemmas.{only_read-then, full_read-then, steady-then}
 use Rattle.verity_format.proofs.BlockLemmas.{path-more}
-use Rattle.verity_format.proofs.SizeLemmas.{block-size, block-inside}
+use Rattle.verity_format.proofs.lemmas.SizeLemmas.{block-size, block-inside}
 use Rattle.verity_format.proofs.chains.read_path.Goals as goal
 
 -- the block's memory has the size of a hash block

@@ -7,7 +7,7 @@ use Rattle.verity_format.specs.Blocks.{block_at}
 use Rattle.verity_format.specs.Comparing.{IsLeastWith}
 use Rattle.verity_format.proofs.BlockLemmas.{sectors-step}
 use Rattle.verity_format.proofs.ComparingLemmas.{ne_differ, ne_same}
-use Rattle.verity_format.proofs.DeviceLemmas.{only_read-then, full_read-then, steady-then}
+use Rattle.verity_format.proofs.lemmas.DeviceLemmas.{only_read-then, full_read-then, steady-then}
 use Rattle.verity_format.proofs.comparing.compare_blocks.Goals.{then-ne, else-ne}
 use Rattle.verity_format.proofs.comparing.compare_blocks.Goals as goal
 

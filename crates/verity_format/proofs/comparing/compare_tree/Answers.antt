@@ -5,7 +5,7 @@ use Rattle.hash_tree.proofs.lemmas.BuilderLemmas.{left-pushed}
 use Rattle.verity_format.specs.Growth.{IsRunTaken}
 use Rattle.verity_format.specs.Comparing.{IsComparing}
 use Rattle.verity_format.proofs.ComparingLemmas.{lies-on, comparing-none, comparing-then, compared-all}
-use Rattle.verity_format.proofs.DeviceLemmas.{only_read-then}
+use Rattle.verity_format.proofs.lemmas.DeviceLemmas.{only_read-then}
 use Rattle.verity_format.proofs.GrowthLemmas.{left-taken, ready-taken, out-inside, last-all}
 use Rattle.verity_format.proofs.comparing.compare_tree.Goals as goal
 
@@ -35,7 +35,7 @@ compare_blocks-requires g c =
     c.loop-run.auto.block ∙ ap length (c.as_mut_slice-block.ensures.value ∙ c.in_ok-block_memory.ensures) ∙ length-replicate {A = ℕ} c.hash_block.result 0 ∙ c.hash_block.ensures.value in
     record {
       size = rw size c.hash_block.ensures.valid.hash_size;
-      inside = lies-on s c.hash_block.ensures.valid c.requires.start (g.H.BlockDev.state c.loop-run.hash_dev) (omega (arith, c.requires.tree_room, here.read.read.same.size)) (length c.loop-run.block) size
+      inside = lies-on s c.hash_block.ensures.valid (g.H.BlockDev.state c.loop-run.hash_dev) (omega (arith, c.requires.tree_room, here.read.read.same.size)) (length c.loop-run.block) size
           c.deref.result.now c.in_ok-out.out.items c.deref.ensures.value
           (out-inside s c.args.salt.now _ _ c.loop-run.builder here.taken _ _ c.in_ok-out.out.items c.in_ok-out.ensures.taken c.hash_block.ensures.valid);
     }
@@ -67,7 +67,7 @@ compare_blocks-requires-2 g c =
     let last : c.deref-2.result.now ≡ last_completed c.loop-run.builder = c.deref-2.ensures.value ∙ c.in_ok-root.ensures.out ∙ ap (λ xs. xs ++ last_completed c.loop-run.builder) c.new-out.ensures.items in
     record {
       size = rw size c.hash_block.ensures.valid.hash_size;
-      inside = lies-on s c.hash_block.ensures.valid c.requires.start (g.H.BlockDev.state c.loop-run.hash_dev) (omega (arith, c.requires.tree_room, here.read.read.same.size)) (length c.loop-run.block) size
+      inside = lies-on s c.hash_block.ensures.valid (g.H.BlockDev.state c.loop-run.hash_dev) (omega (arith, c.requires.tree_room, here.read.read.same.size)) (length c.loop-run.block) size
           c.deref-2.result.now (last_completed c.loop-run.builder) last
           (last-all s c.args.salt.now _ _ c.loop-run.builder here.taken c.hash_block.ensures.valid (omega (arith, c.left.ensures, c.loop-run-test.false)));
     }
@@ -81,7 +81,7 @@ returns-clause-compared g c =
     let last : c.deref-2.result.now ≡ last_completed c.loop-run.builder = c.deref-2.ensures.value ∙ c.in_ok-root.ensures.out ∙ ap (λ xs. xs ++ last_completed c.loop-run.builder) c.new-out.ensures.items in
     compared-all s c.args.salt.now (g.D.BlockDev.state c.args.data_dev.now) (g.H.BlockDev.state c.args.hash_dev.now) (g.D.BlockDev.state c.loop-run.data_dev) (g.H.BlockDev.state c.loop-run.hash_dev) c.loop-run.builder c.loop-run.least here
     (g.H.BlockDev.state c.compare_blocks-2.new.hash_dev) (length c.loop-run.block) size c.deref-2.result.now c.in_ok-least-2.least c.in_ok-least-2.ensures.ok.full c.in_ok-least-2.ensures.ok.least
-    c.hash_block.ensures.valid c.requires.start (omega (arith, c.left.ensures, c.loop-run-test.false)) last c.in_ok-root.root c.in_ok-root.ensures.root
+    c.hash_block.ensures.valid (omega (arith, c.left.ensures, c.loop-run-test.false)) last c.in_ok-root.root c.in_ok-root.ensures.root
 
 pub returns-in_err-least-clause-read : goal.returns-in_err-least-clause-read
 returns-in_err-least-clause-read g c = record {

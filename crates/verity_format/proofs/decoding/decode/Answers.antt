@@ -5,7 +5,7 @@ use Rattle.std.specs.Result.{result_err}
 use Rattle.verity_format.specs.declared.decoding.SuperFault.{SuperFault}
 use Rattle.verity_format.specs.Superblock.{SuperRecord, Carries, super_fault, read_of}
 use Rattle.verity_format.proofs.FieldLemmas.{carried-read, same-read, no_fault-from_Carries}
-use Rattle.verity_format.proofs.SpellingLemmas.{carried-spelling}
+use Rattle.verity_format.proofs.lemmas.SpellingLemmas.{carried-spelling}
 use Rattle.verity_format.proofs.decoding.decode.Goals as goal
 
 -- what is read carries the bytes

@@ -2,7 +2,7 @@ use Rattle.std.proofs.Common.{◌≡◌, ◌+◌, ◌-◌, ◌∙◌, ◌++◌, 
 use Rattle.std.proofs.lemmas.List.{take_at, drop-replicate, length-append, length-replicate}
 use Rattle.verity_format.specs.Superblock.{SuperRecord, spelling}
 use Rattle.verity_format.specs.Image.{first_block}
-use Rattle.verity_format.proofs.SizeLemmas.{block-size}
+use Rattle.verity_format.proofs.lemmas.SizeLemmas.{block-size}
 use Rattle.verity_format.proofs.formatting.encoded_block.Goals as goal
 
 -- the superblock written at the beginning of zeros

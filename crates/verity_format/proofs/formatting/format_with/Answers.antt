@@ -5,7 +5,7 @@ use Rattle.verity_format.specs.declared.formatting.FormatFault.TheVariants.{Shap
 use Rattle.verity_format.specs.Superblock.{SuperRecord}
 use Rattle.verity_format.specs.Formatting.{given_blocks, format_refusal, IsFormatting}
 use Rattle.verity_format.proofs.RefusalLemmas.{no_shape, same_some}
-use Rattle.verity_format.proofs.DeviceLemmas.{only_read-none, only_written-none}
+use Rattle.verity_format.proofs.lemmas.DeviceLemmas.{only_read-none, only_written-none}
 use Rattle.verity_format.proofs.HandingLemmas.{stopped-none}
 use Rattle.verity_format.proofs.formatting.format_with.Goals as goal
 

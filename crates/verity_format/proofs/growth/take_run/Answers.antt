@@ -6,8 +6,8 @@ use Rattle.hash_tree.specs.Building.{completed}
 use Rattle.tree_shape.specs.Digests.{digest}
 use Rattle.verity_format.specs.Blocks.{IsFullRead, blocks_at}
 use Rattle.verity_format.specs.Growth.{IsDigest}
-use Rattle.verity_format.proofs.RunLemmas.{quotient-some}
-use Rattle.verity_format.proofs.SizeLemmas.{block-size}
+use Rattle.verity_format.proofs.lemmas.RunLemmas.{quotient-some}
+use Rattle.verity_format.proofs.lemmas.SizeLemmas.{block-size}
 use Rattle.verity_format.proofs.growth.take_run.Goals as goal
 
 pub returns-clause-taken : goal.returns-clause-taken

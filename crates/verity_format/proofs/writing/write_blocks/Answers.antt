@@ -6,9 +6,9 @@ use Rattle.block_device.specs.Device.{IsWritten, spliced, sectors_of}
 use Rattle.block_device.proofs.lemmas.CallLemmas.{calls-last}
 use Rattle.hash_tree.specs.Building.{PlacedRecord}
 use Rattle.verity_format.specs.Handing.{writes_of}
-use Rattle.verity_format.specs.Writing.{MayStand, StandsWithin, AreBlocksWritten}
-use Rattle.verity_format.proofs.DeviceLemmas.{same-none, same-then, failed-then}
-use Rattle.verity_format.proofs.SizeLemmas.{block-size}
+use Rattle.verity_format.specs.Writing.{MayStand, LiesBetween, AreBlocksWritten}
+use Rattle.verity_format.proofs.lemmas.DeviceLemmas.{same-none, same-then, failed-then}
+use Rattle.verity_format.proofs.lemmas.SizeLemmas.{block-size}
 use Rattle.verity_format.proofs.WritingLemmas.{part-none, part-one, part-then, part-more, written-none, written-one, written-then}
 use Rattle.verity_format.proofs.HandingLemmas.{writes-append}
 use Rattle.verity_format.proofs.writing.write_blocks.Goals as goal
@@ -18,7 +18,7 @@ loop-placed-init g c =
     let d = g.H.BlockDev.state c.args.hash_dev.now in
     record {
       same = same-none d;
-      part = λ last all. part-none c.args.size last d;
+      part = λ first last all. part-none c.args.size first last d;
       done = written-none c.args.size d;
       handed = refl;
     }
@@ -71,9 +71,9 @@ loop-placed-preserved g c =
     let more : take (i + 1) out ≡ take i out ++ p ∷ [] = take_more out i p c.loop-placed-test.true ∙ ap (λ q. take i out ++ q ∷ []) (sym c.placed-item.is) in
     record {
       same = same-then here.same w.same;
-      part = λ last all.
-          let stands : StandsWithin size last p = subst (λ (q : PlacedRecord). StandsWithin size last q) (sym c.placed-item.is) (all i p c.loop-placed-test.true) in
-          part-then size last i 1 (i + 1) old now new (omega arith) (here.part last all) (part-one size last n p now new true stands sectors w);
+      part = λ first last all.
+          let stands : LiesBetween size first last p = subst (λ (q : PlacedRecord). LiesBetween size first last q) (sym c.placed-item.is) (all i p c.loop-placed-test.true) in
+          part-then size first last i 1 (i + 1) old now new (omega arith) (here.part first last all) (part-one size first last n p now new true stands sectors w);
       done = subst (λ (ps : List PlacedRecord). AreBlocksWritten size old ps new) (sym more)
           (written-then size (take i out) (p ∷ []) old now new here.same here.done (written-one size n p now new c.requires.size at.0 count inside w image));
       handed =
@@ -86,7 +86,7 @@ loop-placed-preserved g c =
     }
 
 pub returns-in_err-write-clause-part : goal.returns-in_err-write-clause-part
-returns-in_err-write-clause-part g c = λ last all.
+returns-in_err-write-clause-part g c = λ first last all.
     let p : PlacedRecord = c.placed-item.result in
     let out = c.args.blocks.now in
     let i : ℕ = c.loop-placed.placed-index in
@@ -101,8 +101,8 @@ returns-in_err-write-clause-part g c = λ last all.
     let n : ℕ = length c.as_slice.result.now / 512 in
     let sectors : n ≡ k = ap (λ xs. length xs / 512) bytes ∙ ap (λ m. m / 512) at.0 in
     let w : IsWritten now (p.block * k) n false new = subst (λ (m : ℕ). IsWritten now (m * k) n false new) (sym number) c.in_err-write.ensures.moved in
-    let stands : StandsWithin size last p = subst (λ (q : PlacedRecord). StandsWithin size last q) (sym c.placed-item.is) (all i p c.loop-placed-test.true) in
-    part-then size last i 1 (length out) old now new (omega (arith, c.loop-placed-test.true)) (c.loop-placed.invariant.part last all) (part-one size last n p now new false stands sectors w)
+    let stands : LiesBetween size first last p = subst (λ (q : PlacedRecord). LiesBetween size first last q) (sym c.placed-item.is) (all i p c.loop-placed-test.true) in
+    part-then size first last i 1 (length out) old now new (omega (arith, c.loop-placed-test.true)) (c.loop-placed.invariant.part first last all) (part-one size first last n p now new false stands sectors w)
 
 pub returns-in_err-write-clause-fault : goal.returns-in_err-write-clause-fault
 returns-in_err-write-clause-fault g c =
@@ -110,8 +110,8 @@ returns-in_err-write-clause-fault g c =
     rw p.1 (failed-then (g.H.BlockDev.state c.args.hash_dev.now) (g.H.BlockDev.state c.loop-placed.hash_dev) (g.H.BlockDev.state c.write.new.self) c.loop-placed.invariant.done.failures c.in_err-write.ensures.fault)
 
 pub returns-clause-part : goal.returns-clause-part
-returns-clause-part g c = λ last all.
-    part-more c.args.size last c.loop-placed.placed-index (length c.args.blocks.now) (g.H.BlockDev.state c.args.hash_dev.now) (g.H.BlockDev.state c.loop-placed.hash_dev) (omega arith) (c.loop-placed.invariant.part last all)
+returns-clause-part g c = λ first last all.
+    part-more c.args.size first last c.loop-placed.placed-index (length c.args.blocks.now) (g.H.BlockDev.state c.args.hash_dev.now) (g.H.BlockDev.state c.loop-placed.hash_dev) (omega arith) (c.loop-placed.invariant.part first last all)
 
 pub returns-clause-ok : goal.returns-clause-ok
 returns-clause-ok g c =

@@ -5,9 +5,9 @@ use Rattle.hash_tree.specs.Building.{PlacedRecord, BuilderRecord, pushed, last_c
 use Rattle.hash_tree.proofs.lemmas.BuilderLemmas.{left-pushed}
 use Rattle.verity_format.specs.Growth.{IsRunTaken}
 use Rattle.verity_format.specs.Handing.{HandsGrowth, HandsSome, writes_of}
-use Rattle.verity_format.specs.Image.{image_sectors}
+use Rattle.verity_format.specs.Image.{tree_sectors}
 use Rattle.verity_format.specs.Writing.{IsWriting, IsPartWritten, AreBlocksWritten}
-use Rattle.verity_format.proofs.DeviceLemmas.{only_read-then}
+use Rattle.verity_format.proofs.lemmas.DeviceLemmas.{only_read-then}
 use Rattle.verity_format.proofs.GrowthLemmas.{left-taken, ready-taken, out-inside, last-all}
 use Rattle.verity_format.proofs.HandingLemmas.{growth-none, growth-then, stopped-asked, stopped-last, stopped-none, stopped-run, tree-all}
 use Rattle.verity_format.proofs.WritingLemmas.{may-stand, writing-none, part-taken, part-run, part-last, writing-then, written-all}
@@ -52,7 +52,7 @@ write_blocks-requires g c =
     let valid = c.hash_block-size.ensures.valid in
     let size : c.hash_block-size.result ≡ s.hash_block = c.hash_block-size.ensures.value in
     let hash' = g.H.BlockDev.state c.loop-run.hash_dev in
-    let stand = may-stand s valid c.requires.start hash' (omega (arith, c.requires.tree_room, here.part.same.size)) c.hash_block-size.result size
+    let stand = may-stand s valid hash' (omega (arith, c.requires.tree_room, here.part.same.size)) c.hash_block-size.result size
     c.deref.result.now c.in_ok-out.out.items c.deref.ensures.value
     (out-inside s c.args.salt.now _ _ c.loop-run.builder here.taken _ _ c.in_ok-out.out.items c.in_ok-out.ensures.taken valid) in
     record {
@@ -68,14 +68,14 @@ returns-in_err-write_blocks-clause-devices g c =
     let valid = c.hash_block-size.ensures.valid in
     let size : c.hash_block-size.result ≡ s.hash_block = c.hash_block-size.ensures.value in
     let hash' = g.H.BlockDev.state c.loop-run.hash_dev in
-    let stand = may-stand s valid c.requires.start hash' (omega (arith, c.requires.tree_room, here.part.same.size)) c.hash_block-size.result size
+    let stand = may-stand s valid hash' (omega (arith, c.requires.tree_room, here.part.same.size)) c.hash_block-size.result size
     c.deref.result.now c.in_ok-out.out.items c.deref.ensures.value
     (out-inside s c.args.salt.now _ _ c.loop-run.builder here.taken _ _ c.in_ok-out.out.items c.in_ok-out.ensures.taken valid) in
     let out : List PlacedRecord = c.deref.result.now in
     let hash'' = g.H.BlockDev.state c.write_blocks.new.hash_dev in
     let data'' = g.D.BlockDev.state c.take_run.new.device in
-    let part : IsPartWritten s.hash_block (image_sectors s) (length out) hash' hash'' =
-    subst (λ (n : ℕ). IsPartWritten n (image_sectors s) (length out) hash' hash'') size (c.write_blocks.ensures.part (image_sectors s) stand.1) in
+    let part : IsPartWritten s.hash_block s.start (tree_sectors s) (length out) hash' hash'' =
+    subst (λ (n : ℕ). IsPartWritten n s.start (tree_sectors s) (length out) hash' hash'') size (c.write_blocks.ensures.part s.start (tree_sectors s) stand.1) in
     let run : IsRunTaken s c.args.salt.now (g.D.BlockDev.state c.loop-run.data_dev) data'' c.loop-run.builder c.take_run.new.builder out =
     subst (λ (ps : List PlacedRecord). IsRunTaken s c.args.salt.now (g.D.BlockDev.state c.loop-run.data_dev) data'' c.loop-run.builder c.take_run.new.builder ps) (sym c.deref.ensures.value) c.in_ok-out.ensures.taken in
     record {
@@ -96,14 +96,14 @@ loop-run-preserved g c =
     let valid = c.hash_block-size.ensures.valid in
     let size : c.hash_block-size.result ≡ s.hash_block = c.hash_block-size.ensures.value in
     let hash' = g.H.BlockDev.state c.loop-run.hash_dev in
-    let stand = may-stand s valid c.requires.start hash' (omega (arith, c.requires.tree_room, here.part.same.size)) c.hash_block-size.result size
+    let stand = may-stand s valid hash' (omega (arith, c.requires.tree_room, here.part.same.size)) c.hash_block-size.result size
     c.deref.result.now c.in_ok-out.out.items c.deref.ensures.value
     (out-inside s c.args.salt.now _ _ c.loop-run.builder here.taken _ _ c.in_ok-out.out.items c.in_ok-out.ensures.taken valid) in
     let out : List PlacedRecord = c.deref.result.now in
     let hash'' = g.H.BlockDev.state c.write_blocks.new.hash_dev in
     let data'' = g.D.BlockDev.state c.take_run.new.device in
-    let part : IsPartWritten s.hash_block (image_sectors s) (length out) hash' hash'' =
-    subst (λ (n : ℕ). IsPartWritten n (image_sectors s) (length out) hash' hash'') size (c.write_blocks.ensures.part (image_sectors s) stand.1) in
+    let part : IsPartWritten s.hash_block s.start (tree_sectors s) (length out) hash' hash'' =
+    subst (λ (n : ℕ). IsPartWritten n s.start (tree_sectors s) (length out) hash' hash'') size (c.write_blocks.ensures.part s.start (tree_sectors s) stand.1) in
     let run : IsRunTaken s c.args.salt.now (g.D.BlockDev.state c.loop-run.data_dev) data'' c.loop-run.builder c.take_run.new.builder out =
     subst (λ (ps : List PlacedRecord). IsRunTaken s c.args.salt.now (g.D.BlockDev.state c.loop-run.data_dev) data'' c.loop-run.builder c.take_run.new.builder ps) (sym c.deref.ensures.value) c.in_ok-out.ensures.taken in
     let done : AreBlocksWritten s.hash_block hash' out hash'' = subst (λ (n : ℕ). AreBlocksWritten n hash' out hash'') size c.in_ok-write_blocks.ensures.ok in
@@ -137,7 +137,7 @@ write_blocks-requires-2 g c =
     let hash' = g.H.BlockDev.state c.loop-run.hash_dev in
     let last : c.deref-2.result.now ≡ last_completed c.loop-run.builder = c.deref-2.ensures.value ∙ c.in_ok-root.ensures.out ∙ ap (λ xs. xs ++ last_completed c.loop-run.builder) c.new-out.ensures.items in
     let none : c.loop-run.builder.left ≡ 0 = omega (arith, c.left.ensures, c.loop-run-test.false) in
-    let stand = may-stand s valid c.requires.start hash' (omega (arith, c.requires.tree_room, here.part.same.size)) c.hash_block-size.result size
+    let stand = may-stand s valid hash' (omega (arith, c.requires.tree_room, here.part.same.size)) c.hash_block-size.result size
     c.deref-2.result.now (last_completed c.loop-run.builder) last
     (last-all s c.args.salt.now _ _ c.loop-run.builder here.taken valid none) in
     record {
@@ -155,13 +155,13 @@ returns-in_err-write_blocks-2-clause-devices g c =
     let hash' = g.H.BlockDev.state c.loop-run.hash_dev in
     let last : c.deref-2.result.now ≡ last_completed c.loop-run.builder = c.deref-2.ensures.value ∙ c.in_ok-root.ensures.out ∙ ap (λ xs. xs ++ last_completed c.loop-run.builder) c.new-out.ensures.items in
     let none : c.loop-run.builder.left ≡ 0 = omega (arith, c.left.ensures, c.loop-run-test.false) in
-    let stand = may-stand s valid c.requires.start hash' (omega (arith, c.requires.tree_room, here.part.same.size)) c.hash_block-size.result size
+    let stand = may-stand s valid hash' (omega (arith, c.requires.tree_room, here.part.same.size)) c.hash_block-size.result size
     c.deref-2.result.now (last_completed c.loop-run.builder) last
     (last-all s c.args.salt.now _ _ c.loop-run.builder here.taken valid none) in
     let out : List PlacedRecord = c.deref-2.result.now in
     let hash'' = g.H.BlockDev.state c.write_blocks-2.new.hash_dev in
-    let part : IsPartWritten s.hash_block (image_sectors s) (length out) hash' hash'' =
-    subst (λ (n : ℕ). IsPartWritten n (image_sectors s) (length out) hash' hash'') size (c.write_blocks-2.ensures.part (image_sectors s) stand.1) in
+    let part : IsPartWritten s.hash_block s.start (tree_sectors s) (length out) hash' hash'' =
+    subst (λ (n : ℕ). IsPartWritten n s.start (tree_sectors s) (length out) hash' hash'') size (c.write_blocks-2.ensures.part s.start (tree_sectors s) stand.1) in
     record {
       read = c.loop-run.invariant.writing.taken.read.read;
       part = part-last s c.args.salt.now (g.D.BlockDev.state c.args.data_dev.now) (g.H.BlockDev.state c.args.hash_dev.now) (g.D.BlockDev.state c.loop-run.data_dev) (g.H.BlockDev.state c.loop-run.hash_dev) c.loop-run.builder c.loop-run.invariant.writing hash'' out part valid none last;
@@ -176,13 +176,13 @@ returns-clause-devices g c =
     let hash' = g.H.BlockDev.state c.loop-run.hash_dev in
     let last : c.deref-2.result.now ≡ last_completed c.loop-run.builder = c.deref-2.ensures.value ∙ c.in_ok-root.ensures.out ∙ ap (λ xs. xs ++ last_completed c.loop-run.builder) c.new-out.ensures.items in
     let none : c.loop-run.builder.left ≡ 0 = omega (arith, c.left.ensures, c.loop-run-test.false) in
-    let stand = may-stand s valid c.requires.start hash' (omega (arith, c.requires.tree_room, here.part.same.size)) c.hash_block-size.result size
+    let stand = may-stand s valid hash' (omega (arith, c.requires.tree_room, here.part.same.size)) c.hash_block-size.result size
     c.deref-2.result.now (last_completed c.loop-run.builder) last
     (last-all s c.args.salt.now _ _ c.loop-run.builder here.taken valid none) in
     let out : List PlacedRecord = c.deref-2.result.now in
     let hash'' = g.H.BlockDev.state c.write_blocks-2.new.hash_dev in
-    let part : IsPartWritten s.hash_block (image_sectors s) (length out) hash' hash'' =
-    subst (λ (n : ℕ). IsPartWritten n (image_sectors s) (length out) hash' hash'') size (c.write_blocks-2.ensures.part (image_sectors s) stand.1) in
+    let part : IsPartWritten s.hash_block s.start (tree_sectors s) (length out) hash' hash'' =
+    subst (λ (n : ℕ). IsPartWritten n s.start (tree_sectors s) (length out) hash' hash'') size (c.write_blocks-2.ensures.part s.start (tree_sectors s) stand.1) in
     record {
       read = c.loop-run.invariant.writing.taken.read.read;
       part = part-last s c.args.salt.now (g.D.BlockDev.state c.args.data_dev.now) (g.H.BlockDev.state c.args.hash_dev.now) (g.D.BlockDev.state c.loop-run.data_dev) (g.H.BlockDev.state c.loop-run.hash_dev) c.loop-run.builder c.loop-run.invariant.writing hash'' out part valid none last;
@@ -197,15 +197,15 @@ returns-clause-written g c =
     let hash' = g.H.BlockDev.state c.loop-run.hash_dev in
     let last : c.deref-2.result.now ≡ last_completed c.loop-run.builder = c.deref-2.ensures.value ∙ c.in_ok-root.ensures.out ∙ ap (λ xs. xs ++ last_completed c.loop-run.builder) c.new-out.ensures.items in
     let none : c.loop-run.builder.left ≡ 0 = omega (arith, c.left.ensures, c.loop-run-test.false) in
-    let stand = may-stand s valid c.requires.start hash' (omega (arith, c.requires.tree_room, here.part.same.size)) c.hash_block-size.result size
+    let stand = may-stand s valid hash' (omega (arith, c.requires.tree_room, here.part.same.size)) c.hash_block-size.result size
     c.deref-2.result.now (last_completed c.loop-run.builder) last
     (last-all s c.args.salt.now _ _ c.loop-run.builder here.taken valid none) in
     let out : List PlacedRecord = c.deref-2.result.now in
     let hash'' = g.H.BlockDev.state c.write_blocks-2.new.hash_dev in
-    let part : IsPartWritten s.hash_block (image_sectors s) (length out) hash' hash'' =
-    subst (λ (n : ℕ). IsPartWritten n (image_sectors s) (length out) hash' hash'') size (c.write_blocks-2.ensures.part (image_sectors s) stand.1) in
+    let part : IsPartWritten s.hash_block s.start (tree_sectors s) (length out) hash' hash'' =
+    subst (λ (n : ℕ). IsPartWritten n s.start (tree_sectors s) (length out) hash' hash'') size (c.write_blocks-2.ensures.part s.start (tree_sectors s) stand.1) in
     let done : AreBlocksWritten s.hash_block hash' out hash'' = subst (λ (n : ℕ). AreBlocksWritten n hash' out hash'') size c.in_ok-write_blocks-2.ensures.ok in
-    written-all s c.args.salt.now (g.D.BlockDev.state c.args.data_dev.now) (g.H.BlockDev.state c.args.hash_dev.now) (g.D.BlockDev.state c.loop-run.data_dev) (g.H.BlockDev.state c.loop-run.hash_dev) c.loop-run.builder c.loop-run.invariant.writing hash'' out part done valid c.requires.start none last c.in_ok-root.root c.in_ok-root.ensures.root
+    written-all s c.args.salt.now (g.D.BlockDev.state c.args.data_dev.now) (g.H.BlockDev.state c.args.hash_dev.now) (g.D.BlockDev.state c.loop-run.data_dev) (g.H.BlockDev.state c.loop-run.hash_dev) c.loop-run.builder c.loop-run.invariant.writing hash'' out part done valid (g.met.H.BlockDev.whole c.write_blocks-2.new.hash_dev) c.requires.tree_room none last c.in_ok-root.root c.in_ok-root.ensures.root
 
 pub returns-in_err-memory-clause-handed : goal.returns-in_err-memory-clause-handed
 returns-in_err-memory-clause-handed g c =

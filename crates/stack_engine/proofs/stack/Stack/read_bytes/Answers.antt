@@ -19,38 +19,38 @@ use Rattle.stack_engine.proofs.TouchedLemmas.{buffer-touched}
 use Rattle.stack_engine.proofs.stack.Stack.read_bytes.Goals as goal
 
 pub invariant_of-self : goal.invariant_of-self
-invariant_of-self g c = record { sound = piece-sound c.self.inside.config c.self.invariant.sound c.device_bytes.ensures.reads.got.moved; cached = c.device_bytes.ensures.step.cached.sound }
+invariant_of-self g c = record { sound = piece-sound c.self.inside.config c.self.invariant.sound c.read_device.ensures.reads.reads.got.moved; cached = c.read_device.ensures.step.cached.sound }
 
 pub returns-clause-any : goal.returns-clause-any
 returns-clause-any g c =
     let n : ℕ = length c.args.out.now / 512 in
-    let answer : Result (List ℕ) IoFault = buffer_answer c.device_bytes.result c.device_bytes.new.out in
-    let after : StackRecord = stack_with c.self.inside.config (map g.D.BlockDev.state c.device_bytes.new.backing.devices.items) c.device_bytes.new.backing.cache.blocks in
-    subst (λ (w : StackRecord). AnyBytes w c.args.d.0 c.args.first n answer after) c.self.view_is (each-bytes c.self.inside.config c.args.d.0 c.args.first n answer c.device_bytes.ensures.reads (buffer-touched c.device_bytes.result c.device_bytes.new.out c.device_bytes.ensures.step.touches) {before = c.self.inside.backing.cache.blocks} {after = c.device_bytes.new.backing.cache.blocks} c.device_bytes.ensures.step.cached.capacity).any
+    let answer : Result (List ℕ) IoFault = buffer_answer c.read_device.result c.read_device.new.out in
+    let after : StackRecord = stack_with c.self.inside.config (map g.D.BlockDev.state c.read_device.new.backing.devices.items) c.read_device.new.backing.cache.blocks in
+    subst (λ (w : StackRecord). AnyBytes w c.args.d.0 c.args.first n answer after) c.self.view_is (each-bytes c.self.inside.config c.args.d.0 c.args.first n answer c.new-dropped.ensures.items c.read_device.ensures.reads (buffer-touched c.read_device.result c.read_device.new.out c.read_device.ensures.step.touches) {before = c.self.inside.backing.cache.blocks} {after = c.read_device.new.backing.cache.blocks} c.read_device.ensures.step.cached.capacity).any
 
 pub returns-clause-steady : goal.returns-clause-steady
 returns-clause-steady g c =
     let n : ℕ = length c.args.out.now / 512 in
-    let answer : Result (List ℕ) IoFault = buffer_answer c.device_bytes.result c.device_bytes.new.out in
-    let after : StackRecord = stack_with c.self.inside.config (map g.D.BlockDev.state c.device_bytes.new.backing.devices.items) c.device_bytes.new.backing.cache.blocks in
+    let answer : Result (List ℕ) IoFault = buffer_answer c.read_device.result c.read_device.new.out in
+    let after : StackRecord = stack_with c.self.inside.config (map g.D.BlockDev.state c.read_device.new.backing.devices.items) c.read_device.new.backing.cache.blocks in
     subst (λ (w : StackRecord). AreSteady (leaves_of w.config (mapped c.args.d.0)) w.leaves → SteadyBytes w c.args.d.0 c.args.first n answer after) c.self.view_is
-    (each-bytes c.self.inside.config c.args.d.0 c.args.first n answer c.device_bytes.ensures.reads (buffer-touched c.device_bytes.result c.device_bytes.new.out c.device_bytes.ensures.step.touches) {before = c.self.inside.backing.cache.blocks} {after = c.device_bytes.new.backing.cache.blocks} c.device_bytes.ensures.step.cached.capacity).steady
+    (each-bytes c.self.inside.config c.args.d.0 c.args.first n answer c.new-dropped.ensures.items c.read_device.ensures.reads (buffer-touched c.read_device.result c.read_device.new.out c.read_device.ensures.step.touches) {before = c.self.inside.backing.cache.blocks} {after = c.read_device.new.backing.cache.blocks} c.read_device.ensures.step.cached.capacity).steady
 
 pub returns-clause-stops : goal.returns-clause-stops
 returns-clause-stops g c =
     let n : ℕ = length c.args.out.now / 512 in
-    let new = map g.D.BlockDev.state c.device_bytes.new.backing.devices.items in
-    subst (λ (w : StackRecord). (MeetVerity (said_at w.config (mapped c.args.d.0)) c.args.first n → ⊥) → ReadStops (said_at w.config (mapped c.args.d.0)) c.args.first n w.leaves new c.device_bytes.result) c.self.view_is
-    c.device_bytes.ensures.step.plain.stops
+    let new = map g.D.BlockDev.state c.read_device.new.backing.devices.items in
+    subst (λ (w : StackRecord). (MeetVerity (said_at w.config (mapped c.args.d.0)) c.args.first n → ⊥) → ReadStops (said_at w.config (mapped c.args.d.0)) c.args.first n w.leaves new c.read_device.result) c.self.view_is
+    c.read_device.ensures.step.plain.stops
 
 pub returns-clause-spent : goal.returns-clause-spent
 returns-clause-spent g c =
-    subst (λ (w : StackRecord). ReadsAtMost (budget w.config (mapped c.args.d.0) c.args.first (length c.args.out.now / 512)) w.leaves (map g.D.BlockDev.state c.device_bytes.new.backing.devices.items)) c.self.view_is
-    c.device_bytes.ensures.step.spent
+    subst (λ (w : StackRecord). ReadsAtMost (budget w.config (mapped c.args.d.0) c.args.first (length c.args.out.now / 512)) w.leaves (map g.D.BlockDev.state c.read_device.new.backing.devices.items)) c.self.view_is
+    c.read_device.ensures.step.spent
 
 pub returns-clause-kept : goal.returns-clause-kept
 returns-clause-kept g c =
     let n : ℕ = length c.args.out.now / 512 in
-    let after : StackRecord = stack_with c.self.inside.config (map g.D.BlockDev.state c.device_bytes.new.backing.devices.items) c.device_bytes.new.backing.cache.blocks in
+    let after : StackRecord = stack_with c.self.inside.config (map g.D.BlockDev.state c.read_device.new.backing.devices.items) c.read_device.new.backing.cache.blocks in
     subst (λ (w : StackRecord). ReadKeeps w c.args.d.0 c.args.first n after) c.self.view_is
-    (record { same = λ none. ap (λ (k : StackCache). k.blocks.blocks) (c.device_bytes.ensures.step.same none); checked = cached-checked c.self.inside.config c.device_bytes.ensures.step.cached.sound })
+    (record { same = λ none. ap (λ (k : StackCache). k.blocks.blocks) (c.read_device.ensures.step.same none); checked = cached-checked c.self.inside.config c.read_device.ensures.step.cached.sound })

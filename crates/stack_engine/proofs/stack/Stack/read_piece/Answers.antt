@@ -5,7 +5,7 @@ use Rattle.stack_rules.specs.Names.{mapped}
 use Rattle.stack_meaning.specs.declared.fault.IoFault.{IoFault}
 use Rattle.stack_meaning.specs.Found.{FoundRecord}
 use Rattle.stack_meaning.specs.Meaning.{Said, said_at}
-use Rattle.stack_meaning.specs.Reading.{Gets, Reads, MeetVerity, IsPlain, buffer_answer}
+use Rattle.stack_meaning.specs.Reading.{Gets, MeetVerity, IsPlain, buffer_answer}
 use Rattle.stack_meaning.specs.Stops.{ReadStops}
 use Rattle.stack_lines.specs.Touches.{NamesOneOf, failures_behind, leaves_of}
 use Rattle.stack_lines.specs.Budgets.{ReadsAtMost, budget}
@@ -15,6 +15,9 @@ use Rattle.stack_engine.specs.Pieces.{EachPiece, stack_with}
 use Rattle.stack_engine.proofs.CachedLemmas.{cached-checked}
 use Rattle.stack_lines.specs.Caches.{StackCache}
 use Rattle.stack_engine.specs.KeptBlocks.{AreChecked, ReadKeeps}
+use Rattle.stack_engine.specs.declared.path.Chains.TheVariants.{Kept}
+use Rattle.stack_engine.specs.Keeping.{ReadsAs}
+use Rattle.stack_engine.proofs.KeepingLemmas.{kept-reads}
 use Rattle.stack_engine.proofs.lemmas.PieceLemmas.{piece_expected, each-piece, piece-sound, piece_ok, piece_err}
 use Rattle.stack_engine.proofs.stack.Stack.read_piece.Goals.{in-Err-read_device, in-Ok-read_device}
 use Rattle.stack_engine.proofs.stack.Stack.read_piece.Given as given
@@ -28,13 +31,13 @@ count g c =
 
 -- what the read did, of the stack's own devices
 reads : (g : given.Over) (c : goal.Joined-read_device g)
-    → Reads c.self.inside.config (mapped c.args.d.0) c.args.first c.args.n
+    → ReadsAs Kept c.self.inside.config (mapped c.args.d.0) c.args.first c.args.n
     (record { old = map g.D.BlockDev.state c.self.inside.backing.devices.items; new = map g.D.BlockDev.state c.read_device.new.backing.devices.items; before = []; after = c.read_device.new.found.items })
     (buffer_answer c.read_device.result c.read_device.new.out)
 reads g c =
     let state = g.D.BlockDev.state in
     let R : ℕ → List FoundRecord → Type 0 = λ k u.
-    Reads c.self.inside.config (mapped c.args.d.0) c.args.first k
+    ReadsAs Kept c.self.inside.config (mapped c.args.d.0) c.args.first k
     (record { old = map state c.self.inside.backing.devices.items; new = map state c.read_device.new.backing.devices.items; before = u; after = c.read_device.new.found.items })
     (buffer_answer c.read_device.result c.read_device.new.out) in
     subst (λ k. R k []) (count g c) (subst (R (length c.as_mut_slice.result.now / 512)) c.new-chains.ensures.items c.read_device.ensures.reads)
@@ -49,13 +52,13 @@ piece g c =
     let wanted = piece_expected config (mapped c.args.d.0) c.args.first c.args.n in
     let held : length c.read_device.new.out ≡ c.in-Ok.bytes.len = c.read_device.auto.out ∙ ap (λ (l : List ℕ). length l) c.as_mut_slice.ensures.value ∙ sym c.in-Ok.bytes.ok.0 in
     let Is : Result Unit IoFault → Type 0 = λ r.
-    Reads config (mapped c.args.d.0) c.args.first c.args.n (record { old = old; new = new; before = []; after = c.read_device.new.found.items }) (buffer_answer r c.read_device.new.out) in
+    ReadsAs Kept config (mapped c.args.d.0) c.args.first c.args.n (record { old = old; new = new; before = []; after = c.read_device.new.found.items }) (buffer_answer r c.read_device.new.out) in
     let got : Gets wanted old new c.match-read_device.result = elim c.match-read_device.branch [
       | in-Err-read_device w ↦ subst (Gets wanted old new) (sym w.result-is)
-          (piece_err config (mapped c.args.d.0) c.args.first c.args.n _ (subst Is w.in-Err-read_device.is (reads g c)))
+          (piece_err config (mapped c.args.d.0) c.args.first c.args.n _ (kept-reads (subst Is w.in-Err-read_device.is (reads g c))))
       | in-Ok-read_device w ↦ subst (Gets wanted old new) (sym w.result-is)
           (subst (λ (b : List ℕ). Gets wanted old new (Ok (record { bytes = b; chains = c.read_device.new.found.items }))) (sym (with_items_is c.in-Ok.bytes c.read_device.new.out held))
-          (piece_ok config (mapped c.args.d.0) c.args.first c.args.n (subst Is w.in-Ok-read_device.is (reads g c))))
+          (piece_ok config (mapped c.args.d.0) c.args.first c.args.n (kept-reads (subst Is w.in-Ok-read_device.is (reads g c))) (reads g c).distinct))
     ] in
     let these = leaves_of config (mapped c.args.d.0) in
     let Names : Result AnswerRecord IoFault → Type 0 = λ r. IfErr r (NamesOneOf these) in
@@ -72,7 +75,7 @@ piece g c =
     (each-piece config c.args.d.0 c.args.first c.args.n c.match-read_device.result got (asks-as c.match-read_device.result fault alike c.read_device.ensures.step.touches) {before = c.self.inside.backing.cache.blocks} {after = c.read_device.new.backing.cache.blocks} c.read_device.ensures.step.cached.capacity)
 
 pub invariant_of-self : goal.invariant_of-self
-invariant_of-self g c = record { sound = piece-sound c.self.inside.config c.self.invariant.sound (reads g c).got.moved; cached = c.read_device.ensures.step.cached.sound }
+invariant_of-self g c = record { sound = piece-sound c.self.inside.config c.self.invariant.sound (reads g c).reads.got.moved; cached = c.read_device.ensures.step.cached.sound }
 
 pub returns-clause-any : goal.returns-clause-any
 returns-clause-any g c = (piece g c).any

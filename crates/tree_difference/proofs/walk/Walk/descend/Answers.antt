@@ -5,7 +5,7 @@ use Rattle.block_device.specs.Device.{Device}
 use Rattle.tree_shape.specs.Shape.{ShapeRecord}
 use Rattle.verity_format.specs.Blocks.{IsFullRead}
 use Rattle.tree_path.specs.Path.{digest_on}
-use Rattle.tree_path.proofs.lemmas.DeviceLemmas.{full_read-then}
+use Rattle.verity_format.proofs.lemmas.DeviceLemmas.{full_read-then}
 use Rattle.tree_difference.specs.declared.walk.Walk.{Walk}
 use Rattle.tree_difference.specs.Walks.{IsOn}
 use Rattle.tree_difference.proofs.ErrLemmas.{err-from}

@@ -4,7 +4,8 @@ use Rattle.block_device.specs.Device.{Device}
 use Rattle.tree_path.specs.Path.{PathRecord}
 use Rattle.tree_shape.specs.Shape.{ShapeRecord}
 use Rattle.tree_path.specs.Steps.{HasReadAtMost, IsDown, steps}
-use Rattle.tree_path.proofs.lemmas.DeviceLemmas.{at_most-fewer, at_most-more, failed-then}
+use Rattle.verity_format.proofs.lemmas.DeviceLemmas.{failed-then}
+use Rattle.tree_path.proofs.lemmas.AtMostLemmas.{at_most-fewer, at_most-more}
 use Rattle.tree_path.proofs.lemmas.PathLemmas.{down-bad, down-good, down-read, kept-unloaded}
 use Rattle.tree_path.proofs.path.TreePath.descend.Goals as goal
 

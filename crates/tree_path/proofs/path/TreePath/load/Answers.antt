@@ -11,7 +11,7 @@ use Rattle.verity_format.specs.Blocks.{IsBlockRead}
 use Rattle.tree_path.specs.Path.{IsPath, PathRecord, digest_on}
 use Rattle.tree_path.specs.Seen.{seen_path}
 use Rattle.tree_path.proofs.MemoryLemmas.{bytes_of, path-put, put-is, read-sized}
-use Rattle.tree_path.proofs.lemmas.DeviceLemmas.{block-size, block-inside}
+use Rattle.verity_format.proofs.lemmas.SizeLemmas.{block-size, block-inside}
 use Rattle.tree_path.proofs.lemmas.PathLemmas.{digest_on-same}
 use Rattle.tree_path.proofs.path.TreePath.load.Goals as goal
 

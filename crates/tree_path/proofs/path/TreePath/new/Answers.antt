@@ -2,7 +2,7 @@ use Rattle.std.proofs.Common.{◌≡◌, ℕ, All, ◌∙◌, length, arith, sub
 use Rattle.std.proofs.lemmas.List.{length-map}
 use Rattle.std.proofs.lemmas.List.Elements.{All-map}
 use Rattle.std.proofs.lemmas.Result.{err_from_is_err_and}
-use Rattle.tree_path.proofs.lemmas.DeviceLemmas.{block-size}
+use Rattle.verity_format.proofs.lemmas.SizeLemmas.{block-size}
 use Rattle.tree_path.proofs.path.TreePath.new.Goals as goal
 
 pub invariant_of-result : goal.invariant_of-result
@@ -15,6 +15,6 @@ invariant_of-result c = record {
 
 pub returns-in_err-blocks-clause-err : goal.returns-in_err-blocks-clause-err
 returns-in_err-blocks-clause-err c =
-    let few = (block-size c.args.shape.hash_block c.hash_block.ensures.valid.hash_size).most in
+    let few = (block-size c.args.shape.hash_block c.hash_block.ensures.valid.hash_size).most_bytes in
     let h = c.in_err-blocks.ensures.err in
     rw (err_from_is_err_and c.from_residual.result c.from_residual.ensures.1).1 (h.0, omega (arith, h.1, few, c.hash_block.ensures.value), h.2)

@@ -2,4 +2,4 @@ use Rattle.verified_cache.proofs.lemmas.CacheLemmas.{IsCache-empty}
 use Rattle.verified_cache.proofs.cache.BlockCache.forget_all.Goals as goal
 
 pub invariant_of-self : goal.invariant_of-self
-invariant_of-self c = rw c.clear.ensures (c.self.invariant.0, IsCache-empty _)
+invariant_of-self c = (tt, IsCache-empty c.self.inside.capacity)

@@ -3,7 +3,7 @@ use Rattle.std.proofs.Common.{◌≡◌, ◌∙◌, ap, ℕ, length, List, arith
 use Rattle.std.specs.Int.{w16, w32, w64, to_le_bytes}
 use Rattle.tree_shape.specs.Algorithms.{algorithm_name}
 use Rattle.verity_format.specs.Superblock.{IsSuperblock, SuperRecord, Carries}
-use Rattle.verity_format.proofs.SpellingLemmas.{written, carried-spelling, put_at}
+use Rattle.verity_format.proofs.lemmas.SpellingLemmas.{written, carried-spelling, put_at}
 use Rattle.verity_format.proofs.superblock.Superblock.encode.Goals as goal
 
 pub returns-clause-value : goal.returns-clause-value

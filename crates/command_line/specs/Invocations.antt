@@ -1,0 +1,167 @@
+-- The commands of a command line.
+use Rattle.std.specs.Prelude.{ℕ, List, [], ◌∷◌, codes, Option, None, Some, is_some, option_map, ◌||◌, if◌then◌else◌}
+use Rattle.std.specs.Str.{bytes_eq}
+use Rattle.command_line.specs.FormatOptions.{OptionTexts, text_of}
+use Rattle.command_line.specs.words.Cat.{CatRecord, cat_record, cat_said}
+use Rattle.command_line.specs.words.Copy.{CopyRecord, copy_record, copy_said}
+use Rattle.command_line.specs.words.Exports.{ExportsRecord, exports_record, exports_said}
+use Rattle.command_line.specs.words.Load.{LoadRecord, load_record, load_said}
+use Rattle.command_line.specs.words.Manual.{manual_said}
+use Rattle.command_line.specs.words.Nbd.{NbdRecord, nbd_record, nbd_said}
+use Rattle.command_line.specs.words.Read.{ReadRecord, read_record, read_said}
+use Rattle.command_line.specs.words.Repair.{RepairRecord, repair_record, repair_said}
+use Rattle.command_line.specs.words.Scan.{ScanRecord, scan_record, scan_said}
+use Rattle.command_line.specs.words.Session.{SessionRecord, session_record, session_said}
+use Rattle.command_line.specs.words.Store.{StoreRecord, store_record, store_said}
+use Rattle.command_line.specs.words.Write.{WriteRecord, write_record, write_said}
+use Rattle.command_line.specs.OptionGroups.{has_fec_value}
+use Rattle.command_line.specs.words.FecFormat.{FecFormatRecord, fec_format_record, fec_format_said}
+use Rattle.command_line.specs.words.FecVerify.{FecVerifyRecord, fec_verify_record, fec_verify_said}
+use Rattle.command_line.specs.words.PinFormat.{PinFormatRecord, pin_format_record, pin_format_said}
+use Rattle.command_line.specs.words.PinVerify.{PinVerifyRecord, pin_verify_record, pin_verify_said}
+use Rattle.command_line.specs.words.Format.{FormatRecord, format_record, format_said}
+use Rattle.command_line.specs.words.Verify.{VerifyRecord, verify_record, verify_said}
+use Rattle.command_line.specs.words.Dump.{DumpRecord, dump_record, dump_said}
+use Rattle.command_line.specs.words.Table.{TableRecord, table_record, table_said}
+use Rattle.command_line.specs.words.Partitions.{PartitionsRecord, partitions_record, partitions_said}
+use Rattle.command_line.specs.words.Diff.{DiffRecord, diff_record, diff_said}
+use Rattle.command_line.specs.words.TreeFormat.{TreeFormatRecord, tree_format_record, tree_format_said}
+use Rattle.command_line.specs.words.TreeVerify.{TreeVerifyRecord, tree_verify_record, tree_verify_said}
+use Rattle.command_line.specs.words.TreeTable.{TreeTableRecord, tree_table_record, tree_table_said}
+use Rattle.command_line.specs.declared.invocation.Invocation.{Invocation}
+use Rattle.command_line.specs.declared.invocation.Invocation.TheVariants.{Load, Read, Write, Session, Nbd, Exports, Scan, Copy, Cat, Store, Format, Verify, Dump, Table, Partitions, Diff, Repair, FormatTree, VerifyTree, TableTree, FormatFec, VerifyFec, FormatPin, VerifyPin, Manual, Version}
+
+pub data InvocationRecord : Type 0 where
+  load : LoadRecord → InvocationRecord
+  read : ReadRecord → InvocationRecord
+  write : WriteRecord → InvocationRecord
+  session : SessionRecord → InvocationRecord
+  nbd : NbdRecord → InvocationRecord
+  -- `nbd --all`
+  exports : ExportsRecord → InvocationRecord
+  scan : ScanRecord → InvocationRecord
+  copy : CopyRecord → InvocationRecord
+  cat : CatRecord → InvocationRecord
+  store : StoreRecord → InvocationRecord
+  format : FormatRecord → InvocationRecord
+  verify : VerifyRecord → InvocationRecord
+  dump : DumpRecord → InvocationRecord
+  table : TableRecord → InvocationRecord
+  partitions : PartitionsRecord → InvocationRecord
+  diff : DiffRecord → InvocationRecord
+  repair : RepairRecord → InvocationRecord
+  -- `format --no-superblock`
+  format_tree : TreeFormatRecord → InvocationRecord
+  verify_tree : TreeVerifyRecord → InvocationRecord
+  table_tree : TreeTableRecord → InvocationRecord
+  -- `format --fec`
+  format_fec : FecFormatRecord → InvocationRecord
+  verify_fec : FecVerifyRecord → InvocationRecord
+  -- `format --pin`
+  format_pin : PinFormatRecord → InvocationRecord
+  verify_pin : PinVerifyRecord → InvocationRecord
+  -- the name of the command whose page is printed, if there is one
+  manual : Option (List ℕ) → InvocationRecord
+  version : InvocationRecord
+
+-- the commands on trees without a superblock
+abbrev pub tree_said : List ℕ → OptionTexts → List (List ℕ) → Option InvocationRecord
+tree_said name texts words =
+    if bytes_eq name (codes "format") then option_map format_tree (tree_format_said texts words)
+    else if bytes_eq name (codes "verify") then option_map verify_tree (tree_verify_said texts words)
+    else if bytes_eq name (codes "table") then option_map table_tree (tree_table_said texts words)
+    else None
+
+-- the commands on images with parity, which have a superblock
+abbrev pub fec_said : List ℕ → OptionTexts → List (List ℕ) → Option InvocationRecord
+fec_said name texts words =
+    if texts.no_superblock then None
+    else if bytes_eq name (codes "format") then option_map format_fec (fec_format_said texts words)
+    else if bytes_eq name (codes "verify") then option_map verify_fec (fec_verify_said texts words)
+    else None
+
+-- the commands on images with a pin, which have a superblock; parity isn't pinned
+abbrev pub pin_said : List ℕ → OptionTexts → List (List ℕ) → Option InvocationRecord
+pin_said name texts words =
+    if texts.no_superblock || has_fec_value texts then None
+    else if bytes_eq name (codes "format") then option_map format_pin (pin_format_said texts words)
+    else if bytes_eq name (codes "verify") then option_map verify_pin (pin_verify_said texts words)
+    else None
+
+-- no word stands behind `version`
+abbrev pub version_said : List (List ℕ) → Option InvocationRecord
+version_said [] = Some version
+version_said (word ∷ words) = None
+
+-- the commands on images, or on nothing
+abbrev pub image_said : List ℕ → OptionTexts → List (List ℕ) → Option InvocationRecord
+image_said name texts words =
+    if bytes_eq name (codes "format") then option_map format (format_said texts words)
+    else if bytes_eq name (codes "verify") then option_map verify (verify_said texts words)
+    else if bytes_eq name (codes "dump") then option_map dump (dump_said texts words)
+    else if bytes_eq name (codes "table") then option_map table (table_said texts words)
+    else if bytes_eq name (codes "partitions") then option_map partitions (partitions_said texts words)
+    else if bytes_eq name (codes "diff") then option_map diff (diff_said texts words)
+    else if bytes_eq name (codes "manual") then option_map manual (manual_said words)
+    else if bytes_eq name (codes "version") then version_said words
+    else None
+
+-- the commands on a device of a stack
+abbrev pub device_said : List ℕ → OptionTexts → List (List ℕ) → Option InvocationRecord
+device_said name texts words =
+    if bytes_eq name (codes "scan") then option_map scan (scan_said texts words)
+    else if bytes_eq name (codes "copy") then option_map copy (copy_said texts words)
+    else if bytes_eq name (codes "cat") then option_map cat (cat_said texts words)
+    else if bytes_eq name (codes "store") then option_map store (store_said texts words)
+    else image_said name texts words
+
+-- `nbd`, with `--all` or without it
+abbrev pub served_said : OptionTexts → List (List ℕ) → Option InvocationRecord
+served_said texts words = if texts.all then option_map exports (exports_said texts words) else option_map nbd (nbd_said texts words)
+
+-- by a command's name, the values of its options, and its positional arguments
+abbrev pub command_said : List ℕ → OptionTexts → List (List ℕ) → Option InvocationRecord
+command_said name texts words =
+    if bytes_eq name (codes "load") then option_map load (load_said texts words)
+    else if bytes_eq name (codes "read") then option_map read (read_said texts words)
+    else if bytes_eq name (codes "write") then option_map write (write_said texts words)
+    else if bytes_eq name (codes "session") then option_map session (session_said texts words)
+    else if bytes_eq name (codes "nbd") then served_said texts words
+    else device_said name texts words
+
+-- by the same, with `--pin`, `--fec` or `--no-superblock`, or without them
+abbrev pub invocation_said : List ℕ → OptionTexts → List (List ℕ) → Option InvocationRecord
+invocation_said name texts words =
+    if is_some texts.pin then pin_said name texts words
+    else if bytes_eq name (codes "repair") then option_map repair (repair_said texts words)
+    else if has_fec_value texts then fec_said name texts words
+    else if texts.no_superblock then tree_said name texts words else command_said name texts words
+
+-- what the program's own value says
+abbrev pub invocation_record : Invocation → InvocationRecord
+invocation_record (Load w) = load (load_record w)
+invocation_record (Read w) = read (read_record w)
+invocation_record (Write w) = write (write_record w)
+invocation_record (Session w) = session (session_record w)
+invocation_record (Nbd w) = nbd (nbd_record w)
+invocation_record (Exports w) = exports (exports_record w)
+invocation_record (Scan w) = scan (scan_record w)
+invocation_record (Copy w) = copy (copy_record w)
+invocation_record (Cat w) = cat (cat_record w)
+invocation_record (Store w) = store (store_record w)
+invocation_record (Format w) = format (format_record w)
+invocation_record (Verify w) = verify (verify_record w)
+invocation_record (Dump w) = dump (dump_record w)
+invocation_record (Table w) = table (table_record w)
+invocation_record (Partitions w) = partitions (partitions_record w)
+invocation_record (Diff w) = diff (diff_record w)
+invocation_record (Repair w) = repair (repair_record w)
+invocation_record (FormatTree w) = format_tree (tree_format_record w)
+invocation_record (VerifyTree w) = verify_tree (tree_verify_record w)
+invocation_record (TableTree w) = table_tree (tree_table_record w)
+invocation_record (FormatFec w) = format_fec (fec_format_record w)
+invocation_record (VerifyFec w) = verify_fec (fec_verify_record w)
+invocation_record (FormatPin w) = format_pin (pin_format_record w)
+invocation_record (VerifyPin w) = verify_pin (pin_verify_record w)
+invocation_record (Manual command) = manual (text_of command)
+invocation_record Version = version

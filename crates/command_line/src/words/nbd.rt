@@ -1,0 +1,48 @@
+//! `nbd [--cache N] STACK NAME BINDING...`
+ghost use Rattle.command_line.specs.Invocations.{nbd};
+ghost use Rattle.command_line.specs.Reading.{ReadsAs};
+ghost use Rattle.command_line.specs.FormatOptions.{option_texts, texts_of};
+ghost use Rattle.command_line.specs.words.Nbd.{nbd_said};
+
+use crate::binding_words::bindings_of;
+use crate::bindings::Binding;
+use crate::fault::WordsFault;
+use crate::invocation::{Invocation, ServedDevice};
+use crate::option_words::OptionWords;
+use crate::values::cache_of;
+use crate::words::store::is_input;
+use std::alloc::Global;
+
+/// A device of a stack is served to a client.
+#[derive(Drop)]
+pub struct NbdWords<'a> {
+    pub device: ServedDevice<'a>,
+    pub bindings: Vec<Binding<'a>>,
+}
+
+/// `[--cache N] STACK NAME BINDING...`, where STACK isn't the standard input, which is the client's
+#[tactic(auto, unfolding(crate::specs::words::Nbd::nbd_said))]
+pub fn nbd_of<'a>(
+    alloc: Global,
+    options: &OptionWords<'a>,
+    words: &[&'a str],
+) -> Result<Invocation<'a>, WordsFault>
+    ensures { ReadsAs nbd (nbd_said (option_texts options.now) (texts_of words.now)) result }
+{
+    let [stack, name, rest @ ..] = words else {
+        return Err(WordsFault::Usage);
+    };
+    if is_input(stack) {
+        return Err(WordsFault::Usage);
+    }
+    let Some(cache) = cache_of(options.cache) else {
+        return Err(WordsFault::Usage);
+    };
+    match bindings_of(alloc, rest) {
+        Ok(bindings) => Ok(Invocation::Nbd(NbdWords {
+            device: ServedDevice { cache, stack, name },
+            bindings,
+        })),
+        Err(fault) => Err(fault),
+    }
+}

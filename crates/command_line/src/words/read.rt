@@ -1,0 +1,55 @@
+//! `read [--cache N] STACK NAME FIRST COUNT BINDING...`
+ghost use Rattle.command_line.specs.Invocations.{read};
+ghost use Rattle.command_line.specs.Reading.{ReadsAs};
+ghost use Rattle.command_line.specs.FormatOptions.{option_texts, texts_of};
+ghost use Rattle.command_line.specs.words.Read.{read_said};
+
+use crate::binding_words::bindings_of;
+use crate::bindings::Binding;
+use crate::fault::WordsFault;
+use crate::invocation::{Invocation, Sectors};
+use crate::option_words::OptionWords;
+use crate::values::cache_of;
+use std::alloc::Global;
+use table_reader::number;
+
+/// Sectors of a device are printed.
+#[derive(Drop)]
+pub struct ReadWords<'a> {
+    pub cache: u32,
+    pub stack: &'a str,
+    pub sectors: Sectors<'a>,
+    pub bindings: Vec<Binding<'a>>,
+}
+
+/// `[--cache N] STACK NAME FIRST COUNT BINDING...`
+#[tactic(auto, unfolding(crate::specs::words::Read::read_said))]
+pub fn read_of<'a>(
+    alloc: Global,
+    options: &OptionWords<'a>,
+    words: &[&'a str],
+) -> Result<Invocation<'a>, WordsFault>
+    ensures { ReadsAs read (read_said (option_texts options.now) (texts_of words.now)) result }
+{
+    let [stack, name, first, count, rest @ ..] = words else {
+        return Err(WordsFault::Usage);
+    };
+    let Some(cache) = cache_of(options.cache) else {
+        return Err(WordsFault::Usage);
+    };
+    let Some(first) = number(first.as_bytes()) else {
+        return Err(WordsFault::Usage);
+    };
+    let Some(count) = number(count.as_bytes()) else {
+        return Err(WordsFault::Usage);
+    };
+    match bindings_of(alloc, rest) {
+        Ok(bindings) => Ok(Invocation::Read(ReadWords {
+            cache,
+            stack,
+            sectors: Sectors { name, first, count },
+            bindings,
+        })),
+        Err(fault) => Err(fault),
+    }
+}

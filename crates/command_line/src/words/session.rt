@@ -1,0 +1,38 @@
+//! `session [--cache N] BINDING...`
+ghost use Rattle.command_line.specs.Invocations.{session};
+ghost use Rattle.command_line.specs.Reading.{ReadsAs};
+ghost use Rattle.command_line.specs.FormatOptions.{option_texts, texts_of};
+ghost use Rattle.command_line.specs.words.Session.{session_said};
+
+use crate::binding_words::bindings_of;
+use crate::bindings::Binding;
+use crate::fault::WordsFault;
+use crate::invocation::Invocation;
+use crate::option_words::OptionWords;
+use crate::values::cache_of;
+use std::alloc::Global;
+
+/// The lines of the input are served.
+#[derive(Drop)]
+pub struct SessionWords<'a> {
+    pub cache: u32,
+    pub bindings: Vec<Binding<'a>>,
+}
+
+/// `[--cache N] BINDING...`
+#[tactic(auto, unfolding(crate::specs::words::Session::session_said))]
+pub fn session_of<'a>(
+    alloc: Global,
+    options: &OptionWords<'a>,
+    words: &[&'a str],
+) -> Result<Invocation<'a>, WordsFault>
+    ensures { ReadsAs session (session_said (option_texts options.now) (texts_of words.now)) result }
+{
+    let Some(cache) = cache_of(options.cache) else {
+        return Err(WordsFault::Usage);
+    };
+    match bindings_of(alloc, words) {
+        Ok(bindings) => Ok(Invocation::Session(SessionWords { cache, bindings })),
+        Err(fault) => Err(fault),
+    }
+}

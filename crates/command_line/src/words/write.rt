@@ -1,0 +1,56 @@
+//! `write [--cache N] STACK NAME FIRST SOURCE BINDING...`
+ghost use Rattle.command_line.specs.Invocations.{write};
+ghost use Rattle.command_line.specs.Reading.{ReadsAs};
+ghost use Rattle.command_line.specs.FormatOptions.{option_texts, texts_of};
+ghost use Rattle.command_line.specs.words.Write.{write_said};
+
+use crate::binding_words::bindings_of;
+use crate::bindings::Binding;
+use crate::fault::WordsFault;
+use crate::invocation::{Invocation, Transfer};
+use crate::option_words::OptionWords;
+use crate::values::cache_of;
+use std::alloc::Global;
+use table_reader::number;
+
+/// The bytes of a file are written to a device by one request.
+#[derive(Drop)]
+pub struct WriteWords<'a> {
+    pub cache: u32,
+    pub stack: &'a str,
+    pub transfer: Transfer<'a>,
+    pub bindings: Vec<Binding<'a>>,
+}
+
+/// `[--cache N] STACK NAME FIRST SOURCE BINDING...`
+#[tactic(auto, unfolding(crate::specs::words::Write::write_said))]
+pub fn write_of<'a>(
+    alloc: Global,
+    options: &OptionWords<'a>,
+    words: &[&'a str],
+) -> Result<Invocation<'a>, WordsFault>
+    ensures { ReadsAs write (write_said (option_texts options.now) (texts_of words.now)) result }
+{
+    let [stack, name, first, source, rest @ ..] = words else {
+        return Err(WordsFault::Usage);
+    };
+    let Some(cache) = cache_of(options.cache) else {
+        return Err(WordsFault::Usage);
+    };
+    let Some(first) = number(first.as_bytes()) else {
+        return Err(WordsFault::Usage);
+    };
+    match bindings_of(alloc, rest) {
+        Ok(bindings) => Ok(Invocation::Write(WriteWords {
+            cache,
+            stack,
+            transfer: Transfer {
+                name,
+                first,
+                source,
+            },
+            bindings,
+        })),
+        Err(fault) => Err(fault),
+    }
+}

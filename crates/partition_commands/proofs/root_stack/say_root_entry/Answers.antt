@@ -1,0 +1,12 @@
+use Rattle.std.proofs.Common.{◌∙◌, List, ℕ, codes, subst}
+use Rattle.std.specs.Io.KnownBytes.{Appends}
+use Rattle.partition_commands.specs.RootStacks.{root_entry}
+use Rattle.partition_commands.specs.Stacks.{entry_text}
+use Rattle.partition_commands.proofs.root_stack.say_root_entry.Goals as goal
+
+pub returns-clause-ok : goal.returns-clause-ok
+unfolding root_entry
+returns-clause-ok g c =
+    let old = g.W.Write.contents c.args.writer.now.inner in
+    let new = g.W.Write.contents c.say_entry.new.writer.inner in
+    subst (λ (line : List ℕ). Appends old new (entry_text (codes "root") line)) (c.deref.ensures.value ∙ c.in_ok-line.ensures) c.in_ok-say_entry.ensures.ok

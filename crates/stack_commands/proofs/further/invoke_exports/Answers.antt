@@ -1,4 +1,0 @@
-use Rattle.stack_commands.proofs.further.invoke_exports.Goals as goal
-
-pub returns-clause-err : goal.returns-clause-err
-returns-clause-err g c = rw c.as_slice.ensures.value at c.serve_exports.ensures.err

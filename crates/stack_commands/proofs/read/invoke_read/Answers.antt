@@ -1,0 +1,5 @@
+use Rattle.stack_commands.proofs.OpeningLemmas.{both-errs}
+use Rattle.stack_commands.proofs.read.invoke_read.Goals as goal
+
+pub returns-clause-err : goal.returns-clause-err
+returns-clause-err g c = both-errs c.read_stack_file.result _ _ (rw c.stack_file-file.ensures at c.read_stack_file.ensures.err) c.read_stack_file.ensures.quiet

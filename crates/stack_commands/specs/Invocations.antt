@@ -1,0 +1,234 @@
+-- What each command prints where it succeeds, and how it ends early.
+use Rattle.std.specs.Io.KnownBytes.{Appends}
+use Rattle.std.specs.Prelude.{◌≡◌, ◌⊎◌, ◌≢◌, ℕ, Bool, true, false, codes, List, None, Ok, Option, Some}
+use Rattle.command_line.specs.FormatOptions.{OptionTexts}
+use Rattle.command_line.specs.Invocations.{InvocationRecord, cat, copy, diff, dump, exports, format, format_fec, format_pin, format_tree, load, manual, nbd, partitions, read, repair, scan, session, store, table, table_tree, verify, verify_fec, verify_pin, verify_tree, version, write}
+use Rattle.command_line.specs.words.Cat.{CatRecord}
+use Rattle.command_line.specs.words.Copy.{CopyRecord}
+use Rattle.command_line.specs.words.Exports.{ExportsRecord}
+use Rattle.command_line.specs.words.Load.{LoadRecord}
+use Rattle.command_line.specs.words.Nbd.{NbdRecord}
+use Rattle.command_line.specs.words.Read.{ReadRecord}
+use Rattle.command_line.specs.words.Scan.{ScanRecord}
+use Rattle.command_line.specs.words.Session.{SessionRecord}
+use Rattle.command_line.specs.words.Store.{StoreRecord}
+use Rattle.command_line.specs.words.Write.{WriteRecord}
+use Rattle.counted_io.specs.Streams.{Streams}
+use Rattle.image_files.specs.Opener.{Calls}
+use Rattle.fec_commands.specs.declared.fault.FecFault.{FecFault}
+use Rattle.fec_commands.specs.Commands.{FormatsFec, IsFormatFecEnd, IsVerifyFecEnd, VerifiesFec}
+use Rattle.partition_commands.specs.declared.fault.PartitionsFault.{PartitionsFault}
+use Rattle.partition_commands.specs.Invocations.{IsListingEnd, ListsPartitions}
+use Rattle.tree_commands.specs.Invocations.{DiffsTrees, IsDiffWordsEnd}
+use Rattle.stack_commands.specs.declared.fault.CommandFault.{CommandFault}
+use Rattle.stack_commands.specs.declared.fault.CommandFault.TheVariants.{Fec, Partitions, Usage}
+use Rattle.stack_commands.specs.Endings.{IsSilent, IsReplyUnwritten}
+use Rattle.stack_commands.specs.MappedCopies.{IsMappedCopyEnd, IsMappedScanEnd, PrintsMappedCopy, PrintsMappedScan, ScansByMap}
+use Rattle.request_commands.specs.Writes.{PutWords, put_words}
+use Rattle.request_queue.specs.Requests.{a_read, a_write}
+use Rattle.recovery_commands.specs.Copies.{CopyWords, IsCopyEnd, PrintsCopy, copy_words}
+use Rattle.recovery_commands.specs.Scans.{IsScanEnd, PrintsScan, Scans}
+use Rattle.stack_making.specs.NamedDevices.{DeviceWords}
+use Rattle.stack_streams.specs.StoredFiles.{FileWords, IsFileEnd, PrintsFileStored, file_words}
+use Rattle.stack_streams.specs.Streaming.{IsBytesEnd, IsStoringEnd, PrintsBytes, PrintsStored}
+use Rattle.stack_commands.specs.ScanObjects.{IsMappedObjectEnd, IsScanObjectEnd, PrintsScanObject}
+use Rattle.stack_commands.specs.ManyExports.{IsExportsEnd, ServesExports}
+use Rattle.stack_commands.specs.StackCommands.{IsClientEnd, IsListEnd, IsReadEnd, IsServeEnd, IsWriteEnd, PrintsDevices, PrintsReply, PrintsWritten, ServesClient, ServesSession, device_on, on}
+use Rattle.verity_commands.specs.Pinned.{FormatsByPin, IsPinFormatEnd, IsPinVerifyEnd, VerifiesPin}
+use Rattle.verity_commands.specs.Placed.{DumpsAt, FormatsAt, IsDumpEnd, IsSaidFormatEnd, IsTableEnd, PrintsEntry}
+use Rattle.verity_commands.specs.Trees.{FormatsSaidTree, IsSaidFormatTreeEnd, IsTableTreeEnd, IsVerifyTreeEnd, PrintsTreeEntry, VerifiesSaidTree}
+use Rattle.stack_commands.specs.Repairing.{IsRepairWordsEnd, RepairsImage}
+use Rattle.stack_commands.specs.Uses.{IsRecoveringEnd, IsStreamEnd, IsTreesEnd, IsVerityEnd, Uses}
+use Rattle.stack_commands.specs.Verifying.{ChecksImage, IsCheckCommandEnd}
+
+-- ---- partitions, and trees that are compared
+
+abbrev pub IsPartitionsEnd : (PartitionsFault → Type 0) → CommandFault → Type 0
+IsPartitionsEnd Ends (Partitions fault) = Ends fault
+IsPartitionsEnd Ends fault = ⊥
+
+-- ---- images with parity
+
+abbrev pub IsFecEnd : (FecFault → Type 0) → CommandFault → Type 0
+IsFecEnd Ends (Fec fault) = Ends fault
+IsFecEnd Ends fault = ⊥
+
+-- ---- the devices of a stack
+
+abbrev pub ListsDevices : {S D : Type 0} → Calls S D → LoadRecord → Option (List ℕ) → Option (List ℕ) → Type 0
+ListsDevices w l old new = PrintsDevices l.json w (on l.stack l.bindings) old new
+
+abbrev pub IsLoadWordsEnd : {S D : Type 0} → Calls S D → LoadRecord → Option (List ℕ) → Option (List ℕ) → Bool → CommandFault → Type 0
+IsLoadWordsEnd w l old new failed fault = IsListEnd w (on l.stack l.bindings) failed fault × IsSilent fault old new
+
+-- ---- requests
+
+abbrev pub ReadsDevice : {S D : Type 0} → Calls S D → ReadRecord → Option (List ℕ) → Option (List ℕ) → Type 0
+ReadsDevice w r old new = PrintsReply w (on r.stack r.bindings) r.cache (a_read r.name r.first r.count) old new
+
+abbrev pub IsReadWordsEnd : {S D : Type 0} → Calls S D → ReadRecord → Option (List ℕ) → Option (List ℕ) → Bool → CommandFault → Type 0
+IsReadWordsEnd w r old new failed fault = IsReadEnd w (on r.stack r.bindings) r.cache (a_read r.name r.first r.count) failed fault × IsSilent fault old new
+
+abbrev pub written_words : WriteRecord → PutWords
+written_words t = put_words (on t.stack t.bindings) t.cache t.source (a_write t.name t.first)
+
+abbrev pub WritesDevice : {S D : Type 0} → Calls S D → WriteRecord → Option (List ℕ) → Option (List ℕ) → Type 0
+WritesDevice w t old new = PrintsWritten w (written_words t) old new
+
+abbrev pub IsWriteWordsEnd : {S D : Type 0} → Calls S D → WriteRecord → Option (List ℕ) → Option (List ℕ) → Bool → CommandFault → Type 0
+IsWriteWordsEnd w t old new failed fault = IsWriteEnd w (written_words t) failed fault × IsSilent fault old new
+
+-- ---- the lines of the input, and a client that is served one device
+
+abbrev pub ServesInputLines : {S D : Type 0} → Calls S D → SessionRecord → Streams → Streams → Type 0
+ServesInputLines w s old new = ServesSession w s.cache s.bindings old new (Ok tt) (Ok tt)
+
+abbrev pub IsSessionWordsEnd : {S D : Type 0} → Calls S D → SessionRecord → Streams → Streams → Bool → CommandFault → Type 0
+IsSessionWordsEnd w s old new failed fault = IsServeEnd w s.cache s.bindings old new failed fault
+
+abbrev pub ServesNamedDevice : {S D : Type 0} → Calls S D → NbdRecord → Streams → Streams → Type 0
+ServesNamedDevice w n old new = ServesClient w (device_on n.stack n.name n.cache n.bindings) old new (Ok tt) (Ok tt)
+
+abbrev pub IsNbdWordsEnd : {S D : Type 0} → Calls S D → NbdRecord → Streams → Streams → Bool → CommandFault → Type 0
+IsNbdWordsEnd w n old new failed fault = IsClientEnd w (device_on n.stack n.name n.cache n.bindings) old new failed fault
+
+-- ---- bytes of a device
+
+abbrev pub CatsSectors : {S D : Type 0} → Calls S D → CatRecord → Option (List ℕ) → Option (List ℕ) → Type 0
+CatsSectors w c old new = PrintsBytes w (device_on c.stack c.name c.cache c.bindings) c.first c.count old new
+
+abbrev pub IsCatCommandEnd : {S D : Type 0} → Calls S D → CatRecord → Option (List ℕ) → Option (List ℕ) → Bool → CommandFault → Type 0
+IsCatCommandEnd w c old new failed fault = IsStreamEnd (IsBytesEnd w (device_on c.stack c.name c.cache c.bindings) c.first c.count old new failed) fault
+
+-- the source `-` is the input; another one is a file, and nothing is read of the input then
+abbrev pub BySource : StoreRecord → Type 0 → Type 0 → Type 0
+BySource s Input File = ((s.source ≡ codes "-") × Input) ⊎ ((s.source ≢ codes "-") × File)
+
+abbrev pub stored_words : StoreRecord → FileWords
+stored_words s = file_words (device_on s.stack s.name s.cache s.bindings) s.source s.first
+
+abbrev pub StoresSectors : {S D : Type 0} → Calls S D → StoreRecord → Streams → Streams → Type 0
+StoresSectors w s old new = BySource s
+    (PrintsStored w (device_on s.stack s.name s.cache s.bindings) s.first old new)
+    ((new.input ≡ old.input) × PrintsFileStored w (stored_words s) old.output new.output)
+
+abbrev pub IsStoreCommandEnd : {S D : Type 0} → Calls S D → StoreRecord → Streams → Streams → Bool → CommandFault → Type 0
+IsStoreCommandEnd w s old new failed fault = BySource s
+    (IsStreamEnd (IsStoringEnd w (device_on s.stack s.name s.cache s.bindings) s.first old new failed) fault)
+    ((new.input ≡ old.input) × IsStreamEnd (IsFileEnd w (stored_words s) old.output new.output failed) fault)
+
+-- ---- a device that is gone over
+
+-- with a map file or without one, as an object or as lines
+abbrev pub ScansBy : {S D : Type 0} → Option (List ℕ) → Bool → Calls S D → DeviceWords → Option (List ℕ) → Option (List ℕ) → Type 0
+ScansBy None false w words old new = PrintsScan w words old new
+ScansBy (Some map) false w words old new = PrintsMappedScan w words map old new
+ScansBy None true w words old new = PrintsScanObject (Scans w words) old new
+ScansBy (Some map) true w words old new = PrintsScanObject (ScansByMap w words map) old new
+
+abbrev pub ScansSectors : {S D : Type 0} → Calls S D → ScanRecord → Option (List ℕ) → Option (List ℕ) → Type 0
+ScansSectors w s old new = ScansBy s.map s.json w (device_on s.stack s.name s.cache s.bindings) old new
+
+abbrev pub IsScanEndBy : {S D : Type 0} → Option (List ℕ) → Bool → Calls S D → DeviceWords → Option (List ℕ) → Option (List ℕ) → Bool → CommandFault → Type 0
+IsScanEndBy None false w words old new failed fault = IsRecoveringEnd (IsScanEnd w words old new failed) fault
+IsScanEndBy (Some map) false w words old new failed fault = IsMappedScanEnd w words map old new failed fault
+IsScanEndBy None true w words old new failed fault = IsScanObjectEnd w words old new failed fault
+IsScanEndBy (Some map) true w words old new failed fault = IsMappedObjectEnd w words map old new failed fault
+
+abbrev pub IsScanWordsEnd : {S D : Type 0} → Calls S D → ScanRecord → Option (List ℕ) → Option (List ℕ) → Bool → CommandFault → Type 0
+IsScanWordsEnd w s old new failed fault = IsScanEndBy s.map s.json w (device_on s.stack s.name s.cache s.bindings) old new failed fault
+
+abbrev pub copied : CopyRecord → CopyWords
+copied c = copy_words (device_on c.stack c.name c.cache c.bindings) c.out c.differing
+
+abbrev pub CopiesWithMap : {S D : Type 0} → Option (List ℕ) → Calls S D → CopyWords → Option (List ℕ) → Option (List ℕ) → Type 0
+CopiesWithMap None w words old new = PrintsCopy w words old new
+CopiesWithMap (Some map) w words old new = PrintsMappedCopy w words map old new
+
+abbrev pub CopiesSectors : {S D : Type 0} → Calls S D → CopyRecord → Option (List ℕ) → Option (List ℕ) → Type 0
+CopiesSectors w c old new = CopiesWithMap c.map w (copied c) old new
+
+abbrev pub IsCopyEndBy : {S D : Type 0} → Option (List ℕ) → Calls S D → CopyWords → Option (List ℕ) → Option (List ℕ) → Bool → CommandFault → Type 0
+IsCopyEndBy None w words old new failed fault = IsRecoveringEnd (IsCopyEnd w words old new failed) fault
+IsCopyEndBy (Some map) w words old new failed fault = IsMappedCopyEnd w words map old new failed fault
+
+abbrev pub IsCopyWordsEnd : {S D : Type 0} → Calls S D → CopyRecord → Option (List ℕ) → Option (List ℕ) → Bool → CommandFault → Type 0
+IsCopyWordsEnd w c old new failed fault = IsCopyEndBy c.map w (copied c) old new failed fault
+
+-- ---- a client that is served each device
+
+abbrev pub ServesDevices : {S D : Type 0} → Calls S D → ExportsRecord → Streams → Streams → Type 0
+ServesDevices w e old new = ServesExports w (on e.stack e.bindings) e.cache old new (Ok tt) (Ok tt)
+
+abbrev pub IsExportsWordsEnd : {S D : Type 0} → Calls S D → ExportsRecord → Streams → Streams → Bool → CommandFault → Type 0
+IsExportsWordsEnd w e old new failed fault = IsExportsEnd w (on e.stack e.bindings) e.cache old new failed fault
+
+-- ---- pages of the manual
+
+-- nothing is opened, and some text printed
+abbrev pub ShowsPage : {S D T G : Type 0} → Uses S D T G → Type 0
+ShowsPage u = ((text : List ℕ) × Appends u.old.output u.new.output text) × (u.images.new ≡ u.images.old)
+
+-- there is no such page, or it can't be written
+abbrev pub IsPageEnd : Option (List ℕ) → Option (List ℕ) → Bool → CommandFault → Type 0
+IsPageEnd old new failed fault = ((fault ≡ Usage) × (new ≡ old)) ⊎ IsReplyUnwritten failed fault
+
+-- ---- all of them
+
+-- what each prints where it succeeds; the texts are the values of `format`'s options
+abbrev pub Succeeds : {S D T G : Type 0} → OptionTexts → InvocationRecord → Uses S D T G → Type 0
+Succeeds texts (load l) u = ListsDevices u.images l u.old.output u.new.output
+Succeeds texts (read r) u = ReadsDevice u.images r u.old.output u.new.output
+Succeeds texts (write t) u = WritesDevice u.images t u.old.output u.new.output
+Succeeds texts (session s) u = ServesInputLines u.images s u.old u.new
+Succeeds texts (nbd n) u = ServesNamedDevice u.images n u.old u.new
+Succeeds texts (exports e) u = ServesDevices u.images e u.old u.new
+Succeeds texts (scan s) u = ScansSectors u.images s u.old.output u.new.output
+Succeeds texts (copy c) u = CopiesSectors u.images c u.old.output u.new.output
+Succeeds texts (cat c) u = CatsSectors u.images c u.old.output u.new.output
+Succeeds texts (store s) u = StoresSectors u.images s u.old u.new
+Succeeds texts (format f) u = FormatsAt texts u.images u.drawing f u.old.output u.new.output
+Succeeds texts (verify v) u = ChecksImage u.images v u.old.output u.new.output
+Succeeds texts (dump d) u = DumpsAt u.images d u.old.output u.new.output
+Succeeds texts (table t) u = PrintsEntry u.images t u.old.output u.new.output
+Succeeds texts (partitions p) u = ListsPartitions u.images p u.old.output u.new.output
+Succeeds texts (diff d) u = DiffsTrees u.images d u.old.output u.new.output
+Succeeds texts (repair r) u = RepairsImage u.images r u.old.output u.new.output
+Succeeds texts (format_tree f) u = FormatsSaidTree texts u.images u.drawing f u.old.output u.new.output
+Succeeds texts (verify_tree v) u = VerifiesSaidTree texts u.images v u.old.output u.new.output
+Succeeds texts (table_tree t) u = PrintsTreeEntry texts u.images t u.old.output u.new.output
+Succeeds texts (format_fec f) u = FormatsFec texts u.images u.drawing f u.old.output u.new.output
+Succeeds texts (verify_fec v) u = VerifiesFec u.images v u.old.output u.new.output
+Succeeds texts (format_pin f) u = FormatsByPin texts u.images u.drawing f u.old.output u.new.output
+Succeeds texts (verify_pin v) u = VerifiesPin u.images v u.old.output u.new.output
+Succeeds texts (manual command) u = ShowsPage u
+Succeeds texts version u = ShowsPage u
+
+-- how each ends early, where the last but one says whether the writer failed
+abbrev pub FailsCommand : {S D T G : Type 0} → OptionTexts → InvocationRecord → Uses S D T G → Bool → CommandFault → Type 0
+FailsCommand texts (load l) u failed fault = IsLoadWordsEnd u.images l u.old.output u.new.output failed fault
+FailsCommand texts (read r) u failed fault = IsReadWordsEnd u.images r u.old.output u.new.output failed fault
+FailsCommand texts (write t) u failed fault = IsWriteWordsEnd u.images t u.old.output u.new.output failed fault
+FailsCommand texts (session s) u failed fault = IsSessionWordsEnd u.images s u.old u.new failed fault
+FailsCommand texts (nbd n) u failed fault = IsNbdWordsEnd u.images n u.old u.new failed fault
+FailsCommand texts (exports e) u failed fault = IsExportsWordsEnd u.images e u.old u.new failed fault
+FailsCommand texts (scan s) u failed fault = IsScanWordsEnd u.images s u.old.output u.new.output failed fault
+FailsCommand texts (copy c) u failed fault = IsCopyWordsEnd u.images c u.old.output u.new.output failed fault
+FailsCommand texts (cat c) u failed fault = IsCatCommandEnd u.images c u.old.output u.new.output failed fault
+FailsCommand texts (store s) u failed fault = IsStoreCommandEnd u.images s u.old u.new failed fault
+FailsCommand texts (format f) u failed fault = IsVerityEnd (IsSaidFormatEnd texts u.images u.drawing f u.old.output u.new.output failed) fault
+FailsCommand texts (verify v) u failed fault = IsCheckCommandEnd u.images v u.old.output u.new.output failed fault
+FailsCommand texts (dump d) u failed fault = IsVerityEnd (IsDumpEnd u.images d u.old.output u.new.output failed) fault
+FailsCommand texts (table t) u failed fault = IsVerityEnd (IsTableEnd u.images t u.old.output u.new.output failed) fault
+FailsCommand texts (partitions p) u failed fault = IsPartitionsEnd (IsListingEnd u.images p failed) fault
+FailsCommand texts (diff d) u failed fault = IsTreesEnd (IsDiffWordsEnd u.images d u.old.output u.new.output failed) fault
+FailsCommand texts (repair r) u failed fault = IsRepairWordsEnd u.images r u.old.output u.new.output failed fault
+FailsCommand texts (format_tree f) u failed fault = IsVerityEnd (IsSaidFormatTreeEnd texts u.images u.drawing f u.old.output u.new.output failed) fault
+FailsCommand texts (verify_tree v) u failed fault = IsVerityEnd (IsVerifyTreeEnd texts u.images v u.old.output u.new.output failed) fault
+FailsCommand texts (table_tree t) u failed fault = IsVerityEnd (IsTableTreeEnd texts u.images t u.old.output u.new.output failed) fault
+FailsCommand texts (format_fec f) u failed fault = IsFecEnd (IsFormatFecEnd texts u.images u.drawing f u.old.output u.new.output failed) fault
+FailsCommand texts (verify_fec v) u failed fault = IsFecEnd (IsVerifyFecEnd u.images v u.old.output u.new.output failed) fault
+FailsCommand texts (format_pin f) u failed fault = IsVerityEnd (IsPinFormatEnd texts u.images u.drawing f u.old.output u.new.output failed) fault
+FailsCommand texts (verify_pin v) u failed fault = IsVerityEnd (IsPinVerifyEnd u.images v u.old.output u.new.output failed) fault
+FailsCommand texts (manual command) u failed fault = IsPageEnd u.old.output u.new.output failed fault × (u.images.new ≡ u.images.old)
+FailsCommand texts version u failed fault = IsPageEnd u.old.output u.new.output failed fault × (u.images.new ≡ u.images.old)

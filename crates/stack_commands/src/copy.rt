@@ -1,0 +1,53 @@
+//! The command `copy`, with a map file or without one.
+ghost use Rattle.std.specs.Prelude.{OnOk, IfErr};
+ghost use Rattle.stack_commands.specs.Desks.{DoesCopy, EndsCopy};
+
+use crate::desk::Desk;
+use crate::fault::CommandFault;
+use crate::mapped_copy::copy_by_map;
+use crate::words::stack_file;
+use command_line::CopyWords;
+use image_files::Images;
+use progress::Progress;
+use recovery_commands::{Output, copy_device};
+use stack_making::NamedDevice;
+use std::alloc::Global;
+use std::io::Write;
+
+/// `copy [--cache N] [--differing] [--map FILE] [--progress] STACK NAME OUT BINDING...`
+pub fn invoke_copy<'a, I: Images, W: Write, P: Progress>(
+    alloc: Global,
+    desk: Desk<'_, I, W>,
+    words: CopyWords<'a>,
+    progress: &mut P,
+) -> Result<(), CommandFault<'a>>
+    ensures ok { OnOk result (DoesCopy I.relations I.Dev.state W.contents desk.entry desk.exit words.entry) }
+    ensures err { IfErr result (EndsCopy I.relations I.Dev.state W.contents desk.entry desk.exit words.entry) }
+{
+    let CopyWords {
+        cache,
+        differing,
+        stack,
+        name,
+        out,
+        bindings,
+        map,
+        progress: is_shown,
+    } = words;
+    if is_shown {
+        progress.begin();
+    }
+    let file = stack_file(stack, &bindings);
+    let device = NamedDevice { name, cache };
+    let output = Output {
+        path: out,
+        differing,
+    };
+    match map {
+        None => {
+            let Desk { images, writer } = desk;
+            Ok(copy_device(alloc, images, file, device, output, writer, progress)?)
+        }
+        Some(map) => copy_by_map(alloc, desk, file, device, output, map, progress),
+    }
+}

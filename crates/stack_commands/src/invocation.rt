@@ -1,0 +1,117 @@
+//! Runs the command that a command line invokes.
+ghost use Rattle.std.specs.Prelude.{false, ◌≡◌, OnOk, IfErr};
+ghost use Rattle.image_commands.specs.Drawing.{drawing};
+ghost use Rattle.stack_commands.specs.Desks.{EndsPage, ShowsText};
+ghost use Rattle.stack_commands.specs.Lines.{DoesLine, EndsLine};
+
+use crate::copy::invoke_copy;
+use crate::desk::Desk;
+use crate::fault::CommandFault;
+use crate::load::invoke_load;
+use crate::nbd::{invoke_exports, invoke_nbd};
+use crate::read::invoke_read;
+use crate::repair::repair_image;
+use crate::scan::invoke_scan;
+use crate::serve::invoke_session;
+use crate::streams::{invoke_cat, invoke_store};
+use crate::verify::check_image;
+use crate::write::invoke_write;
+use command_line::Invocation;
+use command_parser::CommandLine;
+use counted_io::Counted;
+use fec_commands::{invoke_format_fec, invoke_verify_fec};
+use image_commands::Generators;
+use image_files::Images;
+use manual_pages::{page_of, print_page, print_version};
+use partition_commands::invoke_partitions;
+use progress::Progress;
+use std::alloc::Global;
+use std::io::{Read, Write};
+use tree_commands::invoke_diff;
+use verity_commands::{
+    invoke_dump, invoke_format, invoke_format_pinned, invoke_format_tree, invoke_table,
+    invoke_table_tree, invoke_verify_pinned, invoke_verify_tree,
+};
+use watched_device::Watchers;
+
+/// Runs a command; the options are those that say what an image is.
+pub fn invoke<'a, I: Images, G: Generators + Progress + Watchers, S: Read, W: Write>(
+    alloc: Global,
+    images: &mut I,
+    generators: &mut G,
+    line: CommandLine<'a>,
+    reader: &mut Counted<S>,
+    writer: &mut Counted<W>,
+) -> Result<(), CommandFault<'a>>
+    requires reader { reader.old.failed ≡ false }
+    requires writer { writer.old.failed ≡ false }
+    ensures ok { OnOk result (DoesLine I.relations I.Dev.state S.remaining W.contents images.old images.new (drawing G.gives G.Generator.stream generators.old generators.new) reader.old reader.new writer.old writer.new line.entry) }
+    ensures err { IfErr result (EndsLine I.relations I.Dev.state S.remaining W.contents images.old images.new (drawing G.gives G.Generator.stream generators.old generators.new) reader.old reader.new writer.old writer.new line.entry) }
+{
+    let CommandLine {
+        invocation,
+        options,
+    } = line;
+    match invocation {
+        Invocation::Load(words) => invoke_load(alloc, Desk { images, writer }, words),
+        Invocation::Read(words) => invoke_read(alloc, Desk { images, writer }, words),
+        Invocation::Write(words) => invoke_write(alloc, Desk { images, writer }, words),
+        Invocation::Session(words) => invoke_session(alloc, images, words, reader, writer),
+        Invocation::Nbd(words) => invoke_nbd(alloc, images, words, reader, writer),
+        Invocation::Exports(words) => invoke_exports(alloc, images, words, reader, writer),
+        Invocation::Scan(words) => invoke_scan(alloc, Desk { images, writer }, words, generators),
+        Invocation::Copy(words) => invoke_copy(alloc, Desk { images, writer }, words, generators),
+        Invocation::Cat(words) => invoke_cat(alloc, Desk { images, writer }, words, generators),
+        Invocation::Store(words) => invoke_store(alloc, images, words, reader, writer, generators),
+        Invocation::Format(words) => {
+            Ok(invoke_format(alloc, images, generators, &words, &options, writer)?)
+        }
+        Invocation::Verify(words) => {
+            check_image(alloc, Desk { images, writer }, generators, &words)
+        }
+        Invocation::Dump(words) => Ok(invoke_dump(alloc, images, &words, writer)?),
+        Invocation::Table(words) => Ok(invoke_table(alloc, images, &words, writer)?),
+        Invocation::Partitions(words) => Ok(invoke_partitions(alloc, images, words, writer)?),
+        Invocation::Diff(words) => Ok(invoke_diff(alloc, images, words, writer)?),
+        Invocation::Repair(words) => {
+            repair_image(alloc, Desk { images, writer }, generators, &words)
+        }
+        Invocation::FormatTree(words) => {
+            Ok(invoke_format_tree(alloc, images, generators, &words, &options, writer)?)
+        }
+        Invocation::VerifyTree(words) => {
+            Ok(invoke_verify_tree(alloc, images, generators, &words, &options, writer)?)
+        }
+        Invocation::TableTree(words) => {
+            Ok(invoke_table_tree(alloc, images, &words, &options, writer)?)
+        }
+        Invocation::FormatFec(words) => {
+            Ok(invoke_format_fec(alloc, images, generators, &words, &options, writer)?)
+        }
+        Invocation::VerifyFec(words) => {
+            Ok(invoke_verify_fec(alloc, images, generators, &words, writer)?)
+        }
+        Invocation::FormatPin(words) => {
+            Ok(invoke_format_pinned(alloc, images, generators, &words, &options, writer)?)
+        }
+        Invocation::VerifyPin(words) => {
+            Ok(invoke_verify_pinned(alloc, images, generators, &words, writer)?)
+        }
+        Invocation::Manual(command) => show_page(command, writer),
+        Invocation::Version => Ok(print_version(writer)?),
+    }
+}
+
+// The page of a command, or of the program.
+fn show_page<'a, W: Write>(
+    command: Option<&'a str>,
+    writer: &mut Counted<W>,
+) -> Result<(), CommandFault<'a>>
+    ensures ok { OnOk result (ShowsText W.contents writer.old writer.new) }
+    ensures err { IfErr result (EndsPage W.contents writer.old writer.new) }
+{
+    match page_of(command) {
+        Some(page) => Ok(print_page(writer, page)?),
+        None => Err(CommandFault::Usage),
+    }
+}

@@ -1,0 +1,81 @@
+//! The commands `cat` and `store`: the bytes of a device.
+ghost use Rattle.std.specs.Prelude.{OnOk, IfErr};
+ghost use Rattle.stack_commands.specs.Desks.{DoesCat, EndsCat};
+ghost use Rattle.stack_commands.specs.Served.{DoesStore, EndsStore};
+
+use crate::desk::Desk;
+use crate::fault::CommandFault;
+use crate::words::stack_file;
+use command_line::{CatWords, StoreWords};
+use counted_io::Counted;
+use image_files::Images;
+use progress::Progress;
+use stack_streams::{Target, Wanted, cat_device, store_device, store_file};
+use std::alloc::Global;
+use std::io::{Read, Write};
+
+/// `cat [--cache N] [--progress] [--first N] [--count N] STACK NAME BINDING...`
+pub fn invoke_cat<'a, I: Images, W: Write, P: Progress>(
+    alloc: Global,
+    desk: Desk<'_, I, W>,
+    words: CatWords<'a>,
+    progress: &mut P,
+) -> Result<(), CommandFault<'a>>
+    ensures ok { OnOk result (DoesCat I.relations I.Dev.state W.contents desk.entry desk.exit words.entry) }
+    ensures err { IfErr result (EndsCat I.relations I.Dev.state W.contents desk.entry desk.exit words.entry) }
+{
+    let Desk { images, writer } = desk;
+    let CatWords {
+        cache,
+        first,
+        count,
+        stack,
+        name,
+        bindings,
+        progress: is_shown,
+    } = words;
+    if is_shown {
+        progress.begin();
+    }
+    let wanted = Wanted {
+        name,
+        first,
+        count,
+        cache,
+    };
+    let file = stack_file(stack, &bindings);
+    Ok(cat_device(alloc, images, file, wanted, writer, progress)?)
+}
+
+/// `store [--cache N] [--progress] [--first N] STACK NAME SOURCE BINDING...`; SOURCE is `-`, the input, or a file.
+pub fn invoke_store<'a, I: Images, S: Read, W: Write, P: Progress>(
+    alloc: Global,
+    images: &mut I,
+    words: StoreWords<'a>,
+    reader: &mut Counted<S>,
+    writer: &mut Counted<W>,
+    progress: &mut P,
+) -> Result<(), CommandFault<'a>>
+    ensures ok { OnOk result (DoesStore I.relations I.Dev.state S.remaining W.contents images.old images.new reader.old reader.new writer.old writer.new words.entry) }
+    ensures err { IfErr result (EndsStore I.relations I.Dev.state S.remaining W.contents images.old images.new reader.old reader.new writer.old writer.new words.entry) }
+{
+    let StoreWords {
+        cache,
+        first,
+        stack,
+        name,
+        source,
+        bindings,
+        progress: is_shown,
+    } = words;
+    if is_shown {
+        progress.begin();
+    }
+    let target = Target { name, first, cache };
+    let file = stack_file(stack, &bindings);
+    if source == "-" {
+        Ok(store_device(alloc, images, file, target, reader, writer, progress)?)
+    } else {
+        Ok(store_file(alloc, images, file, target, source, writer, progress)?)
+    }
+}

@@ -1,0 +1,71 @@
+#!/usr/bin/env bash
+# partition_images.sh: makes the files of the rows partition_stacks, partition_roots and hash_offsets anew.
+#
+# Small disks with a GUID partition table, as sgdisk and sfdisk make them, one with a verity image in two partitions, as
+# systemd-repart lays it out: the UUID of the data partition is the first half of the root digest, that of the verity
+# partition the second one. And verity images in one file, as veritysetup makes them. Needs sgdisk, sfdisk, veritysetup and
+# xxd. A file NAME.hex has the lines of `xxd NAME` that aren't zeros; `xxd -r` gives NAME back, but for zeros at its end.
+set -eu
+top=$(dirname "$(dirname "$(dirname "$(readlink -f "$0")")")")
+room=$(mktemp -d)
+trap 'rm -rf "$room"' EXIT
+cd "$room"
+salt=$(printf 'ab%.0s' {1..32})
+identifier=01234567-89ab-cdef-0123-456789abcdef
+
+# numbers COUNT FILE: so many blocks of 512 bytes, of which block k is filled with the number k.
+numbers() {
+    for ((k = 0; k < $1; k++)); do
+        printf "\\x$(printf %02x $((k + 1)))%.0s" {1..512}
+    done > "$2"
+}
+
+# keep ROW FILE: the lines of the file that aren't zeros.
+keep() {
+    xxd "$2" | grep -v ': 0000 0000 0000 0000 0000 0000 0000 0000 ' > "$top/tests/rows/$1/files/$2.hex"
+}
+
+# uuid HALF: 32 hexadecimal digits as a UUID is printed.
+uuid() {
+    sed -E 's/(.{8})(.{4})(.{4})(.{4})(.{12})/\1-\2-\3-\4-\5/' <<< "$1"
+}
+
+# A verity image in two partitions: data from sector 40, hashes from sector 46 on.
+numbers 6 data
+root=$(veritysetup format --data-block-size 512 --hash-block-size 512 --salt "$salt" --uuid "$identifier" data hash | sed -n 's/^Root hash:[[:space:]]*//p')
+echo "$root" > "$top/tests/rows/partition_roots/files/root"
+truncate -s $((100 * 512)) root.img
+sgdisk -a 1 -o -U "$identifier" \
+    -n 1:40:45 -t 1:4f68bce3-e8cd-4db1-96e7-fbcaf984b709 -u 1:"$(uuid "${root:0:32}")" -c 1:system \
+    -n 2:46:55 -t 2:2c7357ed-ebd2-46d9-aec1-23d437ec2bf5 -u 2:"$(uuid "${root:32}")" -c 2:system-verity \
+    root.img > /dev/null
+dd if=data of=root.img bs=512 seek=40 conv=notrunc status=none
+dd if=hash of=root.img bs=512 seek=46 conv=notrunc status=none
+keep partition_roots root.img
+cp "$top/tests/rows/partition_roots/files/root.img.hex" "$top/examples/system.img.hex"
+
+# Labels: one that is a name, one that stands twice, one with a space, none, and the name of another partition by its number.
+truncate -s $((512 * 512)) labels.img
+sfdisk -q labels.img << 'TABLE'
+label: gpt
+label-id: 01234567-89AB-CDEF-0123-456789ABCDEF
+first-lba: 40
+start=40, size=8, type=0FC63DAF-8483-4772-8E79-3D69D8477DE4, uuid=00000000-0000-0000-0000-000000000001, name="home"
+start=48, size=16, type=0FC63DAF-8483-4772-8E79-3D69D8477DE4, uuid=00000000-0000-0000-0000-000000000002, name="twice"
+start=64, size=32, type=0FC63DAF-8483-4772-8E79-3D69D8477DE4, uuid=00000000-0000-0000-0000-000000000003, name="twice"
+start=96, size=1, type=0FC63DAF-8483-4772-8E79-3D69D8477DE4, uuid=00000000-0000-0000-0000-000000000004, name="a b"
+start=100, size=2, type=0FC63DAF-8483-4772-8E79-3D69D8477DE4, uuid=00000000-0000-0000-0000-000000000005
+start=104, size=4, type=0FC63DAF-8483-4772-8E79-3D69D8477DE4, uuid=00000000-0000-0000-0000-000000000006, name="p5"
+start=108, size=4, type=0FC63DAF-8483-4772-8E79-3D69D8477DE4, uuid=00000000-0000-0000-0000-000000000007, name="p7"
+start=112, size=4, type=0FC63DAF-8483-4772-8E79-3D69D8477DE4, uuid=00000000-0000-0000-0000-000000000008, name="x;y"
+TABLE
+keep partition_stacks labels.img
+
+# The tree behind the data in one file: as many data blocks as lie before, and one less.
+for blocks in 6 5; do
+    numbers 6 "one$blocks.img"
+    truncate -s $((8 * 512)) "one$blocks.img"
+    veritysetup format --data-block-size 512 --hash-block-size 512 --data-blocks $blocks --hash-offset $((6 * 512)) --salt "$salt" --uuid "$identifier" \
+        "one$blocks.img" "one$blocks.img" | sed -n 's/^Root hash:[[:space:]]*//p' > "$top/tests/rows/hash_offsets/files/root$blocks"
+    keep hash_offsets "one$blocks.img"
+done

@@ -1,0 +1,169 @@
+#!/usr/bin/env python3
+"""Checks that memory is allocated by the crate `allocation` alone, whose error is evidence that an allocation was refused.
+
+    allocations.py          checks the sources against the lists below
+    allocations.py --list   prints the first list as the sources have it
+
+A place is a call of the library that allocates, or its error named `AllocError` or `AllocFailed`. The crate `allocation` has
+such places, tests have, and otherwise only what is listed: crates that aren't converted yet, with how many places each has,
+and functions whose places are trusted for good, each with the reason. More places than listed are refused, and fewer too, so
+the lists only shrink. A crate that is converted loses its line, or has the number that is left.
+
+It shows that a converted crate names no such call and neither error, so what it answers for want of memory is an `OutOfMemory`
+or a fault made from one; and that no other crate names what makes the evidence (the prover refuses that too, since `Seal` isn't
+exported). It goes by names: it doesn't show that a call of another library doesn't allocate, nor what a clause says of a
+refusal. A fault `NoMemory` without evidence is refused by the prover, if the fault's cause asks for it.
+"""
+import glob
+import os
+import re
+import sys
+
+sys.dont_write_bytecode = True
+sys.path.insert(0, os.path.join(os.path.dirname(os.path.realpath(__file__)), "../lib"))
+from sources import TOP, files_of, text_of
+
+NOT_YET = "not converted yet"
+STATED = "its public functions answer `AllocError` and state the evidence in a clause, since their callers aren't converted yet"
+PARSER = "`clap`'s table of commands grows within that crate, which makes no evidence"
+CACHE = "kept blocks grow within `lru`, which makes no evidence; a block that isn't kept is read again, so no call fails"
+VALUES = "JSON values and their texts grow within `serde_json`, which makes no evidence"
+
+# Of each crate how many places it has, and why.
+PLACES = {
+    "block_device": (8, NOT_YET),
+    "command_line": (11, NOT_YET),
+    "command_parser": (11, PARSER),
+    "dm_table": (19, NOT_YET),
+    "fec_area": (6, NOT_YET),
+    "hash_tree": (35, NOT_YET),
+    "image_commands": (15, NOT_YET),
+    "image_files": (2, NOT_YET),
+    "image_pin": (11, NOT_YET),
+    "memory_images": (5, NOT_YET),
+    "partition_commands": (30, NOT_YET),
+    "reed_solomon": (4, STATED),
+    "repair_commands": (1, NOT_YET),
+    "reply_json": (4, VALUES),
+    "request_queue": (1, NOT_YET),
+    "rescue_files": (5, NOT_YET),
+    "rescue_map": (25, NOT_YET),
+    "stack_commands": (3, NOT_YET),
+    "stack_costs": (9, NOT_YET),
+    "stack_json": (17, NOT_YET),
+    "stack_lines": (2, CACHE),
+    "stack_loader": (6, STATED),
+    "stack_opening": (14, NOT_YET),
+    "stack_recovery": (4, NOT_YET),
+    "stack_rules": (4, STATED),
+    "stack_session": (7, NOT_YET),
+    "table_printer": (32, NOT_YET),
+    "table_reader": (9, NOT_YET),
+    "text_files": (6, NOT_YET),
+    "tree_commands": (6, NOT_YET),
+    "tree_difference": (5, NOT_YET),
+    "tree_repair": (8, NOT_YET),
+    "tree_runs": (14, NOT_YET),
+    "verified_cache": (5, CACHE),
+    "verity_format": (26, NOT_YET),
+}
+
+# Of functions that are trusted: their crate and name, how many places each has, and why.
+TRUSTED = {
+    ("dmstack", "main"): (1, "the buffer of standard output; the program's end has no clause on its cause"),
+    ("dmstack", "words_of"): (1, "the program's own arguments, likewise"),
+}
+
+METHODS = """append clone collect extend extend_from_slice insert into_owned or_default or_insert or_insert_with push push_back
+    push_front push_str repeat reserve resize split_off to_mut to_owned to_string to_vec try_clone try_collect""".split()
+CALL = re.compile(
+    rf"\.(?:{'|'.join(METHODS)})\((?!\))|\.(?:clone|to_vec|to_owned)\(\)|\b(?:Vec|VecDeque|String|(?:Hash|BTree|Index)(?:Map|Set))::(?!new\()\w+\("
+    r"|\b(?:Box|Rc|Arc|BufReader|BufWriter|Command|Arg)::new\(|\b(?:format|vec|json)!\(?\[?in |\bwrite(?:ln)?!\(|\bAlloc(?:Error|Failed)\b"
+)
+FUNCTION = re.compile(r" *(?:pub(?:\(\w+\))? )?(?:const )?fn (\w+)")
+# What makes evidence, by the crate whose proofs alone may name it: of a refused allocation, and of a call of the system.
+EVIDENCE = {
+    "allocation": re.compile(r"\blibrary-refused\b|\ballocation\.specs\.declared\.seal\.Seal\b"),
+    "block_device": re.compile(r"\bwas-(?:opened|said-of-path|said-of-file|lengthened|told|called)\b|\bblock_device\.specs\.declared\.seal\.Seal\b"),
+}
+EXPORT = re.compile(r"\bpub use (?:crate::)?seal\b")
+OTHER = re.compile(r"\s*(?://|ghost\b|requires\b|ensures\b)")
+
+
+def crates():
+    found = sorted(os.path.basename(os.path.dirname(it)) for it in glob.glob(f"{TOP}/crates/*/src"))
+    return [it for it in found if it not in ("allocation", "bench") and not it.endswith("_tests")]
+
+
+def places_of(crate):
+    """The places of a crate: its file, the line, the function that it stands in or above, and the line's text."""
+    found = []
+    for path in files_of(crate):
+        name = ""
+        for number, line in enumerate(text_of(path).split("\nmod tests {")[0].split("\n"), 1):
+            made = FUNCTION.match(line)
+            name = made[1] if made else name
+            text = re.sub(r'"(?:[^"\\]|\\.)*"', '""', line)
+            if not OTHER.match(line):
+                found += [(path, number, name, line.strip())] * len(CALL.findall(text))
+    return found
+
+
+def count_of(crate, places):
+    """How many places a crate has, but for those of its trusted functions."""
+    return sum((crate, it[2]) not in TRUSTED for it in places)
+
+
+def faults_of(crate, places):
+    faults = []
+    found, listed = count_of(crate, places), PLACES.get(crate, (0, ""))[0]
+    if found != listed:
+        faults.append(f"{crate}: {found} places where {listed} are listed; allocations.py --list prints the list")
+        if not listed:
+            faults += [f"{path}:{number}: {line}" for path, number, name, line in places if (crate, name) not in TRUSTED]
+    for (owner, name), (listed, _reason) in TRUSTED.items():
+        found = sum(it[2] == name for it in places)
+        if owner == crate and found != listed:
+            faults.append(f"{crate}: {name} has {found} places where {listed} are listed")
+    return faults
+
+
+def faults_of_evidence():
+    """The files of other crates that name what makes evidence, and the crates that export it."""
+    files = [it for end in ("rt", "antt") for it in glob.glob(f"{TOP}/crates/*/s*/**/*.{end}", recursive=True)]
+    files += glob.glob(f"{TOP}/crates/*/proofs/**/*.antt", recursive=True)
+    faults = []
+    for path in sorted(os.path.relpath(it, TOP) for it in files):
+        crate, text = path.split("/")[1], text_of(path)
+        faults += [f"{path}: it names what makes the evidence of {owner}" for owner, name in EVIDENCE.items() if owner != crate and name.search(text)]
+        faults += [f"{path}: it exports what makes evidence"] * (EXPORT.search(text) is not None)
+    return faults
+
+
+def main():
+    all_places = {crate: places_of(crate) for crate in crates()}
+    if sys.argv[1:] == ["--list"]:
+        for crate, places in all_places.items():
+            if count_of(crate, places):
+                print(f'    "{crate}": ({count_of(crate, places)}, {reason_of(crate)}),')
+        return
+    if sys.argv[1:]:
+        sys.exit("allocations.py: it takes no words, or --list")
+    faults = [it for crate, places in all_places.items() for it in faults_of(crate, places)]
+    faults += faults_of_evidence()
+    faults += [f"{crate}: it is listed and isn't there" for crate in {*PLACES, *(it[0] for it in TRUSTED)} - {*all_places}]
+    for fault in faults:
+        print(f"allocations.py: {fault}", file=sys.stderr)
+    if faults:
+        sys.exit(1)
+    left = sum(it[0] for it in PLACES.values())
+    print(f"allocations.py: {left} places outside of allocation, all listed, in {len(PLACES)} crates; {len(TRUSTED)} functions are trusted")
+
+
+def reason_of(crate):
+    """The reason of a crate, as the list names it."""
+    reason = PLACES.get(crate, (0, NOT_YET))[1]
+    return next(name for name, text in globals().items() if name.isupper() and text == reason)
+
+
+main()

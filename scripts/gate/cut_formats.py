@@ -1,0 +1,108 @@
+#!/usr/bin/env python3
+"""Kills a format over an older image at each of its calls, in turn, with a superblock and without one.
+
+cut_formats.py PROGRAM: what a cut leaves is the older image as it was, or a file without a superblock, or the new image as a
+whole. So a superblock never stands over a tree that isn't its own.
+"""
+
+import os
+import random
+import shutil
+import signal
+import subprocess
+import sys
+import tempfile
+
+HERE = os.path.dirname(os.path.realpath(__file__))
+SIGNATURE = b"verity\0\0"
+SIZES = ["--data-block", "512", "--hash-block", "512"]
+UUID = "6c0b2c0e-5a0d-4b5c-9a44-1d1f6a3b2c7e"
+BLOCKS = 700
+MOST = 10_000
+
+
+class Unlike(Exception):
+    """What a cut left that it may not."""
+
+
+def content_of(path):
+    with open(path, "rb") as it:
+        return it.read()
+
+
+class Formats:
+    """An older image, its data changed, and the library that kills the program."""
+
+    def __init__(self, program):
+        self.program = program
+        self.library = os.path.abspath("fail_calls.so")
+        subprocess.run(["gcc", "-shared", "-fPIC", "-o", self.library, f"{HERE}/fail_calls.c", "-ldl"], check=True)
+        drawn = random.Random(1)
+        self.old, self.new = (drawn.randbytes(BLOCKS * 512) for _ in range(2))
+
+    def run(self, words, number=None):
+        """Its status, and its root where it printed one; the call of that number kills it."""
+        cut = {"LD_PRELOAD": self.library, "FAIL_KIND": "device", "FAIL": str(number), "FAIL_CUT": "1", "FAIL_MET": "met"}
+        run = subprocess.run([self.program, "format", *SIZES, *words], capture_output=True, env={**os.environ, **(cut if number else {})})
+        return run.returncode
+
+    def try_all(self, name, words, first, is_one, new=("--uuid", UUID)):
+        """Each cut of a format by these words and the new one's own, over an image whose superblock is at that byte of HASH."""
+        words = [*words, "image" if is_one else "data", "image"]
+        new = ["--salt", "02", *new, *words]
+
+        def prepare(data):
+            with open("data", "wb") as it:
+                it.write(data)
+            if is_one:
+                with open("image", "r+b" if os.path.exists("image") else "wb") as it:
+                    it.write(data)
+
+        if os.path.exists("image"):
+            os.remove("image")
+        prepare(self.old)
+        if self.run([*([] if "--grow" in words else ["--grow"]), "--salt", "01", "--uuid", UUID, *words]):
+            raise Unlike(f"{name}: the older image isn't made")
+        prepare(self.new)
+        before = content_of("image")
+        if self.run(new):
+            raise Unlike(f"{name}: the new image isn't made")
+        after = content_of("image")
+        cuts = 0
+        for number in range(1, MOST):
+            with open("image", "wb") as it:
+                it.write(before)
+            status = self.run(new, number)
+            if status != -signal.SIGKILL:
+                break
+            cuts += 1
+            left = content_of("image")
+            if left not in (before, after) and left[first:first + 8] == SIGNATURE:
+                raise Unlike(f"{name}: killed at call {number}, a superblock stands over another tree")
+        if status or content_of("image") != after:
+            raise Unlike(f"{name}: a format that isn't cut leaves another image")
+        return cuts
+
+
+def main():
+    program = os.path.abspath(sys.argv[1])
+    with tempfile.TemporaryDirectory() as room:
+        os.chdir(room)
+        formats = Formats(program)
+        cuts = formats.try_all("two files", [], 0, False)
+        cuts += formats.try_all("grown", ["--grow"], 0, False)
+        cuts += formats.try_all("at an offset", ["--hash-offset", "1024"], 1024, False)
+        at_end = ["--blocks", str(BLOCKS), "--hash-offset", str(BLOCKS * 512)]
+        cuts += formats.try_all("one file", at_end, BLOCKS * 512, True)
+        bare = ["--no-superblock"]
+        cuts += formats.try_all("without a superblock", [], 0, False, bare)
+        cuts += formats.try_all("without one at an offset", ["--hash-offset", "1024"], 1024, False, bare)
+        cuts += formats.try_all("without one in one file", at_end, BLOCKS * 512, True, bare)
+    print(f"cut_formats: {cuts} cuts")
+
+
+if __name__ == "__main__":
+    try:
+        main()
+    except Unlike as unlike:
+        sys.exit(f"cut_formats: {unlike}")

@@ -1,0 +1,144 @@
+"""Exchanges of the NBD protocol: calls of the system that fail, and services that are refused."""
+import os
+import struct
+import subprocess
+
+from nbd_messages import (
+    DF, EIO, ENOMEM, ERROR_OFFSET, FLUSH, FUA, GREETING, READ, SECTOR, STACK, STATUS, WRITE, ZEROES, begun, begun_in_chunks, chunk, exports,
+    failed, flags, reply, request,
+)
+
+
+def talks(chunked, failing=None, error=EIO):
+    """What is written in an exchange over the file, where the request of that number fails and does nothing. A device whose sync
+    failed stays failed, so later flushes fail too."""
+    e = exports()["file"]
+    asked = [("write", 509, b"across"), ("flush",), ("read", 508, 8), ("write", 1024, bytes(range(256)) * 4), ("flush",), ("zeroes", 1536, 512), ("read", 0, 4096)]
+    if chunked:
+        asked += [("whole", 5, 700), ("sector", 520, 9), ("status", 5, 4000)]
+    sent, wanted = begun_in_chunks(e, True) if chunked else begun(e)
+    for number, (kind, *rest) in enumerate(asked):
+        if kind == "write":
+            sent += request(WRITE, rest[0], len(rest[1]), data=rest[1])
+            answer = reply(error) if number == failing else e.write(*rest)
+        elif kind == "zeroes":
+            sent += request(ZEROES, *rest)
+            answer = reply(error) if number == failing else e.write(rest[0], bytes(rest[1]))
+        elif kind == "flush":
+            sent += request(FLUSH)
+            fails = number == failing or error == EIO and failing is not None and asked[failing][0] == "flush" and failing < number
+            answer = reply(error) if fails else reply()
+        elif kind == "status":
+            sent += request(STATUS, *rest)
+            answer = failed(error) if number == failing else e.status(*rest)
+        elif kind == "whole":
+            sent += request(READ, *rest, bits=DF)
+            answer = failed(error) if number == failing else e.chunks(*rest, df=True)
+        elif kind == "sector":
+            sent += request(READ, *rest)
+            place = struct.pack(">IHQ", error, 0, rest[0])
+            answer = chunk(ERROR_OFFSET, place) if number == failing else e.chunks(*rest)
+        elif chunked:
+            # a piece that failed once is read again, sector by sector
+            sent += request(READ, *rest)
+            answer = e.chunks(*rest, again=number == failing)
+        else:
+            sent += request(READ, *rest)
+            answer = reply(error) if number == failing else e.read(*rest)
+        wanted += answer
+    kinds = [kind for kind, *_ in asked]
+    return sent, wanted, bytes(e.content), kinds
+
+
+def forced(runner):
+    """Writes with FUA where each sync fails in turn: the reply is that of an error, and comes behind the write, which stands. The
+    device stays failed, though each later sync of the system is good: so do all later replies to such writes, and the end."""
+    library = os.path.join(os.getcwd(), "fail.so")
+    source = os.path.join(os.path.dirname(os.path.realpath(__file__)), "fail_calls.c")
+    subprocess.run(["cc", "-shared", "-fPIC", "-O2", "-o", library, source, "-ldl"], check=True)
+    open("stack", "w").write(STACK)
+    e = exports()["file"]
+    sent, told = begun(e)
+    # offset, length, what is written (zeros where it is None), and whether with FUA
+    rows = [(512, 1024, b"w", True), (509, 6, b"x", True), (0, 700, None, True), (3000, 8, b"y", False), (2048, 512, None, True), (3583, 1, b"z", True), (4000, 96, b"v", False)]
+    put, syncs, answers = 0, [], []
+    for number, (offset, length, letter, is_forced) in enumerate(rows):
+        data = letter * length if letter else bytes(length)
+        sent += request(WRITE, offset, length, bits=is_forced and FUA, data=data) if letter else request(ZEROES, offset, length, bits=is_forced and FUA)
+        sent += request(READ, 0, 8 * SECTOR)
+        put += (offset + length - 1) // SECTOR - offset // SECTOR + 1
+        syncs += [(put, 2 * number)] * is_forced
+        answers += [e.write(offset, data), e.read(0, 8 * SECTOR)]
+    syncs.append((put, None))
+    found = 0
+    for number in range(1, 10000):
+        open("F", "wb").write(exports()["file"].content)
+        if os.path.exists("met"):
+            os.remove("met")
+        more = {"LD_PRELOAD": library, "FAIL": str(number), "FAIL_KIND": "device", "FAIL_MET": "met"}
+        words = [runner.program, "nbd", "stack", "file", "R=ramp:8", "Z=zero:4", "F=rw:F"]
+        done = subprocess.run(words, input=sent, env={**os.environ, **more}, capture_output=True, timeout=60)
+        if not os.path.exists("met"):
+            break
+        call = open("met").read().split()
+        if call[0] != "sync" or found == len(syncs):
+            found += call[0] == "sync"
+            continue
+        put, place = syncs[found]
+        found += 1
+        # the sync at the end is that of the third binding
+        failing = [later for _, later in syncs[found - 1 :]]
+        wanted = told + b"".join(reply(EIO) if k in failing else it for k, it in enumerate(answers))
+        good = done.stdout == wanted and done.returncode == 3 and done.stderr == b"fault 3 Device 3\n" and int(call[2]) == put
+        runner.count(f"sync {found} fails", good, f"status {done.returncode}, {len(done.stdout)} of {len(wanted)} bytes, behind {call[2]} sectors of {put}")
+        runner.count(f"sync {found} fails: the image", open("F", "rb").read() == bytes(e.content))
+    runner.count("each sync failed", found == len(syncs), f"{found} of {len(syncs)}")
+
+
+def failures(runner):
+    for chunked in (False, True):
+        failures_of(runner, chunked)
+
+
+def failures_of(runner, chunked):
+    """Each call of the system, and each allocation, fails in turn: the request that met it says so, and the others nothing."""
+    library = os.path.join(os.getcwd(), "fail.so")
+    sources = [os.path.join(os.path.dirname(os.path.realpath(__file__)), it) for it in ("fail_calls.c", "refuse_alloc.c")]
+    subprocess.run(["cc", "-shared", "-fPIC", "-O2", "-o", library, *sources, "-ldl"], check=True)
+    open("stack", "w").write(STACK)
+    sent, plain, after, kinds = talks(chunked)
+    for kind in ("device", "memory", "input", "output"):
+        for number in range(1, 10000):
+            open("F", "wb").write(exports()["file"].content)
+            if os.path.exists("met"):
+                os.remove("met")
+            names = ("REFUSE", "REFUSE_MET") if kind == "memory" else ("FAIL", "FAIL_MET")
+            more = {"LD_PRELOAD": library, names[0]: str(number), names[1]: "met", **({} if kind == "memory" else {"FAIL_KIND": kind})}
+            words = [runner.program, "nbd", "stack", "file", "R=ramp:8", "Z=zero:4", "F=rw:F"]
+            done = subprocess.run(words, input=sent, env={**os.environ, **more}, capture_output=True, timeout=60)
+            if not os.path.exists("met"):
+                break
+            met = open("met").read()
+            found, said = (done.stdout, done.returncode, open("F", "rb").read()), b""
+            if kind == "device":
+                synced = met.startswith("sync")
+                # the sync at the end, which fails too if a flush did: the file is the third binding
+                status, said = (3, b"fault 3 Device 3\n") if synced else (0, b"")
+                ends = [(told, status, left) for _, told, left, _ in (talks(chunked, k) for k, it in enumerate(kinds) if (it == "flush") == synced)]
+                good = found in ends or synced and found == (plain, status, after)
+            elif kind == "memory":
+                ends = [(told, 0, left) for _, told, left, _ in (talks(chunked), *(talks(chunked, k, ENOMEM) for k in range(len(kinds))))]
+                if found[:2] == (b"", 1):
+                    good, said = True, b"no memory\n"
+                else:
+                    good = found in ends or found[:2] == (GREETING, 1)
+            else:
+                good = done.returncode == 1 and plain.startswith(done.stdout)
+            runner.count(f"{kind} {number} fails ({met.strip()})", good and done.stderr == said, f"status {done.returncode}, {len(done.stdout)} of {len(plain)} bytes, {done.stdout[-40:]!r}, {done.stderr[:80]!r}")
+        runner.count(f"{kind}: some failed", number > 1)
+
+
+def refusals(runner):
+    """What isn't served at all says so on standard error, and nothing to the client."""
+    for name in ("none", "R", ""):
+        runner.run(f"device {name}", name, flags(3), b"", status=1, told=b"refused 1 NoSuchDevice\n")

@@ -1,0 +1,291 @@
+"""The messages of the NBD protocol, field by field, what an export answers, and the service that an exchange runs on."""
+import os
+import struct
+import subprocess
+
+MAGIC, OPTION_MAGIC, REPLY_MAGIC = b"NBDMAGIC", b"IHAVEOPT", 0x3E889045565A9
+REQUEST, SIMPLE_REPLY, CHUNK = 0x25609513, 0x67446698, 0x668E33EF
+EXPORT_NAME, ABORT, LIST, STARTTLS, INFO, GO, STRUCTURED, LIST_META, SET_META, EXTENDED = 1, 2, 3, 5, 6, 7, 8, 9, 10, 11
+ACK, SERVER, REP_INFO, REP_META = 1, 2, 3, 4
+UNSUPPORTED, INVALID, UNKNOWN, TOO_BIG = (2**31 + n for n in (1, 3, 6, 9))
+READ, WRITE, DISC, FLUSH, TRIM, CACHE, ZEROES, STATUS = 0, 1, 2, 3, 4, 5, 6, 7
+NONE, OFFSET_DATA, OFFSET_HOLE, BLOCK_STATUS, ERROR, ERROR_OFFSET = 0, 1, 2, 5, 0x8001, 0x8002
+HOLE_AND_ZERO = 3
+EPERM, EIO, ENOMEM, EINVAL, ENOSPC = 1, 5, 12, 22, 28
+MOST = 32 << 20
+# where a piece of a READ ends that is answered piece by piece, and the blocks of zeros at its ends that are holes; where what a
+# BLOCK_STATUS reads ends, if it is of one extent
+PIECE, BLOCK, PART = 256 << 10, 4096, 64 << 10
+GREETING = MAGIC + OPTION_MAGIC + struct.pack(">H", 3)
+
+
+def flags(bits):
+    return struct.pack(">I", bits)
+
+
+def option(number, data=b""):
+    return OPTION_MAGIC + struct.pack(">II", number, len(data)) + data
+
+
+def option_reply(number, kind, data=b""):
+    return struct.pack(">QIII", REPLY_MAGIC, number, kind, len(data)) + data
+
+
+def asks(name, *facts):
+    return struct.pack(">I", len(name)) + name + struct.pack(f">H{len(facts)}H", len(facts), *facts)
+
+
+def request(kind, offset=0, length=0, cookie=0x1122334455667788, bits=0, data=b""):
+    return struct.pack(">IHHQQI", REQUEST, bits, kind, cookie, offset, length) + data
+
+
+def reply(error=0, data=b"", cookie=0x1122334455667788):
+    return struct.pack(">IIQ", SIMPLE_REPLY, error, cookie) + data
+
+
+def chunk(kind, data=b"", cookie=0x1122334455667788, done=1):
+    return struct.pack(">IHHQI", CHUNK, done, kind, cookie, len(data)) + data
+
+
+def failed(error, cookie=0x1122334455667788):
+    """The chunk of a request that fails, with no text."""
+    return chunk(ERROR, struct.pack(">IH", error, 0), cookie)
+
+
+def queries(name, *wanted):
+    asked = b"".join(struct.pack(">I", len(one)) + one for one in wanted)
+    return struct.pack(">I", len(name)) + name + struct.pack(">I", len(wanted)) + asked
+
+
+def context(number, identity):
+    return option_reply(number, REP_META, struct.pack(">I", identity) + b"base:allocation")
+
+
+def go_on(extents, count, zeros):
+    """Some more bytes, of the last extent if they are like it."""
+    if extents and extents[-1][1] == zeros:
+        extents[-1][0] += count
+    else:
+        extents.append([count, zeros])
+
+
+class Export:
+    """A device of a stack, as bytes: those that can't be read are None."""
+
+    def __init__(self, name, content, writable=False, lost=(), zeros=(), ignoring=(), shared=True):
+        self.name, self.content, self.writable, self.lost = name, bytearray(content), writable, lost
+        # whether no binding of the service may write
+        self.shared = shared
+        # the sectors of `zero` lines, and of `verity` lines that ignore blocks of zeros
+        self.zeros, self.ignoring = zeros, ignoring
+
+    def bits(self, structured=False):
+        own = SEND_TRIM | SEND_WRITE_ZEROES if self.writable else READ_ONLY | (CAN_MULTI_CONN if self.shared else 0)
+        return FLAGS | own | (SEND_DF if structured else 0)
+
+    def told(self, number, sizes=False, structured=False):
+        out = option_reply(number, REP_INFO, struct.pack(">HQH", 0, len(self.content), self.bits(structured)))
+        if sizes:
+            out += option_reply(number, REP_INFO, struct.pack(">HIII", 3, 1, 4096, MOST))
+        return out + option_reply(number, ACK)
+
+    def fails(self, offset, length):
+        first, last = offset // 512, (offset + length + 511) // 512
+        return any(first < high and low < last for low, high in self.lost)
+
+    def read(self, offset, length):
+        if length > MOST or offset + length > len(self.content):
+            return reply(EINVAL)
+        if self.fails(offset, length):
+            return reply(EIO)
+        return reply(data=bytes(self.content[offset : offset + length]))
+
+    def chunks(self, offset, length, cookie=0x1122334455667788, df=False, again=False):
+        """The same in chunks, piece by piece unless one chunk is asked for; by sectors, where each is read again."""
+        if length > MOST or offset + length > len(self.content):
+            return failed(EINVAL, cookie)
+        if not length:
+            return chunk(NONE, cookie=cookie)
+        if not df:
+            return b"".join(self.pieces(offset, length, cookie, again))
+        if self.fails(offset, length):
+            return failed(EIO, cookie)
+        return self.data(offset, offset + length, cookie)
+
+    def data(self, at, end, cookie, done=1):
+        return chunk(OFFSET_DATA, struct.pack(">Q", at) + self.content[at:end], cookie, done)
+
+    def is_zeros(self, sector):
+        return any(low <= sector < high for low, high in self.zeros)
+
+    def is_ignoring(self, sector):
+        return any(low <= sector < high for low, high in self.ignoring)
+
+    def shown(self, at, stop, cookie, last):
+        """A piece that was read: a hole where it is zeros, and where whole blocks at its beginning or its end are."""
+        piece = bytes(self.content[at:stop])
+        begin = len(piece) - len(piece.lstrip(b"\0"))
+        behind = len(piece) - len(piece.rstrip(b"\0"))
+        if begin < len(piece):
+            begin, behind = begin - begin % BLOCK, behind - behind % BLOCK
+        else:
+            behind = 0
+        cuts = [(OFFSET_HOLE, at, at + begin), (OFFSET_DATA, at + begin, stop - behind), (OFFSET_HOLE, stop - behind, stop)]
+        cuts = [cut for cut in cuts if cut[1] < cut[2]]
+        for kind, low, high in cuts:
+            done = int(last and high == stop)
+            yield self.data(low, high, cookie, done) if kind == OFFSET_DATA else chunk(kind, struct.pack(">QI", low, high - low), cookie, done)
+
+    def hole_end(self, at, stop):
+        """Where the hole ends that a byte lies in: it lies on `zero` lines alone."""
+        while at < stop and self.is_zeros(at // SECTOR):
+            at = min(stop, at - at % SECTOR + SECTOR)
+        return at
+
+    def pieces(self, offset, length, cookie, again):
+        """A piece that fails is read sector by sector, up to the one that fails; `zero` lines at its beginning are a hole."""
+        at, end = offset, offset + length
+        slow = end if again else offset
+        while at < end:
+            step = SECTOR if at < slow else PIECE
+            stop = min(end, at - at % step + step)
+            behind = self.hole_end(at, stop)
+            if behind > at:
+                yield chunk(OFFSET_HOLE, struct.pack(">QI", at, behind - at), cookie, int(behind == end))
+                at = behind
+            elif not self.fails(at, stop - at):
+                yield from self.shown(at, stop, cookie, stop == end)
+                at = stop
+            elif step == PIECE and at // SECTOR < (stop - 1) // SECTOR:
+                slow = stop
+            else:
+                yield chunk(ERROR_OFFSET, struct.pack(">IHQ", EIO, 0, at), cookie)
+                return
+
+    def status(self, offset, length, one=False):
+        """The extents of some bytes: those of zero lines are holes, by ranges of sectors, and those of blocks of zeros that are read."""
+        if not length or offset + length > len(self.content):
+            return failed(EINVAL)
+        extents = self.extents_read(offset, length, one) if self.is_ignoring(offset // SECTOR) else self.extents(offset, length)
+        told = b"".join(struct.pack(">II", count, HOLE_AND_ZERO if zeros else 0) for count, zeros in extents[:1 if one else None])
+        return chunk(BLOCK_STATUS, struct.pack(">I", 1) + told)
+
+    def extents(self, offset, length):
+        """Of the lines alone, up to lines that ignore blocks of zeros."""
+        extents, at, end = [], offset, offset + length
+        while at < end and not self.is_ignoring(at // SECTOR):
+            zeros, stop = self.is_zeros(at // SECTOR), min(end, at - at % SECTOR + SECTOR)
+            go_on(extents, stop - at, zeros)
+            at = stop
+        return extents
+
+    def extents_read(self, offset, length, one):
+        """Of bytes that are read: those of one piece at most, which end before other lines. All are data where one can't be read."""
+        piece = PART if one else PIECE
+        end, sector = min(offset + length, offset - offset % piece + piece), offset // SECTOR
+        while sector * SECTOR < end and self.is_ignoring(sector):
+            sector += 1
+        end = min(end, sector * SECTOR)
+        if self.fails(offset, end - offset):
+            return [[end - offset, False]]
+        extents, at = [], offset
+        while at < end:
+            stop = min(end, at - at % BLOCK + BLOCK)
+            go_on(extents, stop - at, not any(self.content[at:stop]))
+            at = stop
+        return extents
+
+    def write(self, offset, data):
+        if not self.writable:
+            return reply(EPERM)
+        if offset + len(data) > len(self.content):
+            return reply(ENOSPC)
+        if self.fails(offset, len(data)):
+            return reply(EIO)
+        self.content[offset : offset + len(data)] = data
+        return reply()
+
+    def hint(self, kind, offset, length):
+        if kind == TRIM and not self.writable:
+            return reply(EPERM)
+        return reply(EINVAL) if offset + length > len(self.content) else reply()
+
+
+READ_ONLY, SEND_TRIM, SEND_WRITE_ZEROES, SEND_DF, CAN_MULTI_CONN = 1 << 1, 1 << 5, 1 << 6, 1 << 7, 1 << 8
+# HAS_FLAGS, SEND_FLUSH, SEND_FUA and SEND_CACHE
+FLAGS = 1 | 1 << 2 | 1 << 3 | 1 << 10
+FUA, NO_HOLE, DF, REQ_ONE, FAST_ZERO = (1 << bit for bit in range(5))
+SECTOR = 512
+RAMP = b"".join(bytes([k % 256]) * SECTOR for k in range(8))
+ZEROS = bytes(4 * SECTOR)
+
+
+def exports():
+    """The devices of the stack text below, over `R=ramp:8`, `Z=zero:4` and `F`, a file of eight sectors."""
+    return {
+        "low": Export("low", RAMP, writable=True),
+        "kept": Export("kept", RAMP, shared=False),
+        "holed": Export("holed", RAMP[: 2 * SECTOR] + bytes(SECTOR) + RAMP[3 * SECTOR :], writable=True, lost=[(2, 3)]),
+        "file": Export("file", bytes((7 * k + 3) % 251 for k in range(8 * SECTOR)), writable=True),
+        "sparse": Export("sparse", RAMP[: 2 * SECTOR] + bytes(5 * SECTOR) + RAMP[: 3 * SECTOR] + bytes(SECTOR), zeros=[(2, 7), (10, 11)], shared=False),
+        "over": Export("over", (RAMP[: 2 * SECTOR] + bytes(5 * SECTOR))[SECTOR:] + bytes(4 * SECTOR), zeros=[(1, 6)], shared=False),
+    }
+
+
+STACK = (
+    "low,,,rw,0 8 linear R 0;kept,,,ro,0 8 linear R 0;"
+    "holed,,,rw,0 2 linear R 0,2 1 error,3 5 linear R 3;file,,,rw,0 8 linear F 0;"
+    "sparse,,,ro,0 2 linear R 0,2 4 zero,6 1 zero,7 3 linear R 0,10 1 zero;over,,,ro,0 6 linear /dev/mapper/sparse 1,6 4 linear Z 0"
+)
+
+
+def begins_to_differ(found, wanted):
+    """Where the first byte is that differs. Equal bytes, which may be hundreds of MB, aren't looked at one by one."""
+    return len(wanted) if found == wanted else len(os.path.commonprefix([bytes(found), bytes(wanted)]))
+
+
+class Runner:
+    def __init__(self, program):
+        self.program, self.passed, self.failed = program, 0, 0
+
+    def run(self, label, name, sent, wanted, status=0, after=None, told=b""):
+        """The device of that name is served, or each one where there is none. What isn't a reply goes to standard error."""
+        open("F", "wb").write(exports()["file"].content)
+        open("stack", "w").write(STACK)
+        named = ["--all", "stack"] if name is None else ["stack", name]
+        words = [self.program, "nbd", *named, "R=ramp:8", "Z=zero:4", "F=rw:F"]
+        done = subprocess.run(words, input=sent, capture_output=True, timeout=60)
+        problems = []
+        if done.stdout != wanted:
+            at = begins_to_differ(done.stdout, wanted)
+            problems.append(f"output differs at {at}: {done.stdout[at:at+32].hex()} and not {wanted[at:at+32].hex()}")
+        if done.returncode != status:
+            problems.append(f"status {done.returncode} and not {status}")
+        if done.stderr != told:
+            problems.append(f"standard error: {done.stderr[:200]!r}")
+        if after is not None and open("F", "rb").read() != after:
+            problems.append("the image differs")
+        self.count(label, not problems, "; ".join(problems))
+
+    def count(self, label, good, problem="differs"):
+        if good:
+            self.passed += 1
+        else:
+            self.failed += 1
+            print(f"{label}: {problem}")
+
+
+def begun(export, bits=3):
+    """What opens the transmission by EXPORT_NAME, and what is written up to then."""
+    fields = struct.pack(">QH", len(export.content), export.bits()) + (b"" if bits & 2 else bytes(124))
+    return flags(bits) + option(EXPORT_NAME, export.name.encode()), GREETING + fields
+
+
+def begun_in_chunks(export, status=False):
+    """The same by GO, where chunks were asked for, and the status of blocks."""
+    name = export.name.encode()
+    sent, wanted = flags(3) + option(STRUCTURED), GREETING + option_reply(STRUCTURED, ACK)
+    if status:
+        sent += option(SET_META, queries(name, b"base:allocation"))
+        wanted += context(SET_META, 1) + option_reply(SET_META, ACK)
+    return sent + option(GO, asks(name)), wanted + export.told(GO, structured=True)

@@ -1,0 +1,136 @@
+"""Exchanges of the NBD protocol: writes, zeros, and writes through `crypt` lines."""
+import struct
+import subprocess
+
+from cipher import xts_encrypt
+from nbd_messages import (
+    DF, DISC, EINVAL, EIO, ENOSPC, EPERM, Export, FAST_ZERO, FLUSH, FUA, MOST, NO_HOLE, RAMP, READ, REQ_ONE, SECTOR, WRITE, ZEROES, begun,
+    exports, reply, request,
+)
+
+
+def writes(runner):
+    """Writes, each followed by reads of what it left."""
+    e = exports()["file"]
+    size = len(e.content)
+    sent, wanted = begun(e)
+    for step, offset in enumerate((0, 1, 511, 512, 513, 1024, size - 513, size - 512, size - 1, size, 2**64 - 1)):
+        for length in (0, 1, 2, 511, 512, 513, 1024, 1025, size):
+            data = bytes((step + length + 3 * k) % 256 for k in range(length))
+            sent += request(WRITE, offset, length, data=data)
+            wanted += e.write(offset, data)
+            sent += request(READ, 0, size)
+            wanted += e.read(0, size)
+    sent += request(WRITE, 0, MOST + 1, data=bytes(MOST + 1)) + request(READ, 0, 8)
+    wanted += reply(EINVAL) + e.read(0, 8)
+    runner.run("writes", "file", sent + request(FLUSH) + request(DISC), wanted + reply(), after=bytes(e.content))
+    kept = exports()["kept"]
+    asked, told = begun(kept)
+    for length in (0, 1, 512, MOST + 1):
+        asked += request(WRITE, 3, length, data=bytes(length)) + request(ZEROES, 3, length) + request(READ, 0, 8)
+        told += reply(EINVAL if length > MOST else EPERM) + reply(EPERM) + kept.read(0, 8)
+    runner.run("writes of an export that may only be read", "kept", asked + request(FLUSH), told + reply())
+    for bits in (FUA, NO_HOLE, FUA | NO_HOLE, DF, FAST_ZERO, 1 << 15):
+        e = exports()["file"]
+        asked, told = begun(e)
+        asked += request(WRITE, 0, 5, bits=bits, data=b"abcde") + request(READ, 0, 8)
+        told += e.write(0, b"abcde") if bits == FUA else reply(EINVAL)
+        runner.run(f"write with flag {bits}", "file", asked, told + e.read(0, 8), after=bytes(e.content))
+    e = exports()["file"]
+    for offset, length in ((1, 0), (0, 1), (2**64 - 1, 2**32 - 1)):
+        asked, told = begun(e)
+        runner.run(f"flush of {length} bytes at {offset}", "file", asked + request(FLUSH, offset, length), told + reply(EINVAL))
+    e = exports()["holed"]
+    asked, told = begun(e)
+    # the sector before the fault is written; a part of a sector that can't be read keeps all from being written
+    asked += request(WRITE, 512, 1024, data=b"n" * 1024) + request(READ, 510, 514)
+    told += reply(EIO) + reply(data=RAMP[510:512] + b"n" * 512)
+    for offset, length in ((1000, 100), (1500, 700), (1024, 1), (1535, 1)):
+        asked += request(WRITE, offset, length, data=b"m" * length) + request(READ, 512, 512) + request(READ, 1536, 512)
+        told += reply(EIO) + reply(data=b"n" * 512) + reply(data=RAMP[1536:2048])
+    asked += request(WRITE, 1000, 24, data=b"k" * 24) + request(READ, 512, 512)
+    told += reply() + reply(data=b"n" * 488 + b"k" * 24)
+    asked += request(ZEROES, 512, 1024) + request(READ, 510, 514)
+    told += reply(EIO) + reply(data=RAMP[510:512] + bytes(512))
+    for offset, length in ((1000, 100), (1500, 700), (1024, 1), (1535, 1)):
+        asked += request(ZEROES, offset, length) + request(READ, 512, 512) + request(READ, 1536, 512)
+        told += reply(EIO) + reply(data=bytes(512)) + reply(data=RAMP[1536:2048])
+    runner.run("writes of holed", "holed", asked, told)
+
+
+def zeroes(runner):
+    """Writes of zeros, each between bytes that aren't zero, by each flag; then longer ones than a write may be."""
+    for bits in (0, FUA, NO_HOLE, FUA | NO_HOLE, DF, REQ_ONE, FAST_ZERO, FUA | FAST_ZERO):
+        e = exports()["file"]
+        size = len(e.content)
+        sent, wanted = begun(e)
+        for offset in (0, 1, 511, 512, 513, 1024, size - 513, size - 512, size - 1, size, 2**64 - 1):
+            for length in (0, 1, 2, 511, 512, 513, 1024, 1025, size, 2**32 - 1):
+                sent += request(WRITE, 0, size, data=b"\x5a" * size) + request(ZEROES, offset, length, bits=bits) + request(READ, 0, size)
+                wanted += e.write(0, b"\x5a" * size)
+                if bits & ~(FUA | NO_HOLE):
+                    wanted += reply(EINVAL)
+                else:
+                    wanted += reply(ENOSPC) if offset + length > size else e.write(offset, bytes(length))
+                wanted += e.read(0, size)
+        runner.run(f"zeroes with flags {bits}", "file", sent + request(DISC), wanted, after=bytes(e.content))
+    size = 80 << 20
+    open("long", "w").write(f"f,,,rw,0 {size // SECTOR} linear F 0")
+    for offset, length in ((0, size), (1, size - 2), (511, (64 << 20) + 1), (1 << 20, 33 << 20)):
+        open("F", "wb").write(b"\xa5" * size)
+        sent, wanted = begun(Export("f", bytes(size), writable=True))
+        sent += request(ZEROES, offset, length) + request(READ, offset, 8) + request(FLUSH)
+        wanted += reply() + reply(data=bytes(8)) + reply()
+        served = subprocess.run([runner.program, "nbd", "long", "f", "F=rw:F"], input=sent, capture_output=True, timeout=60)
+        runner.count(f"{length} zeroes at {offset}", served.stdout == wanted and served.returncode == 0 and not served.stderr)
+        left = b"\xa5" * offset + bytes(length) + b"\xa5" * (size - offset - length)
+        runner.count(f"{length} zeroes at {offset}: the image", open("F", "rb").read() == left)
+
+
+def long_runs(runner):
+    """Reads and writes of many runs, at the ends of sectors and within them."""
+    size = 6 << 20
+    before = bytes(size)
+    open("long", "w").write(f"f,,,rw,0 {size // SECTOR} linear F 0")
+    e = Export("f", before, writable=True)
+    sent, wanted = begun(e)
+    run = 2048 * SECTOR
+    for step, (offset, length) in enumerate(((0, run), (run, run + 1), (511, 2 * run + 2), (run - 1, 3 * run), (3, size - 3), (0, size))):
+        data = struct.pack(">I", step + 1) * (length // 4) + b"end"[: length % 4]
+        sent += request(WRITE, offset, length, data=data) + request(READ, offset // 2, length)
+        wanted += e.write(offset, data) + e.read(offset // 2, length)
+    sent += request(READ, 0, size) + request(READ, 1, size - 2) + request(FLUSH)
+    wanted += e.read(0, size) + e.read(1, size - 2) + reply()
+    open("F", "wb").write(before)
+    served = subprocess.run([runner.program, "nbd", "long", "f", "F=rw:F"], input=sent, capture_output=True, timeout=60)
+    runner.count("long runs", served.stdout == wanted and served.returncode == 0 and not served.stderr)
+    runner.count("long runs: the image", open("F", "rb").read() == bytes(e.content))
+
+
+def crypt(runner):
+    """What is written through a `crypt` line is read back by another stack, and stands encrypted in the image."""
+    text = "".join(f"{k:02x}" for k in range(64))
+    key = bytes.fromhex(text)
+    for count in (1, 8):
+        line = f"0 16 crypt aes-xts-plain64 {text} 0 F 0" + (f" 1 sector_size:{SECTOR * count}" if count > 1 else "")
+        open("F", "wb").write(bytes(16 * SECTOR))
+        open("crypt", "w").write(f"c,,,rw,{line}")
+        open("back", "w").write(f"b,,,ro,{line}")
+        plain = Export("c", bytes(16 * SECTOR), writable=True)
+        sent, wanted = begun(plain)
+        for offset, length in ((0, 16 * SECTOR), (3, 1), (500, 30), (4000, 200), (4096, 4096), (8191, 1)):
+            data = bytes((7 * offset + 5 * k) % 256 for k in range(length))
+            sent += request(WRITE, offset, length, data=data) + request(READ, 0, 16 * SECTOR)
+            wanted += plain.write(offset, data) + plain.read(0, 16 * SECTOR)
+        for offset, length in ((700, 3), (1000, 2000), (4096, 512)):
+            sent += request(ZEROES, offset, length, bits=FUA) + request(READ, 0, 16 * SECTOR)
+            wanted += plain.write(offset, bytes(length)) + plain.read(0, 16 * SECTOR)
+        label = f"writes through crypt, {count} sectors a unit"
+        served = subprocess.run([runner.program, "nbd", "crypt", "c", "F=rw:F"], input=sent + request(FLUSH), capture_output=True, timeout=60)
+        runner.count(label, served.stdout == wanted + reply() and served.returncode == 0 and not served.stderr)
+        size = SECTOR * count
+        units = [bytes(plain.content[at : at + size]) for at in range(0, 16 * SECTOR, size)]
+        runner.count(f"{label}: the image", open("F", "rb").read() == b"".join(xts_encrypt(key, count * k, it) for k, it in enumerate(units)))
+        opened, told = begun(Export("b", plain.content))
+        back = subprocess.run([runner.program, "nbd", "back", "b", "F=ro:F"], input=opened + request(READ, 0, 16 * SECTOR), capture_output=True, timeout=60)
+        runner.count(f"{label}: read back", back.stdout == told + plain.read(0, 16 * SECTOR) and back.returncode == 0)
