@@ -46,10 +46,16 @@ pub record IsKeptEnd {S D T G : Type 0} (texts : OptionTexts) (w : Calls S D) (d
 
 -- ---- `format --fec`
 
+-- FILE will do for what the words say: images were opened, and none was written, made or made longer, but a FILE that was made at once
+pub record FitsWords {S D : Type 0} (texts : OptionTexts) (w : Calls S D) (f : FecFormatRecord) : Type 0 where
+  pub options : ImageOptions
+  pub said : AreSaid texts options
+  pub fits : FitsFile f.format.grow options w (format_places f.format) f.fec
+
 -- FILE will do; the image was formatted as without parity, with this text; then its parity was written and synced.
 pub record MakesFec {S D T G : Type 0} (texts : OptionTexts) (w : Calls S D) (d : Drawing T G) (f : FecFormatRecord) (text : List ℕ) : Type 0 where
   pub measured : S
-  pub fits : FitsFile f.format.grow (record w { new = measured }) (format_places f.format) f.fec
+  pub fits : FitsWords texts (record w { new = measured }) f
   pub between : S
   pub formats : FormatsAt texts (record w { old = measured; new = between }) d f.format (Some []) (Some text)
   pub protects : Protects f.format.grow (record w { old = between }) (format_places f.format) f.fec
@@ -82,7 +88,7 @@ pub record EndsUnfit {S D : Type 0} (texts : OptionTexts) (w : Calls S D) (f : F
 -- it will, and the image wasn't made
 pub record EndsUnmade {S D T G : Type 0} (texts : OptionTexts) (w : Calls S D) (d : Drawing T G) (f : FecFormatRecord) (fault : FecFault) : Type 0 where
   pub measured : S
-  pub fits : FitsFile f.format.grow (record w { new = measured }) (format_places f.format) f.fec
+  pub fits : FitsWords texts (record w { new = measured }) f
   pub cause : VerityFault
   pub ends : IsKeptEnd texts (record w { old = measured }) d f.format cause
   pub is : fault ≡ Verity cause
@@ -90,7 +96,7 @@ pub record EndsUnmade {S D T G : Type 0} (texts : OptionTexts) (w : Calls S D) (
 -- it was made, and its parity isn't on its medium
 pub record EndsUnguarded {S D T G : Type 0} (texts : OptionTexts) (w : Calls S D) (d : Drawing T G) (f : FecFormatRecord) (fault : FecFault) : Type 0 where
   pub measured : S
-  pub fits : FitsFile f.format.grow (record w { new = measured }) (format_places f.format) f.fec
+  pub fits : FitsWords texts (record w { new = measured }) f
   pub between : S
   pub text : List ℕ
   pub formats : FormatsAt texts (record w { old = measured; new = between }) d f.format (Some []) (Some text)

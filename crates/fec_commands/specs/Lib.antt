@@ -6,6 +6,8 @@ pub mod Protecting
 pub mod Growing
 pub mod Checking
 pub mod Finding
+pub mod FixedSize
+pub mod Needed
 pub mod Fitting
 pub mod Sizes
 pub mod Commands

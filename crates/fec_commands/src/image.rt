@@ -2,11 +2,11 @@
 ghost use Rattle.std.specs.Prelude.{◌≡◌, ◌&&◌, nat_le, nat_lt, IfErr, IfOk};
 ghost use Rattle.image_files.specs.Opener.{IsFresh};
 ghost use Rattle.fec_area.specs.Layouts.{IsLayout};
-ghost use Rattle.fec_commands.specs.Images.{Does, OpensThree, RefusesThree, three_data_end};
+ghost use Rattle.fec_commands.specs.Images.{Does, OpensThree, RefusesThree, end_of_data, three_data_end};
 ghost use Rattle.fec_commands.specs.Layings.{IsLaidOut, IsNotLaidOut, IsRoots};
 
 use crate::fault::FecFault;
-use block_device::BlockDev;
+use block_device::{BlockDev, FileId};
 use command_line::FecFile;
 use fec_area::Layout;
 use image_commands::{ImageFault, ImagePlaces, is_aligned};
@@ -72,7 +72,14 @@ pub(crate) fn open_three<'a, I: Images>(
 pub(crate) fn data_end<D>(three: &ThreeImages<D>, first: u64) -> u64
     ensures { result ≡ three_data_end three.now first }
 {
-    if first > 0 && is_one_file(three.data.id, three.hash.id) {
+    end_of_data(three.data.id, three.hash.id, first)
+}
+
+/// The same, by which files DATA and HASH are.
+pub(crate) fn end_of_data(data: Option<FileId>, hash: Option<FileId>, first: u64) -> u64
+    ensures { result ≡ end_of_data «data» hash first }
+{
+    if first > 0 && is_one_file(data, hash) {
         return first;
     }
     u64::MAX

@@ -11,6 +11,7 @@ use crate::check::compare_image;
 use crate::fault::FecFault;
 use crate::finding::find_three;
 use crate::fits::{measure_image, measure_words};
+use crate::fixed_size::check_fixed_size;
 use crate::growing::protect_growing;
 use crate::image::is_roots;
 use crate::kept::format_kept;
@@ -102,11 +103,12 @@ fn check_file<'a, I: Images>(
     grow: bool,
 ) -> Result<(), FecFault<'a>>
     requires { IsRoots fec.now.roots }
-    ensures ok { OnOk result (Does (FitsFile grow) I.relations I.Dev.state images.old images.new places.now fec.now) }
+    ensures ok { OnOk result (Does (FitsFile grow options.now) I.relations I.Dev.state images.old images.new places.now fec.now) }
     ensures err { IfErr result (Does (IsUnfit grow options.now) I.relations I.Dev.state images.old images.new places.now fec.now) }
 {
     if grow {
-        find_three(images, places, fec)?;
+        let found = find_three(images, places, fec)?;
+        check_fixed_size(&found, options, places.hash_first, fec.roots)?;
         return Ok(());
     }
     measure_words(images, places, fec, options)

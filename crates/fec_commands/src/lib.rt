@@ -6,10 +6,12 @@ mod fault;
 mod fault_text;
 mod finding;
 mod fits;
+mod fixed_size;
 mod growing;
 mod image;
 mod invoke;
 mod kept;
+mod needed;
 mod protect;
 mod sizes;
 
