@@ -40,14 +40,19 @@ pub(crate) fn needed_grown(options: &ImageOptions, sectors: FoundSectors, roots:
     ensures some { IfSome result (IsNeededGrown options.now sectors roots) }
     ensures none { IfNone result (HasNone options.now sectors.«data») }
 {
-    let shape = said_shape(options, sectors.data)?;
-    let hash_sectors = sectors.hash.max(image_sectors(&shape));
-    parity_of(&shape, hash_sectors, roots)
+    match said_shape(options, sectors.data) {
+        Some(shape) => {
+            let hash_sectors = sectors.hash.max(image_sectors(&shape));
+            parity_of(&shape, hash_sectors, roots)
+        }
+        None => None,
+    }
 }
 
 // The shape of the tree that options make over so many sectors of data.
 fn said_shape(options: &ImageOptions, data_sectors: u64) -> Option<Shape>
     ensures some { IfSome result (λ shape. shape ≡ said_shape options.now data_sectors) }
+    ensures valid { IfSome result IsShape }
     ensures none { IfNone result (is_some (first_fault (said_shape options.now data_sectors)) ≡ true) }
 {
     let blocks = given_blocks(options.blocks, options.data_block, data_sectors);
