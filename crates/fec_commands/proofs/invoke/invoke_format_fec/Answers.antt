@@ -26,9 +26,8 @@ returns-in_err-check_file-clause-err g c =
 pub returns-in_err-text-clause-err : goal.returns-in_err-text-clause-err
 returns-in_err-text-clause-err g c =
     let cause = c.in_err-text.field-0.0 in
-    let fits = record { options = c.in-Ok.said; said = c.in-Ok.ensures.ok; fits = rw c.sector_at.ensures at c.in_ok-check_file.ensures.ok } in
     err-from c.from_residual-in_err-text.result _ (Verity cause) c.from_residual-in_err-text.ensures.1
-    (inr (inr (inr (inl (record { measured = c.check_file.new.images; fits = fits; cause = cause; ends = c.in_err-text.ensures.err; is = refl })))), quiet (Verity cause) _)
+    (inr (inr (inr (inl (record { measured = c.check_file.new.images; fits = record { options = c.in-Ok.said; said = c.in-Ok.ensures.ok; fits = rw c.sector_at.ensures at c.in_ok-check_file.ensures.ok }; cause = cause; ends = c.in_err-text.ensures.err; is = refl })))), quiet (Verity cause) _)
 
 pub returns-in_err-protect-clause-err : goal.returns-in_err-protect-clause-err
 returns-in_err-protect-clause-err g c =
