@@ -1,5 +1,5 @@
 //! The commands on images with parity by their words.
-ghost use Rattle.std.specs.Prelude.{IfErr, OnOk};
+ghost use Rattle.std.specs.Prelude.{IfErr, OnOk, true};
 ghost use Rattle.image_commands.specs.Drawing.{drawing};
 ghost use Rattle.fec_commands.specs.Commands.{FailsToFormatFec, FailsToVerifyFec, FormatsFecByWords, VerifiesFecByWords};
 ghost use Rattle.fec_commands.specs.Fitting.{FitsFile, IsUnfit};
@@ -107,11 +107,25 @@ fn check_file<'a, I: Images>(
     ensures err { IfErr result (Does (IsUnfit grow options.now) I.relations I.Dev.state images.old images.new places.now fec.now) }
 {
     if grow {
-        let found = find_three(images, places, fec)?;
-        check_fixed_size(&found, options, places.hash_first, fec.roots)?;
-        return Ok(());
+        return check_grown(images, places, fec, options);
     }
     measure_words(images, places, fec, options)
+}
+
+// The same with `--grow`.
+fn check_grown<'a, I: Images>(
+    images: &mut I,
+    places: &ImagePlaces<'a>,
+    fec: &FecFile<'a>,
+    options: &ImageOptions,
+) -> Result<(), FecFault<'a>>
+    requires { IsRoots fec.now.roots }
+    ensures ok { OnOk result (Does (FitsFile true options.now) I.relations I.Dev.state images.old images.new places.now fec.now) }
+    ensures err { IfErr result (Does (IsUnfit true options.now) I.relations I.Dev.state images.old images.new places.now fec.now) }
+{
+    let found = find_three(images, places, fec)?;
+    check_fixed_size(&found, options, places.hash_first, fec.roots)?;
+    Ok(())
 }
 
 // Writes the parity, and makes its file as long as is needed where `grow` says so.
