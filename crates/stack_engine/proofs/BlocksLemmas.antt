@@ -32,7 +32,8 @@ use Rattle.stack_meaning.specs.Places.{Place, place_of, run_expected, LeafRead}
 use Rattle.stack_meaning.specs.Reading.{Gets, Finds, MeetVerity}
 use Rattle.stack_meaning.specs.Kept.{target_leaves, verity_block, LineKeeps, IsOfVerity, AllKept}
 use Rattle.stack_meaning.specs.Leaves.{steady_images, AreSteady, AreRead}
-use Rattle.stack_lines.specs.AtOnce.{AreBefore, GoAtOnce, IsClear}
+use Rattle.stack_lines.specs.AtOnce.{AreBefore, GoAtOnce}
+use Rattle.stack_lines.specs.Clear.{IsClear}
 use Rattle.stack_lines.specs.Caches.{StackCache}
 use Rattle.stack_lines.specs.Sources.{AreWholeBlocks, source_said, ReadsSource}
 use Rattle.stack_lines.proofs.lemmas.TouchLemmas.{verity-leaves, verity-names}
