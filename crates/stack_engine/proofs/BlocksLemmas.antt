@@ -222,8 +222,6 @@ module _ {c : Configuration} {p : VerityPart} {n : ℕ} {found : List FoundRecor
           exact = λ steady. ap (λ (s : Outcome). then_outcome s (checked p.verity.now.salt expected)) (here was steady) ∙ checked-other p.verity.now.salt expected block other;
         })))
 
-  -- ---- the read goes on
-
   mono : AllMono (blocks_place c p n)
   mono s = λ u w more b h. (h.0, record { given = more h.0 h.1.given; at = h.1.at; good = h.1.good }, h.2)
 
