@@ -36,7 +36,7 @@ PLACES = {
     "command_parser": (11, PARSER),
     "dm_table": (19, NOT_YET),
     "fec_area": (6, NOT_YET),
-    "hash_tree": (35, NOT_YET),
+    "hash_tree": (14, STATED),
     "image_commands": (15, NOT_YET),
     "image_files": (2, NOT_YET),
     "image_pin": (11, NOT_YET),
