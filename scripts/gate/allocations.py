@@ -61,6 +61,7 @@ PLACES = {
     "table_reader": (9, NOT_YET),
     "text_files": (6, NOT_YET),
     "tree_commands": (6, NOT_YET),
+    "tree_difference": (3, NOT_YET),
     "tree_repair": (8, NOT_YET),
     "tree_runs": (14, NOT_YET),
     "verified_cache": (5, CACHE),

@@ -4,6 +4,7 @@ ghost use Rattle.tree_difference.specs.declared.fault.DifferenceFault.TheVariant
 
 use allocation::OutOfMemory;
 use counted_io::WriteFault;
+use std::alloc::AllocError;
 use verity_format::VerifyFault;
 
 /// One of two trees.
@@ -40,6 +41,14 @@ impl From<OutOfMemory> for DifferenceFault {
     ghost from_gives = { λ _ fault. fault ≡ difference_fault.NoMemory };
 
     fn from(_error: OutOfMemory) -> DifferenceFault {
+        DifferenceFault::NoMemory
+    }
+}
+
+impl From<AllocError> for DifferenceFault {
+    ghost from_gives = { λ _ fault. fault ≡ difference_fault.NoMemory };
+
+    fn from(_error: AllocError) -> DifferenceFault {
         DifferenceFault::NoMemory
     }
 }
