@@ -50,7 +50,7 @@ module _ (s : ShapeRecord) (salt : List ℕ) where
     pub size-taken : x.hash_block ≡ s.hash_block
     size-taken = ap (λ (b : BuilderRecord). b.hash_block) t.after ∙ size-pushed (begun_builder s salt) t.digests ∙ size-begun s salt
 
-    -- an allocation that the builder was refused is none of the largest
+    -- an allocation that such a builder was refused is within the bound
     pub refused-taken : IsShape s → (x.failed ≡ false → IsOutOfMemory (builder_room x)) → IsOutOfMemory largest_allocation
     refused-taken valid refused =
         let h = refused ready-taken in

@@ -19,7 +19,7 @@ returns-in_err-block_memory-clause-fault g c =
     let e = c.in_err-block_memory.field-0.0 in
     rw (p.1, p.2) (refl, refl, (e.asked, omega (arith, c.in_err-block_memory.ensures.err.0, c.hash_block.ensures.value, block.most_bytes), e.refused))
 
--- the last blocks found no room
+-- room for the last blocks was refused
 pub returns-in_err-root-clause-fault : goal.returns-in_err-root-clause-fault
 returns-in_err-root-clause-fault g c =
     let p = err_from_is_err_and c.from_residual-in_err-root.result c.from_residual-in_err-root.ensures.1 in

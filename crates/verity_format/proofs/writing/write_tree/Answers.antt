@@ -244,7 +244,7 @@ returns-in_err-write_blocks-clause-handed g c =
     (subst (λ (ps : List PlacedRecord). HandsSome does c.hash_block-size.result ps c.loop-run.hash_dev c.write_blocks.new.hash_dev) c.deref.ensures.value c.in_err-write_blocks.ensures.handed) in
     rw result.1 (stopped-run asks does s c.args.salt.now c.args.data_dev.now c.args.hash_dev.now c.loop-run.data_dev c.loop-run.hash_dev c.loop-run.builder c.loop-run.invariant.growth c.take_run.new.device c.take_run.new.builder c.in_ok-out.out.items c.in_ok-out.ensures.given c.write_blocks.new.hash_dev some)
 
--- the last blocks found no room
+-- room for the last blocks was refused
 pub returns-in_err-root-clause-fault : goal.returns-in_err-root-clause-fault
 returns-in_err-root-clause-fault g c =
     let p = err_from_is_err_and c.from_residual-in_err-root.result c.from_residual-in_err-root.ensures.1 in
