@@ -36,7 +36,7 @@ PLACES = {
     "command_parser": (11, PARSER),
     "dm_table": (19, NOT_YET),
     "fec_area": (6, NOT_YET),
-    "hash_tree": (35, NOT_YET),
+    "hash_tree": (14, STATED),
     "image_commands": (15, NOT_YET),
     "image_files": (2, NOT_YET),
     "image_pin": (11, NOT_YET),
@@ -61,11 +61,11 @@ PLACES = {
     "table_reader": (9, NOT_YET),
     "text_files": (6, NOT_YET),
     "tree_commands": (6, NOT_YET),
-    "tree_difference": (5, NOT_YET),
+    "tree_difference": (3, NOT_YET),
     "tree_repair": (8, NOT_YET),
     "tree_runs": (14, NOT_YET),
     "verified_cache": (5, CACHE),
-    "verity_format": (26, NOT_YET),
+    "verity_format": (7, NOT_YET),
 }
 
 # Of functions that are trusted: their crate and name, how many places each has, and why.
