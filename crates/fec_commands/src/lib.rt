@@ -1,7 +1,6 @@
 //! The commands on images with parity: `format --fec` and `verify --fec`.
 #![tactic(auto)]
 
-mod check;
 mod fault;
 mod fault_text;
 mod finding;
@@ -12,6 +11,7 @@ mod invoke;
 mod kept;
 mod protect;
 mod sizes;
+mod verifying;
 
 pub use fault::FecFault;
 pub use fault_text::{fec_status, say_fec_fault};
