@@ -166,6 +166,11 @@ impl Images for MemoryImages {
         Ok(bytes.len() % SECTOR != 0)
     }
 
+    // A place is a name.
+    fn is_one_place(&mut self, path: &str, other: &str) -> Result<bool, OpenFault> {
+        Ok(path == other)
+    }
+
     // What stands under no name isn't made.
     fn replace(&mut self, path: &str, bytes: &[u8]) -> Result<(), ReplaceFault> {
         let Ok((place, mut text)) = copy_under(&self.names, &self.images, path) else {
