@@ -10,7 +10,13 @@ import subprocess
 import sys
 import time
 
-passed = failed = 0
+sys.dont_write_bytecode = True
+sys.path.insert(0, os.path.join(os.path.dirname(os.path.realpath(__file__)), "../lib"))
+
+from checks import Checks  # noqa: E402
+
+CHECKS = Checks()
+say = CHECKS.count
 program = ""
 # Of a part that is tried, and of a command, in seconds.
 LIMIT, WAITED = 400, 300
@@ -18,15 +24,6 @@ LIMIT, WAITED = 400, 300
 
 class Left(Exception):
     """Why a part is left out: something isn't installed, or not allowed."""
-
-
-def say(label, good, more=""):
-    global passed, failed
-    if good:
-        passed += 1
-    else:
-        failed += 1
-        print(f"{label}: differs {more}", flush=True)
 
 
 def run(*words, **options):

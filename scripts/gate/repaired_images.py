@@ -9,23 +9,19 @@ verify, its parity too. Where veritysetup isn't installed it says so, and tries 
 """
 import argparse
 import os
-import random
 import re
 import shutil
 import subprocess
 import sys
 import tempfile
 
-passed = failed = 0
+sys.dont_write_bytecode = True
+sys.path.insert(0, os.path.join(os.path.dirname(os.path.realpath(__file__)), "../lib"))
 
+from checks import Checks, add_cases, random_cases  # noqa: E402
 
-def say(label, good, more=""):
-    global passed, failed
-    if good:
-        passed += 1
-    else:
-        failed += 1
-        print(f"{label}: not so {more}")
+CHECKS = Checks()
+say = CHECKS.count
 
 
 def run(*words):
@@ -144,16 +140,14 @@ def main():
     if not VERITYSETUP:
         print("veritysetup isn't installed")
         return 0
-    for number in range(WORDS.cases):
-        tried(random.Random(WORDS.seed * 1000003 + number), f"case {number} of seed {WORDS.seed}")
-    print(f"repaired images: {passed} passed, {failed} failed")
-    return 1 if failed or not passed else 0
+    for _, dice, label in random_cases(WORDS):
+        tried(dice, label)
+    return CHECKS.end("repaired images")
 
 
 if __name__ == "__main__":
     parser = argparse.ArgumentParser()
-    parser.add_argument("--cases", type=int, default=40)
-    parser.add_argument("--seed", type=int, default=1)
+    add_cases(parser, 40)
     parser.add_argument("program", nargs="?", default=shutil.which("dmstack"))
     WORDS = parser.parse_args()
     PROGRAM = os.path.abspath(WORDS.program)
