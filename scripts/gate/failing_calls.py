@@ -10,9 +10,9 @@ interrupted: no answer shows it.) A session must answer, up to the line that met
 line is refused (`no memory`, or the fault of the right device); and the lines behind it, and the files at the end, are what the
 model of scripts/model says over the files as the failure left them, in which each sector holds what it held before that line or
 what the line was to write. (A line `moved` counts what the files were asked for, that line included, so the leaves are files.)
-Another command must name the failure, and answer, when it is made again, as without one; a format that met one before its sync
+Another command must name the failure, and answer, when it is repeated, as without one; a format that met one before its sync
 leaves no superblock, and one that met it at its parity (`--fec`) the whole image. If the output fails, standard error must say so,
-and a `copy` must have copied all. A `repair` may also seek elsewhere what it couldn't read: each block that it names is good then, and each other one as it was, and made again it ends with a whole image.
+and a `copy` must have copied all. A `repair` may also seek elsewhere what it couldn't read: each block that it names is good then, and each other one as it was, and repeated it ends with a whole image.
 
 Where a case has the file `kinds`, calls of these kinds alone fail. Where it has the file `calls`, this has a line for each
 positioned read and write and each sync, in their order: which call it is, of which leaf, how many sectors were asked for by then,
@@ -91,7 +91,7 @@ class Case:
         self.kinds += ["input", "text", "output"] * os.path.exists(f"{self.folder}/streams")
         if os.path.exists(f"{self.folder}/kinds"):
             self.kinds = read_file(f"{self.folder}/kinds").decode().split()
-        # Where a checked block can't be kept for want of memory, the answer is that of the block as it was read.
+        # If memory runs out for keeping a checked block, the answer is that of the block as it was read.
         before = read_file(f"{self.folder}/before") if os.path.exists(f"{self.folder}/before") else b""
         self.may_keep = b" verity " in self.given + before and b"--cache=0" not in self.words
         self.calls = lines_of(read_file(f"{self.folder}/calls")) if os.path.exists(f"{self.folder}/calls") else None
@@ -185,7 +185,7 @@ class Modelled:
         return self.rests[key]
 
     def ended(self, number):
-        """The states in which the request of a line may end that met want of memory."""
+        """The states in which the request of a line may end that ran out of memory."""
         words = self.lines[number].split()
         if words[0] in (b"read", b"write"):
             yield self.state(number)
@@ -207,7 +207,7 @@ class Modelled:
         yield session, nodes
 
     def after_memory(self, number):
-        """What may follow a line that met want of memory: replies and files."""
+        """What may follow a line that ran out of memory: replies and files."""
         return [self.rest(state, number) for state in self.ended(number)]
 
     def after_device(self, number, kind, call, asked):
@@ -342,7 +342,7 @@ def check_command(case, plain, kind, ran):
             check_unfinished(case)
     again = case.run(again=True)
     if again[:2] != plain[:2]:
-        raise Wrong(f"made again: status {again[1]}, {again[0][-200:]}")
+        raise Wrong(f"repeated: status {again[1]}, {again[0][-200:]}")
 
 
 def sweep(case, kind, check):

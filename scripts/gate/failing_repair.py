@@ -104,9 +104,9 @@ class Repair:
         return told
 
     def check_again(self, ran):
-        """Made again it ends with a whole image."""
+        """Repeated, it ends with a whole image."""
         if ran[1] != 0 or ran[0].split(b"\n")[-2] != self.plain[-1] or self.left() != self.whole:
-            raise Unlike(f"made again: status {ran[1]}, {ran[0][-200:]}")
+            raise Unlike(f"repeated: status {ran[1]}, {ran[0][-200:]}")
 
 
 def is_repaired(line):

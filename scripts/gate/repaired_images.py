@@ -2,8 +2,8 @@
 """Tries `dmstack repair --fec` on images with parity that veritysetup made and that are damaged at random.
 
 repaired_images.py [--cases N] [--seed S] [PROGRAM]: formats images by veritysetup, with 2 to 24 bytes of parity in a codeword,
-damages blocks of the data, of the tree and of the parity, and repairs them. Of damaged data those blocks must come back whose round
-has no more bad blocks than a codeword has bytes of parity, and whole parity; of a damaged tree over whole data all. No block may hold
+damages blocks of the data, of the tree and of the parity, and repairs them. If data are damaged, those blocks must be restored whose round
+has no more corrupt blocks than a codeword has bytes of parity, and undamaged parity; if only the tree is, all of it. No block may hold
 other bytes than the formatted ones or the damaged ones, --check may change none, and what ends with the status 0 veritysetup must
 verify, its parity too. Where veritysetup isn't installed it says so, and tries nothing (Debian: cryptsetup-bin).
 """
@@ -90,7 +90,7 @@ def picked(dice, image):
 
 
 def comes_back(image, bad, turns):
-    """The bad data blocks that parity makes again, where the tree is whole."""
+    """The corrupt data blocks that parity restores if the tree is undamaged."""
     counts = [sum(it % image.rounds == turn for it in bad) for turn in range(image.rounds)]
     return sorted(it for it in bad if counts[it % image.rounds] <= image.roots and it % image.rounds not in turns)
 
@@ -117,7 +117,7 @@ def tried(dice, label):
         say(f"{label}: --check says so", told(looked[1], "repairable") == lines, looked[1])
         say(f"{label}: the status", status == (0 if len(wanted) == len(bad) else 3), str(status))
     elif not bad:
-        say(f"{label}: the tree is made again", status == 0, printed)
+        say(f"{label}: the tree is reconstructed", status == 0, printed)
 
 
 def told(printed, word):

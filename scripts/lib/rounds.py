@@ -1,4 +1,4 @@
-"""Tries the planted bugs of one crate, many in one check."""
+"""Tries the mutations of one crate, many in one check."""
 import re
 import resource
 from dataclasses import dataclass, field
