@@ -4,7 +4,7 @@ ghost use Rattle.text_files.specs.declared.texts.ReplaceFault.{ReplaceFault as F
 
 use thiserror::Error;
 
-/// Why a text isn't replaced. The old one stands under its path then, or the new one where `Sync` comes last.
+/// Why a text isn't replaced. Its path has the old text then, or the new one if `Sync` comes last.
 #[derive(Clone, Copy, Debug, PartialEq, Eq, Error)]
 pub enum ReplaceFault {
     /// Memory ran out.
@@ -13,23 +13,23 @@ pub enum ReplaceFault {
     /// The new text can't be written beside the old one.
     #[error("Write")]
     Write,
-    /// It can't be put on the medium.
+    /// It can't be synced.
     #[error("Sync")]
     Sync,
-    /// It can't be put in the old one's place.
+    /// It can't replace the old one.
     #[error("Rename")]
     Rename,
 }
 
 /// Texts under paths.
 pub trait Texts {
-    /// What a call leaves: of what was before it, the path, the bytes, its result, and what is behind it.
+    /// What a call leaves: of what was before it, the path, the bytes, its result, and what is after it.
     ghost replaces: { Self → List ℕ → List ℕ → Result Unit Fault → Self → Type 0 };
 
     /// What a trial leaves: of what was before it, the path, its result, and what is after it.
     ghost tries: { Self → List ℕ → Result Unit Fault → Self → Type 0 };
 
-    /// Puts these bytes in the place of what stands under a path: a cut leaves the old text or the new one.
+    /// Replaces the text under a path by these bytes: an interruption leaves the old text or the new one.
     fn replace(&mut self, path: &str, bytes: &[u8]) -> Result<(), ReplaceFault>
         ensures { replaces self.old path.now bytes.now result self.new };
 
