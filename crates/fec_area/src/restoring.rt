@@ -1,4 +1,4 @@
-//! A lost block, made again from the other blocks of its round and the parity.
+//! A lost block, restored from the other blocks of its round and the parity.
 ghost use Rattle.std.specs.Prelude.{◌≡◌, ◌<◌, ◌≤◌, ◌/◌, IfErr, IfOk, IsOk, OnErr, OnOk, is_ok, length};
 ghost use Rattle.allocation.specs.Asked.{WasRefused};
 ghost use Rattle.verity_format.specs.Blocks.{IsOnlyRead};
@@ -28,7 +28,7 @@ pub struct LostBlock<'a> {
     pub index: u64,
 }
 
-/// Why a lost block isn't made again.
+/// Why a lost block isn't restored.
 #[derive(Clone, Copy, Debug, PartialEq, Eq, Error)]
 pub enum RestoreFault {
     /// So many blocks of its round are lost, more than a codeword has bytes of parity.
