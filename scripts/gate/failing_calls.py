@@ -3,11 +3,11 @@
 
     failing_calls.py [--program FILE] [NAME..]
 
-A case is as scripts/lib/case.sh says (`before` may import the modules of scripts/model), and stands for as many runs as the program
+A case is as scripts/lib/case.sh says (`before` may import the modules of scripts/model), and is as many runs as the program
 makes allocations, positioned reads and writes and syncs of its files, and, where it has the file `streams`, reads of its input
 and of texts and writes of its output: in each run one of them fails. (In further runs a read or a write moves one byte, or is
 interrupted: no answer shows it.) A session must answer, up to the line that met the failure, what it answers without one; that
-line is refused (`no memory`, or the fault of the right device); and the lines behind it, and the files at the end, are what the
+line is refused (`no memory`, or the fault of the right device); and the lines after it, and the files at the end, are what the
 model of scripts/model says over the files as the failure left them, in which each sector holds what it held before that line or
 what the line was to write. (A line `moved` counts what the files were asked for, that line included, so the leaves are files.)
 Another command must name the failure, and answer, when it is repeated, as without one; a format that met one before its sync
@@ -166,7 +166,7 @@ class Modelled:
         return [it for reply in self.replies for it in reply]
 
     def failing_line(self, lines):
-        """The line of input that was answered otherwise, and where in the output its answer stands."""
+        """The line of input that was answered otherwise, and the place of its answer in the output."""
         at = 0
         for number, reply in enumerate(self.replies):
             if not all_allow(reply, lines[at : at + len(reply)]):
@@ -175,7 +175,7 @@ class Modelled:
         raise Wrong("every line was answered as without a failure")
 
     def rest(self, state, number):
-        """What the lines behind a line answer from a state on, and the files then."""
+        """What the lines after a line answer from a state on, and the files then."""
         session, nodes = state
         moved = session.stack.moved.reads, session.stack.moved.writes
         key = number, session.tickets, moved, tuple(sorted(session.in_flight)), tuple(map(bytes, nodes.values()))
@@ -280,13 +280,13 @@ def check_session(case, model, kind, number, ran):
     for replies, nodes in ends:
         if all_allow(replies, lines[at + 1 :]) and all(held[name] == node for name, node in nodes.items()):
             return
-    raise Wrong(f"behind line {failing + 1}: {lines[at + 1:][:20]}, in place of {ends[0][0][:20]}")
+    raise Wrong(f"after line {failing + 1}: {lines[at + 1:][:20]}, in place of {ends[0][0][:20]}")
 
 
 def check_unfinished(case):
-    """No superblock stands before a tree that isn't finished."""
+    """No superblock is before a tree that isn't finished."""
     if read_file(f"{case.room}/files/{case.words[-1].decode()}").startswith(b"verity"):
-        raise Wrong("a superblock stands there")
+        raise Wrong("there is a superblock")
 
 
 def behind_the_image(case, kind, what, output):

@@ -90,7 +90,7 @@ class Repair:
         return (rest, status) == ([REFUSED], 1) or (rest, status) in self.told_around()
 
     def told_around(self):
-        """What may be told of what is left where one read of it failed. Data that can't be read in a piece are read again block by
+        """What may be printed about what is left if one read of it failed. Data that can't be read in a piece are read again block by
         block, so that is what stands there; or the blocks beneath a hash block that couldn't be read aren't known; or one that
         couldn't be compared with the one above it isn't good."""
         states, bad = survey(*self.left(), self.tree, self.salt, self.root)

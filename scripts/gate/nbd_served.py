@@ -1,4 +1,4 @@
-"""Services that NBD clients are tried with: what is installed of these, what is counted, and sockets with a service behind each."""
+"""Services that NBD clients are tried with: which of these are installed, how many checks passed, and sockets that serve a service."""
 import fcntl
 import os
 import random
@@ -112,7 +112,7 @@ class Served:
             raise Left("no Unix socket can be made")
         self.words = words
         self.path = os.path.join(os.getcwd(), "socket")
-        # The words stand in a file: socat cuts its own at each colon.
+        # The command is in a file: socat splits its arguments at colons.
         script = os.path.join(os.getcwd(), "serve")
         with open(script, "w") as file:
             file.write("#!/bin/sh\nexec " + shlex.join(words) + "\n")

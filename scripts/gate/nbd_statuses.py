@@ -80,7 +80,7 @@ def ignored_blocks(runner):
 
 
 def shortened(runner, label, e):
-    """The image has lost what stands behind its 100th block by the time of the first request; its zeros are told all the same."""
+    """The image has lost all bytes after its 100th block by the time of the first request; its zeros are reported nevertheless."""
     open("D", "wb").write(e.content)
     sent, told = begun_in_chunks(e, True)
     asked, wanted = b"", b""
@@ -107,7 +107,7 @@ def shortened(runner, label, e):
 
 
 def short_of_memory(runner, label, stack, e):
-    """Each allocation fails in turn: the status is told all the same, as data where there was none for what is read, or is ENOMEM."""
+    """Each allocation fails in turn: the status is reported nevertheless, as data if there was no memory for what is read, or is ENOMEM."""
     library = os.path.join(os.getcwd(), "refuse.so")
     source = os.path.join(os.path.dirname(os.path.realpath(__file__)), "refuse_alloc.c")
     subprocess.run(["cc", "-shared", "-fPIC", "-O2", "-o", library, source, "-ldl"], check=True)

@@ -105,7 +105,7 @@ def long_runs(runner):
 
 
 def crypt(runner):
-    """What is written through a `crypt` line is read back by another stack, and stands encrypted in the image."""
+    """What is written through a `crypt` line is read back by another stack, and is encrypted in the image."""
     text = "".join(f"{k:02x}" for k in range(64))
     key = bytes.fromhex(text)
     for count in (1, 8):

@@ -113,8 +113,8 @@ def tried(dice, label):
     if not tree:
         wanted = comes_back(image, bad, turns)
         lines = [f"data {it} parity" for it in wanted]
-        say(f"{label}: {len(wanted)} of {len(bad)} blocks come back", told(printed, "repaired") == lines, printed)
-        say(f"{label}: --check says so", told(looked[1], "repairable") == lines, looked[1])
+        say(f"{label}: {len(wanted)} of {len(bad)} blocks are restored", told(printed, "repaired") == lines, printed)
+        say(f"{label}: --check names them", told(looked[1], "repairable") == lines, looked[1])
         say(f"{label}: the status", status == (0 if len(wanted) == len(bad) else 3), str(status))
     elif not bad:
         say(f"{label}: the tree is reconstructed", status == 0, printed)

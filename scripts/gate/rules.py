@@ -2,7 +2,7 @@
 """Checks the rules of the house that nothing else checks, over the sources and the documents.
 
     rules.py          compares what breaks a rule with the list in rules.txt
-    rules.py --list   prints that list as the sources have it; what is new in it stands at the end and lacks a reason
+    rules.py --list   prints that list as the sources have it; new entries are at the end and lack a reason
 
 The rules are: how many clauses and parameters a function has, how long a clause, a body and a file are; that a crate cites of the
 `proofs/` of another one only `proofs/lemmas`; that each lemma is cited, or named for callers by its crate's README; that what the
@@ -127,7 +127,7 @@ def fault_of(entry, count, known):
         return f"{what} {much}: mend it, or list it in rules.txt with a reason"
     if count and count > known[entry][0]:
         return f"{what} has {count} {LIMITS[rule][0]}, and {known[entry][0]} are listed in rules.txt"
-    return "" if known[entry][1] else f"{what}: its line of rules.txt stands below no reason"
+    return "" if known[entry][1] else f"{what}: its line of rules.txt is below no reason"
 
 
 def print_list(found, known):

@@ -5,7 +5,7 @@ unreadable_blocks.py [--cases N] [--seed S] [PROGRAM]: formats images by the mod
 of the tree, and has reads of other sectors fail (scripts/gate/unreadable_sectors.c). What `verify --all` prints must be what the model says
 of blocks that can't be read or aren't good. A `repair` by a whole copy must leave the formatted block wherever all hash blocks above
 it can be read, each other one as it was, and print at its end what `verify --all` prints of that; of a round with parity as many blocks come
-back as a codeword has bytes of it. So must `repair --check` of the image as it stands. Where the superblock can't be read each ends so.
+back as a codeword has bytes of it. So must `repair --check` of the image as it is. Where the superblock can't be read each ends so.
 """
 import argparse
 import os

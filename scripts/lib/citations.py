@@ -27,7 +27,7 @@ def is_lemma(path):
 
 
 class File:
-    """What each block of a file names, by the block's own name, and where the names that it imports stand."""
+    """What each block of a file names, by the block's own name, and the modules of the names that it imports."""
 
     def __init__(self, path):
         self.blocks, self.imports, self.modules = {}, {}, {}
