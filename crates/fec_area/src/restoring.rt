@@ -28,7 +28,7 @@ pub struct LostBlock<'a> {
     pub index: u64,
 }
 
-/// Why a lost block isn't restored.
+/// Why a lost block isn't made again.
 #[derive(Clone, Copy, Debug, PartialEq, Eq, Error)]
 pub enum RestoreFault {
     /// So many blocks of its round are lost, more than a codeword has bytes of parity.

@@ -14,13 +14,13 @@ pub enum MapFault {
     /// The first line that says something isn't a status line, or there is none.
     #[error("Status")]
     Status,
-    /// A line after it isn't a block's.
+    /// A line behind it isn't a block's.
     #[error("Block")]
     Block,
     /// A block has no whole sectors, or doesn't begin with one.
     #[error("PartSector")]
     PartSector,
-    /// A block begins after the end of the one before.
+    /// A block begins behind the end of the one before.
     #[error("Gap")]
     Gap,
     /// A block begins before the end of the one before.

@@ -8,7 +8,7 @@ use thiserror::Error;
 /// Why a session ended early.
 #[derive(Clone, Copy, Debug, PartialEq, Eq, Error)]
 pub enum SessionFault {
-    /// The reader failed, or was called 2^24 + 1 times before its end.
+    /// The reader failed, or was asked 2^24 + 1 times before its end.
     #[error("the reader failed")]
     ReadFault = 1,
     /// The writer failed.
