@@ -9,7 +9,7 @@ such places, tests have, and otherwise only what is listed: crates that aren't c
 and functions whose places are trusted for good, each with the reason. More places than listed are refused, and fewer too, so
 the lists only shrink. A crate that is converted loses its line, or has the number that is left.
 
-It shows that a converted crate names no such call and neither error, so what it answers for want of memory is an `OutOfMemory`
+It shows that a converted crate names no such call and neither error, so what it answers when memory runs out is an `OutOfMemory`
 or a fault made from one; and that no other crate names what makes the evidence (the prover refuses that too, since `Seal` isn't
 exported). It goes by names: it doesn't show that a call of another library doesn't allocate, nor what a clause says of a
 refusal. A fault `NoMemory` without evidence is refused by the prover, if the fault's cause asks for it.
