@@ -87,7 +87,7 @@ IsSurveyEnd json tree w root failed fault = ⊥
 
 -- ---- a place for the hash image in its file
 
--- the superblock behind that sector was read once, and the image gone over by its tree
+-- the superblock at that sector was read once, and the image scanned by its tree
 pub record SurveysPlaced (json : Bool) (data_dev hash_dev : Device) (end first : ℕ) (root : List ℕ) (old new : Option (List ℕ)) : Type 0 where
   pub super : SuperRecord
   pub read_dev : Device

@@ -1,4 +1,4 @@
-//! All data blocks of an image, gone over once.
+//! A scan of all data blocks of an image.
 ghost use Rattle.std.specs.Prelude.{OnOk, IfOk, IfErr};
 ghost use Rattle.tree_shape.specs.Shape.{IsShape};
 ghost use Rattle.verity_format.specs.Blocks.{IsOnlyRead};
