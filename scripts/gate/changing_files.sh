@@ -173,7 +173,7 @@ cp a kept
 printf 'load a,,,rw,0 8 linear A 0\nread a 0 1\nmoved\n' > lines
 printf 'a,,,rw,0 8 linear A 0' > stack
 filled 1 4 > source
-filled 3 9 > out
+filled 3 9 > copied
 truncate -s 8192 made
 sizes='--data-block=512 --hash-block=512 --salt=- --uuid=00000000-0000-0000-0000-000000000001'
 unprinted='dmstack: standard output failed'
@@ -181,7 +181,7 @@ for closed in '>&-' '<&- >&-' '<&- >&- 2>&-' '> /dev/full' '> /dev/full 2>&-'; d
     said=$unprinted
     [[ $closed != *'2>&-' ]] || said=
     for words in 'session A=rw:a' 'load stack A=rw:a' 'read stack a 0 8 A=rw:a' 'write stack a 0 source A=rw:a' \
-        'scan stack a A=rw:a' 'copy stack a out A=rw:a' 'nbd stack a A=rw:a'; do
+        'scan stack a A=rw:a' 'copy stack a copied A=rw:a' 'nbd stack a A=rw:a'; do
         # A client of nbd that has gone isn't reported, and a session without input writes nothing.
         [[ $words = nbd* || "$words $closed" = session*'<&-'* ]] && output= || output=$said
         ran 1 "$output" bash -c "\"\$0\" $words $closed" "$program"
@@ -190,8 +190,11 @@ for closed in '>&-' '<&- >&-' '<&- >&- 2>&-' '> /dev/full' '> /dev/full 2>&-'; d
     ran 1 "$said" bash -c "\"\$0\" format $sizes a made $closed" "$program"
     check "format $closed: the data image is as it was" cmp a kept
 done
+made_root=$("$program" format $sizes a made | sed -n 's/^root //p')
 cp made formatted
-for words in "verify a made $root" 'dump made' "table made $root D H"; do
+# If another root than the image's is given, that is said too.
+ran 1 $'root differs\n'"$unprinted" bash -c "\"\$0\" verify a made $root > /dev/full" "$program"
+for words in "verify a made $made_root" 'dump made' "table made $made_root D H"; do
     ran 1 "$unprinted" bash -c "\"\$0\" $words <&- >&-" "$program"
     check "$words: the images are as they were" cmp made formatted
     check "$words: the images are as they were" cmp a kept
