@@ -113,7 +113,10 @@ class Case:
             failing = {"LD_PRELOAD": self.library, "REFUSE": str(number), "REFUSE_MET": met}
         done = subprocess.run([self.program, *self.words], input=self.given if given is None else given, cwd=folder,
                               env={**os.environ, **failing}, capture_output=True, timeout=20, check=False)
-        told = UNWRITTEN if kind == "output" and os.path.exists(met) else b""
+        told = b""
+        if kind == "output" and os.path.exists(met):
+            # The last line, that sectors are lost, is repeated there.
+            told = (self.recovery.lines[-1] + b"\n" if self.recovery else b"") + UNWRITTEN
         if self.words[0] == b"copy" and done.stdout.endswith(b"refused 2 Device\n"):
             told = OUT_FAILED
         if done.stderr != told:
