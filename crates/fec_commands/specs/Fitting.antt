@@ -14,53 +14,13 @@ use Rattle.fec_commands.specs.declared.fault.FecFault.{FecFault}
 use Rattle.fec_commands.specs.declared.fault.FecFault.TheVariants.{Parity}
 use Rattle.fec_commands.specs.declared.image.Extent.{Extent}
 use Rattle.fec_commands.specs.declared.image.ThreeImages.{ThreeImages}
-use Rattle.fec_commands.specs.Checking.{IsCheckUnopened}
 use Rattle.fec_commands.specs.FecFaults.{unopened}
 use Rattle.fec_commands.specs.declared.finding.FoundThree.{FoundThree}
 use Rattle.fec_commands.specs.Finding.{FindsThree, IsUnfound}
 use Rattle.fec_commands.specs.FixedSize.{FitsFixedSize, IsFixedTooShort}
 use Rattle.fec_commands.specs.Images.{OpensThree, extent_of}
-use Rattle.fec_commands.specs.Layings.{IsLayoutEnd, LaysOut}
 use Rattle.fec_commands.specs.Needed.{IsNeeded}
 use Rattle.fec_commands.specs.Protecting.{IsProtectUnopened}
-
--- ---- of an image that stands
-
--- the parity of what lies before the data's end and behind the hash image's first sector has room on its device
-pub record MeasuresBehind (data_dev hash_dev parity_dev : Device) (extent : Extent) : Type 0 where
-  pub layout : Layout
-  pub read_dev : Device
-  pub lays : LaysOut (before data_dev extent.end) (behind hash_dev extent.first) extent.first extent.roots read_dev layout
-  pub room : parity_sectors layout ≤ parity_dev.size
-
--- it hasn't
-pub record IsParityShort (data_dev hash_dev parity_dev : Device) (extent : Extent) (fault : FecFault) : Type 0 where
-  pub layout : Layout
-  pub read_dev : Device
-  pub lays : LaysOut (before data_dev extent.end) (behind hash_dev extent.first) extent.first extent.roots read_dev layout
-  pub short : parity_dev.size < parity_sectors layout
-  pub is : fault ≡ Parity (TooSmall (parity_sectors layout))
-
--- that, or there is no layout
-abbrev pub IsShortBehind : Device → Device → Device → Extent → FecFault → Type 0
-IsShortBehind data_dev hash_dev parity_dev extent fault =
-    ((read_dev : Device) × IsLayoutEnd (before data_dev extent.end) (behind hash_dev extent.first) extent.first read_dev fault)
-    ⊎ IsParityShort data_dev hash_dev parity_dev extent fault
-
--- all three were opened for reading, and the parity has its room
-pub record IsMeasured {S D : Type 0} (w : Calls S D) (places : TwoPlaces) (fec : FecRecord) : Type 0 where
-  pub three : ThreeImages D
-  pub opened : OpensThree w places fec false three
-  pub measures : MeasuresBehind (w.state three.«data».device) (w.state three.hash.device) (w.state three.parity.device) (extent_of places fec three)
-
--- they were, and it hasn't
-pub record EndsMeasuring {S D : Type 0} (w : Calls S D) (places : TwoPlaces) (fec : FecRecord) (fault : FecFault) : Type 0 where
-  pub three : ThreeImages D
-  pub opened : OpensThree w places fec false three
-  pub ends : IsShortBehind (w.state three.«data».device) (w.state three.hash.device) (w.state three.parity.device) (extent_of places fec three) fault
-
-abbrev pub IsUnmeasured : {S D : Type 0} → Calls S D → TwoPlaces → FecRecord → FecFault → Type 0
-IsUnmeasured w places fec fault = IsCheckUnopened w places fec fault ⊎ EndsMeasuring w places fec fault
 
 -- ---- of an image that is to be made
 

@@ -4,7 +4,7 @@ pub mod Images
 pub mod Layings
 pub mod Protecting
 pub mod Growing
-pub mod Checking
+pub mod Verifying
 pub mod Finding
 pub mod FixedSize
 pub mod Needed

@@ -1,7 +1,6 @@
 //! The commands on images with parity: `format --fec` and `verify --fec`.
 #![tactic(auto)]
 
-mod check;
 mod fault;
 mod fault_text;
 mod finding;
@@ -14,6 +13,7 @@ mod kept;
 mod needed;
 mod protect;
 mod sizes;
+mod verifying;
 
 pub use fault::FecFault;
 pub use fault_text::{fec_status, say_fec_fault};

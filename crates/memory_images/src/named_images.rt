@@ -12,8 +12,8 @@ use text_files::ReplaceFault;
 
 const SECTOR: usize = 512;
 
-/// Images in memory under names, of which the first with a name counts. An open image is a copy; what was written to it
-/// stands under its name once it is given back.
+/// Images in memory under names, of which the first with a name counts. An open image is a copy; its name has what was
+/// written to it once it is closed.
 #[derive(Drop)]
 pub struct MemoryImages {
     names: Vec<String>,

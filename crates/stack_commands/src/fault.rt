@@ -32,9 +32,9 @@ pub enum CommandFault<'a> {
     Stack(StackFault<'a>),
     /// A request of a stack isn't served.
     Request(RequestFault<'a>),
-    /// What was written to the leaves isn't on their media.
+    /// The leaves that were written can't be synced.
     Io(IoFault),
-    /// A command that goes over a device ended early.
+    /// A command that scans a device ended early.
     Recovering(RecoveringFault<'a>),
     /// A command on the bytes of a device ended early.
     Stream(StreamFault<'a>),
@@ -48,7 +48,7 @@ pub enum CommandFault<'a> {
     Trees(TreeFault<'a>),
     /// Sectors of a device are lost, as an object said.
     LostAsSaid,
-    /// A map file isn't read, or what stands by it isn't all gone over.
+    /// A map file can't be read, or the scan by it ended early.
     Map(UnkeptMap<'a>),
     /// The session failed, or a line can't be written.
     Session(SessionFault),
