@@ -100,7 +100,7 @@ pub record VerifiesParts (p : Parts) (root : List ℕ) (old new : Option (List �
   pub matches : MatchesLaid p root old told
   pub checks : ChecksParity matches.laid.layout matches.data_dev' matches.hash_dev' p.parity_dev told new
 
--- ---- files that are open; the root is told, be it by a file
+-- ---- files that are open; the arguments or a file give the root
 
 abbrev pub parts_of : {D : Type 0} → (D → Device) → ThreeImages D → FecVerifyRecord → Parts
 parts_of state three v =
@@ -118,7 +118,7 @@ pub record VerifiesThree {S D : Type 0} (w : Calls S D) (three : ThreeImages D) 
   pub told : TellsRoot w v.verify.root root
   pub verifies : VerifiesParts (parts_of w.state three v) root old new
 
--- no root is told
+-- there is no root
 pub record EndsUnrooted {S D : Type 0} (w : Calls S D) (three : ThreeImages D) (v : FecVerifyRecord) (fault : FecFault) : Type 0 where
   pub laid : LaidTree
   pub read_dev : Device

@@ -105,7 +105,7 @@ fn check_file<'a, I: Images>(
     measure_words(images, places, fec, options)
 }
 
-// The same with `--grow`.
+// With `--grow`, checks that FILE is there or can be made, and that a block device is large enough.
 fn check_grown<'a, I: Images>(
     images: &mut I,
     places: &ImagePlaces<'a>,

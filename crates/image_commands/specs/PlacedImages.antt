@@ -57,7 +57,7 @@ pub record EndsPlacedSuper {S D : Type 0} (w : Calls S D) (path : List ℕ) (fir
 abbrev pub IsPlacedImageEnd : {S D : Type 0} → Calls S D → List ℕ → ℕ → Bool → ImageFault → Type 0
 IsPlacedImageEnd w path first failed fault = IsUnopened (Refuses w path false) fault ⊎ EndsPlacedSuper w path first failed fault
 
--- `verify`: the superblock behind that sector was read once, and its tree stands over what lies before the data's end, under the root
+-- `verify`: the superblock at that sector was read once, and its tree is valid for what lies before the data's end, under the root
 pub record MatchesPlaced (data_dev hash_dev : Device) (end first : ℕ) (root : List ℕ) (old new : Option (List ℕ)) : Type 0 where
   pub super : SuperRecord
   pub read_dev : Device
