@@ -51,7 +51,7 @@ pub(crate) fn repair_height<D: BlockDev, H: BlockDev, C: BlockDev, W: Write>(
     let blocks = repair.shape.blocks();
     let width = span(&repair.shape, height + 1, blocks);
     let step = span(&repair.shape, height, blocks);
-    let mut known = VerifiedPath::new(repair)?;
+    let mut last_path = VerifiedPath::new(repair)?;
     let mut first = 0;
     'rows: while first < blocks {
         let end = (first + width).min(blocks);
@@ -61,7 +61,7 @@ pub(crate) fn repair_height<D: BlockDev, H: BlockDev, C: BlockDev, W: Write>(
             end,
             step,
         };
-        repair_row(&mut known, repair, row, image, memory, bad, writer)?;
+        repair_row(&mut last_path, repair, row, image, memory, bad, writer)?;
         first = end;
     }
     Ok(())
@@ -69,7 +69,7 @@ pub(crate) fn repair_height<D: BlockDev, H: BlockDev, C: BlockDev, W: Write>(
 
 // Goes over a row, if all hash blocks above it are good.
 fn repair_row<D: BlockDev, H: BlockDev, C: BlockDev, W: Write>(
-    known: &mut VerifiedPath,
+    last_path: &mut VerifiedPath,
     repair: &Repair,
     row: Row,
     image: &mut DamagedImage<D, H, C>,
@@ -77,7 +77,7 @@ fn repair_row<D: BlockDev, H: BlockDev, C: BlockDev, W: Write>(
     bad: &mut BadBlocks,
     writer: &mut Counted<W>,
 ) -> Result<(), RepairFault>
-    requires tree { IsOfTree (job repair.now).tree known.old.path }
+    requires tree { IsOfTree (job repair.now).tree last_path.old.path }
     requires can { CanRun (job repair.now) image.old }
     requires row { IsRow repair.now.shape row }
     requires some { row.first < repair.now.shape.blocks }
@@ -85,14 +85,14 @@ fn repair_row<D: BlockDev, H: BlockDev, C: BlockDev, W: Write>(
     ensures notes { NotesRow W.contents repair.now row image.old image.new bad.old bad.new writer.old writer.new result }
     ensures told { IfErr result (IsWriterCause writer.new) }
     ensures asked { LeavesRow height_over repair.now.shape row image.old image.new }
-    ensures tree { IsOfTree (job repair.now).tree known.new.path }
+    ensures tree { IsOfTree (job repair.now).tree last_path.new.path }
     ensures few { OnOk result (NotesInRow repair.now.shape row bad.old bad.new) }
 {
-    if !known.reach(repair, image, row.first, row.height) {
+    if !last_path.reach(repair, image, row.first, row.height) {
         bad.pass_by();
         return Ok(());
     }
-    repair_unless_good(&known.path, repair, row, image, memory, bad, writer)
+    repair_unless_good(&last_path.path, repair, row, image, memory, bad, writer)
 }
 
 // Goes over a row to which the path leads, unless all of it was seen to be good.

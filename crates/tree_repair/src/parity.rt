@@ -61,12 +61,21 @@ pub(crate) fn restore_bad<D: BlockDev, H: BlockDev, C: BlockDev, P: BlockDev, W:
 {
     let lost = covered_of(repair, layout, blocks)?;
     let losses = Losses::of(layout, lost);
-    let mut known = VerifiedPath::new(repair)?;
+    let mut last_path = VerifiedPath::new(repair)?;
     let mut tree = false;
     let mut all = true;
     let mut kept = true;
     'each: for bad in blocks {
-        let back = restore_block_at(&mut known, repair, &losses, bad, image, parity, writer, &mut kept)?;
+        let back = restore_block_at(
+            &mut last_path,
+            repair,
+            &losses,
+            bad,
+            image,
+            parity,
+            writer,
+            &mut kept,
+        )?;
         tree = is_in_tree(tree, back, bad);
         all = are_both(all, back);
     }
@@ -145,7 +154,7 @@ fn is_place(repair: &Repair, place: Place) -> bool
 
 // Restores a block that was found nowhere, if all hash blocks above it are valid and parity has it.
 fn restore_block_at<D: BlockDev, H: BlockDev, C: BlockDev, P: BlockDev, W: Write>(
-    known: &mut VerifiedPath,
+    last_path: &mut VerifiedPath,
     repair: &Repair,
     losses: &Losses,
     bad: &BadBlock,
@@ -154,11 +163,11 @@ fn restore_block_at<D: BlockDev, H: BlockDev, C: BlockDev, P: BlockDev, W: Write
     writer: &mut Counted<W>,
     kept: &mut bool,
 ) -> Result<bool, RepairFault>
-    requires tree { IsOfTree (job repair.now).tree known.old.path }
+    requires tree { IsOfTree (job repair.now).tree last_path.old.path }
     requires asked { IsTrue repair.now.parity }
     requires can { CanRun (job repair.now) image.old }
     requires laid { IsLaidOn losses.now.layout image.old.data_dev image.old.hash_dev }
-    ensures tree { IsOfTree (job repair.now).tree known.new.path }
+    ensures tree { IsOfTree (job repair.now).tree last_path.new.path }
     ensures parity { IsOnlyRead (P.state parity.old) (P.state parity.new) }
     ensures run { Ran W.contents (job repair.now) image.old image.new writer.old writer.new result }
     ensures told { IfErr result (IsWriterCause writer.new) }
@@ -173,11 +182,11 @@ fn restore_block_at<D: BlockDev, H: BlockDev, C: BlockDev, P: BlockDev, W: Write
     if !is_place(repair, place) {
         return Ok(false);
     }
-    if !known.reach(repair, image, place.index, place.height) {
+    if !last_path.reach(repair, image, place.index, place.height) {
         return Ok(false);
     }
     let missing = Missing {
-        path: &known.path,
+        path: &last_path.path,
         repair,
         place,
     };

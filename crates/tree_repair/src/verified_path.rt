@@ -37,7 +37,7 @@ impl VerifiedPath {
     /// The path of which nothing was read yet.
     pub(crate) fn new(repair: &Repair) -> Result<VerifiedPath, OutOfMemory>
         requires { IsShape repair.now.shape }
-        ensures ok { IfOk result (λ known. IsOfTree (job repair.now).tree known.path) }
+        ensures ok { IfOk result (λ v. IsOfTree (job repair.now).tree v.path) }
         ensures err { OnErr result (IsOutOfMemory largest_block) }
     {
         let path = TreePath::new(repair.alloc, repair.shape, repair.salt, repair.root)?;

@@ -21,14 +21,14 @@ returns-in_err-lost-clause-parity g c = only_read-none (g.P.BlockDev.state c.arg
 pub returns-in_err-lost-clause-run : goal.returns-in_err-lost-clause-run
 returns-in_err-lost-clause-run g c = ended-from c.from_residual.result c.from_residual.ensures.1 (ends-read (world-none c.args.image.now) (refused-within 1 (omega arith) c.in_err-lost.ensures.err.1))
 
-pub returns-in_err-known-clause-parity : goal.returns-in_err-known-clause-parity
-returns-in_err-known-clause-parity g c = only_read-none (g.P.BlockDev.state c.args.parity.now)
+pub returns-in_err-last_path-clause-parity : goal.returns-in_err-last_path-clause-parity
+returns-in_err-last_path-clause-parity g c = only_read-none (g.P.BlockDev.state c.args.parity.now)
 
-pub returns-in_err-known-clause-run : goal.returns-in_err-known-clause-run
-returns-in_err-known-clause-run g c = ended-from c.from_residual-in_err-known.result c.from_residual-in_err-known.ensures.1 (ends-read (world-none c.args.image.now) (memory-within 4096 (omega arith) c.in_err-known.ensures.err))
+pub returns-in_err-last_path-clause-run : goal.returns-in_err-last_path-clause-run
+returns-in_err-last_path-clause-run g c = ended-from c.from_residual-in_err-last_path.result c.from_residual-in_err-last_path.ensures.1 (ends-read (world-none c.args.image.now) (memory-within 4096 (omega arith) c.in_err-last_path.ensures.err))
 
 pub each-init : goal.each-init
-each-init g c = record { tree = c.in_ok-known.ensures.ok; back = λ yes. back-none (job c.args.repair.now) c.args.image.now; came = tells-none 1 has-none; within = asked-none _ c.args.image.now (g.P.BlockDev.state c.args.parity.now); sought = (refl, (refl, refl)); parity = only_read-none (g.P.BlockDev.state c.args.parity.now); run = has-none }
+each-init g c = record { tree = c.in_ok-last_path.ensures.ok; back = λ yes. back-none (job c.args.repair.now) c.args.image.now; came = tells-none 1 has-none; within = asked-none _ c.args.image.now (g.P.BlockDev.state c.args.parity.now); sought = (refl, (refl, refl)); parity = only_read-none (g.P.BlockDev.state c.args.parity.now); run = has-none }
 
 pub restore_block_at-requires-clause-can : goal.restore_block_at-requires-clause-can
 restore_block_at-requires-clause-can g c = can-later c.each.invariant.run c.requires.can
@@ -86,8 +86,8 @@ returns-clause-back g c = λ both. let yes = (and_parts c.each.all c.each.kept (
 pub returns-in_err-lost-clause-within : goal.returns-in_err-lost-clause-within
 returns-in_err-lost-clause-within g c = asked-none (parity_bill c.args.repair.now.shape c.args.layout.now 0 0 (sought_among c.args.blocks.now)) c.args.image.now (g.P.BlockDev.state c.args.parity.now)
 
-pub returns-in_err-known-clause-within : goal.returns-in_err-known-clause-within
-returns-in_err-known-clause-within g c = asked-none (parity_bill c.args.repair.now.shape c.args.layout.now 0 0 (sought_among c.args.blocks.now)) c.args.image.now (g.P.BlockDev.state c.args.parity.now)
+pub returns-in_err-last_path-clause-within : goal.returns-in_err-last_path-clause-within
+returns-in_err-last_path-clause-within g c = asked-none (parity_bill c.args.repair.now.shape c.args.layout.now 0 0 (sought_among c.args.blocks.now)) c.args.image.now (g.P.BlockDev.state c.args.parity.now)
 
 pub returns-in_err-back-clause-within : goal.returns-in_err-back-clause-within
 returns-in_err-back-clause-within g c =
@@ -105,8 +105,8 @@ returns-clause-within g c =
 pub returns-in_err-lost-clause-came : goal.returns-in_err-lost-clause-came
 returns-in_err-lost-clause-came g c = tells-came c.from_residual.result c.from_residual.ensures.1 (ends-read (world-none c.args.image.now) (refused-within 1 (omega arith) c.in_err-lost.ensures.err.1))
 
-pub returns-in_err-known-clause-came : goal.returns-in_err-known-clause-came
-returns-in_err-known-clause-came g c = tells-came c.from_residual-in_err-known.result c.from_residual-in_err-known.ensures.1 (ends-read (world-none c.args.image.now) (memory-within 4096 (omega arith) c.in_err-known.ensures.err))
+pub returns-in_err-last_path-clause-came : goal.returns-in_err-last_path-clause-came
+returns-in_err-last_path-clause-came g c = tells-came c.from_residual-in_err-last_path.result c.from_residual-in_err-last_path.ensures.1 (ends-read (world-none c.args.image.now) (memory-within 4096 (omega arith) c.in_err-last_path.ensures.err))
 
 pub returns-in_err-back-clause-came : goal.returns-in_err-back-clause-came
 returns-in_err-back-clause-came g c = tells-came c.from_residual-in_err-back.result c.from_residual-in_err-back.ensures.1 (has-then c.each.invariant.run c.in_err-back.ensures.run)

@@ -1,5 +1,4 @@
-use Rattle.std.proofs.Common.{arith, ap}
-use Rattle.tree_shape.specs.Shape.{levels}
+use Rattle.std.proofs.Common.{arith}
 use Rattle.tree_repair.proofs.VerifiedPathLemmas.{leads-top}
 use Rattle.tree_repair.proofs.verified_path.VerifiedPath.new.Goals as goal
 

@@ -1,4 +1,4 @@
-use Rattle.std.proofs.Common.{◌≡◌, ◌≤◌, ◌+◌, ap, arith, inl, inr}
+use Rattle.std.proofs.Common.{◌≤◌, ap, arith, inl, inr}
 use Rattle.std.proofs.lemmas.Bool.{false≢true}
 use Rattle.tree_shape.specs.Shape.{ShapeRecord, levels}
 use Rattle.verity_format.specs.Image.{tree_sectors}
