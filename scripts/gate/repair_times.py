@@ -1,12 +1,10 @@
 #!/usr/bin/env python3
 """How the time of a repair by parity grows with the image.
 
-repair_times.py PROGRAM: `repair --fec` of an image whose data are all wrong under a valid tree. By the processor time of the
-process, the least of five runs, 32,768 blocks may take five times what 8,192 blocks take: four is linear, and a linear
-search in place of the binary one for the lost blocks of a round took 8.3. The blocks have 512 bytes, so both images fit into
-the processor's caches and both trees have four levels: the time of a block grows with the levels, since its path is read for
-it, and with reads that miss the caches. On a busy machine times vary, so if they are longer more runs are made, in turn, up
-to fifteen of each.
+repair_times.py PROGRAM: `repair --fec` of an image of 4,096-byte blocks whose data are all wrong under a valid tree. By the
+processor time of the process, the least of three runs, 128 MiB may take five times what 32 MiB take; four is linear. The tree
+of 128 MiB has one level more than that of 32 MiB, so the bound also holds only if a block's path isn't read anew from the
+root down. On a busy machine times vary, so if they are longer more runs are made, in turn, up to nine of each.
 """
 
 import os
@@ -16,10 +14,10 @@ import sys
 import tempfile
 
 MEBIBYTE = 1 << 20
-SMALL, LARGE = 4, 16
-BLOCK = 512
+SMALL, LARGE = 32, 128
+BLOCK = 4096
 MOST = 5
-RUNS, MOST_RUNS = 5, 15
+RUNS, MOST_RUNS = 3, 9
 DAMAGED = 3
 
 

@@ -42,6 +42,7 @@ mod StayLemmas
 mod TryLemmas
 mod UnknownLemmas
 mod UnusedEntryLemmas
+mod VerifiedPathLemmas
 mod VisitLemmas
 mod WayLemmas
 mod WholeLemmas

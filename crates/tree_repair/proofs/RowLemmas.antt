@@ -1,16 +1,12 @@
 -- Rows of blocks, and the way to each of them.
-use Rattle.std.proofs.Common.{◌≡◌, ◌≢◌, List, ◌≤◌, ◌<◌, ◌+◌, ◌/◌, ◌%◌, ◌^◌, ℕ, min, ap, sym, ◌∙◌, subst, refl, arith}
+use Rattle.std.proofs.Common.{◌≡◌, ◌≤◌, ◌<◌, ◌+◌, ◌/◌, ◌%◌, ◌^◌, ℕ, min, ap, sym, ◌∙◌, subst, refl, arith}
 use Rattle.std.proofs.Math.Nat.{add-mod_right}
-use Rattle.block_device.specs.Device.{Device}
-use Rattle.tree_shape.specs.Digests.{digest}
-use Rattle.tree_shape.specs.Shape.{ShapeRecord, IsShape, ancestor, levels, per_block}
+use Rattle.tree_shape.specs.Shape.{ShapeRecord, IsShape, ancestor, per_block}
 use Rattle.tree_shape.proofs.lemmas.ShapeFactLemmas.{two}
-use Rattle.tree_path.specs.Path.{PathRecord, IsPathOf, block_of, digest_on, stored_block}
-use Rattle.tree_path.specs.Steps.{IsDown, IsStopped, steps}
+use Rattle.tree_path.specs.Path.{PathRecord}
 use Rattle.tree_path.proofs.lemmas.PathLemmas.{leads-along}
 use Rattle.tree_path.proofs.lemmas.SpanLemmas.{along}
 use Rattle.tree_survey.specs.Surveys.{Tree, IsWay}
-use Rattle.tree_repair.specs.Tries.{IsCutOff}
 
 ancestor-is : (s : ShapeRecord) (m i : ℕ) → ancestor s m i ≡ i / per_block s ^ m
 unfolding ancestor
@@ -28,33 +24,6 @@ way-along t valid a i h p begins from below way =
       is = way.is;
       few = way.few;
       leads = leads-along p a i h (subst (λ (s : ShapeRecord). (m : ℕ) → h < m → ancestor s m a ≡ ancestor s m i) (sym way.is.shape_is) same) way.leads;
-    }
-
--- the way that was read from the root down
-pub way-down : (t : Tree) (p q : PathRecord) (d d' : Device) (i h k top : ℕ) → h ≤ levels t.shape → IsPathOf t.shape t.salt t.root p → top ≡ levels p.shape → IsDown (steps p q d d' i top) h k → IsWay t i h q
-way-down t p q d d' i h k top high of_tree all down =
-    let shape : q.shape ≡ t.shape = down.same.shape_is ∙ of_tree.shape_is in
-    let same : levels q.shape ≡ levels p.shape = ap levels down.same.shape_is in
-    record {
-      is = record { shape_is = shape; salt_is = down.same.salt_is ∙ of_tree.salt_is; root_is = down.same.root_is ∙ of_tree.root_is };
-      few = high;
-      leads = record { up = λ l le under. down.goods l le (omega (arith, under, same, all)) };
-    }
-
--- or not down to its end
-pub cut-off : (t : Tree) (p q : PathRecord) (d d' : Device) (i h level top : ℕ) → IsPathOf t.shape t.salt t.root p → top ≡ levels p.shape → IsStopped (steps p q d d' i top) h level → IsCutOff t i h d
-cut-off t p q d d' i h level top of_tree all stopped =
-    let down = stopped.down in
-    let shape : levels t.shape ≡ levels p.shape = sym (ap levels of_tree.shape_is) in
-    let way : IsWay t i (level + 1) q = way-down t p q d d' i (level + 1) level top (omega (arith, stopped.between.1, all, shape)) of_tree all down in
-    record {
-      l = level;
-      above = stopped.between.0;
-      p = q;
-      way = way;
-      block = block_of q level;
-      bad = subst (λ (salt : List ℕ). digest salt (block_of q level) ≢ digest_on q i (level + 1)) way.is.salt_is stopped.bad;
-      stand = λ steady. subst (λ (s : ShapeRecord). block_of q level ≡ stored_block s d.image level i) of_tree.shape_is (down.stored steady level (omega arith) stopped.between.1);
     }
 
 -- a row behind another

@@ -7,7 +7,7 @@ use Rattle.fec_area.specs.Layouts.{IsOffHash}
 use Rattle.fec_area.specs.Restoring.{IsMadeAgain, IsRestoreCause}
 use Rattle.tree_shape.specs.Digests.{digest}
 use Rattle.tree_shape.specs.Shape.{ShapeRecord, ancestor, position}
-use Rattle.tree_path.specs.Path.{PathRecord, digest_on, stored_block}
+use Rattle.tree_path.specs.Path.{PathRecord, IsPathOf, digest_on, stored_block}
 use Rattle.tree_survey.specs.Failing.{HasFailedRead}
 use Rattle.tree_survey.specs.Surveys.{Tree, IsWay}
 use Rattle.tree_repair.specs.declared.bad.BadBlock.{BadBlock}
@@ -33,6 +33,15 @@ pub record IsCutOff (t : Tree) (i h : ℕ) (old : Device) : Type 0 where
 abbrev pub IsWayOr : Tree → ℕ → ℕ → Device → Device → Option PathRecord → Type 0
 IsWayOr t i h old new None = HasFailedRead old new ⊎ IsCutOff t i h old
 IsWayOr t i h old new (Some p) = IsWay t i h p
+
+-- a path through that tree
+abbrev pub IsOfTree : Tree → PathRecord → Type 0
+IsOfTree t p = IsPathOf t.shape t.salt t.root p
+
+-- the path, if it leads to the block
+abbrev pub path_found : Bool → PathRecord → Option PathRecord
+path_found true p = Some p
+path_found false p = None
 
 -- ---- whether parity covers it
 

@@ -10,7 +10,7 @@ ghost use Rattle.tree_repair.specs.Jobs.{IsRow, job};
 ghost use Rattle.tree_repair.specs.ParityBounds.{LeavesNoted, NotesInHeight, NotesInRow};
 ghost use Rattle.tree_repair.specs.Notes.{NotesAt, NotesHeight, NotesRow};
 ghost use Rattle.tree_repair.specs.Runs.{CanRun, IsWriterCause};
-ghost use Rattle.tree_repair.specs.Tries.{IsWayOr};
+ghost use Rattle.tree_repair.specs.Tries.{IsOfTree};
 ghost use Rattle.tree_repair.specs.Visits.{IsBlockKept};
 ghost use Rattle.tree_repair.specs.Worlds.{IsWorldRead};
 ghost use Rattle.verity_format.specs.Blocks.{IsOnlyRead};
@@ -23,8 +23,8 @@ use crate::image::DamagedImage;
 use crate::keeping::is_kept;
 use crate::place::{Place, Repair, Row};
 use crate::saying::say_mended;
+use crate::verified_path::VerifiedPath;
 use crate::visiting::visit;
-use allocation::OutOfMemory;
 use block_device::BlockDev;
 use counted_io::Counted;
 use std::io::Write;
@@ -51,6 +51,7 @@ pub(crate) fn repair_height<D: BlockDev, H: BlockDev, C: BlockDev, W: Write>(
     let blocks = repair.shape.blocks();
     let width = span(&repair.shape, height + 1, blocks);
     let step = span(&repair.shape, height, blocks);
+    let mut last_path = VerifiedPath::new(repair)?;
     let mut first = 0;
     'rows: while first < blocks {
         let end = (first + width).min(blocks);
@@ -60,7 +61,7 @@ pub(crate) fn repair_height<D: BlockDev, H: BlockDev, C: BlockDev, W: Write>(
             end,
             step,
         };
-        repair_row(repair, row, image, memory, bad, writer)?;
+        repair_row(&mut last_path, repair, row, image, memory, bad, writer)?;
         first = end;
     }
     Ok(())
@@ -68,6 +69,7 @@ pub(crate) fn repair_height<D: BlockDev, H: BlockDev, C: BlockDev, W: Write>(
 
 // Goes over a row, if all hash blocks above it are good.
 fn repair_row<D: BlockDev, H: BlockDev, C: BlockDev, W: Write>(
+    last_path: &mut VerifiedPath,
     repair: &Repair,
     row: Row,
     image: &mut DamagedImage<D, H, C>,
@@ -75,6 +77,7 @@ fn repair_row<D: BlockDev, H: BlockDev, C: BlockDev, W: Write>(
     bad: &mut BadBlocks,
     writer: &mut Counted<W>,
 ) -> Result<(), RepairFault>
+    requires tree { IsOfTree (job repair.now).tree last_path.old.path }
     requires can { CanRun (job repair.now) image.old }
     requires row { IsRow repair.now.shape row }
     requires some { row.first < repair.now.shape.blocks }
@@ -82,16 +85,14 @@ fn repair_row<D: BlockDev, H: BlockDev, C: BlockDev, W: Write>(
     ensures notes { NotesRow W.contents repair.now row image.old image.new bad.old bad.new writer.old writer.new result }
     ensures told { IfErr result (IsWriterCause writer.new) }
     ensures asked { LeavesRow height_over repair.now.shape row image.old image.new }
+    ensures tree { IsOfTree (job repair.now).tree last_path.new.path }
     ensures few { OnOk result (NotesInRow repair.now.shape row bad.old bad.new) }
 {
-    let found = way_to(repair, image, row.first, row.height)?;
-    match found {
-        None => {
-            bad.pass_by();
-            Ok(())
-        }
-        Some(path) => repair_unless_good(&path, repair, row, image, memory, bad, writer),
+    if !last_path.reach(repair, image, row.first, row.height) {
+        bad.pass_by();
+        return Ok(());
     }
+    repair_unless_good(&last_path.path, repair, row, image, memory, bad, writer)
 }
 
 // Goes over a row to which the path leads, unless all of it was seen to be good.
@@ -117,49 +118,6 @@ fn repair_unless_good<D: BlockDev, H: BlockDev, C: BlockDev, W: Write>(
         return Ok(());
     }
     repair_blocks(path, repair, row, image, memory, bad, writer)
-}
-
-/// The hash blocks on the way to a data block, from the root down to that height, if all are good.
-pub(crate) fn way_to<D: BlockDev, H: BlockDev, C: BlockDev>(
-    repair: &Repair,
-    image: &mut DamagedImage<D, H, C>,
-    index: u64,
-    height: u32,
-) -> Result<Option<TreePath>, OutOfMemory>
-    requires inside { index < repair.now.shape.blocks }
-    requires height { height ≤ levels repair.now.shape }
-    requires fits { tree_sectors repair.now.shape ≤ image.old.hash_dev.size }
-    ensures read { IsWorldRead image.old image.new }
-    ensures way { IfOk result (IsWayOr (job repair.now).tree index height image.old.hash_dev image.new.hash_dev) }
-    ensures asked { LeavesWorld (reading 0 (way_sectors repair.now.shape height)) nothing_due image.old image.new }
-    ensures err { OnErr result (IsOutOfMemory largest_block) }
-{
-    way_on(repair, &mut image.hash, index, height)
-}
-
-// So on a hash device.
-fn way_on<H: BlockDev>(
-    repair: &Repair,
-    device: &mut H,
-    index: u64,
-    height: u32,
-) -> Result<Option<TreePath>, OutOfMemory>
-    requires inside { index < repair.now.shape.blocks }
-    requires height { height ≤ levels repair.now.shape }
-    requires fits { tree_sectors repair.now.shape ≤ (H.state device.old).size }
-    ensures read { IsOnlyRead (H.state device.old) (H.state device.new) }
-    ensures way { IfOk result (IsWayOr (job repair.now).tree index height (H.state device.old) (H.state device.new)) }
-    ensures asked { HasReadAtMost (H.state device.old) (way_sectors repair.now.shape height) (H.state device.new) }
-    ensures counted { (H.state device.old).failures ≤ (H.state device.new).failures }
-    ensures err { OnErr result (IsOutOfMemory largest_block) }
-{
-    let mut path = TreePath::new(repair.alloc, repair.shape, repair.salt, repair.root)?;
-    let top = path.levels();
-    match path.descend(device, index, top, height) {
-        Ok(None) => Ok(Some(path)),
-        Ok(Some(_)) => Ok(None),
-        Err(_) => Ok(None),
-    }
 }
 
 // Goes over the blocks of a row.

@@ -21,6 +21,7 @@ mod remaking;
 mod repair;
 mod saying;
 mod seeking;
+mod verified_path;
 mod visiting;
 
 pub use fault::RepairFault;

@@ -11,7 +11,7 @@ ghost use Rattle.tree_repair.specs.ParityBounds.{TellsCame, along_bill, round_bi
 ghost use Rattle.tree_repair.specs.Passes.{AreBack};
 ghost use Rattle.tree_repair.specs.Parity.{IsBack, IsPlace};
 ghost use Rattle.tree_repair.specs.Runs.{CanRun, IsWriterCause, Ran};
-ghost use Rattle.tree_repair.specs.Tries.{AreCovered, IsCoveredOr, is_hash_back, listed_number};
+ghost use Rattle.tree_repair.specs.Tries.{AreCovered, IsCoveredOr, IsOfTree, is_hash_back, listed_number};
 ghost use Rattle.tree_repair.specs.Worlds.{IsWorldRead};
 ghost use Rattle.tree_repair.specs.Searching.{AreGoodFor, AsksWithin, IsInTree, IsReached, LacksBlock, MakesMissing, MakesWithin, SeeksBlock, SeeksEach, SeeksWithin, TellsMissing, TellsPlace, TriesMissing, TriesWithin, missing_size};
 
@@ -19,10 +19,10 @@ use crate::bad::BadBlock;
 use crate::fault::RepairFault;
 use crate::image::DamagedImage;
 use crate::keeping::are_both;
-use crate::levels::way_to;
 use crate::losses::Losses;
 use crate::place::{Place, Repair, block_size};
 use crate::putting::{Missing, put_restored};
+use crate::verified_path::VerifiedPath;
 use allocation::{OutOfMemory, push, zeros};
 use block_device::BlockDev;
 use counted_io::Counted;
@@ -61,11 +61,21 @@ pub(crate) fn restore_bad<D: BlockDev, H: BlockDev, C: BlockDev, P: BlockDev, W:
 {
     let lost = covered_of(repair, layout, blocks)?;
     let losses = Losses::of(layout, lost);
+    let mut last_path = VerifiedPath::new(repair)?;
     let mut tree = false;
     let mut all = true;
     let mut kept = true;
     'each: for bad in blocks {
-        let back = restore_block_at(repair, &losses, bad, image, parity, writer, &mut kept)?;
+        let back = restore_block_at(
+            &mut last_path,
+            repair,
+            &losses,
+            bad,
+            image,
+            parity,
+            writer,
+            &mut kept,
+        )?;
         tree = is_in_tree(tree, back, bad);
         all = are_both(all, back);
     }
@@ -144,6 +154,7 @@ fn is_place(repair: &Repair, place: Place) -> bool
 
 // Restores a block that was found nowhere, if all hash blocks above it are valid and parity has it.
 fn restore_block_at<D: BlockDev, H: BlockDev, C: BlockDev, P: BlockDev, W: Write>(
+    last_path: &mut VerifiedPath,
     repair: &Repair,
     losses: &Losses,
     bad: &BadBlock,
@@ -152,9 +163,11 @@ fn restore_block_at<D: BlockDev, H: BlockDev, C: BlockDev, P: BlockDev, W: Write
     writer: &mut Counted<W>,
     kept: &mut bool,
 ) -> Result<bool, RepairFault>
+    requires tree { IsOfTree (job repair.now).tree last_path.old.path }
     requires asked { IsTrue repair.now.parity }
     requires can { CanRun (job repair.now) image.old }
     requires laid { IsLaidOn losses.now.layout image.old.data_dev image.old.hash_dev }
+    ensures tree { IsOfTree (job repair.now).tree last_path.new.path }
     ensures parity { IsOnlyRead (P.state parity.old) (P.state parity.new) }
     ensures run { Ran W.contents (job repair.now) image.old image.new writer.old writer.new result }
     ensures told { IfErr result (IsWriterCause writer.new) }
@@ -169,18 +182,15 @@ fn restore_block_at<D: BlockDev, H: BlockDev, C: BlockDev, P: BlockDev, W: Write
     if !is_place(repair, place) {
         return Ok(false);
     }
-    let found = way_to(repair, image, place.index, place.height)?;
-    match found {
-        None => Ok(false),
-        Some(path) => {
-            let missing = Missing {
-                path: &path,
-                repair,
-                place,
-            };
-            restore_missing(&missing, losses, image, parity, writer, kept)
-        }
+    if !last_path.reach(repair, image, place.index, place.height) {
+        return Ok(false);
     }
+    let missing = Missing {
+        path: &last_path.path,
+        repair,
+        place,
+    };
+    restore_missing(&missing, losses, image, parity, writer, kept)
 }
 
 // Restores a block to which valid hash blocks lead.

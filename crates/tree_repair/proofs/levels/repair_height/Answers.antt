@@ -1,4 +1,4 @@
-use Rattle.std.proofs.Common.{◌≡◌, ◌+◌, ◌-◌, ◌^◌, ◌∙◌, ℕ, sym, subst, ap, arith, min}
+use Rattle.std.proofs.Common.{◌≡◌, ◌+◌, ◌-◌, ◌^◌, ◌∙◌, ℕ, refl, sym, subst, ap, arith, min}
 use Rattle.std.proofs.Math.Nat.{zero-mod}
 use Rattle.tree_shape.specs.Shape.{per_block}
 use Rattle.tree_shape.proofs.lemmas.ShapeFaultLemmas.{blocks-le}
@@ -9,8 +9,8 @@ use Rattle.tree_repair.proofs.BillLemmas.{leaves-end, leaves-none, leaves-then}
 use Rattle.tree_repair.proofs.HeightLemmas.{rows-next}
 use Rattle.tree_repair.proofs.RowLemmas.{per_block-some, row-next}
 use Rattle.tree_repair.proofs.OnceLemmas.{parts-rows}
-use Rattle.tree_repair.proofs.PassLemmas.{noted-ends, noted-from, noted-none, noted-same, noted-then}
-use Rattle.tree_repair.proofs.RunLemmas.{can-later}
+use Rattle.tree_repair.proofs.PassLemmas.{noted-ends, noted-from, noted-none, noted-not, noted-same, noted-then}
+use Rattle.tree_repair.proofs.RunLemmas.{can-later, ends-read, memory-within, world-none}
 use Rattle.tree_repair.proofs.levels.repair_height.Goals as goal
 
 pub span-width-requires : goal.span-width-requires
@@ -19,8 +19,11 @@ span-width-requires g c = omega (arith, c.blocks-blocks.ensures.value, (blocks-l
 pub span-step-requires : goal.span-step-requires
 span-step-requires g c = omega (arith, c.blocks-blocks.ensures.value, (blocks-le c.args.repair.now.shape c.requires.can.valid).0)
 
+pub returns-in_err-last_path-clause-notes : goal.returns-in_err-last_path-clause-notes
+returns-in_err-last_path-clause-notes g c = noted-from c.from_residual.result c.from_residual.ensures.1 (noted-not (ends-read (world-none c.args.image.now) (memory-within 4096 (omega arith) c.in_err-last_path.ensures.err)) refl)
+
 pub rows-init : goal.rows-init
-rows-init g c = record { begins = λ some. zero-mod (per_block c.args.repair.now.shape ^ (c.args.height + 1)); inside = omega arith; asked = (let s = c.args.repair.now.shape in let all : s.blocks ≡ s.blocks - 0 = omega arith in subst (λ (n : ℕ). LeavesWorld (height_over s c.args.height s.blocks) (height_over s c.args.height n) c.args.image.now c.args.image.now) all (leaves-none (height_over s c.args.height s.blocks) c.args.image.now)); few = (let s = c.args.repair.now.shape in let all : s.blocks - 0 ≡ s.blocks = omega arith in omega (arith, ap (blocks_over s c.args.height) all)); run = noted-none (λ h i due. omega (arith, due.1.1)) }
+rows-init g c = record { tree = c.in_ok-last_path.ensures.ok; begins = λ some. zero-mod (per_block c.args.repair.now.shape ^ (c.args.height + 1)); inside = omega arith; asked = (let s = c.args.repair.now.shape in let all : s.blocks ≡ s.blocks - 0 = omega arith in subst (λ (n : ℕ). LeavesWorld (height_over s c.args.height s.blocks) (height_over s c.args.height n) c.args.image.now c.args.image.now) all (leaves-none (height_over s c.args.height s.blocks) c.args.image.now)); few = (let s = c.args.repair.now.shape in let all : s.blocks - 0 ≡ s.blocks = omega arith in omega (arith, ap (blocks_over s c.args.height) all)); run = noted-none (λ h i due. omega (arith, due.1.1)) }
 
 pub repair_row-requires-clause-can : goal.repair_row-requires-clause-can
 repair_row-requires-clause-can g c = can-later c.rows.invariant.run.run c.requires.can
@@ -48,6 +51,7 @@ repair_row-requires-clause-some g c = omega (arith, c.rows-test.true, c.blocks-b
 
 pub rows-preserved : goal.rows-preserved
 rows-preserved g c = record {
+  tree = c.repair_row.ensures.tree;
   begins = λ less. row-next (per_block c.args.repair.now.shape) c.args.height c.rows.first c.span-width.result c.blocks-blocks.result c.min-end.result
       (c.rows.invariant.begins (omega (arith, c.rows-test.true, c.blocks-blocks.ensures.value))) c.span-width.ensures c.min-end.ensures (omega (arith, less, c.blocks-blocks.ensures.value));
   inside = omega (arith, c.min-end.ensures, c.blocks-blocks.ensures.value);
@@ -73,11 +77,14 @@ rows-smaller g c =
     omega (arith, c.rows-test.true, c.blocks-blocks.ensures.value, c.span-width.ensures, c.min-end.ensures, high, c.requires.can.valid.some)
 
 pub returns-in_err-repair_row-clause-notes : goal.returns-in_err-repair_row-clause-notes
-returns-in_err-repair_row-clause-notes g c = noted-from c.from_residual.result c.from_residual.ensures.1 (noted-ends c.rows.invariant.run c.in_err-repair_row.ensures.notes)
+returns-in_err-repair_row-clause-notes g c = noted-from c.from_residual-in_err-repair_row.result c.from_residual-in_err-repair_row.ensures.1 (noted-ends c.rows.invariant.run c.in_err-repair_row.ensures.notes)
 
 pub returns-clause-notes : goal.returns-clause-notes
 returns-clause-notes g c = noted-same c.rows.invariant.run (λ h i due. (due.0, (due.1.0, omega (arith, due.1.1, c.rows-test.false, c.blocks-blocks.ensures.value))))
     (λ h i due. (due.0, (due.1.0, omega (arith, due.1.1, c.rows.invariant.inside))))
+
+pub returns-in_err-last_path-clause-asked : goal.returns-in_err-last_path-clause-asked
+returns-in_err-last_path-clause-asked g c = leaves-end (leaves-none (height_over c.args.repair.now.shape c.args.height c.args.repair.now.shape.blocks) c.args.image.now)
 
 pub returns-in_err-repair_row-clause-asked : goal.returns-in_err-repair_row-clause-asked
 returns-in_err-repair_row-clause-asked g c = leaves-end (leaves-then c.rows.invariant.asked c.repair_row.ensures.asked)

@@ -5,6 +5,7 @@ use Rattle.tree_repair.specs.Coverage.{IsFromTo}
 use Rattle.tree_repair.specs.Jobs.{job}
 use Rattle.tree_repair.specs.ParityBounds.{LeavesNoted, blocks_over}
 use Rattle.tree_repair.specs.Passes.{HasNoted}
+use Rattle.tree_repair.specs.Tries.{IsOfTree}
 use Rattle.tree_repair.proofs.levels.repair_height.Given as goal
 
 abbrev pub invariant-rows : goal.invariant-rows
@@ -13,6 +14,7 @@ invariant-rows g l = record {
   inside : l.first ≤ l.fn.repair.shape.blocks;
   asked : LeavesWorld (height_over l.fn.repair.shape l.fn.height l.fn.repair.shape.blocks) (height_over l.fn.repair.shape l.fn.height (l.fn.repair.shape.blocks - l.first)) l.fn.image l.image;
   few : LeavesNoted (blocks_over l.fn.repair.shape l.fn.height l.fn.repair.shape.blocks) (blocks_over l.fn.repair.shape l.fn.height (l.fn.repair.shape.blocks - l.first)) l.fn.bad l.bad;
+  tree : IsOfTree (job l.fn.repair).tree l.last_path.path;
   run : HasNoted (job l.fn.repair) (IsFromTo l.fn.height 0 l.first) l.fn.image l.image (g.W.Write.contents l.fn.writer.inner) (g.W.Write.contents l.writer.inner) l.fn.bad l.bad None;
 }
 

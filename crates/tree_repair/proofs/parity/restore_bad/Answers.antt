@@ -9,7 +9,7 @@ use Rattle.fec_area.specs.declared.layout.Layout.{Layout}
 use Rattle.tree_repair.proofs.BackLemmas.{back-next, back-none}
 use Rattle.tree_repair.proofs.LosingLemmas.{all-sought-alike, alike-permuted}
 use Rattle.tree_repair.proofs.TryLemmas.{sought-next}
-use Rattle.tree_repair.proofs.RunLemmas.{can-later, ended-from, ends-read, has-none, has-then, laid-later, refused-within, world-none}
+use Rattle.tree_repair.proofs.RunLemmas.{can-later, ended-from, ends-read, has-none, has-then, laid-later, memory-within, refused-within, world-none}
 use Rattle.tree_repair.specs.ParityBounds.{IsAskedWithin, parity_bill, sought_among}
 use Rattle.tree_repair.proofs.ParityBillLemmas.{asked-none}
 use Rattle.tree_repair.proofs.ParityPassLemmas.{tells-came, tells-none, tells-then, work-last, work-next}
@@ -21,8 +21,14 @@ returns-in_err-lost-clause-parity g c = only_read-none (g.P.BlockDev.state c.arg
 pub returns-in_err-lost-clause-run : goal.returns-in_err-lost-clause-run
 returns-in_err-lost-clause-run g c = ended-from c.from_residual.result c.from_residual.ensures.1 (ends-read (world-none c.args.image.now) (refused-within 1 (omega arith) c.in_err-lost.ensures.err.1))
 
+pub returns-in_err-last_path-clause-parity : goal.returns-in_err-last_path-clause-parity
+returns-in_err-last_path-clause-parity g c = only_read-none (g.P.BlockDev.state c.args.parity.now)
+
+pub returns-in_err-last_path-clause-run : goal.returns-in_err-last_path-clause-run
+returns-in_err-last_path-clause-run g c = ended-from c.from_residual-in_err-last_path.result c.from_residual-in_err-last_path.ensures.1 (ends-read (world-none c.args.image.now) (memory-within 4096 (omega arith) c.in_err-last_path.ensures.err))
+
 pub each-init : goal.each-init
-each-init g c = record { back = λ yes. back-none (job c.args.repair.now) c.args.image.now; came = tells-none 1 has-none; within = asked-none _ c.args.image.now (g.P.BlockDev.state c.args.parity.now); sought = (refl, (refl, refl)); parity = only_read-none (g.P.BlockDev.state c.args.parity.now); run = has-none }
+each-init g c = record { tree = c.in_ok-last_path.ensures.ok; back = λ yes. back-none (job c.args.repair.now) c.args.image.now; came = tells-none 1 has-none; within = asked-none _ c.args.image.now (g.P.BlockDev.state c.args.parity.now); sought = (refl, (refl, refl)); parity = only_read-none (g.P.BlockDev.state c.args.parity.now); run = has-none }
 
 pub restore_block_at-requires-clause-can : goal.restore_block_at-requires-clause-can
 restore_block_at-requires-clause-can g c = can-later c.each.invariant.run c.requires.can
@@ -43,6 +49,7 @@ each-preserved g c = record {
   within = work-next c.args.repair.now.shape c.of-losses.result.layout c.args.blocks.now c.each.bad-index _ c.each-test.true c.each.invariant.within c.restore_block_at.ensures.within;
   parity = only_read-then c.each.invariant.parity c.restore_block_at.ensures.parity;
   run = has-then c.each.invariant.run c.in_ok-back.ensures.run;
+  tree = c.restore_block_at.ensures.tree;
 }
 
 pub returns-in_err-back-clause-parity : goal.returns-in_err-back-clause-parity
@@ -79,6 +86,9 @@ returns-clause-back g c = λ both. let yes = (and_parts c.each.all c.each.kept (
 pub returns-in_err-lost-clause-within : goal.returns-in_err-lost-clause-within
 returns-in_err-lost-clause-within g c = asked-none (parity_bill c.args.repair.now.shape c.args.layout.now 0 0 (sought_among c.args.blocks.now)) c.args.image.now (g.P.BlockDev.state c.args.parity.now)
 
+pub returns-in_err-last_path-clause-within : goal.returns-in_err-last_path-clause-within
+returns-in_err-last_path-clause-within g c = asked-none (parity_bill c.args.repair.now.shape c.args.layout.now 0 0 (sought_among c.args.blocks.now)) c.args.image.now (g.P.BlockDev.state c.args.parity.now)
+
 pub returns-in_err-back-clause-within : goal.returns-in_err-back-clause-within
 returns-in_err-back-clause-within g c =
     subst (λ (x : Layout). IsAskedWithin (parity_bill c.args.repair.now.shape x 0 0 (sought_among c.args.blocks.now)) c.args.image.now c.restore_block_at.new.image (g.P.BlockDev.state c.args.parity.now) (g.P.BlockDev.state c.restore_block_at.new.parity))
@@ -94,6 +104,9 @@ returns-clause-within g c =
 
 pub returns-in_err-lost-clause-came : goal.returns-in_err-lost-clause-came
 returns-in_err-lost-clause-came g c = tells-came c.from_residual.result c.from_residual.ensures.1 (ends-read (world-none c.args.image.now) (refused-within 1 (omega arith) c.in_err-lost.ensures.err.1))
+
+pub returns-in_err-last_path-clause-came : goal.returns-in_err-last_path-clause-came
+returns-in_err-last_path-clause-came g c = tells-came c.from_residual-in_err-last_path.result c.from_residual-in_err-last_path.ensures.1 (ends-read (world-none c.args.image.now) (memory-within 4096 (omega arith) c.in_err-last_path.ensures.err))
 
 pub returns-in_err-back-clause-came : goal.returns-in_err-back-clause-came
 returns-in_err-back-clause-came g c = tells-came c.from_residual-in_err-back.result c.from_residual-in_err-back.ensures.1 (has-then c.each.invariant.run c.in_err-back.ensures.run)

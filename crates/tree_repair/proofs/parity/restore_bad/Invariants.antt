@@ -4,7 +4,7 @@ use Rattle.tree_repair.specs.Jobs.{job}
 use Rattle.tree_repair.specs.ParityBounds.{IsAskedWithin, TellsOfHash, parity_bill, sought_among}
 use Rattle.tree_repair.specs.Passes.{AreBack}
 use Rattle.tree_repair.specs.Runs.{HasRun}
-use Rattle.tree_repair.specs.Tries.{AreSought}
+use Rattle.tree_repair.specs.Tries.{AreSought, IsOfTree}
 use Rattle.tree_repair.proofs.parity.restore_bad.Given as goal
 
 -- the blocks so far
@@ -15,5 +15,6 @@ invariant-each g l = record {
   within : IsAskedWithin (parity_bill l.fn.repair.shape l.losses.layout 0 0 (sought_among (take l.bad-index l.blocks))) l.fn.image l.image (g.P.BlockDev.state l.fn.parity) (g.P.BlockDev.state l.parity);
   came : TellsOfHash (job l.fn.repair) 1 l.fn.image l.image (g.W.Write.contents l.fn.writer.inner) (g.W.Write.contents l.writer.inner) None l.tree;
   back : IsTrue l.all → AreBack (job l.fn.repair) (take l.bad-index l.blocks) l.fn.image l.image;
+  tree : IsOfTree (job l.fn.repair).tree l.last_path.path;
   run : HasRun (job l.fn.repair) l.fn.image l.image (g.W.Write.contents l.fn.writer.inner) (g.W.Write.contents l.writer.inner) None;
 }

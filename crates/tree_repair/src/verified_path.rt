@@ -1,0 +1,127 @@
+//! The hash blocks on the path to the last block, kept for the next one.
+ghost use Rattle.std.specs.Prelude.{◌<◌};
+ghost use Rattle.tree_path.specs.Path.{LeadsTo};
+
+use crate::image::DamagedImage;
+use crate::place::Repair;
+use allocation::OutOfMemory;
+use block_device::BlockDev;
+use tree_path::TreePath;
+use tree_shape::Shape;
+
+/// The hash blocks on the path to a data block, from the root down to a height, each with the digest that its parent has for it.
+/// They are those of the tree, whatever the hash device holds by now.
+#[derive(Drop)]
+pub(crate) struct VerifiedPath {
+    pub(crate) path: TreePath,
+    index: u64,
+    height: u32,
+    ghost inside: { index < path.shape.blocks },
+    ghost leads: { LeadsTo path index height },
+}
+
+impl VerifiedPath {
+    ghost use Rattle.std.specs.Prelude.{◌≡◌, ◌≤◌, IfOk, OnErr};
+    ghost use Rattle.allocation.specs.Refusal.{IsOutOfMemory};
+    ghost use Rattle.tree_path.specs.Path.{largest_block};
+    ghost use Rattle.tree_path.specs.Steps.{HasReadAtMost};
+    ghost use Rattle.tree_shape.specs.Shape.{IsShape, levels};
+    ghost use Rattle.verity_format.specs.Blocks.{IsOnlyRead};
+    ghost use Rattle.verity_format.specs.Image.{tree_sectors};
+    ghost use Rattle.tree_repair.specs.Bills.{LeavesWorld, nothing_due, reading, way_sectors};
+    ghost use Rattle.tree_repair.specs.Jobs.{job};
+    ghost use Rattle.tree_repair.specs.Parity.{IsPlace};
+    ghost use Rattle.tree_repair.specs.Tries.{IsOfTree, IsWayOr, path_found};
+    ghost use Rattle.tree_repair.specs.Worlds.{IsWorldRead};
+
+    /// The path of which nothing was read yet.
+    pub(crate) fn new(repair: &Repair) -> Result<VerifiedPath, OutOfMemory>
+        requires { IsShape repair.now.shape }
+        ensures ok { IfOk result (λ v. IsOfTree (job repair.now).tree v.path) }
+        ensures err { OnErr result (IsOutOfMemory largest_block) }
+    {
+        let path = TreePath::new(repair.alloc, repair.shape, repair.salt, repair.root)?;
+        let height = path.levels();
+        Ok(VerifiedPath {
+            path,
+            index: 0,
+            height,
+        })
+    }
+
+    /// Goes on to the path to another data block, down to a height: reads the hash blocks that it doesn't share with the last
+    /// one. Returns whether all are valid.
+    pub(crate) fn reach<D: BlockDev, H: BlockDev, C: BlockDev>(
+        &mut self,
+        repair: &Repair,
+        image: &mut DamagedImage<D, H, C>,
+        index: u64,
+        height: u32,
+    ) -> bool
+        requires tree { IsOfTree (job repair.now).tree self.old.path }
+        requires place { IsPlace repair.now.shape height index }
+        requires fits { tree_sectors repair.now.shape ≤ image.old.hash_dev.size }
+        ensures tree { IsOfTree (job repair.now).tree self.new.path }
+        ensures read { IsWorldRead image.old image.new }
+        ensures way { IsWayOr (job repair.now).tree index height image.old.hash_dev image.new.hash_dev (path_found result self.new.path) }
+        ensures asked { LeavesWorld (reading 0 (way_sectors repair.now.shape height)) nothing_due image.old image.new }
+    {
+        self.reach_on(repair, &mut image.hash, index, height)
+    }
+
+    // So on a hash device.
+    fn reach_on<H: BlockDev>(
+        &mut self,
+        repair: &Repair,
+        device: &mut H,
+        index: u64,
+        height: u32,
+    ) -> bool
+        requires tree { IsOfTree (job repair.now).tree self.old.path }
+        requires place { IsPlace repair.now.shape height index }
+        requires fits { tree_sectors repair.now.shape ≤ (H.state device.old).size }
+        ensures tree { IsOfTree (job repair.now).tree self.new.path }
+        ensures read { IsOnlyRead (H.state device.old) (H.state device.new) }
+        ensures way { IsWayOr (job repair.now).tree index height (H.state device.old) (H.state device.new) (path_found result self.new.path) }
+        ensures asked { HasReadAtMost (H.state device.old) (way_sectors repair.now.shape height) (H.state device.new) }
+        ensures counted { (H.state device.old).failures ≤ (H.state device.new).failures }
+    {
+        let from = self.shared_level(&repair.shape, index).max(height);
+        match self.path.descend(device, index, from, height) {
+            Ok(None) => {
+                self.index = index;
+                self.height = height;
+                true
+            }
+            Ok(Some(level)) => {
+                self.index = index;
+                self.height = level + 1;
+                false
+            }
+            Err(_) => {
+                self.index = index;
+                self.height = from;
+                false
+            }
+        }
+    }
+
+    // The level from which up the path to a data block has these hash blocks.
+    fn shared_level(&self, shape: &Shape, index: u64) -> u32
+        requires shape { self.now.path.shape ≡ shape.now }
+        requires valid { IsShape shape.now }
+        requires inside { index < shape.now.blocks }
+        ensures few { result ≤ levels shape.now }
+        ensures leads { LeadsTo self.now.path index result }
+    {
+        let levels = shape.levels();
+        let mut level = self.height;
+        'levels: while level < levels {
+            if shape.block_on_path(level, index) == shape.block_on_path(level, self.index) {
+                return level;
+            }
+            level += 1;
+        }
+        levels
+    }
+}
