@@ -116,11 +116,24 @@ class Cases(Sessions):
                 content[self.random.randrange(len(content))] ^= 1 << self.random.randrange(8)
             self.files[name] = bytes(content)
 
+    def with_a_line_more(self, text):
+        """The text with another line, or the same one again, after each `verity` line."""
+        entries = text.split(b";")
+        for at, entry in enumerate(entries):
+            line = entry.split(b",")[-1]
+            _, length, target, *rest = line.split(b" ") + [b""]
+            if target == b"verity":
+                more = b"8 zero" if self.chance(0.5) else b" ".join([length, target, *rest]).strip()
+                entries[at] += b",%s %s" % (length, more)
+        return b";".join(entries)
+
     def drawn_text(self, words):
         """A text of one part, or of devices and of others over them."""
         texts = []
         if self.chance(0.5):
             texts.append(self.verity_entries(words))
+            if texts[0] and self.chance(0.1):
+                texts[0] = self.with_a_line_more(texts[0])
             if self.chance(0.6):
                 self.damage_data()
         elif self.chance(0.3):

@@ -6,8 +6,10 @@ import shutil
 import subprocess
 
 GUEST = os.path.join(os.path.dirname(os.path.realpath(__file__)), "kernel_guest.c")
-# What a kernel may have as modules; those that are built in aren't in modules.dep.
-MODULES = ("virtio_pci", "virtio_blk", "dm-mod", "dm-zero", "dm-unstripe", "dm-crypt", "dm-verity", "xts", "ecb", "aes_generic", "sha256_generic")
+# What the machine needs of its kernel, and what a kernel may have under other names, or in itself.
+NEEDED = ("virtio_pci", "virtio_blk", "dm-mod", "dm-zero", "dm-unstripe", "dm-crypt", "dm-verity")
+WANTED = ("xts", "ecb", "aes_generic", "sha256_generic")
+# For all cases together, on a machine that does other work too.
 SECONDS = 900
 
 
@@ -30,20 +32,28 @@ def newest_kernel():
     return found[-1]
 
 
+def modules_in(path):
+    """The modules of such a list by their names: for each its file, and in modules.dep the files that it needs."""
+    found = {}
+    for line in open(path):
+        file, _, lower = line.strip().partition(":")
+        found[os.path.basename(file).partition(".")[0].replace("_", "-")] = [file, *reversed(lower.split())]
+    return found
+
+
 def module_files(kernel):
-    """The files of MODULES and of what they depend on, each after those that it needs."""
+    """The files of the modules that the machine loads, each after those that it needs."""
     folder = os.path.join("/lib/modules", os.path.basename(kernel).partition("-")[2])
-    needs = {}
     try:
-        for line in open(os.path.join(folder, "modules.dep")):
-            path, _, lower = line.partition(":")
-            needs[os.path.basename(path).partition(".")[0].replace("_", "-")] = [path, *reversed(lower.split())]
+        loaded, built_in = (modules_in(os.path.join(folder, it)) for it in ("modules.dep", "modules.builtin"))
     except FileNotFoundError:
         raise Missing(f"the kernel's modules aren't in {folder}") from None
     found = []
-    for name in MODULES:
-        path, *lower = needs.get(name.replace("_", "-"), [None])
-        found += [it for it in [*lower, path] if it and it not in found]
+    for name in (it.replace("_", "-") for it in NEEDED + WANTED):
+        file, *lower = loaded.get(name, [None])
+        if not file and name not in built_in and name in [it.replace("_", "-") for it in NEEDED]:
+            raise Missing(f"the kernel has no {name}")
+        found += [it for it in [*lower, file] if it and it not in found]
     if any(not it.endswith(".ko") for it in found):
         raise Missing("the kernel's modules are compressed")
     return [os.path.join(folder, it) for it in found]
@@ -60,9 +70,12 @@ def archive(files):
 
 
 def needed(kernel=None):
-    """The kernel, its modules and what the machine is made by, or what is missing of it."""
-    if not shutil.which("qemu-system-x86_64"):
-        raise Missing("qemu-system-x86_64 isn't installed")
+    """The kernel and the files of its modules, if all that the machine needs is here."""
+    if os.uname().machine != "x86_64":
+        raise Missing("the virtual machine is one of x86-64")
+    for it in ("qemu-system-x86_64", "cc"):
+        if not shutil.which(it):
+            raise Missing(f"{it} isn't installed")
     kernel = kernel or newest_kernel()
     return kernel, module_files(kernel)
 

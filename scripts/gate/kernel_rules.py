@@ -10,6 +10,7 @@ from tables import ZERO_BLOCKS, Crypt, Error, Linear, Striped, Unstriped, Verity
 # Faults of a text that Linux needn't have: it has other targets, ciphers, key lengths, digests, hash types and options, and more
 # stripes. It takes the number of stripes for the number of the last one.
 MORE_IN_LINUX = {"Target", "Cipher", "Key", "Algorithm", "Version", "Option", "StripeCount", "StripeNumber"}
+LONGEST_SALT = 512
 # Refusals that Linux hasn't: limits of dmstack; and Linux opens a read-only device beneath a writable one.
 ONLY_HERE = {"TooMany", "TooDeep", "CostTooLarge", "LowerReadOnly"}
 
@@ -82,11 +83,18 @@ class Linux:
         """A table has a `verity` line and a line of another kind."""
         return len({isinstance(line.target, Verity) for line in device.lines}) > 1
 
+    def may_refuse(self, device):
+        """Whether a table, or one beneath it, has several `verity` lines, which newer kernels refuse."""
+        if isinstance(device, Leaf):
+            return False
+        is_own = len(device.lines) > 1 and any(isinstance(line.target, Verity) for line in device.lines)
+        return is_own or any(map(self.may_refuse, self.configuration.lowers(device)))
+
     def differs(self, device):
         """Whether Linux reads or writes other sectors than dmstack, or none, of a device that both accept, or of one beneath it."""
         if isinstance(device, Leaf):
             return False
-        own = (self.cuts_units_otherwise, self.splits_stripes, self.has_several_trees)
+        own = (self.cuts_units_otherwise, self.splits_stripes)
         return any(rule(device) for rule in own) or any(map(self.differs, self.configuration.lowers(device)))
 
     def cuts_units_otherwise(self, device):
@@ -96,10 +104,6 @@ class Linux:
     def splits_stripes(self, device):
         """A chunk isn't whole logical blocks of the device beneath: Linux splits requests at chunks, and such parts fail there."""
         return any(line.target.chunk % self.lower_block(line) for line in device.lines if isinstance(line.target, (Striped, Unstriped)))
-
-    def has_several_trees(self, device):
-        """A table has several `verity` lines: newer kernels refuse it, and older ones read whole blocks of the first line's size."""
-        return len(device.lines) > 1 and any(isinstance(line.target, Verity) for line in device.lines)
 
     def reads_ignored_blocks(self, device):
         """Linux reads the data of a `verity` line also where `ignore_zero_blocks` then returns zeros, so a failed read of it fails;
@@ -116,19 +120,21 @@ class Linux:
 
     def may_accept(self, refused):
         """Whether Linux may accept a configuration that dmstack refuses so."""
-        if refused.kind in ("LineBeyondTree", "BeyondDevice"):
+        if refused.kind == "BeyondDevice":
             _, device, _, line = refused.place.split()
-            lines = [*self.configuration.devices.values()][int(device) - 1].lines
-            return self.ends_unread(refused.kind, lines[int(line) - 1])
+            return self.ends_unread([*self.configuration.devices.values()][int(device) - 1].lines[int(line) - 1])
         return refused.kind in ONLY_HERE
 
-    def ends_unread(self, kind, line):
+    def ends_unread(self, line):
         """Linux looks at fewer sectors of the device beneath: of a `verity` line at as many as the line has, and not at all data
         blocks; of an `unstriped` line at as many from its offset on, and not at those between its chunks. What is past the end fails
         when it is read."""
-        if kind == "LineBeyondTree":
-            return True
         return isinstance(line.target, (Verity, Unstriped)) and sum(self.places(line)) <= self.lowers(line)[0].sectors
+
+
+def may_read(fault, text):
+    """Whether Linux may read a text that has this fault here. A salt may be longer there."""
+    return fault.kind in MORE_IN_LINUX or fault.kind == "Salt" and max(map(len, text.split(b" "))) > LONGEST_SALT
 
 
 def touches_error(stack, device, first, count):

@@ -2,14 +2,14 @@
 """Compares random stacks with Linux's own device mapper, in a virtual machine that boots once.
 
 kernel_stacks.py [--cases N] [--seed S] [--only K] [--kernel FILE] [PROGRAM]: draws stacks of the model's (all targets, several lines
-and levels, trees with changed blocks, texts with a rule broken or a word changed), with writes through them, and
-last an image that PROGRAM formats, by the line that its `table` prints. In the machine the same
-tables are made of the kernel in /boot, the same writes made, and each device is read. PROGRAM must load what Linux loads and refuse
-what Linux refuses; what it reads by the tables that Linux prints must be the same in every sector, and fail in the same logical
-blocks; and after the writes the backing devices must be equal. kernel_rules.py says where Linux differs: there is looked that it
-refuses, and else nothing is compared. Case K of seed S alone is run by `--seed S --only K`. Tried with Linux 6.1.
+and levels, trees over changed blocks, texts with a rule broken or a word changed) and writes through them, and takes as the last one
+an image that PROGRAM formats, by the line that its `table` prints. The machine has the newest kernel of /boot. It makes the same
+tables, writes the same bytes and reads each device. PROGRAM must load what Linux loads and refuse what Linux refuses. What PROGRAM
+reads by the tables that Linux prints must be the same in every sector, and fail in the same logical blocks; and after the writes the
+backing devices must be equal. kernel_rules.py has the tables that only one of both accepts, and those that aren't compared since
+Linux reads them otherwise. `--seed S --only K` runs case K of seed S alone. Tried with Linux 6.1.
 
-If qemu-system-x86_64, a kernel or its modules are missing, that is printed, and the status is 0.
+If QEMU, a kernel or its modules are missing, that is printed, and the status is 0 (Debian: qemu-system-x86, linux-image-amd64).
 """
 import argparse
 import os
@@ -25,61 +25,12 @@ TOP = os.path.join(HERE, "../..")
 sys.path[1:1] = [os.path.join(HERE, "../model"), os.path.join(HERE, "../lib")]
 
 from checks import Checks  # noqa: E402
+from kernel_answers import Answers, Seen  # noqa: E402
 from kernel_cases import Case, drawn_case, formatted_case  # noqa: E402
 from kernel_machine import Broken, Missing, needed, run_machine  # noqa: E402
-from kernel_rules import MORE_IN_LINUX  # noqa: E402
+from kernel_rules import may_read  # noqa: E402
 from stack import SECTOR  # noqa: E402
 from tables import TextFault  # noqa: E402
-
-
-class Answers:
-    """What the machine answered, read in its order."""
-
-    def __init__(self, content):
-        self.content, self.at = content, 0
-
-    def line(self):
-        end = self.content.index(b"\n", self.at)
-        line, self.at = self.content[self.at:end], end + 1
-        return line.split(b" ", 1)
-
-    def device(self):
-        """The size, the logical block and the table of a device that was made, or None."""
-        verdict, rest = self.line()
-        if verdict == b"refused":
-            return None
-        size, block, count = map(int, rest.split())
-        return size, block, [b" ".join(self.line()) for _ in range(count)]
-
-    def sectors(self):
-        """The sectors of a device by their numbers, None for each of a block that failed."""
-        found = []
-        while True:
-            verdict, *rest = self.line()
-            if verdict == b"end":
-                return found
-            count = int(rest[0])
-            if verdict == b"failed":
-                found += [None] * count
-            else:
-                found += [self.content[at:at + SECTOR] for at in range(self.at, self.at + count * SECTOR, SECTOR)]
-                self.at += count * SECTOR
-
-
-class Seen:
-    """What Linux did with a case."""
-
-    def __init__(self, case, answers):
-        leaves = [answers.device() for _ in case.leaves]
-        assert all(leaves), "a leaf wasn't made"
-        made = [(name, answers.device()) for name, _, _ in case.entries()]
-        self.made = {name: it for name, it in made if it}
-        self.is_loaded = all(it for _, it in made)
-        self.writes, self.sectors = [], {}
-        if case.fault is None:
-            self.writes = [answers.line()[0] == b"written" for _ in case.writes]
-            self.sectors = {name: answers.sectors() for name in case.linux.configuration.devices}
-        assert answers.line() == [b"removed"], "the answers aren't those of the commands"
 
 
 def named(line, names):
@@ -114,7 +65,7 @@ class Program:
 class Comparison:
     def __init__(self, words):
         self.words, self.checks = words, Checks()
-        self.tables = self.sectors = self.failed = self.refused = self.skipped = 0
+        self.tables = self.alone = self.sectors = self.failed = self.refused = self.skipped = 0
 
     def unlike(self, case, what):
         """Prints a difference with what it takes to repeat it."""
@@ -127,11 +78,8 @@ class Comparison:
 
     def case(self, case, seen):
         """Compares a case; what differs, or None."""
-        if not case.is_compared():
-            self.skipped += 1
-            return None
-        lines = [b"load " + case.text] + [b"write %s %d %d %02x" % it[:4] for it in case.writes] if not case.fault else [b"load " + case.text]
-        compared = self.compared(case, seen)
+        compared = [] if case.fault else self.compared(case.linux, seen)
+        lines = [b"load " + case.text] + [b"write %s %d %d %02x" % it[:4] for it in case.writes]
         lines.append(b"load " + self.printed(case, seen, compared))
         for name in compared:
             block = seen.made[name][1]
@@ -142,13 +90,10 @@ class Comparison:
             return f"the program says {loaded.decode()}, and the model {case.fault or 'loads it'}"
         if case.fault:
             return self.refusal(case, seen, loaded)
-        return self.verdicts(case, seen) or self.written(case, seen, program) or self.read(case, seen, program, compared)
+        return self.verdicts(case.linux, seen) or self.written(case, seen, program) or self.read(case, seen, program, compared)
 
-    def compared(self, case, seen):
+    def compared(self, linux, seen):
         """The devices whose sectors must be equal."""
-        if case.fault:
-            return []
-        linux = case.linux
         return [name for name, it in linux.configuration.devices.items() if name in seen.made and not linux.differs(it) and not linux.refuses(it)]
 
     def printed(self, case, seen, compared):
@@ -158,32 +103,26 @@ class Comparison:
         return b";".join(b"%s,,,%s,%s" % (it, flags[it], b",".join(named(line, names) for line in seen.made[it][2])) for it in compared)
 
     def refusal(self, case, seen, loaded):
-        if isinstance(case.fault, TextFault):
-            may_accept = case.fault.kind in MORE_IN_LINUX
-        else:
-            may_accept = case.linux.may_accept(case.fault)
+        may_accept = may_read(case.fault, case.text) if isinstance(case.fault, TextFault) else case.linux.may_accept(case.fault)
         if seen.is_loaded and not may_accept:
             return f"Linux loads it, and the program says {loaded.decode()}"
         self.refused += not seen.is_loaded
         self.skipped += seen.is_loaded
         return None
 
-    def verdicts(self, case, seen):
-        """Linux refuses the devices that the rules say, and the others have the same size and logical block."""
-        linux = case.linux
+    def verdicts(self, linux, seen):
+        """Linux refuses the tables that the rules say, and the devices of others have the same size and logical block."""
         for name, device in linux.configuration.devices.items():
+            made, refuses = seen.made.get(name), linux.refuses(device)
             self.tables += 1
-            made = seen.made.get(name)
-            if linux.refuses(device):
-                self.skipped += 1
-                if made and not linux.has_several_trees(device):
-                    return f"Linux loads {name.decode()}, and should refuse it"
-            elif made is None and not linux.differs(device):
+            if made and refuses:
+                return f"Linux loads {name.decode()}, and should refuse it"
+            if made is None and not refuses and not linux.may_refuse(device):
                 return f"Linux refuses {name.decode()}"
-            elif made and made[:2] != (device.sectors, linux.block(device)):
+            if made and made[:2] != (device.sectors, linux.block(device)):
                 return f"{name.decode()} has {made[0]} sectors in blocks of {made[1]}"
-            elif linux.differs(device):
-                self.skipped += 1
+            self.alone += made is None
+            self.skipped += made is not None and linux.differs(device)
         return None
 
     def written(self, case, seen, program):
@@ -229,6 +168,12 @@ class Comparison:
         return None
 
 
+    def end(self, version, count):
+        used = sum(sum(resource.getrusage(it)[:2]) for it in (resource.RUSAGE_SELF, resource.RUSAGE_CHILDREN))
+        print(f"Linux {version}: {count} stacks of seed {self.words.seed}, {self.refused} of them refused alike; {self.tables} tables in the others, {self.alone} "
+              f"refused by Linux alone, by its rules; {self.sectors} sectors compared, {self.failed} fail alike; {self.skipped} stacks or tables not compared ({used:.0f} s of CPU)")
+
+
 def put_leaves(cases):
     """Puts all leaves on the first disk, one after the other."""
     at = 0
@@ -244,25 +189,23 @@ def put_leaves(cases):
 def compare(words):
     kernel, modules = needed(words.kernel)
     cases = [drawn_case(words.seed, number) for number in (range(words.cases) if words.only is None else [words.only])]
-    cases += [formatted_case(words.program, words.cases)] if words.only in (None, words.cases) else []
+    cases = [it for it in cases if it.is_compared()] + [formatted_case(words.program, words.cases)]
     put_leaves(cases)
-    commands = b"".join(case.commands() for case in cases if case.is_compared()) + b"end\n"
+    commands = b"".join(map(Case.commands, cases)) + b"end\n"
     answers = Answers(run_machine(kernel, modules, "first", commands, sum(map(Case.most_of_answers, cases)) + 4 * len(commands)))
     comparison = Comparison(words)
     for case in cases:
-        what = comparison.case(case, Seen(case, answers) if case.is_compared() else None)
+        what = comparison.case(case, Seen(case, answers))
         if what:
             comparison.unlike(case, what)
-    used = sum(sum(resource.getrusage(it)[:2]) for it in (resource.RUSAGE_SELF, resource.RUSAGE_CHILDREN))
-    print(f"Linux {os.path.basename(kernel).partition('-')[2]}: {len(cases)} stacks of seed {words.seed}, {comparison.tables} tables and {comparison.sectors} sectors "
-          f"compared, {comparison.failed} of these fail alike, {comparison.refused} stacks refused alike, {comparison.skipped} not compared ({used:.0f} s of CPU)")
+    comparison.end(os.path.basename(kernel).partition("-")[2], len(cases))
     return 1 if comparison.checks.failed or not comparison.sectors else 0
 
 
 def main():
     parser = argparse.ArgumentParser(description=__doc__, formatter_class=argparse.RawDescriptionHelpFormatter)
     parser.add_argument("program", nargs="?", default=os.path.join(TOP, "crates/dmstack/out/dmstack"))
-    parser.add_argument("--cases", type=int, default=600)
+    parser.add_argument("--cases", type=int, default=400)
     parser.add_argument("--seed", type=int, default=1)
     parser.add_argument("--only", type=int)
     parser.add_argument("--kernel")
