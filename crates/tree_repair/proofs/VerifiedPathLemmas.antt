@@ -31,22 +31,22 @@ leads-shared p i j k valid same leads = leads-along p i j k (λ m high. ancestor
 
 -- ---- what was read from a level down
 
-module _ (t : Tree) (p q : PathRecord) (d d' : Device) (i from : ℕ) (of_tree : IsOfTree t p) (leads : LeadsTo p i from) where
-  pub tree-down : (good level : ℕ) → IsDown (steps p q d d' i from) good level → IsOfTree t q
-  tree-down good level down = record {
+module _ {p q : PathRecord} {d d' : Device} {i from : ℕ} (t : Tree) (of_tree : IsOfTree t p) (leads : LeadsTo p i from) where
+  pub tree-down : {good level : ℕ} → IsDown (steps p q d d' i from) good level → IsOfTree t q
+  tree-down down = record {
     shape_is = down.same.shape_is ∙ of_tree.shape_is;
     salt_is = down.same.salt_is ∙ of_tree.salt_is;
     root_is = down.same.root_is ∙ of_tree.root_is;
   }
 
-  pub way-down : (good level : ℕ) → good ≤ levels t.shape → IsDown (steps p q d d' i from) good level → IsWay t i good q
-  way-down good level few down = record { is = tree-down good level down; few = few; leads = leads-down p q d d' i from good level down leads }
+  pub way-down : {good level : ℕ} → good ≤ levels t.shape → IsDown (steps p q d d' i from) good level → IsWay t i good q
+  way-down {good} {level} few down = record { is = tree-down down; few = few; leads = leads-down p q d d' i from good level down leads }
 
   -- not down to its end
-  pub cut-off : (h level : ℕ) → from ≤ levels t.shape → IsStopped (steps p q d d' i from) h level → IsCutOff t i h d
-  cut-off h level few stopped =
+  pub cut-off : {h level : ℕ} → from ≤ levels t.shape → IsStopped (steps p q d d' i from) h level → IsCutOff t i h d
+  cut-off {h} {level} few stopped =
       let down = stopped.down in
-      let way : IsWay t i (level + 1) q = way-down (level + 1) level (omega (arith, stopped.between.1, few)) down in
+      let way : IsWay t i (level + 1) q = way-down (omega (arith, stopped.between.1, few)) down in
       record {
         l = level;
         above = stopped.between.0;
@@ -73,8 +73,8 @@ module _ (t : Tree) (p q : PathRecord) (d d' : Device) (i from : ℕ) (of_tree :
         ∙ sym (digest_on-same q p i (l + 1) above.same.shape_is above.same.root_is (above.kept (l + 1) (omega (arith, le))));
   }
 
-  -- no more was read than the whole path has
-  pub way-within : (h : ℕ) → from ≤ levels t.shape → HasReadAtMost d ((from - h) * (p.shape.hash_block / 512)) d' → HasReadAtMost d (way_sectors t.shape h) d'
-  way-within h few asked =
-      let here : HasReadAtMost d ((from - h) * (t.shape.hash_block / 512)) d' = subst (λ (s : ShapeRecord). HasReadAtMost d ((from - h) * (s.hash_block / 512)) d') of_tree.shape_is asked in
-      at_most-fewer d d' (t.shape.hash_block / 512) (from - h) (levels t.shape - h) (omega (arith, few)) here
+-- no more is read than the whole path has
+pub way-within : (t : Tree) {p : PathRecord} (d d' : Device) (from h : ℕ) → IsOfTree t p → from ≤ levels t.shape → HasReadAtMost d ((from - h) * (p.shape.hash_block / 512)) d' → HasReadAtMost d (way_sectors t.shape h) d'
+way-within t {p} d d' from h of_tree few asked =
+    let here : HasReadAtMost d ((from - h) * (t.shape.hash_block / 512)) d' = subst (λ (s : ShapeRecord). HasReadAtMost d ((from - h) * (s.hash_block / 512)) d') of_tree.shape_is asked in
+    at_most-fewer d d' (t.shape.hash_block / 512) (from - h) (levels t.shape - h) (omega (arith, few)) here

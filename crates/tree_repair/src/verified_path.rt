@@ -86,7 +86,7 @@ impl VerifiedPath {
         ensures asked { HasReadAtMost (H.state device.old) (way_sectors repair.now.shape height) (H.state device.new) }
         ensures counted { (H.state device.old).failures ≤ (H.state device.new).failures }
     {
-        let from = self.shared_level(&repair.shape, index).max(height);
+        let from = self.shared_level(&repair.shape, index, height);
         match self.path.descend(device, index, from, height) {
             Ok(None) => {
                 self.index = index;
@@ -106,16 +106,16 @@ impl VerifiedPath {
         }
     }
 
-    // The level from which up the path to a data block has these hash blocks.
-    fn shared_level(&self, shape: &Shape, index: u64) -> u32
+    // The level, and at least that height, from which up the path to a data block has these hash blocks.
+    fn shared_level(&self, shape: &Shape, index: u64, height: u32) -> u32
         requires shape { self.now.path.shape ≡ shape.now }
-        requires valid { IsShape shape.now }
-        requires inside { index < shape.now.blocks }
+        requires place { IsPlace shape.now height index }
+        ensures high { height ≤ result }
         ensures few { result ≤ levels shape.now }
         ensures leads { LeadsTo self.now.path index result }
     {
         let levels = shape.levels();
-        let mut level = self.height;
+        let mut level = self.height.max(height);
         'levels: while level < levels {
             if shape.block_on_path(level, index) == shape.block_on_path(level, self.index) {
                 return level;

@@ -11,7 +11,7 @@ returns-then-block_on_path-clause-leads c =
     let i = c.args.index in
     let alike : ancestor c.args.shape.now (l + 1) v.index ≡ ancestor c.args.shape.now (l + 1) i =
     sym c.block_on_path-in-levels.ensures.value ∙ sym c.if-block_on_path.true ∙ c.block_on_path.ensures.value in
-    leads-shared v.path v.index i l (subst IsShape (sym c.requires.shape) c.requires.valid)
+    leads-shared v.path v.index i l (subst IsShape (sym c.requires.shape) c.requires.place.valid)
     (subst (λ (s : ShapeRecord). ancestor s (l + 1) v.index ≡ ancestor s (l + 1) i) (sym c.requires.shape) alike)
     (leads-higher v.path v.index v.height l c.levels.invariant.low v.leads)
 
