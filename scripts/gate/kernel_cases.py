@@ -98,6 +98,15 @@ class Cases(Sessions):
     def sectors(self):
         return min(super().sectors(), LARGEST_LEAF)
 
+    def lines(self, lowers, writable):
+        """Often filled up to whole blocks of 4,096 bytes, as Linux wants it of a device over large units."""
+        size, lines = super().lines(lowers, writable)
+        rest = -size % 8
+        if rest and self.chance(0.5):
+            lines.append(b"%d %d zero" % (size, rest))
+            size += rest
+        return size, lines
+
     def made_leaves(self):
         """Leaves as files of their own, whatever the model's bindings are."""
         drawn = self.session_over(self.bindings()).stack
@@ -127,13 +136,30 @@ class Cases(Sessions):
                 entries[at] += b",%s %s" % (length, more)
         return b";".join(entries)
 
+    def over_units(self, text, words):
+        """The text with units of 1,024 bytes beneath the data of its `verity` line, if they have blocks of 512 bytes, or else beneath
+        the tree. Most reads of it then fail."""
+        session = self.session_over(words)
+        self.follow(session, b"load " + text)
+        before, verity, line = text.rpartition(b" verity 1 ")
+        names = line.split(b" ")
+        at = 0 if names[2:3] == [b"512"] else 1
+        lower = session.stack.configuration.lower(names[at]) if verity else None
+        if not lower or lower.sectors < 2:
+            return text
+        units = b"units,,,ro,0 %d crypt aes-xts-plain64 %s 0 %s 0 1 sector_size:1024;" % (lower.sectors // 2 * 2, b"11" * 32, names[at])
+        names[at] = PREFIX + b"units"
+        return units + before + verity + b" ".join(names)
+
     def drawn_text(self, words):
         """A text of one part, or of devices and of others over them."""
         texts = []
         if self.chance(0.5):
             texts.append(self.verity_entries(words))
-            if texts[0] and self.chance(0.1):
+            if texts[0] and self.chance(0.15):
                 texts[0] = self.with_a_line_more(texts[0])
+            elif texts[0] and self.chance(0.3):
+                texts[0] = self.over_units(texts[0], words)
             if self.chance(0.6):
                 self.damage_data()
         elif self.chance(0.3):
@@ -199,7 +225,7 @@ def formatted_case(program, number):
     """An image that the program formats, and the line that its `table` prints; the files are left in this folder."""
     data = random.Random(number).randbytes(300 * 1024)
     open("data", "wb").write(data)
-    made = subprocess.run([program, "format", "--grow", "--salt", "5a" * 32, "data", "tree"], capture_output=True, check=True).stdout
+    made = subprocess.run([program, "format", "--grow", "--salt", "5a" * 32, "--uuid", "0" * 32, "data", "tree"], capture_output=True, check=True).stdout
     root = re.search(rb"^root (\w+)$", made, re.MULTILINE)[1]
     line = subprocess.run([program, "table", "tree", root, "D", "H"], capture_output=True, check=True).stdout.strip()
     leaves = [Leaf(b"D", data, False, b"data"), Leaf(b"H", open("tree", "rb").read(), False, b"tree")]

@@ -87,7 +87,7 @@ class Linux:
         """Whether a table, or one beneath it, has several `verity` lines, which newer kernels refuse."""
         if isinstance(device, Leaf):
             return False
-        is_own = len(device.lines) > 1 and any(isinstance(line.target, Verity) for line in device.lines)
+        is_own = len(device.lines) > 1 and all(isinstance(line.target, Verity) for line in device.lines)
         return is_own or any(map(self.may_refuse, self.configuration.lowers(device)))
 
     def differs(self, device):
