@@ -6,7 +6,7 @@
 
 A place is a call of the library that allocates, or its error named `AllocError` or `AllocFailed`. The crate `allocation` has
 such places, tests have, and otherwise only what is listed: crates that aren't converted yet, with how many places each has,
-and functions whose places are trusted for good, each with the reason. More places than listed are refused, and fewer too, so
+functions whose places are trusted for good, each with the reason, and functions that call methods of this repository. More places than listed are refused, and fewer too, so
 the lists only shrink. A crate that is converted loses its line, or has the number that is left.
 
 It shows that a converted crate names no such call and neither error, so what it answers when memory runs out is an `OutOfMemory`
@@ -34,7 +34,6 @@ PLACES = {
     "block_device": (8, NOT_YET),
     "command_line": (11, NOT_YET),
     "command_parser": (11, PARSER),
-    "dm_table": (19, NOT_YET),
     "fec_area": (6, NOT_YET),
     "hash_tree": (14, STATED),
     "image_commands": (15, NOT_YET),
@@ -49,16 +48,13 @@ PLACES = {
     "rescue_files": (5, NOT_YET),
     "rescue_map": (25, NOT_YET),
     "stack_commands": (3, NOT_YET),
-    "stack_costs": (9, NOT_YET),
     "stack_json": (17, NOT_YET),
     "stack_lines": (2, CACHE),
-    "stack_loader": (6, STATED),
     "stack_opening": (14, NOT_YET),
     "stack_recovery": (4, NOT_YET),
     "stack_rules": (4, STATED),
     "stack_session": (7, NOT_YET),
     "table_printer": (32, NOT_YET),
-    "table_reader": (9, NOT_YET),
     "text_files": (6, NOT_YET),
     "tree_commands": (6, NOT_YET),
     "tree_difference": (3, NOT_YET),
@@ -73,6 +69,15 @@ TRUSTED = {
     ("dmstack", "main"): (1, "the buffer of standard output; the program's end has no clause on its cause"),
     ("dmstack", "words_of"): (1, "the program's own arguments, likewise"),
 }
+
+# Of functions that call this repository's own methods by a library's name: how many such calls each has, and of which methods.
+# These answer an `OutOfMemory`.
+OWN = {
+    ("dm_table", "try_clone"): (13, "`try_clone` of a name's owners, `Options::push` and `Bases::push`"),
+    ("table_reader", "read_known"): (1, "`Options::push`"),
+    ("table_reader", "read_bases"): (1, "`Bases::push`"),
+}
+LISTED = {**TRUSTED, **OWN}
 
 METHODS = """append clone collect extend extend_from_slice insert into_owned or_default or_insert or_insert_with push push_back
     push_front push_str repeat reserve resize split_off to_mut to_owned to_string to_vec try_clone try_collect""".split()
@@ -110,8 +115,8 @@ def places_of(crate):
 
 
 def count_of(crate, places):
-    """How many places a crate has, but for those of its trusted functions."""
-    return sum((crate, it[2]) not in TRUSTED for it in places)
+    """How many places a crate has, but for those of its listed functions."""
+    return sum((crate, it[2]) not in LISTED for it in places)
 
 
 def faults_of(crate, places):
@@ -120,8 +125,8 @@ def faults_of(crate, places):
     if found != listed:
         faults.append(f"{crate}: {found} places where {listed} are listed; allocations.py --list prints the list")
         if not listed:
-            faults += [f"{path}:{number}: {line}" for path, number, name, line in places if (crate, name) not in TRUSTED]
-    for (owner, name), (listed, _reason) in TRUSTED.items():
+            faults += [f"{path}:{number}: {line}" for path, number, name, line in places if (crate, name) not in LISTED]
+    for (owner, name), (listed, _reason) in LISTED.items():
         found = sum(it[2] == name for it in places)
         if owner == crate and found != listed:
             faults.append(f"{crate}: {name} has {found} places where {listed} are listed")
@@ -151,7 +156,7 @@ def main():
         sys.exit("allocations.py: it takes no words, or --list")
     faults = [it for crate, places in all_places.items() for it in faults_of(crate, places)]
     faults += faults_of_evidence()
-    faults += [f"{crate}: it is listed and isn't there" for crate in {*PLACES, *(it[0] for it in TRUSTED)} - {*all_places}]
+    faults += [f"{crate}: it is listed and isn't there" for crate in {*PLACES, *(it[0] for it in LISTED)} - {*all_places}]
     for fault in faults:
         print(f"allocations.py: {fault}", file=sys.stderr)
     if faults:

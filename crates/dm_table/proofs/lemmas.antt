@@ -1,4 +1,5 @@
 -- What callers may cite.
+pub mod MemoryLemmas
 pub mod NameLengthLemmas
 pub mod ReadLineLemmas
 pub mod SectorSizeLemmas

@@ -1,9 +1,11 @@
 -- What is read, or the fault.
 use Rattle.std.specs.Prelude.{◌≡◌, ℕ, Result, Ok, Err}
+use Rattle.allocation.specs.Refusal.{IsOutOfMemory}
 use Rattle.dm_table.specs.declared.fault.ParseFault.{ParseFault}
 use Rattle.dm_table.specs.declared.fault.ParseFault.TheVariants as parse
 use Rattle.dm_table.specs.declared.fault.TextFault.{TextFault}
 use Rattle.dm_table.specs.declared.fault.TextKind.{TextKind}
+use Rattle.dm_table.specs.Names.{most_name}
 
 -- what a part of a line says, or the kind of its first fault
 abbrev pub Read : Type 0 → Type 0
@@ -19,8 +21,8 @@ abbrev pub at_place : {A : Type 0} → ℕ → ℕ → Read A → Result A TextF
 at_place entry line (Ok x) = Ok x
 at_place entry line (Err kind) = Err (record { entry = entry; line = line; kind = kind })
 
--- the result is the grammar's answer for the text, unless memory ran out
+-- the result is the grammar's answer for the text, unless an allocation of at most a name's length was refused
 abbrev pub IsAnswer : {A : Type 0} → Result A ParseFault → Result A TextFault → Type 0
 IsAnswer (Ok value) answer = answer ≡ Ok value
 IsAnswer (Err (parse.Text fault)) answer = answer ≡ Err fault
-IsAnswer (Err parse.NoMemory) answer = Unit {0}
+IsAnswer (Err parse.NoMemory) answer = IsOutOfMemory most_name

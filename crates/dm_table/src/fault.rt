@@ -4,7 +4,6 @@ ghost use Rattle.dm_table.specs.declared.fault.ParseFault.TheVariants as parse_f
 ghost use Rattle.dm_table.specs.TextKinds.{text_name, text_number};
 
 use allocation::OutOfMemory;
-use std::alloc::{AllocError, AllocFailed};
 use thiserror::Error;
 
 /// The kind of a text's first fault. Numbers and names are part of the interface: they are printed.
@@ -100,7 +99,7 @@ pub enum ParseFault {
     /// The text's first fault.
     #[error(transparent)]
     Text(TextFault),
-    /// Memory was refused.
+    /// An allocation was refused.
     #[error("out of memory")]
     NoMemory,
 }
@@ -109,22 +108,6 @@ impl From<OutOfMemory> for ParseFault {
     ghost from_gives = { λ _ fault. fault ≡ parse_fault.NoMemory };
 
     fn from(_error: OutOfMemory) -> ParseFault {
-        ParseFault::NoMemory
-    }
-}
-
-impl From<AllocError> for ParseFault {
-    ghost from_gives = { λ _ fault. fault ≡ parse_fault.NoMemory };
-
-    fn from(_error: AllocError) -> ParseFault {
-        ParseFault::NoMemory
-    }
-}
-
-impl<T: Drop> From<AllocFailed<T>> for ParseFault {
-    ghost from_gives = { λ _ fault. fault ≡ parse_fault.NoMemory };
-
-    fn from(_refused: AllocFailed<T>) -> ParseFault {
         ParseFault::NoMemory
     }
 }

@@ -52,8 +52,8 @@ impl StackText {
     ///
     /// # Errors
     ///
-    /// `Text`: the fault `Name` of entry 1, line 0, for a name that is no mapped name. `NoMemory`: the
-    /// memory for the entry was refused. The table is dropped in both cases.
+    /// `Text`: the fault `Name` of entry 1, line 0, for a name that is no mapped name. `NoMemory`: an
+    /// allocation was refused, for at most as many elements as the longest name has bytes. The table is dropped in both cases.
     pub fn single(
         alloc: Global,
         name: &[u8],

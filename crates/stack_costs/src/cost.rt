@@ -11,13 +11,13 @@ ghost use Rattle.stack_rules.specs.Kept.{each_mapped};
 ghost use Rattle.stack_rules.specs.Passing.{Mean, RowsMean};
 ghost use Rattle.stack_costs.specs.Costs.{line_cost, ceiling, cost, cost_in, capped_cost, dearest, AreLineRows, AreMeasured, AreCosts};
 
-use allocation::filled;
+use allocation::{OutOfMemory, filled};
 use dm_table::{Crypt, Line, Target, Verity};
 use stack_rules::{
     DeviceLowers, LineLowers, Lower, Planned, block_sectors, crypt_of, path_sectors, unit_sectors,
     verity_of,
 };
-use std::alloc::{AllocError, Global};
+use std::alloc::Global;
 
 /// Whether a cost is of a sector that is read or of one that is written, where reading one of each device
 /// costs so much.
@@ -190,7 +190,7 @@ pub fn costs(
     devices: &[Planned<'_>],
     lowers: &[DeviceLowers],
     depths: &[u64],
-) -> Result<Vec<u64>, AllocError>
+) -> Result<Vec<u64>, OutOfMemory>
     requires rows { AreLineRows lowers.now devices.now }
     requires depths { length depths.now ≡ length devices.now }
     ensures ok { (leaves : List LeafRecord) → let c = configuration leaves devices.now in AreMeasured c lowers.now depths.now → IfOk result (λ costs. costs.items ≡ each_mapped (λ x. capped_cost direction.entry (cost c direction.entry x)) (length c.devices)) }

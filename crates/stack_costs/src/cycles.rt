@@ -8,9 +8,9 @@ ghost use Rattle.stack_costs.specs.DeviceSet.{contains, set_at, AreSets, AreLowe
 ghost use Rattle.stack_rules.specs.Rules.{first, cycles};
 
 use crate::device_set::DeviceSet;
-use allocation::copied;
+use allocation::{OutOfMemory, copied};
 use stack_rules::{LoadKind, Refusal};
-use std::alloc::{AllocError, Global};
+use std::alloc::Global;
 
 /// Adds to each set that has device k what the set of k has.
 fn join(sets: &mut [DeviceSet], k: usize)
@@ -41,7 +41,7 @@ fn close(sets: &mut [DeviceSet])
 /// # Errors
 ///
 /// An allocation of room for as many sets as there are was refused.
-pub fn cycle_refusal(alloc: Global, sets: &[DeviceSet]) -> Result<Option<Refusal>, AllocError>
+pub fn cycle_refusal(alloc: Global, sets: &[DeviceSet]) -> Result<Option<Refusal>, OutOfMemory>
     requires { length sets.now ≤ most_devices }
     ensures ok { (c : Configuration) → AreLowerSets c sets.now → IfOk result (λ refusal. refusal ≡ first (cycles c)) }
     ensures err { OnErr result (IsOutOfMemory (length sets.now)) }

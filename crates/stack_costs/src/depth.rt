@@ -6,8 +6,8 @@ ghost use Rattle.stack_costs.specs.Depths.{greatest_in, depth_round, depth_round
 
 use crate::device_set::DeviceSet;
 use crate::lower_set::MOST_DEVICES;
-use allocation::{filled, push, with_capacity};
-use std::alloc::{AllocError, Global};
+use allocation::{OutOfMemory, filled, push, with_capacity};
+use std::alloc::Global;
 
 /// The greatest of the values of the set's devices.
 fn greatest_in(set: DeviceSet, values: &[u64]) -> u64
@@ -24,7 +24,7 @@ fn greatest_in(set: DeviceSet, values: &[u64]) -> u64
 }
 
 /// One round: the depth of each device where those that it names have the values.
-fn round(alloc: Global, sets: &[DeviceSet], values: &[u64]) -> Result<Vec<u64>, AllocError>
+fn round(alloc: Global, sets: &[DeviceSet], values: &[u64]) -> Result<Vec<u64>, OutOfMemory>
     requires few { length values.now ≤ most_devices }
     requires low { (k : ℕ) → slice_index values.now k ≤ most_devices }
     ensures ok { IfOk result (λ v. v.items ≡ depth_round sets.now values.now) }
@@ -42,7 +42,7 @@ fn round(alloc: Global, sets: &[DeviceSet], values: &[u64]) -> Result<Vec<u64>, 
 /// # Errors
 ///
 /// An allocation of room for at most as many numbers as there are sets was refused.
-pub fn depths(alloc: Global, sets: &[DeviceSet]) -> Result<Vec<u64>, AllocError>
+pub fn depths(alloc: Global, sets: &[DeviceSet]) -> Result<Vec<u64>, OutOfMemory>
     requires { length sets.now ≤ most_devices }
     ensures ok { IfOk result (λ v. v.items ≡ depth_rounds sets.now most_devices) }
     ensures err { OnErr result (IsOutOfMemory (length sets.now)) }

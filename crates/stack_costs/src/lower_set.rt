@@ -9,9 +9,9 @@ ghost use Rattle.stack_costs.specs.DeviceSet.{contains, AreLowerSets};
 ghost use Rattle.stack_rules.specs.Kept.{AreLowers};
 
 use crate::device_set::DeviceSet;
-use allocation::{push, with_capacity};
+use allocation::{OutOfMemory, push, with_capacity};
 use stack_rules::{DeviceLowers, LineLowers, Lower};
-use std::alloc::{AllocError, Global};
+use std::alloc::Global;
 
 pub const MOST_DEVICES: u32 = 64;
 
@@ -58,7 +58,7 @@ fn named_by(lines: &[LineLowers]) -> DeviceSet
 /// # Errors
 ///
 /// An allocation of room for at most as many sets as there are devices was refused.
-pub fn lower_sets(alloc: Global, lowers: &[DeviceLowers]) -> Result<Vec<DeviceSet>, AllocError>
+pub fn lower_sets(alloc: Global, lowers: &[DeviceLowers]) -> Result<Vec<DeviceSet>, OutOfMemory>
     requires { length lowers.now ≤ most_devices }
     ensures ok { (c : Configuration) → AreLowers c lowers.now → IfOk result (λ sets. AreLowerSets c sets.items) }
     ensures err { OnErr result (IsOutOfMemory (length lowers.now)) }

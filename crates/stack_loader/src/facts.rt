@@ -7,10 +7,10 @@ ghost use Rattle.stack_loader.specs.Facts.{facts_at};
 
 use crate::keys::line_keys;
 use crate::zero_digests::line_digests;
-use allocation::{push, with_capacity};
+use allocation::{OutOfMemory, push, with_capacity};
 use stack_config::DeviceFacts;
 use stack_rules::{DeviceLowers, Planned};
-use std::alloc::{AllocError, Global};
+use std::alloc::Global;
 
 /// The facts of each device: its depth, its costs and what its lines name, with its keys and digests of zeros.
 pub(crate) fn device_facts(
@@ -20,7 +20,7 @@ pub(crate) fn device_facts(
     read_costs: &[u64],
     write_costs: &[u64],
     lowers: Vec<DeviceLowers>,
-) -> Result<Vec<DeviceFacts>, AllocError>
+) -> Result<Vec<DeviceFacts>, OutOfMemory>
     requires lines { All (λ d. length d.table ≤ most_lines) devices.now }
     requires lengths { let n = length devices.now in (length depths.now ≡ n) × (length read_costs.now ≡ n) × (length write_costs.now ≡ n) × (length lowers.items ≡ n) }
     ensures ok { IfOk result (λ facts. facts.items ≡ map (facts_at devices.now depths.now read_costs.now write_costs.now lowers.items) (range_with_len 0 (length devices.now))) }

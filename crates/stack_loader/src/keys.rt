@@ -5,11 +5,11 @@ ghost use Rattle.dm_table.specs.Grammar.{IsTargetOfGrammar, IsLineOfGrammar};
 ghost use Rattle.stack_config.specs.Keys.{keys_from};
 ghost use Rattle.stack_rules.specs.Lines.{key_of};
 
-use allocation::push;
+use allocation::{OutOfMemory, push};
 use dm_table::{Line, Target};
 use stack_config::{DeviceKeys, LineKey};
 use stack_rules::crypt_of;
-use std::alloc::{AllocError, Global};
+use std::alloc::Global;
 use xts_sector::XtsKey;
 
 /// The key that a target has.
@@ -24,7 +24,7 @@ fn key_of(target: &Target) -> Option<XtsKey>
 }
 
 /// The keys of the crypt lines of a device.
-pub(crate) fn line_keys(alloc: Global, lines: &[Line]) -> Result<DeviceKeys, AllocError>
+pub(crate) fn line_keys(alloc: Global, lines: &[Line]) -> Result<DeviceKeys, OutOfMemory>
     requires few { length lines.now < 2 ^ 32 }
     requires grammar { All IsLineOfGrammar lines.now }
     ensures ok { IfOk result (λ keys. keys ≡ keys_from 0 lines.now) }

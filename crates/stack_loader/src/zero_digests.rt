@@ -7,11 +7,11 @@ ghost use Rattle.stack_config.specs.Keys.{zero_digests_of};
 ghost use Rattle.stack_rules.specs.Lines.{zero_digest_of};
 ghost use Rattle.stack_rules.specs.Trees.{zero_block};
 
-use allocation::{push, with_capacity};
+use allocation::{OutOfMemory, push, with_capacity};
 use dm_table::{Line, Target, Verity};
 use stack_config::ZeroDigests;
 use stack_rules::verity_of;
-use std::alloc::{AllocError, Global};
+use std::alloc::Global;
 use tree_shape::Digest;
 
 fn digest_of_zeros(verity: &Verity) -> Digest
@@ -39,7 +39,7 @@ fn zero_digest_of(target: &Target) -> Option<Digest>
 }
 
 /// Those of a device's lines.
-pub(crate) fn line_digests(alloc: Global, lines: &[Line]) -> Result<ZeroDigests, AllocError>
+pub(crate) fn line_digests(alloc: Global, lines: &[Line]) -> Result<ZeroDigests, OutOfMemory>
     requires { All IsLineOfGrammar lines.now }
     ensures ok { IfOk result (λ digests. digests ≡ zero_digests_of lines.now) }
     ensures err { OnErr result (IsOutOfMemory (length lines.now)) }

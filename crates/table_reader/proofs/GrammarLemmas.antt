@@ -162,7 +162,7 @@ entry_table-grammar e n first fields lines h =
     let same : length lines ≡ length (first ∷ fields) = read.0 in
     record { some = omega arith; each = read.1 }
 
-head-grammar : (fields : List (List ℕ)) (head : Head) → head_of fields ≡ Ok head → IsTrue (is_mapped_name head.name) × (first : List ℕ) × (rest : List (List ℕ)) × (head.lines ≡ first ∷ rest)
+pub head-grammar : (fields : List (List ℕ)) (head : Head) → head_of fields ≡ Ok head → IsTrue (is_mapped_name head.name) × (first : List ℕ) × (rest : List (List ℕ)) × (head.lines ≡ first ∷ rest)
 unfolding head_of
 head-grammar [] head e = cc
 head-grammar (name ∷ []) head e = cc

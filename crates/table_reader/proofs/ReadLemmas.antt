@@ -1,11 +1,14 @@
 -- Results of readers, put together from the parts.
-use Rattle.std.proofs.Common.{◌≡◌, List, [], ◌∷◌, ◌++◌, Result, Ok, Err, IsErrAnd, MatchResult, subst, refl, ap, append-nil, append_assoc, sym, ◌∙◌}
+use Rattle.std.proofs.Common.{◌≡◌, ◌≤◌, List, [], ◌∷◌, ◌++◌, Result, Ok, Err, IsErrAnd, MatchResult, subst, refl, ap, append-nil, append_assoc, sym, ◌∙◌}
+use Rattle.allocation.specs.Asked.{asked}
+use Rattle.allocation.specs.declared.out_of_memory.OutOfMemory.{OutOfMemory}
 use Rattle.table_reader.specs.declared.line_fault.LineFault.{LineFault}
 use Rattle.table_reader.specs.declared.line_fault.LineFault.TheVariants as line_fault
 use Rattle.dm_table.specs.declared.fault.ParseFault.{ParseFault}
 use Rattle.dm_table.specs.declared.fault.ParseFault.TheVariants as parse_fault
 use Rattle.dm_table.specs.declared.fault.TextFault.{TextFault}
 use Rattle.dm_table.specs.declared.fault.TextKind.{TextKind}
+use Rattle.dm_table.specs.Names.{most_name}
 use Rattle.dm_table.specs.Reading.{Read, ◌>>=◌, IsAnswer}
 use Rattle.table_reader.specs.Reading.{IsReading}
 
@@ -34,13 +37,18 @@ exit_kind (Err fault) kind answer h e = rw h e
 pub exit_part : {A B : Type 0} (r : Result A LineFault) (fault : LineFault) (part : Read B) (answer : Read A) → IsErrAnd r (λ e. e ≡ fault) → IsReading {A = B} (Err fault) part → ((kind : TextKind) → part ≡ Err kind → answer ≡ Err kind) → IsReading r answer
 exit_part (Ok x) fault part answer h p f = absurd h
 exit_part (Err e) (line_fault.Kind kind) part answer h p f = rw h (f kind p)
-exit_part (Err e) line_fault.NoMemory part answer h p f = rw h tt
+exit_part (Err e) line_fault.NoMemory part answer h p f = rw h p
 
 -- the same with a text's fault
 pub exit_text : {A B : Type 0} (r : Result A ParseFault) (fault : ParseFault) (part : Result B TextFault) (answer : Result A TextFault) → IsErrAnd r (λ e. e ≡ fault) → IsAnswer {A = B} (Err fault) part → ((f : TextFault) → part ≡ Err f → answer ≡ Err f) → IsAnswer r answer
 exit_text (Ok x) fault part answer h p f = absurd h
 exit_text (Err e) (parse_fault.Text first) part answer h p f = rw h (f first p)
-exit_text (Err e) parse_fault.NoMemory part answer h p f = rw h tt
+exit_text (Err e) parse_fault.NoMemory part answer h p f = rw h p
+
+-- the exit of a `?` with a refused allocation
+pub exit_memory : {A : Type 0} (r : Result A LineFault) (answer : Read A) (e : OutOfMemory) → IsErrAnd r (λ fault. fault ≡ line_fault.NoMemory) → asked e ≤ most_name → IsReading r answer
+exit_memory (Ok x) answer e h low = absurd h
+exit_memory (Err fault) answer e h low = rw h (e.asked, low, e.refused)
 
 -- the exit of a `?` whose fault is returned as it is
 pub exit_same : {A E : Type 0} (r : Result A E) (P : A → Type 0) (Q : E → Type 0) (fault : E) → IsErrAnd r (λ e. e ≡ fault) → Q fault → MatchResult r P Q

@@ -8,12 +8,13 @@ use Rattle.tree_shape.specs.Shape.{is_block_size}
 use Rattle.dm_table.specs.declared.verity.Verity.{Verity}
 use Rattle.dm_table.specs.declared.fault.TextKind.TheVariants as kinds
 use Rattle.dm_table.specs.Words.{Word}
-use Rattle.dm_table.specs.Names.{is_device}
+use Rattle.dm_table.specs.Names.{is_device, most_name}
 use Rattle.dm_table.specs.Numbers.{number}
 use Rattle.dm_table.specs.Arguments.{device_at, number_at, bytes_at}
 use Rattle.dm_table.specs.Options.{options_at}
 use Rattle.dm_table.specs.Verity.{version_at, block_size_at, algorithm_at, digest_at, salt_at, verity_options, verity_at}
 use Rattle.dm_table.specs.Grammar.{IsVerityOfGrammar}
+use Rattle.dm_table.proofs.lemmas.NameLengthLemmas.{device-length}
 use Rattle.table_reader.proofs.ReadValueLemmas.{bind_ok, ok_same, ok_or_ok, chosen, number_if-some, number_at-fits}
 use Rattle.table_reader.proofs.BytesLemmas.{bytes_at-grammar}
 
@@ -26,6 +27,9 @@ gt-leb a b h = elim (cases_Bool (leb a b)) [
   | inl le ↦ let low = leb-true a b le in absurd (omega (arith, low, h))
   | inr gt ↦ gt
 ]
+
+pub device_at-length : (word : Word) → device_at word ≡ Ok word → length word ≤ most_name
+device_at-length word e = device-length word (chosen (is_device word) (Ok word) kinds.Name word e).0
 
 pub verity-few : (words : List Word) → length words < 10 → verity_at words ≡ Err kinds.ArgCount
 unfolding verity_at

@@ -4,21 +4,12 @@ ghost use Rattle.table_reader.specs.declared.line_fault.LineFault.TheVariants as
 
 use allocation::OutOfMemory;
 use dm_table::TextKind;
-use std::alloc::AllocError;
 
 /// Why a line was not read.
 #[derive(Clone, Copy, Debug, PartialEq, Eq)]
 pub(crate) enum LineFault {
     Kind(TextKind),
     NoMemory,
-}
-
-impl From<AllocError> for LineFault {
-    ghost from_gives = { λ _ fault. fault ≡ line_fault.NoMemory };
-
-    fn from(_error: AllocError) -> LineFault {
-        LineFault::NoMemory
-    }
 }
 
 impl From<OutOfMemory> for LineFault {

@@ -1,8 +1,9 @@
 //! Optional arguments, read.
-ghost use Rattle.std.specs.Prelude.{◌≡◌, ◌&&◌, map, not};
-ghost use Rattle.std.specs.List.{list_any};
+ghost use Rattle.std.specs.Prelude.{◌≡◌, ◌&&◌, true, nat_le, length, map, not};
+ghost use Rattle.std.specs.List.{list_all, list_any};
 ghost use Rattle.std.specs.Str.{bytes_eq};
 ghost use Rattle.table_reader.specs.Reading.{IsReading};
+ghost use Rattle.dm_table.specs.Names.{most_name};
 ghost use Rattle.dm_table.specs.Options.{is_one_of, has_name_of, known_at, option_name, options_at};
 
 use crate::cut::{Words, piece_len};
@@ -11,12 +12,13 @@ use crate::numbers::read_number;
 use dm_table::{Name, Options, TextKind};
 use std::alloc::Global;
 
-/// Reads options of those words, behind their count, to the end of the line.
+/// Reads options of those words, after their count, to the end of the line.
 pub(crate) fn read_options(
     alloc: Global,
     mut words: Words<'_>,
     known: &[&str],
 ) -> Result<Options, LineFault>
+    requires { list_all (λ word. nat_le (length word) most_name) (map (λ word. word.now) known.now) ≡ true }
     ensures { IsReading result (options_at (map (λ word. word.now) known.now) words.entry) }
 {
     let Some(count) = words.next_word() else {
@@ -30,6 +32,7 @@ pub(crate) fn read_options(
 }
 
 fn read_known(alloc: Global, mut words: Words<'_>, known: &[&str]) -> Result<Options, LineFault>
+    requires { list_all (λ word. nat_le (length word) most_name) (map (λ word. word.now) known.now) ≡ true }
     ensures { IsReading result (known_at (map (λ word. word.now) known.now) words.entry) }
 {
     let mut options = Options::new(alloc);

@@ -8,6 +8,7 @@ ghost use Rattle.dm_table.specs.StackText.{entry_lines, entry_of, flags_at, head
 use crate::cut::{Pieces, Words, is_blank, is_text, trim};
 use crate::line::read_line_at;
 use crate::numbers::number;
+use allocation::push;
 use dm_table::{Entry, Name, ParseFault, StackText, Table, TextFault, TextKind, is_mapped_name};
 use std::alloc::Global;
 
@@ -18,8 +19,8 @@ use std::alloc::Global;
 /// # Errors
 ///
 /// `Text`: the first fault in reading order; a byte that is no text goes before all others, as entry
-/// 0, line 0, and a fault before an entry's first line stands at line 0. `NoMemory`: memory for what
-/// was read so far was refused.
+/// 0, line 0, and a fault before an entry's first line stands at line 0. `NoMemory`: an allocation was
+/// refused, for at most as many elements as the longest name has bytes.
 pub fn parse_stack(alloc: Global, text: &[u8]) -> Result<StackText, ParseFault>
     requires { length text.now < 2 ^ 32 - 1 }
     ensures { IsAnswer result (stack_of text.now) }
@@ -33,7 +34,7 @@ pub fn parse_stack(alloc: Global, text: &[u8]) -> Result<StackText, ParseFault>
     'entries: while let Some(entry) = texts.next_piece() {
         number += 1;
         if !is_blank(entry) {
-            entries.push(read_entry(alloc, entry, number)?)?;
+            push(&mut entries, read_entry(alloc, entry, number)?)?;
         }
     }
     Ok(StackText::new(entries))
@@ -133,10 +134,16 @@ fn read_lines(
 {
     let mut lines = Vec::new(alloc);
     let mut line = 1;
-    lines.push(read_line_at(alloc, Words::new(first), number, line)?)?;
+    push(
+        &mut lines,
+        read_line_at(alloc, Words::new(first), number, line)?,
+    )?;
     'lines: while let Some(field) = fields.next_piece() {
         line += 1;
-        lines.push(read_line_at(alloc, Words::new(field), number, line)?)?;
+        push(
+            &mut lines,
+            read_line_at(alloc, Words::new(field), number, line)?,
+        )?;
     }
     Ok(Table::new(lines))
 }

@@ -7,6 +7,7 @@ ghost use Rattle.dm_table.specs.TableText.{table_of, is_skipped};
 
 use crate::cut::{Pieces, Words, is_text};
 use crate::line::read_line_at;
+use allocation::push;
 use dm_table::{ParseFault, Table, TextFault, TextKind};
 use std::alloc::Global;
 
@@ -16,8 +17,8 @@ use std::alloc::Global;
 /// # Errors
 ///
 /// `Text`: the first fault in reading order, of entry 0; a byte that is no text goes before all
-/// others, at line 0, and a text without a line is the fault `Fields` at line 0. `NoMemory`: memory
-/// for what was read so far was refused.
+/// others, at line 0, and a text without a line is the fault `Fields` at line 0. `NoMemory`: an
+/// allocation was refused, for at most as many elements as the longest name has bytes.
 pub fn parse_table(alloc: Global, text: &[u8]) -> Result<Table, ParseFault>
     requires { length text.now < 2 ^ 32 - 1 }
     ensures { IsAnswer result (table_of text.now) }
@@ -31,7 +32,10 @@ pub fn parse_table(alloc: Global, text: &[u8]) -> Result<Table, ParseFault>
     'lines: while let Some(line) = texts.next_piece() {
         number += 1;
         if !is_skipped(line) {
-            lines.push(read_line_at(alloc, Words::new(line), 0, number)?)?;
+            push(
+                &mut lines,
+                read_line_at(alloc, Words::new(line), 0, number)?,
+            )?;
         }
     }
     if lines.is_empty() {

@@ -1,5 +1,5 @@
 //! The target of a line.
-ghost use Rattle.std.specs.Prelude.{◌≡◌, length, ◌*◌};
+ghost use Rattle.std.specs.Prelude.{◌≡◌, ◌≤◌, ◌*◌, IfOk};
 ghost use Rattle.table_reader.specs.Reading.{IsReading};
 ghost use Rattle.dm_table.specs.Arguments.{base_at};
 ghost use Rattle.dm_table.specs.Lines.{arguments_at, bare_at, bases_at, chunk_at, linear_at, striped_at, stripes_at, target_at};
@@ -75,7 +75,8 @@ fn read_striped(alloc: Global, mut arguments: Words<'_>) -> Result<Target, LineF
 }
 
 fn stripe_count(word: &[u8]) -> Result<usize, TextKind>
-    ensures { result ≡ stripes_at word.now }
+    ensures value { result ≡ stripes_at word.now }
+    ensures few { IfOk result (λ count. count ≤ 16) }
 {
     match number(word) {
         Some(count) if 1 <= count && count <= 16 => Ok(count as usize),
@@ -97,6 +98,7 @@ pub(crate) fn read_bases(
     mut words: Words<'_>,
     count: usize,
 ) -> Result<Bases, LineFault>
+    requires { count ≤ 16 }
     ensures { IsReading result (bases_at words.entry) }
 {
     let mut bases = Bases::with_capacity(alloc, count)?;

@@ -34,7 +34,7 @@ device-length word e = elim (cases_Bool (starts_with ◌==◌ word mapper)) [
 ]
 
 -- one of some words is no longer than the longest
-one-length : (most : ℕ) (known : List Word) (word : Word) → list_all (λ (w : Word). nat_le (length w) most) known ≡ true → is_one_of word known ≡ true → length word ≤ most
+pub one-length : (most : ℕ) (known : List Word) (word : Word) → list_all (λ (w : Word). nat_le (length w) most) known ≡ true → is_one_of word known ≡ true → length word ≤ most
 one-length most [] word all one = cc
 one-length most (first ∷ more) word all one =
     let parts = and_parts (nat_le (length first) most) _ all in

@@ -57,7 +57,7 @@ entries-preserved-in_ok-push c =
     let fewer = ap length c.in-Some.ensures in
     let read = c.entries.invariant.1 ∙ ap (after items) (ap (entries_from (c.entries.number + 1)) c.in-Some.ensures ∙ entries_from-full (c.entries.number + 1) c.in-Some.entry.now rest full
     ∙ ap (λ r. r >>= (λ entry. entries_from (c.entries.number + 1 + 1) rest >>= (λ entries. Ok (entry ∷ entries)))) c.in_ok-read_entry.ensures) ∙ after_push items _ (entries_from (c.entries.number + 1 + 1) rest) in
-    (omega arith, rw c.in_ok-push.ensures.items read, All-tail short _ _ (subst (All short) c.in-Some.ensures c.entries.invariant.2))
+    (omega arith, rw c.in_ok-push.ensures.ok read, All-tail short _ _ (subst (All short) c.in-Some.ensures c.entries.invariant.2))
 
 pub entries-preserved : goal.entries-preserved
 entries-preserved c =

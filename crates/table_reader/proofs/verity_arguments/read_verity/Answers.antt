@@ -1,7 +1,7 @@
-use Rattle.std.proofs.Common.{Err, ap, sym, ◌∙◌, refl}
+use Rattle.std.proofs.Common.{Err, ap, sym, ◌∙◌, refl, arith}
 use Rattle.dm_table.specs.Verity.{verity_at}
-use Rattle.table_reader.proofs.ReadLemmas.{exit_kind, exit_part}
-use Rattle.table_reader.proofs.VerityLemmas.{verity-few}
+use Rattle.table_reader.proofs.ReadLemmas.{exit_kind, exit_memory, exit_part}
+use Rattle.table_reader.proofs.VerityLemmas.{verity-few, device_at-length}
 use Rattle.table_reader.proofs.verity_arguments.read_verity.Goals as goal
 
 pub returns-in_err-words : goal.returns-in_err-words
@@ -63,6 +63,16 @@ pub returns-in_err-options : goal.returns-in_err-options
 unfolding verity_at
 returns-in_err-options c =
     exit_part _ _ _ _ c.from_residual-in_err-options.ensures.1 c.in_err-options.ensures (λ kind e. rw (c.in_ok-words.ensures, sym c.in_ok-check_version.ensures, c.in_ok-check_device.ensures, c.in_ok-check_device-2.ensures, sym c.in_ok-data_block.ensures, sym c.in_ok-hash_block.ensures, sym c.in_ok-blocks.ensures, sym c.in_ok-start.ensures, sym c.in_ok-algorithm.ensures, sym c.in_ok-root.ensures, sym c.in_ok-salt.ensures, e) refl)
+
+pub returns-in_err-data : goal.returns-in_err-data
+returns-in_err-data c =
+    let short = device_at-length _ c.in_ok-check_device.ensures in
+    exit_memory _ _ c.in_err-data.field-0.0 c.from_residual-in_err-data.ensures.1 (omega (arith, c.in_err-data.ensures.err.0))
+
+pub returns-in_err-hash : goal.returns-in_err-hash
+returns-in_err-hash c =
+    let short = device_at-length _ c.in_ok-check_device-2.ensures in
+    exit_memory _ _ c.in_err-hash.field-0.0 c.from_residual-in_err-hash.ensures.1 (omega (arith, c.in_err-hash.ensures.err.0))
 
 pub returns : goal.returns
 unfolding verity_at
