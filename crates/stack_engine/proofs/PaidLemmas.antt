@@ -1,18 +1,16 @@
 -- What a write has counted of its budget: of a leaf, run by run, and of units.
-use Rattle.std.proofs.Common.{◌≡◌, ℕ, ◌+◌, ◌-◌, ◌*◌, ◌/◌, ◌%◌, ◌<◌, ◌≤◌, List, Option, length, map, sum, Result, inl, inr, sym, ap, ◌∙◌, arith}
+use Rattle.std.proofs.Common.{◌≡◌, ℕ, ◌+◌, ◌-◌, ◌*◌, ◌/◌, ◌%◌, ◌<◌, ◌≤◌, List, length, map, sum, Result, inl, inr, sym, ap, ◌∙◌, arith}
 use Rattle.std.proofs.lemmas.List.Sums.{sum-map}
 use Rattle.std.proofs.lemmas.Nat.{div-add-mod', div-mul-add}
 use Rattle.block_device.specs.Device.{Device}
-use Rattle.stack_rules.specs.declared.lower.Lower.{Lower}
 use Rattle.stack_rules.specs.declared.lower.Lower.TheVariants.{Leaf as leaf}
 use Rattle.stack_rules.specs.Records.{Configuration}
 use Rattle.stack_rules.specs.Names.{mapped}
 use Rattle.stack_rules.specs.Rules.{IsLoaded}
-use Rattle.stack_rules.specs.Units.{unit_sectors}
-use Rattle.stack_rules.proofs.lemmas.UnitLemmas.{unit_sectors-some}
+use Rattle.stack_meaning.proofs.lemmas.UnitSizeLemmas.{per_unit-some}
 use Rattle.stack_meaning.specs.declared.fault.IoFault.{IoFault}
 use Rattle.stack_meaning.specs.Leaves.{reads_of, AreRead}
-use Rattle.stack_meaning.specs.Units.{unit_first}
+use Rattle.stack_meaning.specs.Units.{per_unit, unit_first}
 use Rattle.stack_meaning.proofs.lemmas.CostLemmas.{write_cost-leaf}
 use Rattle.stack_lines.specs.declared.source.CryptPart.{CryptPart}
 use Rattle.stack_lines.specs.declared.source.Source.{Source}
@@ -22,7 +20,7 @@ use Rattle.stack_lines.specs.Budgets.{ReadsAtMost, crypt_budget, source_budget}
 use Rattle.stack_lines.specs.Sources.{AreUnits, LieInUnit, IsWholeOf, from_unit, IsServed}
 use Rattle.stack_lines.specs.WriteBudgets.{Counter, of_reads, of_writes, CountsAtMost, change_count, write_budget, crypt_write_budget, source_write_budget}
 use Rattle.stack_lines.specs.Writing.{destination_of, WritesSectors}
-use Rattle.stack_rules.specs.Descend.{by_name, known, read_cost, write_cost}
+use Rattle.stack_rules.specs.Descend.{read_cost, write_cost}
 use Rattle.stack_lines.proofs.lemmas.BudgetLemmas.{unit-budget}
 use Rattle.stack_lines.proofs.lemmas.UnitSourceLemmas.{units-of}
 use Rattle.stack_lines.proofs.lemmas.WriteBudgetLemmas.{write_budget-leaf, write_budget-apart, served-write_budget, part-written, whole-written, units-next, units-most, units-at-once}
@@ -67,50 +65,49 @@ module _ (c : Configuration) (k : Counter) (d first a all : ℕ) (loaded : IsLoa
 
 module _ (c : Configuration) (k : Counter) (x : CryptPart) (n : ℕ) (loaded : IsLoaded c) (units : AreUnits c x n) where
   -- all of them at once
-  pub once-paid : (first m : ℕ) (old new : List Device) → first ≡ unit_first x.crypt.now x.first → m ≡ n → 0 < n → CountsAtMost k (write_budget c k x.lower first m) old new → CountsAtMost k (crypt_write_budget c k x n) old new
+  pub once-paid : (first m : ℕ) (old new : List Device) → first ≡ unit_first x.units x.first → m ≡ n → 0 < n → CountsAtMost k (write_budget c k x.lower first m) old new → CountsAtMost k (crypt_write_budget c k x n) old new
   once-paid first m old new at count some paid =
-      let same : write_budget c k x.lower first m ≡ write_budget c k x.lower (unit_first x.crypt.now x.first) n = ap (λ (s : ℕ). write_budget c k x.lower s m) at ∙ ap (write_budget c k x.lower (unit_first x.crypt.now x.first)) count in
-      omega (arith, paid, same, units-at-once c k x units.of n loaded.valid units.aligned units.whole some)
+      let same : write_budget c k x.lower first m ≡ write_budget c k x.lower (unit_first x.units x.first) n = ap (λ (s : ℕ). write_budget c k x.lower s m) at ∙ ap (write_budget c k x.lower (unit_first x.units x.first)) count in
+      omega (arith, paid, same, units-at-once c k x n loaded.valid units.aligned units.whole some)
 
   -- one behind a sectors
-  pub step-paid : (a first m : ℕ) (old mid new : List Device) → a % unit_sectors x.crypt.now ≡ 0 → first ≡ unit_first x.crypt.now x.first + a → m ≡ unit_sectors x.crypt.now → CountsAtMost k (crypt_write_budget c k x a) old mid
-      → CountsAtMost k (write_budget c k x.lower first m) mid new → CountsAtMost k (crypt_write_budget c k x (a + unit_sectors x.crypt.now)) old new
+  pub step-paid : (a first m : ℕ) (old mid new : List Device) → a % per_unit x.units ≡ 0 → first ≡ unit_first x.units x.first + a → m ≡ per_unit x.units → CountsAtMost k (crypt_write_budget c k x a) old mid
+      → CountsAtMost k (write_budget c k x.lower first m) mid new → CountsAtMost k (crypt_write_budget c k x (a + per_unit x.units)) old new
   step-paid a first m old mid new even at one so_far paid =
-      let same : write_budget c k x.lower first m ≡ write_budget c k x.lower (unit_first x.crypt.now x.first + a) (unit_sectors x.crypt.now) = ap (λ (s : ℕ). write_budget c k x.lower s m) at ∙ ap (write_budget c k x.lower (unit_first x.crypt.now x.first + a)) one in
-      omega (arith, so_far, paid, same, units-next c k x units.of units.aligned a even)
+      let same : write_budget c k x.lower first m ≡ write_budget c k x.lower (unit_first x.units x.first + a) (per_unit x.units) = ap (λ (s : ℕ). write_budget c k x.lower s m) at ∙ ap (write_budget c k x.lower (unit_first x.units x.first + a)) one in
+      omega (arith, so_far, paid, same, units-next c k x units.aligned a even)
 
   -- all of them cost at least what some do
-  pub units-paid : (a : ℕ) (old mid : List Device) → a % unit_sectors x.crypt.now ≡ 0 → a ≤ n → CountsAtMost k (crypt_write_budget c k x a) old mid → CountsAtMost k (crypt_write_budget c k x n) old mid
-  units-paid a old mid even few so_far = omega (arith, so_far, units-most c k x units.of units.aligned a n even few)
+  pub units-paid : (a : ℕ) (old mid : List Device) → a % per_unit x.units ≡ 0 → a ≤ n → CountsAtMost k (crypt_write_budget c k x a) old mid → CountsAtMost k (crypt_write_budget c k x n) old mid
+  units-paid a old mid even few so_far = omega (arith, so_far, units-most c k x units.aligned a n even few)
 
 -- ---- a part of a unit
 
 module _ (c : Configuration) (x : CryptPart) (whole : WholeUnit) (n : ℕ) (of : IsWholeOf x whole) (lies : LieInUnit c x n) (some : 0 < n) where
   abbrev unit : ℕ
-  unit = unit_sectors x.crypt.now
+  unit = per_unit x.units
 
   some-unit : 0 < unit
-  some-unit = omega (arith, unit_sectors-some x.crypt.now)
+  some-unit = omega (arith, per_unit-some x.units)
 
   -- the whole one is read
-  change-paid : (k : Counter) {m : ℕ} (old mid : List Device) → AreRead old m mid → ReadsAtMost (source_budget c (Units whole.from) whole.sectors) old mid → CountsAtMost k (change_count c k x.crypt.now) old mid
+  change-paid : (k : Counter) {m : ℕ} (old mid : List Device) → AreRead old m mid → ReadsAtMost (source_budget c (Units whole.from) whole.sectors) old mid → CountsAtMost k (change_count k (read_cost c x.lower) x.units) old mid
   change-paid of_reads old mid read spent =
       let units = units-of c x whole n of lies some in
       let all : crypt_budget c whole.from whole.sectors ≡ crypt_budget c (from_unit x) unit = ap (λ (y : CryptPart). crypt_budget c y whole.sectors) of.from ∙ ap (crypt_budget c (from_unit x)) of.sectors in
-      let named_cost : unit * by_name c 0 (read_cost c) x.crypt.now.base.device ≡ unit * read_cost c x.lower = ap (λ (o : Option Lower). unit * known 0 (read_cost c) o) lies.of.named in
-      omega (arith, spent, all, named_cost, unit-budget c (from_unit x) unit units.of some-unit (omega (arith, units.aligned)))
+      omega (arith, spent, all, unit-budget c (from_unit x) unit some-unit (omega (arith, units.aligned)))
   change-paid of_writes old mid read spent = omega (arith, read.moved.writes.sum)
 
-  part-is : (k : Counter) → crypt_write_budget c k x n ≡ change_count c k x.crypt.now + crypt_write_budget c k whole.from whole.sectors
+  part-is : (k : Counter) → crypt_write_budget c k x n ≡ change_count k (read_cost c x.lower) x.units + crypt_write_budget c k whole.from whole.sectors
   part-is k =
       let w : ℕ = x.first in
       let units = units-of c x whole n of lies some in
       let begins : w - w % unit ≡ w / unit * unit + 0 = omega (arith, div-add-mod' w unit) in
       let same : (w - w % unit) / unit ≡ w / unit = ap (λ (q : ℕ). q / unit) begins ∙ div-mul-add (w / unit) unit 0 some-unit in
-      let first : unit_first x.crypt.now (w - w % unit) ≡ unit_first x.crypt.now w = ap (λ (q : ℕ). x.crypt.now.base.offset + q * unit) same in
-      let put : write_budget c k x.lower (unit_first x.crypt.now (w - w % unit)) unit ≡ write_budget c k x.lower (unit_first x.crypt.now w) unit = ap (λ (t : ℕ). write_budget c k x.lower t unit) first in
+      let first : unit_first x.units (w - w % unit) ≡ unit_first x.units w = ap (λ (q : ℕ). x.units.offset + q * unit) same in
+      let put : write_budget c k x.lower (unit_first x.units (w - w % unit)) unit ≡ write_budget c k x.lower (unit_first x.units w) unit = ap (λ (t : ℕ). write_budget c k x.lower t unit) first in
       let all : crypt_write_budget c k whole.from whole.sectors ≡ crypt_write_budget c k (from_unit x) unit = ap (λ (y : CryptPart). crypt_write_budget c k y whole.sectors) of.from ∙ ap (crypt_write_budget c k (from_unit x)) of.sectors in
-      omega (arith, part-written c k x lies.of n some lies.part lies.within, all, whole-written c k (from_unit x) units.of units.aligned, put)
+      omega (arith, part-written c k x n some lies.part lies.within, all, whole-written c k (from_unit x) units.aligned, put)
 
   -- and then it isn't written
   pub part-unpaid : (k : Counter) {m : ℕ} (old mid : List Device) → AreRead old m mid → ReadsAtMost (source_budget c (Units whole.from) whole.sectors) old mid → CountsAtMost k (source_write_budget c k (UnitPart x) n) old mid

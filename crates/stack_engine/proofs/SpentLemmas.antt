@@ -9,8 +9,8 @@ use Rattle.stack_rules.specs.Names.{mapped}
 use Rattle.stack_rules.specs.Descend.{by_name, line_read_cost, read_cost}
 use Rattle.stack_rules.specs.Rules.{IsLoaded}
 use Rattle.stack_rules.specs.Trees.{block_sectors}
-use Rattle.stack_rules.specs.Units.{unit_sectors}
-use Rattle.stack_rules.proofs.lemmas.UnitLemmas.{unit_sectors-some}
+use Rattle.stack_meaning.specs.Units.{per_unit}
+use Rattle.stack_meaning.proofs.lemmas.UnitSizeLemmas.{per_unit-some}
 use Rattle.std.proofs.lemmas.Nat.{div-add-mod'}
 use Rattle.stack_meaning.specs.Found.{FoundRecord}
 use Rattle.stack_meaning.specs.Leaves.{AreRead}
@@ -74,16 +74,16 @@ leaf-spent c i first n read =
 
 pub units-spent : (c : Configuration) (x : CryptPart) (n : ℕ) {old new : List Device} → AreUnits c x n → AreRead old (n * read_cost c x.lower) new → ReadsAtMost (crypt_budget c x n) old new
 units-spent c x n units read =
-    let count : n / unit_sectors x.crypt.now * unit_sectors x.crypt.now ≡ n = omega (arith, div-add-mod' n (unit_sectors x.crypt.now), units.whole) in
-    omega (arith, read.moved.reads.sum, units-budget c x n (n / unit_sectors x.crypt.now) units.of units.aligned count)
+    let count : n / per_unit x.units * per_unit x.units ≡ n = omega (arith, div-add-mod' n (per_unit x.units), units.whole) in
+    omega (arith, read.moved.reads.sum, units-budget c x n (n / per_unit x.units) units.aligned count)
 
 -- a part of a unit costs what the whole one does
 pub unit-spent : (c : Configuration) (x : CryptPart) (whole : WholeUnit) (n : ℕ) → IsWholeOf x whole → LieInUnit c x n → 0 < n → (old new : List Device) → ReadsAtMost (source_budget c (Units whole.from) whole.sectors) old new → ReadsAtMost (source_budget c (UnitPart x) n) old new
 unit-spent c x whole n of lies some old new spent =
-    let u : ℕ = unit_sectors x.crypt.now in
+    let u : ℕ = per_unit x.units in
     let units = units-of c x whole n of lies some in
     let all : crypt_budget c whole.from whole.sectors ≡ crypt_budget c (from_unit x) u = ap (λ (y : CryptPart). crypt_budget c y whole.sectors) of.from ∙ ap (crypt_budget c (from_unit x)) of.sectors in
-    omega (arith, spent, all, unit-budget c (from_unit x) u units.of (omega (arith, unit_sectors-some x.crypt.now)) (omega (arith, units.aligned)), unit-budget c x n lies.of some lies.within)
+    omega (arith, spent, all, unit-budget c (from_unit x) u (omega (arith, per_unit-some x.units)) (omega (arith, units.aligned)), unit-budget c x n some lies.within)
 
 -- ---- data blocks
 

@@ -67,10 +67,10 @@ module _ {c : Configuration} {old new : BackingRecord} {result : Result Unit IoF
   pub below-step : (lower : Lower) (first n : ℕ) → IsReadStep c (run_beneath c lower first n) old new result → IsReadStep c (run_of c (Below lower first) n) old new result
   below-step lower first n p = step-up {run = run_beneath c lower first n} {up = run_of c (Below lower first) n} (λ a b r. below_plain c lower first n) (λ i out. out) p.spent p
 
-  pub units-step : (x : CryptPart) (first n : ℕ) → AreUnits c x n → first ≡ unit_first x.crypt.now x.first → AreRead old.leaves (n * read_cost c x.lower) new.leaves
+  pub units-step : (x : CryptPart) (first n : ℕ) → AreUnits c x n → first ≡ unit_first x.units x.first → AreRead old.leaves (n * read_cost c x.lower) new.leaves
       → IsReadStep c (run_beneath c x.lower first n) old new result → IsReadStep c (run_of c (Units x) n) old new result
   units-step x first n units at moved p =
-      step-up {run = run_beneath c x.lower (unit_first x.crypt.now x.first) n} {up = run_of c (Units x) n} (λ a b r. units-plain c x n units) (λ i out. out) (units-spent c x n units moved)
+      step-up {run = run_beneath c x.lower (unit_first x.units x.first) n} {up = run_of c (Units x) n} (λ a b r. units-plain c x n units) (λ i out. out) (units-spent c x n units moved)
       (subst (λ (k : ℕ). IsReadStep c (run_beneath c x.lower k n) old new result) at p)
 
   pub part-step : (x : CryptPart) (whole : WholeUnit) (n m : ℕ) → IsWholeOf x whole → LieInUnit c x n → 0 < n → m ≡ whole.sectors

@@ -16,8 +16,9 @@ use Rattle.stack_rules.specs.Names.{mapped, lines_of}
 use Rattle.stack_rules.specs.Descend.{by_name, known, most_devices, depth}
 use Rattle.stack_rules.specs.Lines.{line_at}
 use Rattle.stack_rules.specs.Rules.{IsLoaded, IsValid, most_depth}
-use Rattle.stack_rules.specs.Units.{unit_sectors, crypt_of}
-use Rattle.stack_rules.proofs.lemmas.UnitLemmas.{unit_sectors-some}
+use Rattle.stack_rules.specs.Units.{crypt_of}
+use Rattle.stack_meaning.proofs.lemmas.UnitSizeLemmas.{per_unit-some}
+use Rattle.stack_meaning.specs.declared.units.CryptUnits.{CryptUnits}
 use Rattle.stack_rules.proofs.lemmas.UnrollLemmas.{IsLocal, descend-rule, falls-at}
 use Rattle.stack_rules.proofs.lemmas.ValidLemmas.{depth-low}
 use Rattle.stack_meaning.specs.Sectors.{on_found, sector_rule}
@@ -27,7 +28,7 @@ use Rattle.stack_meaning.specs.Meaning.{Said, none_said, said_at, said_by_name}
 use Rattle.stack_meaning.specs.MeaningOf.{meaning_of}
 use Rattle.stack_meaning.specs.Puts.{together, in_one_run}
 use Rattle.stack_meaning.specs.TargetMeaning.{Meant, handed, own, IsHanded}
-use Rattle.stack_meaning.specs.Units.{unit_first}
+use Rattle.stack_meaning.specs.Units.{units_of, per_unit, unit_first}
 use Rattle.stack_meaning.proofs.lemmas.LineLemmas.{found-more}
 use Rattle.stack_meaning.proofs.lemmas.SectorLemmas.{AsksOfNames, said_or-same, sector_rule-local, said_at-leaf}
 use Rattle.stack_lines.specs.declared.source.CryptPart.{CryptPart}
@@ -160,36 +161,39 @@ module _ (c : Configuration) (d s n : ℕ) (loaded : IsLoaded c) (some : 0 < n) 
         seam-line c loaded.valid d s j l line found start (omega (arith, h, fits))
         ∙ ap (λ (t : Target). with_run (in_one_run c d (s + j)) (line_seam c (seam_by_name c) d l t (w + j))) target
 
-    begins-unit : (w % unit_sectors crypt ≡ 0) × IsLast c crypt w
+    abbrev units : CryptUnits
+    units = units_of crypt
+
+    begins-unit : (w % per_unit units ≡ 0) × IsLast c crypt w
     begins-unit =
         let begin : s ≡ s + 0 = omega arith in
         let at : w + 0 ≡ w = omega arith in
-        subst (λ (k : ℕ). (k % unit_sectors crypt ≡ 0) × IsLast c crypt k) at (subst (λ (x : Seam). x.begins) (unit-seam 0 some) (subst (λ (k : ℕ). (seam_at c (mapped d) k).begins) begin cuts.begins))
+        subst (λ (k : ℕ). (k % per_unit units ≡ 0) × IsLast c crypt k) at (subst (λ (x : Seam). x.begins) (unit-seam 0 some) (subst (λ (k : ℕ). (seam_at c (mapped d) k).begins) begin cuts.begins))
 
-    ends-unit : (w + n) % unit_sectors crypt ≡ 0
+    ends-unit : (w + n) % per_unit units ≡ 0
     ends-unit =
         let end : s + n - 1 ≡ s + (n - 1) = omega (arith, some) in
         let at : w + (n - 1) + 1 ≡ w + n = omega (arith, some) in
-        subst (λ (k : ℕ). k % unit_sectors crypt ≡ 0) at (subst (λ (x : Seam). x.ends) (unit-seam (n - 1) (omega (arith, some))) (subst (λ (k : ℕ). (seam_at c (mapped d) k).ends) end cuts.ends))
+        subst (λ (k : ℕ). k % per_unit units ≡ 0) at (subst (λ (x : Seam). x.ends) (unit-seam (n - 1) (omega (arith, some))) (subst (λ (k : ℕ). (seam_at c (mapped d) k).ends) end cuts.ends))
 
     -- so none of them is a part of one unit alone
-    not-part : n < unit_sectors crypt → ⊥
+    not-part : n < per_unit units → ⊥
     not-part less =
-        let u : ℕ = unit_sectors crypt in
+        let u : ℕ = per_unit units in
         let at : w + n ≡ w / u * u + n = omega (arith, div-add-mod' w u, begins-unit.0) in
         let rest : (w + n) % u ≡ n = ap (λ (k : ℕ). k % u) at ∙ mod-mul-add (w / u) u n less in
         omega (arith, rest, ends-unit, some)
 
     -- each unit is the last one on its way
-    each-last : (k q : ℕ) → q * unit_sectors crypt ≡ k → k < n → IsLast c crypt (w + k)
+    each-last : (k q : ℕ) → q * per_unit units ≡ k → k < n → IsLast c crypt (w + k)
     each-last zero q e low = let at : w ≡ w + 0 = omega arith in subst (IsLast c crypt) at begins-unit.1
     each-last (suc k) q e low = go q e
       where
-        go : (q : ℕ) → q * unit_sectors crypt ≡ suc k → IsLast c crypt (w + suc k)
-        go zero e = let none : 0 * unit_sectors crypt ≡ 0 = omega arith in absurd (omega (arith, e, none))
+        go : (q : ℕ) → q * per_unit units ≡ suc k → IsLast c crypt (w + suc k)
+        go zero e = let none : 0 * per_unit units ≡ 0 = omega arith in absurd (omega (arith, e, none))
         go (suc q) e =
-            let u : ℕ = unit_sectors crypt in
-            let several : 0 < u = omega (arith, unit_sectors-some crypt) in
+            let u : ℕ = per_unit units in
+            let several : 0 < u = omega (arith, per_unit-some units) in
             let more : suc q ≡ q + 1 = omega arith in
             let all : q * u + u ≡ suc k = omega (arith, e, ap (λ (m : ℕ). m * u) more, add-mul q 1 u) in
             let sum : (w / u + q) * u ≡ w / u * u + q * u = add-mul (w / u) q u in
@@ -207,10 +211,10 @@ module _ (c : Configuration) (d s n : ℕ) (loaded : IsLoaded c) (some : 0 < n) 
             let both = cuts.between k low (apart c loaded.valid d (s + k) cut) in
             (subst (λ (x : Seam). x.begins) (unit-seam (suc k) low) both.1).1
 
-    none-beneath : SomeEncrypt (said_by_name c crypt.base.device) (unit_first crypt w) n → ⊥
+    none-beneath : SomeEncrypt (said_by_name c crypt.base.device) (unit_first units w) n → ⊥
     none-beneath some_at =
-        let u : ℕ = unit_sectors crypt in
-        let several : 0 < u = omega (arith, unit_sectors-some crypt) in
+        let u : ℕ = per_unit units in
+        let several : 0 < u = omega (arith, per_unit-some units) in
         let t : ℕ = some_at.0 in
         let k : ℕ = t / u * u in
         let split : k + t % u ≡ t = div-add-mod' t u in
@@ -218,18 +222,19 @@ module _ (c : Configuration) (d s n : ℕ) (loaded : IsLoaded c) (some : 0 < n) 
         let whole : w + k ≡ (w / u + t / u) * u + 0 = omega (arith, sum, div-add-mod' w u, begins-unit.0) in
         let quotient : (w + k) / u ≡ w / u + t / u = ap (λ (m : ℕ). m / u) whole ∙ div-mul-add (w / u + t / u) u 0 several in
         let from : (w + k) / u * u ≡ (w / u + t / u) * u = ap (λ (m : ℕ). m * u) quotient in
-        let here : unit_first crypt w ≡ crypt.base.offset + w / u * u = refl in
-        let there : unit_first crypt (w + k) ≡ crypt.base.offset + (w + k) / u * u = refl in
-        let at : unit_first crypt w + t ≡ unit_first crypt (w + k) + t % u = omega (arith, split, sum, from, here, there) in
+        let here : unit_first units w ≡ units.offset + w / u * u = refl in
+        let there : unit_first units (w + k) ≡ units.offset + (w + k) / u * u = refl in
+        let at : unit_first units w + t ≡ unit_first units (w + k) + t % u = omega (arith, split, sum, from, here, there) in
         each-last k (t / u) refl (omega (arith, split, some_at.1)) (t % u, mod_below t u several, subst (λ (m : ℕ). (said_by_name c crypt.base.device m).encrypts) at some_at.2)
 
   pub served-cuts : (source : Source) → IsServed c d s n source → SourceCutsNone c source n
   served-cuts (Below lower first) r = below-cuts lower first r
   served-cuts (Units x) r = λ some_at.
-      let by : (t : ℕ) → said_by_name c x.crypt.now.base.device t ≡ said_at c x.lower t = λ t. ap (λ (o : Option Lower). known {A = ℕ → Said} (λ s. none_said) (said_at c) o t) r.come.2.of.named in
-      let here : SomeEncrypt (said_by_name c x.crypt.now.base.device) (unit_first x.crypt.now x.first) n = (some_at.0, some_at.1, subst (λ (y : Said). y.encrypts) (sym (by (unit_first x.crypt.now x.first + some_at.0))) some_at.2) in
-      none-beneath r.number r.line r.found r.start r.fits x.crypt.now r.come.0 (subst (λ (k : ℕ). SomeEncrypt (said_by_name c x.crypt.now.base.device) (unit_first x.crypt.now k) n) r.come.1 here)
-  served-cuts (UnitPart x) r = not-part r.number r.line r.found r.start r.fits x.crypt.now r.come.0 r.come.2.part
+      let of = r.come.0 in
+      let by : (t : ℕ) → said_by_name c of.crypt.base.device t ≡ said_at c x.lower t = λ t. ap (λ (o : Option Lower). known {A = ℕ → Said} (λ s. none_said) (said_at c) o t) of.named in
+      let here : SomeEncrypt (said_by_name c of.crypt.base.device) (unit_first x.units x.first) n = (some_at.0, some_at.1, subst (λ (y : Said). y.encrypts) (sym (by (unit_first x.units x.first + some_at.0))) some_at.2) in
+      none-beneath r.number r.line r.found r.start r.fits of.crypt of.is (subst (λ (k : ℕ). SomeEncrypt (said_by_name c of.crypt.base.device) k n) (ap (λ (u : CryptUnits). unit_first u x.first) of.units ∙ ap (unit_first (units_of of.crypt)) r.come.1) here)
+  served-cuts (UnitPart x) r = not-part r.number r.line r.found r.start r.fits r.come.0.crypt r.come.0.is (subst (λ (u : CryptUnits). n < per_unit u) r.come.0.units r.come.2.part)
   served-cuts Zeros r = tt
   served-cuts Fails r = tt
   served-cuts (Block b) r = tt
@@ -242,9 +247,9 @@ pub leaf-plain : (c : Configuration) (i first n : ℕ) → SomeEncrypt (said_at 
 leaf-plain c i first n some = subst (λ (x : Said). x.encrypts) (said_at-leaf c i (first + some.0)) some.2
 
 -- units beneath which none encrypts
-pub units-plain-below : (c : Configuration) (x : CryptPart) (n first : ℕ) → SourceCutsNone c (Units x) n → (k m : ℕ) → first ≡ unit_first x.crypt.now x.first + k → k + m ≤ n → SomeEncrypt (said_at c x.lower) first m → ⊥
+pub units-plain-below : (c : Configuration) (x : CryptPart) (n first : ℕ) → SourceCutsNone c (Units x) n → (k m : ℕ) → first ≡ unit_first x.units x.first + k → k + m ≤ n → SomeEncrypt (said_at c x.lower) first m → ⊥
 units-plain-below c x n first cuts k m at fits some =
-    let place : first + some.0 ≡ unit_first x.crypt.now x.first + (k + some.0) = omega (arith, at) in
+    let place : first + some.0 ≡ unit_first x.units x.first + (k + some.0) = omega (arith, at) in
     cuts (k + some.0, omega (arith, fits, some.1), subst (λ (t : ℕ). (said_at c x.lower t).encrypts) place some.2)
 
 pub unread-then : (old mid new : List Device) → NoneRead old mid → NoneRead mid new → NoneRead old new

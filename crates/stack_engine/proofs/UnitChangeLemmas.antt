@@ -19,8 +19,7 @@ use Rattle.stack_lines.specs.declared.source.Source.TheVariants.{Units, UnitPart
 use Rattle.stack_meaning.specs.Sectors.{SomeOf, IsRun, gathered}
 use Rattle.stack_meaning.specs.declared.fault.Fault.{Fault}
 use Rattle.stack_meaning.specs.Outcomes.{error_target, mismatch, Images, Outcome, LeafSector, span}
-use Rattle.stack_rules.specs.Units.{unit_sectors}
-use Rattle.stack_meaning.specs.Units.{decrypted_unit, encrypted_unit, unit_first}
+use Rattle.stack_meaning.specs.Units.{per_unit, decrypted_unit, encrypted_unit, unit_first}
 use Rattle.stack_meaning.specs.Found.{FoundRecord}
 use Rattle.stack_meaning.specs.Meaning.{Said, crypt_said, said_at}
 use Rattle.stack_meaning.specs.Puts.{Put, stopped, read_put, encrypted_sectors, changed_unit, put_on}
@@ -30,7 +29,7 @@ use Rattle.stack_meaning.specs.Changes.{AllWhole, reached, KeepsOthers, AreWritt
 use Rattle.stack_meaning.specs.Reading.{Ends, Answers, MeetVerity, IsPlain}
 use Rattle.stack_lines.specs.Sources.{LieInUnit, IsWholeOf, source_said, ReadsSource}
 use Rattle.stack_lines.specs.Writing.{SomeEncrypt, sectors_in, crypt_put, MayEnd, IsPut, FailedBy, StopsAt, IsCounted, StopsAtFault, StopsBehindPut, with_some, WritesSectors, source_destination}
-use Rattle.stack_rules.proofs.lemmas.UnitLemmas.{unit_sectors-some}
+use Rattle.stack_meaning.proofs.lemmas.UnitSizeLemmas.{per_unit-some}
 use Rattle.stack_lines.proofs.lemmas.UnitPutLemmas.{sectors_in-of, whole-put, some-put}
 use Rattle.stack_lines.proofs.lemmas.UnitReadLemmas.{images-whole, unit-means, whole-unit, unit-fails}
 use Rattle.stack_lines.proofs.lemmas.UnitSourceLemmas.{begin-whole, part-some, part-has, part-up}
@@ -53,32 +52,32 @@ length-put plain at bytes size long fits =
     ∙ (omega (arith, long, fits, length-take at plain, length-drop (at + length bytes) plain))
 
 module _ (c : Configuration) (v : CryptPart) (whole : WholeUnit) (bytes : List ℕ) (n : ℕ) (loaded : IsLoaded c) (of : IsWholeOf v whole) (lies : LieInUnit c v n) (some : 0 < n) (len : length bytes ≡ 512 * n) (writable : IsTrue (may_write c v.lower)) where
-  begin-is : v.first - v.first % unit_sectors v.crypt.now ≡ v.first / unit_sectors v.crypt.now * unit_sectors v.crypt.now
-  begin-is = omega (arith, div-add-mod' v.first (unit_sectors v.crypt.now))
+  begin-is : v.first - v.first % per_unit v.units ≡ v.first / per_unit v.units * per_unit v.units
+  begin-is = omega (arith, div-add-mod' v.first (per_unit v.units))
 
-  begin-unit : (v.first - v.first % unit_sectors v.crypt.now) / unit_sectors v.crypt.now ≡ v.first / unit_sectors v.crypt.now
+  begin-unit : (v.first - v.first % per_unit v.units) / per_unit v.units ≡ v.first / per_unit v.units
   begin-unit =
-      let u : ℕ = unit_sectors v.crypt.now in
+      let u : ℕ = per_unit v.units in
       let split : v.first - v.first % u ≡ v.first / u * u + 0 = omega (arith, begin-is) in
-      ap (λ (k : ℕ). k / u) split ∙ div-mul-add (v.first / u) u 0 (omega (arith, unit_sectors-some v.crypt.now))
+      ap (λ (k : ℕ). k / u) split ∙ div-mul-add (v.first / u) u 0 (omega (arith, per_unit-some v.units))
 
-  begin-first : unit_first v.crypt.now (v.first - v.first % unit_sectors v.crypt.now) ≡ unit_first v.crypt.now v.first
-  begin-first = ap (λ (k : ℕ). v.crypt.now.base.offset + k * unit_sectors v.crypt.now) begin-unit
+  begin-first : unit_first v.units (v.first - v.first % per_unit v.units) ≡ unit_first v.units v.first
+  begin-first = ap (λ (k : ℕ). v.units.offset + k * per_unit v.units) begin-unit
 
   -- what is said of the unit's sectors
-  from-said : (j : ℕ) → source_said c (Units whole.from) j ≡ crypt_said (said_at c v.lower) v.crypt.now (v.first - v.first % unit_sectors v.crypt.now + j)
+  from-said : (j : ℕ) → source_said c (Units whole.from) j ≡ crypt_said (said_at c v.lower) v.units v.key.now (v.first - v.first % per_unit v.units + j)
   from-said j = ap (λ (y : CryptPart). source_said c (Units y) j) of.from
 
   pub none-meets : MeetVerity (source_said c (Units whole.from)) 0 whole.sectors → ⊥
   none-meets y =
-      let h : (crypt_said (said_at c v.lower) v.crypt.now (v.first - v.first % unit_sectors v.crypt.now + (0 + y.0))).meets mismatch = subst (λ (z : Said). z.meets mismatch) (from-said (0 + y.0)) y.2 in
-      none-verity c loaded v.lower writable (unit_first v.crypt.now (v.first - v.first % unit_sectors v.crypt.now + (0 + y.0))) (unit_sectors v.crypt.now) h
+      let h : (crypt_said (said_at c v.lower) v.units v.key.now (v.first - v.first % per_unit v.units + (0 + y.0))).meets mismatch = subst (λ (z : Said). z.meets mismatch) (from-said (0 + y.0)) y.2 in
+      none-verity c loaded v.lower writable (unit_first v.units (v.first - v.first % per_unit v.units + (0 + y.0))) (per_unit v.units) h
 
   meet-part : (x : Fault) → SomeOf (λ j. (source_said c (Units whole.from) j).meets x) 0 whole.sectors → SomeOf (λ j. (source_said c (UnitPart v) j).meets x) 0 n
-  meet-part x = part-some c v whole n of lies some (λ y. y.meets x) (λ s s' lower e h. subst (λ (k : ℕ). SomeOf (λ t. (lower t).meets x) k (unit_sectors v.crypt.now)) e h)
+  meet-part x = part-some c v whole n of lies some (λ y. y.meets x) (λ s s' lower e h. subst (λ (k : ℕ). SomeOf (λ t. (lower t).meets x) k (per_unit v.units)) e h)
 
   reach-part : (p : LeafSector) → reached (λ j. (source_said c (Units whole.from) j).reaches) 0 whole.sectors p → reached (λ j. (source_said c (UnitPart v) j).reaches) 0 n p
-  reach-part p = part-some c v whole n of lies some (λ y. Contains y.reaches p) (λ s s' lower e h. subst (λ (k : ℕ). Contains (gathered (λ t. (lower t).reaches) k (unit_sectors v.crypt.now)) p) e h)
+  reach-part p = part-some c v whole n of lies some (λ y. Contains y.reaches p) (λ s s' lower e h. subst (λ (k : ℕ). Contains (gathered (λ t. (lower t).reaches) k (per_unit v.units)) p) e h)
 
   count : length (sectors_in bytes) ≡ n
   count = omega (arith, length-sectors_in bytes, len)
@@ -86,18 +85,18 @@ module _ (c : Configuration) (v : CryptPart) (whole : WholeUnit) (bytes : List �
   -- ---- the first sector of the part, which has all that the unit has
 
   first-meets : (x : Fault) → SomeOf (λ j. (source_said c (Units whole.from) j).meets x) 0 whole.sectors → (source_said c (UnitPart v) 0).meets x
-  first-meets x = part-has c v whole n of lies some (λ y. y.meets x) (λ s s' lower e h. subst (λ (k : ℕ). SomeOf (λ t. (lower t).meets x) k (unit_sectors v.crypt.now)) e h)
+  first-meets x = part-has c v whole n of lies some (λ y. y.meets x) (λ s s' lower e h. subst (λ (k : ℕ). SomeOf (λ t. (lower t).meets x) k (per_unit v.units)) e h)
 
   first-reaches : (p : LeafSector) → reached (λ j. (source_said c (Units whole.from) j).reaches) 0 whole.sectors p → Contains (source_said c (UnitPart v) 0).reaches p
-  first-reaches p = part-has c v whole n of lies some (λ y. Contains y.reaches p) (λ s s' lower e h. subst (λ (k : ℕ). Contains (gathered (λ t. (lower t).reaches) k (unit_sectors v.crypt.now)) p) e h)
+  first-reaches p = part-has c v whole n of lies some (λ y. Contains y.reaches p) (λ s s' lower e h. subst (λ (k : ℕ). Contains (gathered (λ t. (lower t).reaches) k (per_unit v.units)) p) e h)
 
   one-encrypts : SomeEncrypt (source_said c (UnitPart v)) 0 (length (sectors_in bytes))
   one-encrypts = (0, omega (arith, count, some), tt)
 
   -- the budget of the read and of the write
-  paid : whole.sectors * read_cost c whole.from.lower + whole.sectors * write_cost c whole.from.lower ≤ length (sectors_in bytes) * (unit_sectors v.crypt.now * (read_cost c v.lower + write_cost c v.lower))
+  paid : whole.sectors * read_cost c whole.from.lower + whole.sectors * write_cost c whole.from.lower ≤ length (sectors_in bytes) * (per_unit v.units * (read_cost c v.lower + write_cost c v.lower))
   paid =
-      let u : ℕ = unit_sectors v.crypt.now in
+      let u : ℕ = per_unit v.units in
       let r : ℕ = read_cost c v.lower in
       let w : ℕ = write_cost c v.lower in
       let once : 1 * (u * (r + w)) ≤ length (sectors_in bytes) * (u * (r + w)) = mul-le-mul_right (u * (r + w)) (omega (arith, count, some)) in
@@ -113,47 +112,47 @@ module _ (c : Configuration) (v : CryptPart) (whole : WholeUnit) (bytes : List �
 
     -- its sectors, as those of the line
     as-line : span (λ j. (source_said c (Units whole.from) j).means (steady_images leaves)) 0 whole.sectors
-        ≡ span (λ s. (crypt_said (said_at c v.lower) v.crypt.now s).means (steady_images leaves)) (v.first / unit_sectors v.crypt.now * unit_sectors v.crypt.now) (unit_sectors v.crypt.now)
+        ≡ span (λ s. (crypt_said (said_at c v.lower) v.units v.key.now s).means (steady_images leaves)) (v.first / per_unit v.units * per_unit v.units) (per_unit v.units)
     as-line =
-        let u : ℕ = unit_sectors v.crypt.now in
-        let g : ℕ → Outcome = λ s. (crypt_said (said_at c v.lower) v.crypt.now s).means (steady_images leaves) in
+        let u : ℕ = per_unit v.units in
+        let g : ℕ → Outcome = λ s. (crypt_said (said_at c v.lower) v.units v.key.now s).means (steady_images leaves) in
         ap (λ (k : ℕ). span (λ j. (source_said c (Units whole.from) j).means (steady_images leaves)) 0 k) of.sectors
         ∙ span_same (λ j. (source_said c (Units whole.from) j).means (steady_images leaves)) g 0 (v.first - v.first % u) u
         (λ j h. let e : 0 + j ≡ j = omega arith in ap (λ (x : Said). x.means (steady_images leaves)) (from-said (0 + j)) ∙ ap (λ (k : ℕ). g (v.first - v.first % u + k)) e)
         ∙ ap (λ (k : ℕ). span g k u) begin-is
 
-    beneath-fails : (x : Fault) → span (λ j. (source_said c (Units whole.from) j).means (steady_images leaves)) 0 whole.sectors ≡ Err x → span (λ t. (said_at c v.lower t).means (steady_images leaves)) (unit_first v.crypt.now v.first) (unit_sectors v.crypt.now) ≡ Err x
-    beneath-fails x is = unit-fails (steady_images leaves) (said_at c v.lower) sized v.crypt.now (v.first / unit_sectors v.crypt.now) x (sym as-line ∙ is)
+    beneath-fails : (x : Fault) → span (λ j. (source_said c (Units whole.from) j).means (steady_images leaves)) 0 whole.sectors ≡ Err x → span (λ t. (said_at c v.lower t).means (steady_images leaves)) (unit_first v.units v.first) (per_unit v.units) ≡ Err x
+    beneath-fails x is = unit-fails (steady_images leaves) (said_at c v.lower) sized v.units v.key.now (v.first / per_unit v.units) x (sym as-line ∙ is)
 
     beneath-is : (plain : List ℕ) → span (λ j. (source_said c (Units whole.from) j).means (steady_images leaves)) 0 whole.sectors ≡ Ok plain
-        → (below : List ℕ) × (span (λ t. (said_at c v.lower t).means (steady_images leaves)) (unit_first v.crypt.now v.first) (unit_sectors v.crypt.now) ≡ Ok below) × (plain ≡ decrypted_unit v.crypt.now (v.first / unit_sectors v.crypt.now) below)
-    beneath-is plain is = go (span (λ t. (said_at c v.lower t).means (steady_images leaves)) (unit_first v.crypt.now v.first) (unit_sectors v.crypt.now)) refl
+        → (below : List ℕ) × (span (λ t. (said_at c v.lower t).means (steady_images leaves)) (unit_first v.units v.first) (per_unit v.units) ≡ Ok below) × (plain ≡ decrypted_unit v.units v.key.now (v.first / per_unit v.units) below)
+    beneath-is plain is = go (span (λ t. (said_at c v.lower t).means (steady_images leaves)) (unit_first v.units v.first) (per_unit v.units)) refl
       where
-        go : (o : Outcome) → span (λ t. (said_at c v.lower t).means (steady_images leaves)) (unit_first v.crypt.now v.first) (unit_sectors v.crypt.now) ≡ o
-            → (below : List ℕ) × (span (λ t. (said_at c v.lower t).means (steady_images leaves)) (unit_first v.crypt.now v.first) (unit_sectors v.crypt.now) ≡ Ok below) × (plain ≡ decrypted_unit v.crypt.now (v.first / unit_sectors v.crypt.now) below)
+        go : (o : Outcome) → span (λ t. (said_at c v.lower t).means (steady_images leaves)) (unit_first v.units v.first) (per_unit v.units) ≡ o
+            → (below : List ℕ) × (span (λ t. (said_at c v.lower t).means (steady_images leaves)) (unit_first v.units v.first) (per_unit v.units) ≡ Ok below) × (plain ≡ decrypted_unit v.units v.key.now (v.first / per_unit v.units) below)
         go (Ok below) e =
-            let both : Ok (decrypted_unit v.crypt.now (v.first / unit_sectors v.crypt.now) below) ≡ Ok plain = sym (whole-unit (steady_images leaves) (said_at c v.lower) sized v.crypt.now (v.first / unit_sectors v.crypt.now) below e) ∙ sym as-line ∙ is in
-            let same : decrypted_unit v.crypt.now (v.first / unit_sectors v.crypt.now) below ≡ plain = cc in
+            let both : Ok (decrypted_unit v.units v.key.now (v.first / per_unit v.units) below) ≡ Ok plain = sym (whole-unit (steady_images leaves) (said_at c v.lower) sized v.units v.key.now (v.first / per_unit v.units) below e) ∙ sym as-line ∙ is in
+            let same : decrypted_unit v.units v.key.now (v.first / per_unit v.units) below ≡ plain = cc in
             (below, e, sym same)
         go (Err x) e = absurd (failing x e)
           where
-            failing : (x : Fault) → span (λ t. (said_at c v.lower t).means (steady_images leaves)) (unit_first v.crypt.now v.first) (unit_sectors v.crypt.now) ≡ Err x → ⊥
+            failing : (x : Fault) → span (λ t. (said_at c v.lower t).means (steady_images leaves)) (unit_first v.units v.first) (per_unit v.units) ≡ Err x → ⊥
             failing x e =
-                let u : ℕ = unit_sectors v.crypt.now in
-                let g : ℕ → Outcome = λ s. (crypt_said (said_at c v.lower) v.crypt.now s).means (steady_images leaves) in
+                let u : ℕ = per_unit v.units in
+                let g : ℕ → Outcome = λ s. (crypt_said (said_at c v.lower) v.units v.key.now s).means (steady_images leaves) in
                 let zero_on : v.first / u * u + 0 ≡ v.first / u * u = omega arith in
-                let first : g (v.first / u * u) ≡ Err x = ap g (sym zero_on) ∙ unit-means (steady_images leaves) (said_at c v.lower) sized v.crypt.now (v.first / u) 0 (Err x) e (omega (arith, unit_sectors-some v.crypt.now)) in
-                let clash : Err x ≡ Ok plain = sym (span_fails g (v.first / u * u) u x (omega (arith, unit_sectors-some v.crypt.now)) first) ∙ sym as-line ∙ is in
+                let first : g (v.first / u * u) ≡ Err x = ap g (sym zero_on) ∙ unit-means (steady_images leaves) (said_at c v.lower) sized v.units v.key.now (v.first / u) 0 (Err x) e (omega (arith, per_unit-some v.units)) in
+                let clash : Err x ≡ Ok plain = sym (span_fails g (v.first / u * u) u x (omega (arith, per_unit-some v.units)) first) ∙ sym as-line ∙ is in
                 cc
 
   -- what the put does
   part-puts : (images : Images) → (source_destination c (UnitPart v)).puts 0 (sectors_in bytes) images
-      ≡ read_put (span (λ t. (said_at c v.lower t).means images) (unit_first v.crypt.now v.first) (unit_sectors v.crypt.now))
-      (λ below. put_on c v.lower (unit_first v.crypt.now v.first) (encrypted_sectors v.crypt.now v.first (changed_unit v.crypt.now v.first (sectors_in bytes) below))) images
+      ≡ read_put (span (λ t. (said_at c v.lower t).means images) (unit_first v.units v.first) (per_unit v.units))
+      (λ below. put_on c v.lower (unit_first v.units v.first) (encrypted_sectors v.units v.key.now v.first (changed_unit v.units v.key.now v.first (sectors_in bytes) below))) images
   part-puts images =
       let first : v.first + 0 ≡ v.first = omega arith in
-      ap (λ (k : ℕ). crypt_put c v.lower v.crypt.now k (sectors_in bytes) images) first
-      ∙ some-put c v.lower v.crypt.now v.first bytes n images lies.within lies.part some len
+      ap (λ (k : ℕ). crypt_put c v.lower v.units v.key.now k (sectors_in bytes) images) first
+      ∙ some-put c v.lower v.units v.key.now v.first bytes n images lies.within lies.part some len
 
   -- ---- the read
 
@@ -180,7 +179,7 @@ module _ (c : Configuration) (v : CryptPart) (whole : WholeUnit) (bytes : List �
       → (source_destination c (UnitPart v)).puts 0 (sectors_in bytes) (steady_images leaves) ≡ stopped x (steady_images leaves)
   stops leaves all x is =
       part-puts (steady_images leaves)
-      ∙ ap (λ (o : Outcome). read_put o (λ below. put_on c v.lower (unit_first v.crypt.now v.first) (encrypted_sectors v.crypt.now v.first (changed_unit v.crypt.now v.first (sectors_in bytes) below))) (steady_images leaves)) (beneath-fails leaves all x is)
+      ∙ ap (λ (o : Outcome). read_put o (λ below. put_on c v.lower (unit_first v.units v.first) (encrypted_sectors v.units v.key.now v.first (changed_unit v.units v.key.now v.first (sectors_in bytes) below))) (steady_images leaves)) (beneath-fails leaves all x is)
 
   unit-steady : (leaves : List Device) → AreSteady (leaves_of c v.lower) leaves → AreSteady (source_leaves c (Units whole.from)) leaves
   unit-steady leaves steady = subst (λ (y : CryptPart). AreSteady (leaves_of c y.lower) leaves) (sym of.from) steady
@@ -248,10 +247,10 @@ module _ (c : Configuration) (v : CryptPart) (whole : WholeUnit) (bytes : List �
 
   -- ---- the write
 
-  changed-is : (plain : List ℕ) → length plain ≡ 512 * unit_sectors v.crypt.now
-      → put_at plain (512 * (v.first % unit_sectors v.crypt.now)) bytes ≡ concat (spliced (sectors_of (unit_sectors v.crypt.now) plain) (v.first % unit_sectors v.crypt.now) (sectors_in bytes))
+  changed-is : (plain : List ℕ) → length plain ≡ 512 * per_unit v.units
+      → put_at plain (512 * (v.first % per_unit v.units)) bytes ≡ concat (spliced (sectors_of (per_unit v.units) plain) (v.first % per_unit v.units) (sectors_in bytes))
   changed-is plain long =
-      let u : ℕ = unit_sectors v.crypt.now in
+      let u : ℕ = per_unit v.units in
       let r : ℕ = v.first % u in
       let put = put_run plain bytes u r n len (omega (arith, long)) lies.within in
       let size : length (put_at plain (512 * r) bytes) ≡ 512 * u = length-put plain (512 * r) bytes (512 * u) long (omega (arith, len, lies.within)) in
@@ -270,11 +269,11 @@ module _ (c : Configuration) (v : CryptPart) (whole : WholeUnit) (bytes : List �
 
   pub part-written : {old mid new : List Device} {found after : List FoundRecord} {plain out : List ℕ} {result : Result Unit IoFault} → AllWhole old
       → ReadsSource c (Units whole.from) whole.sectors (record { old = old; new = mid; before = found; after = after }) (Ok plain) → IsPlain (source_said c (Units whole.from)) 0 whole.sectors old mid (Ok tt) → failures_of mid ≡ failures_of old
-      → out ≡ put_at plain (512 * (v.first % unit_sectors v.crypt.now)) bytes
+      → out ≡ put_at plain (512 * (v.first % per_unit v.units)) bytes
       → WritesSectors (source_destination c (Units whole.from)) 0 (sectors_in out) mid new result
       → WritesSectors (source_destination c (UnitPart v)) 0 (sectors_in bytes) old new result
   part-written {old = old} {mid = mid} {new = new} {plain = plain} {out = out} {result = result} all p q none_failed is w =
-      let u : ℕ = unit_sectors v.crypt.now in
+      let u : ℕ = per_unit v.units in
       let long : length plain ≡ 512 * u = p.got.may.len ∙ ap (λ (k : ℕ). 512 * k) of.sectors in
       let size : length out ≡ 512 * u = ap length is ∙ length-put plain (512 * (v.first % u)) bytes (512 * u) long (omega (arith, len, lies.within)) in
       let outs : length (sectors_in out) ≡ whole.sectors = omega (arith, length-sectors_in out, size, of.sectors) in
@@ -290,15 +289,15 @@ module _ (c : Configuration) (v : CryptPart) (whole : WholeUnit) (bytes : List �
         exact = λ steady.
             let under = beneath-is old all plain (p.got.exact (unit-steady old steady)) in
             let images = images-kept p.got.moved in
-            let bytes_are : out ≡ changed_unit v.crypt.now v.first (sectors_in bytes) under.0 =
+            let bytes_are : out ≡ changed_unit v.units v.key.now v.first (sectors_in bytes) under.0 =
             is ∙ changed-is plain long ∙ ap (λ (x : List ℕ). concat (spliced (sectors_of u x) (v.first % u) (sectors_in bytes))) under.2 in
-            let whole_puts : (images' : Images) → (source_destination c (Units whole.from)).puts 0 (sectors_in out) images' ≡ put_on c v.lower (unit_first v.crypt.now v.first) (encrypted_sectors v.crypt.now v.first out) images' = λ images'. whole-unit-puts out images' size in
+            let whole_puts : (images' : Images) → (source_destination c (Units whole.from)).puts 0 (sectors_in out) images' ≡ put_on c v.lower (unit_first v.units v.first) (encrypted_sectors v.units v.key.now v.first out) images' = λ images'. whole-unit-puts out images' size in
             subst (λ (x : Put). IsPut x (steady_images new) result)
             (whole_puts (steady_images mid)
-            ∙ ap (put_on c v.lower (unit_first v.crypt.now v.first) (encrypted_sectors v.crypt.now v.first out)) images
-            ∙ ap (λ (x : List ℕ). put_on c v.lower (unit_first v.crypt.now v.first) (encrypted_sectors v.crypt.now v.first x) (steady_images old)) bytes_are
+            ∙ ap (put_on c v.lower (unit_first v.units v.first) (encrypted_sectors v.units v.key.now v.first out)) images
+            ∙ ap (λ (x : List ℕ). put_on c v.lower (unit_first v.units v.first) (encrypted_sectors v.units v.key.now v.first x) (steady_images old)) bytes_are
             ∙ sym (part-puts (steady_images old)
-            ∙ ap (λ (o : Outcome). read_put o (λ below. put_on c v.lower (unit_first v.crypt.now v.first) (encrypted_sectors v.crypt.now v.first (changed_unit v.crypt.now v.first (sectors_in bytes) below))) (steady_images old)) under.1))
+            ∙ ap (λ (o : Outcome). read_put o (λ below. put_on c v.lower (unit_first v.units v.first) (encrypted_sectors v.units v.key.now v.first (changed_unit v.units v.key.now v.first (sectors_in bytes) below))) (steady_images old)) under.1))
             (w.exact (AreSteady-kept old mid p.got.moved.moved.fixed (unit-steady old steady)));
         stops = stops-first outs result w.stops;
         behind = λ steady. behind-first outs result (w.moved.moved.fixed ∙ p.got.moved.moved.fixed) w.stops;
@@ -323,14 +322,14 @@ module _ (c : Configuration) (v : CryptPart) (whole : WholeUnit) (bytes : List �
       later (Err (io.Device i)) grown h a d = (h.0, failed_later a d h.1)
       later (Err io.NoMemory) grown h a d = absurd (grown refl)
 
-      whole-unit-puts : (out : List ℕ) (images' : Images) → length out ≡ 512 * unit_sectors v.crypt.now
-          → (source_destination c (Units whole.from)).puts 0 (sectors_in out) images' ≡ put_on c v.lower (unit_first v.crypt.now v.first) (encrypted_sectors v.crypt.now v.first out) images'
+      whole-unit-puts : (out : List ℕ) (images' : Images) → length out ≡ 512 * per_unit v.units
+          → (source_destination c (Units whole.from)).puts 0 (sectors_in out) images' ≡ put_on c v.lower (unit_first v.units v.first) (encrypted_sectors v.units v.key.now v.first out) images'
       whole-unit-puts out images' size =
-          let u : ℕ = unit_sectors v.crypt.now in
+          let u : ℕ = per_unit v.units in
           let w0 : ℕ = v.first - v.first % u in
           let first : w0 + 0 ≡ w0 = omega arith in
           ap (λ (y : CryptPart). (source_destination c (Units y)).puts 0 (sectors_in out) images') of.from
-          ∙ ap (λ (k : ℕ). crypt_put c v.lower v.crypt.now k (sectors_in out) images') first
-          ∙ whole-put c v.lower v.crypt.now w0 out images' (begin-whole c v whole n of lies some) size
-          ∙ ap (λ (k : ℕ). put_on c v.lower k (sectors_of u (encrypted_unit v.crypt.now (w0 / u) out)) images') begin-first
-          ∙ ap (λ (k : ℕ). put_on c v.lower (unit_first v.crypt.now v.first) (sectors_of u (encrypted_unit v.crypt.now k out)) images') begin-unit
+          ∙ ap (λ (k : ℕ). crypt_put c v.lower v.units v.key.now k (sectors_in out) images') first
+          ∙ whole-put c v.lower v.units v.key.now w0 out images' (begin-whole c v whole n of lies some) size
+          ∙ ap (λ (k : ℕ). put_on c v.lower k (sectors_of u (encrypted_unit v.units v.key.now (w0 / u) out)) images') begin-first
+          ∙ ap (λ (k : ℕ). put_on c v.lower (unit_first v.units v.first) (sectors_of u (encrypted_unit v.units v.key.now k out)) images') begin-unit

@@ -3,12 +3,11 @@ use Rattle.std.proofs.Common.{◌≡◌, ℕ, ◌+◌, ◌-◌, ◌*◌, ◌/◌
 use Rattle.stack_rules.specs.Records.{Configuration}
 use Rattle.stack_rules.specs.Names.{mapped, may_write}
 use Rattle.stack_rules.specs.Rules.{IsLoaded}
-use Rattle.stack_rules.specs.Units.{unit_sectors}
 use Rattle.stack_meaning.specs.declared.fault.IoFault.{IoFault}
 use Rattle.stack_meaning.specs.Changes.{NoneRead}
 use Rattle.stack_meaning.specs.Leaves.{AreRead}
 use Rattle.stack_meaning.specs.Meaning.{said_at}
-use Rattle.stack_meaning.specs.Units.{unit_first}
+use Rattle.stack_meaning.specs.Units.{per_unit, unit_first}
 use Rattle.stack_meaning.proofs.lemmas.LeafListLemmas.{AreRead-none}
 use Rattle.stack_lines.specs.declared.source.CryptPart.{CryptPart}
 use Rattle.stack_lines.specs.declared.source.Source.{Source}
@@ -73,16 +72,16 @@ module _ {c : Configuration} {d first at all count n : ℕ} {source : Source} {b
 
 -- ---- units, one after another
 
-module _ {c : Configuration} {x : CryptPart} {n at size end : ℕ} (step : IsStep x.crypt.now n at size end) (loaded : IsLoaded c) (units : AreUnits c x n) (now : List ℕ) (long : length now ≡ 512 * n) {first : ℕ} {old mid new : BackingRecord} (from : first ≡ unit_first x.crypt.now x.first)
+module _ {c : Configuration} {x : CryptPart} {n at size end : ℕ} (step : IsStep x.units n at size end) (loaded : IsLoaded c) (units : AreUnits c x n) (now : List ℕ) (long : length now ≡ 512 * n) {first : ℕ} {old mid new : BackingRecord} (from : first ≡ unit_first x.units x.first)
     (before : IsWriteStep c (write_to c (Units x) (at / 512)) old mid) (here : IsWriteStep c (write_beneath c x.lower (first + at / 512) (length (take (end - at) (drop at now)) / 512)) mid new)
     (unread : (SomeEncrypt (said_at c x.lower) (first + at / 512) (length (sectors_in (take (end - at) (drop at now)))) → ⊥) → NoneRead mid.leaves new.leaves) where
-  one-uncut : (m : ℕ) → at / 512 + unit_sectors x.crypt.now ≤ m → SourceCutsNone c (Units x) m → NoneRead old.leaves new.leaves
+  one-uncut : (m : ℕ) → at / 512 + per_unit x.units ≤ m → SourceCutsNone c (Units x) m → NoneRead old.leaves new.leaves
   one-uncut m most cuts =
       let part : List ℕ = take (end - at) (drop at now) in
       unread-then old.leaves mid.leaves new.leaves (before.uncut (λ some. cuts (some.0, omega (arith, some.1, most), some.2)))
       (unread (units-plain-below c x m (first + at / 512) cuts (at / 512) (length (sectors_in part)) (omega (arith, from)) (omega (arith, most, length-sectors_in part, step-one step now long))))
 
-  one-paid : (k : Counter) → CountsAtMost k (crypt_write_budget c k x (at / 512 + unit_sectors x.crypt.now)) old.leaves new.leaves
+  one-paid : (k : Counter) → CountsAtMost k (crypt_write_budget c k x (at / 512 + per_unit x.units)) old.leaves new.leaves
   one-paid k =
       step-paid c k x n loaded units (at / 512) (first + at / 512) (length (take (end - at) (drop at now)) / 512) old.leaves mid.leaves new.leaves (step-sectors step) (omega (arith, from)) (step-one step now long) (before.paid k) (here.paid k)
 
@@ -101,7 +100,7 @@ module _ {c : Configuration} {x : CryptPart} {n at size end : ℕ} (step : IsSte
   pub unit-write-err : IsWriteStep c (write_to c (Units x) n) old new
   unit-write-err = record {
     uncut = one-uncut n (step-within step);
-    paid = λ k. units-paid c k x n loaded units (at / 512 + unit_sectors x.crypt.now) old.leaves new.leaves (step-sectors-behind step) (step-within step) (one-paid k);
+    paid = λ k. units-paid c k x n loaded units (at / 512 + per_unit x.units) old.leaves new.leaves (step-sectors-behind step) (step-within step) (one-paid k);
     cached = one-cached;
     forgets = forgets-then before.forgets here.forgets;
   }

@@ -5,14 +5,14 @@ use Rattle.stack_rules.specs.declared.lower.Lower.{Lower}
 use Rattle.stack_rules.specs.declared.lower.Lower.TheVariants.{Leaf as leaf, Device as device}
 use Rattle.stack_rules.specs.Records.{Configuration}
 use Rattle.stack_rules.specs.Descend.{descend}
-use Rattle.stack_rules.specs.Units.{unit_sectors, crypt_of}
+use Rattle.stack_rules.specs.Units.{crypt_of}
 use Rattle.stack_meaning.specs.Beneath.{beneath, said_or}
 use Rattle.stack_meaning.specs.Meaning.{said_at, said_by_name}
 use Rattle.stack_meaning.specs.MeaningOf.{meaning_of}
 use Rattle.stack_meaning.specs.Puts.{in_one_run}
 use Rattle.stack_meaning.specs.Sectors.{OnLine, sector_rule}
 use Rattle.stack_meaning.specs.TargetMeaning.{Meant, handed, own}
-use Rattle.stack_meaning.specs.Units.{unit_first}
+use Rattle.stack_meaning.specs.Units.{units_of, per_unit, unit_first}
 use Rattle.stack_lines.specs.declared.source.Source.{Source}
 use Rattle.stack_lines.specs.declared.source.Source.TheVariants.{Below, Units, UnitPart, Zeros, Fails, Block, Blocks}
 use Rattle.stack_lines.specs.Writing.{SomeEncrypt}
@@ -30,13 +30,13 @@ plain_seam = record { begins = Unit {0}; ends = Unit {0}; goes_on = true }
 
 -- no line beneath encrypts the unit of sector s once more
 abbrev pub IsLast : Configuration → Crypt → ℕ → Type 0
-IsLast c crypt s = SomeEncrypt (said_by_name c crypt.base.device) (unit_first crypt s) (unit_sectors crypt) → ⊥
+IsLast c crypt s = SomeEncrypt (said_by_name c crypt.base.device) (unit_first (units_of crypt) s) (per_unit (units_of crypt)) → ⊥
 
 -- sector s of a `crypt` line: the first one of its unit, and the last one
 abbrev pub unit_seam : Configuration → ℕ → Crypt → Seam
 unit_seam c s crypt = record {
-  begins = (s % unit_sectors crypt ≡ 0) × IsLast c crypt s;
-  ends = (s + 1) % unit_sectors crypt ≡ 0;
+  begins = (s % per_unit (units_of crypt) ≡ 0) × IsLast c crypt s;
+  ends = (s + 1) % per_unit (units_of crypt) ≡ 0;
   goes_on = true;
 }
 
@@ -71,7 +71,7 @@ pub record CutsNone (c : Configuration) (lower : Lower) (s n : ℕ) : Type 0 whe
 -- n sectors of a source, of which whole units are no longer cut unless a line beneath encrypts them once more
 abbrev pub SourceCutsNone : Configuration → Source → ℕ → Type 0
 SourceCutsNone c (Below lower first) n = CutsNone c lower first n
-SourceCutsNone c (Units x) n = SomeEncrypt (said_at c x.lower) (unit_first x.crypt.now x.first) n → ⊥
+SourceCutsNone c (Units x) n = SomeEncrypt (said_at c x.lower) (unit_first x.units x.first) n → ⊥
 SourceCutsNone c (UnitPart b) n = ⊥
 SourceCutsNone c Zeros n = Unit {0}
 SourceCutsNone c Fails n = Unit {0}

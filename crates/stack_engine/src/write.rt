@@ -15,7 +15,7 @@ use crate::backing::Backing;
 use crate::path::Chains;
 use crate::read::read_units;
 use block_device::BlockDev;
-use stack_config::{Config, DevId, Lower, unit_sectors};
+use stack_config::{Config, DevId, Lower};
 use stack_lines::units::{MOST, encrypt, put_sectors, unit_at, whole_unit};
 use stack_lines::{CryptPart, Source, Steps, lower_cuts, run_at};
 use stack_meaning::{Fault, IoFault};
@@ -136,7 +136,7 @@ fn write_units<D: BlockDev>(
     ensures step { WriteStepTo D.state config.now (Source.Units part.entry) units.old backing.old backing.new }
 {
     let unit = unit_at(&part);
-    let sectors = unit_sectors(part.crypt);
+    let sectors = part.units.size.sectors();
     let size = sectors as usize * 512;
     encrypt(&part, unit.index, units);
     let none: &[u8] = &[];

@@ -15,7 +15,7 @@ use Rattle.stack_rules.specs.Names.{mapped, named, names, lines_of}
 use Rattle.stack_rules.specs.Lines.{IsLine, line_at, lower_at, names_at}
 use Rattle.stack_rules.specs.Rules.{IsLoaded}
 use Rattle.stack_meaning.specs.Sectors.{on_found}
-use Rattle.stack_meaning.specs.Units.{unit_first}
+use Rattle.stack_meaning.specs.Units.{units_of, unit_first}
 use Rattle.stack_meaning.specs.Meaning.{Said, leaf_said, none_said, line_said, said_at, said_by_name}
 use Rattle.stack_meaning.proofs.lemmas.BaseLemmas.{beneath-each, below-each}
 use Rattle.stack_meaning.proofs.lemmas.EachLineLemmas.{line_at-is}
@@ -73,7 +73,7 @@ sectors-clear c (Linear base) none all d l s = beneath-each MeetsNone (λ fault 
 sectors-clear c (Striped chunk bases) none all d l s = beneath-each MeetsNone (λ fault m. m) (said_by_name c) (Striped chunk bases) s all
 sectors-clear c Zero none all d l s = λ fault m. m
 sectors-clear c Error none all d l s = absurd cc
-sectors-clear c (Crypt crypt) none all d l s = λ fault some. below-each MeetsNone (λ fault m. m) (said_by_name c) (Crypt crypt) all 0 (unit_first crypt s + some.0) fault some.2
+sectors-clear c (Crypt crypt) none all d l s = λ fault some. below-each MeetsNone (λ fault m. m) (said_by_name c) (Crypt crypt) all 0 (unit_first (units_of crypt) s + some.0) fault some.2
 sectors-clear c (Verity verity) none all d l s = absurd cc
 sectors-clear c (Unstriped line) none all d l s = beneath-each MeetsNone (λ fault m. m) (said_by_name c) (Unstriped line) s all
 

@@ -4,14 +4,13 @@ use Rattle.std.proofs.lemmas.Bool.{cases_lt}
 use Rattle.std.proofs.lemmas.List.{length-append, length-take-le, length-drop, take-append-drop, append_assoc, nil_from_length}
 use Rattle.std.proofs.lemmas.Nat.{div-add-mod', mod-mul-add, mod_below}
 use Rattle.std.proofs.Math.Nat.{add-mul, mul_assoc}
-use Rattle.dm_table.specs.declared.table.Target.TheVariants.{Crypt as crypt_target}
 use Rattle.stack_rules.specs.declared.lower.Lower.TheVariants.{Leaf as leaf}
 use Rattle.stack_rules.specs.Descend.{descend}
 use Rattle.stack_rules.specs.Records.{Configuration}
 use Rattle.stack_rules.specs.Names.{mapped}
 use Rattle.stack_rules.specs.Rules.{IsLoaded}
-use Rattle.stack_rules.specs.Units.{unit_sectors}
-use Rattle.stack_rules.proofs.lemmas.UnitLemmas.{unit_sectors-some}
+use Rattle.stack_meaning.specs.Units.{per_unit}
+use Rattle.stack_meaning.proofs.lemmas.UnitSizeLemmas.{per_unit-some}
 use Rattle.stack_lines.specs.declared.cuts.Steps.{Steps}
 use Rattle.stack_lines.specs.declared.source.CryptPart.{CryptPart}
 use Rattle.stack_lines.specs.declared.source.Source.{Source}
@@ -19,7 +18,7 @@ use Rattle.stack_lines.specs.declared.source.Source.TheVariants.{Units}
 use Rattle.stack_lines.specs.Cuts.{EndsStep, PutsInSteps}
 use Rattle.stack_meaning.specs.Outcomes.{Images}
 use Rattle.stack_meaning.specs.Meaning.{said_at}
-use Rattle.stack_meaning.specs.Puts.{Put, then_put, Putting, together, in_one_run, unit_put, put_on}
+use Rattle.stack_meaning.specs.Puts.{Put, then_put, Putting, in_one_run, unit_put, in_unit, put_on}
 use Rattle.stack_lines.specs.Sources.{AreUnits, IsServed}
 use Rattle.stack_lines.specs.Writing.{crypt_put, source_put, SourceMayWrite}
 use Rattle.stack_lines.proofs.StripeLemmas.{part-ends}
@@ -54,19 +53,19 @@ pub leaf-cut : (c : Configuration) (i first n : ℕ) (steps : Steps) → PutsInS
 unfolding descend
 leaf-cut c i first n steps xs ys images some more fits ends = leaf-append i first xs ys images
 
-pub units-cut : (c : Configuration) (x : CryptPart) (n : ℕ) (steps : Steps) → AreUnits c x n → steps.size % unit_sectors x.crypt.now ≡ 0 → steps.skip % unit_sectors x.crypt.now ≡ 0 → PutsInSteps (source_put c (Units x)) 0 n steps
+pub units-cut : (c : Configuration) (x : CryptPart) (n : ℕ) (steps : Steps) → AreUnits c x n → steps.size % per_unit x.units ≡ 0 → steps.skip % per_unit x.units ≡ 0 → PutsInSteps (source_put c (Units x)) 0 n steps
 units-cut c x n steps units even begins xs ys images some more fits ends =
-    let u : ℕ = unit_sectors x.crypt.now in
-    let some_u : 0 < u = omega (arith, unit_sectors-some x.crypt.now) in
-    let g : ℕ → Putting = unit_put (λ i t. (said_at c x.lower t).means i) (put_on c x.lower) x.crypt.now in
-    let tog : ℕ → Bool = together (crypt_target x.crypt.now) in
+    let u : ℕ = per_unit x.units in
+    let some_u : 0 < u = omega (arith, per_unit-some x.units) in
+    let g : ℕ → Putting = unit_put (λ i t. (said_at c x.lower t).means i) (put_on c x.lower) x.units x.key.now in
+    let tog : ℕ → Bool = in_unit x.units in
     let w : ℕ = x.first + 0 in
     let whole : length xs % u ≡ 0 = step-unit steps.size steps.skip u (length xs) some_u even begins ends in
     let place = unit-more u x.first (length xs) some_u units.aligned in
     let end : w + length xs ≡ x.first + length xs = omega arith in
     let cut : tog (w + length xs - 1) ≡ false = part-ends u (w + length xs) some_u (omega (arith, some)) (ap (λ (k : ℕ). k % u) end ∙ place.1 ∙ whole) in
     let at : w + length xs ≡ x.first + (0 + length xs) = omega arith in
-    put-apart g tog w xs ys images (inr (inr cut)) ∙ ap (λ (k : ℕ). then_put (crypt_put c x.lower x.crypt.now w xs images) (crypt_put c x.lower x.crypt.now k ys)) at
+    put-apart g tog w xs ys images (inr (inr cut)) ∙ ap (λ (k : ℕ). then_put (crypt_put c x.lower x.units x.key.now w xs images) (crypt_put c x.lower x.units x.key.now k ys)) at
 
 -- ---- devices
 

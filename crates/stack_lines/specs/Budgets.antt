@@ -1,5 +1,5 @@
 -- What a read of some sectors costs by the units and the data blocks that it touches, each of them once.
-use Rattle.std.specs.Prelude.{ℕ, ◌+◌, ◌≤◌, List}
+use Rattle.std.specs.Prelude.{ℕ, ◌+◌, ◌*◌, ◌≤◌, List}
 use Rattle.block_device.specs.Device.{Device}
 use Rattle.stack_rules.specs.declared.lower.Lower.{Lower}
 use Rattle.stack_rules.specs.Records.{Configuration}
@@ -8,6 +8,7 @@ use Rattle.stack_meaning.specs.Beneath.{beneath, said_or}
 use Rattle.stack_meaning.specs.Leaves.{reads_of}
 use Rattle.stack_meaning.specs.MeaningOf.{meaning_of}
 use Rattle.stack_meaning.specs.Sectors.{OnLine}
+use Rattle.stack_meaning.specs.Units.{per_unit}
 use Rattle.stack_lines.specs.declared.source.CryptPart.{CryptPart}
 use Rattle.stack_lines.specs.declared.source.Source.{Source}
 use Rattle.stack_lines.specs.declared.source.VerityPart.{VerityPart}
@@ -18,9 +19,9 @@ abbrev pub line_price : Configuration → OnLine (ℕ → ℕ)
 line_price c at d l target s n =
     price_as (meaning_of target).meant (said_or (λ n. 0) at (beneath target s)) (line_read_cost (by_name c 0 (read_cost c)) target) n
 
--- of a leaf each sector costs one
+-- of a leaf each sector costs one, and a unit is read whole
 abbrev pub read_prices : Configuration → Prices
-read_prices c = record { leaf = λ n. n; line = line_price c }
+read_prices c = record { leaf = λ n. n; line = line_price c; unit = λ read at units s n. per_unit units * read }
 
 -- The leaf sectors that are read for n sectors from s on, at most. Sectors of one unit of a `crypt` line, or of one data
 -- block of a `verity` line, cost together what one of them does: one unit, or one data block with its hash blocks.

@@ -3,11 +3,12 @@ use Rattle.std.specs.Prelude.{ℕ, zero, suc, ◌+◌, Bool, List, if◌then◌e
 use Rattle.stack_rules.specs.declared.lower.Lower.{Lower}
 use Rattle.stack_rules.specs.declared.lower.Lower.TheVariants.{Leaf as leaf, Device as device}
 use Rattle.stack_rules.specs.Records.{Configuration}
-use Rattle.stack_rules.specs.Descend.{descend, by_name}
-use Rattle.stack_meaning.specs.Puts.{together, in_one_run}
+use Rattle.stack_rules.specs.Descend.{descend, by_name, read_cost}
+use Rattle.stack_meaning.specs.declared.units.CryptUnits.{CryptUnits}
+use Rattle.stack_meaning.specs.Puts.{together, in_one_run, in_unit}
 use Rattle.stack_meaning.specs.Sectors.{OnLine, sector_rule}
 use Rattle.stack_meaning.specs.TargetMeaning.{Meant, handed, own}
-use Rattle.dm_table.specs.declared.table.Target.TheVariants.{Crypt as crypt_target, Verity as verity_target}
+use Rattle.dm_table.specs.declared.table.Target.TheVariants.{Verity as verity_target}
 use Rattle.stack_lines.specs.declared.source.CryptPart.{CryptPart}
 use Rattle.stack_lines.specs.declared.source.Source.{Source}
 use Rattle.stack_lines.specs.declared.source.VerityPart.{VerityPart}
@@ -37,6 +38,8 @@ by_runs together price s (suc n) = run_and_behind together price s 0 n
 pub record Prices : Type 0 where
   pub leaf : ℕ → ℕ
   pub line : OnLine (ℕ → ℕ)
+  -- what sectors of one unit do, by what a read of one sector beneath costs, and by what n sectors beneath do
+  pub unit : ℕ → Pricing → CryptUnits → Pricing
 
 -- a run that is handed on costs what it does beneath; one of another line what is said of it
 abbrev pub price_as : Meant → (ℕ → ℕ) → ℕ → ℕ → ℕ
@@ -63,7 +66,7 @@ part_price c p x n = by_runs (together (verity_target x.verity.now)) (p.line (pr
 
 -- of a part of a crypt line
 abbrev pub crypt_price : Configuration → Prices → CryptPart → ℕ → ℕ
-crypt_price c p u n = by_runs (together (crypt_target u.crypt.now)) (p.line (priced_by_name c p) 0 0 (crypt_target u.crypt.now)) u.first n
+crypt_price c p u n = by_runs (in_unit u.units) (p.unit (read_cost c u.lower) (priced c p u.lower) u.units) u.first n
 
 -- of the first n sectors of a source
 abbrev pub source_price : Configuration → Prices → Source → ℕ → ℕ

@@ -1,6 +1,7 @@
 -- Where the sectors of a device come from, as the engine reads them: from a lower device, as they are or encrypted
 -- there in units, as zeros, not at all, or from a data block that is checked.
 use Rattle.std.specs.Prelude.{◌≡◌, ◌⊎◌, ℕ, suc, ◌+◌, ◌-◌, ◌*◌, ◌/◌, ◌%◌, ◌^◌, ◌<◌, ◌≤◌, Bool, false, IsTrue, List, Some, Result}
+use Rattle.dm_table.specs.declared.crypt.Crypt.{Crypt}
 use Rattle.dm_table.specs.declared.verity.Verity.{Verity}
 use Rattle.dm_table.specs.declared.table.Line.{Line}
 use Rattle.dm_table.specs.declared.table.Target.{Target}
@@ -11,7 +12,6 @@ use Rattle.stack_rules.specs.Names.{mapped, named, size}
 use Rattle.stack_rules.specs.Descend.{depth, read_cost}
 use Rattle.stack_rules.specs.Lines.{line_at, IsLine}
 use Rattle.stack_rules.specs.Trees.{block_sectors, line_data_sectors}
-use Rattle.stack_rules.specs.Units.{unit_sectors}
 use Rattle.stack_meaning.specs.declared.fault.IoFault.{IoFault}
 use Rattle.stack_lines.specs.declared.source.CryptPart.{CryptPart}
 use Rattle.stack_lines.specs.declared.source.Source.{Source}
@@ -19,7 +19,7 @@ use Rattle.stack_lines.specs.declared.source.VerityPart.{VerityPart}
 use Rattle.stack_lines.specs.declared.units.UnitAt.{UnitAt}
 use Rattle.stack_lines.specs.declared.units.WholeUnit.{WholeUnit}
 use Rattle.stack_lines.specs.declared.source.Source.TheVariants.{Below, Units, UnitPart, Zeros, Fails, Block, Blocks}
-use Rattle.stack_meaning.specs.Units.{unit_first}
+use Rattle.stack_meaning.specs.Units.{units_of, per_unit, unit_first}
 use Rattle.stack_meaning.specs.Puts.{together}
 use Rattle.stack_meaning.specs.Beneath.{beneath, HandsOn}
 use Rattle.stack_meaning.specs.Meaning.{Said, zero_said, error_said, crypt_said, line_said, said_at, said_by_name}
@@ -64,41 +64,42 @@ pub record AreWholeBlocks (c : Configuration) (x : VerityPart) (n : ℕ) : Type 
   pub whole : n % block_sectors x.verity.now ≡ 0
   pub inside : x.first + n ≤ line_data_sectors x.verity.now
 
--- a part of a crypt line: what its device means, and its key
-pub record IsPartOf (c : Configuration) (u : CryptPart) : Type 0 where
-  pub named : named c u.crypt.now.base.device ≡ Some u.lower
-  pub key : u.key.now ≡ u.crypt.now.key
+-- a part of a crypt line: its units, its key, and what its device means
+pub record IsPartOf (c : Configuration) (target : Target) (u : CryptPart) : Type 0 where
+  pub crypt : Crypt
+  pub is : target ≡ crypt_target crypt
+  pub units : u.units ≡ units_of crypt
+  pub key : u.key.now ≡ crypt.key
+  pub named : named c crypt.base.device ≡ Some u.lower
 
--- its first n sectors are whole units, which lie inside the device beneath
+-- the first n sectors of a part are whole units, which lie inside the device beneath
 pub record AreUnits (c : Configuration) (u : CryptPart) (n : ℕ) : Type 0 where
-  pub of : IsPartOf c u
-  pub aligned : u.first % unit_sectors u.crypt.now ≡ 0
-  pub whole : n % unit_sectors u.crypt.now ≡ 0
-  pub inside : unit_first u.crypt.now u.first + n ≤ size c u.lower
+  pub aligned : u.first % per_unit u.units ≡ 0
+  pub whole : n % per_unit u.units ≡ 0
+  pub inside : unit_first u.units u.first + n ≤ size c u.lower
   pub small : u.first + n ≤ 2 ^ 54
 
--- its first n sectors lie in one unit and aren't all of it
+-- they lie in one unit and aren't all of it
 pub record LieInUnit (c : Configuration) (u : CryptPart) (n : ℕ) : Type 0 where
-  pub of : IsPartOf c u
-  pub within : u.first % unit_sectors u.crypt.now + n ≤ unit_sectors u.crypt.now
-  pub part : n < unit_sectors u.crypt.now
-  pub inside : unit_first u.crypt.now u.first + unit_sectors u.crypt.now ≤ size c u.lower
-  pub unit_small : u.first - u.first % unit_sectors u.crypt.now + unit_sectors u.crypt.now ≤ 2 ^ 54
+  pub within : u.first % per_unit u.units + n ≤ per_unit u.units
+  pub part : n < per_unit u.units
+  pub inside : unit_first u.units u.first + per_unit u.units ≤ size c u.lower
+  pub unit_small : u.first - u.first % per_unit u.units + per_unit u.units ≤ 2 ^ 54
 
 -- where the units of a part of a crypt line lie on the lower device, and which of the line's units is the first
 pub record IsUnitAt (u : CryptPart) (at : UnitAt) : Type 0 where
-  pub first : at.first ≡ unit_first u.crypt.now u.first
-  pub index : at.index ≡ u.first / unit_sectors u.crypt.now
+  pub first : at.first ≡ unit_first u.units u.first
+  pub index : at.index ≡ u.first / per_unit u.units
 
 -- the part that begins with the unit of another one's first sector
 abbrev pub from_unit : CryptPart → CryptPart
-from_unit u = record u { first = u.first - u.first % unit_sectors u.crypt.now }
+from_unit u = record u { first = u.first - u.first % per_unit u.units }
 
 -- that unit, and where in it the part begins
 pub record IsWholeOf (u : CryptPart) (whole : WholeUnit) : Type 0 where
   pub from : whole.from ≡ from_unit u
-  pub sectors : whole.sectors ≡ unit_sectors u.crypt.now
-  pub within : whole.within ≡ u.first % unit_sectors u.crypt.now
+  pub sectors : whole.sectors ≡ per_unit u.units
+  pub within : whole.within ≡ u.first % per_unit u.units
 
 -- the part is one of line l of device d
 abbrev pub IsPlacedAt : ℕ → ℕ → VerityPart → Type 0
@@ -116,8 +117,8 @@ EndsRun together s most n = (n ≡ most) ⊎ (together (s + n - 1) ≡ false)
 -- n sectors of a line of that target, its device's and its own number at hand, from its sector w on, come from there
 abbrev pub ComeFrom : Configuration → ℕ × ℕ → Target → ℕ → ℕ → Source → Type 0
 ComeFrom c at target w n (Below lower first) = HandsOn target × LieOn c target w n lower first × AreTogether target w n
-ComeFrom c at target w n (Units u) = (target ≡ crypt_target u.crypt.now) × (u.first ≡ w) × AreUnits c u n
-ComeFrom c at target w n (UnitPart u) = (target ≡ crypt_target u.crypt.now) × (u.first ≡ w) × LieInUnit c u n
+ComeFrom c at target w n (Units u) = IsPartOf c target u × (u.first ≡ w) × AreUnits c u n
+ComeFrom c at target w n (UnitPart u) = IsPartOf c target u × (u.first ≡ w) × LieInUnit c u n
 ComeFrom c at target w n Zeros = target ≡ Zero
 ComeFrom c at target w n Fails = target ≡ Error
 ComeFrom c at target w n (Block x) = (target ≡ verity_target x.verity.now) × IsPlacedAt at.0 at.1 x × (x.first ≡ w) × LieInBlock c x n
@@ -139,8 +140,8 @@ part_said c x j = line_said (said_by_name c) x.device.0 x.line (verity_target x.
 -- what is said of its sector j
 abbrev pub source_said : Configuration → Source → ℕ → Said
 source_said c (Below lower first) j = said_at c lower (first + j)
-source_said c (Units u) j = crypt_said (said_at c u.lower) u.crypt.now (u.first + j)
-source_said c (UnitPart u) j = crypt_said (said_at c u.lower) u.crypt.now (u.first + j)
+source_said c (Units u) j = crypt_said (said_at c u.lower) u.units u.key.now (u.first + j)
+source_said c (UnitPart u) j = crypt_said (said_at c u.lower) u.units u.key.now (u.first + j)
 source_said c Zeros j = zero_said
 source_said c Fails j = error_said
 source_said c (Block x) j = part_said c x j
@@ -150,7 +151,7 @@ source_said c (Blocks x) j = part_said c x j
 abbrev pub source_cost : Configuration → Source → ℕ
 source_cost c (Below lower first) = read_cost c lower
 source_cost c (Units u) = read_cost c u.lower
-source_cost c (UnitPart u) = unit_sectors u.crypt.now * read_cost c u.lower
+source_cost c (UnitPart u) = per_unit u.units * read_cost c u.lower
 source_cost c Zeros = 0
 source_cost c Fails = 0
 source_cost c (Block x) = read_cost c (mapped x.device.0)

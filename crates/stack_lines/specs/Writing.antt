@@ -3,14 +3,12 @@ pub use Rattle.stack_meaning.specs.Stops.{AreOneCall, FailedBy, IsCounted}
 use Rattle.std.specs.Prelude.{Bool, ◌≡◌, ℕ, ◌+◌, ◌-◌, ◌*◌, ◌/◌, ◌%◌, ◌<◌, ◌≤◌, ◌⊎◌, IsTrue, List, [], ◌∷◌, ◌++◌, length, take, drop, Result, Ok, Err, IfErr}
 use Rattle.allocation.specs.Refusal.{IsOutOfMemory}
 use Rattle.block_device.specs.Device.{Device, sectors_of}
-use Rattle.dm_table.specs.declared.crypt.Crypt.{Crypt}
-use Rattle.dm_table.specs.declared.table.Target.TheVariants.{Crypt as crypt_target}
 use Rattle.stack_rules.specs.declared.lower.Lower.{Lower}
 use Rattle.stack_rules.specs.Records.{Configuration}
 use Rattle.stack_rules.specs.Names.{may_write}
 use Rattle.stack_rules.specs.Descend.{by_name, read_cost, write_cost}
-use Rattle.stack_rules.specs.Units.{unit_sectors}
 use Rattle.stack_meaning.specs.declared.fault.IoFault.{IoFault}
+use Rattle.stack_meaning.specs.declared.units.CryptUnits.{CryptUnits}
 use Rattle.stack_meaning.specs.declared.fault.Fault.TheVariants as why
 use Rattle.stack_meaning.specs.declared.fault.IoFault.TheVariants as io
 use Rattle.stack_lines.specs.declared.source.Source.{Source}
@@ -20,7 +18,8 @@ use Rattle.stack_meaning.specs.Sectors.{SomeOf}
 use Rattle.stack_meaning.specs.declared.fault.Fault.{Fault}
 use Rattle.stack_meaning.specs.Outcomes.{error_target, Images}
 use Rattle.stack_meaning.specs.Meaning.{Said, said_at}
-use Rattle.stack_meaning.specs.Puts.{Put, done, stopped, Putting, none_put, runs_from, put_runs, together, unit_put, put_on}
+use Rattle.stack_meaning.specs.Puts.{Put, done, stopped, Putting, none_put, runs_from, put_runs, unit_put, in_unit, put_on}
+use Rattle.stack_meaning.specs.Units.{per_unit}
 use Rattle.stack_meaning.specs.Leaves.{steady_images, AreSteady, LeafFailed}
 use Rattle.stack_meaning.specs.Changes.{reached, KeepsOthers, AreWritten, NoneRead, DifferWithin}
 use Rattle.stack_lines.specs.Sources.{source_said}
@@ -134,15 +133,15 @@ pub record WritesSectors (to : Destination) (first : ℕ) (sectors : List (List 
 abbrev pub put_by_name : Configuration → List ℕ → ℕ → Putting
 put_by_name c = by_name c (λ t. none_put) (put_on c)
 
--- what a put of sectors from s on does to a crypt line over that device
-abbrev pub crypt_put : Configuration → Lower → Crypt → ℕ → Putting
-crypt_put c lower crypt s sectors images = put_runs (unit_put (λ i t. (said_at c lower t).means i) (put_on c lower) crypt) (runs_from (together (crypt_target crypt)) s sectors) images
+-- what a put of sectors from s on does to units over that device
+abbrev pub crypt_put : Configuration → Lower → CryptUnits → List ℕ → ℕ → Putting
+crypt_put c lower units key s sectors images = put_runs (unit_put (λ i t. (said_at c lower t).means i) (put_on c lower) units key) (runs_from (in_unit units) s sectors) images
 
 -- what a put of sectors from its j-th on does
 abbrev pub source_put : Configuration → Source → ℕ → Putting
 source_put c (Below lower first) j sectors images = put_on c lower (first + j) sectors images
-source_put c (Units u) j sectors images = crypt_put c u.lower u.crypt.now (u.first + j) sectors images
-source_put c (UnitPart u) j sectors images = crypt_put c u.lower u.crypt.now (u.first + j) sectors images
+source_put c (Units u) j sectors images = crypt_put c u.lower u.units u.key.now (u.first + j) sectors images
+source_put c (UnitPart u) j sectors images = crypt_put c u.lower u.units u.key.now (u.first + j) sectors images
 source_put c Zeros j sectors images = done images
 source_put c Fails j sectors images = stopped error_target images
 source_put c (Block b) j sectors images = done images
@@ -152,7 +151,7 @@ source_put c (Blocks b) j sectors images = done images
 abbrev pub source_write_cost : Configuration → Source → ℕ
 source_write_cost c (Below lower first) = write_cost c lower
 source_write_cost c (Units u) = write_cost c u.lower
-source_write_cost c (UnitPart u) = unit_sectors u.crypt.now * (read_cost c u.lower + write_cost c u.lower)
+source_write_cost c (UnitPart u) = per_unit u.units * (read_cost c u.lower + write_cost c u.lower)
 source_write_cost c Zeros = 0
 source_write_cost c Fails = 0
 source_write_cost c (Block b) = 0

@@ -10,7 +10,7 @@ ghost use Rattle.stack_lines.specs.Writing.{source_put};
 
 use crate::serve::run_at;
 use crate::source::{CryptPart, Source};
-use stack_config::{Config, DevId, Lower, unit_sectors};
+use stack_config::{Config, DevId, Lower};
 
 /// Steps of so many sectors, one after another. Of the first one, `skip` sectors lie before those that are asked for.
 #[derive(Clone, Copy)]
@@ -27,8 +27,7 @@ fn units_cut(config: &Config, part: CryptPart<'_>, count: u64, steps: Steps) -> 
     ensures { IsTrue result → PutsInSteps (source_put config.now (Source.Units part.entry)) 0 count steps }
 {
     let (_config, _count) = (config, count);
-    let few = unit_sectors(part.crypt);
-    let sectors = u64::from(few);
+    let sectors = u64::from(part.units.size.sectors());
     if steps.size % sectors != 0 {
         return false;
     }

@@ -4,14 +4,14 @@ ghost use Rattle.dm_table.specs.Grammar.{IsStripedOfGrammar, IsTargetOfGrammar, 
 ghost use Rattle.stack_rules.specs.Names.{mapped, size};
 ghost use Rattle.stack_rules.specs.Rules.{IsLoaded};
 ghost use Rattle.stack_rules.specs.Trees.{block_sectors};
-ghost use Rattle.stack_rules.specs.Units.{unit_sectors};
-ghost use Rattle.stack_lines.specs.Sources.{ComeFrom, HasTarget, IsPartOf, IsPlacedAt, IsVerityPart};
+ghost use Rattle.stack_lines.specs.Sources.{ComeFrom, HasTarget, IsPlacedAt, IsVerityPart};
 ghost use Rattle.stack_lines.specs.Runs.{HasLineSectors, IsRunOfLine, IsRunAt};
 
 use crate::source::{CryptPart, Run, Source, VerityPart};
 use crate::unstriped::unstriped_run;
 use dm_table::{Base, Crypt, Line, Target, Verity};
-use stack_config::{Config, DevId, unit_sectors};
+use stack_config::{Config, DevId};
+use stack_meaning::CryptUnits;
 
 fn linear_run<'a>(
     config: &Config,
@@ -34,49 +34,12 @@ fn linear_run<'a>(
     }
 }
 
-/// The whole units from that sector on.
-fn units_run<'a>(config: &Config, at: (DevId, u32), part: CryptPart<'a>, count: u64) -> Run<'a>
-    requires loaded { IsLoaded config.now }
-    requires line { HasTarget config.now at.0.0 at.1 (Target.Crypt part.crypt.now) (part.first + count) }
-    requires part { IsPartOf config.now part }
-    requires aligned { part.first % unit_sectors part.crypt.now ≡ 0 }
-    requires enough { unit_sectors part.crypt.now ≤ count }
-    ensures { IsRunOfLine config.now (at.0.0, at.1) (Target.Crypt part.entry.crypt.now) part.entry.first count result }
-{
-    let (_config, _at) = (config, at);
-    let few = unit_sectors(part.crypt);
-    let sectors = u64::from(few);
-    let count = count - count % sectors;
-    Run {
-        source: Source::Units(part),
-        count,
-    }
-}
-
-/// The sectors that lie in one unit and aren't all of it.
-fn unit_run<'a>(config: &Config, at: (DevId, u32), part: CryptPart<'a>, count: u64) -> Run<'a>
-    requires loaded { IsLoaded config.now }
-    requires line { HasLineSectors config.now at.0.0 at.1 (Target.Crypt part.crypt.now) part.first count }
-    requires part { IsPartOf config.now part }
-    requires some { part.first % unit_sectors part.crypt.now ≡ 0 → count < unit_sectors part.crypt.now }
-    ensures { IsRunOfLine config.now (at.0.0, at.1) (Target.Crypt part.entry.crypt.now) part.entry.first count result }
-{
-    let (_config, _at) = (config, at);
-    let few = unit_sectors(part.crypt);
-    let sectors = u64::from(few);
-    let count = count.min(sectors - part.first % sectors);
-    Run {
-        source: Source::UnitPart(part),
-        count,
-    }
-}
-
 /// Whole units, or sectors of one unit.
 fn crypt_run<'a>(
     config: &'a Config,
     d: DevId,
     line: u32,
-    crypt: &'a Crypt,
+    crypt: &Crypt,
     within: u64,
     count: u64,
 ) -> Run<'a>
@@ -84,21 +47,30 @@ fn crypt_run<'a>(
     requires line { HasLineSectors config.now d.0 line (Target.Crypt crypt.now) within count }
     ensures { IsRunOfLine config.now (d.0, line) (Target.Crypt crypt.now) within count result }
 {
+    let units = CryptUnits::of(crypt);
     let part = CryptPart {
-        crypt,
+        units,
         key: config.key(d, line),
         lower: config.lower(d, line, 0),
         first: within,
     };
-    let few = unit_sectors(crypt);
-    let sectors = u64::from(few);
+    let sectors = u64::from(units.size.sectors());
     if within % sectors != 0 {
-        return unit_run(config, (d, line), part, count);
+        return Run {
+            source: Source::UnitPart(part),
+            count: count.min(sectors - within % sectors),
+        };
     }
     if count < sectors {
-        return unit_run(config, (d, line), part, count);
+        return Run {
+            source: Source::UnitPart(part),
+            count,
+        };
     }
-    units_run(config, (d, line), part, count)
+    Run {
+        source: Source::Units(part),
+        count: count - count % sectors,
+    }
 }
 
 /// The sectors that lie in one chunk, from that one of the line on.

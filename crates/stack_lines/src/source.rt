@@ -1,6 +1,7 @@
 //! Where the sectors of a device come from and go to.
-use dm_table::{Crypt, Verity};
+use dm_table::Verity;
 use stack_config::{DevId, Lower};
+use stack_meaning::CryptUnits;
 use xts_sector::XtsKey;
 
 /// What gives and takes the sectors of a run, from its first to its last alike.
@@ -22,11 +23,11 @@ pub enum Source<'a> {
     Blocks(VerityPart<'a>),
 }
 
-/// The sectors of a `crypt` line from that one on, with all of the line that a run uses: its arguments, its key made ready,
-/// and the device beneath. Sectors of a line count from 0.
+/// The sectors of a `crypt` line from that one on, with all of the line that a run uses: its units, its key made ready, and
+/// the device beneath. Sectors of a line count from 0.
 #[derive(Clone, Copy)]
 pub struct CryptPart<'a> {
-    pub crypt: &'a Crypt,
+    pub units: CryptUnits,
     pub key: &'a XtsKey,
     pub lower: Lower,
     pub first: u64,

@@ -1,14 +1,10 @@
 //! The units of `crypt` lines.
 ghost use Rattle.std.specs.Prelude.{◌≡◌, ℕ, ◌<◌, ◌≤◌, ◌+◌, ◌*◌, ◌%◌, ◌^◌, ◌++◌, length, slice_index, take, drop};
-ghost use Rattle.dm_table.specs.Crypt.{sector_size};
-ghost use Rattle.stack_rules.specs.Units.{unit_sectors};
-ghost use Rattle.stack_meaning.specs.Units.{crypt_unit_number, encrypted_units, decrypted_units, unit_first};
+ghost use Rattle.stack_meaning.specs.Units.{per_unit, unit_bytes, crypt_unit_number, encrypted_units, decrypted_units, unit_first};
 ghost use Rattle.stack_lines.specs.Sources.{IsUnitAt, IsWholeOf};
 
 use crate::source::CryptPart;
-use dm_table::Crypt;
-use stack_config::unit_sectors;
-use xts_sector::XtsKey;
+use stack_meaning::CryptUnits;
 
 /// The most bytes of a unit.
 pub const MOST: usize = 4096;
@@ -33,13 +29,12 @@ pub struct WholeUnit<'a> {
 
 /// Where the unit lies that has the first sector of a part.
 pub fn unit_at(part: &CryptPart<'_>) -> UnitAt
-    requires { unit_first part.now.crypt.now part.now.first < 2 ^ 64 }
+    requires { unit_first part.now.units part.now.first < 2 ^ 64 }
     ensures { IsUnitAt part.now result }
 {
-    let few = unit_sectors(part.crypt);
-    let sectors = u64::from(few);
+    let sectors = u64::from(part.units.size.sectors());
     let index = part.first / sectors;
-    let first = part.crypt.base.offset + index * sectors;
+    let first = part.units.offset + index * sectors;
     UnitAt { first, index }
 }
 
@@ -50,11 +45,10 @@ pub fn whole_unit<'a>(part: &CryptPart<'a>) -> WholeUnit<'a>
     ensures few { result.sectors ≤ 8 }
     ensures within { result.within < result.sectors }
 {
-    let sectors = unit_sectors(part.crypt);
-    let wide = u64::from(sectors);
-    let within = part.first % wide;
+    let sectors = part.units.size.sectors();
+    let within = part.first % u64::from(sectors);
     let from = CryptPart {
-        crypt: part.crypt,
+        units: part.units,
         key: part.key,
         lower: part.lower,
         first: part.first - within,
@@ -67,97 +61,79 @@ pub fn whole_unit<'a>(part: &CryptPart<'a>) -> WholeUnit<'a>
 }
 
 /// The number of the first sector of unit `k`, modulo 2^64.
-fn sector_number(crypt: &Crypt, k: u64) -> u64
-    ensures { result ≡ (k * unit_sectors crypt.now + crypt.now.iv_offset) % 2 ^ 64 }
+fn sector_number(units: CryptUnits, k: u64) -> u64
+    ensures { result ≡ (k * per_unit units + units.iv_offset) % 2 ^ 64 }
 {
-    let few = unit_sectors(crypt);
-    let sectors = u64::from(few);
-    k.wrapping_mul(sectors).wrapping_add(crypt.iv_offset)
+    let sectors = u64::from(units.size.sectors());
+    k.wrapping_mul(sectors).wrapping_add(units.iv_offset)
 }
 
 /// The number of unit `k`, as the cipher takes it.
-fn unit_number(crypt: &Crypt, k: u64) -> u64
-    ensures { result ≡ crypt_unit_number crypt.now k }
+fn unit_number(units: CryptUnits, k: u64) -> u64
+    ensures { result ≡ crypt_unit_number units k }
 {
-    let sector = sector_number(crypt, k);
-    let few = unit_sectors(crypt);
-    let sectors = u64::from(few);
-    if crypt.iv_large_sectors() {
-        sector / sectors
+    let sector = sector_number(units, k);
+    if units.iv_large_sectors {
+        sector / u64::from(units.size.sectors())
     } else {
         sector
     }
 }
 
 /// The numbers of so many units from unit `k` on.
-fn unit_numbers(crypt: &Crypt, k: u64, count: usize) -> [u64; AT_ONCE]
+fn unit_numbers(units: CryptUnits, k: u64, count: usize) -> [u64; AT_ONCE]
     requires few { count ≤ AT_ONCE }
     requires fits { k + count < 2 ^ 64 }
-    ensures { (j : ℕ) → j < count → slice_index result j ≡ crypt_unit_number crypt.now (k + j) }
+    ensures { (j : ℕ) → j < count → slice_index result j ≡ crypt_unit_number units (k + j) }
 {
     let mut numbers = [0; AT_ONCE];
     for j in 0..count {
-        numbers[j] = unit_number(crypt, k + j as u64);
+        numbers[j] = unit_number(units, k + j as u64);
     }
     numbers
 }
 
-/// Decrypts units of that many bytes in place, from unit `k` on.
-fn decrypt_each(key: &XtsKey, crypt: &Crypt, k: u64, size: usize, units: &mut [u8])
-    requires size { (size ≡ sector_size crypt.now) × (0 < size) × (size % 16 ≡ 0) }
-    requires key { key.now ≡ crypt.now.key }
-    requires units { (length units.old % size ≡ 0) × (k + length units.old < 2 ^ 64) }
-    ensures { units.new ≡ decrypted_units crypt.now k units.old }
+/// The bytes of a unit.
+fn unit_bytes(units: CryptUnits) -> usize
+    ensures value { result ≡ unit_bytes units }
+    ensures some { 0 < result }
+    ensures blocks { result % 16 ≡ 0 }
 {
-    let count = units.len() / size;
-    for i in 0..count.div_ceil(AT_ONCE) {
-        let from = AT_ONCE * i;
-        let few = AT_ONCE.min(count - from);
-        let numbers = unit_numbers(crypt, k + from as u64, few);
-        let part = &mut units[size * from..size * from + size * few];
-        key.decrypt_units(&numbers[..few], size, part);
-    }
-}
-
-/// Encrypts units of that many bytes in place, from unit `k` on.
-fn encrypt_each(key: &XtsKey, crypt: &Crypt, k: u64, size: usize, units: &mut [u8])
-    requires size { (size ≡ sector_size crypt.now) × (0 < size) × (size % 16 ≡ 0) }
-    requires key { key.now ≡ crypt.now.key }
-    requires units { (length units.old % size ≡ 0) × (k + length units.old < 2 ^ 64) }
-    ensures { units.new ≡ encrypted_units crypt.now k units.old }
-{
-    let count = units.len() / size;
-    for i in 0..count.div_ceil(AT_ONCE) {
-        let from = AT_ONCE * i;
-        let few = AT_ONCE.min(count - from);
-        let numbers = unit_numbers(crypt, k + from as u64, few);
-        let part = &mut units[size * from..size * from + size * few];
-        key.encrypt_units(&numbers[..few], size, part);
-    }
+    512 * units.size.sectors() as usize
 }
 
 /// Decrypts whole units of that line in place, from unit `k` of the line on.
 pub fn decrypt(part: &CryptPart<'_>, k: u64, units: &mut [u8])
-    requires key { part.now.key.now ≡ part.now.crypt.now.key }
-    requires whole { length units.old % sector_size part.now.crypt.now ≡ 0 }
+    requires whole { length units.old % unit_bytes part.now.units ≡ 0 }
     requires fits { k + length units.old < 2 ^ 64 }
-    ensures { units.new ≡ decrypted_units part.now.crypt.now k units.old }
+    ensures { units.new ≡ decrypted_units part.now.units part.now.key.now k units.old }
 {
-    let sectors = unit_sectors(part.crypt);
-    let size = sectors as usize * 512;
-    decrypt_each(part.key, part.crypt, k, size, units);
+    let size = unit_bytes(part.units);
+    let count = units.len() / size;
+    for i in 0..count.div_ceil(AT_ONCE) {
+        let from = AT_ONCE * i;
+        let few = AT_ONCE.min(count - from);
+        let numbers = unit_numbers(part.units, k + from as u64, few);
+        let run = &mut units[size * from..size * from + size * few];
+        part.key.decrypt_units(&numbers[..few], size, run);
+    }
 }
 
 /// Encrypts whole units of that line in place, from unit `k` of the line on.
 pub fn encrypt(part: &CryptPart<'_>, k: u64, units: &mut [u8])
-    requires key { part.now.key.now ≡ part.now.crypt.now.key }
-    requires whole { length units.old % sector_size part.now.crypt.now ≡ 0 }
+    requires whole { length units.old % unit_bytes part.now.units ≡ 0 }
     requires fits { k + length units.old < 2 ^ 64 }
-    ensures { units.new ≡ encrypted_units part.now.crypt.now k units.old }
+    ensures { units.new ≡ encrypted_units part.now.units part.now.key.now k units.old }
 {
-    let sectors = unit_sectors(part.crypt);
-    let size = sectors as usize * 512;
-    encrypt_each(part.key, part.crypt, k, size, units);
+    let size = unit_bytes(part.units);
+    let count = units.len() / size;
+    for i in 0..count.div_ceil(AT_ONCE) {
+        let from = AT_ONCE * i;
+        let few = AT_ONCE.min(count - from);
+        let numbers = unit_numbers(part.units, k + from as u64, few);
+        let run = &mut units[size * from..size * from + size * few];
+        part.key.encrypt_units(&numbers[..few], size, run);
+    }
 }
 
 /// The sectors of a unit from that one on, as many as fill the buffer.

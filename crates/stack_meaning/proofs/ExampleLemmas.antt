@@ -2,7 +2,6 @@
 use Rattle.std.proofs.Common.{◌≡◌, ℕ, List, [], ◌∷◌, ◌++◌, ◌-◌, ◌^◌, replicate, refl, codes, true, Ok, Err}
 use Rattle.block_device.specs.Device.{filled_sector, ramp_image, zeros_image}
 use Rattle.dm_table.specs.Crypt.{sector_size, iv_large_sectors}
-use Rattle.dm_table.specs.declared.crypt.Crypt.{Crypt}
 use Rattle.dm_table.specs.declared.table.Base.{Base}
 use Rattle.dm_table.specs.declared.table.Line.{Line}
 use Rattle.dm_table.specs.declared.table.Target.{Target}
@@ -13,8 +12,9 @@ use Rattle.stack_rules.specs.Descend.{descend, read_cost}
 use Rattle.stack_meaning.specs.Outcomes.{Outcome, span, error_target, mismatch, zero_sector}
 use Rattle.stack_meaning.specs.Meaning.{said_at, sector}
 use Rattle.stack_meaning.specs.Puts.{done, stopped, put_on}
+use Rattle.stack_meaning.specs.declared.units.CryptUnits.{CryptUnits}
 use Rattle.stack_meaning.specs.Found.{FoundRecord}
-use Rattle.stack_meaning.specs.Units.{crypt_unit_number}
+use Rattle.stack_meaning.specs.Units.{size_sectors, size_of, units_of, crypt_unit_number}
 
 abbrev leaf_of : List ℕ → ℕ → LeafRecord
 leaf_of name sectors = record { name = name; sectors = sectors; writable = true }
@@ -151,8 +151,8 @@ puts_overlapping = (refl, refl)
 abbrev key : List ℕ
 key = replicate 32 7
 
-abbrev units_of : ℕ → List (List ℕ) → Crypt
-units_of iv_offset options = record { key = key; iv_offset = iv_offset; base = base (codes "D") 0; options = options }
+abbrev units_at : ℕ → List (List ℕ) → CryptUnits
+units_at iv_offset options = units_of (record { key = key; iv_offset = iv_offset; base = base (codes "D") 0; options = options })
 
 abbrev eight : List (List ℕ)
 eight = codes "sector_size:4096" ∷ []
@@ -160,14 +160,14 @@ eight = codes "sector_size:4096" ∷ []
 abbrev counted : List (List ℕ)
 counted = codes "sector_size:4096" ∷ codes "iv_large_sectors" ∷ []
 
-numbers_from_0 : (crypt_unit_number (units_of 0 eight) 0 ≡ 0) × (crypt_unit_number (units_of 0 eight) 1 ≡ 8) × (crypt_unit_number (units_of 0 counted) 0 ≡ 0) × (crypt_unit_number (units_of 0 counted) 1 ≡ 1)
-unfolding sector_size iv_large_sectors
+numbers_from_0 : (crypt_unit_number (units_at 0 eight) 0 ≡ 0) × (crypt_unit_number (units_at 0 eight) 1 ≡ 8) × (crypt_unit_number (units_at 0 counted) 0 ≡ 0) × (crypt_unit_number (units_at 0 counted) 1 ≡ 1)
+unfolding sector_size iv_large_sectors size_of size_sectors
 numbers_from_0 = (refl, refl, refl, refl)
 
-numbers_from_8 : (crypt_unit_number (units_of 8 eight) 0 ≡ 8) × (crypt_unit_number (units_of 8 eight) 1 ≡ 16) × (crypt_unit_number (units_of 8 counted) 0 ≡ 1) × (crypt_unit_number (units_of 8 counted) 1 ≡ 2)
-unfolding sector_size iv_large_sectors
+numbers_from_8 : (crypt_unit_number (units_at 8 eight) 0 ≡ 8) × (crypt_unit_number (units_at 8 eight) 1 ≡ 16) × (crypt_unit_number (units_at 8 counted) 0 ≡ 1) × (crypt_unit_number (units_at 8 counted) 1 ≡ 2)
+unfolding sector_size iv_large_sectors size_of size_sectors
 numbers_from_8 = (refl, refl, refl, refl)
 
-numbers_from_the_last : (crypt_unit_number (units_of (2 ^ 64 - 8) eight) 1 ≡ 0) × (crypt_unit_number (units_of (2 ^ 64 - 8) counted) 0 ≡ 2 ^ 61 - 1) × (crypt_unit_number (units_of (2 ^ 64 - 8) counted) 1 ≡ 0) × (crypt_unit_number (units_of (2 ^ 64 - 1) []) 1 ≡ 0)
-unfolding sector_size iv_large_sectors
+numbers_from_the_last : (crypt_unit_number (units_at (2 ^ 64 - 8) eight) 1 ≡ 0) × (crypt_unit_number (units_at (2 ^ 64 - 8) counted) 0 ≡ 2 ^ 61 - 1) × (crypt_unit_number (units_at (2 ^ 64 - 8) counted) 1 ≡ 0) × (crypt_unit_number (units_at (2 ^ 64 - 1) []) 1 ≡ 0)
+unfolding sector_size iv_large_sectors size_of size_sectors
 numbers_from_the_last = (refl, refl, refl, refl)

@@ -20,5 +20,6 @@ pub mod SizedLemmas
 pub mod SpanLemmas
 pub mod StripesLemmas
 pub mod UnitLemmas
+pub mod UnitSizeLemmas
 pub mod UpLemmas
 pub mod targets

@@ -16,7 +16,7 @@ use Rattle.stack_meaning.specs.Beneath.{beneath, below, said_or}
 use Rattle.stack_meaning.specs.TargetMeaning.{put_as}
 use Rattle.stack_meaning.specs.MeaningOf.{meaning_of}
 pub use Rattle.stack_meaning.specs.Putting.{Put, done, stopped, then_put, Putting, none_put, read_put}
-pub use Rattle.stack_meaning.specs.targets.Crypt.{encrypted_sectors, changed_unit, unit_put}
+pub use Rattle.stack_meaning.specs.targets.Crypt.{encrypted_sectors, changed_unit, unit_put, in_unit}
 
 -- ---- runs
 

@@ -3,6 +3,8 @@
 
 mod fault;
 mod found;
+mod units;
 
 pub use fault::{Fault, IoFault};
 pub use found::Found;
+pub use units::{CryptUnits, UnitSize};

@@ -1,17 +1,17 @@
 -- Budgets: of runs that are cut, of the sectors of one line, and of units and data blocks.
 use Rattle.std.proofs.Common.{◌≡◌, ℕ, ◌+◌, ◌*◌, ◌%◌, ◌<◌, ◌≤◌, List, Option, Some, refl, sym, ap, ◌∙◌, arith}
 use Rattle.std.proofs.Math.Nat.{mul_assoc}
+use Rattle.dm_table.specs.declared.crypt.Crypt.{Crypt}
 use Rattle.dm_table.specs.declared.table.Target.{Target}
-use Rattle.dm_table.specs.declared.table.Target.TheVariants.{Verity as verity_target}
-use Rattle.stack_rules.specs.declared.lower.Lower.{Lower}
+use Rattle.dm_table.specs.declared.table.Target.TheVariants.{Crypt as crypt_target, Verity as verity_target}
 use Rattle.stack_rules.specs.declared.lower.Lower.TheVariants.{Leaf as leaf}
 use Rattle.stack_rules.specs.Records.{Configuration}
-use Rattle.stack_rules.specs.Names.{mapped, named}
-use Rattle.stack_rules.specs.Descend.{by_name, known, line_read_cost, read_cost}
+use Rattle.stack_rules.specs.Names.{mapped}
+use Rattle.stack_rules.specs.Descend.{by_name, line_read_cost, read_cost}
 use Rattle.stack_rules.specs.Rules.{IsLoaded, IsValid}
 use Rattle.stack_rules.specs.Trees.{block_sectors}
-use Rattle.stack_rules.specs.Units.{unit_sectors}
-use Rattle.stack_rules.proofs.lemmas.UnitLemmas.{unit_sectors-some}
+use Rattle.stack_meaning.specs.Units.{units_of, per_unit}
+use Rattle.stack_meaning.proofs.lemmas.UnitSizeLemmas.{per_unit-some, per_unit-of}
 use Rattle.stack_meaning.specs.Beneath.{beneath, said_or, HandsOn}
 use Rattle.stack_meaning.specs.TargetMeaning.{Meant, handed, own, IsHanded}
 use Rattle.stack_meaning.specs.MeaningOf.{meaning_of}
@@ -20,7 +20,7 @@ use Rattle.stack_meaning.proofs.lemmas.SectorLemmas.{AsksOfNames, said_or-same}
 use Rattle.stack_lines.specs.declared.source.CryptPart.{CryptPart}
 use Rattle.stack_lines.specs.declared.source.Source.{Source}
 use Rattle.stack_lines.specs.declared.source.VerityPart.{VerityPart}
-use Rattle.stack_lines.specs.Sources.{IsServed, IsPartOf}
+use Rattle.stack_lines.specs.Sources.{IsServed}
 use Rattle.stack_lines.specs.Prices.{Pricing, price_as, by_runs}
 use Rattle.stack_lines.specs.Budgets.{line_price, read_prices, budget, crypt_budget, part_budget, source_budget}
 use Rattle.stack_lines.proofs.lemmas.PriceLemmas.{CutAt, in_step, step-once, steps-each, ArePrices, priced-leaf, priced-apart, served-priced}
@@ -39,8 +39,11 @@ line_price-beneath c at d l target s n p hands e = go (meaning_of target).meant 
     go handed h = ap (λ (o : Option (List ℕ × ℕ)). said_or (λ (n : ℕ). 0) at o n) e
     go (own m) h = absurd h
 
-are-read : (c : Configuration) → ArePrices (read_prices c)
-are-read c = record { asks = line_price-asks c; hands = line_price-beneath c; zeros = λ at d l s n. refl; fails = λ at d l s n. refl; placeless = λ at d l target. refl }
+line_price-units : (c : Configuration) (at : List ℕ → Pricing) (d l : ℕ) (crypt : Crypt) → line_price c at d l (crypt_target crypt) ≡ (read_prices c).unit (by_name c 0 (read_cost c) crypt.base.device) (at crypt.base.device) (units_of crypt)
+line_price-units c at d l crypt = let f : ℕ → Pricing = λ u s n. u * by_name c 0 (read_cost c) crypt.base.device in ap f (sym (per_unit-of crypt))
+
+are-read : (c : Configuration) → ArePrices c (read_prices c)
+are-read c = record { asks = line_price-asks c; hands = line_price-beneath c; zeros = λ at d l s n. refl; fails = λ at d l s n. refl; units = line_price-units c }
 
 pub budget-leaf : (c : Configuration) (i s n : ℕ) → budget c (leaf i) s n ≡ n
 budget-leaf c i s n = priced-leaf c (read_prices c) i s n
@@ -57,23 +60,17 @@ served-budget c d s n source loaded some r = served-priced c (read_prices c) (ar
 
 module _ (c : Configuration) (u : CryptPart) (n : ℕ) where
   -- so many units
-  pub units-budget : (q : ℕ) → IsPartOf c u → u.first % unit_sectors u.crypt.now ≡ 0 → q * unit_sectors u.crypt.now ≡ n → crypt_budget c u n ≡ n * read_cost c u.lower
-  units-budget q of begins count =
-      let crypt = u.crypt.now in
-      let size : ℕ = unit_sectors crypt in
-      let one : ℕ = size * known 0 (read_cost c) (named c crypt.base.device) in
-      ap (by_runs (in_step size) (λ (s k : ℕ). one) u.first) (sym count)
-      ∙ steps-each size one (omega (arith, unit_sectors-some crypt)) q u.first begins
-      ∙ sym (mul_assoc q size (known 0 (read_cost c) (named c crypt.base.device)))
-      ∙ ap (λ (k : ℕ). k * known 0 (read_cost c) (named c crypt.base.device)) count
-      ∙ ap (λ (o : Option Lower). n * known 0 (read_cost c) o) of.named
+  pub units-budget : (q : ℕ) → u.first % per_unit u.units ≡ 0 → q * per_unit u.units ≡ n → crypt_budget c u n ≡ n * read_cost c u.lower
+  units-budget q begins count =
+      let size : ℕ = per_unit u.units in
+      ap (by_runs (in_step size) (λ (s k : ℕ). size * read_cost c u.lower) u.first) (sym count)
+      ∙ steps-each size (size * read_cost c u.lower) (omega (arith, per_unit-some u.units)) q u.first begins
+      ∙ sym (mul_assoc q size (read_cost c u.lower))
+      ∙ ap (λ (k : ℕ). k * read_cost c u.lower) count
 
   -- a part of one unit
-  pub unit-budget : IsPartOf c u → 0 < n → u.first % unit_sectors u.crypt.now + n ≤ unit_sectors u.crypt.now → crypt_budget c u n ≡ unit_sectors u.crypt.now * read_cost c u.lower
-  unit-budget of some fits =
-      let size : ℕ = unit_sectors u.crypt.now in
-      step-once size (λ (s k : ℕ). size * by_name c 0 (read_cost c) u.crypt.now.base.device) (omega (arith, unit_sectors-some u.crypt.now)) u.first n some fits
-      ∙ ap (λ (o : Option Lower). size * known 0 (read_cost c) o) of.named
+  pub unit-budget : 0 < n → u.first % per_unit u.units + n ≤ per_unit u.units → crypt_budget c u n ≡ per_unit u.units * read_cost c u.lower
+  unit-budget some fits = step-once (per_unit u.units) (λ (s k : ℕ). per_unit u.units * read_cost c u.lower) (omega (arith, per_unit-some u.units)) u.first n some fits
 
 module _ (c : Configuration) (x : VerityPart) (n : ℕ) where
   -- so many data blocks

@@ -4,6 +4,7 @@ use Rattle.std.specs.Option.{option_map_or}
 use Rattle.std.proofs.lemmas.Bool.{lt-ltb, le-ltb}
 use Rattle.std.proofs.lemmas.Nat.{mod-mul-add, div-add-mod'}
 use Rattle.std.proofs.Math.Nat.{add-mul}
+use Rattle.dm_table.specs.declared.crypt.Crypt.{Crypt}
 use Rattle.dm_table.specs.declared.table.Line.{Line}
 use Rattle.dm_table.specs.declared.table.Target.{Target}
 use Rattle.dm_table.specs.declared.table.Target.TheVariants.{Zero, Error, Crypt as crypt_target, Verity as verity_target}
@@ -11,21 +12,24 @@ use Rattle.stack_rules.specs.declared.lower.Lower.{Lower}
 use Rattle.stack_rules.specs.declared.lower.Lower.TheVariants.{Leaf as leaf, Device as device}
 use Rattle.stack_rules.specs.Records.{Configuration}
 use Rattle.stack_rules.specs.Names.{mapped, lines_of}
-use Rattle.stack_rules.specs.Descend.{descend, known, most_devices, depth}
+use Rattle.stack_rules.specs.Descend.{descend, by_name, known, most_devices, depth, read_cost}
 use Rattle.stack_rules.specs.Lines.{line_at, IsLine}
 use Rattle.stack_rules.specs.Rules.{IsLoaded, IsValid, most_depth}
 use Rattle.stack_rules.proofs.lemmas.UnrollLemmas.{IsLocal, descend-rule, falls-at}
 use Rattle.stack_rules.proofs.lemmas.ValidLemmas.{depth-low}
+use Rattle.stack_meaning.specs.declared.units.CryptUnits.{CryptUnits}
 use Rattle.stack_meaning.specs.Sectors.{on_found, sector_rule}
 use Rattle.stack_meaning.specs.Beneath.{beneath, HandsOn}
-use Rattle.stack_meaning.specs.Puts.{together, in_one_run}
+use Rattle.stack_meaning.specs.Puts.{together, in_one_run, in_unit}
+use Rattle.stack_meaning.specs.Units.{units_of}
 use Rattle.stack_meaning.proofs.lemmas.LineLemmas.{found-more}
 use Rattle.stack_meaning.proofs.lemmas.SectorLemmas.{AsksOfNames, sector_rule-local}
+use Rattle.stack_lines.specs.declared.source.CryptPart.{CryptPart}
 use Rattle.stack_lines.specs.declared.source.Source.{Source}
 use Rattle.stack_lines.specs.declared.source.VerityPart.{VerityPart}
 use Rattle.stack_lines.specs.declared.source.Source.TheVariants.{Below, Units, UnitPart, Zeros, Fails, Block, Blocks}
-use Rattle.stack_lines.specs.Sources.{ComeFrom, IsPlacedAt, IsServed}
-use Rattle.stack_lines.specs.Prices.{Pricing, Prices, run_and_behind, by_runs, price_rule, priced, priced_by_name, part_price, source_price}
+use Rattle.stack_lines.specs.Sources.{ComeFrom, IsPartOf, IsPlacedAt, IsServed}
+use Rattle.stack_lines.specs.Prices.{Pricing, Prices, run_and_behind, by_runs, price_rule, priced, priced_by_name, part_price, crypt_price, source_price}
 
 -- ---- runs
 
@@ -179,20 +183,20 @@ steps-each u price several (suc q) w begins =
 
 -- ---- devices
 
--- A line's price asks only what those beneath cost; it is theirs where the line hands on, and nothing on a `zero` or `error`
--- line.
-pub record ArePrices (p : Prices) : Type 0 where
+-- A line's price asks only what those beneath cost; it is theirs where the line hands on, nothing on a `zero` or `error`
+-- line, and that of its units on a `crypt` line.
+pub record ArePrices (c : Configuration) (p : Prices) : Type 0 where
   pub asks : AsksOfNames p.line
   pub hands : (at : List ℕ → Pricing) (d l : ℕ) (target : Target) (s n : ℕ) (q : List ℕ × ℕ) → HandsOn target → beneath target s ≡ Some q → p.line at d l target s n ≡ at q.0 q.1 n
   pub zeros : (at : List ℕ → Pricing) (d l s n : ℕ) → p.line at d l Zero s n ≡ 0
   pub fails : (at : List ℕ → Pricing) (d l s n : ℕ) → p.line at d l Error s n ≡ 0
-  pub placeless : (at : List ℕ → Pricing) (d l : ℕ) (target : Target) → p.line at d l target ≡ p.line at 0 0 target
+  pub units : (at : List ℕ → Pricing) (d l : ℕ) (crypt : Crypt) → p.line at d l (crypt_target crypt) ≡ p.unit (by_name c 0 (read_cost c) crypt.base.device) (at crypt.base.device) (units_of crypt)
 
 pub priced-leaf : (c : Configuration) (p : Prices) (i s n : ℕ) → priced c p (leaf i) s n ≡ p.leaf n
 unfolding descend
 priced-leaf c p i s n = refl
 
-module _ (c : Configuration) (p : Prices) (are : ArePrices p) where
+module _ (c : Configuration) (p : Prices) (are : ArePrices c p) where
   rule-local : IsLocal c (price_rule c p)
   rule-local f g (leaf i) all = refl
   rule-local f g (device d) all =
@@ -249,6 +253,14 @@ module _ (c : Configuration) (p : Prices) (are : ArePrices p) where
         ∙ ap (λ (k : ℕ). by_runs (together (verity_target x.verity.now)) (p.line (priced_by_name c p) x.device.0 k (verity_target x.verity.now)) w n) (sym place.1)
         ∙ ap (λ (k : ℕ). part_price c p (record x { first = k }) n) (sym first)
 
+    crypt-priced : (u : CryptPart) → IsPartOf c line.target u → u.first ≡ w → by_runs (together line.target) (p.line (priced_by_name c p) d l line.target) w n ≡ crypt_price c p u n
+    crypt-priced u of first =
+        ap (λ (t : Target). by_runs (together t) (p.line (priced_by_name c p) d l t) w n) of.is
+        ∙ ap (λ (f : Pricing). by_runs (in_unit (units_of of.crypt)) f w n) (are.units (priced_by_name c p) d l of.crypt)
+        ∙ ap (λ (o : Option Lower). by_runs (in_unit (units_of of.crypt)) (p.unit (known 0 (read_cost c) o) (known {A = Pricing} (λ s n. 0) (priced c p) o) (units_of of.crypt)) w n) of.named
+        ∙ ap (λ (x : CryptUnits). by_runs (in_unit x) (p.unit (read_cost c u.lower) (priced c p u.lower) x) w n) (sym of.units)
+        ∙ ap (λ (k : ℕ). crypt_price c p (record u { first = k }) n) (sym first)
+
     come-priced : (source : Source) → ComeFrom c (d, l) line.target w n source → by_runs (together line.target) (p.line (priced_by_name c p) d l line.target) w n ≡ source_price c p source n
     come-priced (Below lower first) come =
         let on = come.1 in
@@ -258,14 +270,8 @@ module _ (c : Configuration) (p : Prices) (are : ArePrices p) where
         ∙ are.hands (priced_by_name c p) d l line.target w n (on.name, first + 0) come.0 (ap (beneath line.target) (sym at) ∙ on.under 0 some)
         ∙ ap (λ (o : Option Lower). known {A = Pricing} (λ (s n : ℕ). 0) (priced c p) o (first + 0) n) on.is
         ∙ ap (λ (k : ℕ). priced c p lower k n) first_is
-    come-priced (Units u) come =
-        ap (λ (t : Target). by_runs (together t) (p.line (priced_by_name c p) d l t) w n) come.0
-        ∙ ap (λ (f : Pricing). by_runs (together (crypt_target u.crypt.now)) f w n) (are.placeless (priced_by_name c p) d l (crypt_target u.crypt.now))
-        ∙ ap (λ (k : ℕ). by_runs (together (crypt_target u.crypt.now)) (p.line (priced_by_name c p) 0 0 (crypt_target u.crypt.now)) k n) (sym come.1)
-    come-priced (UnitPart u) come =
-        ap (λ (t : Target). by_runs (together t) (p.line (priced_by_name c p) d l t) w n) come.0
-        ∙ ap (λ (f : Pricing). by_runs (together (crypt_target u.crypt.now)) f w n) (are.placeless (priced_by_name c p) d l (crypt_target u.crypt.now))
-        ∙ ap (λ (k : ℕ). by_runs (together (crypt_target u.crypt.now)) (p.line (priced_by_name c p) 0 0 (crypt_target u.crypt.now)) k n) (sym come.1)
+    come-priced (Units u) come = crypt-priced u come.0 come.1
+    come-priced (UnitPart u) come = crypt-priced u come.0 come.1
     come-priced Zeros come = none Zero (λ i. refl) (are.zeros (priced_by_name c p) d l w n) come
     come-priced Fails come = none Error (λ i. refl) (are.fails (priced_by_name c p) d l w n) come
     come-priced (Block x) come = verity-priced x come.0 come.1 come.2

@@ -17,12 +17,14 @@ use Rattle.stack_meaning.specs.declared.fault.Fault.TheVariants as why
 use Rattle.stack_lines.specs.declared.source.Source.{Source}
 use Rattle.stack_lines.specs.declared.source.VerityPart.{VerityPart}
 use Rattle.stack_lines.specs.declared.source.Source.TheVariants.{Below, Units, UnitPart, Zeros, Fails, Block, Blocks}
-use Rattle.dm_table.specs.declared.table.Target.TheVariants.{Crypt as crypt_target, Verity as verity_target}
+use Rattle.dm_table.specs.declared.table.Target.TheVariants.{Verity as verity_target}
 use Rattle.stack_lines.specs.declared.source.CryptPart.{CryptPart}
-use Rattle.stack_lines.proofs.lemmas.UnitLineLemmas.{IsUnitLine, unit-line-on}
+use Rattle.stack_lines.proofs.lemmas.UnitLineLemmas.{IsUnitLine, unit-line}
 use Rattle.stack_meaning.specs.Outcomes.{error_target, zero_sector, part}
 use Rattle.stack_meaning.specs.Found.{FoundRecord}
 use Rattle.stack_meaning.specs.Kept.{AllKept}
+use Rattle.stack_meaning.specs.declared.units.CryptUnits.{CryptUnits}
+use Rattle.stack_meaning.specs.Units.{units_of}
 use Rattle.stack_meaning.specs.Meaning.{Said, none_said, crypt_said, line_said, said_at, said_by_name}
 use Rattle.stack_meaning.specs.Leaves.{steady_images}
 use Rattle.stack_meaning.specs.Places.{place_of, run_expected, LeafRead}
@@ -49,19 +51,21 @@ module _ (c : Configuration) (d l : ℕ) (line : Line) (is : IsLine c d l line) 
       ∙ ap (λ (k : ℕ). line_said (said_by_name c) x.device.0 k (verity_target x.verity.now) (w + j)) (sym place.1)
       ∙ ap (λ (k : ℕ). part_said c (record x { first = k }) j) (sym first)
 
+  crypt-came : (u : CryptPart) → IsPartOf c line.target u → u.first ≡ w → line_said (said_by_name c) d l line.target (w + j) ≡ source_said c (Units u) j
+  crypt-came u of first =
+      ap (λ (t : Target). line_said (said_by_name c) d l t (w + j)) of.is
+      ∙ ap (λ (o : Option Lower). crypt_said (known {A = ℕ → Said} (λ t. none_said) (said_at c) o) (units_of of.crypt) of.crypt.key (w + j)) of.named
+      ∙ ap (λ (x : CryptUnits). crypt_said (said_at c u.lower) x of.crypt.key (w + j)) (sym of.units)
+      ∙ ap (λ (x : List ℕ). crypt_said (said_at c u.lower) u.units x (w + j)) (sym of.key)
+      ∙ ap (λ (k : ℕ). crypt_said (said_at c u.lower) u.units u.key.now (k + j)) (sym first)
+
   come-said : (source : Source) → ComeFrom c (d, l) line.target w n source → line_said (said_by_name c) d l line.target (w + j) ≡ source_said c source j
   come-said (Below lower first) come =
       let on = come.1 in
       line_said-beneath (said_by_name c) d l line.target (w + j) (on.name, first + j) come.0 (on.under j below)
       ∙ ap (λ (o : Option Lower). known {A = ℕ → Said} (λ t. none_said) (said_at c) o (first + j)) on.is
-  come-said (Units u) come =
-      ap (λ (t : Target). line_said (said_by_name c) d l t (w + j)) come.0
-      ∙ ap (λ (o : Option Lower). crypt_said (known {A = ℕ → Said} (λ t. none_said) (said_at c) o) u.crypt.now (w + j)) come.2.of.named
-      ∙ ap (λ (k : ℕ). crypt_said (said_at c u.lower) u.crypt.now (k + j)) (sym come.1)
-  come-said (UnitPart u) come =
-      ap (λ (t : Target). line_said (said_by_name c) d l t (w + j)) come.0
-      ∙ ap (λ (o : Option Lower). crypt_said (known {A = ℕ → Said} (λ t. none_said) (said_at c) o) u.crypt.now (w + j)) come.2.of.named
-      ∙ ap (λ (k : ℕ). crypt_said (said_at c u.lower) u.crypt.now (k + j)) (sym come.1)
+  come-said (Units u) come = crypt-came u come.0 come.1
+  come-said (UnitPart u) come = crypt-came u come.0 come.1
   come-said Zeros come = ap (λ (t : Target). line_said (said_by_name c) d l t (w + j)) come
   come-said Fails come = ap (λ (t : Target). line_said (said_by_name c) d l t (w + j)) come
   come-said (Block x) come = verity-came x come.0 come.1 come.2
@@ -72,15 +76,15 @@ served-said c d s n j source loaded below r =
     sym (said_at-line c loaded.valid d s j r.number r.line r.found r.start (omega (arith, below, r.fits)) ∙ come-said c d r.number r.line r.is (s - r.line.start) n j below source r.come)
 
 -- the line of a part of a crypt line
-pub served-line : (c : Configuration) (d s n : ℕ) (source : Source) (u : CryptPart) → IsLoaded c → (r : IsServed c d s n source) → r.line.target ≡ crypt_target u.crypt.now → IsPartOf c u → IsUnitLine c d r.line u.crypt.now u.lower
-served-line c d s n source u loaded r is of = unit-line-on c d r.number 0 u.crypt.now loaded (record { line = r.line; is = r.is; has = is; fits = omega arith }) u.lower of.named
+pub served-line : (c : Configuration) (d s n : ℕ) (source : Source) (u : CryptPart) → IsLoaded c → (r : IsServed c d s n source) → IsPartOf c r.line.target u → IsUnitLine c d r.line u.units u.lower
+served-line c d s n source u loaded r of = unit-line c d r.number 0 r.line.target u loaded (record { line = r.line; is = r.is; has = refl; fits = omega arith }) of
 
 pub served-cost : (c : Configuration) (d s n : ℕ) (source : Source) → IsLoaded c → 0 < n → IsServed c d s n source → source_cost c source ≤ read_cost c (mapped d)
 served-cost c d s n (Below lower first) loaded some r =
     let on = r.come.1 in
     cost-falls c d r.number r.line (s - r.line.start + 0) (on.name, first + 0) lower loaded.valid r.is (on.under 0 some) on.is
-served-cost c d s n (Units u) loaded some r = (served-line c d s n (Units u) u loaded r r.come.0 r.come.2.of).crypt_line.read
-served-cost c d s n (UnitPart u) loaded some r = (served-line c d s n (UnitPart u) u loaded r r.come.0 r.come.2.of).read
+served-cost c d s n (Units u) loaded some r = (served-line c d s n (Units u) u loaded r r.come.0).read
+served-cost c d s n (UnitPart u) loaded some r = (served-line c d s n (UnitPart u) u loaded r r.come.0).read_unit
 served-cost c d s n Zeros loaded some r = omega arith
 served-cost c d s n Fails loaded some r = omega arith
 served-cost c d s n (Block x) loaded some r = let same : read_cost c (mapped x.device.0) ≡ read_cost c (mapped d) = ap (λ (k : ℕ). read_cost c (mapped k)) r.come.1.0 in omega (arith, same)
@@ -91,8 +95,8 @@ pub served-depth : (c : Configuration) (d s n : ℕ) (source : Source) → IsLoa
 served-depth c d s n (Below lower first) loaded some r =
     let on = r.come.1 in
     let falls = depth-falls c d r.number r.line (s - r.line.start + 0) (on.name, first + 0) lower loaded.valid r.is (on.under 0 some) on.is in omega (arith, falls)
-served-depth c d s n (Units u) loaded some r = let line = served-line c d s n (Units u) u loaded r r.come.0 r.come.2.of in omega (arith, line.crypt_line.shallower)
-served-depth c d s n (UnitPart u) loaded some r = let line = served-line c d s n (UnitPart u) u loaded r r.come.0 r.come.2.of in omega (arith, line.crypt_line.shallower)
+served-depth c d s n (Units u) loaded some r = let line = served-line c d s n (Units u) u loaded r r.come.0 in omega (arith, line.shallower)
+served-depth c d s n (UnitPart u) loaded some r = let line = served-line c d s n (UnitPart u) u loaded r r.come.0 in omega (arith, line.shallower)
 served-depth c d s n Zeros loaded some r = omega arith
 served-depth c d s n Fails loaded some r = omega arith
 served-depth c d s n (Block x) loaded some r = let same : depth c (mapped x.device.0) ≡ depth c (mapped d) = ap (λ (k : ℕ). depth c (mapped k)) r.come.1.0 in omega (arith, same)

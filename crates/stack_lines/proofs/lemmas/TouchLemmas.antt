@@ -5,11 +5,10 @@ use Rattle.std.specs.List.{AllByRecursion, list_any}
 use Rattle.std.proofs.lemmas.Bool.Decides.{nat_tests}
 use Rattle.std.proofs.lemmas.List.{get_or-set_other, map-set}
 use Rattle.block_device.specs.Device.{Device}
-use Rattle.dm_table.specs.declared.crypt.Crypt.{Crypt}
 use Rattle.dm_table.specs.declared.verity.Verity.{Verity}
 use Rattle.dm_table.specs.declared.table.Line.{Line}
 use Rattle.dm_table.specs.declared.table.Target.{Target}
-use Rattle.dm_table.specs.declared.table.Target.TheVariants.{Crypt as crypt_target, Verity as verity_target}
+use Rattle.dm_table.specs.declared.table.Target.TheVariants.{Verity as verity_target}
 use Rattle.stack_rules.specs.declared.lower.Lower.{Lower}
 use Rattle.stack_rules.specs.declared.lower.Lower.TheVariants.{Leaf}
 use Rattle.stack_rules.specs.Records.{Configuration}
@@ -21,10 +20,11 @@ use Rattle.stack_meaning.specs.declared.fault.IoFault.TheVariants as io
 use Rattle.stack_meaning.specs.Beneath.{beneath}
 use Rattle.stack_meaning.specs.Kept.{target_leaves}
 use Rattle.stack_meaning.proofs.lemmas.LoadedLemmas.{at_place, of_beneath}
+use Rattle.stack_lines.specs.declared.source.CryptPart.{CryptPart}
 use Rattle.stack_lines.specs.declared.source.Source.{Source}
 use Rattle.stack_lines.specs.declared.source.Source.TheVariants.{Below, Units, UnitPart, Zeros, Fails, Block, Blocks}
 use Rattle.stack_lines.specs.declared.tree.Tree.{Tree}
-use Rattle.stack_lines.specs.Sources.{HasTarget, IsServed}
+use Rattle.stack_lines.specs.Sources.{HasTarget, IsPartOf, IsServed}
 use Rattle.stack_lines.specs.Standing.{stands_on, name_stands_on}
 use Rattle.stack_lines.specs.Touches.{NamesOneOf, TouchesOnly, leaves_of, source_leaves}
 use Rattle.stack_lines.specs.Walks.{IsTreeOf}
@@ -132,11 +132,10 @@ verity-names c d l n v loaded has =
 pub verity-leaves : (c : Configuration) (v : Verity) (i : ℕ) → target_leaves c (verity_target v) i ≡ (name_stands_on c i v.data || name_stands_on c i v.hash)
 verity-leaves c v i = ap (λ (b : Bool). name_stands_on c i v.data || b) (or-false (name_stands_on c i v.hash))
 
--- the device beneath a crypt line
-pub crypt-within : (c : Configuration) (d l n : ℕ) (crypt : Crypt) (lower : Lower) → IsLoaded c → HasTarget c d l (crypt_target crypt) n → named c crypt.base.device ≡ Some lower
-    → AreWithin (leaves_of c lower) (leaves_of c (mapped d))
-crypt-within c d l n crypt lower loaded has is i out =
-    name-out c loaded d l has.line has.is i out 0 crypt.base.device lower (ap (λ (t : Target). slice_get (names t) 0) has.has) is
+-- the device beneath a part of a crypt line
+pub crypt-within : (c : Configuration) (d l n : ℕ) (target : Target) (u : CryptPart) → IsLoaded c → HasTarget c d l target n → IsPartOf c target u → AreWithin (leaves_of c u.lower) (leaves_of c (mapped d))
+crypt-within c d l n target u loaded has of i out =
+    name-out c loaded d l has.line has.is i out 0 of.crypt.base.device u.lower (ap (λ (t : Target). slice_get (names t) 0) (has.has ∙ of.is)) of.named
 
 -- those beneath a verity line
 module _ (c : Configuration) (v : Verity) (tree : Tree) (loaded : IsLoaded c) (is : IsTreeOf c v tree) where
@@ -150,8 +149,8 @@ module _ (c : Configuration) (v : Verity) (tree : Tree) (loaded : IsLoaded c) (i
 pub served-within : (c : Configuration) (d s n : ℕ) (source : Source) → IsLoaded c → 0 < n → IsServed c d s n source → AreWithin (source_leaves c source) (leaves_of c (mapped d))
 served-within c d s n (Below lower first) loaded some r i out =
     let on = r.come.1 in under-out c loaded d r.number r.line r.is i out (s - r.line.start + 0) (on.name, first + 0) lower (on.under 0 some) on.is
-served-within c d s n (Units u) loaded some r i out = crypt-within c d r.number 0 u.crypt.now u.lower loaded (record { line = r.line; is = r.is; has = r.come.0; fits = omega arith }) r.come.2.of.named i out
-served-within c d s n (UnitPart u) loaded some r i out = crypt-within c d r.number 0 u.crypt.now u.lower loaded (record { line = r.line; is = r.is; has = r.come.0; fits = omega arith }) r.come.2.of.named i out
+served-within c d s n (Units u) loaded some r i out = crypt-within c d r.number 0 r.line.target u loaded (record { line = r.line; is = r.is; has = refl; fits = omega arith }) r.come.0 i out
+served-within c d s n (UnitPart u) loaded some r i out = crypt-within c d r.number 0 r.line.target u loaded (record { line = r.line; is = r.is; has = refl; fits = omega arith }) r.come.0 i out
 served-within c d s n Zeros loaded some r i out = refl
 served-within c d s n Fails loaded some r i out = refl
 served-within c d s n (Block x) loaded some r i out = ap (λ (k : ℕ). stands_on c i (mapped k)) r.come.1.0 ∙ out

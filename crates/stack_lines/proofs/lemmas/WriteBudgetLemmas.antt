@@ -5,6 +5,7 @@ use Rattle.std.proofs.lemmas.Nat.{div-add-mod', div-mul-add}
 use Rattle.std.proofs.Math.Nat.{add-mul}
 use Rattle.std.proofs.Math.Path.{fun_ext}
 use Rattle.dm_table.specs.declared.crypt.Crypt.{Crypt}
+use Rattle.stack_meaning.specs.declared.units.CryptUnits.{CryptUnits}
 use Rattle.dm_table.specs.declared.table.Line.{Line}
 use Rattle.dm_table.specs.declared.table.Target.{Target}
 use Rattle.dm_table.specs.declared.table.Target.TheVariants.{Crypt as crypt_target}
@@ -12,25 +13,25 @@ use Rattle.stack_rules.specs.declared.lower.Lower.{Lower}
 use Rattle.stack_rules.specs.declared.lower.Lower.TheVariants.{Leaf as leaf, Device as device}
 use Rattle.stack_rules.specs.Records.{Configuration}
 use Rattle.stack_rules.specs.Names.{mapped, named, names}
-use Rattle.stack_rules.specs.Descend.{descend, after_steps, most_devices, known, by_name}
+use Rattle.stack_rules.specs.Descend.{descend, after_steps, most_devices, known, by_name, read_cost}
 use Rattle.stack_rules.specs.Lines.{line_at}
 use Rattle.stack_rules.specs.Rules.{IsLoaded, IsValid}
-use Rattle.stack_rules.specs.Units.{unit_sectors, crypt_of}
-use Rattle.stack_rules.proofs.lemmas.UnitLemmas.{unit_sectors-some}
+use Rattle.stack_rules.specs.Units.{crypt_of}
+use Rattle.stack_meaning.proofs.lemmas.UnitSizeLemmas.{per_unit-some}
 use Rattle.stack_rules.proofs.lemmas.UnrollLemmas.{AllOf, all_and}
 use Rattle.stack_meaning.specs.Beneath.{beneath, said_or, HandsOn}
 use Rattle.stack_meaning.specs.MeaningOf.{meaning_of}
 use Rattle.stack_meaning.specs.Puts.{together, in_one_run}
 use Rattle.stack_meaning.specs.Sectors.{on_found, sector_rule}
 use Rattle.stack_meaning.specs.TargetMeaning.{Meant, handed, own, IsHanded}
-use Rattle.stack_meaning.specs.Units.{unit_first}
+use Rattle.stack_meaning.specs.Units.{units_of, per_unit, unit_first}
 use Rattle.stack_meaning.proofs.lemmas.LineLemmas.{line-start}
 use Rattle.stack_meaning.proofs.lemmas.SectorLemmas.{AsksOfNames, said_or-same}
 use Rattle.stack_meaning.proofs.lemmas.UnitLemmas.{unit-more}
 use Rattle.stack_lines.specs.declared.source.CryptPart.{CryptPart}
 use Rattle.stack_lines.specs.declared.source.Source.{Source}
-use Rattle.stack_lines.specs.Sources.{IsServed, IsPartOf}
-use Rattle.stack_lines.specs.Prices.{Pricing, by_runs, price_as, price_rule, priced_by_name}
+use Rattle.stack_lines.specs.Sources.{IsServed}
+use Rattle.stack_lines.specs.Prices.{Pricing, by_runs, price_as, price_rule}
 use Rattle.stack_lines.specs.WriteBudgets.{Counter, of_reads, of_writes, leaf_count, change_count, unit_count, own_count, line_count, write_prices, write_budget, crypt_write_budget, source_write_budget}
 use Rattle.stack_lines.proofs.RunCostLemmas.{CostsLess, cond-below, runs-less}
 use Rattle.stack_lines.proofs.SideLemmas.{beneath-more, in-line, in-line-together}
@@ -40,8 +41,7 @@ use Rattle.stack_lines.proofs.lemmas.PriceLemmas.{CutAt, runs-apart, in_step, st
 -- ---- lines
 
 own-same : (c : Configuration) (k : Counter) (at at' : List ℕ → Pricing) (target : Target) (s n : ℕ) → AllOf (λ name. at name ≡ at' name) (names target) → own_count c k at (crypt_of target) s n ≡ own_count c k at' (crypt_of target) s n
-own-same c k at at' (crypt_target crypt) s n (all_and same more) =
-    ap (λ (h : Pricing). cond (nat_lt n (unit_sectors crypt)) (change_count c k crypt) 0 + h (unit_first crypt s) (unit_sectors crypt)) same
+own-same c k at at' (crypt_target crypt) s n (all_and same more) = ap (λ (h : Pricing). unit_count k (by_name c 0 (read_cost c) crypt.base.device) h (units_of crypt) s n) same
 own-same c k at at' target s n all = refl
 
 line_count-asks : (c : Configuration) (k : Counter) → AsksOfNames (line_count c k)
@@ -56,8 +56,8 @@ line_count-beneath c k at d l target s n p hands e = go (meaning_of target).mean
     go handed h = ap (λ (o : Option (List ℕ × ℕ)). said_or (λ (n : ℕ). 0) at o n) e
     go (own m) h = absurd h
 
-are-written : (c : Configuration) (k : Counter) → ArePrices (write_prices c k)
-are-written c k = record { asks = line_count-asks c k; hands = line_count-beneath c k; zeros = λ at d l s n. refl; fails = λ at d l s n. refl; placeless = λ at d l target. refl }
+are-written : (c : Configuration) (k : Counter) → ArePrices c (write_prices c k)
+are-written c k = record { asks = line_count-asks c k; hands = line_count-beneath c k; zeros = λ at d l s n. refl; fails = λ at d l s n. refl; units = λ at d l crypt. refl }
 
 -- ---- devices
 
@@ -78,7 +78,7 @@ cut-less u a b more = elim (cases_lt a u) [
 
 own-less : (c : Configuration) (k : Counter) (at : List ℕ → Pricing) (o : Option Crypt) (w a b : ℕ) → own_count c k at o w (a + b) ≤ own_count c k at o w a + own_count c k at o (w + a) b
 own-less c k at None w a b = omega arith
-own-less c k at (Some crypt) w a b = omega (arith, cut-less (unit_sectors crypt) a b (change_count c k crypt))
+own-less c k at (Some crypt) w a b = omega (arith, cut-less (per_unit (units_of crypt)) a b (change_count k (by_name c 0 (read_cost c) crypt.base.device) (units_of crypt)))
 
 line-less : (c : Configuration) (k : Counter) (at : List ℕ → Pricing) → ((name : List ℕ) → CostsLess (at name)) → (d l : ℕ) (target : Target) (w a b : ℕ) → ((j : ℕ) → j < a → together target (w + j) ≡ true)
     → line_count c k at d l target w (a + b) ≤ line_count c k at d l target w a + line_count c k at d l target (w + a) b
@@ -145,105 +145,102 @@ served-write_budget c k d s n source loaded some r = served-priced c (write_pric
 
 -- ---- units of a line
 
-module _ (c : Configuration) (k : Counter) (x : CryptPart) (of : IsPartOf c x) where
-  abbrev crypt : Crypt
-  crypt = x.crypt.now
+module _ (c : Configuration) (k : Counter) (x : CryptPart) where
+  abbrev units : CryptUnits
+  units = x.units
 
   abbrev lower : Lower
   lower = x.lower
 
   abbrev unit_price : Pricing
-  unit_price = unit_count c k (priced_by_name c (write_prices c k)) crypt
+  unit_price = unit_count k (read_cost c lower) (write_budget c k lower) units
 
-  some-unit : 0 < unit_sectors crypt
-  some-unit = omega (arith, unit_sectors-some crypt)
+  some-unit : 0 < per_unit units
+  some-unit = omega (arith, per_unit-some units)
 
-  has-written : (n : ℕ) → crypt_write_budget c k x n ≡ by_runs (in_step (unit_sectors crypt)) unit_price x.first n
+  has-written : (n : ℕ) → crypt_write_budget c k x n ≡ by_runs (in_step (per_unit units)) unit_price x.first n
   has-written n = refl
 
-  put-is : (t n : ℕ) → priced_by_name c (write_prices c k) crypt.base.device t n ≡ write_budget c k lower t n
-  put-is t n = ap (λ (o : Option Lower). known {A = Pricing} (λ (s n : ℕ). 0) (write_budget c k) o t n) of.named
-
   -- one that is written whole
-  whole-is : (w : ℕ) → unit_price w (unit_sectors crypt) ≡ write_budget c k lower (unit_first crypt w) (unit_sectors crypt)
+  whole-is : (w : ℕ) → unit_price w (per_unit units) ≡ write_budget c k lower (unit_first units w) (per_unit units)
   whole-is w =
-      let u : ℕ = unit_sectors crypt in
-      let none : cond (nat_lt u u) (change_count c k crypt) 0 ≡ 0 = ap (λ (t : Bool). cond t (change_count c k crypt) 0) (le-ltb u u (omega arith)) in
-      omega (arith, none, put-is (unit_first crypt w) u)
+      let u : ℕ = per_unit units in
+      let none : cond (nat_lt u u) (change_count k (read_cost c lower) units) 0 ≡ 0 = ap (λ (t : Bool). cond t (change_count k (read_cost c lower) units) 0) (le-ltb u u (omega arith)) in
+      omega (arith, none)
 
   -- a part of one
-  pub part-written : (n : ℕ) → 0 < n → n < unit_sectors crypt → x.first % unit_sectors crypt + n ≤ unit_sectors crypt
-      → crypt_write_budget c k x n ≡ change_count c k crypt + write_budget c k lower (unit_first crypt x.first) (unit_sectors crypt)
+  pub part-written : (n : ℕ) → 0 < n → n < per_unit units → x.first % per_unit units + n ≤ per_unit units
+      → crypt_write_budget c k x n ≡ change_count k (read_cost c lower) units + write_budget c k lower (unit_first units x.first) (per_unit units)
   part-written n some few fits =
-      let u : ℕ = unit_sectors crypt in
-      let cut : cond (nat_lt n u) (change_count c k crypt) 0 ≡ change_count c k crypt = ap (λ (t : Bool). cond t (change_count c k crypt) 0) (lt-ltb n u few) in
-      omega (arith, has-written n, step-once u unit_price some-unit x.first n some fits, cut, put-is (unit_first crypt x.first) u)
+      let u : ℕ = per_unit units in
+      let cut : cond (nat_lt n u) (change_count k (read_cost c lower) units) 0 ≡ change_count k (read_cost c lower) units = ap (λ (t : Bool). cond t (change_count k (read_cost c lower) units) 0) (lt-ltb n u few) in
+      omega (arith, has-written n, step-once u unit_price some-unit x.first n some fits, cut)
 
-  module _ (aligned : x.first % unit_sectors crypt ≡ 0) where
-    pub whole-written : crypt_write_budget c k x (unit_sectors crypt) ≡ write_budget c k lower (unit_first crypt x.first) (unit_sectors crypt)
-    whole-written = let u : ℕ = unit_sectors crypt in omega (arith, has-written u, step-once u unit_price some-unit x.first u some-unit (omega (arith, aligned)), whole-is x.first)
+  module _ (aligned : x.first % per_unit units ≡ 0) where
+    pub whole-written : crypt_write_budget c k x (per_unit units) ≡ write_budget c k lower (unit_first units x.first) (per_unit units)
+    whole-written = let u : ℕ = per_unit units in omega (arith, has-written u, step-once u unit_price some-unit x.first u some-unit (omega (arith, aligned)), whole-is x.first)
 
     -- behind a sectors, which are whole units
-    unit-cut : (a n : ℕ) → a % unit_sectors crypt ≡ 0 → CutAt (in_step (unit_sectors crypt)) x.first a n
+    unit-cut : (a n : ℕ) → a % per_unit units ≡ 0 → CutAt (in_step (per_unit units)) x.first a n
     unit-cut zero n even = inl refl
     unit-cut (suc a) n even =
-        let u : ℕ = unit_sectors crypt in
+        let u : ℕ = per_unit units in
         inr (inr (part-ends u (x.first + suc a) some-unit (omega arith) ((unit-more u x.first (suc a) some-unit aligned).1 ∙ even)))
 
     -- one more of them
-    pub units-next : (a : ℕ) → a % unit_sectors crypt ≡ 0 → crypt_write_budget c k x (a + unit_sectors crypt) ≡ crypt_write_budget c k x a + write_budget c k lower (unit_first crypt x.first + a) (unit_sectors crypt)
+    pub units-next : (a : ℕ) → a % per_unit units ≡ 0 → crypt_write_budget c k x (a + per_unit units) ≡ crypt_write_budget c k x a + write_budget c k lower (unit_first units x.first + a) (per_unit units)
     units-next a even =
-        let u : ℕ = unit_sectors crypt in
+        let u : ℕ = per_unit units in
         let place = unit-more u x.first a some-unit aligned in
         let begins : (x.first + a) % u ≡ 0 = place.1 ∙ even in
         let sum : (x.first / u + a / u) * u ≡ x.first / u * u + a / u * u = add-mul (x.first / u) (a / u) u in
         let rows : (x.first + a) / u * u ≡ (x.first / u + a / u) * u = ap (λ (q : ℕ). q * u) place.0 in
-        let there : unit_first crypt (x.first + a) ≡ unit_first crypt x.first + a = omega (arith, rows, sum, div-add-mod' a u, even) in
+        let there : unit_first units (x.first + a) ≡ unit_first units x.first + a = omega (arith, rows, sum, div-add-mod' a u, even) in
         let one = step-once u unit_price some-unit (x.first + a) u some-unit (omega (arith, begins)) in
-        let under : write_budget c k lower (unit_first crypt (x.first + a)) u ≡ write_budget c k lower (unit_first crypt x.first + a) u = ap (λ (t : ℕ). write_budget c k lower t u) there in
+        let under : write_budget c k lower (unit_first units (x.first + a)) u ≡ write_budget c k lower (unit_first units x.first + a) u = ap (λ (t : ℕ). write_budget c k lower t u) there in
         omega (arith, has-written (a + u), has-written a, runs-apart (in_step u) unit_price x.first a u (unit-cut a u even), one, whole-is (x.first + a), under)
 
     -- some of them cost no more than all
-    pub units-most : (a n : ℕ) → a % unit_sectors crypt ≡ 0 → a ≤ n → crypt_write_budget c k x a ≤ crypt_write_budget c k x n
+    pub units-most : (a n : ℕ) → a % per_unit units ≡ 0 → a ≤ n → crypt_write_budget c k x a ≤ crypt_write_budget c k x n
     units-most a n even few =
-        let u : ℕ = unit_sectors crypt in
+        let u : ℕ = per_unit units in
         let split : a + (n - a) ≡ n = omega (arith, few) in
         let all : by_runs (in_step u) unit_price x.first n ≡ by_runs (in_step u) unit_price x.first (a + (n - a)) = ap (by_runs (in_step u) unit_price x.first) (sym split) in
         omega (arith, has-written a, has-written n, all, runs-apart (in_step u) unit_price x.first a (n - a) (unit-cut a (n - a) even))
 
   -- put at once they cost no more than one after the other
-  at-once : (valid : IsValid c) (q w n : ℕ) → w % unit_sectors crypt ≡ 0 → n ≡ unit_sectors crypt + q * unit_sectors crypt → write_budget c k lower (unit_first crypt w) n ≤ by_runs (in_step (unit_sectors crypt)) unit_price w n
+  at-once : (valid : IsValid c) (q w n : ℕ) → w % per_unit units ≡ 0 → n ≡ per_unit units + q * per_unit units → write_budget c k lower (unit_first units w) n ≤ by_runs (in_step (per_unit units)) unit_price w n
   at-once valid zero w n begins count =
-      let u : ℕ = unit_sectors crypt in
+      let u : ℕ = per_unit units in
       let one : n ≡ u = omega (arith, count) in
-      let beneath_one : write_budget c k lower (unit_first crypt w) n ≡ write_budget c k lower (unit_first crypt w) u = ap (write_budget c k lower (unit_first crypt w)) one in
+      let beneath_one : write_budget c k lower (unit_first units w) n ≡ write_budget c k lower (unit_first units w) u = ap (write_budget c k lower (unit_first units w)) one in
       let here : by_runs (in_step u) unit_price w n ≡ by_runs (in_step u) unit_price w u = ap (by_runs (in_step u) unit_price w) one in
       omega (arith, beneath_one, here, step-once u unit_price some-unit w u some-unit (omega (arith, begins)), whole-is w)
   at-once valid (suc q) w n begins count =
-      let u : ℕ = unit_sectors crypt in
+      let u : ℕ = per_unit units in
       let r : ℕ = u + q * u in
       let more : suc q ≡ q + 1 = omega arith in
       let all : suc q * u ≡ u + q * u = omega (arith, ap (λ (j : ℕ). j * u) more, add-mul q 1 u) in
       let split : n ≡ u + r = omega (arith, count, all) in
-      let beneath_all : write_budget c k lower (unit_first crypt w) n ≡ write_budget c k lower (unit_first crypt w) (u + r) = ap (write_budget c k lower (unit_first crypt w)) split in
+      let beneath_all : write_budget c k lower (unit_first units w) n ≡ write_budget c k lower (unit_first units w) (u + r) = ap (write_budget c k lower (unit_first units w)) split in
       let here : by_runs (in_step u) unit_price w n ≡ by_runs (in_step u) unit_price w (u + r) = ap (by_runs (in_step u) unit_price w) split in
       let next = step-next u unit_price some-unit w begins in
       let place = unit-more u w u some-unit begins in
       let sum : (w / u + u / u) * u ≡ w / u * u + u / u * u = add-mul (w / u) (u / u) u in
       let rows : (w + u) / u * u ≡ (w / u + u / u) * u = ap (λ (j : ℕ). j * u) place.0 in
       let one : u / u ≡ 1 = (let is_one : u ≡ 1 * u + 0 = omega arith in ap (λ (j : ℕ). j / u) is_one ∙ div-mul-add 1 u 0 some-unit) in
-      let there : unit_first crypt (w + u) ≡ unit_first crypt w + u = omega (arith, rows, sum, ap (λ (j : ℕ). j * u) one) in
-      let rest : write_budget c k lower (unit_first crypt (w + u)) r ≤ by_runs (in_step u) unit_price (w + u) r = at-once valid q (w + u) r next refl in
-      let under : write_budget c k lower (unit_first crypt (w + u)) r ≡ write_budget c k lower (unit_first crypt w + u) r = ap (λ (t : ℕ). write_budget c k lower t r) there in
-      omega (arith, beneath_all, here, write-less c k valid lower (unit_first crypt w) u r, whole-is w, rest, under, step-apart u unit_price some-unit w r begins)
+      let there : unit_first units (w + u) ≡ unit_first units w + u = omega (arith, rows, sum, ap (λ (j : ℕ). j * u) one) in
+      let rest : write_budget c k lower (unit_first units (w + u)) r ≤ by_runs (in_step u) unit_price (w + u) r = at-once valid q (w + u) r next refl in
+      let under : write_budget c k lower (unit_first units (w + u)) r ≡ write_budget c k lower (unit_first units w + u) r = ap (λ (t : ℕ). write_budget c k lower t r) there in
+      omega (arith, beneath_all, here, write-less c k valid lower (unit_first units w) u r, whole-is w, rest, under, step-apart u unit_price some-unit w r begins)
 
-  pub units-at-once : (n : ℕ) → IsValid c → x.first % unit_sectors crypt ≡ 0 → n % unit_sectors crypt ≡ 0 → 0 < n → write_budget c k lower (unit_first crypt x.first) n ≤ crypt_write_budget c k x n
-  units-at-once n valid aligned whole some = go (n / unit_sectors crypt) refl
+  pub units-at-once : (n : ℕ) → IsValid c → x.first % per_unit units ≡ 0 → n % per_unit units ≡ 0 → 0 < n → write_budget c k lower (unit_first units x.first) n ≤ crypt_write_budget c k x n
+  units-at-once n valid aligned whole some = go (n / per_unit units) refl
     where
-      go : (q : ℕ) → n / unit_sectors crypt ≡ q → write_budget c k lower (unit_first crypt x.first) n ≤ crypt_write_budget c k x n
-      go zero e = let none : n / unit_sectors crypt * unit_sectors crypt ≡ 0 * unit_sectors crypt = ap (λ (j : ℕ). j * unit_sectors crypt) e in absurd (omega (arith, none, div-add-mod' n (unit_sectors crypt), whole, some))
+      go : (q : ℕ) → n / per_unit units ≡ q → write_budget c k lower (unit_first units x.first) n ≤ crypt_write_budget c k x n
+      go zero e = let none : n / per_unit units * per_unit units ≡ 0 * per_unit units = ap (λ (j : ℕ). j * per_unit units) e in absurd (omega (arith, none, div-add-mod' n (per_unit units), whole, some))
       go (suc q) e =
           let more : suc q ≡ q + 1 = omega arith in
-          let rows : n / unit_sectors crypt * unit_sectors crypt ≡ (q + 1) * unit_sectors crypt = ap (λ (j : ℕ). j * unit_sectors crypt) (e ∙ more) in
-          let count : n ≡ unit_sectors crypt + q * unit_sectors crypt = omega (arith, rows, add-mul q 1 (unit_sectors crypt), div-add-mod' n (unit_sectors crypt), whole) in
+          let rows : n / per_unit units * per_unit units ≡ (q + 1) * per_unit units = ap (λ (j : ℕ). j * per_unit units) (e ∙ more) in
+          let count : n ≡ per_unit units + q * per_unit units = omega (arith, rows, add-mul q 1 (per_unit units), div-add-mod' n (per_unit units), whole) in
           omega (arith, has-written n, at-once valid q x.first n aligned count)

@@ -3,7 +3,7 @@ use Rattle.std.proofs.Common.{◌≡◌, ℕ, ◌+◌, ◌-◌, ◌/◌, ◌%◌
 use Rattle.block_device.specs.Device.{Device}
 use Rattle.dm_table.specs.declared.table.Line.{Line}
 use Rattle.dm_table.specs.declared.table.Target.{Target}
-use Rattle.dm_table.specs.declared.table.Target.TheVariants.{Zero, Error, Crypt as crypt_target}
+use Rattle.dm_table.specs.declared.table.Target.TheVariants.{Zero, Error}
 use Rattle.stack_rules.specs.declared.lower.Lower.{Lower}
 use Rattle.stack_rules.specs.Records.{Configuration}
 use Rattle.stack_rules.specs.Names.{mapped, lines_of, may_write}
@@ -15,13 +15,16 @@ use Rattle.stack_meaning.specs.declared.fault.Fault.TheVariants as why
 use Rattle.stack_meaning.specs.declared.fault.IoFault.TheVariants as io
 use Rattle.stack_lines.specs.Touches.{leaves_of, source_leaves}
 use Rattle.stack_lines.proofs.lemmas.TouchLemmas.{one-within, served-within}
+use Rattle.stack_lines.specs.declared.source.CryptPart.{CryptPart}
 use Rattle.stack_lines.specs.declared.source.Source.{Source}
 use Rattle.stack_lines.specs.declared.source.Source.TheVariants.{Below, Units, UnitPart, Zeros, Fails, Block, Blocks}
 use Rattle.std.proofs.lemmas.List.{length-take}
+use Rattle.stack_meaning.specs.declared.units.CryptUnits.{CryptUnits}
 use Rattle.stack_meaning.specs.Outcomes.{Images}
 use Rattle.stack_meaning.specs.Meaning.{Said, none_said, said_at}
-use Rattle.stack_meaning.specs.Puts.{Putting, none_put, runs_from, put_runs, together, in_one_run, unit_put, line_put, put_on}
-use Rattle.stack_lines.specs.Sources.{source_said, ComeFrom, IsServed}
+use Rattle.stack_meaning.specs.Puts.{Putting, none_put, runs_from, put_runs, together, in_one_run, unit_put, in_unit, line_put, put_on}
+use Rattle.stack_meaning.specs.Units.{units_of}
+use Rattle.stack_lines.specs.Sources.{source_said, IsPartOf, ComeFrom, IsServed}
 use Rattle.stack_lines.specs.Writing.{sectors_in, destination_of, StopsAt, put_some, WritesSectors, put_by_name, crypt_put, source_put, source_write_cost, SourceMayWrite, source_destination}
 use Rattle.stack_meaning.proofs.lemmas.CostLemmas.{write_cost-falls}
 use Rattle.stack_lines.proofs.lemmas.SourceLemmas.{served-line, served-said}
@@ -43,6 +46,15 @@ module _ (c : Configuration) (d l : ℕ) (line : Line) (is : IsLine c d l line) 
       ap (λ (t : Target). put_runs (line_put c (put_by_name c) d l t) (runs_from (together t) (w + j) sectors) images) come
       ∙ put-together (line_put c (put_by_name c) d l target) (together target) (w + j) sectors images some (λ i h. all i)
 
+  crypt-put : (x : CryptPart) → IsPartOf c line.target x → x.first ≡ w
+      → put_runs (line_put c (put_by_name c) d l line.target) (runs_from (together line.target) (w + j) sectors) images ≡ source_put c (Units x) j sectors images
+  crypt-put x of first =
+      ap (λ (t : Target). put_runs (line_put c (put_by_name c) d l t) (runs_from (together t) (w + j) sectors) images) of.is
+      ∙ ap (λ (o : Option Lower). put_runs (unit_put (λ i t. (known {A = ℕ → Said} (λ t. none_said) (said_at c) o t).means i) (known {A = ℕ → Putting} (λ t. none_put) (put_on c) o) (units_of of.crypt) of.crypt.key) (runs_from (in_unit (units_of of.crypt)) (w + j) sectors) images) of.named
+      ∙ ap (λ (u : CryptUnits). crypt_put c x.lower u of.crypt.key (w + j) sectors images) (sym of.units)
+      ∙ ap (λ (key : List ℕ). crypt_put c x.lower x.units key (w + j) sectors images) (sym of.key)
+      ∙ ap (λ (k : ℕ). crypt_put c x.lower x.units x.key.now (k + j) sectors images) (sym first)
+
   -- of n sectors from w on, those from the j-th on
   come-put : (source : Source) → SourceMayWrite c source → ComeFrom c (d, l) line.target w n source
       → put_runs (line_put c (put_by_name c) d l line.target) (runs_from (together line.target) (w + j) sectors) images ≡ source_put c source j sectors images
@@ -52,14 +64,8 @@ module _ (c : Configuration) (d l : ℕ) (line : Line) (is : IsLine c d l line) 
       (λ i h. let e : w + j + i ≡ w + (j + i) = omega arith in ap (together line.target) e ∙ come.2 (j + i) (omega (arith, h, fits)))
       ∙ line_put-beneath c (put_by_name c) d l line.target (w + j) (on.name, first + j) sectors images come.0 (on.under j (omega (arith, some, fits)))
       ∙ ap (λ (o : Option Lower). known {A = ℕ → Putting} (λ t. none_put) (put_on c) o (first + j) sectors images) on.is
-  come-put (Units x) may come =
-      ap (λ (t : Target). put_runs (line_put c (put_by_name c) d l t) (runs_from (together t) (w + j) sectors) images) come.0
-      ∙ ap (λ (o : Option Lower). put_runs (unit_put (λ i t. (known {A = ℕ → Said} (λ t. none_said) (said_at c) o t).means i) (known {A = ℕ → Putting} (λ t. none_put) (put_on c) o) x.crypt.now) (runs_from (together (crypt_target x.crypt.now)) (w + j) sectors) images) come.2.of.named
-      ∙ ap (λ (k : ℕ). crypt_put c x.lower x.crypt.now (k + j) sectors images) (sym come.1)
-  come-put (UnitPart x) may come =
-      ap (λ (t : Target). put_runs (line_put c (put_by_name c) d l t) (runs_from (together t) (w + j) sectors) images) come.0
-      ∙ ap (λ (o : Option Lower). put_runs (unit_put (λ i t. (known {A = ℕ → Said} (λ t. none_said) (said_at c) o t).means i) (known {A = ℕ → Putting} (λ t. none_put) (put_on c) o) x.crypt.now) (runs_from (together (crypt_target x.crypt.now)) (w + j) sectors) images) come.2.of.named
-      ∙ ap (λ (k : ℕ). crypt_put c x.lower x.crypt.now (k + j) sectors images) (sym come.1)
+  come-put (Units x) may come = crypt-put x come.0 come.1
+  come-put (UnitPart x) may come = crypt-put x come.0 come.1
   come-put Zeros may come = one-run Zero (λ i. refl) come
   come-put Fails may come = one-run Error (λ i. refl) come
   come-put (Block b) may come = absurd may
@@ -80,9 +86,9 @@ served-write-cost : (c : Configuration) (d s n : ℕ) (source : Source) → IsLo
 served-write-cost c d s n (Below lower first) loaded some r =
     let on = r.come.1 in
     write_cost-falls c d r.number r.line (s - r.line.start + 0) (on.name, first + 0) lower loaded.valid r.is (on.under 0 some) on.is
-served-write-cost c d s n (Units x) loaded some r = (served-line c d s n (Units x) x loaded r r.come.0 r.come.2.of).crypt_line.write
+served-write-cost c d s n (Units x) loaded some r = (served-line c d s n (Units x) x loaded r r.come.0).write
 served-write-cost c d s n (UnitPart x) loaded some r =
-    (served-line c d s n (UnitPart x) x loaded r r.come.0 r.come.2.of).change (λ one. let no : ⊥ = omega (arith, one, some, r.come.2.part) in no)
+    (served-line c d s n (UnitPart x) x loaded r r.come.0).change_unit (λ one. let no : ⊥ = omega (arith, one, some, r.come.2.part) in no)
 served-write-cost c d s n Zeros loaded some r = omega arith
 served-write-cost c d s n Fails loaded some r = omega arith
 served-write-cost c d s n (Block b) loaded some r = omega arith
@@ -92,8 +98,8 @@ pub served-may_write : (c : Configuration) (d s n : ℕ) (source : Source) → I
 served-may_write c d s n (Below lower first) loaded some writable r =
     let on = r.come.1 in
     writable-falls c d r.number r.line (s - r.line.start + 0) (on.name, first + 0) lower loaded.valid r.is writable (on.under 0 some) on.is
-served-may_write c d s n (Units x) loaded some writable r = (served-line c d s n (Units x) x loaded r r.come.0 r.come.2.of).crypt_line.writable writable
-served-may_write c d s n (UnitPart x) loaded some writable r = (served-line c d s n (UnitPart x) x loaded r r.come.0 r.come.2.of).crypt_line.writable writable
+served-may_write c d s n (Units x) loaded some writable r = (served-line c d s n (Units x) x loaded r r.come.0).writable writable
+served-may_write c d s n (UnitPart x) loaded some writable r = (served-line c d s n (UnitPart x) x loaded r r.come.0).writable writable
 served-may_write c d s n Zeros loaded some writable r = tt
 served-may_write c d s n Fails loaded some writable r = tt
 served-may_write c d s n (Block x) loaded some writable r =

@@ -6,13 +6,11 @@ use Rattle.std.proofs.lemmas.List.Elements.{All-get_or}
 use Rattle.std.proofs.lemmas.Bool.{cases_lt, cases_Bool, cond-true, cond-false}
 use Rattle.std.proofs.lemmas.Nat.{mod_below}
 use Rattle.block_device.specs.Device.{IsSector}
-use Rattle.dm_table.specs.declared.crypt.Crypt.{Crypt}
 use Rattle.dm_table.specs.declared.verity.Verity.{Verity}
 use Rattle.stack_rules.specs.Trees.{block_sectors, zero_block}
-use Rattle.xts_sector.proofs.lemmas.UnitLemmas as units
-use Rattle.stack_rules.specs.Units.{unit_sectors}
-use Rattle.stack_rules.proofs.lemmas.UnitLemmas.{unit_sectors-some}
-use Rattle.stack_meaning.specs.Units.{crypt_unit_number, decrypted_unit, unit_part, unit_first}
+use Rattle.xts_sector.proofs.lemmas.UnitLemmas as xts
+use Rattle.stack_meaning.specs.declared.units.CryptUnits.{CryptUnits}
+use Rattle.stack_meaning.specs.Units.{per_unit, crypt_unit_number, decrypted_unit, unit_part, unit_first}
 use Rattle.stack_meaning.specs.Beneath.{said_or}
 use Rattle.stack_meaning.specs.Blocks.{hash_sectors, hash_start, next_digest, checked, checked_span, is_ignored, data_block_at, block_below}
 use Rattle.stack_meaning.specs.Said.{Said, none_said, leaf_said}
@@ -20,6 +18,7 @@ use Rattle.stack_meaning.specs.targets.Crypt.{crypt_said}
 use Rattle.stack_meaning.specs.Outcomes.{Images, Outcome, mismatch, changed_outcome, joint_outcome, span, then_outcome, zero_sector, AreWhole}
 use Rattle.stack_meaning.proofs.lemmas.MeaningLaws.{IsSized}
 use Rattle.stack_meaning.proofs.lemmas.SpanLemmas.{span-add}
+use Rattle.stack_meaning.proofs.lemmas.UnitSizeLemmas.{per_unit-some}
 
 -- ---- spans
 
@@ -117,16 +116,16 @@ changed-parts f (Ok x) bytes e = let same : f x ≡ bytes = cc in (x, refl, sym 
 changed-parts f (Err x) bytes e = cc
 
 -- a sector of a unit
-pub unit_part-size : (crypt : Crypt) (s : ℕ) (bytes : List ℕ) → length bytes ≡ 512 * unit_sectors crypt → IsSector (unit_part crypt s bytes)
-unit_part-size crypt s bytes len =
-    let u : ℕ = unit_sectors crypt in
-    let out = decrypted_unit crypt (s / u) bytes in
-    let long : length out ≡ 512 * u = units.length-decrypted crypt.key (crypt_unit_number crypt (s / u)) bytes (omega (arith, len)) ∙ len in
-    let low : s % u < u = mod_below s u (omega (arith, unit_sectors-some crypt)) in
+pub unit_part-size : (units : CryptUnits) (key : List ℕ) (s : ℕ) (bytes : List ℕ) → length bytes ≡ 512 * per_unit units → IsSector (unit_part units key s bytes)
+unit_part-size units key s bytes len =
+    let u : ℕ = per_unit units in
+    let out = decrypted_unit units key (s / u) bytes in
+    let long : length out ≡ 512 * u = xts.length-decrypted key (crypt_unit_number units (s / u)) bytes (omega (arith, len)) ∙ len in
+    let low : s % u < u = mod_below s u (omega (arith, per_unit-some units)) in
     length-take-le 512 (drop (512 * (s % u)) out) (omega (arith, long, low, length-drop (512 * (s % u)) out))
 
-pub crypt-size : (images : Images) (lower : ℕ → Said) → ((t : ℕ) → IsSized images (lower t)) → (crypt : Crypt) (s : ℕ) → IsSized images (crypt_said lower crypt s)
-crypt-size images lower all crypt s b e =
+pub crypt-size : (images : Images) (lower : ℕ → Said) → ((t : ℕ) → IsSized images (lower t)) → (units : CryptUnits) (key : List ℕ) (s : ℕ) → IsSized images (crypt_said lower units key s)
+crypt-size images lower all units key s b e =
     let f : ℕ → Outcome = λ t. (lower t).means images in
-    let read = changed-parts (unit_part crypt s) (span f (unit_first crypt s) (unit_sectors crypt)) b e in
-    subst IsSector (sym read.2) (unit_part-size crypt s read.0 (span-length f all (unit_first crypt s) (unit_sectors crypt) read.0 read.1))
+    let read = changed-parts (unit_part units key s) (span f (unit_first units s) (per_unit units)) b e in
+    subst IsSector (sym read.2) (unit_part-size units key s read.0 (span-length f all (unit_first units s) (per_unit units) read.0 read.1))

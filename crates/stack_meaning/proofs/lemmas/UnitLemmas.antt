@@ -4,15 +4,13 @@ use Rattle.std.proofs.lemmas.List.{length-drop, length-take-le, take-append-drop
 use Rattle.std.proofs.lemmas.Nat.{div-add-mod', div-mul-add, mod-mul-add, mod_below, div_below}
 use Rattle.std.proofs.Math.Nat.{add-mul, mul_comm, mul_assoc, mul-le-mul_right}
 use Rattle.aes_block.proofs.lemmas.PartLemmas.{part-joined, length-joined_parts}
-use Rattle.dm_table.specs.declared.crypt.Crypt.{Crypt}
 use Rattle.xts_sector.specs.Units.{unit}
 use Rattle.xts_sector.proofs.lemmas.UnitLemmas as xts
 use Rattle.stack_meaning.specs.Outcomes.{Outcome, joint_outcome, span, part}
-use Rattle.dm_table.specs.Crypt.{sector_size}
-use Rattle.stack_rules.specs.Units.{unit_sectors}
-use Rattle.stack_meaning.specs.Units.{crypt_unit_number, encrypted_unit, decrypted_unit, encrypted_units, decrypted_units, unit_part}
-use Rattle.stack_rules.proofs.lemmas.UnitLemmas.{unit_sectors-some, unit-bytes}
+use Rattle.stack_meaning.specs.declared.units.CryptUnits.{CryptUnits}
+use Rattle.stack_meaning.specs.Units.{per_unit, unit_bytes, crypt_unit_number, encrypted_unit, decrypted_unit, encrypted_units, decrypted_units, unit_part}
 use Rattle.stack_meaning.proofs.lemmas.RunLemmas.{part_left}
+use Rattle.stack_meaning.proofs.lemmas.UnitSizeLemmas.{per_unit-some}
 
 -- ---- parts
 
@@ -52,100 +50,96 @@ unit-fits u n j some whole low =
 
 -- ---- units as bytes
 
-module _ (crypt : Crypt) where
+module _ (units : CryptUnits) where
   -- where unit i of some bytes begins
-  pub unit-begin : (i : ℕ) → sector_size crypt * i ≡ 512 * (i * unit_sectors crypt)
-  unit-begin i =
-      let turned : unit_sectors crypt * 512 * i ≡ i * (unit_sectors crypt * 512) = mul_comm (unit_sectors crypt * 512) i in
-      let grouped : i * unit_sectors crypt * 512 ≡ i * (unit_sectors crypt * 512) = mul_assoc i (unit_sectors crypt) 512 in
-      ap (λ (k : ℕ). k * i) (unit-bytes crypt) ∙ turned ∙ (omega (arith, grouped))
+  pub unit-begin : (i : ℕ) → unit_bytes units * i ≡ 512 * (i * per_unit units)
+  unit-begin i = mul_assoc 512 (per_unit units) i ∙ ap (λ (k : ℕ). 512 * k) (mul_comm (per_unit units) i)
 
-  pub unit-is : (bytes : List ℕ) (i : ℕ) → unit (sector_size crypt) bytes i ≡ take (512 * unit_sectors crypt) (drop (512 * (i * unit_sectors crypt)) bytes)
-  unit-is bytes i =
-      let width : sector_size crypt ≡ 512 * unit_sectors crypt = omega (arith, unit-bytes crypt) in
-      ap (λ (k : ℕ). take (sector_size crypt) (drop k bytes)) (unit-begin i) ∙ ap (λ (k : ℕ). take k (drop (512 * (i * unit_sectors crypt)) bytes)) width
+  pub unit-is : (bytes : List ℕ) (i : ℕ) → unit (unit_bytes units) bytes i ≡ take (512 * per_unit units) (drop (512 * (i * per_unit units)) bytes)
+  unit-is bytes i = ap (λ (k : ℕ). take (unit_bytes units) (drop k bytes)) (unit-begin i)
 
   module _ (bytes : List ℕ) (n : ℕ) (len : length bytes ≡ 512 * n) where
-    pub unit-length : (i : ℕ) → i * unit_sectors crypt + unit_sectors crypt ≤ n → length (unit (sector_size crypt) bytes i) ≡ 512 * unit_sectors crypt
+    pub unit-length : (i : ℕ) → i * per_unit units + per_unit units ≤ n → length (unit (unit_bytes units) bytes i) ≡ 512 * per_unit units
     unit-length i fits =
         ap length (unit-is bytes i)
-        ∙ length-take-le (512 * unit_sectors crypt) (drop (512 * (i * unit_sectors crypt)) bytes) (omega (arith, fits, len, length-drop (512 * (i * unit_sectors crypt)) bytes))
+        ∙ length-take-le (512 * per_unit units) (drop (512 * (i * per_unit units)) bytes) (omega (arith, fits, len, length-drop (512 * (i * per_unit units)) bytes))
 
     -- a sector of a unit of some bytes is one of theirs
-    pub unit-sector : (i t : ℕ) → i * unit_sectors crypt + unit_sectors crypt ≤ n → t < unit_sectors crypt → part (unit (sector_size crypt) bytes i) t ≡ part bytes (i * unit_sectors crypt + t)
+    pub unit-sector : (i t : ℕ) → i * per_unit units + per_unit units ≤ n → t < per_unit units → part (unit (unit_bytes units) bytes i) t ≡ part bytes (i * per_unit units + t)
     unit-sector i t fits low =
-        let a : ℕ = i * unit_sectors crypt in
+        let a : ℕ = i * per_unit units in
         let rest : List ℕ = drop (512 * a) bytes in
-        let front : List ℕ = take (512 * unit_sectors crypt) rest in
+        let front : List ℕ = take (512 * per_unit units) rest in
         let at : 512 * a + 512 * t ≡ 512 * (a + t) = omega arith in
         ap (λ (l : List ℕ). part l t) (unit-is bytes i)
-        ∙ sym (part_left front (drop (512 * unit_sectors crypt) rest) (unit_sectors crypt) t (sym (ap length (unit-is bytes i)) ∙ unit-length i fits) low)
-        ∙ ap (λ (l : List ℕ). part l t) (take-append-drop (512 * unit_sectors crypt) rest)
+        ∙ sym (part_left front (drop (512 * per_unit units) rest) (per_unit units) t (sym (ap length (unit-is bytes i)) ∙ unit-length i fits) low)
+        ∙ ap (λ (l : List ℕ). part l t) (take-append-drop (512 * per_unit units) rest)
         ∙ ap (take 512) (drop-drop (512 * t) (512 * a) bytes)
         ∙ ap (λ (k : ℕ). take 512 (drop k bytes)) at
 
-    module _ (whole : n % unit_sectors crypt ≡ 0) where
-      pub units-count : length bytes / sector_size crypt ≡ n / unit_sectors crypt
+    module _ (whole : n % per_unit units ≡ 0) where
+      pub units-count : length bytes / unit_bytes units ≡ n / per_unit units
       units-count =
-          let m : ℕ = n / unit_sectors crypt in
-          let all : m * unit_sectors crypt ≡ n = omega (arith, div-add-mod' n (unit_sectors crypt), whole) in
-          let none : 0 < sector_size crypt = omega (arith, unit-bytes crypt, unit_sectors-some crypt) in
-          let split : length bytes ≡ m * sector_size crypt + 0 = omega (arith, len, all, unit-begin m, mul_comm (sector_size crypt) m) in
-          ap (λ (k : ℕ). k / sector_size crypt) split ∙ div-mul-add m (sector_size crypt) 0 none
+          let m : ℕ = n / per_unit units in
+          let all : m * per_unit units ≡ n = omega (arith, div-add-mod' n (per_unit units), whole) in
+          let none : 0 < unit_bytes units = omega (arith, per_unit-some units) in
+          let split : length bytes ≡ m * unit_bytes units + 0 = omega (arith, len, all, unit-begin m, mul_comm (unit_bytes units) m) in
+          ap (λ (k : ℕ). k / unit_bytes units) split ∙ div-mul-add m (unit_bytes units) 0 none
 
-      unit-low : (i : ℕ) → i < length bytes / sector_size crypt → i * unit_sectors crypt + unit_sectors crypt ≤ n
+      unit-low : (i : ℕ) → i < length bytes / unit_bytes units → i * per_unit units + per_unit units ≤ n
       unit-low i h =
-          let all : n / unit_sectors crypt * unit_sectors crypt ≡ n = omega (arith, div-add-mod' n (unit_sectors crypt), whole) in
-          let room : (i + 1) * unit_sectors crypt ≤ n / unit_sectors crypt * unit_sectors crypt = mul-le-mul_right (unit_sectors crypt) (omega (arith, h, units-count)) in
-          omega (arith, room, all, add-mul i 1 (unit_sectors crypt))
+          let all : n / per_unit units * per_unit units ≡ n = omega (arith, div-add-mod' n (per_unit units), whole) in
+          let room : (i + 1) * per_unit units ≤ n / per_unit units * per_unit units = mul-le-mul_right (per_unit units) (omega (arith, h, units-count)) in
+          omega (arith, room, all, add-mul i 1 (per_unit units))
 
-      decrypted-length : (k i : ℕ) → i < length bytes / sector_size crypt → length (decrypted_unit crypt (k + i) (unit (sector_size crypt) bytes i)) ≡ sector_size crypt
-      decrypted-length k i h =
-          let long = unit-length i (unit-low i h) in
-          xts.length-decrypted crypt.key (crypt_unit_number crypt (k + i)) (unit (sector_size crypt) bytes i) (omega (arith, long)) ∙ long ∙ (omega (arith, unit-bytes crypt))
-
-      encrypted-length : (k i : ℕ) → i < length bytes / sector_size crypt → length (encrypted_unit crypt (k + i) (unit (sector_size crypt) bytes i)) ≡ sector_size crypt
-      encrypted-length k i h =
-          let long = unit-length i (unit-low i h) in
-          xts.length-encrypted crypt.key (crypt_unit_number crypt (k + i)) (unit (sector_size crypt) bytes i) (omega (arith, long)) ∙ long ∙ (omega (arith, unit-bytes crypt))
-
-      all-bytes : sector_size crypt * (length bytes / sector_size crypt) ≡ 512 * n
+      all-bytes : unit_bytes units * (length bytes / unit_bytes units) ≡ 512 * n
       all-bytes =
-          let all : n / unit_sectors crypt * unit_sectors crypt ≡ n = omega (arith, div-add-mod' n (unit_sectors crypt), whole) in
-          ap (λ (m : ℕ). sector_size crypt * m) units-count ∙ unit-begin (n / unit_sectors crypt) ∙ ap (λ (m : ℕ). 512 * m) all
+          let all : n / per_unit units * per_unit units ≡ n = omega (arith, div-add-mod' n (per_unit units), whole) in
+          ap (λ (m : ℕ). unit_bytes units * m) units-count ∙ unit-begin (n / per_unit units) ∙ ap (λ (m : ℕ). 512 * m) all
 
-      pub length-decrypted_units : (k : ℕ) → length (decrypted_units crypt k bytes) ≡ 512 * n
-      unfolding decrypted_units
-      length-decrypted_units k = length-joined_parts (sector_size crypt) (λ i. decrypted_unit crypt (k + i) (unit (sector_size crypt) bytes i)) (length bytes / sector_size crypt) (decrypted-length k) ∙ all-bytes
+      module _ (key : List ℕ) (k : ℕ) where
+        decrypted-length : (i : ℕ) → i < length bytes / unit_bytes units → length (decrypted_unit units key (k + i) (unit (unit_bytes units) bytes i)) ≡ unit_bytes units
+        decrypted-length i h =
+            let long = unit-length i (unit-low i h) in
+            xts.length-decrypted key (crypt_unit_number units (k + i)) (unit (unit_bytes units) bytes i) (omega (arith, long)) ∙ long
 
-      pub length-encrypted_units : (k : ℕ) → length (encrypted_units crypt k bytes) ≡ 512 * n
-      unfolding encrypted_units
-      length-encrypted_units k = length-joined_parts (sector_size crypt) (λ i. encrypted_unit crypt (k + i) (unit (sector_size crypt) bytes i)) (length bytes / sector_size crypt) (encrypted-length k) ∙ all-bytes
+        encrypted-length : (i : ℕ) → i < length bytes / unit_bytes units → length (encrypted_unit units key (k + i) (unit (unit_bytes units) bytes i)) ≡ unit_bytes units
+        encrypted-length i h =
+            let long = unit-length i (unit-low i h) in
+            xts.length-encrypted key (crypt_unit_number units (k + i)) (unit (unit_bytes units) bytes i) (omega (arith, long)) ∙ long
 
-      pub unit-decrypted : (k i : ℕ) → i < length bytes / sector_size crypt → unit (sector_size crypt) (decrypted_units crypt k bytes) i ≡ decrypted_unit crypt (k + i) (unit (sector_size crypt) bytes i)
-      unfolding decrypted_units
-      unit-decrypted k i h = part-joined (sector_size crypt) (λ i. decrypted_unit crypt (k + i) (unit (sector_size crypt) bytes i)) (length bytes / sector_size crypt) i (decrypted-length k) h
+        pub length-decrypted_units : length (decrypted_units units key k bytes) ≡ 512 * n
+        unfolding decrypted_units
+        length-decrypted_units = length-joined_parts (unit_bytes units) (λ i. decrypted_unit units key (k + i) (unit (unit_bytes units) bytes i)) (length bytes / unit_bytes units) decrypted-length ∙ all-bytes
 
-      pub unit-encrypted : (k i : ℕ) → i < length bytes / sector_size crypt → unit (sector_size crypt) (encrypted_units crypt k bytes) i ≡ encrypted_unit crypt (k + i) (unit (sector_size crypt) bytes i)
-      unfolding encrypted_units
-      unit-encrypted k i h = part-joined (sector_size crypt) (λ i. encrypted_unit crypt (k + i) (unit (sector_size crypt) bytes i)) (length bytes / sector_size crypt) i (encrypted-length k) h
+        pub length-encrypted_units : length (encrypted_units units key k bytes) ≡ 512 * n
+        unfolding encrypted_units
+        length-encrypted_units = length-joined_parts (unit_bytes units) (λ i. encrypted_unit units key (k + i) (unit (unit_bytes units) bytes i)) (length bytes / unit_bytes units) encrypted-length ∙ all-bytes
+
+        pub unit-decrypted : (i : ℕ) → i < length bytes / unit_bytes units → unit (unit_bytes units) (decrypted_units units key k bytes) i ≡ decrypted_unit units key (k + i) (unit (unit_bytes units) bytes i)
+        unfolding decrypted_units
+        unit-decrypted i h = part-joined (unit_bytes units) (λ i. decrypted_unit units key (k + i) (unit (unit_bytes units) bytes i)) (length bytes / unit_bytes units) i decrypted-length h
+
+        pub unit-encrypted : (i : ℕ) → i < length bytes / unit_bytes units → unit (unit_bytes units) (encrypted_units units key k bytes) i ≡ encrypted_unit units key (k + i) (unit (unit_bytes units) bytes i)
+        unfolding encrypted_units
+        unit-encrypted i h = part-joined (unit_bytes units) (λ i. encrypted_unit units key (k + i) (unit (unit_bytes units) bytes i)) (length bytes / unit_bytes units) i encrypted-length h
 
 -- a sector of decrypted units, which begin at sector w of their line
-pub part-decrypted : (crypt : Crypt) (bytes : List ℕ) (n : ℕ) (len : length bytes ≡ 512 * n) (whole : n % unit_sectors crypt ≡ 0) (w j : ℕ) → w % unit_sectors crypt ≡ 0 → j < n → part (decrypted_units crypt (w / unit_sectors crypt) bytes) j ≡ unit_part crypt (w + j) (unit (sector_size crypt) bytes (j / unit_sectors crypt))
-part-decrypted crypt bytes n len whole w j aligned h =
-    let some : 0 < unit_sectors crypt = omega (arith, unit_sectors-some crypt) in
-    let i : ℕ = j / unit_sectors crypt in
-    let t : ℕ = j % unit_sectors crypt in
-    let k : ℕ = w / unit_sectors crypt in
-    let out : List ℕ = decrypted_units crypt k bytes in
-    let low : t < unit_sectors crypt = mod_below j (unit_sectors crypt) some in
-    let fits = unit-fits (unit_sectors crypt) n j some whole h in
-    let place = unit-more (unit_sectors crypt) w j some aligned in
-    let back : i * unit_sectors crypt + t ≡ j = omega (arith, div-add-mod' j (unit_sectors crypt)) in
-    let all : n / unit_sectors crypt * unit_sectors crypt ≡ n = omega (arith, div-add-mod' n (unit_sectors crypt), whole) in
-    let below : i < length bytes / sector_size crypt = subst (λ (m : ℕ). i < m) (sym (units-count crypt bytes n len whole)) (div_below j (unit_sectors crypt) (n / unit_sectors crypt) some (omega (arith, all, h))) in
+pub part-decrypted : (units : CryptUnits) (key : List ℕ) (bytes : List ℕ) (n : ℕ) (len : length bytes ≡ 512 * n) (whole : n % per_unit units ≡ 0) (w j : ℕ) → w % per_unit units ≡ 0 → j < n → part (decrypted_units units key (w / per_unit units) bytes) j ≡ unit_part units key (w + j) (unit (unit_bytes units) bytes (j / per_unit units))
+part-decrypted units key bytes n len whole w j aligned h =
+    let some : 0 < per_unit units = omega (arith, per_unit-some units) in
+    let i : ℕ = j / per_unit units in
+    let t : ℕ = j % per_unit units in
+    let k : ℕ = w / per_unit units in
+    let out : List ℕ = decrypted_units units key k bytes in
+    let low : t < per_unit units = mod_below j (per_unit units) some in
+    let fits = unit-fits (per_unit units) n j some whole h in
+    let place = unit-more (per_unit units) w j some aligned in
+    let back : i * per_unit units + t ≡ j = omega (arith, div-add-mod' j (per_unit units)) in
+    let all : n / per_unit units * per_unit units ≡ n = omega (arith, div-add-mod' n (per_unit units), whole) in
+    let below : i < length bytes / unit_bytes units = subst (λ (m : ℕ). i < m) (sym (units-count units bytes n len whole)) (div_below j (per_unit units) (n / per_unit units) some (omega (arith, all, h))) in
     ap (part out) (sym back)
-    ∙ sym (unit-sector crypt out n (length-decrypted_units crypt bytes n len whole k) i t fits low)
-    ∙ ap (λ (l : List ℕ). part l t) (unit-decrypted crypt bytes n len whole k i below)
-    ∙ ap (λ (m : ℕ). part (decrypted_unit crypt m (unit (sector_size crypt) bytes i)) t) (sym place.0)
-    ∙ ap (λ (m : ℕ). part (decrypted_unit crypt ((w + j) / unit_sectors crypt) (unit (sector_size crypt) bytes i)) m) (sym place.1)
+    ∙ sym (unit-sector units out n (length-decrypted_units units bytes n len whole key k) i t fits low)
+    ∙ ap (λ (l : List ℕ). part l t) (unit-decrypted units bytes n len whole key k i below)
+    ∙ ap (λ (m : ℕ). part (decrypted_unit units key m (unit (unit_bytes units) bytes i)) t) (sym place.0)
+    ∙ ap (λ (m : ℕ). part (decrypted_unit units key ((w + j) / per_unit units) (unit (unit_bytes units) bytes i)) m) (sym place.1)

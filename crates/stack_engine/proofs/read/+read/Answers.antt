@@ -42,8 +42,7 @@ use Rattle.stack_lines.specs.Sources.{AreUnits}
 use Rattle.stack_engine.proofs.lemmas.BlockLemmas.{distinct-push, length-content}
 use Rattle.stack_engine.proofs.lemmas.WalkLemmas.{checked_ok, checked_err, data_zeros, data_read, walk_full}
 use Rattle.stack_meaning.proofs.lemmas.LeafLemmas.{all-whole}
-use Rattle.stack_rules.specs.Units.{unit_sectors}
-use Rattle.stack_meaning.specs.Units.{decrypted_units}
+use Rattle.stack_meaning.specs.Units.{per_unit, decrypted_units}
 use Rattle.stack_lines.proofs.lemmas.UnitSourceLemmas.{units-bytes, whole-units, part-read, part-failed, units-read, units-failed}
 use Rattle.std.proofs.lemmas.List.{take_more, get_or_default}
 use Rattle.std.proofs.lemmas.List.Elements.{All-take}
@@ -208,7 +207,7 @@ read_units-returns-in-Ok-clause-reads g t c =
     let x = c.args.part in
     let n : ℕ = length c.args.out.now / 512 in
     let did : LeafRead = record { old = map state c.args.backing.now.devices.items; new = map state c.read_lower.new.backing.devices.items; before = c.args.found.now.items; after = c.read_lower.new.found.items } in
-    subst (λ (b : List ℕ). ReadsSourceAs c.args.chains config (Units x) n did (Ok b)) (sym (c.decrypt.ensures ∙ ap (λ (k : ℕ). decrypted_units x.crypt.now k c.read_lower.new.out) c.unit_at-unit.ensures.index))
+    subst (λ (b : List ℕ). ReadsSourceAs c.args.chains config (Units x) n did (Ok b)) (sym (c.decrypt.ensures ∙ ap (λ (k : ℕ). decrypted_units x.units x.key.now k c.read_lower.new.out) c.unit_at-unit.ensures.index))
     (finds-up (subst (λ (k : ℕ). ReadsAs c.args.chains config x.lower k n did (Ok c.read_lower.new.out)) c.unit_at-unit.ensures.first c.in-Ok.ensures.reads)
     (λ after. units-read config x n c.requires.stack.sound.loaded c.requires.fits.holds (with_chains did after) (all-whole state g.met.D.BlockDev.whole c.args.backing.now.devices.items) c.read_lower.new.out))
 
@@ -272,7 +271,7 @@ read_unit_part-returns-in-Ok-clause-reads g t c =
     let did : LeafRead = record { old = map state c.args.backing.now.devices.items; new = map state c.read_units.new.backing.devices.items; before = c.args.found.now.items; after = c.read_units.new.found.items } in
     let one = subst (λ (k : ℕ). ReadsSourceAs c.args.chains config (Units whole.result.from) k did (Ok c.read_units.new.out)) count c.in-Ok.ensures.reads in
     let len : length c.args.out.now ≡ 512 * n = omega (arith, c.requires.fits.sectors.whole) in
-    let is : c.take_sectors.new.out ≡ take (512 * n) (drop (512 * (x.first % unit_sectors x.crypt.now)) c.read_units.new.out) =
+    let is : c.take_sectors.new.out ≡ take (512 * n) (drop (512 * (x.first % per_unit x.units)) c.read_units.new.out) =
     c.take_sectors.ensures ∙ ap (λ (k : ℕ). take k (drop (512 * whole.result.within) c.read_units.new.out)) len ∙ ap (λ (k : ℕ). take (512 * n) (drop (512 * k) c.read_units.new.out)) of.within in
     subst (λ (b : List ℕ). ReadsSourceAs c.args.chains config (UnitPart x) n did (Ok b)) (sym is)
     (finds-up one (λ after. part-read config x whole.result n of c.requires.fits.holds (omega (arith, c.requires.fits.sectors.some, c.requires.fits.sectors.whole)) c.requires.stack.sound.loaded (with_chains did after) (all-whole state g.met.D.BlockDev.whole c.args.backing.now.devices.items) c.read_units.new.out))

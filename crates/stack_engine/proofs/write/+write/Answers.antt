@@ -20,14 +20,12 @@ use Rattle.stack_lines.proofs.lemmas.SourceLemmas.{served-depth}
 use Rattle.stack_lines.proofs.lemmas.WriteSourceLemmas.{served-may_write, below-alike, zeros-written, fails-written, device-written, device-ended}
 use Rattle.stack_lines.proofs.lemmas.PutLemmas.{put-none}
 use Rattle.stack_lines.proofs.lemmas.WriteRunLemmas.{length-sectors_in, sectors_in-none, write_none, write_as}
-use Rattle.dm_table.specs.declared.crypt.Crypt.{Crypt}
+use Rattle.stack_meaning.specs.declared.units.CryptUnits.{CryptUnits}
 use Rattle.stack_rules.specs.declared.lower.Lower.TheVariants.{Leaf}
-use Rattle.stack_rules.specs.Units.{unit_sectors}
-use Rattle.stack_meaning.specs.Units.{encrypted_units}
+use Rattle.stack_meaning.specs.Units.{per_unit, encrypted_units, unit_first}
 use Rattle.stack_lines.proofs.lemmas.UnitSourceLemmas.{units-bytes}
 use Rattle.std.proofs.lemmas.Slice.{drop-put_mid}
-use Rattle.stack_rules.proofs.lemmas.UnitLemmas.{unit_sectors-some, unit-bytes}
-use Rattle.stack_meaning.specs.Units.{unit_first}
+use Rattle.stack_meaning.proofs.lemmas.UnitSizeLemmas.{per_unit-some}
 use Rattle.stack_lines.proofs.lemmas.UnitSourceLemmas.{whole-units}
 use Rattle.std.proofs.Common.{IsTrue}
 use Rattle.stack_rules.specs.Names.{may_write}
@@ -324,15 +322,14 @@ write_units-encrypt-requires-clause-whole g t c =
     units-bytes c.args.config.now c.args.part _ _ c.requires.fits.holds (omega (arith, c.requires.fits.sectors.whole))
 
 -- the bytes, encrypted
-encrypted-is : (crypt : Crypt) (k k' : ℕ) (bytes new : List ℕ) → new ≡ encrypted_units crypt k bytes → k ≡ k' → new ≡ encrypted_units crypt k' bytes
-encrypted-is crypt k k' bytes new is same = is ∙ ap (λ (j : ℕ). encrypted_units crypt j bytes) same
+encrypted-is : (units : CryptUnits) (key : List ℕ) (k k' : ℕ) (bytes new : List ℕ) → new ≡ encrypted_units units key k bytes → k ≡ k' → new ≡ encrypted_units units key k' bytes
+encrypted-is units key k k' bytes new is same = is ∙ ap (λ (j : ℕ). encrypted_units units key j bytes) same
 
 pub write_units-lower_cuts-requires-clause-sectors : goal.write_units-lower_cuts-requires-clause-sectors
 write_units-lower_cuts-requires-clause-sectors g t c =
     let config = c.args.config.now in
     let p = c.args.part in
     let n : ℕ = length c.args.units.now / 512 in
-    let crypt = c.args.part.crypt.now in
     record {
       allowed = c.requires.allowed;
       holds = omega (arith, c.requires.fits.holds.inside, c.unit_at-unit.ensures.first, c.encrypt.auto.units);
@@ -366,29 +363,28 @@ write_units-returns-then-lower_cuts-clause-writes g t c =
     let p = c.args.part in
     let bytes = c.args.units.now in
     let n : ℕ = length bytes / 512 in
-    let crypt = c.args.part.crypt.now in
     let unit = c.unit_at-unit in
     let lower = c.args.part.lower in
-    let enc = encrypted-is crypt unit.result.index (p.first / unit_sectors crypt) bytes c.encrypt.new.units c.encrypt.ensures unit.ensures.index in
+    let enc = encrypted-is p.units p.key.now unit.result.index (p.first / per_unit p.units) bytes c.encrypt.new.units c.encrypt.ensures unit.ensures.index in
     let old = map state c.args.backing.now.devices.items in
     let new = map state c.write_lower.new.backing.devices.items in
     let count : length c.encrypt.new.units / 512 ≡ n = omega (arith, c.encrypt.auto.units) in
-    let cut : PutsInSteps (put_on config lower) (unit_first crypt p.first) n (record { size = unit_sectors crypt; skip = 0 }) =
-    subst (λ (k : ℕ). PutsInSteps (put_on config lower) (unit_first crypt p.first) n (record { size = k; skip = 0 })) (c.from.ensures ∙ c.unit_sectors-sectors.ensures.value)
-    (subst (λ (k : ℕ). PutsInSteps (put_on config lower) (unit_first crypt p.first) k (record { size = c.from.result; skip = 0 })) count
+    let cut : PutsInSteps (put_on config lower) (unit_first p.units p.first) n (record { size = per_unit p.units; skip = 0 }) =
+    subst (λ (k : ℕ). PutsInSteps (put_on config lower) (unit_first p.units p.first) n (record { size = k; skip = 0 })) (c.from.ensures ∙ c.sectors-sectors.ensures.value)
+    (subst (λ (k : ℕ). PutsInSteps (put_on config lower) (unit_first p.units p.first) k (record { size = c.from.result; skip = 0 })) count
     (subst (λ (k : ℕ). PutsInSteps (put_on config lower) k (length c.encrypt.new.units / 512) (record { size = c.from.result; skip = 0 })) unit.ensures.first (c.lower_cuts.ensures c.if-lower_cuts.true))) in
     lower-written config p bytes n c.requires.fits.holds (omega (arith, c.requires.fits.sectors.whole)) cut
-    (subst (λ (k : ℕ). WritesSectors (destination_of config lower) k (sectors_in (encrypted_units crypt (p.first / unit_sectors crypt) bytes)) old new c.write_lower.result) unit.ensures.first
+    (subst (λ (k : ℕ). WritesSectors (destination_of config lower) k (sectors_in (encrypted_units p.units p.key.now (p.first / per_unit p.units) bytes)) old new c.write_lower.result) unit.ensures.first
     (subst (λ (b : List ℕ). WritesSectors (destination_of config lower) unit.result.first (sectors_in b) old new c.write_lower.result) enc c.write_lower.ensures.writes))
 
 pub write_units-write_lower-requires-in-loop-at : goal.write_units-write_lower-requires-in-loop-at
 write_units-write_lower-requires-in-loop-at g t c κs within =
     let bytes = c.args.units.now in
     let n : ℕ = length bytes / 512 in
-    let crypt = c.args.part.crypt.now in
-    let size : ℕ = c.unit_sectors-sectors.result * 512 in
+    let p = c.args.part in
+    let size : ℕ = c.sectors-sectors.result * 512 in
     let long : length bytes ≡ 512 * n = omega (arith, c.requires.fits.sectors.whole) in
-    let step = step-at crypt (length bytes) n c.loop-at.at size c.min-end.result (omega (arith, c.unit_sectors-sectors.ensures.value, unit-bytes crypt)) long
+    let step = step-at p.units (length bytes) n c.loop-at.at size c.min-end.result (omega (arith, c.sectors-sectors.ensures.value)) long
     c.requires.fits.holds.whole c.loop-at.invariant.even (omega (arith, c.loop-at-test.true, c.encrypt.auto.units)) (omega (arith, c.min-end.ensures, c.encrypt.auto.units)) in
     let width = step-width step c.loop-at.units (omega (arith, long, c.loop-at.auto.units, c.encrypt.auto.units)) in (
       omega arith,
@@ -399,8 +395,8 @@ write_units-write_lower-requires-in-loop-at g t c κs within =
             stack = stack-later c.args.config.now c.loop-at.invariant.so_far.moved.moved.fixed c.requires.stack c.loop-at.invariant.step.cached;
             allowed = c.requires.allowed;
             fits = record {
-              sectors = record { some = omega (arith, width, step.is, unit-bytes crypt, unit_sectors-some crypt); whole = omega (arith, width) };
-              holds = omega (arith, width, c.requires.fits.holds.inside, c.unit_at-unit.ensures.first, step.place, step.fits, step.is, unit-bytes crypt);
+              sectors = record { some = omega (arith, width, step.is, per_unit-some p.units); whole = omega (arith, width) };
+              holds = omega (arith, width, c.requires.fits.holds.inside, c.unit_at-unit.ensures.first, step.place, step.fits, step.is);
             };
           },
           inl refl,
@@ -427,19 +423,18 @@ write_units-loop-at-preserved g t c =
     let p = c.args.part in
     let bytes = c.args.units.now in
     let n : ℕ = length bytes / 512 in
-    let crypt = c.args.part.crypt.now in
     let unit = c.unit_at-unit in
     let inv = c.loop-at.invariant in
-    let size : ℕ = c.unit_sectors-sectors.result * 512 in
+    let size : ℕ = c.sectors-sectors.result * 512 in
     let at = c.loop-at.at in
     let long : length bytes ≡ 512 * n = omega (arith, c.requires.fits.sectors.whole) in
-    let step = step-at crypt (length bytes) n at size c.min-end.result (omega (arith, c.unit_sectors-sectors.ensures.value, unit-bytes crypt)) long
+    let step = step-at p.units (length bytes) n at size c.min-end.result (omega (arith, c.sectors-sectors.ensures.value)) long
     c.requires.fits.holds.whole inv.even (omega (arith, c.loop-at-test.true, c.encrypt.auto.units)) (omega (arith, c.min-end.ensures, c.encrypt.auto.units)) in
     let now = c.loop-at.units in
     let now_long : length now ≡ 512 * n = omega (arith, long, c.loop-at.auto.units, c.encrypt.auto.units) in
-    let enc = encrypted-is crypt unit.result.index (p.first / unit_sectors crypt) bytes c.encrypt.new.units c.encrypt.ensures unit.ensures.index in
+    let enc = encrypted-is p.units p.key.now unit.result.index (p.first / per_unit p.units) bytes c.encrypt.new.units c.encrypt.ensures unit.ensures.index in
     let old = map state c.args.backing.now.devices.items in
-    let wrote = step-written step config c.args.part.lower unit.result.first (unit_first crypt p.first) now c.encrypt.new.units (encrypted_units crypt (p.first / unit_sectors crypt) bytes) unit.ensures.first inv.rest enc c.in-Ok.ensures.writes in
+    let wrote = step-written step config c.args.part.lower unit.result.first (unit_first p.units p.first) now c.encrypt.new.units (encrypted_units p.units p.key.now (p.first / per_unit p.units) bytes) unit.ensures.first inv.rest enc c.in-Ok.ensures.writes in
     let so_far = subst (λ (k : ℕ). WritesSectors (source_destination config (Units p)) 0 (sectors_in (take k bytes)) old (map state c.loop-at.backing.devices.items) (Ok tt)) step.place inv.so_far in
     let all = units-more config p bytes n c.requires.fits.holds long (at / size) step.fits so_far wrote in
     record {
@@ -459,18 +454,17 @@ write_units-returns-in-Err-clause-writes g t c =
     let p = c.args.part in
     let bytes = c.args.units.now in
     let n : ℕ = length bytes / 512 in
-    let crypt = c.args.part.crypt.now in
     let unit = c.unit_at-unit in
-    let size : ℕ = c.unit_sectors-sectors.result * 512 in
+    let size : ℕ = c.sectors-sectors.result * 512 in
     let at = c.loop-at.at in
     let long : length bytes ≡ 512 * n = omega (arith, c.requires.fits.sectors.whole) in
-    let step = step-at crypt (length bytes) n at size c.min-end.result (omega (arith, c.unit_sectors-sectors.ensures.value, unit-bytes crypt)) long
+    let step = step-at p.units (length bytes) n at size c.min-end.result (omega (arith, c.sectors-sectors.ensures.value)) long
     c.requires.fits.holds.whole c.loop-at.invariant.even (omega (arith, c.loop-at-test.true, c.encrypt.auto.units)) (omega (arith, c.min-end.ensures, c.encrypt.auto.units)) in
     let lower = c.args.part.lower in
     let now = c.loop-at.units in
-    let enc = encrypted-is crypt unit.result.index (p.first / unit_sectors crypt) bytes c.encrypt.new.units c.encrypt.ensures unit.ensures.index in
+    let enc = encrypted-is p.units p.key.now unit.result.index (p.first / per_unit p.units) bytes c.encrypt.new.units c.encrypt.ensures unit.ensures.index in
     let old = map state c.args.backing.now.devices.items in
-    let wrote = step-written step config lower unit.result.first (unit_first crypt p.first) now c.encrypt.new.units (encrypted_units crypt (p.first / unit_sectors crypt) bytes) unit.ensures.first c.loop-at.invariant.rest enc c.in-Err.ensures.writes in
+    let wrote = step-written step config lower unit.result.first (unit_first p.units p.first) now c.encrypt.new.units (encrypted_units p.units p.key.now (p.first / per_unit p.units) bytes) unit.ensures.first c.loop-at.invariant.rest enc c.in-Err.ensures.writes in
     let so_far = subst (λ (k : ℕ). WritesSectors (source_destination config (Units p)) 0 (sectors_in (take k bytes)) old (map state c.loop-at.backing.devices.items) (Ok tt)) step.place c.loop-at.invariant.so_far in
     units-ended config p bytes n c.requires.fits.holds long (at / size) step.fits so_far c.in-Err.fault wrote
 
@@ -505,10 +499,10 @@ pub write_units-returns-in-Err-clause-step : goal.write_units-returns-in-Err-cla
 write_units-returns-in-Err-clause-step g t c =
     let bytes = c.args.units.now in
     let n : ℕ = length bytes / 512 in
-    let crypt = c.args.part.crypt.now in
+    let p = c.args.part in
     let inv = c.loop-at.invariant in
     let long : length bytes ≡ 512 * n = omega (arith, c.requires.fits.sectors.whole) in
-    let step = step-at crypt (length bytes) n c.loop-at.at (c.unit_sectors-sectors.result * 512) c.min-end.result (omega (arith, c.unit_sectors-sectors.ensures.value, unit-bytes crypt)) long
+    let step = step-at p.units (length bytes) n c.loop-at.at (c.sectors-sectors.result * 512) c.min-end.result (omega (arith, c.sectors-sectors.ensures.value)) long
     c.requires.fits.holds.whole inv.even (omega (arith, c.loop-at-test.true, c.encrypt.auto.units)) (omega (arith, c.min-end.ensures, c.encrypt.auto.units)) in
     unit-write-err step c.requires.stack.sound.loaded c.requires.fits.holds c.loop-at.units (omega (arith, long, c.loop-at.auto.units, c.encrypt.auto.units)) c.unit_at-unit.ensures.first inv.step c.in-Err.ensures.step c.in-Err.ensures.writes.unread
 

@@ -6,5 +6,5 @@ use Rattle.stack_lines.proofs.units.unit_numbers.Given as goal
 abbrev pub invariant-loop-j : goal.invariant-loop-j
 invariant-loop-j l = record {
   long : length l.numbers ≡ 16;
-  made : (i : ℕ) → i < l.j → get_or l.numbers i 0 ≡ crypt_unit_number l.crypt (l.k + i);
+  made : (i : ℕ) → i < l.j → get_or l.numbers i 0 ≡ crypt_unit_number l.units (l.k + i);
 }
