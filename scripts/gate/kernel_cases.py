@@ -6,7 +6,7 @@ from dataclasses import dataclass, field
 
 from command_line import features_without
 from configuration import Configuration, Device, Leaf as Below, Refused
-from kernel_rules import Linux, touches_error
+from kernel_rules import Linux, meets_twice, touches_error
 from random_sessions import Sessions
 from stack import SECTOR, Stack
 from tables import PREFIX, SPACE, TextFault, is_mapped_name, read_stack
@@ -198,7 +198,8 @@ class Cases(Sessions):
                 if block == 1 and touches_error(stack, device, first, 1):
                     found.append((name, first, 1, int(numbers[2], 16), True))
                 continue
-            found += self.runs_of(name, first, count)
+            if not meets_twice(stack, device, begin, end - begin):
+                found += self.runs_of(name, first, count)
         return found
 
     def runs_of(self, name, first, count):

@@ -137,17 +137,29 @@ def may_read(fault, text):
     return fault.kind in MORE_IN_LINUX or fault.kind == "Salt" and max(map(len, text.split(b" "))) > LONGEST_SALT
 
 
-def touches_error(stack, device, first, count):
-    """Whether an access of these sectors meets an `error` line; `crypt` lines read and write whole units."""
+def leaf_runs(stack, device, first, count):
+    """The runs of backing sectors that an access of these sectors meets, None for those of an `error` line. `crypt` lines read and
+    write whole units."""
     if isinstance(device, Leaf):
-        return False
+        yield device.name, first, count
+        return
     for target, at, part in stack.runs(device, first, count):
         if isinstance(target, Error):
-            return True
-        if isinstance(target, (Linear, Striped, Unstriped)) and any(touches_error(stack, *run) for run in stack.lower_runs(target, at, part)):
-            return True
-        if isinstance(target, Crypt):
+            yield None
+        elif isinstance(target, Crypt):
             begin, end = at // target.unit() * target.unit(), -(-(at + part) // target.unit()) * target.unit()
-            if touches_error(stack, stack.configuration.lower(target.device), target.offset + begin, end - begin):
-                return True
-    return False
+            yield from leaf_runs(stack, stack.configuration.lower(target.device), target.offset + begin, end - begin)
+        elif isinstance(target, (Linear, Striped, Unstriped)):
+            for run in stack.lower_runs(target, at, part):
+                yield from leaf_runs(stack, *run)
+
+
+def touches_error(stack, device, first, count):
+    """Whether an access of these sectors meets an `error` line."""
+    return None in leaf_runs(stack, device, first, count)
+
+
+def meets_twice(stack, device, first, count):
+    """Whether a write of these sectors meets a backing sector twice: Linux writes the parts of a request in any order."""
+    met = [(name, at) for name, begin, length in filter(None, leaf_runs(stack, device, first, count)) for at in range(begin, begin + length)]
+    return len(set(met)) < len(met)
