@@ -10,5 +10,5 @@ mod zero_digests;
 pub use config::Config;
 pub use facts::{DeviceFacts, Facts};
 pub use keys::{DeviceKeys, LineKey};
-pub use stack_rules::{DevId, Leaf, Lower, crypt_of, unit_sectors, verity_of};
+pub use stack_rules::{DevId, Leaf, Lower, verity_of};
 pub use zero_digests::ZeroDigests;

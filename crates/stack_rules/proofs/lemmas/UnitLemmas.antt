@@ -45,19 +45,6 @@ unit_sectors-most crypt = elim (unit_sectors-is crypt) [
   ]
 ]
 
--- a unit's bytes are whole sectors
-pub unit-bytes : (crypt : Crypt) → sector_size crypt ≡ unit_sectors crypt * 512
-unit-bytes crypt = elim (sector_size-is crypt) [
-  | inl size ↦ size ∙ sym (ap (λ n. n / 512 * 512) size)
-  | inr more ↦ elim more [
-    | inl size ↦ size ∙ sym (ap (λ n. n / 512 * 512) size)
-    | inr more ↦ elim more [
-      | inl size ↦ size ∙ sym (ap (λ n. n / 512 * 512) size)
-      | inr size ↦ size ∙ sym (ap (λ n. n / 512 * 512) size)
-    ]
-  ]
-]
-
 -- ---- costs
 
 -- a unit costs at least what one sector of it does
