@@ -9,7 +9,7 @@ set -eu
 runs=${1:-5}
 top=$(dirname "$(dirname "$(dirname "$(readlink -f "$0")")")")
 room=$(mktemp -d)
-# What stands in out/ is put back.
+# The content of out/ is restored.
 put_back() {
     [ ! -d "$room/kept" ] || cp -p "$room"/kept/* "$top/crates/bench/out" 2> "$room/log" || :
     rm -rf "$room"

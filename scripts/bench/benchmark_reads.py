@@ -86,9 +86,9 @@ def make(program, mib):
 
 
 def serve(command, connections, name):
-    """nbdcopy of what a command serves to each connection, through socat, which hands on 256 KiB at a time: by its own 8 KiB it is
-    slower than what it hands on."""
-    # socat cuts its words at each colon, so they stand in a file.
+    """nbdcopy of what a command serves to each connection, through socat, which passes on 256 KiB at a time: with its own 8 KiB it is
+    slower than its input."""
+    # socat splits its arguments at colons, so the command is in a file.
     write("serve", f"#!/bin/sh\nexec {command}\n")
     os.chmod("serve", 0o755)
     socat = subprocess.Popen(["socat", "-b", "262144", "UNIX-LISTEN:socket,fork", "EXEC:./serve"], start_new_session=True, stderr=subprocess.DEVNULL)

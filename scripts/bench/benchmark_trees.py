@@ -2,8 +2,8 @@
 """Measures `verify --all` beside `verify`, and `diff` of two images that differ in ten blocks. Not a part of the gate.
 
 benchmark_trees.py PROGRAM [MIB [RUNS]]: of images of MIB mebibytes (1024) in blocks of 4,096 bytes, each command RUNS times in
-turn (9). Told are the least and the median of the processor time in milliseconds; of `diff` behind that of `version`, which is
-the start alone. Images stand in a folder of TMPDIR, which has room for two and their trees."""
+turn (9). It prints the least and the median of the processor time in milliseconds; for `diff` beyond that of `version`, which is
+the start alone. Images are in a folder of TMPDIR, which has room for two and their trees."""
 
 import os
 import random
@@ -73,7 +73,7 @@ def main():
     start = short["version"]
     for name in ("diff", "diff --json"):
         least, median = (mine - theirs for mine, theirs in zip(short[name], start))
-        print(f"{name}: behind the start least {least:.2f} ms, median {median:.2f}; at most {MOST_OF_DIFF:.0f} are wanted")
+        print(f"{name}: beyond the start least {least:.2f} ms, median {median:.2f}; at most {MOST_OF_DIFF:.0f} are wanted")
 
 
 main()

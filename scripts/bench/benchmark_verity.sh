@@ -11,7 +11,7 @@ mib=${1:-512}
 runs=${2:-9}
 top=$(dirname "$(dirname "$(dirname "$(readlink -f "$0")")")")
 room=$(mktemp -d)
-# What stands in out/ is put back, since ./dmstack runs the program there where its record agrees.
+# The content of out/ is restored, since ./dmstack runs the program there if its record agrees.
 put_back() {
     for it in dmstack bench; do
         [ ! -e "$room/kept/$it" ] || { rm -f "$top/crates/$it/out/$it.stamp"; cp -p "$room/kept/$it"* "$top/crates/$it/out" || :; }

@@ -3,7 +3,7 @@
 
     proof_times.py [--most 3] [--built] CRATE..
 
-The libraries below are built first where they aren't; with --built what stands in out/ is taken as it is, where `rt ci` has just
+The libraries below are built first where they aren't; with --built out/ is used as it is, if `rt ci` has just
 made it. Each crate is checked alone, with its tests, by one job, so that the time between two of the checker's lines is that of
 the function in the second one, with the modules that only it asked for; the first one that is told also has all that is read at
 the start.

@@ -64,7 +64,7 @@ def run(draw, folder, sectors, large):
     begin = first // sectors * sectors
     end = -(-(first + count) // sectors) * sectors
     place, within = 512 * (offset + begin), 512 * (first - begin)
-    # what stands there, read
+    # the content, read
     there = image[place : place + 512 * (end - begin)]
     clear = units(line, begin, there, encrypt=False)
     read = shown(dmstack(folder, "read", "stack", "c", str(first), str(count), "I=rw:image"))

@@ -103,7 +103,7 @@ def layers():
 
 
 def many(folder):
-    """2,048 sectors by `write` from a file, and what stands in the image."""
+    """2,048 sectors by `write` from a file, and the content of the image."""
     data = hashlib.shake_128(b"2,048 sectors").digest(512 * 2048)
     image = bytes(512 * 3) + openssl_xts.sectors(LONG, 77, data) + bytes(512 * 5)
     (folder / "before").write_text(

@@ -1,5 +1,5 @@
 #!/usr/bin/env python3
-"""What stands in leaves after writes through `crypt` lines, by AES-XTS of python's `cryptography`.
+"""The content of leaves after writes through `crypt` lines, by AES-XTS of python's `cryptography`.
 
 Prints the bytes that tests/rows/write_crypt wants: of each leaf's sectors from 0 on the first and the last block of 16 bytes,
 in hexadecimal digits. A sector that wasn't written is zeros."""

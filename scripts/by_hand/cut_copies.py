@@ -1,8 +1,8 @@
 #!/usr/bin/env python3
 """Cuts copies off by a signal, at some places, and lets them go on by their maps.
 
-cut_copies.py PROGRAM: behind each cut the map that stands is one of the whole device, has no sector that the image hasn't,
-and is at most one turn behind; and what goes on by it ends as a copy that wasn't cut. Where ddrescuelog is installed, it
+cut_copies.py PROGRAM: after each interruption the map is one of the whole device, marks no sector that the image lacks,
+and is at most one turn late; and the copy that continues with it ends as one that wasn't interrupted. Where ddrescuelog is installed, it
 reads each of these maps, and says of them what they say.
 """
 
@@ -73,7 +73,7 @@ class Copies:
         return subprocess.Popen(words, stdout=subprocess.PIPE, stderr=subprocess.STDOUT)
 
     def check_cut(self, name):
-        """The map that a cut left, and the sectors that it says were had."""
+        """The map that an interruption left, and the sectors that it marks as recovered."""
         if not os.path.exists(name + ".map"):
             return
         state, blocks = blocks_of(name + ".map")
@@ -87,7 +87,7 @@ class Copies:
                     disk.seek(at * SECTOR)
                     out.seek(at * SECTOR)
                     if disk.read(size * SECTOR) != out.read(size * SECTOR):
-                        raise Unlike("a sector is had by the map, and not by the image")
+                        raise Unlike("the map marks a sector as recovered that the image lacks")
         for mark in "+-?" if shutil.which("ddrescuelog") else "":
             if listed_by_log(name + ".map", mark) != count(blocks, mark):
                 raise Unlike(f"ddrescuelog lists other sectors of the mark {mark}")
@@ -100,7 +100,7 @@ class Copies:
             raise Unlike(f"{name}.map is another one")
 
     def cut(self, delay):
-        """A copy that is cut off behind so many seconds, and goes on, cut off again as often as it isn't at its end."""
+        """A copy that is interrupted after so many seconds and continued, as often as it isn't at its end."""
         name = "cut"
         for it in (name, name + ".map"):
             if os.path.exists(it):

@@ -108,7 +108,7 @@ class Repairs:
             raise Unlike("the image isn't whole at the end")
 
     def cut(self, delay):
-        """A repair that is cut off behind so many seconds, and goes on, cut off again as often as it isn't at its end."""
+        """A repair that is interrupted after so many seconds and started again, as often as it isn't at its end."""
         self.begin()
         cuts = []
         while True:
@@ -148,8 +148,8 @@ def main():
     within = sum(1 for it in cuts if it)
     if not within:
         failed += 1
-        print("no repair was cut off behind its first block")
-    print(f"repairs that were cut off: {len(cuts)} cuts, {within} of them behind a repaired block, {2 * CUTS} repairs, {failed} failed")
+        print("no repair was interrupted after its first block")
+    print(f"interrupted repairs: {len(cuts)} interruptions, {within} of them after a repaired block, {2 * CUTS} repairs, {failed} failed")
     return 1 if failed else 0
 
 

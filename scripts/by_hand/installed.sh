@@ -1,7 +1,7 @@
 #!/usr/bin/env bash
 # Tries ./install: below a folder of its own, and as a Debian package, which is installed and removed where root may.
 #
-# installed.sh [--unproved]: the word is handed on to ./install.
+# installed.sh [--unproved]: the option is passed on to ./install.
 set -u
 top=$(dirname "$(dirname "$(dirname "$(readlink -f "$0")")")")
 room=$(mktemp -d)
@@ -54,7 +54,7 @@ if command -v dpkg-deb > /dev/null; then
         holds 'the package is removed' dpkg -P dmstack
         holds 'nothing of it is left' test ! -e /usr/bin/dmstack
     else
-        echo 'installed: the package was not installed: not root, or dmstack stands there'
+        echo 'installed: the package was not installed: not root, or dmstack is installed already'
     fi
 fi
 echo "installed: $passed passed, $failed failed"

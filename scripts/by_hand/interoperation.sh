@@ -5,7 +5,7 @@
 # given), and salts of 0, 1, 32 and 256 bytes in turn. Each image is formatted by both: roots and hash images must be equal,
 # each must verify the other's, `dump` must tell the same fields, and `table` the line that a kernel takes. The same is
 # compared of trees without a superblock, and, where data and hash blocks have one size, the parity with 2 to 24 bytes in a
-# codeword over a hash image that goes on behind its tree.
+# codeword over a hash image that goes on after its tree.
 set -eu
 step=${1:-7}
 PATH=$PATH:/usr/sbin
@@ -85,7 +85,7 @@ compare_parity() {
         --fec-device=their_parity --fec-roots="$5" data theirs | sed -n 's/^Root hash: *\t*//p')
     [ "$("$program" format --grow --fec our_parity --fec-roots "$5" --data-block "$1" --hash-block "$2" --blocks "$3" --salt="$4" \
         --uuid $uuid data ours | head -n 1)" = "root $root" ] || fail "$1" "$2" "$3" "$4" 'another root of an image with parity'
-    # veritysetup leaves what stands behind the superblock in its block
+    # veritysetup leaves the bytes after the superblock in its block
     cmp -s -i "$1" theirs ours || fail "$1" "$2" "$3" "$4" 'another tree with parity'
     cmp -s their_parity our_parity || fail "$1" "$2" "$3" "$4" "another parity, of $5 bytes in a codeword"
     [ "$("$program" verify --fec their_parity --fec-roots "$5" data theirs "$root" | tail -n 1)" = 'parity ok' ] ||

@@ -18,7 +18,7 @@ trap 'rm -rf "$room"' EXIT
 cd "$room"
 key=$(seq -f %02g 10 73 | tr -d '\n')
 
-# A verity image on the second disk: 1 MiB of data, and behind it the tree.
+# A verity image on the second disk: 1 MiB of data, and after it the tree.
 head -c 1M /dev/urandom > data
 "$program" format --grow data tree | sed -n 's/^root //p' > root
 cat data tree > second
@@ -75,7 +75,7 @@ tr -d '\r' < told > said
 grep -q END said || { echo "the machine ended early: $(tail -n 5 console qemu)"; exit 1; }
 sed -n '/^BEGIN$/,/^digest/p' said | grep -v -e BEGIN -e '^digest' > running.stack
 
-# A device that stands on another names it by its number; and all are only read here.
+# A device over another one names it by its number; and all are only read here.
 low=$(sed 's/;\([a-z]*,[^,]*,[0-9]*,r[ow],\)/\n\1/g' running.stack | sed -n 's/^low,[^,]*,\([0-9]*\),.*/\1/p')
 sed -i "s,253:$low ,/dev/mapper/low ,g; s/,rw,/,ro,/g" running.stack
 "$program" load running.stack 254:0=ro:first 254:16=ro:second > loaded || { cat loaded running.stack; exit 1; }

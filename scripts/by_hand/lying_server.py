@@ -1,5 +1,5 @@
 #!/usr/bin/env python3
-"""A web server that hands out one file, and lies at will: for scripts/by_hand/remote_image.sh.
+"""A web server that serves one file, and falsifies it at will: for scripts/by_hand/remote_image.sh.
 
 lying_server.py FILE PORT SEED: answers HEAD, and GET of ranges. Of every second answer, as the seed has it, a byte is changed,
 or the bytes come from another place, or are any bytes, or are cut off; it answers otherwise each time it is asked.

@@ -44,7 +44,7 @@ dd if=hash of=root.img bs=512 seek=46 conv=notrunc status=none
 keep partition_roots root.img
 cp "$top/tests/rows/partition_roots/files/root.img.hex" "$top/examples/system.img.hex"
 
-# Labels: one that is a name, one that stands twice, one with a space, none, and the name of another partition by its number.
+# Labels: one that is a name, one that occurs twice, one with a space, none, and the name of another partition by its number.
 truncate -s $((512 * 512)) labels.img
 sfdisk -q labels.img << 'TABLE'
 label: gpt
@@ -61,7 +61,7 @@ start=112, size=4, type=0FC63DAF-8483-4772-8E79-3D69D8477DE4, uuid=00000000-0000
 TABLE
 keep partition_stacks labels.img
 
-# The tree behind the data in one file: as many data blocks as lie before, and one less.
+# The tree after the data in one file: as many data blocks as lie before, and one less.
 for blocks in 6 5; do
     numbers 6 "one$blocks.img"
     truncate -s $((8 * 512)) "one$blocks.img"

@@ -110,7 +110,7 @@ def with_partitions(*partitions):
 
 
 # Fields under checksums that are right, and the fault of both copies, or in a tuple that of the primary alone, whose
-# entries end behind the first usable sector.
+# entries end after the first usable sector.
 FIELDS = [
     (dict(signature=b"EFI PARt"), "Signature"),
     (dict(revision=0x10001), "Revision"),

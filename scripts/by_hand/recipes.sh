@@ -22,7 +22,7 @@ export URL=http://127.0.0.1:$port
 export LIBGUESTFS_BACKEND=direct LIBGUESTFS_BACKEND_SETTINGS=force_tcg
 passed=0 failed=0 left=0
 
-# Each recipe begins with this: what has to be waited for, and that nothing goes on behind it.
+# Each recipe begins with this: what it waits for, and that nothing keeps running after it.
 read -r -d '' beginning << 'BASH'
 set -eu -o pipefail
 appears() {
@@ -102,7 +102,7 @@ run_recipe() {
     end_store
 }
 
-# Runs each recipe of the document; the line behind a recipe that isn't indented ends it.
+# Runs each recipe of the document; the first line after a recipe that isn't indented ends it.
 run_document() {
     local line needs='' recipe='' heading=''
     while IFS= read -r line <&8; do

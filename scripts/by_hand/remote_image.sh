@@ -71,7 +71,7 @@ read_volume() {
     [ $status != 0 ] || cmp -s out whole || { echo "$1: status 0, and not all came out"; exit 1; }
 }
 
-# Each sector that the volume stands on is changed in turn: what comes out is a beginning of what was formatted.
+# Each sector of the volume's images is changed in turn: the output is a beginning of what was formatted.
 cases=0
 refused=0
 for sector in $(seq 40 55); do

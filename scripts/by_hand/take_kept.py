@@ -1,9 +1,9 @@
 #!/usr/bin/env python3
 """Puts libraries that `rt ci NAME..` proved on this machine into this checkout's out/, so that checks above begin over them.
 
-take_kept.py [FOLDER]: into that checkout, of which nothing is built meanwhile. What stands in out/ already stays. It takes a
+take_kept.py [FOLDER]: into that checkout, of which nothing is built meanwhile. What is in out/ already stays. It takes a
 library only if an earlier run proved the same files over the same libraries, as `rt ci` itself would. Run it again as more are
-proved; rt's own call for this drops what it kept where it meets a library that stands, so that is looked at before.
+proved; rt's own call for this drops what it kept if it meets an existing library, so that is checked before.
 """
 import os
 import sys
@@ -29,7 +29,7 @@ class Taking:
         self.taken, self.stands = {}, []
 
     def take(self, crate):
-        """Whether the library stands in the crate's out/ now."""
+        """Whether the library is in the crate's out/ now."""
         if crate.name not in self.taken:
             below = [self.take(it) for it in crate.below()]
             self.taken[crate.name] = all(below) and not crate.is_program and self.take_one(crate)

@@ -39,7 +39,7 @@ class Image:
         self.placed = placed
 
     def digest(self, level, index):
-        """The digest that stands so many levels above the subtree with this index."""
+        """The digest so many levels above the subtree with this index."""
         if level == len(self.tree.levels):
             return self.root
         size = self.tree.slots

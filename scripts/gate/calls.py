@@ -7,7 +7,7 @@
 
 Each public call that can refuse has a row, and each row a call. The script makes of each the call's file and its refusals as the
 signature has them; people say in two cells which clauses and tests show when each comes and what it leaves. The files, clauses
-and tests stand there. Of the others those with a `&mut` are named in a line. A function of a public module is named behind the
+and tests stand there. Of the others those with a `&mut` are named in a line. A function of a public module is named after the
 module. One of a module `laws` does nothing, and has no row. No call has a handle by which it might not return.
 """
 import os

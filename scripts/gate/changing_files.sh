@@ -27,7 +27,7 @@ ask() {
     done
 }
 
-# end STATUS REPLY..: the end of the input, the lines behind it, and the status
+# end STATUS REPLY..: the end of the input, the lines after it, and the status
 end() {
     local wanted=$1 reply status=0 process=$SESSION_PID
     shift
@@ -43,7 +43,7 @@ end() {
 }
 
 # An image is cut short: sectors that are gone are the device's fault, the others and the other device are served, and a
-# request in flight ends alone. What is written behind the end makes the file longer again.
+# request in flight ends alone. A write past the end extends the file again.
 filled 1 256 > a
 filled 2 8 > b
 cp b kept
@@ -106,7 +106,7 @@ ask 'step 8' '255 all ff'
 ask moved 'moved 409 0'
 end 0
 
-# An image is overwritten: what is read is what stands there now, and a verified block isn't served. Its removal, and another
+# An image is overwritten: reads return its present content, and a verified block isn't served. Its removal, and another
 # file under its name, aren't seen: the file that was opened is served.
 filled 7 8 > a
 begin A=ro:a
@@ -167,13 +167,13 @@ ran() {
     check "$*: status $wanted, $output, where it is $status, $(head -c 200 out errors)" test "$status $(cat out errors)" = "$wanted $output"
 }
 
-# Standard streams that are closed: an image doesn't come to stand in their place. A stream that is full, or that nobody reads.
+# Standard streams that are closed: no image is opened in their place. A stream that is full, or that nobody reads.
 filled 1 8 > a
 cp a kept
 printf 'load a,,,rw,0 8 linear A 0\nread a 0 1\nmoved\n' > lines
 printf 'a,,,rw,0 8 linear A 0' > stack
 filled 1 4 > source
-filled 3 9 > out
+filled 3 9 > copied
 truncate -s 8192 made
 sizes='--data-block=512 --hash-block=512 --salt=- --uuid=00000000-0000-0000-0000-000000000001'
 unprinted='dmstack: standard output failed'
@@ -181,7 +181,7 @@ for closed in '>&-' '<&- >&-' '<&- >&- 2>&-' '> /dev/full' '> /dev/full 2>&-'; d
     said=$unprinted
     [[ $closed != *'2>&-' ]] || said=
     for words in 'session A=rw:a' 'load stack A=rw:a' 'read stack a 0 8 A=rw:a' 'write stack a 0 source A=rw:a' \
-        'scan stack a A=rw:a' 'copy stack a out A=rw:a' 'nbd stack a A=rw:a'; do
+        'scan stack a A=rw:a' 'copy stack a copied A=rw:a' 'nbd stack a A=rw:a'; do
         # A client of nbd that has gone isn't reported, and a session without input writes nothing.
         [[ $words = nbd* || "$words $closed" = session*'<&-'* ]] && output= || output=$said
         ran 1 "$output" bash -c "\"\$0\" $words $closed" "$program"
@@ -190,8 +190,11 @@ for closed in '>&-' '<&- >&-' '<&- >&- 2>&-' '> /dev/full' '> /dev/full 2>&-'; d
     ran 1 "$said" bash -c "\"\$0\" format $sizes a made $closed" "$program"
     check "format $closed: the data image is as it was" cmp a kept
 done
+made_root=$("$program" format $sizes a made | sed -n 's/^root //p')
 cp made formatted
-for words in "verify a made $root" 'dump made' "table made $root D H"; do
+# If another root than the image's is given, that is said too.
+ran 1 $'root differs\n'"$unprinted" bash -c "\"\$0\" verify a made $root > /dev/full" "$program"
+for words in "verify a made $made_root" 'dump made' "table made $made_root D H"; do
     ran 1 "$unprinted" bash -c "\"\$0\" $words <&- >&-" "$program"
     check "$words: the images are as they were" cmp made formatted
     check "$words: the images are as they were" cmp a kept
@@ -306,10 +309,10 @@ is_scanned folder/twice
 check 'a link in a folder stays one' test "$(readlink folder/twice)" = target
 is_scanned hanging
 check 'a link to nothing stays one' test "$(readlink hanging)" = missing
-check 'the map stands where the link leads' test -f missing
+check 'the map is written to the target of the link' test -f missing
 ran 1 'refused 4 OtherFault around' "$program" scan --map around lossy a A=ro:a
 check 'nothing is left beside the links' test "$(echo folder/* linked* hanging* missing*)" = 'folder/target folder/twice linked hanging missing'
-# The process is killed before each call in turn: the old map stands, or the new one, and a draft that is left hinders nobody.
+# The process is killed before each call in turn: the file has the old map or the new one, and a draft that is left does no harm.
 cc -shared -fPIC -O2 -o "$room/fail.so" "$top/scripts/gate/fail_calls.c" -ldl
 mkdir killed
 calls=''
@@ -334,7 +337,7 @@ draft=killed/map.dmstack-new
 check "the calls by which a map is replaced, and not$calls" test "$calls" = " create:$draft write:$draft sync:$draft rename:$draft sync:killed"
 
 # A file system that is full in the midst of a session, where a small one can be mounted: the fault is of the right device,
-# what was written stands, the other image is served, and once there is room again the write is made.
+# what was written stays, the other image is served, and once there is room again the write succeeds.
 mkdir full
 if mount -t tmpfs -o size=32k,mode=777 tmpfs full 2> mount_errors; then
     trap 'umount full; rm -rf "$room"' EXIT
@@ -355,12 +358,12 @@ if mount -t tmpfs -o size=32k,mode=777 tmpfs full 2> mount_errors; then
     ask 'step 8' written
     ask 'read f 119 2' '119 all 00' '120 all cd'
     end 0
-    check 'what was written stands' cmp -n 4096 full/image <(filled 253 0; head -c 4096 /dev/zero | tr '\0' '\253')
+    check 'what was written stays' cmp -n 4096 full/image <(filled 253 0; head -c 4096 /dev/zero | tr '\0' '\253')
     # A tree that has no room: no superblock is left before it.
     rm full/image
     truncate -s 1048576 full/image data
     ran 1 'refused 5 Device' "$program" format $sizes data full/image
-    check 'no superblock stands before a tree that was not written' cmp -n 512 full/image /dev/zero
+    check 'no superblock is before a tree that was not written' cmp -n 512 full/image /dev/zero
     # A parity that has no room: it is the file that is named, and the tree before it is whole.
     rm full/image
     filled 6 2048 > data

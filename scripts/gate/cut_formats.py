@@ -2,7 +2,7 @@
 """Kills a format over an older image at each of its calls, in turn, with a superblock and without one.
 
 cut_formats.py PROGRAM: what a cut leaves is the older image as it was, or a file without a superblock, or the new image as a
-whole. So a superblock never stands over a tree that isn't its own.
+whole. So a superblock is never before a tree that isn't its own.
 """
 
 import os
@@ -78,7 +78,7 @@ class Formats:
             cuts += 1
             left = content_of("image")
             if left not in (before, after) and left[first:first + 8] == SIGNATURE:
-                raise Unlike(f"{name}: killed at call {number}, a superblock stands over another tree")
+                raise Unlike(f"{name}: killed at call {number}, a superblock is before another tree")
         if status or content_of("image") != after:
             raise Unlike(f"{name}: a format that isn't cut leaves another image")
         return cuts

@@ -1,8 +1,8 @@
 #!/usr/bin/env python3
 """Compares the examples of crates/NAME/README.md with code that is proved and run.
 
-The lines of each block ```rust stand, apart from indentation and empty lines, one after another in a file of
-crates/NAME/src/, of a crate of tests, crates/*_tests/src/, or of a crate that stands on NAME by crates.txt. An example of a
+The lines of each block ```rust occur, apart from indentation and empty lines, one after another in a file of
+crates/NAME/src/, of a crate of tests, crates/*_tests/src/, or of a crate that depends on NAME by crates.txt. An example of a
 library calls one of the library's public functions: a free one by its name, others as `Type::name(` or `.name(`.
 """
 import glob
@@ -24,7 +24,7 @@ def sources(crate):
 
 
 def stands_on():
-    """The crates that stand on each crate."""
+    """The crates that depend on each crate."""
     above = {}
     with open(f"{TOP}/crates.txt", encoding="utf-8") as it:
         for line in it:
@@ -64,7 +64,7 @@ def main():
             example = lines_of(block[1])
             wrong = ""
             if not example or not any(stands_in(example, it) for it in files):
-                wrong = "stands in no file of src/, here, in a crate of tests or in one that stands on this crate"
+                wrong = "is in no file of src/, here, in a crate of tests or in one that depends on this crate"
             elif not any(re.search(it, block[1]) for it in calls):
                 wrong = "calls no public function of its crate"
             passed, failed = passed + (not wrong), failed + bool(wrong)

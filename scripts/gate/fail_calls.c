@@ -2,7 +2,7 @@
 // and writes and syncs, `input` reads of standard input, `output` writes of standard output, `text` other reads, and each fails
 // with EIO. `short` and `interrupted` count all of these but the syncs; such a call moves one byte, or is interrupted. `cut`
 // counts the calls that change files and folders, but positioned writes, and the process is killed before that one. The file
-// FAIL_MET then says which call it was, how many whole sectors positioned reads and writes had asked for, it included, and of
+// FAIL_MET then says which call it was, how many whole sectors positioned reads and writes had requested, including it, and of
 // which file. With FAIL_CUT the program is killed in place of the call.
 #define _GNU_SOURCE
 #include <dlfcn.h>

@@ -3,16 +3,16 @@
 
     failing_calls.py [--program FILE] [NAME..]
 
-A case is as scripts/lib/case.sh says (`before` may import the modules of scripts/model), and stands for as many runs as the program
+A case is as scripts/lib/case.sh says (`before` may import the modules of scripts/model), and is as many runs as the program
 makes allocations, positioned reads and writes and syncs of its files, and, where it has the file `streams`, reads of its input
 and of texts and writes of its output: in each run one of them fails. (In further runs a read or a write moves one byte, or is
 interrupted: no answer shows it.) A session must answer, up to the line that met the failure, what it answers without one; that
-line is refused (`no memory`, or the fault of the right device); and the lines behind it, and the files at the end, are what the
+line is refused (`no memory`, or the fault of the right device); and the lines after it, and the files at the end, are what the
 model of scripts/model says over the files as the failure left them, in which each sector holds what it held before that line or
 what the line was to write. (A line `moved` counts what the files were asked for, that line included, so the leaves are files.)
-Another command must name the failure, and answer, when it is made again, as without one; a format that met one before its sync
+Another command must name the failure, and answer, when it is repeated, as without one; a format that met one before its sync
 leaves no superblock, and one that met it at its parity (`--fec`) the whole image. If the output fails, standard error must say so,
-and a `copy` must have copied all. A `repair` may also seek elsewhere what it couldn't read: each block that it names is good then, and each other one as it was, and made again it ends with a whole image.
+and a `copy` must have copied all. A `repair` may also seek elsewhere what it couldn't read: each block that it names is good then, and each other one as it was, and repeated it ends with a whole image.
 
 Where a case has the file `kinds`, calls of these kinds alone fail. Where it has the file `calls`, this has a line for each
 positioned read and write and each sync, in their order: which call it is, of which leaf, how many sectors were asked for by then,
@@ -91,7 +91,7 @@ class Case:
         self.kinds += ["input", "text", "output"] * os.path.exists(f"{self.folder}/streams")
         if os.path.exists(f"{self.folder}/kinds"):
             self.kinds = read_file(f"{self.folder}/kinds").decode().split()
-        # Where a checked block can't be kept for want of memory, the answer is that of the block as it was read.
+        # If memory runs out for keeping a checked block, the answer is that of the block as it was read.
         before = read_file(f"{self.folder}/before") if os.path.exists(f"{self.folder}/before") else b""
         self.may_keep = b" verity " in self.given + before and b"--cache=0" not in self.words
         self.calls = lines_of(read_file(f"{self.folder}/calls")) if os.path.exists(f"{self.folder}/calls") else None
@@ -113,7 +113,10 @@ class Case:
             failing = {"LD_PRELOAD": self.library, "REFUSE": str(number), "REFUSE_MET": met}
         done = subprocess.run([self.program, *self.words], input=self.given if given is None else given, cwd=folder,
                               env={**os.environ, **failing}, capture_output=True, timeout=20, check=False)
-        told = UNWRITTEN if kind == "output" and os.path.exists(met) else b""
+        told = b""
+        if kind == "output" and os.path.exists(met):
+            # The last line, that sectors are lost, is repeated there.
+            told = (self.recovery.lines[-1] + b"\n" if self.recovery else b"") + UNWRITTEN
         if self.words[0] == b"copy" and done.stdout.endswith(b"refused 2 Device\n"):
             told = OUT_FAILED
         if done.stderr != told:
@@ -166,7 +169,7 @@ class Modelled:
         return [it for reply in self.replies for it in reply]
 
     def failing_line(self, lines):
-        """The line of input that was answered otherwise, and where in the output its answer stands."""
+        """The line of input that was answered otherwise, and the place of its answer in the output."""
         at = 0
         for number, reply in enumerate(self.replies):
             if not all_allow(reply, lines[at : at + len(reply)]):
@@ -175,7 +178,7 @@ class Modelled:
         raise Wrong("every line was answered as without a failure")
 
     def rest(self, state, number):
-        """What the lines behind a line answer from a state on, and the files then."""
+        """What the lines after a line answer from a state on, and the files then."""
         session, nodes = state
         moved = session.stack.moved.reads, session.stack.moved.writes
         key = number, session.tickets, moved, tuple(sorted(session.in_flight)), tuple(map(bytes, nodes.values()))
@@ -185,7 +188,7 @@ class Modelled:
         return self.rests[key]
 
     def ended(self, number):
-        """The states in which the request of a line may end that met want of memory."""
+        """The states in which the request of a line may end that ran out of memory."""
         words = self.lines[number].split()
         if words[0] in (b"read", b"write"):
             yield self.state(number)
@@ -207,7 +210,7 @@ class Modelled:
         yield session, nodes
 
     def after_memory(self, number):
-        """What may follow a line that met want of memory: replies and files."""
+        """What may follow a line that ran out of memory: replies and files."""
         return [self.rest(state, number) for state in self.ended(number)]
 
     def after_device(self, number, kind, call, asked):
@@ -280,13 +283,13 @@ def check_session(case, model, kind, number, ran):
     for replies, nodes in ends:
         if all_allow(replies, lines[at + 1 :]) and all(held[name] == node for name, node in nodes.items()):
             return
-    raise Wrong(f"behind line {failing + 1}: {lines[at + 1:][:20]}, in place of {ends[0][0][:20]}")
+    raise Wrong(f"after line {failing + 1}: {lines[at + 1:][:20]}, in place of {ends[0][0][:20]}")
 
 
 def check_unfinished(case):
-    """No superblock stands before a tree that isn't finished."""
+    """No superblock is before a tree that isn't finished."""
     if read_file(f"{case.room}/files/{case.words[-1].decode()}").startswith(b"verity"):
-        raise Wrong("a superblock stands there")
+        raise Wrong("there is a superblock")
 
 
 def behind_the_image(case, kind, what, output):
@@ -342,7 +345,7 @@ def check_command(case, plain, kind, ran):
             check_unfinished(case)
     again = case.run(again=True)
     if again[:2] != plain[:2]:
-        raise Wrong(f"made again: status {again[1]}, {again[0][-200:]}")
+        raise Wrong(f"repeated: status {again[1]}, {again[0][-200:]}")
 
 
 def sweep(case, kind, check):

@@ -37,7 +37,7 @@ class Recovery:
             self.before, self.after = (read_file(f"{it}/{self.out}") for it in (case.start, f"{case.room}/files"))
 
     def check_early_end(self, output, status, wanted):
-        """It ends early by one line, behind the first runs."""
+        """It ends early by one line, after the first runs."""
         lines = output.split(b"\n")[:-1]
         if status != 1 or lines[-1:] != [wanted] or lines[:-1] != self.lines[: len(lines) - 1]:
             raise Unlike(f"status {status}, {output[-200:]}, in place of {wanted}")
@@ -59,7 +59,7 @@ class Recovery:
         return self.check_image(lost)
 
     def check_image(self, lost):
-        """What is had stands in the image, and all else is as it was."""
+        """The image has the recovered sectors, and all else is as it was."""
         image = read_file(f"{self.case.room}/files/{self.out}") if self.out else b""
         for at in range(len(image) // 512):
             part = slice(512 * at, 512 * at + 512)

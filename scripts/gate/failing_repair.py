@@ -90,7 +90,7 @@ class Repair:
         return (rest, status) == ([REFUSED], 1) or (rest, status) in self.told_around()
 
     def told_around(self):
-        """What may be told of what is left where one read of it failed. Data that can't be read in a piece are read again block by
+        """What may be printed about what is left if one read of it failed. Data that can't be read in a piece are read again block by
         block, so that is what stands there; or the blocks beneath a hash block that couldn't be read aren't known; or one that
         couldn't be compared with the one above it isn't good."""
         states, bad = survey(*self.left(), self.tree, self.salt, self.root)
@@ -104,9 +104,9 @@ class Repair:
         return told
 
     def check_again(self, ran):
-        """Made again it ends with a whole image."""
+        """Repeated, it ends with a whole image."""
         if ran[1] != 0 or ran[0].split(b"\n")[-2] != self.plain[-1] or self.left() != self.whole:
-            raise Unlike(f"made again: status {ran[1]}, {ran[0][-200:]}")
+            raise Unlike(f"repeated: status {ran[1]}, {ran[0][-200:]}")
 
 
 def is_repaired(line):

@@ -1,5 +1,5 @@
 #!/usr/bin/env python3
-"""What stands in two leaves when a call of a request fails, by a model of its own and OpenSSL's AES-XTS.
+"""The content of two leaves when a call of a request fails, by a model of its own and OpenSSL's AES-XTS.
 
 failing_writes.py FOLDER: writes cases of scripts/gate/failing_calls into FOLDER, each with its file `calls`: for each call in turn
 which it is, of which leaf, how many sectors were read and written by then, and the sums of A and of B where it fails. Of crypt

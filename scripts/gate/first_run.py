@@ -54,7 +54,7 @@ def without_the_kit(top, room):
 def interrupted(top):
     """Ctrl-C while it compiles."""
     how = {"stdin": subprocess.DEVNULL, "stdout": subprocess.PIPE, "stderr": subprocess.PIPE, "start_new_session": True}
-    # A shell can't trap what was ignored when it began, as Ctrl-C is of what another shell starts behind `&`.
+    # A shell can't trap what was ignored when it began, as Ctrl-C is of what another shell starts with `&`.
     how["preexec_fn"] = lambda: signal.signal(signal.SIGINT, signal.SIG_DFL)
     with subprocess.Popen([f"{top}/dmstack", "session"], **how) as running:
         first = running.stderr.readline()

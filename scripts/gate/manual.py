@@ -1,5 +1,5 @@
 #!/usr/bin/env python3
-"""Checks the manual page, and the completion for bash, against the command line that clap is told of, and the page's own form.
+"""Checks the manual page, and the completion for bash, against the command line that clap gets, and the page's own form.
 
 manual.py [PAGE [GRAMMAR]]: the commands of the page are the headings of its section COMMANDS. Their names and options,
 and the options that its section OPTIONS explains, must be those of the grammar's source; so must those that
@@ -31,7 +31,7 @@ def grammar_of(source):
 
 
 def valued_of(source):
-    """The options of the grammar behind which a value stands."""
+    """The options of the grammar that take a value."""
     return set(re.findall(r'OptionRow \{\n\s*name: "([^"]+)",[^}]*has_value: true', source))
 
 
@@ -59,7 +59,7 @@ def commands_of(page):
         heading = heading.replace("\\-", "-")
         name = heading.split()[0]
         if name in commands:
-            sys.exit(f"manual: {name} stands there twice")
+            sys.exit(f"manual: {name} is there twice")
         commands[name] = set(re.findall(r"[\[|] ?--([a-z-]+)(?: [A-Z0-9|]+)? ?[\]|]", heading))
     return commands
 

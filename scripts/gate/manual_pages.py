@@ -1,6 +1,6 @@
 #!/usr/bin/env python3
 """Makes the pages that `dmstack manual` prints from the manual page, man/dmstack.1, and the table of README.md, and the list of
-commands with their usage and options from the manual page and the table that clap is told of.
+commands with their usage and options from the manual page and the table that clap gets.
 
 manual_pages.py writes both, pages.rt and commands.rt of crates/manual_pages/src; manual_pages.py --check compares them.
 A page has a command's words, what it does, its options, its statuses, and the document that says more.
@@ -56,7 +56,7 @@ def paragraphs_of(text):
 
 
 def entries_of(text):
-    """The entries of a list: of each its head and what is said of it; the paragraphs behind the list belong to none."""
+    """The entries of a list: of each its head and what is said of it; the paragraphs after the list belong to none."""
     found = []
     for part in re.split(r"^\.TP\n", text, flags=re.M)[1:]:
         head, _, said = part.partition("\n")
@@ -106,7 +106,7 @@ def pages_of(page, readme):
 
 
 def source_of(pages):
-    """In two lists, since what is proved of a function grows with the texts that it goes over."""
+    """In two lists, since the proof of a function grows with the texts that it searches."""
     made = [static_of("STACK_PAGES", "The program's page, and those of the commands on stacks.", [it for it in pages if it[0] in ON_STACKS])]
     made.append(static_of("IMAGE_PAGES", "The pages of the commands on images, and of `manual` and `version`.", [it for it in pages if it[0] not in ON_STACKS]))
     return HEAD + "\n".join(made)

@@ -286,9 +286,10 @@ def main():
     attempt(file_system_mounted)
     if not WORDS.no_speed:
         attempt(speed, limit=1200)
-    failed, passed = nbd_served.failed, nbd_served.passed
-    print(f"clients: {passed} passed, {failed} failed" if failed or passed else "clients: nothing is installed that could try it")
-    return 1 if failed else 0
+    if nbd_served.CHECKS.passed or nbd_served.CHECKS.failed:
+        return nbd_served.CHECKS.end("clients")
+    print("clients: nothing is installed that could try it")
+    return 0
 
 
 if __name__ == "__main__":

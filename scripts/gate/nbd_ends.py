@@ -132,7 +132,7 @@ def small_replies():
 
 
 def gone_within(runner):
-    """A client that goes away at each byte of a small reply: the write before it stands whole, the one behind it if it was begun."""
+    """A client that goes away at each byte of a small reply: the write before it is complete, the one after it if it was begun."""
     open("patched", "w").write(PATCHED)
     e, replies = small_replies()
     sent, told = begun_in_chunks(e, True)
@@ -165,11 +165,11 @@ def gone_behind(runner, label, sent, whole, taken, images):
     status = served.wait(60)
     limit.cancel()
     good = found == whole[:taken] and status in (0, 1) and not said
-    runner.count(f"{label} behind {taken} bytes", good and open("F", "rb").read() in images[status == 0 :], f"status {status}, {said[:80]!r}")
+    runner.count(f"{label} after {taken} bytes", good and open("F", "rb").read() in images[status == 0 :], f"status {status}, {said[:80]!r}")
 
 
 def cut_behind(runner, label, sent, whole, taken, after):
-    """No more than so many bytes can be written: the output is a file that may have no more behind the place where it begins."""
+    """No more than so many bytes can be written: the output is a file that may have no more after the offset at which it begins."""
     start = 8 * SECTOR
 
     def limited():
@@ -183,4 +183,4 @@ def cut_behind(runner, label, sent, whole, taken, after):
         out.seek(start)
         found = out.read()
     good = found == whole[:taken] and done.returncode == 1 and not done.stderr
-    runner.count(f"{label} behind {taken} bytes", good and open("F", "rb").read() == after, f"status {done.returncode}, {len(found)} bytes")
+    runner.count(f"{label} after {taken} bytes", good and open("F", "rb").read() == after, f"status {done.returncode}, {len(found)} bytes")

@@ -11,7 +11,7 @@ import sys
 import tempfile
 
 sys.dont_write_bytecode = True
-sys.path.insert(0, os.path.join(os.path.dirname(os.path.realpath(__file__)), "../model"))
+sys.path[:0] = [os.path.join(os.path.dirname(os.path.realpath(__file__)), it) for it in ("../model", "../lib")]
 
 from nbd_ends import ahead, cuts, gone_within  # noqa: E402
 from nbd_failures import failures, forced, refusals  # noqa: E402
@@ -29,8 +29,7 @@ def main():
         os.chdir(room)
         for part in (handshakes, many_exports, transmissions, chunks, gone, contexts, statuses, ignored_blocks, writes, zeroes, long_runs, crypt, cuts, ahead, gone_within, forced, failures, refusals):
             part(runner)
-    print(f"exchanges: {runner.passed} passed, {runner.failed} failed")
-    return 1 if runner.failed or not runner.passed else 0
+    return runner.end("exchanges")
 
 
 if __name__ == "__main__":

@@ -51,7 +51,7 @@ def talks(chunked, failing=None, error=EIO):
 
 
 def forced(runner):
-    """Writes with FUA where each sync fails in turn: the reply is that of an error, and comes behind the write, which stands. The
+    """Writes with FUA where each sync fails in turn: the reply is that of an error, and comes after the write, which stays. The
     device stays failed, though each later sync of the system is good: so do all later replies to such writes, and the end."""
     library = os.path.join(os.getcwd(), "fail.so")
     source = os.path.join(os.path.dirname(os.path.realpath(__file__)), "fail_calls.c")
@@ -90,7 +90,7 @@ def forced(runner):
         failing = [later for _, later in syncs[found - 1 :]]
         wanted = told + b"".join(reply(EIO) if k in failing else it for k, it in enumerate(answers))
         good = done.stdout == wanted and done.returncode == 3 and done.stderr == b"fault 3 Device 3\n" and int(call[2]) == put
-        runner.count(f"sync {found} fails", good, f"status {done.returncode}, {len(done.stdout)} of {len(wanted)} bytes, behind {call[2]} sectors of {put}")
+        runner.count(f"sync {found} fails", good, f"status {done.returncode}, {len(done.stdout)} of {len(wanted)} bytes, after {call[2]} sectors of {put}")
         runner.count(f"sync {found} fails: the image", open("F", "rb").read() == bytes(e.content))
     runner.count("each sync failed", found == len(syncs), f"{found} of {len(syncs)}")
 

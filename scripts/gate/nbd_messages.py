@@ -3,6 +3,8 @@ import os
 import struct
 import subprocess
 
+from checks import Checks
+
 MAGIC, OPTION_MAGIC, REPLY_MAGIC = b"NBDMAGIC", b"IHAVEOPT", 0x3E889045565A9
 REQUEST, SIMPLE_REPLY, CHUNK = 0x25609513, 0x67446698, 0x668E33EF
 EXPORT_NAME, ABORT, LIST, STARTTLS, INFO, GO, STRUCTURED, LIST_META, SET_META, EXTENDED = 1, 2, 3, 5, 6, 7, 8, 9, 10, 11
@@ -244,9 +246,12 @@ def begins_to_differ(found, wanted):
     return len(wanted) if found == wanted else len(os.path.commonprefix([bytes(found), bytes(wanted)]))
 
 
-class Runner:
+class Runner(Checks):
+    """Runs exchanges on the program, and counts those that agree."""
+
     def __init__(self, program):
-        self.program, self.passed, self.failed = program, 0, 0
+        super().__init__()
+        self.program = program
 
     def run(self, label, name, sent, wanted, status=0, after=None, told=b""):
         """The device of that name is served, or each one where there is none. What isn't a reply goes to standard error."""
@@ -267,12 +272,11 @@ class Runner:
             problems.append("the image differs")
         self.count(label, not problems, "; ".join(problems))
 
-    def count(self, label, good, problem="differs"):
-        if good:
-            self.passed += 1
-        else:
-            self.failed += 1
-            print(f"{label}: {problem}")
+    def serve(self, label, words, sent, wanted):
+        """The service with these arguments reads what is sent, and then the end of its input."""
+        done = subprocess.run([self.program, "nbd", *words], input=sent, capture_output=True, timeout=60)
+        at = begins_to_differ(done.stdout, wanted)
+        self.count(label, done.stdout == wanted and done.returncode == 0 and not done.stderr, f"differs at {at} of {len(wanted)}, status {done.returncode}, {done.stderr[:80]!r}")
 
 
 def begun(export, bits=3):

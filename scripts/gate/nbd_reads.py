@@ -4,7 +4,7 @@ import subprocess
 
 from nbd_messages import (
     ACK, BLOCK, CACHE, DF, DISC, EINVAL, EXPORT_NAME, Export, FAST_ZERO, FLUSH, FUA, GO, GREETING, INVALID, LIST, MOST, NO_HOLE, PIECE,
-    READ, REQ_ONE, SECTOR, SERVER, STATUS, STRUCTURED, TRIM, WRITE, ZEROES, asks, begins_to_differ, begun, begun_in_chunks, exports, failed,
+    READ, REQ_ONE, SECTOR, SERVER, STATUS, STRUCTURED, TRIM, WRITE, ZEROES, asks, begun, begun_in_chunks, exports, failed,
     flags, option, option_reply, reply, request,
 )
 
@@ -123,9 +123,7 @@ def large_chunks(runner):
                     cookie = offset ^ length << 32
                     sent += request(READ, offset, length, cookie) + request(READ, offset, length, cookie, bits=DF)
                     wanted += e.chunks(offset, length, cookie) + e.chunks(offset, length, cookie, df=True)
-        served = subprocess.run([runner.program, "nbd", "large", "l", "F=ro:F"], input=sent + request(DISC), capture_output=True, timeout=60)
-        at = begins_to_differ(served.stdout, wanted)
-        runner.count(f"large reads with {lost} lost", served.stdout == wanted and served.returncode == 0 and not served.stderr, f"differs at {at}")
+        runner.serve(f"large reads with {lost} lost", ["large", "l", "F=ro:F"], sent + request(DISC), wanted)
 
 
 def large_holes(runner):
@@ -151,9 +149,7 @@ def large_holes(runner):
                 if offset + length <= len(content):
                     sent += request(READ, offset, length, offset) + request(READ, offset, length, offset, bits=DF)
                     wanted += e.chunks(offset, length, offset) + e.chunks(offset, length, offset, df=True)
-        served = subprocess.run([runner.program, "nbd", "holes", "h", "F=ro:F"], input=sent + request(DISC), capture_output=True, timeout=60)
-        at = begins_to_differ(served.stdout, wanted)
-        runner.count(f"reads of {lines}", served.stdout == wanted and served.returncode == 0 and not served.stderr, f"differs at {at}")
+        runner.serve(f"reads of {lines}", ["holes", "h", "F=ro:F"], sent + request(DISC), wanted)
 
 
 def large_zeros(runner):
@@ -178,9 +174,7 @@ def large_zeros(runner):
                 if 0 < length and offset + length <= size:
                     sent += request(READ, offset, length, offset) + request(READ, offset, length, offset, bits=DF)
                     wanted += e.chunks(offset, length, offset) + e.chunks(offset, length, offset, df=True)
-        served = subprocess.run([runner.program, "nbd", "zeros", "z", "F=ro:F"], input=sent + request(DISC), capture_output=True, timeout=60)
-        at = begins_to_differ(served.stdout, wanted)
-        runner.count(f"reads of zeros in {len(spans)} spans of a file", served.stdout == wanted and served.returncode == 0 and not served.stderr, f"differs at {at}")
+        runner.serve(f"reads of zeros in {len(spans)} spans of a file", ["zeros", "z", "F=ro:F"], sent + request(DISC), wanted)
 
 
 def gone(runner):

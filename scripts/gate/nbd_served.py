@@ -1,4 +1,4 @@
-"""Services that NBD clients are tried with: what is installed of these, what is counted, and sockets with a service behind each."""
+"""Services that NBD clients are tried with: which of these are installed, how many checks passed, and sockets that serve a service."""
 import fcntl
 import os
 import random
@@ -10,7 +10,13 @@ import subprocess
 import sys
 import time
 
-passed = failed = 0
+sys.dont_write_bytecode = True
+sys.path.insert(0, os.path.join(os.path.dirname(os.path.realpath(__file__)), "../lib"))
+
+from checks import Checks  # noqa: E402
+
+CHECKS = Checks()
+say = CHECKS.count
 program = ""
 # Of a part that is tried, and of a command, in seconds.
 LIMIT, WAITED = 400, 300
@@ -18,15 +24,6 @@ LIMIT, WAITED = 400, 300
 
 class Left(Exception):
     """Why a part is left out: something isn't installed, or not allowed."""
-
-
-def say(label, good, more=""):
-    global passed, failed
-    if good:
-        passed += 1
-    else:
-        failed += 1
-        print(f"{label}: differs {more}", flush=True)
 
 
 def run(*words, **options):
@@ -115,7 +112,7 @@ class Served:
             raise Left("no Unix socket can be made")
         self.words = words
         self.path = os.path.join(os.getcwd(), "socket")
-        # The words stand in a file: socat cuts its own at each colon.
+        # The command is in a file: socat splits its arguments at colons.
         script = os.path.join(os.getcwd(), "serve")
         with open(script, "w") as file:
             file.write("#!/bin/sh\nexec " + shlex.join(words) + "\n")

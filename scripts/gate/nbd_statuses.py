@@ -37,8 +37,7 @@ def statuses(runner):
         begins = [offset, *ends[:-1]]
         told = b"".join(struct.pack(">II", end - at, HOLE_AND_ZERO if at // SECTOR % 2 else 0) for at, end in zip(begins, ends))
         wanted += chunk(BLOCK_STATUS, struct.pack(">I", 1) + told)
-    served = subprocess.run([runner.program, "nbd", "many", "m", "R=ramp:1500"], input=sent, capture_output=True, timeout=60)
-    runner.count("many extents", served.stdout == wanted and served.returncode == 0 and not served.stderr)
+    runner.serve("many extents", ["many", "m", "R=ramp:1500"], sent, wanted)
 
 
 def ignored_blocks(runner):
@@ -81,7 +80,7 @@ def ignored_blocks(runner):
 
 
 def shortened(runner, label, e):
-    """The image has lost what stands behind its 100th block by the time of the first request; its zeros are told all the same."""
+    """The image has lost all bytes after its 100th block by the time of the first request; its zeros are reported nevertheless."""
     open("D", "wb").write(e.content)
     sent, told = begun_in_chunks(e, True)
     asked, wanted = b"", b""
@@ -108,7 +107,7 @@ def shortened(runner, label, e):
 
 
 def short_of_memory(runner, label, stack, e):
-    """Each allocation fails in turn: the status is told all the same, as data where there was none for what is read, or is ENOMEM."""
+    """Each allocation fails in turn: the status is reported nevertheless, as data if there was no memory for what is read, or is ENOMEM."""
     library = os.path.join(os.getcwd(), "refuse.so")
     source = os.path.join(os.path.dirname(os.path.realpath(__file__)), "refuse_alloc.c")
     subprocess.run(["cc", "-shared", "-fPIC", "-O2", "-o", library, source, "-ldl"], check=True)
@@ -149,7 +148,4 @@ def ask_statuses(runner, label, stack, e):
             answer = e.status(at, size - at, bool(bits))
             sent, wanted = sent + request(STATUS, at, size - at, bits=bits), wanted + answer
             at += sum(count for count, in struct.iter_unpack(">I4x", answer[24:]))
-    served = subprocess.run([runner.program, "nbd", stack, e.name, "D=ro:D", "H=ro:H"], input=sent + request(READ, 0, 8), capture_output=True, timeout=60)
-    wanted += e.chunks(0, 8)
-    at = begins_to_differ(served.stdout, wanted)
-    runner.count(label, served.stdout == wanted and served.returncode == 0 and not served.stderr, f"differs at {at} of {len(wanted)}, status {served.returncode}, {served.stderr[:80]!r}")
+    runner.serve(label, [stack, e.name, "D=ro:D", "H=ro:H"], sent + request(READ, 0, 8), wanted + e.chunks(0, 8))

@@ -1,6 +1,5 @@
 """Exchanges of the NBD protocol: writes, zeros, and writes through `crypt` lines."""
 import struct
-import subprocess
 
 from cipher import xts_encrypt
 from nbd_messages import (
@@ -81,8 +80,7 @@ def zeroes(runner):
         sent, wanted = begun(Export("f", bytes(size), writable=True))
         sent += request(ZEROES, offset, length) + request(READ, offset, 8) + request(FLUSH)
         wanted += reply() + reply(data=bytes(8)) + reply()
-        served = subprocess.run([runner.program, "nbd", "long", "f", "F=rw:F"], input=sent, capture_output=True, timeout=60)
-        runner.count(f"{length} zeroes at {offset}", served.stdout == wanted and served.returncode == 0 and not served.stderr)
+        runner.serve(f"{length} zeroes at {offset}", ["long", "f", "F=rw:F"], sent, wanted)
         left = b"\xa5" * offset + bytes(length) + b"\xa5" * (size - offset - length)
         runner.count(f"{length} zeroes at {offset}: the image", open("F", "rb").read() == left)
 
@@ -102,13 +100,12 @@ def long_runs(runner):
     sent += request(READ, 0, size) + request(READ, 1, size - 2) + request(FLUSH)
     wanted += e.read(0, size) + e.read(1, size - 2) + reply()
     open("F", "wb").write(before)
-    served = subprocess.run([runner.program, "nbd", "long", "f", "F=rw:F"], input=sent, capture_output=True, timeout=60)
-    runner.count("long runs", served.stdout == wanted and served.returncode == 0 and not served.stderr)
+    runner.serve("long runs", ["long", "f", "F=rw:F"], sent, wanted)
     runner.count("long runs: the image", open("F", "rb").read() == bytes(e.content))
 
 
 def crypt(runner):
-    """What is written through a `crypt` line is read back by another stack, and stands encrypted in the image."""
+    """What is written through a `crypt` line is read back by another stack, and is encrypted in the image."""
     text = "".join(f"{k:02x}" for k in range(64))
     key = bytes.fromhex(text)
     for count in (1, 8):
@@ -126,11 +123,9 @@ def crypt(runner):
             sent += request(ZEROES, offset, length, bits=FUA) + request(READ, 0, 16 * SECTOR)
             wanted += plain.write(offset, bytes(length)) + plain.read(0, 16 * SECTOR)
         label = f"writes through crypt, {count} sectors a unit"
-        served = subprocess.run([runner.program, "nbd", "crypt", "c", "F=rw:F"], input=sent + request(FLUSH), capture_output=True, timeout=60)
-        runner.count(label, served.stdout == wanted + reply() and served.returncode == 0 and not served.stderr)
+        runner.serve(label, ["crypt", "c", "F=rw:F"], sent + request(FLUSH), wanted + reply())
         size = SECTOR * count
         units = [bytes(plain.content[at : at + size]) for at in range(0, 16 * SECTOR, size)]
         runner.count(f"{label}: the image", open("F", "rb").read() == b"".join(xts_encrypt(key, count * k, it) for k, it in enumerate(units)))
         opened, told = begun(Export("b", plain.content))
-        back = subprocess.run([runner.program, "nbd", "back", "b", "F=ro:F"], input=opened + request(READ, 0, 16 * SECTOR), capture_output=True, timeout=60)
-        runner.count(f"{label}: read back", back.stdout == told + plain.read(0, 16 * SECTOR) and back.returncode == 0)
+        runner.serve(f"{label}: read back", ["back", "b", "F=ro:F"], opened + request(READ, 0, 16 * SECTOR), told + plain.read(0, 16 * SECTOR))

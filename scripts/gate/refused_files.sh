@@ -69,7 +69,7 @@ expect 1 'refused 3 HashTooSmall needed 2' format --data-block 512 --hash-block 
 unset LD_PRELOAD
 
 # A sync that fails, and a write of the tree that the system refuses in its middle (as on a full disk): the fault is told, and
-# after the second no superblock stands before the tree.
+# after the second no superblock is before the tree.
 printf '#include <errno.h>\nint fsync(int fd) { errno = EIO; return -1; }\nint fdatasync(int fd) { errno = EIO; return -1; }\n' > sync.c
 cc -shared -fPIC -o sync.so sync.c
 truncate -s $((33 * 512)) data
@@ -82,7 +82,7 @@ limit=$(ulimit -S -f)
 ulimit -S -f 2
 expect 1 'refused 5 Device' format "${sizes[@]}" data made
 ulimit -S -f "$limit"
-if cmp -s -n 1024 made /dev/zero && ! cmp -s -n 2048 made /dev/zero; then passed=$((passed + 1)); else failed=$((failed + 1)) && echo 'a superblock stands before a tree that was not written'; fi
+if cmp -s -n 1024 made /dev/zero && ! cmp -s -n 2048 made /dev/zero; then passed=$((passed + 1)); else failed=$((failed + 1)) && echo 'a superblock is before a tree that was not written'; fi
 export LD_PRELOAD=$room/sync.so
 expect 1 'refused 5 Device' format "${sizes[@]}" data made
 unset LD_PRELOAD
@@ -97,7 +97,7 @@ ulimit -S -f 1
 expect 3 'fault 3 Device 2' write writable_stack a 0 source E=zero:1 D=rw:image
 ulimit -S -f "$limit"
 same 'a sector ahead of a refused write was changed' cmp -n 512 image zeros
-same 'a sector behind a refused write was changed' cmp -i 2560 image zeros
+same 'a sector after a refused write was changed' cmp -i 2560 image zeros
 
 # A sync that fails, of an image that was written; others aren't synced.
 printf 'load a,,,rw,0 4 linear D 1\nwrite a 0 1 ab\nread a 0 1\n' > lines
@@ -122,7 +122,7 @@ expect 1 $'refused 2 Device\ndmstack: OUT failed' copy readable_stack a image D=
 unset LD_PRELOAD
 expect 0 'read 4 lost 0' copy readable_stack a image D=ramp:4
 
-# A full file system, where this one may mount a small one, of two pages. A write is told as the leaf's fault; a format whose
+# A full file system, where this one may mount a small one, of two pages. A failed write is the leaf's fault; a format whose
 # tree finds no room leaves no superblock before it, and so does one for which there is no room at all.
 mkdir full
 if mount -t tmpfs -o size=8k,mode=777 tmpfs full 2> mount_errors; then
@@ -142,7 +142,7 @@ if mount -t tmpfs -o size=8k,mode=777 tmpfs full 2> mount_errors; then
     same 'a tree was written where there was no room' cmp -n 9216 full/made /dev/zero
     rm full/image
     expect 1 'refused 5 Device' format "${sizes[@]}" blocks full/made
-    same 'a superblock stands before a tree that found no room' cmp -n 512 full/made /dev/zero
+    same 'a superblock is before a tree that found no room' cmp -n 512 full/made /dev/zero
     same 'no tree was begun' test -n "$(tr -d '\0' < full/made | head -c 1 | od -A n)"
 else
     echo 'full file system: not tried, since none may be mounted'

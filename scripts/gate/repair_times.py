@@ -1,10 +1,12 @@
 #!/usr/bin/env python3
 """How the time of a repair by parity grows with the image.
 
-repair_times.py PROGRAM: `repair --fec` of an image whose data are all wrong under a good tree. By the processor time of the
-process, the least of three runs, 128 MiB may take seven times what 32 MiB take: four is linear, 5.2 was measured on a machine with
-four cores, and time that grows with the square of the image took nine. The gate runs it alone, since processes beside it fill the
-caches. On a busy machine times vary, so if they take longer more runs are made, in turn, up to nine of each.
+repair_times.py PROGRAM: `repair --fec` of an image whose data are all wrong under a valid tree. By the processor time of the
+process, the least of five runs, 32,768 blocks may take five times what 8,192 blocks take: four is linear, and a linear
+search in place of the binary one for the lost blocks of a round took 8.3. The blocks have 512 bytes, so both images fit into
+the processor's caches and both trees have four levels: the time of a block grows with the levels, since its path is read for
+it, and with reads that miss the caches. On a busy machine times vary, so if they are longer more runs are made, in turn, up
+to fifteen of each.
 """
 
 import os
@@ -14,9 +16,10 @@ import sys
 import tempfile
 
 MEBIBYTE = 1 << 20
-SMALL, LARGE = 32, 128
-MOST = 7
-RUNS, MOST_RUNS = 3, 9
+SMALL, LARGE = 4, 16
+BLOCK = 512
+MOST = 5
+RUNS, MOST_RUNS = 5, 15
 DAMAGED = 3
 
 
@@ -43,7 +46,8 @@ class Image:
         self.size, self.times = size, []
         image, tree, parity = self.files
         fill(image, drawn, size)
-        made = subprocess.run([program, "format", "--grow", "--fec", parity, "--salt", "01", image, tree], capture_output=True, check=True)
+        sizes = ["--data-block", str(BLOCK), "--hash-block", str(BLOCK)]
+        made = subprocess.run([program, "format", *sizes, "--grow", "--fec", parity, "--salt", "01", image, tree], capture_output=True, check=True)
         root = made.stdout.split(b"\n")[0].removeprefix(b"root ").decode()
         fill(image, drawn, size)
         self.words = [program, "repair", "--fec", parity, image, tree, root]
@@ -51,7 +55,7 @@ class Image:
     def repair(self):
         status, time = spent(self.words)
         if status != DAMAGED:
-            sys.exit(f"repair_times: of {self.size} MiB the status is {status}, and {DAMAGED} is wanted")
+            sys.exit(f"repair_times: the status for {self.size} MiB is {status} and not {DAMAGED}")
         self.times.append(time)
 
 

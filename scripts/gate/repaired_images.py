@@ -2,30 +2,26 @@
 """Tries `dmstack repair --fec` on images with parity that veritysetup made and that are damaged at random.
 
 repaired_images.py [--cases N] [--seed S] [PROGRAM]: formats images by veritysetup, with 2 to 24 bytes of parity in a codeword,
-damages blocks of the data, of the tree and of the parity, and repairs them. Of damaged data those blocks must come back whose round
-has no more bad blocks than a codeword has bytes of parity, and whole parity; of a damaged tree over whole data all. No block may hold
+damages blocks of the data, of the tree and of the parity, and repairs them. If data are damaged, those blocks must be restored whose round
+has no more corrupt blocks than a codeword has bytes of parity, and undamaged parity; if only the tree is, all of it. No block may hold
 other bytes than the formatted ones or the damaged ones, --check may change none, and what ends with the status 0 veritysetup must
 verify, its parity too. Where veritysetup isn't installed it says so, and tries nothing (Debian: cryptsetup-bin).
 """
 import argparse
 import os
-import random
 import re
 import shutil
 import subprocess
 import sys
 import tempfile
 
-passed = failed = 0
+sys.dont_write_bytecode = True
+sys.path.insert(0, os.path.join(os.path.dirname(os.path.realpath(__file__)), "../lib"))
 
+from checks import Checks, add_cases, random_cases  # noqa: E402
 
-def say(label, good, more=""):
-    global passed, failed
-    if good:
-        passed += 1
-    else:
-        failed += 1
-        print(f"{label}: not so {more}")
+CHECKS = Checks()
+say = CHECKS.count
 
 
 def run(*words):
@@ -94,7 +90,7 @@ def picked(dice, image):
 
 
 def comes_back(image, bad, turns):
-    """The bad data blocks that parity makes again, where the tree is whole."""
+    """The corrupt data blocks that parity restores if the tree is undamaged."""
     counts = [sum(it % image.rounds == turn for it in bad) for turn in range(image.rounds)]
     return sorted(it for it in bad if counts[it % image.rounds] <= image.roots and it % image.rounds not in turns)
 
@@ -117,11 +113,11 @@ def tried(dice, label):
     if not tree:
         wanted = comes_back(image, bad, turns)
         lines = [f"data {it} parity" for it in wanted]
-        say(f"{label}: {len(wanted)} of {len(bad)} blocks come back", told(printed, "repaired") == lines, printed)
-        say(f"{label}: --check says so", told(looked[1], "repairable") == lines, looked[1])
+        say(f"{label}: {len(wanted)} of {len(bad)} blocks are restored", told(printed, "repaired") == lines, printed)
+        say(f"{label}: --check names them", told(looked[1], "repairable") == lines, looked[1])
         say(f"{label}: the status", status == (0 if len(wanted) == len(bad) else 3), str(status))
     elif not bad:
-        say(f"{label}: the tree is made again", status == 0, printed)
+        say(f"{label}: the tree is reconstructed", status == 0, printed)
 
 
 def told(printed, word):
@@ -144,16 +140,14 @@ def main():
     if not VERITYSETUP:
         print("veritysetup isn't installed")
         return 0
-    for number in range(WORDS.cases):
-        tried(random.Random(WORDS.seed * 1000003 + number), f"case {number} of seed {WORDS.seed}")
-    print(f"repaired images: {passed} passed, {failed} failed")
-    return 1 if failed or not passed else 0
+    for _, dice, label in random_cases(WORDS):
+        tried(dice, label)
+    return CHECKS.end("repaired images")
 
 
 if __name__ == "__main__":
     parser = argparse.ArgumentParser()
-    parser.add_argument("--cases", type=int, default=40)
-    parser.add_argument("--seed", type=int, default=1)
+    add_cases(parser, 40)
     parser.add_argument("program", nargs="?", default=shutil.which("dmstack"))
     WORDS = parser.parse_args()
     PROGRAM = os.path.abspath(WORDS.program)

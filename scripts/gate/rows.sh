@@ -2,7 +2,7 @@
 # Runs each row of tests/rows on the program as LLVM and as Rattle's own compiler build it.
 #
 # rows.sh [--program FILE] [NAME..]: all rows, or those of these names, on both programs or on that file alone. A row is a case
-# as scripts/lib/case.sh says, with the file `stdout`, what is printed and what `after` prints behind it, and `status`, where that
+# as scripts/lib/case.sh says, with the file `stdout`, what is printed and what `after` prints after it, and `status`, where that
 # isn't 0. Standard error stays empty, but for at most three lines where the words are no command.
 #
 # A row of several steps has `steps` in place of `args`, `stdin`, `stdout` and `status`: a transcript as scripts/lib/transcript.sh says.

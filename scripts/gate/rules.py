@@ -2,11 +2,12 @@
 """Checks the rules of the house that nothing else checks, over the sources and the documents.
 
     rules.py          compares what breaks a rule with the list in rules.txt
-    rules.py --list   prints that list as the sources have it; what is new in it stands at the end and lacks a reason
+    rules.py --list   prints that list as the sources have it; new entries are at the end and lack a reason
 
 The rules are: how many clauses and parameters a function has, how long a clause, a body and a file are; that a crate cites of the
 `proofs/` of another one only `proofs/lemmas`; that each lemma is cited, or named for callers by its crate's README; that what the
-documents name in backticks is in the sources, and that their links lead somewhere; that scripts/README.md names each script.
+documents name in backticks is in the sources, and that their links lead somewhere; that scripts/README.md names each script; that
+prose has the terms of the field and not the phrases that scripts/lib/phrases.py replaces.
 
 What breaks one is mended, or listed by name in rules.txt below a line `# REASON`, with its number if the rule counts. What isn't
 listed is refused, and so is what is listed and mended, or has a larger number by now: so the list has what is left to do, and
@@ -21,6 +22,7 @@ sys.dont_write_bytecode = True
 sys.path.insert(0, os.path.join(os.path.dirname(os.path.realpath(__file__)), "../lib"))
 from citations import uncited
 from mentions import broken_links, known_names, unknown_names
+from phrases import replaced_phrases
 from sources import TOP, files_of, functions, text_of
 
 LIST = os.path.join(os.path.dirname(os.path.realpath(__file__)), "rules.txt")
@@ -31,6 +33,7 @@ LIMITS = {
     "parameters": ("parameters", 6),
     "body": ("lines in its body", 40),
     "file": ("lines", 300),
+    "phrases": ("phrases that scripts/lib/phrases.py replaces", 0),
 }
 # Of the others, what is wrong.
 FAULTS = {
@@ -82,10 +85,15 @@ def unnamed_scripts():
             yield path, "-"
 
 
+def phrases():
+    for path, count in replaced_phrases():
+        yield from over("phrases", path, "-", count)
+
+
 def broken():
     """All that breaks a rule: the rule, the file and the name, with the number where the rule counts. The same name twice in a file
     counts once, by its larger number."""
-    found = [it for crate in crates() for it in of_functions(crate)] + [*of_files()]
+    found = [it for crate in crates() for it in of_functions(crate)] + [*of_files()] + [*phrases()]
     found += [(("uncited", *it), None) for it in uncited()]
     found += [(("name", *it), None) for it in unknown_names(known_names())]
     found += [(("link", *it), None) for it in broken_links()]
@@ -119,7 +127,7 @@ def fault_of(entry, count, known):
         return f"{what} {much}: mend it, or list it in rules.txt with a reason"
     if count and count > known[entry][0]:
         return f"{what} has {count} {LIMITS[rule][0]}, and {known[entry][0]} are listed in rules.txt"
-    return "" if known[entry][1] else f"{what}: its line of rules.txt stands below no reason"
+    return "" if known[entry][1] else f"{what}: its line of rules.txt is below no reason"
 
 
 def print_list(found, known):

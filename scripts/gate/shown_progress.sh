@@ -1,6 +1,6 @@
 #!/usr/bin/env bash
 # What `--progress` of the commands on verity images shows: on standard error a line that is written over, at most twice a
-# second, of so many MiB as the data have; on standard output what stands there without it. Of a command that takes no half
+# second, of so many MiB as the data have; on standard output the same as without it. Of a command that takes no half
 # of a second nothing is shown.
 #
 # shellcheck disable=SC2154 # checks.sh sets what is named here

@@ -26,7 +26,7 @@ prints() {
 # met CALL: the call that failed, and how many sectors were read and written until then; or that none did
 met() { [ "$(cut -d ' ' -f 1-3 met 2> /dev/null || echo none)" = "$1" ]; }
 
-# ends LABEL CALL SECTORS STATUS TEXT WORD..: the command ends so, and its last call, of that number, is the sync behind writes of so
+# ends LABEL CALL SECTORS STATUS TEXT WORD..: the command ends so, and its last call, of that number, is the sync after writes of so
 # many sectors.
 ends() {
     local label=$1 call=$2 sectors=$3
@@ -35,7 +35,7 @@ ends() {
     check "$label: what it prints if its sync fails" prints "$call" "$@"
     check "$label: the sync of $sectors sectors, and not $(cat met 2>&1)" met "sync 0 $sectors"
     prints $((call + 1)) "$@" || true
-    check "$label: no call behind it, and not $(cat met 2>&1)" met none
+    check "$label: no call after it, and not $(cat met 2>&1)" met none
 }
 
 printf 'a,,,rw,0 256 linear D 0' > whole

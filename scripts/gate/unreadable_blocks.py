@@ -5,11 +5,10 @@ unreadable_blocks.py [--cases N] [--seed S] [PROGRAM]: formats images by the mod
 of the tree, and has reads of other sectors fail (scripts/gate/unreadable_sectors.c). What `verify --all` prints must be what the model says
 of blocks that can't be read or aren't good. A `repair` by a whole copy must leave the formatted block wherever all hash blocks above
 it can be read, each other one as it was, and print at its end what `verify --all` prints of that; of a round with parity as many blocks come
-back as a codeword has bytes of it. So must `repair --check` of the image as it stands. Where the superblock can't be read each ends so.
+back as a codeword has bytes of it. So must `repair --check` of the image as it is. Where the superblock can't be read each ends so.
 """
 import argparse
 import os
-import random
 import shutil
 import subprocess
 import sys
@@ -17,8 +16,9 @@ import tempfile
 
 sys.dont_write_bytecode = True
 TOP = os.path.dirname(os.path.dirname(os.path.dirname(os.path.realpath(__file__))))
-sys.path.insert(0, f"{TOP}/scripts/model")
+sys.path[:0] = [f"{TOP}/scripts/model", f"{TOP}/scripts/lib"]
 
+from checks import Checks, add_cases, random_cases  # noqa: E402
 from images import told_survey  # noqa: E402
 from parity import covered, parity_of, rounds_of  # noqa: E402
 from verity import format_images, read_superblock, survey  # noqa: E402
@@ -177,32 +177,25 @@ class ParityCase(Case):
 
 
 def main():
-    passed = failed = 0
+    checks = Checks()
     built = tempfile.mkdtemp(prefix="unreadable.")
     place = tempfile.mkdtemp(prefix="unreadable.", dir="/dev/shm" if os.path.isdir("/dev/shm") else None)
     try:
         library = f"{built}/unreadable.so"
         source = f"{TOP}/scripts/gate/unreadable_sectors.c"
         subprocess.run(["cc", "-shared", "-fPIC", "-O2", "-o", library, source, "-ldl"], check=True)
-        for number in range(WORDS.cases):
-            try:
-                kind = ParityCase if number % 4 == 3 else Case
-                kind(random.Random(WORDS.seed * 1000003 + number), place, library).tried()
-                passed += 1
-            except Wrong as wrong:
-                print(f"case {number} of seed {WORDS.seed}: {wrong}", flush=True)
-                failed += 1
+        for number, dice, label in random_cases(WORDS):
+            kind = ParityCase if number % 4 == 3 else Case
+            checks.attempt(label, Wrong, kind(dice, place, library).tried)
     finally:
         shutil.rmtree(place, ignore_errors=True)
         shutil.rmtree(built, ignore_errors=True)
-    print(f"unreadable blocks: {passed} passed, {failed} failed")
-    return 1 if failed or not passed else 0
+    return checks.end("unreadable blocks")
 
 
 if __name__ == "__main__":
     parser = argparse.ArgumentParser()
-    parser.add_argument("--cases", type=int, default=40)
-    parser.add_argument("--seed", type=int, default=1)
+    add_cases(parser, 40)
     parser.add_argument("program", nargs="?")
     WORDS = parser.parse_args()
     if not WORDS.program:

@@ -3,7 +3,7 @@
 
 build.py [CPU]: the program for that processor, as x86-64-v3, which has AVX2; else for the kit's default.
 
-What stands in the crates' out/ is used where it still holds, as by `rt run`. Says on standard error how far it is, and
+Libraries in the crates' out/ are used if they are still valid, as by `rt run`. Reports progress on standard error, and
 shows what rt said of a crate that isn't proved.
 """
 import os
@@ -74,7 +74,7 @@ class Build:
         return True
 
     def break_silence(self):
-        """Says what is still being proved, where nothing was told for a while."""
+        """Prints what is still being proved, if nothing was printed for a while."""
         while True:
             if not TOLD.wait(SILENCE) and self.running:
                 tell("still proving " + ", ".join(f"{name} ({since(start)})" for name, start in [*self.running.items()]))

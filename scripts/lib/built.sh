@@ -1,6 +1,6 @@
 #!/usr/bin/env bash
 # Builds what scripts run and what isn't built yet: `built.sh dmstack` the program, `built.sh dmstack.by-rattle` also the
-# program as Rattle's own compiler builds it. What stands in out/ is taken as it is where GATE_BUILT is set, as `rt ci` has
+# program as Rattle's own compiler builds it. If GATE_BUILT is set, out/ is used as it is, as `rt ci` has
 # just made it.
 set -eu
 top=$(dirname "$(dirname "$(dirname "$(readlink -f "$0")")")")

@@ -1,7 +1,7 @@
 # shellcheck shell=bash disable=SC2154,SC2034
 # Which sources a program was made from; read by dmstack and prove, which set `top` and `rt`.
 #
-# A record holds the sum of the sources, the program's size and time, and the sources' sizes and times: it stands where none of
+# A record holds the sum of the sources, the program's size and time, and the sources' sizes and times: it is valid if none of
 # these has changed, and where only the sources' times have, as after a checkout, the sum decides.
 
 # The processor that it is built for, where it isn't the kit's default: digests go three times as fast with AVX2.
@@ -32,7 +32,7 @@ program_state() {
     find "$1" -type f -perm -u+x -printf '%s %T@\n' 2> /dev/null || :
 }
 
-# stands PROGRAM: whether it was made from the sources as they are.
+# stands PROGRAM: whether it was made from the present sources.
 stands() {
     local record=() now
     [ -e "$1.from" ] || return 1
@@ -41,7 +41,7 @@ stands() {
     [ "${record[1]-}" = "$(program_state "$1")" ] || return 1
     [ "${record[2]-}" != "$now" ] || return 0
     [ "${record[0]-}" = "$(sum)" ] || return 1
-    # It stands all the same where the record can't be written.
+    # It is valid even if the record can't be written.
     keep_record "$1" "${record[0]}" "$now" 2> /dev/null || :
 }
 

@@ -2,8 +2,8 @@
 
 A name of a file of proofs/, but for those that answer goals (Answers, Invariants, Proof), is cited where an answer, a
 definition of specs/, an attribute of a source (`using(crate::proofs::M::name)`), a mutation or another cited name of
-proofs/ names it: in its own file, or in a file that imports it from there. What is only imported isn't cited. Worked
-rows, which are there to be computed, and laws of proofs/lemmas that the crate's README names for callers need no citation.
+proofs/ names it: in its own file, or in a file that imports it from there. What is only imported isn't cited. Examples
+(test vectors) and laws of proofs/lemmas that the crate's README names for callers need no citation.
 """
 import glob
 import os
@@ -27,7 +27,7 @@ def is_lemma(path):
 
 
 class File:
-    """What each block of a file names, by the block's own name, and where the names that it imports stand."""
+    """What each block of a file names, by the block's own name, and the modules of the names that it imports."""
 
     def __init__(self, path):
         self.blocks, self.imports, self.modules = {}, {}, {}

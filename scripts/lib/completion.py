@@ -31,7 +31,7 @@ _dmstack() {{
     esac
     case $word in
     -*) mapfile -t COMPREPLY < <(compgen -W "$options" -- "$word") ;;
-    # A binding's words are cut at `=` and `:`: behind `=` stands its kind, behind `:` a file.
+    # A binding's words are cut at `=` and `:`: after `=` comes its kind, after `:` a file.
     =) mapfile -t COMPREPLY < <(compgen -W '{bindings}' -- '') ;;
     :) mapfile -t COMPREPLY < <(compgen -f -- '') ;;
     *)

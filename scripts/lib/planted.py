@@ -1,4 +1,4 @@
-"""Planted bugs, and the functions of a source file in which they stand."""
+"""Mutations, and the functions of a source file that they change."""
 import glob
 import json
 import os
@@ -8,13 +8,13 @@ from dataclasses import dataclass
 from kit import TOP, texts_of_edit, tokens
 
 
-# Where the planted bugs of a crate lie: its main promise and those of the gate, and all others.
+# The folders of a crate's mutations: those of its main promise and of the gate, and all others.
 FOLDERS = ("must-fail", "edits")
 
 
 @dataclass
 class Function:
-    """A function of a source file: where it stands in bytes, and what a check calls it."""
+    """A function of a source file: its range in bytes, and what a check calls it."""
 
     pattern: str
     only: str
@@ -46,7 +46,7 @@ class Function:
 
 @dataclass
 class Edit:
-    """A planted bug; `function` is None where it isn't one function's body that it changes."""
+    """A mutation; `function` is None if it doesn't change the body of one function."""
 
     file: str
     path: str = ""
@@ -64,7 +64,7 @@ class Edit:
 
 
 def edit_file(bug):
-    """The file of a planted bug CRATE/NAME, in whichever of the crate's two folders it lies."""
+    """The file of a mutation CRATE/NAME, in whichever of the crate's two folders it lies."""
     crate, name = bug.split("/")
     files = [f"{TOP}/crates/{crate}/{it}/{name}.edit" for it in FOLDERS]
     return next((it for it in files if os.path.isfile(it)), files[0])
@@ -75,7 +75,7 @@ def camel(path):
 
 
 def skip_angles(code, at):
-    """The index behind the angle brackets that open at `at`."""
+    """The index after the angle brackets that open at `at`."""
     depth = 0
     while at < len(code):
         word = code[at][2]
@@ -87,7 +87,7 @@ def skip_angles(code, at):
 
 
 def path_at(code, at):
-    """The names of the path at `at`, whether it has arguments, the names of its first argument, and the index behind it."""
+    """The names of the path at `at`, whether it has arguments, the names of its first argument, and the index after it."""
     names, argument = [], []
     while at < len(code):
         word = code[at][2]

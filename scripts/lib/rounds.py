@@ -1,4 +1,4 @@
-"""Tries the planted bugs of one crate, many in one check."""
+"""Tries the mutations of one crate, many in one check."""
 import re
 import resource
 from dataclasses import dataclass, field
@@ -38,7 +38,7 @@ class Trial:
         self.below = {f.pattern: {g.pattern for g in functions if g.proof() in below.get(f.proof(), ())} for f in functions}
 
     def plant(self, edits):
-        """The texts of the files with these edits, and the lines at which each edit's function stands in them."""
+        """The texts of the files with these edits, and the lines of each edit's function in them."""
         texts, rows = {}, {}
         for path in {it.path for it in edits}:
             with open(f"{self.crate.folder}/{path}", "rb") as it:

@@ -55,7 +55,7 @@ class Function:
 
 
 def parts_of(text):
-    """The parts of a list of types, cut at the commas that stand in no brackets."""
+    """The parts of a list of types, split at the commas outside of brackets."""
     parts, depth = [""], 0
     for letter in text:
         depth += (letter in "<([") - (letter in ">)]")
@@ -82,7 +82,7 @@ def files_of(crate):
 
 
 def functions(path):
-    """The functions of a file, but for those of its tests. One is handed out with its name; once the next one is, it is whole."""
+    """The functions of a file, but for those of its tests. One is yielded with its name; it is complete once the next one is yielded."""
     kind, owner, made, is_head, end, clause = "", "", None, False, None, ""
     for line in text_of(path).split("\n"):
         if end is not None:

@@ -1,7 +1,7 @@
 # shellcheck shell=bash
 # The form of a transcript, for scripts that run one and source this.
 #
-# A line `$ COMMAND` is a command line for bash; the lines `> LINE` behind it are its input; the other lines up to the next
+# A line `$ COMMAND` is a command line for bash; the lines `> LINE` after it are its input; the other lines up to the next
 # `$ ` are what it prints. Empty lines and lines that begin with `# ` say nothing. In a document a transcript is indented, a
 # line that isn't ends the step, and `dmstack session WORDS` begins one too, on ./dmstack.
 

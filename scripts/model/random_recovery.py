@@ -7,7 +7,7 @@ from tables import PREFIX
 
 class Recoveries(Sessions):
     def recovery_runs(self, session, stack, words):
-        """A device of this stack, or one of a stack of its own, is gone over once or twice."""
+        """A device of this stack, or one of a stack of its own, is scanned once or twice."""
         if self.chance(0.8):
             words = self.bindings()
             for _ in range(3):

@@ -1,6 +1,6 @@
 """A damaged verity image, whose blocks are sought in copies of it from the root down.
 
-A hash block that no copy has is made again of the blocks beneath it; where there is parity, what is lost is made of it."""
+A hash block that no copy has is reconstructed from the blocks beneath it; if there is parity, what is lost is restored by it."""
 
 from images import check_aligned, surveyed, told_root
 from parity import covered, made_again

@@ -1,7 +1,7 @@
-"""One program that holds many planted bugs, each behind a number that is put into the program's file afterwards.
+"""One program that holds many mutations, chosen by a number that is written into the program's file afterwards.
 
-A function that bugs change has its old body and theirs side by side, and chooses by what `planted_bug` returns. Nothing is
-optimised, so this number stands in the file as it is.
+A function that mutations change has its old body and theirs side by side, and chooses by what `planted_bug` returns. Nothing
+is optimised, so the file holds this number unchanged.
 """
 import os
 

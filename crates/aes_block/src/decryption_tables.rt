@@ -1,5 +1,5 @@
 //! What a byte of the state adds to its column in a round of the inverse cipher: InvMixColumns (FIPS 197, 5.3.3) of
-//! the column that has the byte's image under InvSubBytes (5.3.2) in the byte's row, and else 0. Row r stands in bits
+//! the column that has the byte's image under InvSubBytes (5.3.2) in the byte's row, and else 0. Row r is in bits
 //! 8r to 8r + 7.
 
 /// Of a byte in row 0.

@@ -1,5 +1,5 @@
 //! What a byte of the state adds to its column in a round of the cipher: MixColumns (FIPS 197, 5.1.3) of the column
-//! that has the byte's image under SubBytes (5.1.1) in the byte's row, and else 0. Row r stands in bits 8r to 8r + 7.
+//! that has the byte's image under SubBytes (5.1.1) in the byte's row, and else 0. Row r is in bits 8r to 8r + 7.
 
 /// Of a byte in row 0.
 pub static ENCRYPTION_0: [u32; 256] = [

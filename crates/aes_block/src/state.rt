@@ -6,7 +6,7 @@ ghost use Rattle.aes_block.specs.Rounds.{unmixed_byte, inv_mix_columns};
 
 use crate::field::multiply;
 
-/// Four rows and four columns of bytes: byte i stands in row i % 4 and column i / 4.
+/// Four rows and four columns of bytes: byte i is in row i % 4 and column i / 4.
 pub type State = [u8; 16];
 
 fn byte_at(state: &State, row: usize, column: usize) -> u8

@@ -1,7 +1,7 @@
 //! MixColumns and its inverse (FIPS 197, 5.1.3 and 5.3.3) on planes.
 //!
-//! No round but the last moves a row: the state is some ShiftRows ahead of how it stands in the planes, `shifts` of them, and
-//! a column is gathered from where its bytes stand then.
+//! No round but the last moves a row: the state is some ShiftRows ahead of its layout in the planes, `shifts` of them, and
+//! a column is gathered from the lanes in which its bytes then are.
 
 ghost use Rattle.std.specs.Prelude.{◌≡◌, ℕ, ◌<◌, length, slice_index};
 ghost use Rattle.aes_block.specs.Field.{xtimes};

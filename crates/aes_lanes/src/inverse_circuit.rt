@@ -87,7 +87,7 @@ fn inverse_substituted(products: &[u8x32; 18]) -> Planes
     [s0, s1, s2, s3, s4, s5, s6, s7]
 }
 
-// InvSubBytes (5.3.2) of a state that stands in the planes with the constant of SubBytes added.
+// InvSubBytes (5.3.2) of a state whose planes have the constant of SubBytes added.
 #[inline(always)]
 pub(crate) fn inv_sub_bytes_with_constant(q: &Planes) -> Planes
     requires { ArePlanes q.now }

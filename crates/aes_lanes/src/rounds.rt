@@ -1,6 +1,6 @@
 //! The rounds of the cipher and of its inverse (FIPS 197, 5.1 and 5.3) on planes.
 //!
-//! A state is some ShiftRows ahead of how it stands in the planes: each round is one more (or, back, one less), and nothing is
+//! A state is some ShiftRows ahead of its layout in the planes: each round is one more (or, back, one less), and nothing is
 //! moved for it. Four of them are none. The constant of SubBytes is added with the round keys.
 
 ghost use Rattle.std.specs.Prelude.{◌≡◌, ℕ, ◌+◌, ◌%◌, ◌<◌, List};
@@ -28,7 +28,7 @@ pub(crate) fn round(q: &Planes, key: &Planes, shifts: usize) -> Planes
     add_round_key(&mixed, key)
 }
 
-// The last round, which has no MixColumns, of a state that is one ShiftRows ahead. Its planes are the blocks as they stand.
+// The last round, which has no MixColumns, of a state that is one ShiftRows ahead. Its planes are those of the blocks.
 #[inline(always)]
 pub(crate) fn last_round(q: &Planes, key: &Planes) -> Planes
     requires { ArePlanes q.now }

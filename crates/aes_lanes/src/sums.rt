@@ -32,7 +32,7 @@ pub(crate) fn add(a: &Planes, b: &Planes) -> Planes
     [s0, s1, s2, s3, s4, s5, s6, s7]
 }
 
-// AddRoundKey (5.1.4) of a state and a round key that are equally many ShiftRows ahead of how they stand in the planes.
+// AddRoundKey (5.1.4) of a state and a round key that are equally many ShiftRows ahead of their layout in the planes.
 #[inline(always)]
 pub(crate) fn add_round_key(q: &Planes, key: &Planes) -> Planes
     ensures planes { ArePlanes result }

@@ -10,4 +10,4 @@ mod vectors;
 pub use maps::insert;
 pub use out_of_memory::OutOfMemory;
 pub use texts::{joined, number, push_char, push_text};
-pub use vectors::{append, copied, filled, join, push, reserve, resize, with_capacity, zeros};
+pub use vectors::{append, copied, filled, push, reserve, resize, with_capacity, zeros};

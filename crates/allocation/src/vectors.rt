@@ -55,24 +55,6 @@ pub fn reserve<T>(v: &mut Vec<T>, more: usize) -> Result<(), OutOfMemory>
     }
 }
 
-/// Moves the elements of another vector to the end.
-///
-/// # Errors
-///
-/// `OutOfMemory` if they didn't fit and the allocator refused room for them; both vectors keep their elements.
-pub fn join<T>(v: &mut Vec<T>, more: &mut Vec<T>) -> Result<(), OutOfMemory>
-    ensures ok { OnOk result (v.new.items ≡ v.old.items ++ more.old.items) }
-    ensures same { OnErr result ((v.new.items ≡ v.old.items) × (more.new.items ≡ more.old.items)) }
-    ensures err { IfErr result (WasRefused (length more.old.items)) }
-    ensures sure { vec_len v.old + vec_len more.old ≤ vec_capacity v.old → IsOk result }
-{
-    let count = more.len();
-    match v.append(more) {
-        Ok(()) => Ok(()),
-        Err(_) => Err(refused(count)),
-    }
-}
-
 /// Appends copies of elements.
 ///
 /// # Errors

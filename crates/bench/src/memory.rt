@@ -1,4 +1,4 @@
-//! Calls that no command makes, each made again where it had no memory: `scripts/gate/refuse_memory.sh` refuses their allocations.
+//! Calls that no command makes, each repeated if it runs out of memory: `scripts/gate/refuse_memory.sh` refuses their allocations.
 ghost use Rattle.std.specs.Prelude.{◌≡◌};
 
 use anyhow::{Context, Result, bail};

@@ -19,7 +19,7 @@ pub enum AnyDev {
 }
 
 impl AnyDev {
-    /// Which file it is, where it is one and the runtime tells it.
+    /// Returns the identity of its file, or `None` if it isn't a file or the runtime reports none.
     pub fn id(&self) -> Option<FileId>
         ensures { result ≡ any_id self.now }
     {

@@ -55,11 +55,11 @@ pub trait BlockDev {
         ensures sure { IsTrue (state self.old).never_fails → IsOk result }
         ensures fault { OnErr result (DeviceFails state self.old self.new) };
 
-    /// How many sectors reads have asked for, in failed calls too.
+    /// Returns how many sectors reads have requested, including failed calls.
     fn reads(&self) -> u64
         ensures { result ≡ (state self.now).reads };
 
-    /// How many sectors writes have asked for, in failed calls too.
+    /// Returns how many sectors writes have requested, including failed calls.
     fn writes(&self) -> u64
         ensures { result ≡ (state self.now).writes };
 

@@ -8,9 +8,9 @@ ghost use Rattle.block_device.specs.Failing.{failing};
 
 use crate::{BlockDev, DeviceFault, SyncDev};
 
-/// One chosen call of read, write or sync fails: it counts one failure and the sectors asked for, and the inner
-/// device isn't asked. Every other call is passed on, and does what the trait promises of the inner device: also
-/// where that one isn't steady, a read gives bytes that a read of it may give.
+/// One chosen call of read, write or sync fails: it counts one failure and the requested sectors, and the inner
+/// device isn't called. Every other call is passed on, and does what the trait promises for the inner device; if that
+/// device isn't steady, a read returns bytes that a read of it may return.
 #[derive(Drop)]
 pub struct FailAt<D> {
     /// The device that all other calls go to.

@@ -77,7 +77,7 @@ impl FileDev {
         Ok(device_of(file, &metadata, sectors, writable))
     }
 
-    /// Which file it is, where the runtime tells it, and `None` where it doesn't. It never changes.
+    /// Returns the identity of its file, or `None` if the runtime reports none. It never changes.
     pub fn id(&self) -> Option<FileId>
         ensures { result ≡ file_id self.now }
     {
@@ -121,7 +121,7 @@ fn is_image(metadata: &Metadata) -> bool
     metadata.is_file() || is_block_device(metadata)
 }
 
-// How many bytes stand before the end of what can be sought in.
+// Returns the number of bytes before the end of a seekable file.
 fn end_of<S: Seek>(file: &mut S) -> Result<u64, OpenFault>
     ensures { IfSome (S.stream_position file.old) (λ at. IfSome (S.stream_bytes file.old) (λ bytes. IfOk result (λ n. n ≡ length bytes))) }
 {

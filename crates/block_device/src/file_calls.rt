@@ -10,8 +10,8 @@ use std::fs::{File, Metadata, OpenFile, OpenOptions};
 use std::os::unix::fs::{FileExt, MetadataExt};
 use std::rt::Files;
 
-/// The numbers by which the system tells files apart: of the device that holds the file's file system, of the file there, and
-/// of the block device that the file is. The ones that the system doesn't tell are 0.
+/// The numbers by which the system distinguishes files: of the device that holds the file's file system, of the file there, and
+/// of the block device that the file is. A number that the system doesn't report is 0.
 #[derive(Clone, Copy, Debug, PartialEq, Eq)]
 pub struct FileNumbers {
     pub device: u64,

@@ -9,9 +9,9 @@ ghost use Rattle.block_device.specs.Whole.{whole_zeros};
 use crate::{BlockDev, DeviceFault, SyncDev};
 use std::marker::Model;
 
-/// Its i-th read gives the i-th answer, cut or filled with zeros to the length asked for, and zeros after
-/// the last, wherever it is read. It isn't writable and not steady, and no read fails. A write, which no caller
-/// by the trait may ask for, answers a fault, counts nothing and changes nothing.
+/// Its i-th read returns the i-th answer, cut or filled with zeros to the requested length, and zeros after
+/// the last, at any sector. It is neither writable nor steady, and no read fails. A write, which no caller of
+/// the trait may make, returns a fault, counts nothing and changes nothing.
 #[derive(Drop)]
 pub struct ScriptDev {
     sectors: u64,
@@ -100,8 +100,8 @@ impl BlockDev for ScriptDev {
         Ok(())
     }
 
-    // The device isn't writable, so no caller by the trait gets here: what the trait asks can't hold. These
-    // clauses ask nothing, since a contract that no call can meet is refused.
+    // The device isn't writable, so no caller of the trait gets here: the trait's requirements can't hold. These
+    // clauses require nothing, since a contract that no call can meet is refused.
     fn write(&mut self, _first: u64, _bytes: &[u8]) -> Result<(), DeviceFault>
         ensures refused { IsErr result }
         ensures same { self.new ≡ self.old }

@@ -11,6 +11,7 @@ any_relations = record {
   takes_part = λ old path part device new. Unit {0};
   grows = λ old path sectors outcome new. Unit {0};
   measures = λ old path outcome new. Unit {0};
+  compares = λ old path other outcome new. Unit {0};
   replaces = λ old path bytes outcome new. Unit {0};
   tries = λ old path outcome new. Unit {0};
 }

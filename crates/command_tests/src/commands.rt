@@ -123,7 +123,7 @@ const REPAIR: Row = Row {
 
 static ROWS: [Row; 31] = [
     WRITE,
-    // The write fails, and then the sync: what was written is given back.
+    // The write fails, and then the sync: the image has what was written.
     Row {
         call: 1,
         status: 3,

@@ -60,6 +60,10 @@ impl Images for FailingImages {
         self.images.has_part_sector(path)
     }
 
+    fn is_one_place(&mut self, path: &str, other: &str) -> Result<bool, OpenFault> {
+        self.images.is_one_place(path, other)
+    }
+
     fn replace(&mut self, path: &str, bytes: &[u8]) -> Result<(), ReplaceFault> {
         self.images.replace(path, bytes)
     }

@@ -1,4 +1,4 @@
-//! A reader or a writer that counts its reads, remembers a failure, and knows what it still has to hand on.
+//! A reader or a writer that counts its reads, remembers a failure, and knows what it has yet to flush.
 ghost use Rattle.std.specs.Prelude.{◌≡◌, ◌+◌, min, true, false, IsOk, IfSome};
 ghost use Rattle.std.specs.Io.{ReadsAtMost};
 ghost use Rattle.std.specs.Io.KnownBytes.{ReadConsumes, Appends, Keeps};
@@ -74,7 +74,7 @@ impl<T> Counted<T> {
 }
 
 impl<R: Read> Counted<R> {
-    /// One read. A call that was interrupted is no failure: it may be made again.
+    /// Reads once. An interrupted call is no failure: it may be repeated.
     pub fn read(&mut self, buffer: &mut [u8]) -> io::Result<usize>
         ensures bound { ReadsAtMost result buffer.new }
         ensures bytes { ReadConsumes (R.remaining self.old.inner) (R.remaining self.new.inner) result buffer.new }
@@ -116,7 +116,7 @@ impl<W: Write> Counted<W> {
         self.ended(outcome)
     }
 
-    /// Hands on what a buffer keeps back.
+    /// Flushes the writer.
     pub fn flush(&mut self) -> Result<(), WriteFault>
         ensures { Writing self.old self.new result (Keeps (W.contents self.old.inner) (W.contents self.new.inner) × (self.new.pending ≡ false)) }
     {

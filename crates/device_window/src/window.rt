@@ -57,7 +57,7 @@ impl<D: BlockDev, K: Beside> Window<D, K> {
         }
     }
 
-    /// What lies on the device before that sector, which may be behind its end.
+    /// Returns the window of the device before that sector, which may be past its end.
     pub fn before(inner: D, end: u64) -> Window<D, K>
         requires { ForSome K.outside (StandOutside (D.state inner) (part_before (D.state inner) end)) }
         ensures inner { result.inner ≡ inner }
@@ -71,7 +71,7 @@ impl<D: BlockDev, K: Beside> Window<D, K> {
         }
     }
 
-    /// The whole device again. What stands outside of the part is what stood there.
+    /// Returns the whole device. Its sectors outside of the part are unchanged.
     pub fn into_inner(self) -> D
         ensures value { result ≡ self.inner }
         ensures kept { ForSome K.outside (StandOutside (D.state result) self.part) }
@@ -123,7 +123,7 @@ impl<D: BlockDev, K: Beside> BlockDev for Window<D, K> {
         ensures sure { IsTrue (⟦<Window<D, K> as BlockDev>⟧.state self.old).never_fails → IsOk result }
         ensures fault { OnErr result (DeviceFails ⟦<Window<D, K> as BlockDev>⟧.state self.old self.new) }
 
-        // It is one of the whole device, that far behind the part's first sector.
+        // It is one call of the whole device, that far after the part's first sector.
         ensures inner { ReadsInner D.state self.old.inner self.new.inner (self.old.part.first + first) out.old out.new (is_ok result) }
         ensures part { self.new.part ≡ self.old.part }
     {
@@ -139,7 +139,7 @@ impl<D: BlockDev, K: Beside> BlockDev for Window<D, K> {
         ensures sure { IsTrue (⟦<Window<D, K> as BlockDev>⟧.state self.old).never_fails → IsOk result }
         ensures fault { OnErr result (DeviceFails ⟦<Window<D, K> as BlockDev>⟧.state self.old self.new) }
 
-        // It is one of the whole device, that far behind the part's first sector.
+        // It is one call of the whole device, that far after the part's first sector.
         ensures inner { WritesInner D.state self.old.inner self.new.inner (self.old.part.first + first) bytes.now (is_ok result) }
         ensures part { self.new.part ≡ self.old.part }
     {

@@ -11,22 +11,22 @@ ghost use Rattle.differing_device.specs.Differing.{differing};
 use crate::put::put_blocks;
 use block_device::{BlockDev, DeviceFault, SyncDev};
 
-/// Before a block of 4,096 bytes is written it is read, and what stands there already isn't written again. So what is
-/// sparse stays so, and the same bytes written twice are written once. It counts what it is asked for, and its device
-/// what it does.
+/// Before a block of 4,096 bytes is written it is read, and sectors that already have the content aren't written. So a
+/// sparse file stays sparse, and the same bytes written twice are written once. It counts requested sectors, while its
+/// device counts those that are read and written.
 #[derive(Drop)]
 pub struct Differing<D> {
     /// The device that is compared with.
     pub inner: D,
-    /// What was asked for, in sectors.
+    /// The requested sectors.
     pub reads: u64,
     pub writes: u64,
-    /// A write was asked for since the last sync that ended well.
+    /// A write was requested since the last successful sync.
     pub dirty: bool,
 }
 
 impl<D> Differing<D> {
-    /// Nothing was asked for so far.
+    /// Makes a device to which no request was made yet.
     pub fn new(inner: D) -> Differing<D>
         ensures { result ≡ record { inner = inner; reads = 0; writes = 0; dirty = false } }
     {
@@ -72,7 +72,7 @@ impl<D: BlockDev> BlockDev for Differing<D> {
         ensures sure { IsTrue (⟦<Differing<D> as BlockDev>⟧.state self.old).never_fails → IsOk result }
         ensures fault { OnErr result (DeviceFails ⟦<Differing<D> as BlockDev>⟧.state self.old self.new) }
 
-        // What stands there already isn't written again.
+        // Equal sectors aren't written.
         ensures same { OnOk result (LeavesStanding D.state self.old.inner self.new.inner first bytes.now) }
     {
         self.writes = self.writes.saturating_add(bytes.len() as u64 / 512);

@@ -1,8 +1,8 @@
 //! The law of restored blocks: a function that does nothing, whose contract is the law.
 ghost use Rattle.fec_area.specs.Restoring.{LostBlocksComeBack};
 
-/// What is made again by the parity of an image that was whole, where all blocks that aren't known as lost are as they
-/// were, is that image's block.
+/// A block restored by the parity of an undamaged image, while all blocks that aren't known as lost are as they were,
+/// is that image's block.
 pub fn lost_blocks_come_back()
     ensures { LostBlocksComeBack }
 {}

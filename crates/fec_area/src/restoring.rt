@@ -1,4 +1,4 @@
-//! A lost block, made again from the other blocks of its round and the parity.
+//! A lost block, restored from the other blocks of its round and the parity.
 ghost use Rattle.std.specs.Prelude.{◌≡◌, ◌<◌, ◌≤◌, ◌/◌, IfErr, IfOk, IsOk, OnErr, OnOk, is_ok, length};
 ghost use Rattle.allocation.specs.Asked.{WasRefused};
 ghost use Rattle.verity_format.specs.Blocks.{IsOnlyRead};

@@ -1,9 +1,6 @@
 -- Commands that end early.
-use Rattle.std.proofs.Common.{◌≡◌, ℕ, Bool, List, Option, Result, Ok, Err, inl, inr, refl, sym, subst}
+use Rattle.std.proofs.Common.{◌≡◌, ℕ, List, Option, Result, Ok, Err, refl, sym, subst}
 use Rattle.std.specs.Prelude.{IfErr, IsErrAnd}
-use Rattle.command_line.specs.FecFiles.{FecRecord}
-use Rattle.image_files.specs.Opener.{Calls}
-use Rattle.image_commands.specs.Places.{TwoPlaces}
 use Rattle.image_commands.proofs.lemmas.EndingLemmas.{quiet as image-quiet}
 use Rattle.verity_commands.specs.declared.fault.VerityFault.{VerityFault}
 use Rattle.verity_commands.specs.declared.fault.VerityFault.TheVariants as verity
@@ -12,7 +9,7 @@ use Rattle.command_line.specs.declared.fault.WordsFault.TheVariants as words
 use Rattle.verity_commands.specs.Endings.{IsUnsaid, IsVerityQuiet, words_ending}
 use Rattle.fec_commands.specs.declared.fault.FecFault.{FecFault}
 use Rattle.fec_commands.specs.declared.fault.FecFault.TheVariants as fec
-use Rattle.fec_commands.specs.Checking.{IsCheckEnd, IsCompareEnd, IsFecQuiet}
+use Rattle.fec_commands.specs.Verifying.{IsFecQuiet}
 
 pub verity-quiet : (fault : VerityFault) (bytes : Option (List ℕ)) → IsVerityQuiet fault bytes bytes
 verity-quiet verity.Usage bytes = refl
@@ -32,11 +29,6 @@ err-from (Err e) P fault is holds = subst P (sym is) holds
 -- what holds of a result's fault, where that is known
 pub at-fault : {T E : Type 0} (r : Result T E) (P : E → Type 0) (fault : E) → r ≡ Err fault → IfErr r P → P fault
 at-fault {T} {E} r P fault is holds = subst (λ (x : Result T E). IfErr x P) is holds
-
--- where nothing is printed a command ends as it may end at all
-pub compare-as : {S D : Type 0} {w : Calls S D} {places : TwoPlaces} {fec : FecRecord} {failed : Bool} {fault : FecFault} → IsCompareEnd w places fec fault → IsCheckEnd w places fec failed fault
-compare-as (inl unopened) = inl unopened
-compare-as (inr unchecked) = inr (inl unchecked)
 
 -- words that say no value, and memory that ran out while they were read
 pub unsaid : (fault : WordsFault) → IsUnsaid (words_ending fault)

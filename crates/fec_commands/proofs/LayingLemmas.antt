@@ -1,5 +1,5 @@
 -- Layouts on devices, and windows of devices that are the same.
-use Rattle.std.proofs.Common.{◌≡◌, ℕ, ◌+◌, ◌*◌, ◌/◌, ◌≤◌, ap, subst, ◌∙◌, arith}
+use Rattle.std.proofs.Common.{◌≡◌, ℕ, ◌+◌, ◌*◌, ◌/◌, ◌≤◌, ap, subst, ◌∙◌, arith, inl}
 use Rattle.std.proofs.Math.Nat.{div-mul-le_self}
 use Rattle.block_device.specs.Device.{Device}
 use Rattle.device_window.specs.declared.part.Part.{Part}
@@ -9,6 +9,11 @@ use Rattle.fec_area.specs.Layouts.{IsLaidOn, IsLayout, IsLayoutOf}
 use Rattle.tree_shape.specs.Shape.{ShapeRecord}
 use Rattle.verity_format.specs.Image.{data_sectors}
 use Rattle.fec_commands.specs.declared.fault.FecFault.{FecFault}
+use Rattle.fec_commands.specs.declared.image.LaidTree.{LaidTree}
+use Rattle.image_commands.specs.declared.finding.NoTree.{NoTree}
+use Rattle.image_commands.specs.declared.finding.NoTree.TheVariants.{Unaligned, Unread}
+use Rattle.image_commands.specs.Finding.{IsNoTree}
+use Rattle.fec_commands.specs.FecFaults.{no_tree}
 use Rattle.fec_commands.specs.Layings.{IsLayoutEnd, LaysOut}
 
 pub windowed-same : (d d' : Device) (p p' : Part) → d ≡ d' → p ≡ p' → windowed d p ≡ windowed d' p'
@@ -27,10 +32,15 @@ laid-on s sectors roots l d h is valid data_room hash_room =
     }
 
 -- a layout on devices that are the same
-pub lays-as : (a a' b b' h : Device) (first roots : ℕ) (l : Layout) → a ≡ a' → b ≡ b' → LaysOut a b first roots h l → LaysOut a' b' first roots h l
+pub lays-as : (a a' b b' h : Device) (first roots : ℕ) (l : LaidTree) → a ≡ a' → b ≡ b' → LaysOut a b first roots h l → LaysOut a' b' first roots h l
 lays-as a a' b b' h first roots l x y lays =
     subst (λ (v : Device). LaysOut v b' first roots h l) x (subst (λ (v : Device). LaysOut a v first roots h l) y lays)
 
 pub layout_end-as : (a a' b b' h : Device) (first : ℕ) (fault : FecFault) → a ≡ a' → b ≡ b' → IsLayoutEnd a b first h fault → IsLayoutEnd a' b' first h fault
 layout_end-as a a' b b' h first fault x y ends =
     subst (λ (v : Device). IsLayoutEnd v b' first h fault) x (subst (λ (v : Device). IsLayoutEnd a v first h fault) y ends)
+
+-- there is no tree
+pub no-tree-layout : (d h h' : Device) (first : ℕ) (fault : NoTree) → IsNoTree h first h' fault → IsLayoutEnd d h first h' (no_tree fault)
+no-tree-layout d h h' first (Unread fault) cause = inl cause
+no-tree-layout d h h' first Unaligned cause = cause

@@ -1,2 +1,4 @@
 pub mod EndingLemmas
 pub mod LayingLemmas
+mod NeededLemmas
+pub mod VerifyingLemmas

@@ -1,5 +1,5 @@
 -- What `format --fec` and `verify --fec` do and print, and how they end early.
-use Rattle.std.specs.Prelude.{◌≡◌, ◌⊎◌, ℕ, Bool, true, List, [], Option, Some, Vec}
+use Rattle.std.specs.Prelude.{◌≡◌, ◌⊎◌, ℕ, Bool, true, false, List, [], Option, Some, Vec}
 use Rattle.std.specs.Global.{Global}
 use Rattle.std.specs.Io.KnownBytes.{Appends}
 use Rattle.block_device.specs.Device.{Device}
@@ -17,17 +17,20 @@ use Rattle.image_commands.specs.Places.{TwoPlaces}
 use Rattle.image_files.specs.Opener.{Calls, Opener, calls}
 use Rattle.verity_commands.specs.declared.fault.VerityFault.{VerityFault}
 use Rattle.verity_commands.specs.Endings.{IsUnsaid}
-use Rattle.verity_commands.specs.Placed.{FormatsAt, IsSaidFormatEnd, IsSaidVerifyEnd, VerifiesAt}
+use Rattle.verity_commands.specs.Placed.{FormatsAt, IsSaidFormatEnd}
 use Rattle.verity_commands.specs.Places.{image_places}
+use Rattle.image_files.specs.declared.opening.UnopenedFile.{UnopenedFile}
 use Rattle.fec_commands.specs.declared.fault.FecFault.{FecFault}
+use Rattle.fec_commands.specs.declared.image.ThreeImages.{ThreeImages}
 use Rattle.fec_commands.specs.declared.fault.FecFault.TheVariants.{BlockSizes, Verity}
-use Rattle.fec_commands.specs.Checking.{IsCheckEnd, IsFecQuiet, PrintsOk}
-use Rattle.fec_commands.specs.FecFaults.{kept_fault, unwritten}
+use Rattle.fec_commands.specs.FecFaults.{kept_fault, unopened, unwritten}
 use Rattle.command_line.specs.words.FecFormat.{FecFormatRecord, fec_format_record}
 use Rattle.command_line.specs.words.FecVerify.{FecVerifyRecord, fec_verify_record}
-use Rattle.fec_commands.specs.Fitting.{FitsFile, IsMeasured, IsUnfit, IsUnmeasured}
+use Rattle.fec_commands.specs.Fitting.{FitsFile, IsUnfit}
 use Rattle.fec_commands.specs.Growing.{IsProtectionEnd, Protects}
+use Rattle.fec_commands.specs.Images.{FailsToOpenThree, OpensThree}
 use Rattle.fec_commands.specs.Sizes.{says_two_sizes}
+use Rattle.fec_commands.specs.Verifying.{IsFecQuiet, IsVerifyThreeEnd, VerifiesThree}
 
 -- where the images of the words are
 abbrev pub format_places : FormatRecord → TwoPlaces
@@ -46,10 +49,16 @@ pub record IsKeptEnd {S D T G : Type 0} (texts : OptionTexts) (w : Calls S D) (d
 
 -- ---- `format --fec`
 
+-- FILE will do for what the words say: images were opened, and none was written, made or made longer, but a FILE that was made at once
+pub record FitsWords {S D : Type 0} (texts : OptionTexts) (w : Calls S D) (f : FecFormatRecord) : Type 0 where
+  pub options : ImageOptions
+  pub said : AreSaid texts options
+  pub fits : FitsFile f.format.grow options w (format_places f.format) f.fec
+
 -- FILE will do; the image was formatted as without parity, with this text; then its parity was written and synced.
 pub record MakesFec {S D T G : Type 0} (texts : OptionTexts) (w : Calls S D) (d : Drawing T G) (f : FecFormatRecord) (text : List ℕ) : Type 0 where
   pub measured : S
-  pub fits : FitsFile f.format.grow (record w { new = measured }) (format_places f.format) f.fec
+  pub fits : FitsWords texts (record w { new = measured }) f
   pub between : S
   pub formats : FormatsAt texts (record w { old = measured; new = between }) d f.format (Some []) (Some text)
   pub protects : Protects f.format.grow (record w { old = between }) (format_places f.format) f.fec
@@ -82,7 +91,7 @@ pub record EndsUnfit {S D : Type 0} (texts : OptionTexts) (w : Calls S D) (f : F
 -- it will, and the image wasn't made
 pub record EndsUnmade {S D T G : Type 0} (texts : OptionTexts) (w : Calls S D) (d : Drawing T G) (f : FecFormatRecord) (fault : FecFault) : Type 0 where
   pub measured : S
-  pub fits : FitsFile f.format.grow (record w { new = measured }) (format_places f.format) f.fec
+  pub fits : FitsWords texts (record w { new = measured }) f
   pub cause : VerityFault
   pub ends : IsKeptEnd texts (record w { old = measured }) d f.format cause
   pub is : fault ≡ Verity cause
@@ -90,7 +99,7 @@ pub record EndsUnmade {S D T G : Type 0} (texts : OptionTexts) (w : Calls S D) (
 -- it was made, and its parity isn't on its medium
 pub record EndsUnguarded {S D T G : Type 0} (texts : OptionTexts) (w : Calls S D) (d : Drawing T G) (f : FecFormatRecord) (fault : FecFault) : Type 0 where
   pub measured : S
-  pub fits : FitsFile f.format.grow (record w { new = measured }) (format_places f.format) f.fec
+  pub fits : FitsWords texts (record w { new = measured }) f
   pub between : S
   pub text : List ℕ
   pub formats : FormatsAt texts (record w { old = measured; new = between }) d f.format (Some []) (Some text)
@@ -111,41 +120,30 @@ IsFormatFecEnd texts w d f old new failed fault =
 
 -- ---- `verify --fec`
 
--- FILE has the sectors of the parity; the image was verified as without parity, and then its parity
+-- all three were opened for reading; the image was compared with its tree, and then its parity with the file's
 pub record VerifiesFec {S D : Type 0} (w : Calls S D) (v : FecVerifyRecord) (old new : Option (List ℕ)) : Type 0 where
-  pub measured : S
-  pub measures : IsMeasured (record w { new = measured }) (verify_places v.verify) v.fec
   pub between : S
-  pub told : Option (List ℕ)
-  pub verifies : VerifiesAt (record w { old = measured; new = between }) v.verify old told
-  pub checks : PrintsOk (record w { old = between }) (verify_places v.verify) v.fec told new
+  pub three : ThreeImages D
+  pub one : v.verify.all ≡ false
+  pub opened : OpensThree (record w { new = between }) (verify_places v.verify) v.fec false three
+  pub verifies : VerifiesThree (record w { old = between }) three v old new
 
--- FILE hasn't them, or isn't opened: images were opened for reading, and nothing was printed
-pub record EndsUnmeasured {S D : Type 0} (w : Calls S D) (v : FecVerifyRecord) (old new : Option (List ℕ)) (fault : FecFault) : Type 0 where
-  pub unmeasured : IsUnmeasured w (verify_places v.verify) v.fec fault
+-- a file isn't opened
+pub record IsVerifyUnopened {S D : Type 0} (w : Calls S D) (v : FecVerifyRecord) (old new : Option (List ℕ)) (fault : FecFault) : Type 0 where
+  pub file : UnopenedFile
+  pub refused : FailsToOpenThree w (verify_places v.verify) v.fec false file
+  pub is : fault ≡ unopened file
   pub quiet : new ≡ old
 
--- the image isn't the one under the root, or isn't compared
-pub record EndsUnverified {S D : Type 0} (w : Calls S D) (v : FecVerifyRecord) (old new : Option (List ℕ)) (failed : Bool) (fault : FecFault) : Type 0 where
-  pub measured : S
-  pub measures : IsMeasured (record w { new = measured }) (verify_places v.verify) v.fec
-  pub cause : VerityFault
-  pub ends : IsSaidVerifyEnd (record w { old = measured }) v.verify old new failed cause
-  pub is : fault ≡ Verity cause
-
--- it is, as is printed; its parity isn't, or isn't compared
-pub record EndsUnlikeParity {S D : Type 0} (w : Calls S D) (v : FecVerifyRecord) (old new : Option (List ℕ)) (failed : Bool) (fault : FecFault) : Type 0 where
-  pub measured : S
-  pub measures : IsMeasured (record w { new = measured }) (verify_places v.verify) v.fec
+-- all three were opened, and then it ended so
+pub record EndsOpened {S D : Type 0} (w : Calls S D) (v : FecVerifyRecord) (old new : Option (List ℕ)) (failed : Bool) (fault : FecFault) : Type 0 where
   pub between : S
-  pub told : Option (List ℕ)
-  pub verifies : VerifiesAt (record w { old = measured; new = between }) v.verify old told
-  pub ends : IsCheckEnd (record w { old = between }) (verify_places v.verify) v.fec failed fault
-  pub quiet : IsFecQuiet fault told new
+  pub three : ThreeImages D
+  pub opened : OpensThree (record w { new = between }) (verify_places v.verify) v.fec false three
+  pub ends : IsVerifyThreeEnd (record w { old = between }) three v old new failed fault
 
 abbrev pub IsVerifyFecEnd : {S D : Type 0} → Calls S D → FecVerifyRecord → Option (List ℕ) → Option (List ℕ) → Bool → FecFault → Type 0
-IsVerifyFecEnd w v old new failed fault =
-    (EndsUnsaid w fault × (new ≡ old)) ⊎ (EndsUnmeasured w v old new fault ⊎ (EndsUnverified w v old new failed fault ⊎ EndsUnlikeParity w v old new failed fault))
+IsVerifyFecEnd w v old new failed fault = (EndsUnsaid w fault × (new ≡ old)) ⊎ (IsVerifyUnopened w v old new fault ⊎ EndsOpened w v old new failed fault)
 
 -- ---- the same by the program's own words, the opener and the writer, each before and after, and what makes generators
 

@@ -1,10 +1,11 @@
 -- Faults of the commands on images with parity that are those of images.
 use Rattle.image_commands.specs.declared.fault.ImageFault.{ImageFault}
 use Rattle.image_commands.specs.declared.fault.ImageFault.TheVariants as image
+use Rattle.image_commands.specs.declared.finding.NoTree.{NoTree}
+use Rattle.image_commands.specs.Finding.{no_tree_fault}
 use Rattle.image_files.specs.declared.opening.UnopenedFile.{UnopenedFile}
 use Rattle.verity_commands.specs.declared.fault.VerityFault.{VerityFault}
 use Rattle.verity_commands.specs.declared.fault.VerityFault.TheVariants as verity
-use Rattle.verity_format.specs.declared.verifying.VerifyFault.{VerifyFault}
 use Rattle.fec_commands.specs.declared.fault.FecFault.{FecFault}
 use Rattle.fec_commands.specs.declared.fault.FecFault.TheVariants as fec
 
@@ -12,9 +13,9 @@ use Rattle.fec_commands.specs.declared.fault.FecFault.TheVariants as fec
 abbrev pub unopened : UnopenedFile → FecFault
 unopened file = fec.Verity (verity.Image (image.Open file))
 
--- the superblock isn't read or taken, or an image is too small
-abbrev pub unread_fault : VerifyFault → FecFault
-unread_fault fault = fec.Verity (verity.Image (image.Verify fault))
+-- there is no tree
+abbrev pub no_tree : NoTree → FecFault
+no_tree fault = fec.Verity (verity.Image (no_tree_fault fault))
 
 -- a line can't be written
 abbrev pub unwritten : FecFault

@@ -6,68 +6,23 @@ use Rattle.command_line.specs.FecFiles.{FecRecord}
 use Rattle.fec_area.specs.declared.layout.Layout.{Layout}
 use Rattle.fec_area.specs.declared.writing.ParityFault.{ParityFault}
 use Rattle.fec_area.specs.declared.writing.ParityFault.TheVariants.{TooSmall, ReadOnly, Device as DeviceFailed, NoMemory}
-use Rattle.fec_area.specs.Layouts.{IsLayoutOf, parity_sectors}
+use Rattle.fec_area.specs.Layouts.{parity_sectors}
 use Rattle.image_files.specs.declared.opening.UnopenedFile.{UnopenedFile}
 use Rattle.image_files.specs.Opener.{Calls}
 use Rattle.image_commands.specs.Places.{TwoPlaces, before, behind}
-use Rattle.tree_shape.specs.Shape.{shape_with}
-use Rattle.verity_format.specs.Formatting.{given_blocks}
 use Rattle.fec_commands.specs.declared.fault.FecFault.{FecFault}
 use Rattle.fec_commands.specs.declared.fault.FecFault.TheVariants.{Parity}
 use Rattle.fec_commands.specs.declared.image.Extent.{Extent}
 use Rattle.fec_commands.specs.declared.image.ThreeImages.{ThreeImages}
-use Rattle.fec_commands.specs.Checking.{IsCheckUnopened}
 use Rattle.fec_commands.specs.FecFaults.{unopened}
+use Rattle.fec_commands.specs.declared.finding.FoundThree.{FoundThree}
 use Rattle.fec_commands.specs.Finding.{FindsThree, IsUnfound}
+use Rattle.fec_commands.specs.FixedSize.{FitsFixedSize, IsFixedTooShort}
 use Rattle.fec_commands.specs.Images.{OpensThree, extent_of}
-use Rattle.fec_commands.specs.Layings.{IsLayoutEnd, LaysOut}
+use Rattle.fec_commands.specs.Needed.{IsNeeded}
 use Rattle.fec_commands.specs.Protecting.{IsProtectUnopened}
 
--- ---- of an image that stands
-
--- the parity of what lies before the data's end and behind the hash image's first sector has room on its device
-pub record MeasuresBehind (data_dev hash_dev parity_dev : Device) (extent : Extent) : Type 0 where
-  pub layout : Layout
-  pub read_dev : Device
-  pub lays : LaysOut (before data_dev extent.end) (behind hash_dev extent.first) extent.first extent.roots read_dev layout
-  pub room : parity_sectors layout ≤ parity_dev.size
-
--- it hasn't
-pub record IsParityShort (data_dev hash_dev parity_dev : Device) (extent : Extent) (fault : FecFault) : Type 0 where
-  pub layout : Layout
-  pub read_dev : Device
-  pub lays : LaysOut (before data_dev extent.end) (behind hash_dev extent.first) extent.first extent.roots read_dev layout
-  pub short : parity_dev.size < parity_sectors layout
-  pub is : fault ≡ Parity (TooSmall (parity_sectors layout))
-
--- that, or there is no layout
-abbrev pub IsShortBehind : Device → Device → Device → Extent → FecFault → Type 0
-IsShortBehind data_dev hash_dev parity_dev extent fault =
-    ((read_dev : Device) × IsLayoutEnd (before data_dev extent.end) (behind hash_dev extent.first) extent.first read_dev fault)
-    ⊎ IsParityShort data_dev hash_dev parity_dev extent fault
-
--- all three were opened for reading, and the parity has its room
-pub record IsMeasured {S D : Type 0} (w : Calls S D) (places : TwoPlaces) (fec : FecRecord) : Type 0 where
-  pub three : ThreeImages D
-  pub opened : OpensThree w places fec false three
-  pub measures : MeasuresBehind (w.state three.«data».device) (w.state three.hash.device) (w.state three.parity.device) (extent_of places fec three)
-
--- they were, and it hasn't
-pub record EndsMeasuring {S D : Type 0} (w : Calls S D) (places : TwoPlaces) (fec : FecRecord) (fault : FecFault) : Type 0 where
-  pub three : ThreeImages D
-  pub opened : OpensThree w places fec false three
-  pub ends : IsShortBehind (w.state three.«data».device) (w.state three.hash.device) (w.state three.parity.device) (extent_of places fec three) fault
-
-abbrev pub IsUnmeasured : {S D : Type 0} → Calls S D → TwoPlaces → FecRecord → FecFault → Type 0
-IsUnmeasured w places fec fault = IsCheckUnopened w places fec fault ⊎ EndsMeasuring w places fec fault
-
 -- ---- of an image that is to be made
-
--- so many sectors the parity takes of an image that these options make, over so many sectors of data, with so many for the hash image
-pub record IsNeeded (options : ImageOptions) (data_sectors hash_sectors roots needed : ℕ) : Type 0 where
-  pub layout : Layout
-  pub is : IsLayoutOf (shape_with options.data_block options.hash_block (given_blocks options.blocks options.data_block data_sectors) 1) hash_sectors roots layout
-  pub value : needed ≡ parity_sectors layout
 
 -- a device has fewer
 pub record IsShortOf (options : ImageOptions) (data_dev hash_dev parity_dev : Device) (extent : Extent) (needed : ℕ) : Type 0 where
@@ -96,18 +51,34 @@ pub record EndsTooShort {S D : Type 0} (options : ImageOptions) (w : Calls S D) 
 abbrev pub IsTooShortByWords : {S D : Type 0} → ImageOptions → Calls S D → TwoPlaces → FecRecord → FecFault → Type 0
 IsTooShortByWords options w places fec fault = IsProtectUnopened w places fec fault ⊎ EndsTooShort options w places fec fault
 
--- ---- `format --fec`, with `--grow` and without
+-- ---- of an image that is to be made in files that grow
 
-abbrev pub FitsFile : {S D : Type 0} → Bool → Calls S D → TwoPlaces → FecRecord → Type 0
-FitsFile true w places fec = FindsThree w places fec
-FitsFile false w places fec = OpensForWords w places fec
+-- the files that are there were opened, FILE is none of the others and can be made, and no block device that is too short
+pub record FitsGrown {S D : Type 0} (options : ImageOptions) (w : Calls S D) (places : TwoPlaces) (fec : FecRecord) : Type 0 where
+  pub found : FoundThree D
+  pub finds : FindsThree w places fec found
+  pub fixed : FitsFixedSize w.state found options places.first fec.roots
 
--- a file that is there isn't opened
+-- a file that is there isn't opened, or FILE can't be made
 pub record EndsUnfound {S D : Type 0} (w : Calls S D) (places : TwoPlaces) (fec : FecRecord) (fault : FecFault) : Type 0 where
   pub file : UnopenedFile
   pub unfound : IsUnfound w places fec file
   pub is : fault ≡ unopened file
 
+-- FILE is a block device that is too short; files were opened, and none was made, written or made longer
+pub record EndsFixedTooShort {S D : Type 0} (options : ImageOptions) (w : Calls S D) (places : TwoPlaces) (fec : FecRecord) (fault : FecFault) : Type 0 where
+  pub found : FoundThree D
+  pub cause : ParityFault
+  pub finds : FindsThree w places fec found
+  pub short : IsFixedTooShort w.state found options places.first fec.roots cause
+  pub is : fault ≡ Parity cause
+
+-- ---- `format --fec`, with `--grow` and without
+
+abbrev pub FitsFile : {S D : Type 0} → Bool → ImageOptions → Calls S D → TwoPlaces → FecRecord → Type 0
+FitsFile true options w places fec = FitsGrown options w places fec
+FitsFile false options w places fec = OpensForWords w places fec
+
 abbrev pub IsUnfit : {S D : Type 0} → Bool → ImageOptions → Calls S D → TwoPlaces → FecRecord → FecFault → Type 0
-IsUnfit true options w places fec fault = EndsUnfound w places fec fault
+IsUnfit true options w places fec fault = EndsUnfound w places fec fault ⊎ EndsFixedTooShort options w places fec fault
 IsUnfit false options w places fec fault = IsTooShortByWords options w places fec fault

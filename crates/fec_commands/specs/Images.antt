@@ -1,5 +1,6 @@
 -- The images of a command on parity: which paths are opened, in which order and with which rights.
-use Rattle.std.specs.Prelude.{◌⊎◌, ℕ, ◌-◌, ◌^◌, ◌&&◌, nat_lt, Bool, false, List, [], ◌∷◌, if◌then◌else◌}
+use Rattle.std.specs.Prelude.{◌⊎◌, ℕ, ◌-◌, ◌^◌, ◌&&◌, nat_lt, Bool, false, List, [], ◌∷◌, Option, if◌then◌else◌}
+use Rattle.block_device.specs.declared.file_id.FileId.{FileId}
 use Rattle.image_files.specs.declared.file_use.FileUse.{FileUse}
 use Rattle.image_files.specs.declared.images.OpenImage.{OpenImage}
 use Rattle.image_files.specs.declared.opening.UnopenedFile.{UnopenedFile}
@@ -52,8 +53,11 @@ FailsToOpenThree w places fec writable file =
     Refuses w places.paths.data_path false file ⊎ (RefusesHashFile w places file ⊎ RefusesParity w places fec writable file)
 
 -- where the data end: in one file before the hash image, else at the end of theirs
+abbrev pub end_of_data : Option FileId → Option FileId → ℕ → ℕ
+end_of_data data_id hash_id first = if nat_lt 0 first && is_one_file data_id hash_id then first else 2 ^ 64 - 1
+
 abbrev pub three_data_end : {D : Type 0} → ThreeImages D → ℕ → ℕ
-three_data_end three first = if nat_lt 0 first && is_one_file three.«data».id three.hash.id then first else 2 ^ 64 - 1
+three_data_end three first = end_of_data three.«data».id three.hash.id first
 
 -- where the data end and the hash image begins, and the bytes of parity in a codeword
 abbrev pub extent_of : {D : Type 0} → TwoPlaces → FecRecord → ThreeImages D → Extent

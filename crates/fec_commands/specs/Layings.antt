@@ -1,45 +1,34 @@
 -- How parity lies across a verity image, by its superblock.
-use Rattle.std.specs.Prelude.{◌≡◌, ◌≢◌, ◌⊎◌, ℕ, ◌<◌, ◌≤◌, true, false, List}
+use Rattle.std.specs.Prelude.{◌≡◌, ◌≢◌, ◌⊎◌, ℕ, ◌<◌, ◌≤◌}
 use Rattle.block_device.specs.Device.{Device}
-use Rattle.fec_area.specs.declared.layout.Layout.{Layout}
 use Rattle.fec_area.specs.Layouts.{IsLaidOn, IsLayoutOf}
 use Rattle.image_commands.specs.declared.fault.ImageFault.{ImageFault}
 use Rattle.image_commands.specs.declared.fault.ImageFault.TheVariants.{Unaligned, Verify}
-use Rattle.image_commands.specs.Places.{is_aligned}
+use Rattle.image_commands.specs.Finding.{IsTreeUnaligned, ReadsSuper}
 use Rattle.verity_commands.specs.Endings.{IsImageEnd}
 use Rattle.verity_format.specs.declared.verifying.VerifyFault.{VerifyFault}
 use Rattle.verity_format.specs.declared.verifying.VerifyFault.TheVariants.{TooSmall}
-use Rattle.verity_format.specs.Blocks.{IsOnlyRead}
+use Rattle.verity_format.specs.Blocks.{IsFullRead}
 use Rattle.verity_format.specs.Image.{data_sectors}
 use Rattle.verity_format.specs.Superblock.{SuperRecord, shape_of}
-use Rattle.verity_format.specs.Verifying.{IsReadCause, IsReadFrom}
+use Rattle.verity_format.specs.Trees.{superblock_tree}
+use Rattle.verity_format.specs.Verifying.{IsReadCause}
 use Rattle.fec_commands.specs.declared.fault.FecFault.{FecFault}
 use Rattle.fec_commands.specs.declared.fault.FecFault.TheVariants.{BlockSizes, Differs, Parity, Verity}
+use Rattle.fec_commands.specs.declared.image.LaidTree.{LaidTree}
 
 -- a codeword of dm-verity-fec has 2 to 24 bytes of parity
 abbrev pub IsRoots : ℕ → Type 0
 IsRoots roots = (2 ≤ roots) × (roots ≤ 24)
 
--- the superblock was read, and its tree may stand behind that sector
-pub record ReadsSuper (hash_dev : Device) (first : ℕ) (super : SuperRecord) : Type 0 where
-  pub sector : List ℕ
-  pub read : IsReadFrom hash_dev sector super
-  pub aligned : is_aligned first super.hash_block ≡ true
-
--- The layout is that of the superblock; the covered blocks lie on the two devices, of which the hash device was only read.
-pub record LaysOut (data_dev hash_dev : Device) (first roots : ℕ) (hash_dev' : Device) (layout : Layout) : Type 0 where
+-- The superblock was read once. The layout is that of its tree; the covered blocks lie on the two devices.
+pub record LaysOut (data_dev hash_dev : Device) (first roots : ℕ) (hash_dev' : Device) (laid : LaidTree) : Type 0 where
   pub super : SuperRecord
   pub super_read : ReadsSuper hash_dev first super
-  pub is : IsLayoutOf (shape_of super) hash_dev.size roots layout
-  pub laid : IsLaidOn layout data_dev hash_dev'
-  pub read : IsOnlyRead hash_dev hash_dev'
-
--- the superblock was read, but no hash block begins there
-pub record IsTreeUnaligned (hash_dev : Device) (first : ℕ) : Type 0 where
-  pub super : SuperRecord
-  pub sector : List ℕ
-  pub read : IsReadFrom hash_dev sector super
-  pub unaligned : is_aligned first super.hash_block ≡ false
+  pub tree_is : laid.tree ≡ superblock_tree super
+  pub is : IsLayoutOf laid.tree.shape hash_dev.size roots laid.layout
+  pub laid_on : IsLaidOn laid.layout data_dev hash_dev'
+  pub read : IsFullRead hash_dev 1 hash_dev'
 
 -- it speaks of more data than there are
 pub record AreDataShort (data_dev hash_dev : Device) (first : ℕ) (fault : VerifyFault) : Type 0 where
@@ -69,8 +58,8 @@ IsLayoutEnd data_dev hash_dev first hash_dev' (Differs round) = ⊥
 
 -- ---- the same by what devices of any kind are
 
-abbrev pub IsLaidOut : {D H : Type 0} → (D → Device) → (H → Device) → D → H → ℕ → ℕ → H → Layout → Type 0
-IsLaidOut data_state hash_state data_dev hash_dev first roots hash_dev' layout = LaysOut (data_state data_dev) (hash_state hash_dev) first roots (hash_state hash_dev') layout
+abbrev pub IsLaidOut : {D H : Type 0} → (D → Device) → (H → Device) → D → H → ℕ → ℕ → H → LaidTree → Type 0
+IsLaidOut data_state hash_state data_dev hash_dev first roots hash_dev' laid = LaysOut (data_state data_dev) (hash_state hash_dev) first roots (hash_state hash_dev') laid
 
 abbrev pub IsNotLaidOut : {D H : Type 0} → (D → Device) → (H → Device) → D → H → ℕ → H → FecFault → Type 0
 IsNotLaidOut data_state hash_state data_dev hash_dev first hash_dev' fault = IsLayoutEnd (data_state data_dev) (hash_state hash_dev) first (hash_state hash_dev') fault

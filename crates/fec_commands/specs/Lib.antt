@@ -4,8 +4,10 @@ pub mod Images
 pub mod Layings
 pub mod Protecting
 pub mod Growing
-pub mod Checking
+pub mod Verifying
 pub mod Finding
+pub mod FixedSize
+pub mod Needed
 pub mod Fitting
 pub mod Sizes
 pub mod Commands

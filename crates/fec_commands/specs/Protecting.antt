@@ -13,6 +13,7 @@ use Rattle.verity_format.specs.Blocks.{IsOnlyWritten}
 use Rattle.fec_commands.specs.declared.fault.FecFault.{FecFault}
 use Rattle.fec_commands.specs.declared.fault.FecFault.TheVariants.{Parity}
 use Rattle.fec_commands.specs.declared.image.Extent.{Extent}
+use Rattle.fec_commands.specs.declared.image.LaidTree.{LaidTree}
 use Rattle.fec_commands.specs.declared.image.ThreeImages.{ThreeImages}
 use Rattle.fec_commands.specs.FecFaults.{unopened}
 use Rattle.command_line.specs.FecFiles.{FecRecord}
@@ -51,10 +52,10 @@ IsSealingEnd l data_dev hash_dev parity_dev parity_dev' fault =
 
 -- of what lies before the data's end and behind the hash image's first sector
 pub record ProtectsBehind (data_dev hash_dev parity_dev : Device) (extent : Extent) (parity_dev' : Device) : Type 0 where
-  pub layout : Layout
+  pub laid : LaidTree
   pub read_dev : Device
-  pub lays : LaysOut (before data_dev extent.end) (behind hash_dev extent.first) extent.first extent.roots read_dev layout
-  pub sealed : IsSealed layout (before data_dev extent.end) read_dev parity_dev parity_dev'
+  pub lays : LaysOut (before data_dev extent.end) (behind hash_dev extent.first) extent.first extent.roots read_dev laid
+  pub sealed : IsSealed laid.layout (before data_dev extent.end) read_dev parity_dev parity_dev'
 
 -- there is no layout, and nothing was written
 pub record EndsUnlaid (data_dev hash_dev parity_dev : Device) (extent : Extent) (parity_dev' : Device) (fault : FecFault) : Type 0 where
@@ -64,11 +65,11 @@ pub record EndsUnlaid (data_dev hash_dev parity_dev : Device) (extent : Extent) 
 
 -- there is one, and the parity isn't on its medium
 pub record EndsUnsealed (data_dev hash_dev parity_dev : Device) (extent : Extent) (parity_dev' : Device) (fault : FecFault) : Type 0 where
-  pub layout : Layout
+  pub laid : LaidTree
   pub read_dev : Device
   pub cause : ParityFault
-  pub lays : LaysOut (before data_dev extent.end) (behind hash_dev extent.first) extent.first extent.roots read_dev layout
-  pub ends : IsSealingEnd layout (before data_dev extent.end) read_dev parity_dev parity_dev' cause
+  pub lays : LaysOut (before data_dev extent.end) (behind hash_dev extent.first) extent.first extent.roots read_dev laid
+  pub ends : IsSealingEnd laid.layout (before data_dev extent.end) read_dev parity_dev parity_dev' cause
   pub is : fault ≡ Parity cause
 
 abbrev pub IsParityEnd : Device → Device → Device → Extent → Device → FecFault → Type 0

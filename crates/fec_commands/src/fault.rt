@@ -4,10 +4,9 @@ ghost use Rattle.fec_commands.specs.declared.fault.FecFault.TheVariants as fec_f
 
 use counted_io::WriteFault;
 use fec_area::ParityFault;
-use image_commands::ImageFault;
+use image_commands::{ImageFault, NoTree};
 use image_files::UnopenedFile;
 use verity_commands::VerityFault;
-use verity_format::VerifyFault;
 
 /// Why a command on an image with parity ends early.
 #[derive(Clone, Copy, Debug, PartialEq, Eq)]
@@ -50,13 +49,13 @@ impl<'a> From<UnopenedFile<'a>> for FecFault<'a> {
     }
 }
 
-impl From<VerifyFault> for FecFault<'_> {
-    ghost use Rattle.fec_commands.specs.FecFaults.{unread_fault};
+impl From<NoTree> for FecFault<'_> {
+    ghost use Rattle.fec_commands.specs.FecFaults.{no_tree};
 
-    ghost from_gives = { λ fault given. given ≡ unread_fault fault };
+    ghost from_gives = { λ fault given. given ≡ no_tree fault };
 
-    fn from(fault: VerifyFault) -> Self {
-        FecFault::Verity(VerityFault::Image(ImageFault::Verify(fault)))
+    fn from(fault: NoTree) -> Self {
+        FecFault::Verity(VerityFault::Image(ImageFault::from(fault)))
     }
 }
 

@@ -1,51 +1,96 @@
 //! `format --grow --fec`: the files that are there are opened before any is made or made longer.
-ghost use Rattle.std.specs.Prelude.{◌≡◌, IfErr, IfOk, IsTrue, None, OnOk};
+ghost use Rattle.std.specs.Prelude.{◌≡◌, IfErr, IfOk, OnOk};
 ghost use Rattle.image_files.specs.FileUses.{image_use};
+ghost use Rattle.image_files.specs.OnePlace.{FailsToCompare};
 ghost use Rattle.image_files.specs.Opened.{Refuses};
 ghost use Rattle.image_files.specs.Opener.{calls};
-ghost use Rattle.fec_commands.specs.Finding.{FindsFile, FindsThree, IsUnfound, is_used};
+ghost use Rattle.fec_commands.specs.Finding.{CanBeNew, ComparesNew, FindsFile, FindsThree, IsNotNew, IsReady, IsUnfound, IsUnready, is_used};
 ghost use Rattle.fec_commands.specs.Images.{Does};
 
 use crate::growing::check_path;
 use block_device::OpenFault;
 use command_line::FecFile;
 use image_commands::ImagePlaces;
-use image_files::{FileUse, Images, OpenImage, UnopenedFile, has_clash, open_image};
+use image_files::{FileUse, Images, OpenImage, UnopenedFile, has_clash, is_one_place, open_image};
+
+/// DATA, and HASH and the file of the parity if they are there, open.
+#[derive(Drop)]
+pub(crate) struct FoundThree<D> {
+    pub data: OpenImage<D>,
+    pub hash: Option<OpenImage<D>>,
+    pub parity: Option<OpenImage<D>>,
+}
 
 /// Opens DATA for reading, HASH if it is there, and the file of the parity for writing if it is there. That file may not be
-/// one of the two, nor be made under HASH's path. If it isn't there, it can be made.
+/// one of the two. If it isn't there, it can be made, and HASH isn't to be made in its place.
 pub(crate) fn find_three<'a, I: Images>(
     images: &mut I,
     places: &ImagePlaces<'a>,
     fec: &FecFile<'a>,
-) -> Result<(), UnopenedFile<'a>>
-    ensures ok { OnOk result (Does FindsThree I.relations I.Dev.state images.old images.new places.now fec.now) }
+) -> Result<FoundThree<I::Dev>, UnopenedFile<'a>>
+    ensures ok { IfOk result (Does FindsThree I.relations I.Dev.state images.old images.new places.now fec.now) }
     ensures err { IfErr result (Does IsUnfound I.relations I.Dev.state images.old images.new places.now fec.now) }
 {
     let data = open_image(images, places.data, false)?;
     let hash = find(images, places.hash, false)?;
     let parity = find(images, fec.path, true)?;
-    let fault = OpenFault::SameFile;
     let path = fec.path;
     if is_used(&data, &hash, &parity) {
+        let fault = OpenFault::SameFile;
         return Err(UnopenedFile { fault, path });
     }
-    if is_made_twice(&hash, path, places.hash) {
-        return Err(UnopenedFile { fault, path });
-    }
+    check_ready(images, &parity, &hash, path, places.hash)?;
+    Ok(FoundThree { data, hash, parity })
+}
+
+// Checks that the file of the parity is there or can be made.
+fn check_ready<'a, I: Images>(
+    images: &mut I,
+    parity: &Option<OpenImage<I::Dev>>,
+    hash: &Option<OpenImage<I::Dev>>,
+    path: &'a str,
+    hash_path: &str,
+) -> Result<(), UnopenedFile<'a>>
+    ensures ok { OnOk result (IsReady (calls I.relations I.Dev.state images.old images.new) parity.now hash.now path.now hash_path.now) }
+    ensures err { IfErr result (IsUnready (calls I.relations I.Dev.state images.old images.new) parity.now hash.now path.now hash_path.now) }
+{
     match parity {
         Some(_) => Ok(()),
-        None => check_path(images, path),
+        None => check_new(images, hash, path, hash_path),
     }
 }
 
-// Whether HASH isn't there, and both are to be made under one path.
-fn is_made_twice<D>(hash: &Option<OpenImage<D>>, path: &str, hash_path: &str) -> bool
-    ensures { IsTrue result → (hash.now ≡ None) × (path.now ≡ hash_path.now) }
+// Checks that a file that isn't there can be made, and isn't HASH once that is made.
+fn check_new<'a, I: Images>(
+    images: &mut I,
+    hash: &Option<OpenImage<I::Dev>>,
+    path: &'a str,
+    hash_path: &str,
+) -> Result<(), UnopenedFile<'a>>
+    ensures ok { OnOk result (CanBeNew (calls I.relations I.Dev.state images.old images.new) hash.now path.now hash_path.now) }
+    ensures err { IfErr result (IsNotNew (calls I.relations I.Dev.state images.old images.new) hash.now path.now hash_path.now) }
+{
+    let twice = is_made_twice(images, hash, path, hash_path)?;
+    if twice {
+        let fault = OpenFault::SameFile;
+        return Err(UnopenedFile { fault, path });
+    }
+    check_path(images, path)
+}
+
+// Whether HASH isn't there, and both are to be made in one place.
+fn is_made_twice<'a, I: Images>(
+    images: &mut I,
+    hash: &Option<OpenImage<I::Dev>>,
+    path: &'a str,
+    hash_path: &str,
+) -> Result<bool, UnopenedFile<'a>>
+    ensures ok { IfOk result (ComparesNew (calls I.relations I.Dev.state images.old images.new) hash.now path.now hash_path.now) }
+    ensures err { IfErr result (FailsToCompare (calls I.relations I.Dev.state images.old images.new) path.now hash_path.now) }
 {
     match hash {
-        None => path == hash_path,
-        Some(_) => false,
+        Some(_) => Ok(false),
+        None => is_one_place(images, path, hash_path),
     }
 }
 

@@ -1,74 +1,19 @@
 //! Whether the file of the parity will do, before anything is written or printed.
-ghost use Rattle.std.specs.Prelude.{◌≤◌, ◌^◌, IfErr, IfSome, OnErr, OnOk};
-ghost use Rattle.fec_commands.specs.Fitting.{IsMeasured, IsNeeded, IsShortBehind, IsShortByOptions, IsTooShortByWords, IsUnmeasured, MeasuresBehind, OpensForWords};
+ghost use Rattle.std.specs.Prelude.{IfErr, OnOk};
+ghost use Rattle.fec_commands.specs.Fitting.{IsShortByOptions, IsTooShortByWords, OpensForWords};
 ghost use Rattle.fec_commands.specs.Images.{Does};
 ghost use Rattle.fec_commands.specs.Layings.{IsRoots};
 
 use crate::fault::FecFault;
-use crate::image::{Extent, ThreeImages, data_end, lay_out, open_three};
+use crate::image::{Extent, ThreeImages, data_end, open_three};
+use crate::needed::needed_sectors;
 use block_device::BlockDev;
 use command_line::{FecFile, ImageOptions};
 use device_window::Window;
-use fec_area::{Layout, ParityFault};
+use fec_area::ParityFault;
 use image_commands::ImagePlaces;
 use image_files::{Images, OpenImage};
 use std::marker::Brand;
-use tree_shape::Shape;
-use verity_format::given_blocks;
-
-/// Opens an image and its parity for reading, and checks that the parity has all the sectors that the superblock asks for.
-pub(crate) fn measure_image<'a, I: Images>(
-    images: &mut I,
-    places: &ImagePlaces<'a>,
-    fec: &FecFile<'a>,
-) -> Result<(), FecFault<'a>>
-    requires { IsRoots fec.now.roots }
-    ensures ok { OnOk result (Does IsMeasured I.relations I.Dev.state images.old images.new places.now fec.now) }
-    ensures err { IfErr result (Does IsUnmeasured I.relations I.Dev.state images.old images.new places.now fec.now) }
-{
-    let three = open_three(images, places, fec, false)?;
-    let extent = Extent {
-        end: data_end(&three, places.hash_first),
-        first: places.hash_first,
-        roots: fec.roots,
-    };
-    let ThreeImages {
-        data: OpenImage {
-            device: data_dev,
-            id: _,
-        },
-        hash: OpenImage {
-            device: hash_dev,
-            id: _,
-        },
-        parity: OpenImage {
-            device: parity_dev,
-            id: _,
-        },
-    } = three;
-    measure_behind(data_dev, hash_dev, &parity_dev, extent)
-}
-
-// So of what lies on two devices before and behind a sector.
-fn measure_behind<'a, D: BlockDev + Drop, H: BlockDev + Drop, P: BlockDev>(
-    data_dev: D,
-    hash_dev: H,
-    parity: &P,
-    extent: Extent,
-) -> Result<(), FecFault<'a>>
-    requires { IsRoots extent.roots }
-    ensures ok { OnOk result (MeasuresBehind (D.state data_dev) (H.state hash_dev) (P.state parity.now) extent) }
-    ensures err { IfErr result (IsShortBehind (D.state data_dev) (H.state hash_dev) (P.state parity.now) extent) }
-{
-    let before = Window::<D, Brand>::before(data_dev, extent.end);
-    let mut behind = Window::<H, Brand>::behind(hash_dev, extent.first);
-    let layout = lay_out(&before, &mut behind, extent.first, extent.roots)?;
-    let needed = layout.parity_sectors();
-    if parity.sectors() < needed {
-        return Err(FecFault::Parity(ParityFault::TooSmall { needed }));
-    }
-    Ok(())
-}
 
 /// Opens DATA and HASH for reading and FILE for writing, and checks that FILE has the sectors that the parity of the image
 /// takes that the options say.
@@ -127,26 +72,4 @@ fn check_room<D: BlockDev + Drop, H: BlockDev + Drop, P: BlockDev>(
         return Err(ParityFault::TooSmall { needed });
     }
     Ok(())
-}
-
-// How many sectors the parity takes of an image that options make over so many sectors of data, with so many for the hash image.
-// `None` where they make none.
-fn needed_sectors(
-    options: &ImageOptions,
-    data_sectors: u64,
-    hash_sectors: u64,
-    roots: u32,
-) -> Option<u64>
-    requires roots { IsRoots roots }
-    requires small { hash_sectors ≤ 2 ^ 54 }
-    ensures { IfSome result (IsNeeded options.now data_sectors hash_sectors roots) }
-{
-    let blocks = given_blocks(options.blocks, options.data_block, data_sectors);
-    match Shape::new(options.data_block, options.hash_block, blocks, 1) {
-        Ok(shape) => match Layout::of(&shape, hash_sectors, roots as usize) {
-            Some(layout) => Some(layout.parity_sectors()),
-            None => None,
-        },
-        Err(_) => None,
-    }
 }

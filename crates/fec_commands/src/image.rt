@@ -2,17 +2,17 @@
 ghost use Rattle.std.specs.Prelude.{◌≡◌, ◌&&◌, nat_le, nat_lt, IfErr, IfOk};
 ghost use Rattle.image_files.specs.Opener.{IsFresh};
 ghost use Rattle.fec_area.specs.Layouts.{IsLayout};
-ghost use Rattle.fec_commands.specs.Images.{Does, OpensThree, RefusesThree, three_data_end};
+ghost use Rattle.fec_commands.specs.Images.{Does, OpensThree, RefusesThree, end_of_data, three_data_end};
 ghost use Rattle.fec_commands.specs.Layings.{IsLaidOut, IsNotLaidOut, IsRoots};
 
 use crate::fault::FecFault;
-use block_device::BlockDev;
+use block_device::{BlockDev, FileId};
 use command_line::FecFile;
 use fec_area::Layout;
-use image_commands::{ImageFault, ImagePlaces, is_aligned};
+use image_commands::{ImageFault, ImagePlaces, find_tree};
 use image_files::{FileUse, Images, OpenImage, UnopenedFile, is_one_file, open_apart, open_image};
 use verity_commands::VerityFault;
-use verity_format::{VerifyFault, data_sectors, read_superblock};
+use verity_format::{VerifyFault, VerityTree, data_sectors};
 
 /// A data image, its hash image and their parity, open.
 #[derive(Drop)]
@@ -20,6 +20,13 @@ pub(crate) struct ThreeImages<D> {
     pub data: OpenImage<D>,
     pub hash: OpenImage<D>,
     pub parity: OpenImage<D>,
+}
+
+/// A tree, and how parity lies across its image.
+#[derive(Clone, Copy)]
+pub(crate) struct LaidTree {
+    pub tree: VerityTree,
+    pub layout: Layout,
 }
 
 /// Where in their files the data end and the hash image begins, in sectors of 512 bytes, and how many bytes of parity a
@@ -72,33 +79,37 @@ pub(crate) fn open_three<'a, I: Images>(
 pub(crate) fn data_end<D>(three: &ThreeImages<D>, first: u64) -> u64
     ensures { result ≡ three_data_end three.now first }
 {
-    if first > 0 && is_one_file(three.data.id, three.hash.id) {
+    end_of_data(three.data.id, three.hash.id, first)
+}
+
+/// The same, by which files DATA and HASH are.
+pub(crate) fn end_of_data(data: Option<FileId>, hash: Option<FileId>, first: u64) -> u64
+    ensures { result ≡ end_of_data «data» hash first }
+{
+    if first > 0 && is_one_file(data, hash) {
         return first;
     }
     u64::MAX
 }
 
-/// How parity with so many bytes in a codeword lies across the image, whose superblock is read.
+/// The tree of an image, whose superblock is read once, and how parity with so many bytes in a codeword lies across the image.
 pub(crate) fn lay_out<'a, D: BlockDev, H: BlockDev>(
     data_dev: &D,
     hash_dev: &mut H,
     first: u64,
     roots: u32,
-) -> Result<Layout, FecFault<'a>>
+) -> Result<LaidTree, FecFault<'a>>
     requires { IsRoots roots }
     ensures ok { IfOk result (IsLaidOut D.state H.state data_dev.now hash_dev.old first roots hash_dev.new) }
     ensures err { IfErr result (IsNotLaidOut D.state H.state data_dev.now hash_dev.old first hash_dev.new) }
 {
-    let superblock = read_superblock(hash_dev)?;
-    if !is_aligned(first, superblock.hash_block()) {
-        return Err(FecFault::Verity(VerityFault::Image(ImageFault::Unaligned)));
-    }
-    let shape = superblock.shape();
-    if data_dev.sectors() < data_sectors(&shape) {
+    let superblock = find_tree(hash_dev, first)?;
+    let tree = superblock.tree();
+    if data_dev.sectors() < data_sectors(&tree.shape) {
         return Err(FecFault::Verity(VerityFault::Image(ImageFault::Verify(VerifyFault::TooSmall))));
     }
-    match Layout::of(&shape, hash_dev.sectors(), roots as usize) {
-        Some(layout) => Ok(layout),
+    match Layout::of(&tree.shape, hash_dev.sectors(), roots as usize) {
+        Some(layout) => Ok(LaidTree { tree, layout }),
         None => Err(FecFault::BlockSizes),
     }
 }

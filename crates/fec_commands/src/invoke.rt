@@ -1,5 +1,5 @@
 //! The commands on images with parity by their words.
-ghost use Rattle.std.specs.Prelude.{IfErr, OnOk};
+ghost use Rattle.std.specs.Prelude.{IfErr, OnOk, true};
 ghost use Rattle.image_commands.specs.Drawing.{drawing};
 ghost use Rattle.fec_commands.specs.Commands.{FailsToFormatFec, FailsToVerifyFec, FormatsFecByWords, VerifiesFecByWords};
 ghost use Rattle.fec_commands.specs.Fitting.{FitsFile, IsUnfit};
@@ -7,15 +7,16 @@ ghost use Rattle.fec_commands.specs.Growing.{FailsToProtect, Protects};
 ghost use Rattle.fec_commands.specs.Images.{Does};
 ghost use Rattle.fec_commands.specs.Layings.{IsRoots};
 
-use crate::check::compare_image;
 use crate::fault::FecFault;
 use crate::finding::find_three;
-use crate::fits::{measure_image, measure_words};
+use crate::fits::measure_words;
+use crate::fixed_size::check_fixed_size;
 use crate::growing::protect_growing;
-use crate::image::is_roots;
+use crate::image::{is_roots, open_three};
 use crate::kept::format_kept;
 use crate::protect::protect_image;
 use crate::sizes::says_two_sizes;
+use crate::verifying::verify_open;
 use command_line::{
     FecFile, FecFormatWords, FecVerifyWords, ImageOptions, OptionWords, options_of,
 };
@@ -24,7 +25,7 @@ use image_commands::{Generators, ImagePlaces};
 use image_files::Images;
 use std::alloc::Global;
 use std::io::Write;
-use verity_commands::{VerityFault, invoke_verify, sector_at};
+use verity_commands::{VerityFault, sector_at};
 use watched_device::Watchers;
 
 /// `format --fec FILE [--fec-roots N] [--grow] [--progress] [OPTION..] DATA HASH`: as `format`, and then the parity, which is synced
@@ -63,7 +64,7 @@ pub fn invoke_format_fec<'a, I: Images, G: Generators + Watchers, W: Write>(
 }
 
 /// `verify --fec FILE [--fec-roots N] [--hash-offset BYTES] [--root-hash-file FILE] [--progress] DATA HASH [ROOT]`: as `verify`, and then
-/// the parity. FILE is opened and measured before anything is printed.
+/// the parity. Each file is opened once, and FILE is measured before anything is printed.
 pub fn invoke_verify_fec<'a, I: Images, S: Watchers, W: Write>(
     alloc: Global,
     images: &mut I,
@@ -74,7 +75,7 @@ pub fn invoke_verify_fec<'a, I: Images, S: Watchers, W: Write>(
     ensures ok { OnOk result (VerifiesFecByWords words.now I.relations I.Dev.state images.old images.new W.contents writer.old writer.new) }
     ensures err { IfErr result (FailsToVerifyFec words.now I.relations I.Dev.state images.old images.new W.contents writer.old writer.new) }
 {
-    if !is_roots(words.fec.roots) {
+    if words.verify.all || !is_roots(words.fec.roots) {
         return Err(FecFault::Verity(VerityFault::Usage));
     }
     let places = ImagePlaces {
@@ -82,15 +83,8 @@ pub fn invoke_verify_fec<'a, I: Images, S: Watchers, W: Write>(
         hash: words.verify.hash_path,
         hash_first: sector_at(words.verify.hash_offset),
     };
-    measure_image(images, &places, &words.fec)?;
-    invoke_verify(alloc, images, watchers, &words.verify, writer)?;
-    match compare_image(alloc, images, &places, &words.fec)? {
-        Some(round) => Err(FecFault::Differs(round)),
-        None => {
-            writer.put(b"parity ok\n")?;
-            Ok(())
-        }
-    }
+    let three = open_three(images, &places, &words.fec, false)?;
+    verify_open(alloc, images, watchers, three, words, writer)
 }
 
 // Whether the file of the parity will do for what the options say, or can be made.
@@ -102,14 +96,29 @@ fn check_file<'a, I: Images>(
     grow: bool,
 ) -> Result<(), FecFault<'a>>
     requires { IsRoots fec.now.roots }
-    ensures ok { OnOk result (Does (FitsFile grow) I.relations I.Dev.state images.old images.new places.now fec.now) }
+    ensures ok { OnOk result (Does (FitsFile grow options.now) I.relations I.Dev.state images.old images.new places.now fec.now) }
     ensures err { IfErr result (Does (IsUnfit grow options.now) I.relations I.Dev.state images.old images.new places.now fec.now) }
 {
     if grow {
-        find_three(images, places, fec)?;
-        return Ok(());
+        return check_grown(images, places, fec, options);
     }
     measure_words(images, places, fec, options)
+}
+
+// With `--grow`, checks that FILE is there or can be made, and that a block device is large enough.
+fn check_grown<'a, I: Images>(
+    images: &mut I,
+    places: &ImagePlaces<'a>,
+    fec: &FecFile<'a>,
+    options: &ImageOptions,
+) -> Result<(), FecFault<'a>>
+    requires { IsRoots fec.now.roots }
+    ensures ok { OnOk result (Does (FitsFile true options.now) I.relations I.Dev.state images.old images.new places.now fec.now) }
+    ensures err { IfErr result (Does (IsUnfit true options.now) I.relations I.Dev.state images.old images.new places.now fec.now) }
+{
+    let found = find_three(images, places, fec)?;
+    check_fixed_size(&found, options, places.hash_first, fec.roots)?;
+    Ok(())
 }
 
 // Writes the parity, and makes its file as long as is needed where `grow` says so.

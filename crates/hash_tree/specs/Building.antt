@@ -1,8 +1,9 @@
 -- A tree made digest by digest, with one block of each level under construction.
-use Rattle.std.specs.Prelude.{◌≡◌, ◌≤◌, ◌<◌, ◌^◌, ℕ, ◌+◌, ◌-◌, ◌/◌, ◌%◌, List, [], ◌∷◌, ◌++◌, length, map, replicate, take, Bool, false, not, ◌&&◌, ◌==◌, if◌then◌else◌, nat_lt, Option, None, Some}
+use Rattle.std.specs.Prelude.{◌≡◌, ◌≤◌, ◌<◌, ◌^◌, ℕ, ◌+◌, ◌-◌, ◌/◌, ◌%◌, List, [], ◌∷◌, ◌++◌, length, map, replicate, take, Bool, true, false, not, ◌*◌, ◌&&◌, ◌==◌, if◌then◌else◌, nat_lt, Option, None, Some}
 use Rattle.std.specs.Option.{unwrap_or}
 use Rattle.std.specs.List.{range_with_len, All}
 use Rattle.std.specs.List.Sorted.{IsPermutation}
+use Rattle.allocation.specs.Refusal.{IsOutOfMemory}
 use Rattle.tree_shape.specs.Digests.{digest}
 use Rattle.tree_shape.specs.Shape.{ShapeRecord, IsShape, levels, position, area_blocks}
 use Rattle.hash_tree.specs.Tree.{filled, area, root}
@@ -115,6 +116,18 @@ completed b ds = (grown b ds).placed
 pub record IsPushed (old : BuilderRecord) (ds : List (List ℕ)) (new : BuilderRecord) (before after : List PlacedRecord) : Type 0 where
   pub builder : new ≡ pushed old ds
   pub out : after ≡ before ++ completed old ds
+
+-- room for a block of that size and a digest after it: no allocation for one block asks for more
+abbrev pub block_room : ℕ → ℕ
+block_room size = size + 32
+
+-- room for eight blocks and a digest: no allocation of a builder asks for more
+abbrev pub builder_room : BuilderRecord → ℕ
+builder_room b = 8 * b.hash_block + 32
+
+-- The builder remembers that an allocation was refused; if it remembered none before, one was refused now.
+abbrev pub FailsToPush : BuilderRecord → BuilderRecord → Type 0
+FailsToPush old new = (new.failed ≡ true) × (old.failed ≡ false → IsOutOfMemory (builder_room old))
 
 -- some more digests were pushed, and the blocks that they complete put out
 abbrev pub Pushes : BuilderRecord → List (List ℕ) → BuilderRecord → List PlacedRecord → List PlacedRecord → Type 0

@@ -1,12 +1,14 @@
 //! The tree made digest by digest.
 ghost use Rattle.std.specs.Prelude.{true, false, ◌≡◌, ◌+◌, ◌*◌, ◌^◌, ◌<◌, ◌≤◌, ◌++◌, ◌∷◌, [], length, All, IfOk, OnOk, OnErr, is_err};
-ghost use Rattle.std.specs.Option.{unwrap_or};
+ghost use Rattle.allocation.specs.Refusal.{IsOutOfMemory};
 ghost use Rattle.tree_shape.specs.Shape.{IsShape, levels};
-ghost use Rattle.hash_tree.specs.Tree.{filled};
-ghost use Rattle.hash_tree.specs.Building.{begun_builder, begun_levels, completed, last_completed, built_root, HasSome, Pushes, grow, close};
+ghost use Rattle.hash_tree.specs.Building.{begun_builder, begun_levels, block_room, builder_room, completed, last_completed, built_root, FailsToPush, HasSome, Pushes, grow, close};
 
+mod block_bytes;
 mod grouping;
 
+use allocation::{OutOfMemory, push, with_capacity};
+use block_bytes::{append, extend, fill};
 use std::alloc::{AllocError, Global};
 use std::marker::Model;
 use std::mem;
@@ -73,9 +75,14 @@ impl Model for LevelBuilder {
 
 impl LevelBuilder {
     /// A builder without a digest.
+    ///
+    /// # Errors
+    ///
+    /// `AllocError` if the allocator refused room for its levels.
     pub fn new(alloc: Global, shape: Shape, salt: Salt) -> Result<LevelBuilder, AllocError>
         ensures value { IfOk result (λ b. b ≡ begun_builder shape salt) }
         ensures valid { IsShape shape }
+        ensures err { OnErr result (IsOutOfMemory 14) }
     {
         let hash_block = shape.hash_block() as usize;
         let left = shape.blocks();
@@ -96,12 +103,15 @@ impl LevelBuilder {
         self.left
     }
 
-    /// The next data block's digest; `out` gets the blocks that it completes. After want of memory
-    /// the builder answers nothing else.
+    /// The next data block's digest; `out` gets the blocks that it completes.
+    ///
+    /// # Errors
+    ///
+    /// `AllocError` if the allocator refused room for a hash block. Each later call returns the same error.
     pub fn push(&mut self, digest: Digest, out: &mut Vec<Placed>) -> Result<(), AllocError>
         requires { self.old.failed ≡ false → 0 < self.old.left }
         ensures ok { OnOk result (Pushes self.old (digest ∷ []) self.new out.old.items out.new.items) }
-        ensures err { OnErr result (self.new.failed ≡ true) }
+        ensures err { OnErr result (FailsToPush self.old self.new) }
         ensures some { HasSome out.old.items (completed self.old (digest ∷ [])) out.new.items }
         ensures failed { self.old.failed ≡ true → (is_err result ≡ true) × (out.new.items ≡ out.old.items) }
     {
@@ -120,18 +130,22 @@ impl LevelBuilder {
                 self.left -= 1;
                 Ok(())
             }
-            Err(refused) => {
+            Err(_) => {
                 self.failed = true;
-                Err(refused)
+                Err(AllocError)
             }
         }
     }
 
     /// The next digests, in order, as by `push`.
+    ///
+    /// # Errors
+    ///
+    /// `AllocError` if the allocator refused room for at most eight hash blocks, or did so before.
     pub fn push_many(&mut self, digests: &[Digest], out: &mut Vec<Placed>) -> Result<(), AllocError>
         requires { self.old.failed ≡ false → length digests.now ≤ self.old.left }
         ensures ok { OnOk result (Pushes self.old digests.now self.new out.old.items out.new.items) }
-        ensures err { OnErr result (self.new.failed ≡ true) }
+        ensures err { OnErr result (FailsToPush self.old self.new) }
         ensures some { HasSome out.old.items (completed self.old digests.now) out.new.items }
         ensures failed { self.old.failed ≡ true → (is_err result ≡ true) × (out.new.items ≡ out.old.items) }
     {
@@ -146,40 +160,48 @@ impl LevelBuilder {
     }
 
     /// The end: `out` gets the blocks that were begun. Gives the root.
+    ///
+    /// # Errors
+    ///
+    /// `AllocError` if the allocator refused room for a hash block, or did so before.
     pub fn finish(self, out: &mut Vec<Placed>) -> Result<Digest, AllocError>
         requires { self.failed ≡ false → self.left ≡ 0 }
         ensures root { IfOk result (λ r. r ≡ built_root self) }
         ensures out { OnOk result (out.new.items ≡ out.old.items ++ last_completed self) }
         ensures some { HasSome out.old.items (last_completed self) out.new.items }
         ensures failed { self.failed ≡ true → (is_err result ≡ true) × (out.new.items ≡ out.old.items) }
+        ensures err { OnErr result (self.failed ≡ false → IsOutOfMemory (builder_room self)) }
     {
         if self.failed {
             return Err(AllocError);
         }
         let mut levels = self.levels;
-        close_up(
+        let root = close_up(
             self.hash_block,
             &self.salt,
             &mut levels,
             self.root,
             None,
             out,
-        )
+        )?;
+        Ok(root)
     }
 }
 
 /// The levels of a shape, without a digest.
-fn begun_levels(alloc: Global, shape: &Shape) -> Result<Vec<Level>, AllocError>
+fn begun_levels(alloc: Global, shape: &Shape) -> Result<Vec<Level>, OutOfMemory>
     requires { IsShape shape.now }
-    ensures { IfOk result (λ v. v.items ≡ begun_levels shape.now 0 (levels shape.now)) }
+    ensures ok { IfOk result (λ v. v.items ≡ begun_levels shape.now 0 (levels shape.now)) }
+    ensures err { OnErr result (IsOutOfMemory 14) }
 {
     let count = shape.levels();
-    let mut levels = Vec::with_capacity(alloc, count as usize)?;
+    let mut levels = with_capacity(alloc, count as usize)?;
     for level in 0..count {
-        levels.push(Level {
+        let begun = Level {
             next: shape.position(level, 0),
             bytes: Vec::new(alloc),
-        })?;
+        };
+        push(&mut levels, begun)?;
     }
     Ok(levels)
 }
@@ -192,12 +214,13 @@ fn rise(
     root: &mut Digest,
     coming: Digest,
     out: &mut Vec<Placed>,
-) -> Result<(), AllocError>
+) -> Result<(), OutOfMemory>
     requires { All (λ l. l.next < 2 ^ 63) levels.old }
     ensures levels { OnOk result (levels.new ≡ (grow hash_block salt.now levels.old root.old coming).levels) }
     ensures root { OnOk result (root.new ≡ (grow hash_block salt.now levels.old root.old coming).root) }
     ensures out { OnOk result (out.new.items ≡ out.old.items ++ (grow hash_block salt.now levels.old root.old coming).placed) }
     ensures some { HasSome out.old.items (grow hash_block salt.now levels.old root.old coming).placed out.new.items }
+    ensures err { OnErr result (IsOutOfMemory (block_room hash_block)) }
 {
     let Some((level, above)) = levels.split_first_mut() else {
         *root = coming;
@@ -212,7 +235,7 @@ fn rise(
     let next = salt.digest(&bytes);
     let block = level.next;
     level.next += 1;
-    out.push(Placed { block, bytes })?;
+    push(out, Placed { block, bytes })?;
     rise(hash_block, salt, above, root, next, out)
 }
 
@@ -224,10 +247,11 @@ fn close_up(
     root: Digest,
     coming: Option<Digest>,
     out: &mut Vec<Placed>,
-) -> Result<Digest, AllocError>
+) -> Result<Digest, OutOfMemory>
     ensures root { IfOk result (λ r. r ≡ (close hash_block salt.now levels.old root coming).root) }
     ensures out { OnOk result (out.new.items ≡ out.old.items ++ (close hash_block salt.now levels.old root coming).placed) }
     ensures some { HasSome out.old.items (close hash_block salt.now levels.old root coming).placed out.new.items }
+    ensures err { OnErr result (IsOutOfMemory (block_room hash_block)) }
 {
     let Some((level, above)) = levels.split_first_mut() else {
         return Ok(coming.unwrap_or(root));
@@ -240,40 +264,10 @@ fn close_up(
     }
     fill(&mut bytes, hash_block)?;
     let next = salt.digest(&bytes);
-    out.push(Placed {
+    let placed = Placed {
         block: level.next,
         bytes,
-    })?;
+    };
+    push(out, placed)?;
     close_up(hash_block, salt, above, root, Some(next), out)
-}
-
-/// A digest behind the bytes; the first one takes the memory for `size` bytes.
-fn append(bytes: &mut Vec<u8>, digest: &Digest, size: usize) -> Result<(), AllocError>
-    ensures { OnOk result (bytes.new.items ≡ bytes.old.items ++ digest.now) }
-{
-    if bytes.is_empty() {
-        bytes.reserve_exact(size)?;
-    }
-    bytes.extend_from_slice(digest.as_bytes())
-}
-
-/// A digest behind the bytes, if there is one.
-fn extend(bytes: &mut Vec<u8>, digest: Option<Digest>, hash_block: usize) -> Result<(), AllocError>
-    ensures { OnOk result (bytes.new.items ≡ bytes.old.items ++ unwrap_or digest []) }
-{
-    if let Some(digest) = digest {
-        append(bytes, &digest, hash_block)?;
-    }
-    Ok(())
-}
-
-/// Zeros behind the bytes, up to that size.
-fn fill(bytes: &mut Vec<u8>, size: usize) -> Result<(), AllocError>
-    ensures { OnOk result (bytes.new.items ≡ filled size bytes.old.items) }
-{
-    let len = bytes.len();
-    if len < size {
-        bytes.resize(size, 0)?;
-    }
-    Ok(())
 }

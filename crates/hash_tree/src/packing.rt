@@ -1,16 +1,22 @@
 //! The area: a tree's hash blocks as they are stored.
-ghost use Rattle.std.specs.Prelude.{◌≡◌, ◌+◌, ◌-◌, ◌*◌, ◌≤◌, ◌<◌, ◌/◌, ◌%◌, ◌++◌, length, map, replicate, All, IfOk, OnOk, IsTrue};
+ghost use Rattle.std.specs.Prelude.{◌≡◌, ◌+◌, ◌-◌, ◌*◌, ◌≤◌, ◌<◌, ◌/◌, ◌%◌, ◌++◌, length, map, replicate, All, IfOk, OnErr, OnOk, IsTrue};
+ghost use Rattle.allocation.specs.Refusal.{IsOutOfMemory};
 ghost use Rattle.std.specs.List.{concat};
 ghost use Rattle.tree_shape.specs.Digests.{digest};
-ghost use Rattle.tree_shape.specs.Shape.{is_block_size};
+ghost use Rattle.tree_shape.specs.Shape.{area_blocks, is_block_size};
 ghost use Rattle.hash_tree.specs.Tree.{area, root, cut};
 
 use crate::digest_blocks;
+use allocation::{OutOfMemory, filled, zeros};
 use std::alloc::{AllocError, Global};
 use tree_shape::{Digest, Salt, Shape};
 
 /// The tree's hash blocks as they are stored, the top level first and each filled up with zeros, and the root
 /// digest. `digests` are those of the data blocks in their order; each hash block is made once.
+///
+/// # Errors
+///
+/// `AllocError` if the allocator refused room for the area, or for the digests of a level.
 pub fn area(
     alloc: Global,
     shape: &Shape,
@@ -20,11 +26,12 @@ pub fn area(
     requires { length digests.now ≡ shape.now.blocks }
     ensures area { IfOk result (λ r. r.0.items ≡ concat (area shape.now.hash_block salt.now digests.now)) }
     ensures root { IfOk result (λ r. r.1 ≡ root shape.now.hash_block salt.now digests.now) }
+    ensures err { OnErr result (IsOutOfMemory (area_blocks shape.now * shape.now.hash_block)) }
 {
     are_whole(digests);
     let hash_block = shape.hash_block() as usize;
     let size = shape.area_blocks() as usize * hash_block;
-    let mut bytes = vec![in alloc; 0u8; size]?;
+    let mut bytes = zeros(alloc, size)?;
     let root = build(alloc, hash_block, salt, digests, &mut bytes)?;
     Ok((bytes, root))
 }
@@ -45,13 +52,14 @@ fn build(
     salt: &Salt,
     digests: &[Digest],
     out: &mut [u8],
-) -> Result<Digest, AllocError>
+) -> Result<Digest, OutOfMemory>
     requires size { IsTrue (is_block_size hash_block) }
     requires some { 0 < length digests.now }
     requires sized { All (λ d. length d ≡ 32) digests.now }
     requires room { length out.old ≡ hash_block * length (area hash_block salt.now digests.now) }
     ensures area { OnOk result (out.new ≡ concat (area hash_block salt.now digests.now)) }
     ensures root { IfOk result (λ r. r ≡ root hash_block salt.now digests.now) }
+    ensures err { OnErr result (IsOutOfMemory (length out.old)) }
 {
     if digests.len() == 1 {
         return Ok(digests[0]);
@@ -91,13 +99,14 @@ fn digests_of(
     hash_block: usize,
     salt: &Salt,
     blocks: &[u8],
-) -> Result<Vec<Digest>, AllocError>
+) -> Result<Vec<Digest>, OutOfMemory>
     requires size { 0 < hash_block }
     requires whole { length blocks.now % hash_block ≡ 0 }
-    ensures { IfOk result (λ v. v.items ≡ map (digest salt.now) (cut hash_block blocks.now)) }
+    ensures ok { IfOk result (λ v. v.items ≡ map (digest salt.now) (cut hash_block blocks.now)) }
+    ensures err { OnErr result (IsOutOfMemory (length blocks.now / hash_block)) }
 {
     let count = blocks.len() / hash_block;
-    let mut digests = vec![in alloc; Digest::new([0; Digest::SIZE]); count]?;
+    let mut digests = filled(alloc, count, Digest::new([0; Digest::SIZE]))?;
     digest_blocks(salt, hash_block, blocks, &mut digests);
     Ok(digests)
 }

@@ -1,11 +1,9 @@
 -- How the commands on verity images end early.
-use Rattle.std.specs.Prelude.{◌≡◌, ◌≢◌, ℕ, Bool, true, List, Option}
+use Rattle.std.specs.Prelude.{◌≡◌, ℕ, Bool, true, List, Option}
 use Rattle.image_files.specs.declared.opening.UnopenedFile.{UnopenedFile}
 use Rattle.verity_format.specs.declared.verifying.VerifyFault.{VerifyFault}
-use Rattle.verity_format.specs.declared.verifying.Verdict.{Verdict}
-use Rattle.verity_format.specs.declared.verifying.Verdict.TheVariants as verdicts
 use Rattle.image_commands.specs.declared.fault.ImageFault.{ImageFault}
-use Rattle.image_commands.specs.declared.fault.ImageFault.TheVariants.{NoMemory, Open, Verify, Differs, Write}
+use Rattle.image_commands.specs.declared.fault.ImageFault.TheVariants.{NoMemory, Open, Verify, Write}
 
 -- an image isn't opened, as is said of it
 abbrev pub IsUnopened : (UnopenedFile → Type 0) → ImageFault → Type 0
@@ -27,11 +25,6 @@ IsCommonEnd failed fault = ⊥
 abbrev pub IsVerifyEnd : (VerifyFault → Type 0) → Bool → ImageFault → Type 0
 IsVerifyEnd Cause failed (Verify fault) = Cause fault
 IsVerifyEnd Cause failed fault = IsCommonEnd failed fault
-
--- the same of a comparison, or the difference that was found
-abbrev pub IsComparisonEnd : (VerifyFault → Type 0) → (Verdict → Type 0) → Bool → ImageFault → Type 0
-IsComparisonEnd Cause Finding failed (Differs verdict) = (verdict ≢ verdicts.Matches) × Finding verdict
-IsComparisonEnd Cause Finding failed fault = IsVerifyEnd Cause failed fault
 
 -- nothing is written ahead of what ends a command, unless it is the writing that fails
 abbrev pub IsQuiet : ImageFault → Option (List ℕ) → Option (List ℕ) → Type 0

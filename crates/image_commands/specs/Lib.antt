@@ -1,5 +1,6 @@
 pub mod Drawing
 pub mod Endings
+pub mod Finding
 pub mod Clearing
 pub mod Refusals
 pub mod Formats

@@ -1,7 +1,6 @@
 -- Pins in files.
 use Rattle.std.specs.Borrow.{Bor}
 use Rattle.std.specs.Prelude.{◌≡◌, ◌⊎◌, ◌||◌, ℕ, Bool, true, false, List, Option, None, Ok, Err}
-use Rattle.std.specs.Str.{bytes_eq}
 use Rattle.block_device.specs.declared.file_id.FileId.{FileId}
 use Rattle.block_device.specs.declared.open_fault.OpenFault.{OpenFault}
 use Rattle.block_device.specs.declared.open_fault.OpenFault.TheVariants.{SameFile}
@@ -9,6 +8,7 @@ use Rattle.command_line.specs.declared.image_options.ImageOptions.{ImageOptions}
 use Rattle.image_files.specs.declared.images.FileText.{FileText}
 use Rattle.image_files.specs.declared.opening.UnopenedFile.{UnopenedFile}
 use Rattle.image_files.specs.OneFile.{is_one_file}
+use Rattle.image_files.specs.OnePlace.{Compares, FailsToCompare}
 use Rattle.image_files.specs.Opener.{Calls}
 use Rattle.text_files.specs.declared.texts.ReplaceFault.{ReplaceFault}
 use Rattle.image_pin.specs.declared.fault.PinFault.{PinFault}
@@ -50,23 +50,28 @@ TellsId w path id =
     ((text : FileText) × w.relations.tells w.old path 0 (Ok text) w.new × (id ≡ text.id))
     ⊎ ((fault : OpenFault) × w.relations.tells w.old path 0 (Err fault) w.new × (id ≡ None))
 
--- the file of a pin is one of two images, as far as the opener tells
+-- the file of a pin is one of two images, or leads to the place of the hash image, as far as the opener tells
 pub record ToldApart {S D : Type 0} (w : Calls S D) (data_path hash_path path : List ℕ) (is_one : Bool) : Type 0 where
+  pub compared : S
   pub pin_told : S
   pub data_told : S
   pub pin_id : Option FileId
   pub data_id : Option FileId
   pub hash_id : Option FileId
-  pub pin_tells : TellsId (record w { new = pin_told }) path pin_id
+  pub one : Bool
+  pub compares : Compares (record w { new = compared }) path hash_path one
+  pub pin_tells : TellsId (record w { old = compared; new = pin_told }) path pin_id
   pub data_tells : TellsId (record w { old = pin_told; new = data_told }) data_path data_id
   pub hash_tells : TellsId (record w { old = data_told }) hash_path hash_id
-  pub is : (bytes_eq path hash_path || is_one_file pin_id data_id || is_one_file pin_id hash_id) ≡ is_one
+  pub is : (one || is_one_file pin_id data_id || is_one_file pin_id hash_id) ≡ is_one
 
 abbrev pub AreApart : {S D : Type 0} → Calls S D → List ℕ → List ℕ → List ℕ → Type 0
 AreApart w data_path hash_path path = ToldApart w data_path hash_path path false
 
+-- it is one of them, or memory ran out before that was known
 abbrev pub AreOne : {S D : Type 0} → Calls S D → List ℕ → List ℕ → List ℕ → ImageFault → Type 0
-AreOne w data_path hash_path path (image.Open file) = ToldApart w data_path hash_path path true × (file.fault ≡ SameFile) × (file.path.now ≡ path)
+AreOne w data_path hash_path path (image.Open file) =
+    (ToldApart w data_path hash_path path true × (file.fault ≡ SameFile) × (file.path.now ≡ path)) ⊎ FailsToCompare w path hash_path file
 AreOne w data_path hash_path path fault = ⊥
 
 -- it is neither of them, and a file can be created beside it

@@ -8,9 +8,10 @@ use Rattle.image_files.specs.declared.images.OpenImage.{OpenImage}
 use Rattle.image_files.specs.Opened.{Opens, Refuses}
 use Rattle.image_files.specs.Opener.{Calls, Opener, calls}
 use Rattle.verity_format.specs.declared.verifying.Verdict.TheVariants.{Matches}
-use Rattle.verity_format.specs.Blocks.{IsOnlyRead}
-use Rattle.verity_format.specs.Superblock.{SuperRecord}
-use Rattle.verity_format.specs.Verifying.{IsFound, IsReadCause, IsReadFrom, IsVerifyCause}
+use Rattle.verity_format.specs.Blocks.{IsFullRead}
+use Rattle.verity_format.specs.Superblock.{SuperRecord, shape_of}
+use Rattle.verity_format.specs.Trees.{superblock_tree}
+use Rattle.verity_format.specs.Verifying.{IsReadCause, IsReadFrom, IsTreeFound}
 use Rattle.image_commands.specs.declared.fault.ImageFault.{ImageFault}
 use Rattle.image_commands.specs.declared.fault.ImageFault.TheVariants.{Unaligned}
 use Rattle.image_commands.specs.declared.paths.TwoImages.{TwoImages}
@@ -18,7 +19,9 @@ use Rattle.image_commands.specs.declared.places.Bounds.{Bounds}
 use Rattle.image_commands.specs.declared.places.HashPlace.{HashPlace}
 use Rattle.image_commands.specs.declared.table.LineWords.{LineWords}
 use Rattle.image_commands.specs.declared.watching.WatchedPlaces.{WatchedPlaces}
-use Rattle.image_commands.specs.Endings.{IsComparisonEnd, IsUnopened, IsVerifyEnd}
+use Rattle.image_commands.specs.Comparing.{IsComparedEnd}
+use Rattle.image_commands.specs.Endings.{IsUnopened, IsVerifyEnd}
+use Rattle.image_commands.specs.Finding.{IsTreeUnaligned, ReadsSuper}
 use Rattle.image_commands.specs.Openings.{FailsToOpenTwo, OpensTwo}
 use Rattle.image_commands.specs.Places.{TwoPlaces, before, behind, data_end, is_aligned, two_places}
 use Rattle.image_commands.specs.SuperblockJson.{dump_text}
@@ -39,12 +42,8 @@ pub record PrintsPlacedSuper {S D : Type 0} (w : Calls S D) (path : List ℕ) (f
   pub says : SaysPlaced (w.state image.device) first may text old new
 
 -- the superblock was read, but no hash block begins there
-pub record IsUnaligned (device : Device) (first : ℕ) (fault : ImageFault) : Type 0 where
-  pub super : SuperRecord
-  pub sector : List ℕ
-  pub read : IsReadFrom (behind device first) sector super
-  pub unaligned : is_aligned first super.hash_block ≡ false
-  pub is : fault ≡ Unaligned
+abbrev pub IsUnaligned : Device → ℕ → ImageFault → Type 0
+IsUnaligned device first fault = IsTreeUnaligned (behind device first) first × (fault ≡ Unaligned)
 
 -- it isn't read, no tree may stand there, memory ran out, or the text can't be written
 abbrev pub IsPlacedSuperEnd : Device → ℕ → Bool → ImageFault → Type 0
@@ -58,13 +57,15 @@ pub record EndsPlacedSuper {S D : Type 0} (w : Calls S D) (path : List ℕ) (fir
 abbrev pub IsPlacedImageEnd : {S D : Type 0} → Calls S D → List ℕ → ℕ → Bool → ImageFault → Type 0
 IsPlacedImageEnd w path first failed fault = IsUnopened (Refuses w path false) fault ⊎ EndsPlacedSuper w path first failed fault
 
--- `verify`: what lies before the data's end and what lies behind that sector; the superblock was read once before
+-- `verify`: the superblock at that sector was read once, and its tree is valid for what lies before the data's end, under the root
 pub record MatchesPlaced (data_dev hash_dev : Device) (end first : ℕ) (root : List ℕ) (old new : Option (List ℕ)) : Type 0 where
+  pub super : SuperRecord
   pub read_dev : Device
   pub data_dev' : Device
   pub hash_dev' : Device
-  pub first_read : IsOnlyRead (behind hash_dev first) read_dev
-  pub found : IsFound (before data_dev end) read_dev data_dev' hash_dev' root Matches
+  pub super_read : ReadsSuper (behind hash_dev first) first super
+  pub one : IsFullRead (behind hash_dev first) 1 read_dev
+  pub found : IsTreeFound (shape_of super) super.salt (before data_dev end) read_dev data_dev' hash_dev' root Matches
   pub printed : Appends old new (codes "matches\n")
 
 pub record PrintsPlacedMatches {S D : Type 0} (w : Calls S D) (places : TwoPlaces) (root : List ℕ) (old new : Option (List ℕ)) : Type 0 where
@@ -72,13 +73,15 @@ pub record PrintsPlacedMatches {S D : Type 0} (w : Calls S D) (places : TwoPlace
   pub opened : OpensTwo w places.paths false two
   pub matches : MatchesPlaced (w.state two.data.device) (w.state two.hash.device) (data_end two places.first) places.first root old new
 
--- a comparison that was made ends early
+-- the superblock was read once, and the comparison with its tree ends early
 pub record EndsMatching (data_dev hash_dev : Device) (end first : ℕ) (root : List ℕ) (failed : Bool) (fault : ImageFault) : Type 0 where
+  pub super : SuperRecord
   pub read_dev : Device
   pub data_dev' : Device
   pub hash_dev' : Device
-  pub first_read : IsOnlyRead (behind hash_dev first) read_dev
-  pub ends : IsComparisonEnd (IsVerifyCause (before data_dev end) read_dev data_dev' hash_dev') (IsFound (before data_dev end) read_dev data_dev' hash_dev' root) failed fault
+  pub super_read : ReadsSuper (behind hash_dev first) first super
+  pub one : IsFullRead (behind hash_dev first) 1 read_dev
+  pub ends : IsComparedEnd (superblock_tree super) (before data_dev end) read_dev data_dev' hash_dev' root failed fault
 
 abbrev pub IsMatchingEnd : Device → Device → ℕ → ℕ → List ℕ → Bool → ImageFault → Type 0
 IsMatchingEnd data_dev hash_dev end first root failed fault = IsPlacedSuperEnd hash_dev first failed fault ⊎ EndsMatching data_dev hash_dev end first root failed fault

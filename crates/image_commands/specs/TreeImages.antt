@@ -98,15 +98,6 @@ FailsAtTree data_state hash_state devices writer' bounds options root =
     let data_part = before (data_state devices.0) bounds.end in
     IsTreeComparisonEnd (tree_with options data_part) data_part (hash_state devices.1) bounds.first root writer'.failed
 
--- a tree of that shape on a hash device, behind the sector at which it begins
-abbrev pub MatchesShape : {D H W : Type 0} → SuperRecord → (D → Device) → (H → Device) → D → H × ℕ → (W → Option (List ℕ)) → CountedRecord W → CountedRecord W → List ℕ → Type 0
-MatchesShape s data_state hash_state data_dev placed contents writer writer' root =
-    MatchesTree s (data_state data_dev) (hash_state placed.0) placed.1 root (contents writer.inner) (contents writer'.inner)
-
-abbrev pub FailsAtShape : {D H W : Type 0} → SuperRecord → (D → Device) → (H → Device) → D → H × ℕ → CountedRecord W → List ℕ → ImageFault → Type 0
-FailsAtShape s data_state hash_state data_dev placed writer' root =
-    IsTreeComparisonEnd s (data_state data_dev) (hash_state placed.0) placed.1 root writer'.failed
-
 -- the line that the words give
 abbrev pub SaysTreeLine : {W : Type 0} → (W → Option (List ℕ)) → CountedRecord W → CountedRecord W → ℕ → Option (Bor (List ℕ)) → LineWords → FormatOptions → Type 0
 SaysTreeLine contents writer writer' first name words options = PrintsTreeLine first name words options (contents writer.inner) (contents writer'.inner)

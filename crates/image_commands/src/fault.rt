@@ -2,6 +2,7 @@
 ghost use Rattle.std.specs.Prelude.{◌≡◌};
 ghost use Rattle.image_commands.specs.declared.fault.ImageFault.TheVariants as image_fault;
 
+use crate::finding::NoTree;
 use counted_io::WriteFault;
 use image_files::UnopenedFile;
 use image_pin::{Mismatch, PinFault};
@@ -69,6 +70,19 @@ impl From<FormatFault> for ImageFault<'_> {
 
     fn from(fault: FormatFault) -> Self {
         ImageFault::Format(fault)
+    }
+}
+
+impl From<NoTree> for ImageFault<'_> {
+    ghost use Rattle.image_commands.specs.Finding.{no_tree_fault};
+
+    ghost from_gives = { λ fault given. given ≡ no_tree_fault fault };
+
+    fn from(fault: NoTree) -> Self {
+        match fault {
+            NoTree::Unread(fault) => ImageFault::Verify(fault),
+            NoTree::Unaligned => ImageFault::Unaligned,
+        }
     }
 }
 

@@ -3,7 +3,9 @@
 
 mod cleared_tree;
 mod clearing;
+mod comparing;
 mod fault;
+mod finding;
 mod format;
 mod line;
 mod paths;
@@ -23,17 +25,18 @@ mod tree_format;
 mod tree_line;
 mod tree_place;
 mod tree_verify;
-mod verify;
 mod watching;
 
+pub use comparing::{ImagePair, compare, place_parts};
 pub use fault::ImageFault;
+pub use finding::{NoTree, find_tree};
 pub use format::{MadeImage, say_made};
-pub use paths::ImagePaths;
+pub use paths::{ImagePaths, TwoImages, open_two};
 pub use pin_file::{check_pin_path, pin_of_image, read_pin, write_pin};
 pub use pinned::verify_pinned;
 pub use placed::{dump_placed, table_placed, verify_placed};
 pub use placed_format::make_placed;
-pub use places::{HashPlace, ImagePlaces, is_aligned};
+pub use places::{Bounds, HashPlace, ImagePlaces, data_end, is_aligned};
 pub use preparing::prepare_image;
 pub use random::{Generators, NoRandomBytes, SystemGenerators, draw};
 pub use root_file::read_root;
@@ -42,4 +45,4 @@ pub use tree_format::format_tree;
 pub use tree_line::print_tree_line;
 pub use tree_place::{given_options, unnamed};
 pub use tree_verify::{ExpectedTree, verify_tree};
-pub use watching::WatchedPlaces;
+pub use watching::{WatchedPlaces, watch};

@@ -19,13 +19,6 @@ pub struct TwoImages<D> {
     pub hash: OpenImage<D>,
 }
 
-/// A data device and its hash device.
-#[derive(Drop)]
-pub(crate) struct ImagePair<D, H> {
-    pub(crate) data: D,
-    pub(crate) hash: H,
-}
-
 /// Opens the data image for reading, and then the hash image, for writing too where `writable` says so.
 pub fn open_two<'a, I: Images>(
     images: &mut I,

@@ -8,7 +8,7 @@ use crate::format::MadeImage;
 use crate::places::ImagePlaces;
 use block_device::{FileId, OpenFault};
 use command_line::ImageOptions;
-use image_files::{Images, UnopenedFile, is_one_file};
+use image_files::{Images, UnopenedFile, is_one_file, is_one_place};
 use image_pin::{MOST_BYTES, Pin, parse_pin, print_pin};
 use std::alloc::Global;
 
@@ -40,8 +40,8 @@ pub fn pin_of_image(options: &ImageOptions, made: &MadeImage) -> Pin
     }
 }
 
-/// Replaces what a file holds by the text of a pin. The file may be one of the two images only since these were made: that is
-/// looked for again.
+/// Replaces what a file holds by the text of a pin. Another process may have made the file one of the two images since
+/// `check_pin_path`, so that is checked again.
 ///
 /// # Errors
 ///
@@ -65,7 +65,7 @@ pub fn write_pin<'a, I: Images>(
 }
 
 /// Checks that a pin can be written to a file, before an image is made: the file isn't one of the two images, which the pin would
-/// replace, and another one can be created in its folder.
+/// replace, also if neither is there yet, and another one can be created in its folder.
 ///
 /// # Errors
 ///
@@ -87,7 +87,7 @@ pub fn check_pin_path<'a, I: Images>(
     }
 }
 
-// The file of a pin isn't one of the two images.
+// The file of a pin isn't one of the two images, nor is it to be made where HASH is to be made.
 fn check_apart<'a, I: Images>(
     images: &mut I,
     places: ImagePlaces<'a>,
@@ -96,10 +96,11 @@ fn check_apart<'a, I: Images>(
     ensures ok { OnOk result (AreApart (calls I.relations I.Dev.state images.old images.new) places.entry.data.now places.entry.hash.now path.now) }
     ensures err { IfErr result (AreOne (calls I.relations I.Dev.state images.old images.new) places.entry.data.now places.entry.hash.now path.now) }
 {
+    let one = is_one_place(images, path, places.hash)?;
     let pin = file_id(images, path);
     let data = file_id(images, places.data);
     let hash = file_id(images, places.hash);
-    if path == places.hash || is_one_file(pin, data) || is_one_file(pin, hash) {
+    if one || is_one_file(pin, data) || is_one_file(pin, hash) {
         let fault = OpenFault::SameFile;
         return Err(ImageFault::Open(UnopenedFile { fault, path }));
     }

@@ -3,13 +3,14 @@ ghost use Rattle.std.specs.Prelude.{IfErr, OnOk};
 ghost use Rattle.image_commands.specs.Endings.{IsQuiet};
 ghost use Rattle.image_commands.specs.PlacedImages.{DumpsImageAt, FailsToMatchAt, FailsToPrintAt, FailsToVerifyAt, IsPlacedSuperEnd, MatchesAt, PrintsLineAt, SaysFieldsAt, SaysLineAt, VerifiesImagesAt};
 
+use crate::comparing::{compare, place_parts};
 use crate::fault::ImageFault;
+use crate::finding::find_tree;
 use crate::line::say_line;
-use crate::paths::{ImagePair, ImagePaths, open_two};
-use crate::places::{Bounds, HashPlace, ImagePlaces, data_end, is_aligned, tree_start};
+use crate::paths::{ImagePaths, open_two};
+use crate::places::{Bounds, HashPlace, ImagePlaces, data_end, tree_start};
 use crate::superblock_json::say_dump;
 use crate::table::LineWords;
-use crate::verify::compare;
 use crate::watching::{WatchedPlaces, watch};
 use block_device::BlockDev;
 use counted_io::Counted;
@@ -91,11 +92,8 @@ fn table_behind<'a, H: BlockDev + Drop, W: Write>(
 {
     let (hash_dev, first) = placed;
     let mut window = Window::<H, Brand>::behind(hash_dev, first);
-    let superblock = read_superblock(&mut window)?;
+    let superblock = find_tree(&mut window, first)?;
     let size = superblock.hash_block();
-    if !is_aligned(first, size) {
-        return Err(ImageFault::Unaligned);
-    }
     let start = tree_start(first, size, 1);
     say_line(alloc, writer, name, &superblock, words, start)
 }
@@ -143,15 +141,7 @@ fn compare_behind<'a, D: BlockDev + Drop, H: BlockDev + Drop, W: Write>(
     ensures quiet { IfErr result (λ fault. IsQuiet fault (W.contents writer.old.inner) (W.contents writer.new.inner)) }
 {
     let (data_dev, hash_dev) = devices;
-    let before = Window::<D, Brand>::before(data_dev, bounds.end);
-    let mut behind = Window::<H, Brand>::behind(hash_dev, bounds.first);
-    let superblock = read_superblock(&mut behind)?;
-    if !is_aligned(bounds.first, superblock.hash_block()) {
-        return Err(ImageFault::Unaligned);
-    }
-    let mut two = ImagePair {
-        data: before,
-        hash: behind,
-    };
-    compare(alloc, &mut two, root, writer)
+    let mut two = place_parts(data_dev, hash_dev, bounds);
+    let superblock = find_tree(&mut two.hash, bounds.first)?;
+    compare(alloc, &mut two, &superblock.tree(), root, writer)
 }

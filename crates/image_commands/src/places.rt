@@ -25,7 +25,7 @@ pub struct HashPlace<'a> {
 
 /// The sector where the data end, and the one where the hash image begins.
 #[derive(Clone, Copy)]
-pub(crate) struct Bounds {
+pub struct Bounds {
     pub end: u64,
     pub first: u64,
 }
@@ -78,7 +78,7 @@ pub(crate) fn open_placed<'a, I: Images>(
 }
 
 /// The sector where the data end: in one file before the hash image, else at the end of theirs.
-pub(crate) fn data_end<D>(two: &TwoImages<D>, first: u64) -> u64
+pub fn data_end<D>(two: &TwoImages<D>, first: u64) -> u64
     ensures { result ≡ data_end two.now first }
 {
     if first > 0 && is_one_file(two.data.id, two.hash.id) {

@@ -1,8 +1,9 @@
 //! The command `verify --no-superblock`: compares a tree alone with a data image.
 ghost use Rattle.std.specs.Prelude.{◌≡◌, IfErr, OnOk};
 ghost use Rattle.image_commands.specs.Endings.{IsQuiet};
-ghost use Rattle.image_commands.specs.TreeImages.{FailsAtShape, FailsAtTree, FailsToVerifyTree, MatchesShape, MatchesTreeAt, VerifiesTree};
+ghost use Rattle.image_commands.specs.TreeImages.{FailsAtTree, FailsToVerifyTree, MatchesTreeAt, VerifiesTree};
 
+use crate::comparing::{compare, place_parts};
 use crate::fault::ImageFault;
 use crate::paths::{ImagePaths, open_two};
 use crate::places::{Bounds, ImagePlaces, data_end, is_aligned};
@@ -10,13 +11,11 @@ use crate::tree_place::tree_of;
 use crate::watching::{WatchedPlaces, bytes_of_blocks, watch};
 use block_device::BlockDev;
 use counted_io::Counted;
-use device_window::{Part, Window};
 use image_files::Images;
 use std::alloc::Global;
 use std::io::Write;
-use std::marker::{Brand, PhantomData};
 use tree_shape::Digest;
-use verity_format::{FormatOptions, Superblock, Verdict};
+use verity_format::FormatOptions;
 use watched_device::{Watchers, bytes_before};
 
 /// What a tree is to be: its options and its root.
@@ -82,44 +81,7 @@ pub(crate) fn compare_at<'a, D: BlockDev + Drop, H: BlockDev + Drop, W: Write>(
     ensures quiet { IfErr result (λ fault. IsQuiet fault (W.contents writer.old.inner) (W.contents writer.new.inner)) }
 {
     let (data_dev, hash_dev) = devices;
-    let mut data_part = Window::<D, Brand>::before(data_dev, bounds.end);
-    let params = tree_of(options, data_part.sectors())?;
-    compare_tree(
-        alloc,
-        &mut data_part,
-        (hash_dev, bounds.first),
-        params,
-        root,
-        writer,
-    )
-}
-
-// Compares the tree of that shape.
-#[tactic(auto, using(crate::proofs::lemmas::EndingLemmas::quiet))]
-fn compare_tree<'a, D: BlockDev, H: BlockDev + Drop, W: Write>(
-    alloc: Global,
-    data_dev: &mut D,
-    placed: (H, u64),
-    params: Superblock,
-    root: &Digest,
-    writer: &mut Counted<W>,
-) -> Result<(), ImageFault<'a>>
-    ensures ok { OnOk result (MatchesShape params D.state H.state data_dev.old placed W.contents writer.old writer.new root.now) }
-    ensures err { IfErr result (FailsAtShape params D.state H.state data_dev.old placed writer.new root.now) }
-    ensures quiet { IfErr result (λ fault. IsQuiet fault (W.contents writer.old.inner) (W.contents writer.new.inner)) }
-{
-    let (hash_dev, first) = placed;
-    let part = Part::behind(&hash_dev, first);
-    let mut window = Window::<H, Brand> {
-        inner: hash_dev,
-        part,
-        beside: PhantomData,
-    };
-    match verity_format::verify_tree(alloc, data_dev, &mut window, &params.tree_alone(), root)? {
-        Verdict::Matches => {
-            writer.put(b"matches\n")?;
-            Ok(())
-        }
-        verdict => Err(ImageFault::Differs(verdict)),
-    }
+    let mut two = place_parts(data_dev, hash_dev, bounds);
+    let params = tree_of(options, two.data.sectors())?;
+    compare(alloc, &mut two, &params.tree_alone(), root, writer)
 }

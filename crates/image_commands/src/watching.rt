@@ -16,7 +16,7 @@ pub struct WatchedPlaces<'a> {
 }
 
 /// The two devices. Of the reads of the data device someone is told, as of so many bytes that are read.
-pub(crate) fn watch<D: BlockDev + Drop, S: Watchers>(
+pub fn watch<D: BlockDev + Drop, S: Watchers>(
     two: TwoImages<D>,
     watchers: &S,
     progress: bool,

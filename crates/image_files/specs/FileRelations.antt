@@ -67,6 +67,7 @@ file_relations view = record {
   takes_part = λ old path part device new. new ≡ old;
   grows = λ old path sectors outcome new. LocksAtMost (view.locked old) (view.locked new) × Grows path sectors outcome;
   measures = λ old path outcome new. (new ≡ old) × EndsInPart path outcome;
+  compares = λ old path other outcome new. new ≡ old;
   replaces = λ old path bytes outcome new. new ≡ old;
   tries = λ old path outcome new. new ≡ old;
 }

@@ -3,6 +3,7 @@ pub mod FileLocks
 pub mod FileRelations
 pub mod FileUses
 pub mod OneFile
+pub mod OnePlace
 pub mod Opened
 pub mod Opener
 pub mod OpenParts

@@ -25,6 +25,8 @@ pub record Opener (S D : Type 0) : Type 1 where
   pub grows : S → List ℕ → ℕ → Result (Unit {0}) OpenFault → S → Type 0
   -- a path, and whether its file ends inside a sector
   pub measures : S → List ℕ → Result Bool OpenFault → S → Type 0
+  -- a path and another one, and whether both lead to one place
+  pub compares : S → List ℕ → List ℕ → Result Bool OpenFault → S → Type 0
   -- a path, and the bytes that are put in the place of what its file holds
   pub replaces : S → List ℕ → List ℕ → Result (Unit {0}) ReplaceFault → S → Type 0
   -- a path, and whether a file can be created beside it

@@ -1,6 +1,6 @@
 -- What is taken of an operating system's files: a premise of who reads the commands' clauses of files. The library's contracts
 -- say none of it, so no proof gives it of `FileImages`; images in memory keep it (`memory_images`).
-use Rattle.std.specs.Prelude.{◌≡◌, ◌+◌, ◌-◌, ◌*◌, ◌/◌, ◌%◌, ◌≤◌, ◌==◌, ◌++◌, ℕ, Bool, true, false, not, IsSome, List, length, take, drop, replicate, Option, Some, Result, Ok}
+use Rattle.std.specs.Prelude.{◌≡◌, ◌+◌, ◌-◌, ◌*◌, ◌/◌, ◌%◌, ◌≤◌, ◌==◌, ◌++◌, ℕ, Bool, true, false, not, IsSome, List, length, take, drop, replicate, Option, Some, None, Result, Ok}
 use Rattle.block_device.specs.declared.file_id.FileId.{FileId}
 use Rattle.block_device.specs.declared.open_fault.OpenFault.{OpenFault}
 use Rattle.block_device.specs.Device.{Device, sectors_of}
@@ -84,6 +84,11 @@ pub record KeepsFiles {S D : Type 0} (o : Opener S D) (state : D → Device) (at
   pub kept_measuring : (old new : S) (path : List ℕ) (outcome : Result Bool OpenFault) → o.measures old path outcome new → at new ≡ at old
   pub measured : (old new : S) (path : List ℕ) (part : Bool) → o.measures old path (Ok part) new
       → (file : FileRecord) × (at old path ≡ Some file) × (part ≡ not (length file.bytes % 512 == 0))
+  -- to find out whether two paths lead to one place changes no file
+  pub kept_comparing : (old new : S) (path other : List ℕ) (outcome : Result Bool OpenFault) → o.compares old path other outcome new → at new ≡ at old
+  -- if they don't, a file that is made under the one isn't there under the other
+  pub made_apart : (old between new : S) (path other : List ℕ) (sectors : ℕ) → o.compares old path other (Ok false) between → o.grows between path sectors (Ok tt) new
+      → at between other ≡ None → at new other ≡ None
   -- bytes that are put in the place of what a file holds are all that it holds then, and no other file changes
   pub replaced : (old new : S) (path bytes : List ℕ) → o.replaces old path bytes (Ok tt) new → (file : FileRecord) × (at new path ≡ Some file) × (file.bytes ≡ bytes)
   pub kept_replacing : (old new : S) (path other bytes : List ℕ) (outcome : Result (Unit {0}) ReplaceFault) (another : FileRecord) → o.replaces old path bytes outcome new → at old other ≡ Some another

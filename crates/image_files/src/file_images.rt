@@ -9,6 +9,7 @@ ghost use Rattle.image_files.specs.FileLocks.{Locks, LocksAtMost};
 use crate::file_locks::FileLocks;
 use crate::growing::make_file;
 use crate::images::{FileText, Images, OpenImage};
+use crate::one_place::is_one_place;
 use crate::parts::PartFault;
 use block_device::{
     AnyDev, BlockDev, FileDev, FileId, MemoryDev, OpenFault, metadata_at, metadata_of,
@@ -145,6 +146,10 @@ impl<R: Files<File = File> + AllocGlobal + Input> Images for FileImages<'_, R> {
     fn has_part_sector(&mut self, path: &str) -> Result<bool, OpenFault> {
         let metadata = metadata_at(self.rt, path)?;
         Ok(metadata.is_file() && metadata.len() % SECTOR != 0)
+    }
+
+    fn is_one_place(&mut self, path: &str, other: &str) -> Result<bool, OpenFault> {
+        is_one_place(self.rt, path, other)
     }
 
     fn replace(&mut self, path: &str, bytes: &[u8]) -> Result<(), ReplaceFault> {

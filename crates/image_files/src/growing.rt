@@ -1,9 +1,10 @@
 //! Files that are made.
+use crate::one_place::target_of;
 use block_device::OpenFault;
 use std::fs::File;
 use std::io::ErrorKind;
 use std::rt::Files;
-use text_files::{CallFault, FileCalls, ReplaceFault, SystemCalls};
+use text_files::{CallFault, FileCalls, SystemCalls};
 
 /// Makes an empty file if a path leads to none, and syncs the folder that lists it.
 ///
@@ -11,18 +12,15 @@ use text_files::{CallFault, FileCalls, ReplaceFault, SystemCalls};
 ///
 /// What the system answered.
 pub fn make_file<R: Files<File = File> + AllocGlobal>(rt: &R, path: &str) -> Result<(), OpenFault> {
-    let mut calls = SystemCalls::new(rt);
-    let target = match calls.resolve(path) {
-        Ok(target) => target,
-        Err(ReplaceFault::NoMemory) => return Err(OpenFault::NoMemory),
-        Err(_) => return Err(OpenFault::OtherFault),
+    let Some(target) = target_of(rt, path)? else {
+        return Err(OpenFault::OtherFault);
     };
     match File::create_new(rt, target.as_str()) {
         Ok(_) => {}
         Err(error) if error.kind() == ErrorKind::AlreadyExists => return Ok(()),
         Err(error) => return Err(OpenFault::from(error.kind())),
     }
-    match calls.sync_folder(target.as_str()) {
+    match SystemCalls::new(rt).sync_folder(target.as_str()) {
         Ok(()) => Ok(()),
         Err(CallFault) => Err(OpenFault::OtherFault),
     }

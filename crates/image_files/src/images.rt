@@ -1,5 +1,6 @@
 //! What commands open: images and texts under paths.
-ghost use Rattle.std.specs.Prelude.{◌≡◌, ◌≤◌, length, IfOk};
+ghost use Rattle.std.specs.Prelude.{◌≡◌, ◌≤◌, length, true, IfErr, IfOk};
+ghost use Rattle.block_device.specs.declared.open_fault.OpenFault.TheVariants as open_fault;
 ghost use Rattle.image_files.specs.Opener.{IsFresh, Opener};
 
 use crate::parts::PartFault;
@@ -67,6 +68,16 @@ pub trait Images {
     /// Whether the file under this path ends inside a sector. What has a size of its own, as a block device, doesn't.
     fn has_part_sector(&mut self, path: &str) -> Result<bool, OpenFault>
         ensures { relations.measures self.old path.now result self.new };
+
+    /// Whether both paths lead to one place, be there a file or not: to one name in one folder. Equal paths do.
+    ///
+    /// # Errors
+    ///
+    /// `NoMemory`. A path that can't be followed leads to no place.
+    fn is_one_place(&mut self, path: &str, other: &str) -> Result<bool, OpenFault>
+        ensures compared { relations.compares self.old path.now other.now result self.new }
+        ensures equal { IfOk result (λ one. path.now ≡ other.now → one ≡ true) }
+        ensures err { IfErr result (λ fault. fault ≡ open_fault.NoMemory) };
 
     /// Puts these bytes in the place of what stands under this path: a cut leaves the old file or the new one.
     fn replace(&mut self, path: &str, bytes: &[u8]) -> Result<(), ReplaceFault>

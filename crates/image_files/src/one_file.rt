@@ -1,6 +1,6 @@
-//! Whether two open files are one.
+//! Which file an open one is: whether two are one, and whether it is a block device.
 ghost use Rattle.std.specs.Prelude.{◌≡◌};
-ghost use Rattle.image_files.specs.OneFile.{is_id, is_one_file};
+ghost use Rattle.image_files.specs.OneFile.{is_block_device, is_id, is_one_file};
 
 use block_device::FileId;
 
@@ -28,4 +28,11 @@ fn is_id(a: FileId, b: FileId) -> bool
         (FileId::BlockDevice(device), FileId::BlockDevice(other)) => device == other,
         _ => false,
     }
+}
+
+/// Whether a file is a block device, as far as the system tells. `Images::grow` leaves its size as it is.
+pub fn is_block_device(id: Option<FileId>) -> bool
+    ensures { result ≡ is_block_device id }
+{
+    matches!(id, Some(FileId::BlockDevice(_)))
 }

@@ -1,6 +1,7 @@
 //! Opens the images and texts that a command line names.
 ghost use Rattle.std.specs.Prelude.{◌≤◌, length, IfOk, IfErr};
 ghost use Rattle.image_files.specs.Apart.{OpensApart, RefusesApart};
+ghost use Rattle.image_files.specs.OnePlace.{Compares, FailsToCompare};
 ghost use Rattle.image_files.specs.Opened.{Opens, Refuses, RefusesText, TellsFile};
 ghost use Rattle.image_files.specs.Opener.{IsFresh, calls};
 
@@ -65,6 +66,25 @@ pub fn read_text<'a, I: Images>(
 {
     match images.read_text(path, most) {
         Ok(text) => Ok(text),
+        Err(fault) => Err(UnopenedFile { fault, path }),
+    }
+}
+
+/// Whether two paths lead to one place, be there a file or not.
+///
+/// # Errors
+///
+/// `NoMemory`, of the first path.
+pub fn is_one_place<'a, I: Images>(
+    images: &mut I,
+    path: &'a str,
+    other: &str,
+) -> Result<bool, UnopenedFile<'a>>
+    ensures ok { IfOk result (Compares (calls I.relations I.Dev.state images.old images.new) path.now other.now) }
+    ensures err { IfErr result (FailsToCompare (calls I.relations I.Dev.state images.old images.new) path.now other.now) }
+{
+    match images.is_one_place(path, other) {
+        Ok(one) => Ok(one),
         Err(fault) => Err(UnopenedFile { fault, path }),
     }
 }

@@ -7,7 +7,7 @@ use std::io::Write;
 
 /// Prints the program's name and the kit that its sources are proved with.
 pub fn print_version<W: Write>(writer: &mut Counted<W>) -> Result<(), WriteFault>
-    ensures { Writes W.contents writer.old writer.new (codes "dmstack 1, of sources that are proved with rattle-kit-13f\n") result }
+    ensures { Writes W.contents writer.old writer.new (codes "dmstack 1, of sources that are proved with rattle-kit-13b\n") result }
 {
-    writer.put(b"dmstack 1, of sources that are proved with rattle-kit-13f\n")
+    writer.put(b"dmstack 1, of sources that are proved with rattle-kit-13b\n")
 }

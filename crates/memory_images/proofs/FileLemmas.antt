@@ -1,8 +1,8 @@
 -- Images in memory as files.
-use Rattle.std.proofs.Common.{◌≡◌, ◌<◌, ◌%◌, ◌==◌, ℕ, Bool, not, List, length, take, Option, Some, None, Result, Ok, Err, Vec, refl, sym, ap, subst, ◌∙◌}
+use Rattle.std.proofs.Common.{◌≡◌, ◌<◌, ◌%◌, ◌==◌, ℕ, Bool, true, false, not, List, length, take, Option, Some, None, Result, Ok, Err, Vec, refl, sym, ap, subst, ◌∙◌}
 use Rattle.std.specs.Prelude.{slice_get}
 use Rattle.std.specs.Option.{option_map}
-use Rattle.std.proofs.lemmas.Bool.{eq-eqb, false≢true}
+use Rattle.std.proofs.lemmas.Bool.{eq-eqb, eqb-false, eqb-true, false≢true}
 use Rattle.std.proofs.lemmas.Option.{none-some, same_Some, slice_get_within}
 use Rattle.block_device.specs.declared.memory.MemoryDev.{MemoryDev}
 use Rattle.block_device.specs.contracts.memory.MemoryDevBlockDev.TheImpl.{ghosts}
@@ -15,7 +15,7 @@ use Rattle.memory_images.specs.declared.named_images.MemoryImages.{MemoryImages}
 use Rattle.text_files.specs.declared.texts.ReplaceFault.{ReplaceFault}
 use Rattle.memory_images.specs.Files.{file_at_place, file_under}
 use Rattle.memory_images.specs.MemoryRelations.{ChangesAt, IsCopy, IsMeasured, IsReplaced, IsText, PutsAt, ReplacesAt, id_at}
-use Rattle.memory_images.specs.Named.{Stands, image_bytes, named_place}
+use Rattle.memory_images.specs.Named.{IsChanged, Stands, image_bytes, named_place}
 
 -- what stands at a place as a file
 abbrev pub file-of : ℕ → List ℕ → FileRecord
@@ -124,6 +124,33 @@ others-unchanged old new path other change file another is_changed is is' apart 
     subst (λ (f : FileRecord). AreApart f (file-of at'.place at'.bytes)) at.is (subst (λ (f : FileRecord). AreApart file f) at'.is apart) in
     let kept = at_place.1.others at'.place (apart-places at.place at'.place at.bytes at'.bytes apart') in
     under new other at'.place at'.bytes (record { placed = placed-still old new other at'.place at_place.0 at'.placed; found = kept ∙ at'.found }) ∙ ap (λ (f : FileRecord). Some f) (sym at'.is)
+
+no-bytes : (place : ℕ) (o : Option (List ℕ)) → option_map (λ (b : List ℕ). file-of place b) o ≡ None → o ≡ None
+no-bytes place None is = refl
+no-bytes place (Some bytes) is = absurd (none-some (file-of place bytes) (sym is))
+
+-- where there are no bytes there are none after a change
+still-none : {Z : Type 0} (old new : List (Vec ℕ Z)) (place k : ℕ) (change : List ℕ → List ℕ) → IsChanged old place change new → image_bytes old k ≡ None → (e : Bool) → (k == place) ≡ e
+    → image_bytes new k ≡ None
+still-none old new place k change c none true same =
+    let at = eqb-true k place same in
+    ap (image_bytes new) at ∙ (c.here ∙ ap (option_map change) (ap (image_bytes old) (sym at) ∙ none))
+still-none old new place k change c none false other = c.others k (eqb-false k place other) ∙ none
+
+-- and so under a path
+pub none-kept : (old new : MemoryImages) (path other : List ℕ) (change : List ℕ → List ℕ) → ChangesAt (named_place old.names.items path) change old new
+    → file_under old other ≡ None → file_under new other ≡ None
+none-kept old new path other change is_changed none = go (named_place old.names.items path) is_changed
+  where
+    at : (place : ℕ) → IsChanged old.images.items place change new.images.items → (o : Option ℕ) → file_at_place old.images.items o ≡ None → file_at_place new.images.items o ≡ None
+    at place c None is = refl
+    at place c (Some k) is =
+        ap (option_map (λ (b : List ℕ). file-of k b)) (still-none old.images.items new.images.items place k change c (no-bytes k (image_bytes old.images.items k) is) (k == place) refl)
+
+    go : (o : Option ℕ) → ChangesAt o change old new → file_under new other ≡ None
+    go None same = ap (λ (m : MemoryImages). file_under m other) same ∙ none
+    go (Some place) c =
+        ap (λ names. file_at_place new.images.items (named_place names.items other)) c.0 ∙ at place c.1 (named_place old.names.items other) none
 
 pub part-measured : (m : MemoryImages) (path : List ℕ) (part : Bool) → IsMeasured m path part
     → (file : FileRecord) × (file_under m path ≡ Some file) × (part ≡ not (length file.bytes % 512 == 0))

@@ -1,5 +1,6 @@
 -- What a proof sees of images in memory.
 use Rattle.std.specs.Prelude.{◌≡◌, ◌==◌, ℕ, Bool, not, IsSome, List, length, ◌/◌, ◌%◌, take, Option, Some, None, Result, Ok, Err}
+use Rattle.std.specs.Str.{bytes_eq}
 use Rattle.block_device.specs.declared.file_id.FileId.{FileId}
 use Rattle.block_device.specs.declared.file_id.FileId.TheVariants.{Inode}
 use Rattle.block_device.specs.declared.memory.MemoryDev.{MemoryDev}
@@ -126,6 +127,7 @@ memory_relations = record {
   takes_part = λ old path part device new. ChangesAt (named_place old.names.items path) (λ image. with_part image part (memory_bytes device)) old new;
   grows = GrowsAt;
   measures = λ old path outcome new. (new ≡ old) × Measures old path outcome;
+  compares = λ old path other outcome new. (new ≡ old) × (outcome ≡ Ok (bytes_eq path other));
   replaces = ReplacesAt;
   tries = λ old path outcome new. (new ≡ old) × IsTrial old path outcome;
 }

@@ -12,8 +12,8 @@ use text_files::ReplaceFault;
 
 const SECTOR: usize = 512;
 
-/// Images in memory under names, of which the first with a name counts. An open image is a copy; what was written to it
-/// stands under its name once it is given back.
+/// Images in memory under names, of which the first with a name counts. An open image is a copy; its name has what was
+/// written to it once it is closed.
 #[derive(Drop)]
 pub struct MemoryImages {
     names: Vec<String>,
@@ -164,6 +164,11 @@ impl Images for MemoryImages {
     fn has_part_sector(&mut self, path: &str) -> Result<bool, OpenFault> {
         let (_, bytes) = copy_under(&self.names, &self.images, path)?;
         Ok(bytes.len() % SECTOR != 0)
+    }
+
+    // A place is a name.
+    fn is_one_place(&mut self, path: &str, other: &str) -> Result<bool, OpenFault> {
+        Ok(path == other)
     }
 
     // What stands under no name isn't made.

@@ -90,7 +90,7 @@ pub fn say_hole<W: Write>(
     put32(writer, count)
 }
 
-/// What is told of extents by the only context, in the last chunk of a reply.
+/// Writes the extents of the only context, in the last chunk of a reply.
 pub fn say_status<W: Write>(
     writer: &mut Counted<W>,
     cookie: u64,

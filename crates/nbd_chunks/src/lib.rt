@@ -1,4 +1,4 @@
-//! The chunks by which a request of the NBD protocol is answered, where the client asked for structured replies.
+//! The chunks of the NBD protocol's structured replies.
 #![tactic(auto)]
 
 mod chunk;

@@ -1,4 +1,4 @@
-//! Metadata contexts: what a client queries of them, and what it is told.
+//! Metadata contexts: a client's queries, and their replies.
 ghost use Rattle.std.specs.Prelude.{◌≡◌, ◌≤◌, ◌||◌, length, true, IfSome};
 ghost use Rattle.std.specs.Str.{bytes_eq};
 ghost use Rattle.counted_io.specs.Counted.{Writes};
@@ -10,7 +10,7 @@ use counted_io::{Counted, WriteFault};
 use nbd_protocol::{Export, Terms, asked, number32, put32};
 use std::io::Write;
 
-/// The option that asks which contexts there are.
+/// The option that lists the contexts.
 pub(crate) const LIST_META_CONTEXT: u32 = 9;
 
 /// The option that selects contexts.
@@ -19,7 +19,7 @@ pub(crate) const SET_META_CONTEXT: u32 = 10;
 // The kind of the reply that names a context.
 const META_CONTEXT: u32 = 4;
 
-// Whether a string's length and its bytes stand at the front.
+// Whether the bytes begin with a string's length and the string.
 fn is_string(bytes: &[u8]) -> bool
     ensures { result ≡ is_string bytes.now }
 {
@@ -39,7 +39,7 @@ fn string_in(bytes: &[u8]) -> &[u8]
     &bytes[4..4 + len]
 }
 
-// What stands behind it.
+// The bytes after it.
 fn behind_string(bytes: &[u8]) -> &[u8]
     requires { is_string bytes.now ≡ true }
     ensures { result.now ≡ behind_string bytes.now }
@@ -108,7 +108,7 @@ fn is_of_all(listing: bool, count: u32) -> bool
     listing && count == 0
 }
 
-// The same of queries behind their number.
+// The same for queries after their number.
 fn wanted_of(listing: bool, bytes: &[u8]) -> Option<bool>
     requires { 4 ≤ length bytes.now }
     ensures { result ≡ wanted_of listing bytes.now }
@@ -245,7 +245,7 @@ fn selected(exports: &[Export<'_>], content: &[u8]) -> Option<usize>
     }
 }
 
-/// The place of the export of which block status may be asked behind an option.
+/// Returns the index of the export for which block status is selected after an option.
 pub(crate) fn status_after(
     exports: &[Export<'_>],
     terms: Terms,

@@ -1,4 +1,4 @@
-//! The options of the NBD protocol's handshake: what a client is told of each, and what is agreed on behind it.
+//! The options of the NBD protocol's handshake: the reply to each, and what is agreed on after it.
 #![tactic(auto)]
 
 mod contexts;

@@ -167,7 +167,7 @@ pub fn phase_after(exports: &[Export<'_>], terms: Terms, option: u32, content: &
     }
 }
 
-// What is agreed on behind an option that ends no haggling.
+// What is agreed on after an option that doesn't end the handshake.
 fn terms_after(exports: &[Export<'_>], terms: Terms, option: u32, content: &[u8]) -> Terms
     ensures { result ≡ terms_after (export_records exports.now) terms option content.now }
 {
@@ -179,7 +179,7 @@ fn terms_after(exports: &[Export<'_>], terms: Terms, option: u32, content: &[u8]
     }
 }
 
-/// What is agreed on behind an option whose data are too long.
+/// Returns what is agreed on after an option whose data are too long.
 pub fn terms_after_long(terms: Terms, option: u32) -> Terms
     ensures { result ≡ terms_after_long terms option }
 {

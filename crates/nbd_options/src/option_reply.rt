@@ -11,7 +11,7 @@ use std::io::Write;
 
 const MAGIC: [u8; 8] = [0, 3, 0xe8, 0x89, 4, 0x55, 0x65, 0xa9];
 
-/// The option that asks for the names of all exports.
+/// The option that lists the names of all exports.
 pub(crate) const LIST: u32 = 3;
 
 const ACKNOWLEDGED: u32 = 1;
@@ -20,7 +20,7 @@ const SERVER: u32 = 2;
 
 const INFO: u32 = 3;
 
-/// What a client is told of an option that isn't done.
+/// The error reply to an option.
 #[derive(Clone, Copy, Debug, PartialEq, Eq)]
 pub enum Refusal {
     Unsupported,
@@ -135,7 +135,7 @@ fn say_wanted<W: Write>(
     say_sizes(writer)
 }
 
-/// What is told of the export.
+/// Writes the information about the export.
 pub(crate) fn say_told<W: Write>(
     writer: &mut Counted<W>,
     export: &Export<'_>,

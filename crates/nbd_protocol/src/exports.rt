@@ -1,4 +1,4 @@
-//! The exports of a service, in the order in which a client is told of them.
+//! The exports of a service, in the order in which they are listed.
 ghost use Rattle.std.specs.Prelude.{◌≡◌, ◌<◌, length, IfSome};
 ghost use Rattle.nbd_protocol.specs.Exports.{asked, export_at, export_record, export_records, export_place};
 
@@ -11,7 +11,7 @@ fn place_of(exports: &[Export<'_>], name: &[u8]) -> Option<usize>
     exports.iter().position(|export| export.name == name)
 }
 
-/// The place of the export that a client asks for by that name: the empty one is that of an only export.
+/// Returns the index of the export with the requested name: the empty name is that of an only export.
 #[tactic(auto, unfolding(crate::specs::Exports::asked))]
 pub fn asked(exports: &[Export<'_>], name: &[u8]) -> Option<usize>
     ensures value { result ≡ asked (export_records exports.now) name.now }

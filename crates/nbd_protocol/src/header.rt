@@ -48,25 +48,25 @@ pub struct Header {
     pub length: u32,
 }
 
-/// What a request asks for.
+/// The command of a request.
 #[derive(Clone, Copy, Debug, PartialEq, Eq)]
 pub enum Command {
     /// Bytes are read.
     Read { offset: u64, length: u32 },
-    /// Bytes are written, and with `fua` are on the media before the reply.
+    /// Bytes are written, and with `fua` are synced before the reply.
     Write { offset: u64, length: u32, fua: bool },
     /// The same of zeros.
     Zero { offset: u64, length: u32, fua: bool },
     /// Bytes are wanted no more, or soon: nothing is done.
     Hint,
-    /// All that was written is put on the media.
+    /// All that was written is synced.
     Flush,
-    /// The status of bytes is told, of one extent alone if it says so.
+    /// The status of bytes is reported, for one extent only if `one` is set.
     Status { offset: u64, length: u32, one: bool },
 }
 
 impl Header {
-    /// The fields behind the magic.
+    /// Returns the fields after the magic.
     pub fn of(bytes: &[u8]) -> Header
         requires { length bytes.now ≡ 28 }
         ensures { result ≡ header_of bytes.now }
@@ -123,7 +123,7 @@ impl Header {
         self.flags % 2 == 1
     }
 
-    /// What it asks for, or its first fault.
+    /// Returns its command, or its first fault.
     #[tactic(auto, unfolding(crate::specs::Headers::command_of))]
     pub fn command(self, export: &Export<'_>, agreed: Agreement) -> Result<Command, RequestError>
         ensures value { result ≡ command_of (export_record export.now) agreed self }

@@ -1,4 +1,4 @@
-//! The messages of the NBD protocol: what a client asks for, and what it is told before its requests.
+//! The messages of the NBD protocol: a client's requests, and what the service sends before them.
 #![tactic(auto)]
 
 mod export;

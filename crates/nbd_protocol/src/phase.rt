@@ -1,13 +1,13 @@
-//! Where the service of a client stands.
+//! The phases of a client's service.
 
 /// What a client and the service have agreed on while it haggles.
 #[derive(Clone, Copy, Debug, PartialEq, Eq)]
 pub struct Terms {
-    /// No zeros follow what EXPORT_NAME is told.
+    /// No zeros follow the reply to EXPORT_NAME.
     pub no_zeroes: bool,
     /// A READ is answered by chunks.
     pub structured: bool,
-    /// The place of the export of which block status may be asked.
+    /// The index of the export for which block status is selected.
     pub status: Option<usize>,
 }
 
@@ -18,7 +18,7 @@ pub struct Agreement {
     pub place: usize,
     /// A READ is answered by chunks.
     pub structured: bool,
-    /// Block status may be asked.
+    /// Block status is selected.
     pub status: bool,
 }
 

@@ -43,14 +43,14 @@ pub(crate) fn read_bytes<D: BlockDev>(
     })
 }
 
-// What stands before some bytes in the first sector that they touch, and behind them in the last.
+// The bytes before some bytes in their first sector, and after them in their last.
 #[derive(Drop)]
 struct Ends {
     before: Data,
     behind: Data,
 }
 
-// Reads what stands around some bytes in the sectors that they touch.
+// Reads the rest of the first and last sector of some bytes.
 fn read_ends<D: BlockDev>(
     alloc: Global,
     queue: &mut Queue<D>,

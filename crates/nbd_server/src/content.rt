@@ -53,7 +53,7 @@ fn zeros_behind(bytes: &[u8]) -> usize
     bytes.len() - rest
 }
 
-// Tells bytes that begin with data.
+// Writes bytes that begin with data.
 fn say_from_data<W: Write>(
     writer: &mut Counted<W>,
     last: bool,
@@ -75,8 +75,8 @@ fn say_from_data<W: Write>(
     say_hole(writer, last, cookie, at + size as u64, behind as u32)
 }
 
-/// Tells some bytes from a place on. What they begin and end with is a hole, as far as whole blocks of 4,096 bytes or all
-/// of them are zeros.
+/// Writes some bytes from an offset on. The whole blocks of 4,096 zeros at their beginning and end are holes, or all of
+/// them if they are all zeros.
 pub(crate) fn say_content<W: Write>(
     writer: &mut Counted<W>,
     last: bool,

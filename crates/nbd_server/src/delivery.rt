@@ -106,7 +106,7 @@ fn room_at(at: u64, single: bool) -> u64
     LARGE - at % LARGE
 }
 
-// Tells the bytes of a piece, and hands that on.
+// Writes the bytes of a piece, and flushes them.
 fn say_piece<W: Write>(
     writer: &mut Counted<W>,
     delivery: Delivery,
@@ -125,7 +125,7 @@ fn say_piece<W: Write>(
     writer.flush()
 }
 
-// Says that so many bytes are zeros, and hands that on.
+// Writes so many bytes as zeros, and flushes them.
 fn say_zeros<W: Write>(
     writer: &mut Counted<W>,
     delivery: Delivery,

@@ -30,7 +30,7 @@ pub(crate) fn read_into<D: BlockDev>(
     }
 }
 
-/// The sectors from `first` on, read at once into a buffer that is asked for once.
+/// Reads the sectors from `first` on at once into a buffer that is allocated once.
 pub(crate) fn fetch<D: BlockDev>(
     alloc: Global,
     queue: &mut Queue<D>,

@@ -15,8 +15,8 @@ use nbd_protocol::Export;
 use request_queue::Queue;
 use std::alloc::Global;
 
-// What is read ends at a multiple of so many bytes; where one extent is asked for at the next of fewer, since the rest of
-// them would be read for nothing.
+// The bytes that are read end at a multiple of LARGE; if one extent is requested at a multiple of SMALL, since the other
+// bytes would be read for nothing.
 const LARGE: u64 = 262_144;
 
 const SMALL: u64 = 65_536;
@@ -59,7 +59,7 @@ fn first_run(at: u64, bytes: &[u8]) -> BlockStatus
     }
 }
 
-// What is told of bytes that were read, from a place on: of the first run alone if only `one` is asked for.
+// The status of bytes that were read, from an offset on: only of the first run if `one` is set.
 fn tell_runs(alloc: Global, at: u64, bytes: &[u8], one: bool) -> Result<Vec<u8>, OutOfMemory>
     requires some { 0 < length bytes.now }
     requires few { length bytes.now ≤ 262144 }
@@ -84,9 +84,9 @@ fn tell_runs(alloc: Global, at: u64, bytes: &[u8], one: bool) -> Result<Vec<u8>,
     Ok(told)
 }
 
-/// Reads bytes of lines that ignore blocks of zeros, the first of so many, and tells which of them were read as zeros.
+/// Reads bytes of lines that ignore blocks of zeros, the first of so many, and reports which of them were read as zeros.
 ///
-/// Bytes that can't be read are told as data: a READ of them says why, and a client that doesn't want them goes on.
+/// Bytes that can't be read are reported as data: a READ of them returns the error, and a client that doesn't read them goes on.
 pub(crate) fn read_status<D: BlockDev>(
     alloc: Global,
     queue: &mut Queue<D>,

@@ -21,7 +21,7 @@ impl Room {
         }
     }
 
-    /// Sees to it that the buffer has so many bytes at least, and no more where it grows. What it had isn't kept then.
+    /// Grows the buffer to so many bytes if it has fewer. Its content isn't kept then.
     pub(crate) fn grow(&mut self, count: usize) -> Result<(), OutOfMemory>
         ensures ok { OnOk result (count ≤ length self.new.bytes.items) }
         ensures few { length self.new.bytes.items ≤ max count (length self.old.bytes.items) }

@@ -47,7 +47,7 @@ fn take_message<D: SyncDev, R: Read, W: Write>(
 
 /// Serves a client the export that it names of these, until it ends the service or goes away between two messages.
 ///
-/// Replies are handed on before the reader is called again.
+/// Replies are flushed before the reader is called again.
 pub fn serve<D: SyncDev, R: Read, W: Write>(
     alloc: Global,
     queue: &mut Queue<D>,

@@ -46,7 +46,7 @@ pub(crate) struct ByteExtent {
 }
 
 impl ByteExtent {
-    // What is told of them: zeros are those of the lines alone.
+    // Their status: only zeros of the lines count as zeros.
     fn status(self) -> BlockStatus
         ensures count { result.count ≡ self.count }
         ensures zeros { IsTrue result.zeros → self.kind ≡ known.Zeros }
@@ -96,7 +96,7 @@ fn bytes_of(number: u32) -> [u8; 4]
     number.to_be_bytes()
 }
 
-/// Adds what is told of an extent.
+/// Appends the status of an extent.
 pub(crate) fn push_status(told: &mut Vec<u8>, status: BlockStatus) -> Result<(), OutOfMemory>
     ensures ok { OnOk result (told.new.items ≡ told.old.items ++ descriptor status) }
     ensures err { OnErr result (IsOutOfMemory 4) }
@@ -105,7 +105,7 @@ pub(crate) fn push_status(told: &mut Vec<u8>, status: BlockStatus) -> Result<(),
     append(told, &bytes_of(status.flags()))
 }
 
-/// What is told of the first extent.
+/// Returns the status of the first extent.
 pub(crate) fn first_status(alloc: Global, status: BlockStatus) -> Result<Vec<u8>, OutOfMemory>
     ensures ok { IfOk result (λ told. told.items ≡ descriptor status) }
     ensures err { OnErr result (IsOutOfMemory 4) }
@@ -115,9 +115,9 @@ pub(crate) fn first_status(alloc: Global, status: BlockStatus) -> Result<Vec<u8>
     Ok(told)
 }
 
-/// What is told of some bytes, of which nothing is read: extent by extent, of the first alone if only `one` is asked for.
+/// Returns the status of some bytes without reading them: extent by extent, only of the first if `one` is set.
 ///
-/// Those behind the first end before `verity` lines that ignore blocks of zeros.
+/// Extents after the first end before `verity` lines that ignore blocks of zeros.
 pub(crate) fn status_of(
     alloc: Global,
     config: &Config,

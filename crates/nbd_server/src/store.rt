@@ -33,7 +33,7 @@ pub(crate) fn store<D: BlockDev>(
     }
 }
 
-// One run of zeros and what stands around them.
+// Writes one run of zeros with the rest of its first and last sector.
 fn zero_run<D: BlockDev>(
     alloc: Global,
     queue: &mut Queue<D>,
@@ -51,7 +51,7 @@ fn zero_run<D: BlockDev>(
     store(queue, export, first, bytes.as_slice())
 }
 
-/// Puts zeros and what stands around them as `store` puts bytes, one run of them in memory at a time.
+/// Writes zeros with the rest of their first and last sector, as `store` writes bytes, with one run in memory at a time.
 pub(crate) fn store_zeros<D: BlockDev>(
     alloc: Global,
     queue: &mut Queue<D>,

@@ -114,8 +114,8 @@ fn zero<D: SyncDev>(
     settle(alloc, queue, fua)
 }
 
-// What is told of extents, of the first alone if only `one` is asked for. Where the bytes begin on `verity` lines that ignore
-// blocks of zeros, the first of them are read.
+// The status of extents, only of the first if `one` is set. If the bytes begin on `verity` lines that ignore blocks of
+// zeros, the first of them are read.
 fn told_of<D: BlockDev>(
     alloc: Global,
     queue: &mut Queue<D>,
@@ -137,7 +137,7 @@ fn told_of<D: BlockDev>(
     }
 }
 
-// Tells the status of bytes.
+// Writes the status of bytes.
 fn tell_status<D: BlockDev>(
     alloc: Global,
     queue: &mut Queue<D>,

@@ -1,4 +1,4 @@
-//! Zeros, and what stands around them in the sectors that they touch.
+//! Zeros, and the rest of their first and last sector.
 ghost use Rattle.std.specs.Prelude.{◌≡◌, ◌+◌, length, IfOk, OnErr};
 ghost use Rattle.allocation.specs.Refusal.{IsOutOfMemory};
 ghost use Rattle.nbd_server.specs.Premises.{HaveEnds};
@@ -7,7 +7,7 @@ ghost use Rattle.nbd_server.specs.Zeros.{zeros_of};
 use allocation::{OutOfMemory, append, resize, with_capacity};
 use std::alloc::Global;
 
-/// So many zeros, and what stands before and behind them in the sectors that they touch.
+/// So many zeros, and the bytes before and after them in their first and last sector.
 #[derive(Clone, Copy, Debug)]
 pub(crate) struct Zeros<'a> {
     pub(crate) before: &'a [u8],

@@ -40,7 +40,7 @@ pub(crate) static DAMAGES: [Damage; 18] = [
         still: &[],
         told: "",
     },
-    // the top block, which is made again, and data blocks
+    // the top block, which is reconstructed, and data blocks
     Damage {
         case: 0,
         lost: &[300, 5, 7],

@@ -1,4 +1,4 @@
-//! Hash blocks that were lost, made again from what is beneath them.
+//! Lost hash blocks, reconstructed from the blocks beneath them.
 use block_device::{BlockDev, MemoryDev};
 use counted_io::Counted;
 use std::alloc::Global;

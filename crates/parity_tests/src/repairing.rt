@@ -14,6 +14,7 @@ use std::test::Fail;
 use tree_repair::{DamagedImage, Plan, repair_with_parity};
 use tree_shape::Digest;
 use tree_survey::survey_image;
+use verity_format::read_superblock;
 
 /// The bytes of an image.
 #[derive(Drop)]
@@ -69,7 +70,8 @@ fn told_of(
     root: &Digest,
 ) -> Result<Vec<u8>, Fail> {
     let mut writer = Counted::new(Vec::new(alloc));
-    survey_image(alloc, data, hash, root, &mut writer)?;
+    let tree = read_superblock(hash)?.tree();
+    survey_image(alloc, data, hash, &tree, root, &mut writer)?;
     Ok(writer.into_inner())
 }
 

@@ -1,4 +1,4 @@
-//! Blocks brought back by the parity that is veritysetup's.
+//! Blocks restored by veritysetup's parity.
 use crate::losing::{block_of, lose, spoil};
 use crate::parity::{CASES, Protected, protect};
 use block_device::MemoryDev;

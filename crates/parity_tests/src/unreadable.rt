@@ -1,4 +1,4 @@
-//! Lost blocks that can't be read, brought back by the parity that is veritysetup's.
+//! Lost blocks that can't be read, restored by veritysetup's parity.
 use crate::losing::{block_of, lose};
 use crate::parity::{CASES, Protected, protect};
 use block_device::{FailAt, MemoryDev};

@@ -6,7 +6,7 @@ use std::alloc::{AllocError, Global};
 
 const REPLACEMENT: u16 = 0xfffd;
 
-/// The characters of a label up to its first zero. A surrogate that has no partner and a control character stand as
+/// Returns the characters of a label up to its first zero. An unpaired surrogate and a control character become
 /// U+FFFD.
 pub fn label_text(alloc: Global, label: &[u8; 72]) -> Result<String, AllocError>
     ensures { IfOk result (λ s. string_bytes s ≡ label_text label.now) }
@@ -16,7 +16,7 @@ pub fn label_text(alloc: Global, label: &[u8; 72]) -> Result<String, AllocError>
     String::from_utf16_lossy(alloc, &shown)
 }
 
-// The units of the label, its first zero and what stands behind it too.
+// The units of the label, with its first zero and those after it.
 fn label_units(alloc: Global, label: &[u8; 72]) -> Result<Vec<u16>, AllocError>
     ensures { IfOk result (λ v. v.items ≡ label_units label.now) }
 {

@@ -99,7 +99,7 @@ fn say_fault<W: Write>(
     writer.put(b"\n")
 }
 
-/// The number of a partition behind a space, where there is one.
+/// Writes a space and the number of a partition, if there is one.
 pub(crate) fn say_number<W: Write>(
     writer: &mut Counted<W>,
     number: Option<u32>,

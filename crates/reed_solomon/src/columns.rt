@@ -28,7 +28,7 @@ pub fn restoring_products(alloc: Global, lost: &[usize]) -> Result<Vec<Products>
     Ok(products)
 }
 
-// The factors of all places for each lost place, one row of 255 behind the other.
+// The factors of all places for each lost place, one row of 255 after the other.
 fn factor_rows(alloc: Global, lost: &[usize]) -> Result<Vec<u8>, AllocError>
     requires { EachIndex lost.now (λ k. slice_index lost.now k < 255) }
     ensures ok { IfOk result (λ v. AreRows lost.now v.items (length lost.now)) }

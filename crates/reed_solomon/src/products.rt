@@ -44,7 +44,7 @@ impl Products {
         self.of[byte as usize]
     }
 
-    /// Adds to each byte of a sum the product of the byte that stands at its place.
+    /// Adds to each byte of a sum the product of the byte at the same index.
     pub fn add_to(&self, sum: &mut [u8], bytes: &[u8])
         requires { length bytes.now ≡ length sum.old }
         ensures { AreAdded (λ k. field_product self.now (slice_index bytes.now k)) sum.old sum.new }

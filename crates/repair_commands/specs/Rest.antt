@@ -3,18 +3,19 @@ use Rattle.std.specs.Prelude.{◌≡◌, ℕ, ◌%◌, ◌==◌, Bool, true, fal
 use Rattle.std.specs.Io.KnownBytes.{Appends}
 use Rattle.block_device.specs.Device.{Device}
 use Rattle.counted_io.specs.Counted.{CountedRecord}
+use Rattle.image_commands.specs.Places.{TwoPlaces}
 use Rattle.image_files.specs.Opener.{Calls, Opener, calls}
 use Rattle.tree_commands.specs.declared.fault.TreeFault.{TreeFault}
 use Rattle.tree_commands.specs.declared.fault.TreeFault.TheVariants.{Write}
-use Rattle.tree_commands.specs.Surveys.{IsSurveyFilesEnd, PrintsGood, SurveyedPlaces, survey_totals}
+use Rattle.tree_commands.specs.Surveys.{IsSurveyFilesEnd, PrintsGood, survey_totals}
 use Rattle.tree_repair.specs.declared.outcome.Outcome.{Outcome}
 use Rattle.tree_repair.specs.declared.outcome.Outcome.TheVariants.{Partly, Whole}
 use Rattle.tree_survey.specs.declared.counts.Totals.{Totals}
 use Rattle.repair_commands.specs.declared.pair.RepairPlaces.{RepairPlaces}
 use Rattle.repair_commands.specs.Pairs.{Places, places_of}
 
-abbrev pub surveyed : Places → SurveyedPlaces
-surveyed p = record { paths = record { first_path = p.data_path; second_path = p.hash_path }; first = p.first }
+abbrev pub surveyed : Places → TwoPlaces
+surveyed p = record { paths = record { data_path = p.data_path; hash_path = p.hash_path }; first = p.first }
 
 -- all of so many data blocks
 abbrev pub all_good_totals : ℕ → Totals

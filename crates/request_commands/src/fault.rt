@@ -16,7 +16,7 @@ pub enum RequestFault<'a> {
     NoMemory,
     /// There is no stack.
     Stack(StackFault<'a>),
-    /// The sectors can't be asked for.
+    /// The sectors can't be requested.
     Submit(SubmitFault),
     /// The stack answered a fault.
     Io(IoFault),

@@ -1,4 +1,4 @@
-//! Single requests of stacks that stand on images: sectors of a device read, or a file's written to it.
+//! Single requests to stacks over images: sectors of a device read, or a file's written to it.
 #![tactic(auto)]
 
 mod fault;

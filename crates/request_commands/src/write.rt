@@ -14,7 +14,7 @@ use stack_making::{load_stack, sync_and_close};
 use stack_opening::{StackFile, open_with_source};
 use std::alloc::Global;
 
-/// The bytes of the source file to a device of a stack file over the bindings, whose images are synced and given back,
+/// Writes the bytes of the source file to a device of a stack file over the bindings. The images are synced and closed,
 /// also after a fault of the request, which is returned if the sync fails too.
 pub fn write_source<'a, I: Images>(
     alloc: Global,

@@ -74,7 +74,7 @@ pub enum RunFault {
 /// Why sectors aren't read or written at once.
 #[derive(Clone, Copy, Debug, PartialEq, Eq)]
 pub enum BytesFault {
-    /// They can't be asked for: `NoSuchDevice`, `OutOfRange`, `Length` where the bytes aren't whole sectors, or of a write
+    /// They can't be requested: `NoSuchDevice`, `OutOfRange`, `Length` if the bytes aren't whole sectors, or for a write
     /// `ReadOnly`.
     Refused(SubmitFault),
     /// Their read or write ended by a fault.

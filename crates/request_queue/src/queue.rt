@@ -203,9 +203,9 @@ impl<D: BlockDev> Queue<D> {
     }
 
     /// Reads sectors of a device, from `first` on, into the slice, at once and whatever requests are in flight. The
-    /// slice has room for any number of whole sectors inside the device. No chain is handed out: that there are some
-    /// which show the bytes is what `law` says of `new`. Behind a fault nothing is known of the slice. It takes memory
-    /// only where a `verity` line is on the way.
+    /// slice has room for any number of whole sectors inside the device. No chain is returned: `law` of `new`
+    /// states that there are chains which show the bytes. After a fault the slice's content is unspecified. It allocates
+    /// only if a `verity` line is on the way.
     pub fn read_bytes(
         &mut self,
         device: DevId,
@@ -221,8 +221,8 @@ impl<D: BlockDev> Queue<D> {
     }
 
     /// Writes the bytes of any number of whole sectors inside a device that may be written, from `first` on, at once and
-    /// whatever requests are in flight: piece by piece, each a step, up to the first that fails. What stands before that
-    /// one is written, and nothing behind it. It takes memory only where a `crypt` line is on the way.
+    /// whatever requests are in flight: piece by piece, each a step, up to the first that fails. All pieces before that
+    /// one are written, and nothing after it. It allocates only if a `crypt` line is on the way.
     pub fn write_bytes(&mut self, device: DevId, first: u64, bytes: &[u8]) -> Result<(), BytesFault>
         ensures written { WritesBytes self.old device.0 first bytes.now result self.new }
         ensures memory { result ≡ Err (BytesFault.Failed IoFault.NoMemory) → SomeEncrypt (said_at self.old.stack.config (mapped device.0)) first (length bytes.now / 512) }
@@ -267,8 +267,8 @@ impl<D: BlockDev> Queue<D> {
 }
 
 impl<D: SyncDev> Queue<D> {
-    /// Has what was written to the leaves put on their media, also where requests are in flight. The fault names the
-    /// first leaf of which that failed, counted from 1.
+    /// Syncs the dirty leaves in order, also while requests are in flight. The fault names the first leaf whose sync
+    /// failed, counted from 1.
     pub fn sync(&mut self) -> Result<(), IoFault>
         ensures { Step EachPart self.old (sync result) self.new }
     {

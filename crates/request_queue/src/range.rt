@@ -18,7 +18,7 @@ pub struct SectorRange {
     pub count: u64,
 }
 
-/// The sectors that are asked for by the device's name, or why the request isn't begun.
+/// Returns the sectors of a request by the device's name, or why the request can't begin.
 pub(crate) fn range_of(
     config: &Config,
     name: &[u8],

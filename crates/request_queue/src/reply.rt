@@ -14,7 +14,7 @@ pub enum Reply {
     Written,
 }
 
-/// Where a request stands after one of its pieces.
+/// The state of a request after one of its pieces.
 #[derive(Drop)]
 pub enum Progress {
     /// Sectors are left.

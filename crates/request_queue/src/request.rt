@@ -1,4 +1,4 @@
-//! What is asked of a stack.
+//! Requests to a stack.
 
 /// A request for sectors of a mapped device, which is named without `/dev/mapper/`.
 #[derive(Debug, Drop)]

@@ -21,11 +21,11 @@ use std::alloc::Global;
 pub(crate) enum Work {
     /// It reads; room for all its bytes is there from the start.
     Read(Answer),
-    /// It writes these bytes, as they were handed over.
+    /// It writes these bytes, as they were passed.
     Write(Vec<u8>),
 }
 
-// One by one, so that what a refused allocation asked for is known.
+// One by one, so that the size of a failed allocation is known.
 fn append_chains(chains: &mut Vec<Found>, mut more: Vec<Found>) -> Result<(), OutOfMemory>
     ensures ok { OnOk result (chains.new.items ≡ chains.old.items ++ more.items) }
     ensures err { OnErr result (IsOutOfMemory largest_allocation) }
@@ -37,7 +37,7 @@ fn append_chains(chains: &mut Vec<Found>, mut more: Vec<Found>) -> Result<(), Ou
     Ok(())
 }
 
-/// Puts the bytes and chains of a piece behind those before.
+/// Appends the bytes and chains of a piece.
 fn append_piece(got: &mut Answer, piece: Answer) -> Result<(), OutOfMemory>
     requires { length piece.bytes ≤ largest_allocation }
     ensures ok { OnOk result (got.new ≡ joint_answer got.old piece) }

@@ -1,11 +1,11 @@
-//! The sectors that are still to be gone over.
+//! The sectors that are still to be scanned.
 ghost use Rattle.std.specs.Prelude.{◌≡◌, ◌≤◌, ◌++◌, [], replicate, false, length};
 ghost use Rattle.rescue_map.specs.Aheads.{marks_ahead};
 ghost use Rattle.rescue_map.specs.Maps.{marks};
 
 use crate::map::{Map, Run};
 
-/// The sectors ahead: what is left of a run, and the runs behind it.
+/// The sectors ahead: what is left of a run, and the runs after it.
 #[derive(Drop)]
 pub struct Ahead<'a> {
     pub first: Run,
@@ -26,7 +26,7 @@ impl<'a> Ahead<'a> {
         }
     }
 
-    /// So many sectors, of which none was had.
+    /// Returns so many sectors of which none was recovered.
     pub fn unread(count: u64) -> Ahead<'a>
         ensures { marks_ahead result ≡ replicate count false }
     {

@@ -8,7 +8,7 @@ use crate::map::Run;
 use crate::numbers::map_number;
 use table_reader::Words;
 
-/// So many bytes from one on, and whether they were had.
+/// So many bytes from `first` on, and whether they were recovered.
 #[derive(Clone, Copy)]
 pub(crate) struct Block {
     pub(crate) first: u64,
@@ -23,7 +23,7 @@ fn is_unfinished(status: u8) -> bool
     status == b'-' || status == b'?' || status == b'*' || status == b'/'
 }
 
-// Whether a block was had.
+// Whether a block was recovered.
 fn status_of(word: &[u8]) -> Option<bool>
     ensures { result ≡ status_of word.now }
 {

@@ -8,7 +8,7 @@ ghost use Rattle.rescue_map.specs.MapText.{said};
 use std::marker::Model;
 use table_reader::Words;
 
-// How many bytes stand before the first newline.
+// The number of bytes before the first newline.
 fn line_len(text: &[u8]) -> usize
     ensures value { result ≡ position_or_len (λ b. b == 10) text.now }
     ensures bound { result ≤ length text.now }

@@ -1,18 +1,18 @@
-//! Which sectors of a device were had.
+//! Which sectors of a device were recovered.
 ghost use Rattle.std.specs.Prelude.{◌≡◌, ◌+◌, ◌^◌, ◌≤◌, [], ◌∷◌, ◌++◌, length, replicate, IfOk, MatchResult};
 ghost use Rattle.rescue_map.specs.Maps.{AreRuns, marks};
 
 use std::alloc::{AllocError, Global};
 use std::marker::Model;
 
-/// So many sectors, and whether they were had.
+/// So many sectors, and whether they were recovered.
 #[derive(Clone, Copy, Debug, PartialEq, Eq)]
 pub struct Run {
     pub count: u64,
     pub had: bool,
 }
 
-/// Which sectors were had, as runs from the first sector on, of which none is empty.
+/// Which sectors were recovered, as runs from the first sector on, of which none is empty.
 #[derive(Drop)]
 pub struct Map {
     runs: Vec<Run>,
@@ -63,7 +63,7 @@ impl Map {
         self.runs.as_slice()
     }
 
-    // A run behind those so far, whatever the last one is.
+    // Appends a run, whatever the last one is.
     pub(crate) fn add(&mut self, run: Run) -> Result<(), AllocError>
         requires some { 1 ≤ run.count }
         requires room { length (marks self.old) + run.count ≤ 2 ^ 54 }
@@ -75,7 +75,7 @@ impl Map {
         Ok(())
     }
 
-    /// More sectors behind those so far. It fails only where memory does.
+    /// Appends sectors. It fails only if an allocation does.
     pub fn push(&mut self, run: Run) -> Result<(), AllocError>
         requires some { 1 ≤ run.count }
         requires room { length (marks self.old) + run.count ≤ 2 ^ 54 }

@@ -19,7 +19,7 @@ fn hexadecimal(word: &[u8]) -> Option<u64>
     Some(value)
 }
 
-/// Hexadecimal behind `0x`, else decimal, if it is below 2^64; no octal number.
+/// Hexadecimal after `0x`, else decimal, if it is below 2^64; no octal number.
 pub(crate) fn map_number(word: &[u8]) -> Option<u64>
     ensures { result ≡ map_number word.now }
 {

@@ -10,7 +10,7 @@ use itoa::Buffer;
 use std::alloc::{AllocError, Global};
 
 /// A map of a kind: a scan's mark, a status line, and a line for each run, in bytes. If all sectors were tried, it is finished.
-/// If those before one were tried, it is copying, and a run of sectors that weren't had is bad only if it ends there or before.
+/// If those before one were tried, it is copying, and a run of sectors that weren't recovered is `-` only if it ends there or before.
 ///
 /// # Errors
 ///

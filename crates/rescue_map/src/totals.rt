@@ -1,18 +1,18 @@
-//! How many sectors of a map were had.
+//! How many sectors of a map were recovered.
 ghost use Rattle.std.specs.Prelude.{◌≡◌, ◌+◌, ◌<◌, ◌^◌};
 ghost use Rattle.std.specs.List.{list_all};
 ghost use Rattle.rescue_map.specs.Maps.{map_totals, with_run};
 
 use crate::map::{Map, Run};
 
-/// How many sectors were had, and how many weren't.
+/// The numbers of recovered and of other sectors.
 #[derive(Clone, Copy, Debug, PartialEq, Eq)]
 pub struct Totals {
     pub had: u64,
     pub lost: u64,
 }
 
-/// Whether all sectors of a map were had.
+/// Returns whether all sectors of a map were recovered.
 pub fn is_had(map: &Map) -> bool
     ensures { result ≡ list_all (λ run. run.had) map.now }
 {
@@ -36,7 +36,7 @@ fn with_run(totals: Totals, run: Run) -> Totals
     }
 }
 
-/// How many sectors of a map were had, and how many weren't.
+/// Returns how many sectors of a map were recovered, and how many weren't.
 pub fn totals_of(map: &Map) -> Totals
     ensures { result ≡ map_totals map.now }
 {

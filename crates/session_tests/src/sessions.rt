@@ -149,7 +149,7 @@ const TOO_LONG: Row = Row {
 
 static ROWS: [Row; 19] = [
     PLAIN,
-    // A read that was interrupted is made again, but not for ever.
+    // A read that was interrupted is repeated, but not for ever.
     Row {
         most: 1,
         interrupts: true,

@@ -33,7 +33,7 @@ fn take_in(
     }
 }
 
-/// SHA-256 of the prefix followed by each of eight blocks of `size` bytes, which stand one after another.
+/// SHA-256 of the prefix followed by each of eight blocks of `size` bytes, stored one after another.
 pub fn digest_eight(prefix: &[u8], blocks: &[u8], size: usize) -> [[u8; 32]; 8]
     requires { length blocks.now ≡ 8 * size }
     ensures { (j : ℕ) → j < 8 → slice_index_or result j [] ≡ sha256 (message prefix.now blocks.now size j) }

@@ -17,7 +17,7 @@ fn overlay(out: &mut [u8; 64], at: usize, piece: &[u8], start: usize)
     }
 }
 
-// What message block `index` has in common with those of all blocks of that size: the prefix, and what stands behind a block.
+// What message block `index` has in common with those of all blocks of that size: the prefix, and the bytes after a block.
 fn frame(prefix: &[u8], size: usize, index: usize) -> [u8; 64]
     requires room { length prefix.now + size + 136 < 2 ^ 64 }
     requires inside { index < (length prefix.now + size + 72) / 64 }

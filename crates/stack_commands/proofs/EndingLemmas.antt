@@ -3,7 +3,7 @@ use Rattle.std.proofs.Common.{◌≡◌, ℕ, Bool, true, false, List, Option, r
 use Rattle.stack_commands.specs.declared.fault.CommandFault.{CommandFault}
 use Rattle.stack_commands.specs.declared.fault.CommandFault.TheVariants.{Usage, NoMemory, Stack, Request, Io, Recovering, Stream, Verity, Fec, Partitions, Trees, Session, Service}
 use Rattle.verity_commands.proofs.EndingLemmas.{quiet as verity-quiet}
-use Rattle.stack_commands.specs.Commands.{IsEndOr, IsTold, KeepsErrors, Told, is_usage}
+use Rattle.stack_commands.specs.Commands.{IsEndOr, IsTold, TellsErrors, Told, is_usage}
 use Rattle.stack_commands.specs.Endings.{IsSilent}
 
 pub quiet : (fault : CommandFault) (bytes : Option (List ℕ)) → IsSilent fault bytes bytes
@@ -23,7 +23,7 @@ quiet (Service fault) bytes = refl
 
 -- how an end is told: by the writer, or elsewhere
 pub told-here : (cat : Bool) (fault : CommandFault) (old new : Option (List ℕ)) (told : Told) (status : ℕ) → cat ≡ false
-    → IsEndOr told.failed fault old new status → KeepsErrors fault told → IsTold cat fault old new told status
+    → IsEndOr told.failed fault old new status → TellsErrors fault told → IsTold cat fault old new told status
 told-here cat fault old new told status is ends kept = subst (λ (b : Bool). IsTold b fault old new told status) (sym is) (ends, kept)
 
 pub told-elsewhere : (cat : Bool) (fault : CommandFault) (output before : Option (List ℕ)) (told : Told) (status : ℕ) → cat ≡ true

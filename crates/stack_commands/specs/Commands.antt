@@ -1,12 +1,13 @@
 -- What the program does with the words behind its name.
 use Rattle.std.specs.Prelude.{◌≡◌, ◌⊎◌, ◌||◌, ℕ, Bool, true, false, List, [], ◌∷◌, codes, Option, Some}
+use Rattle.std.specs.Io.KnownBytes.{Appends}
 use Rattle.std.specs.Str.{bytes_eq}
 use Rattle.stack_commands.specs.declared.fault.CommandFault.{CommandFault}
 use Rattle.stack_commands.specs.declared.fault.CommandFault.TheVariants.{Recovering, Usage, Verity}
 use Rattle.recovery_commands.specs.declared.fault.RecoveringFault.TheVariants.{Pass}
 use Rattle.rescue_files.specs.declared.fault.PassFault.{PassFault}
 use Rattle.rescue_files.specs.declared.fault.PassFault.TheVariants as pass
-use Rattle.stack_commands.specs.Endings.{IsEnd, IsSilent}
+use Rattle.stack_commands.specs.Endings.{IsEnd, IsSilent, ending_text}
 use Rattle.verity_commands.specs.declared.fault.VerityFault.TheVariants as verity_fault
 use Rattle.counted_io.specs.Streams.{Streams}
 use Rattle.command_line.specs.Invocations.{InvocationRecord}
@@ -70,13 +71,20 @@ pub record IsToldElsewhere (fault : CommandFault) (told : Told) (status : ℕ) :
   pub unsaid : is_usage fault ≡ false → before ≡ told.old
   pub ends : IsEndOr told.errors_failed fault before told.new status
 
--- standard error is as it was, unless the words are no command or OUT of `copy` failed
-abbrev pub KeepsErrors : CommandFault → Told → Type 0
-KeepsErrors fault told = is_usage fault ≡ false → is_output_failed fault ≡ false → told.new ≡ told.old
+-- if the writer failed, the reason is printed among the errors, unless these failed too; else the errors are as they were
+abbrev pub IsRepeated : Bool → CommandFault → Option (List ℕ) → Option (List ℕ) → Bool → Type 0
+IsRepeated false fault old new errors_failed = new ≡ old
+IsRepeated true fault old new errors_failed = Appends old new (ending_text fault) ⊎ (errors_failed ≡ true)
+
+-- what is printed among the errors: of a usage error and of a failed OUT of `copy` an explanation, then the reason if the writer failed
+pub record TellsErrors (fault : CommandFault) (told : Told) : Type 0 where
+  pub before : Option (List ℕ)
+  pub unsaid : is_usage fault ≡ false → is_output_failed fault ≡ false → before ≡ told.old
+  pub repeated : IsRepeated told.failed fault before told.new told.errors_failed
 
 -- how an end is told: printed; where the output is data among the errors, and nothing is written
 abbrev pub IsTold : Bool → CommandFault → Option (List ℕ) → Option (List ℕ) → Told → ℕ → Type 0
-IsTold false fault old new told status = IsEndOr told.failed fault old new status × KeepsErrors fault told
+IsTold false fault old new told status = IsEndOr told.failed fault old new status × TellsErrors fault told
 IsTold true fault old new told status = (new ≡ old) × IsToldElsewhere fault told status
 
 -- A command ended early: its text is printed and its status answered, or that can't be written. Where the writer had

@@ -31,7 +31,7 @@ pub enum CommandFault<'a> {
     Stack(StackFault<'a>),
     /// A request of a stack isn't served.
     Request(RequestFault<'a>),
-    /// What was written to the leaves isn't on their media.
+    /// The leaves that were written can't be synced.
     Io(IoFault),
     /// A command that reads a whole device ended early, or sectors of the device are lost.
     Recovering(RecoveringFault<'a>),

@@ -1,4 +1,4 @@
-//! What is printed of faults of stacks, of requests, of devices that are gone over, and of their bytes; and the statuses.
+//! The texts of the faults of stacks, of requests, of scans of devices, and of their bytes; and the statuses.
 ghost use Rattle.std.specs.Prelude.{◌≡◌};
 ghost use Rattle.counted_io.specs.Counted.{Writes};
 ghost use Rattle.stack_commands.specs.FaultTexts.{config_text, io_status, outside_text, recovering_status, recovering_text, request_status, request_text, stack_fault_text, stream_status, stream_text, too_small_text};

@@ -31,8 +31,8 @@ pub fn invoke_nbd<'a, I: Images, S: Read, W: Write>(
     serve_client(alloc, images, device, bindings.as_slice(), reader, writer)
 }
 
-/// `nbd --all [--cache N] STACK BINDING...`: each device of a stack file over the bindings, under its name; the images are
-/// synced and given back at the end.
+/// `nbd --all [--cache N] STACK BINDING...`: serves each device of a stack file over the bindings, under its name. The
+/// images are synced and closed at the end.
 pub fn invoke_exports<'a, I: Images, S: Read, W: Write>(
     alloc: Global,
     images: &mut I,
@@ -59,7 +59,7 @@ pub fn invoke_exports<'a, I: Images, S: Read, W: Write>(
     )
 }
 
-// A device of a stack file, whose images are synced and given back at the end.
+// Serves a device of a stack file. The images are synced and closed at the end.
 fn serve_client<'a, I: Images, R: Read, W: Write>(
     alloc: Global,
     images: &mut I,

@@ -1,9 +1,10 @@
 //! The whole program: its words, a reader and a writer in, the status out.
-ghost use Rattle.std.specs.Prelude.{false, ◌≡◌, ◌⊎◌, ℕ, List, Option, map, string_bytes, OnOk, IfErr};
+ghost use Rattle.std.specs.Prelude.{false, true, ◌≡◌, ◌⊎◌, ℕ, List, Option, map, string_bytes, OnOk, IfErr};
 ghost use Rattle.counted_io.specs.Streams.{streams};
 ghost use Rattle.image_commands.specs.Drawing.{drawing};
 ghost use Rattle.image_files.specs.Opener.{calls};
-ghost use Rattle.stack_commands.specs.Commands.{EndsCommand, IsCommandDone, is_output_failed, is_usage, output_is_data, told_to, writes_data};
+ghost use Rattle.stack_commands.specs.Commands.{EndsCommand, IsCommandDone, IsRepeated, is_output_failed, is_usage, output_is_data, told_to, writes_data};
+ghost use Rattle.stack_commands.specs.Desks.{IsToldBy};
 ghost use Rattle.stack_commands.specs.Lines.{DoesWords, EndsWords};
 ghost use Rattle.stack_commands.specs.Uses.{uses};
 
@@ -11,7 +12,7 @@ use crate::ending::end;
 use crate::fault::CommandFault;
 use crate::invocation::invoke;
 use command_parser::parse;
-use counted_io::Counted;
+use counted_io::{Counted, WriteFault};
 use image_commands::Generators;
 use image_files::Images;
 use manual_pages::say_wrong_words;
@@ -25,11 +26,14 @@ use watched_device::Watchers;
 
 const DONE: u8 = 0;
 
+const UNPRINTED: u8 = 1;
+
 /// Runs the words behind the program's name, and answers the status: 0 done, 1 refused, 2 usage, 3 a fault of
 /// the stack or images that differ, 4 a client that breaks the NBD protocol.
 ///
 /// All that is opened is opened by `images`. Why `cat` and `nbd` end early goes to `errors`, since what they write is
 /// data for another program; so do the explanation of a usage error, beside `usage`, and the line that OUT of `copy` failed.
+/// If the writer fails, `errors` gets the reason of every other command, too.
 pub fn command<I: Images, G: Generators + Progress + Watchers, S: Read, W: Write, E: Write>(
     alloc: Global,
     images: &mut I,
@@ -52,9 +56,31 @@ pub fn command<I: Images, G: Generators + Progress + Watchers, S: Read, W: Write
                 end(errors, fault)
             } else {
                 tell_output(errors, fault);
-                end(writer, fault)
+                report_end(writer, errors, fault)
             }
         }
+    }
+}
+
+// Prints why a command ends early, and returns its status. If the writer failed, the reason is printed among the errors too. If
+// it is the reason that wasn't written, the status is 1.
+fn report_end<W: Write, E: Write>(
+    writer: &mut Counted<W>,
+    errors: &mut Counted<E>,
+    fault: CommandFault<'_>,
+) -> u8
+    ensures told { IsToldBy W.contents writer.old writer.new fault.entry result }
+    ensures failed { writer.old.failed ≡ true → writer.new.failed ≡ true }
+    ensures errors { IsRepeated writer.new.failed fault.entry (E.contents errors.old.inner) (E.contents errors.new.inner) errors.new.failed }
+{
+    let status = end(writer, fault);
+    let flushed = writer.flush();
+    if writer.failed() {
+        let _repeated = end(errors, fault);
+    }
+    match flushed {
+        Ok(()) => status,
+        Err(WriteFault) => UNPRINTED,
     }
 }
 

@@ -13,7 +13,7 @@ use stack_session::session;
 use std::alloc::Global;
 use std::io::{Read, Write};
 
-/// `session [--cache N] BINDING...`: a session over the bindings, whose images are synced and given back at its end.
+/// `session [--cache N] BINDING...`: a session over the bindings. The images are synced and closed at its end.
 pub fn invoke_session<'a, I: Images, R: Read, W: Write>(
     alloc: Global,
     images: &mut I,
@@ -30,7 +30,7 @@ pub fn invoke_session<'a, I: Images, R: Read, W: Write>(
     serve_lines(alloc, images, cache, bindings.as_slice(), reader, writer)
 }
 
-// A session over the bindings, whose images are synced and given back at its end.
+// Serves a session over the bindings. The images are synced and closed at its end.
 fn serve_lines<'a, I: Images, R: Read, W: Write>(
     alloc: Global,
     images: &mut I,

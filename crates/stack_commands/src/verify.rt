@@ -1,4 +1,4 @@
-//! The command `verify`: an image is checked, or gone over whole.
+//! The command `verify`: checks an image, or scans all of it.
 ghost use Rattle.std.specs.Prelude.{OnOk, IfErr};
 ghost use Rattle.stack_commands.specs.Desks.{DoesVerify, DoesVerifyAll, EndsVerify, EndsVerifyAll};
 

@@ -13,8 +13,8 @@ use stack_session::say_written;
 use std::alloc::Global;
 use std::io::Write;
 
-/// `write [--cache N] STACK NAME FIRST SOURCE BINDING...`: the bytes of the source file to a device of a stack file over the
-/// bindings, whose images are synced and given back before anything is printed.
+/// `write [--cache N] STACK NAME FIRST SOURCE BINDING...`: writes the bytes of the source file to a device of a stack file
+/// over the bindings. The images are synced and closed before anything is printed.
 pub fn invoke_write<'a, I: Images, W: Write>(
     alloc: Global,
     desk: Desk<'_, I, W>,
@@ -33,7 +33,7 @@ pub fn invoke_write<'a, I: Images, W: Write>(
     write_stack_file(alloc, desk, file, cache, transfer)
 }
 
-// The bytes of the source file to a device of a stack file, whose images are synced and given back before anything is printed.
+// Writes the bytes of the source file to a device of a stack file. The images are synced and closed before anything is printed.
 #[tactic(auto, using(crate::proofs::EndingLemmas::quiet))]
 fn write_stack_file<'a, I: Images, W: Write>(
     alloc: Global,

@@ -32,7 +32,8 @@ use Rattle.stack_meaning.specs.Places.{Place, place_of, run_expected, LeafRead}
 use Rattle.stack_meaning.specs.Reading.{Gets, Finds, MeetVerity}
 use Rattle.stack_meaning.specs.Kept.{target_leaves, verity_block, LineKeeps, IsOfVerity, AllKept}
 use Rattle.stack_meaning.specs.Leaves.{steady_images, AreSteady, AreRead}
-use Rattle.stack_lines.specs.AtOnce.{AreBefore, GoAtOnce, MeetNone}
+use Rattle.stack_lines.specs.AtOnce.{AreBefore, GoAtOnce}
+use Rattle.stack_lines.specs.Clear.{IsClear}
 use Rattle.stack_lines.specs.Caches.{StackCache}
 use Rattle.stack_lines.specs.Sources.{AreWholeBlocks, source_said, ReadsSource}
 use Rattle.stack_lines.proofs.lemmas.TouchLemmas.{verity-leaves, verity-names}
@@ -92,7 +93,7 @@ pub record BlocksAt (c : Configuration) (p : VerityPart) (n : ℕ) (found : List
   pub count : n / block_sectors p.verity.now * block_sectors p.verity.now ≡ n
   pub some : 0 < n / block_sectors p.verity.now
   pub few : n ≤ 128
-  pub clear : MeetNone (place_of c p.data).said p.first n
+  pub clear : IsClear c p.data
   pub before : AreBefore p.device.0 p.line (p.first / block_sectors p.verity.now) found
   pub below : p.first + n ≤ lower_size c p.data
   pub there : (j : ℕ) → j < n / block_sectors p.verity.now → p.first / block_sectors p.verity.now + j < p.verity.now.blocks
@@ -221,8 +222,6 @@ module _ {c : Configuration} {p : VerityPart} {n : ℕ} {found : List FoundRecor
           exact = λ steady. ap (λ (s : Outcome). then_outcome s (checked p.verity.now.salt expected)) (here was steady) ∙ checked-other p.verity.now.salt expected block other;
         })))
 
-  -- ---- the read goes on
-
   mono : AllMono (blocks_place c p n)
   mono s = λ u w more b h. (h.0, record { given = more h.0 h.1.given; at = h.1.at; good = h.1.good }, h.2)
 
@@ -327,11 +326,11 @@ module _ {c : Configuration} {p : VerityPart} {n : ℕ} {found : List FoundRecor
     blocks-differ got = let end = block-stops (io.Stack mismatch) got in stops (io.Stack mismatch) (record { moved = AreRead-more step-cost moved; may = end.may; exact = end.exact })
 
     -- of the data, beneath which no fault of a line is met
-    pub row-stops : {at : List Device} {q first rows : ℕ} (chains : List FoundRecord) (fault : IoFault) → MeetNone (place_of c p.data).said first rows → AreRead mid q at
+    pub row-stops : {at : List Device} {q first rows : ℕ} (chains : List FoundRecord) (fault : IoFault) → AreRead mid q at
         → Gets (run_expected (place_of c p.data) chains first rows) at new (Err fault) → Finds (blocks_place c p n) c 0 n (record { old = old; new = new; before = u; after = w }) (Err fault)
-    row-stops chains (io.Stack fault) clear walked got = absurd (clear fault got.may)
-    row-stops chains (io.Device i) clear walked got = stops (io.Device i) (record { moved = AreRead-more step-cost moved; may = (got.may.0, failed_later walked.moved got.moved.moved got.may.1); exact = λ steady. tt })
-    row-stops chains io.NoMemory clear walked got = stops io.NoMemory (record { moved = AreRead-more step-cost moved; may = got.may; exact = λ steady. tt })
+    row-stops {first = first} chains (io.Stack fault) walked got = absurd (b.clear (first + got.may.0) fault got.may.2)
+    row-stops chains (io.Device i) walked got = stops (io.Device i) (record { moved = AreRead-more step-cost moved; may = (got.may.0, failed_later walked.moved got.moved.moved got.may.1); exact = λ steady. tt })
+    row-stops chains io.NoMemory walked got = stops io.NoMemory (record { moved = AreRead-more step-cost moved; may = got.may; exact = λ steady. tt })
 
     -- or where memory is short
     pub blocks-full : IsOutOfMemory largest_allocation → Finds (blocks_place c p n) c 0 n (record { old = old; new = new; before = u; after = w }) (Err io.NoMemory)

@@ -32,7 +32,7 @@ use Rattle.stack_meaning.specs.Kept.{AllKept}
 use Rattle.stack_meaning.specs.Leaves.{steady_images, AreRead}
 use Rattle.stack_meaning.specs.Places.{Place, place_of, LeafRead}
 use Rattle.stack_meaning.specs.Reading.{Finds}
-use Rattle.stack_lines.specs.AtOnce.{AreBefore, MeetNone}
+use Rattle.stack_lines.specs.AtOnce.{AreBefore}
 use Rattle.stack_lines.specs.declared.tree.Extent.{Extent}
 use Rattle.stack_lines.specs.Budgets.{ReadsAtMost, part_budget}
 use Rattle.stack_lines.specs.Caches.{IsCached}
@@ -454,10 +454,8 @@ module _ {c : Configuration} {p : VerityPart} {found : List FoundRecord} {start 
           let to : ℕ = max r (j + many) in
           let next : j + 1 ≤ (length start / 512) / block_sectors p.verity.now = omega (arith, turn.inside) in
           let end = far fresh had moved walked gets in
-          let none : MeetNone (place_of c p.data).said (block_sectors p.verity.now * (p.first / block_sectors p.verity.now + j)) (many * block_sectors p.verity.now) =
-          λ f some. b.clear f (j * block_sectors p.verity.now + some.0, omega (arith, some.1, inner b j many row.most), subst (λ (k : ℕ). ((place_of c p.data).said k).meets f) (omega (arith, place b j)) some.2) in
           blocks-read b (record { old = did.old; new = new; before = did.before; after = did.after }) (Err fault) to (j + 1) end next (all-moved fresh had moved walked gets)
-          (row-stops b j turn.inside had.so_far (rest-moved fresh had moved walked gets) (total-cost b to (j + 1) end next) gets.chains fault none moved gets.got)
+          (row-stops b j turn.inside had.so_far (rest-moved fresh had moved walked gets) (total-cost b to (j + 1) end next) gets.chains fault moved gets.got)
 
       -- the blocks as far as that stand there as they were read
       module _ (fresh : (many ≡ 0) ⊎ (r ≤ j)) {did : LeafRead} {walk new : List Device} {content_of : List ℕ} {digests : List (List ℕ)} (made : List (List ℕ)) (had : WereHad c p (length start / 512) r j bytes did) (moved : AreRead did.new (path_cost c p.verity.now) walk)

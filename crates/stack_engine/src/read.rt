@@ -216,8 +216,7 @@ fn read_block<D: BlockDev>(
     }
 }
 
-/// Whole data blocks of a verity line, of their chains, which are found here and kept or dropped. Each is checked once the
-/// way to it was read. It is read with those behind it, as far as the line ignores none, unless that was done.
+/// Whole data blocks of a verity line. Each is checked after the way to it was read, and read together with later ones.
 #[cycle(read)]
 fn read_blocks<D: BlockDev>(
     config: &Config,
@@ -553,7 +552,8 @@ pub(crate) fn read_device<D: BlockDev>(
     while at < out.len() {
         let rest = (out.len() - at) as u64 / 512;
         let first = from.1 + at as u64 / 512;
-        let run = run_to_read(config, from.0, first, rest, found.as_slice());
+        let cache = &backing.cache;
+        let run = run_to_read(config, cache, from.0, first, rest, found.as_slice());
         let end = at + run.count as usize * 512;
         let part = &mut out[at..end];
         match read_run(config, backing, run.source, part, chains, found) {

@@ -2,27 +2,21 @@
 use Rattle.std.specs.Prelude.{◌≡◌, ℕ, ◌/◌, ◌<◌, ◌≤◌, List, All}
 use Rattle.stack_rules.specs.Records.{Configuration}
 use Rattle.stack_rules.specs.Trees.{block_sectors}
-use Rattle.stack_meaning.specs.Sectors.{SomeOf}
-use Rattle.stack_meaning.specs.declared.fault.Fault.{Fault}
 use Rattle.stack_meaning.specs.Found.{FoundRecord}
-use Rattle.stack_meaning.specs.Meaning.{Said, said_at}
+use Rattle.stack_lines.specs.Clear.{IsClear}
 use Rattle.stack_lines.specs.declared.source.Source.{Source}
 use Rattle.stack_lines.specs.declared.source.VerityPart.{VerityPart}
 use Rattle.stack_lines.specs.declared.source.Source.TheVariants.{Below, Units, UnitPart, Zeros, Fails, Block, Blocks}
-
--- none of n sectors from the first on meets a fault
-abbrev pub MeetNone : (ℕ → Said) → ℕ → ℕ → Type 0
-MeetNone said first n = (fault : Fault) → SomeOf (λ s. (said s).meets fault) first n → ⊥
 
 -- each chain of line l of device d is that of a block before block i
 abbrev pub AreBefore : ℕ → ℕ → ℕ → List FoundRecord → Type 0
 AreBefore d l i found = All (λ x. x.device ≡ d → x.line ≡ l → x.chain.index < i) found
 
--- the first n sectors of a part of a verity line, which are whole data blocks: no fault is met beneath them, and no chain
--- of them or of later ones was found
+-- the first n sectors of a part of a verity line, which are whole data blocks: no sector of the data device meets a fault,
+-- and no chain of them or of later ones was found
 pub record GoAtOnce (c : Configuration) (x : VerityPart) (n : ℕ) (found : List FoundRecord) : Type 0 where
   pub few : n ≤ 128
-  pub clear : MeetNone (said_at c x.data) x.first n
+  pub clear : IsClear c x.data
   pub before : AreBefore x.device.0 x.line (x.first / block_sectors x.verity.now) found
 
 -- what must hold of a run of a source, so that it can be read

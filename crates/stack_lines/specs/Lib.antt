@@ -4,6 +4,7 @@ pub mod Walks
 pub mod Extents
 pub mod Standing
 pub mod Caches
+pub mod Clear
 pub mod Forgetting
 pub mod Writing
 pub mod Cuts

@@ -1,7 +1,7 @@
 -- The leaves on which devices and lines stand.
-use Rattle.std.specs.Prelude.{◌≡◌, ℕ, ◌<◌, Bool, true, false, ◌==◌, List, length, slice_get, is_some, All}
+use Rattle.std.specs.Prelude.{◌≡◌, ℕ, ◌<◌, Bool, true, false, IsTrue, ◌==◌, List, length, slice_get, is_some, All}
 use Rattle.std.specs.Int.{bit_at}
-use Rattle.std.specs.List.{slice_index_or}
+use Rattle.std.specs.List.{list_any, slice_index_or}
 use Rattle.std.specs.Option.{option_map_or}
 use Rattle.dm_table.specs.declared.table.Target.{Target}
 use Rattle.stack_rules.specs.declared.lower.Lower.{Lower}
@@ -14,6 +14,7 @@ use Rattle.stack_rules.specs.Trees.{verity_of}
 use Rattle.verified_cache.specs.Cache.{CachedBlock, CacheRecord, cache_without}
 use Rattle.verified_cache.specs.declared.key.Key.{Key}
 use Rattle.stack_lines.specs.declared.leaf_set.LeafSet.{LeafSet}
+use Rattle.stack_lines.specs.Clear.{IsClear, IsClearLine}
 pub use Rattle.stack_meaning.specs.LeavesBeneath.{stands_on, name_stands_on}
 
 -- ---- sets of leaves
@@ -23,7 +24,7 @@ has_leaf set i = bit_at set.bits i == 1
 
 -- set d, where there is none the empty one
 abbrev pub leaf_set_at : List LeafSet → ℕ → LeafSet
-leaf_set_at sets d = slice_index_or sets d (record { bits = 0 })
+leaf_set_at sets d = slice_index_or sets d (record { bits = 0; clear = false })
 
 -- ---- what stands on a leaf
 
@@ -52,9 +53,15 @@ abbrev pub IsPossibleLower : Lower → Type 0
 IsPossibleLower (leaf i) = i < most_leaves
 IsPossibleLower (device d) = d.0 < most_devices
 
--- the set has the leaves on which it stands
-abbrev pub HasLeaves : Configuration → Lower → LeafSet → Type 0
-HasLeaves c lower set = (i : ℕ) → has_leaf set i ≡ stands_on c i lower
+-- the set has the leaves on which it stands, and its flag is true only if it is clear
+pub record HasLeaves (c : Configuration) (lower : Lower) (set : LeafSet) : Type 0 where
+  pub leaves : (i : ℕ) → has_leaf set i ≡ stands_on c i lower
+  pub clear : IsTrue set.clear → IsClear c lower
+
+-- the same of a line of that target, by its names
+pub record HasLineLeaves (c : Configuration) (names : List (List ℕ)) (target : Target) (set : LeafSet) : Type 0 where
+  pub leaves : (i : ℕ) → has_leaf set i ≡ list_any (name_stands_on c i) names
+  pub clear : IsTrue set.clear → IsClearLine c target
 
 -- a leaf, or a device that has its set
 abbrev pub KnowsLeaves : Configuration → List LeafSet → Lower → Type 0

@@ -1,10 +1,11 @@
 //! The hash blocks that a stack keeps.
-ghost use Rattle.std.specs.Prelude.{◌≡◌, ◌<◌, ◌≤◌, ◌||◌, ℕ, length, option_map, IfOk, OnOk, OnErr};
+ghost use Rattle.std.specs.Prelude.{◌≡◌, ◌<◌, ◌≤◌, ◌||◌, ℕ, length, option_map, IfOk, IsTrue, OnOk, OnErr};
 ghost use Rattle.stack_rules.specs.Records.{Configuration};
 ghost use Rattle.stack_rules.specs.Rules.{IsLoaded, most_leaves};
 ghost use Rattle.verified_cache.specs.Cache.{block_under, cache_after_find, cache_after_keep};
 ghost use Rattle.stack_lines.specs.Standing.{has_leaf, stands_on, cache_without_leaf, IsPossibleLower, KnowsLeaves, AreLeafSets, CoversBlocks};
 ghost use Rattle.stack_lines.specs.Caches.{IsFreshCache, IsUncopied};
+ghost use Rattle.stack_lines.specs.Clear.{IsClear};
 
 use crate::keys_on_leaf::KeysOnLeaf;
 use crate::leaf_set::LeafSet;
@@ -20,7 +21,7 @@ use verified_cache::{BlockCache, Key};
 #[derive(Drop)]
 pub struct Cache {
     blocks: BlockCache,
-    // The leaves on which each mapped device stands.
+    // The leaves on which each mapped device stands, and whether it is clear.
     beneath: [LeafSet; 64],
     // Those on which the hash devices of the kept blocks' lines stand, and maybe further ones.
     covered: LeafSet,
@@ -43,18 +44,26 @@ impl Cache {
         Cache {
             blocks: BlockCache::empty(alloc, capacity),
             beneath: leaf_sets(config),
-            covered: LeafSet::empty(),
+            covered: LeafSet::empty(false),
         }
     }
 
-    /// Drops all blocks, and finds out anew which leaves stand beneath which device.
+    /// Drops all blocks, and computes anew on which leaves each device stands and whether it is clear.
     pub fn start_over(&mut self, config: &Config)
         requires { IsLoaded config.now }
         ensures { IsFreshCache config.now self.old.blocks.capacity self.new }
     {
         self.blocks.forget_all();
         self.beneath = leaf_sets(config);
-        self.covered = LeafSet::empty();
+        self.covered = LeafSet::empty(false);
+    }
+
+    /// Whether it is known that no sector of a leaf or device meets a fault of a line.
+    pub(crate) fn is_clear(&self, lower: Lower) -> bool
+        requires { IsPossibleLower lower }
+        ensures { (c : Configuration) → IsLoaded c → KnowsLeaves c self.now.beneath lower → IsTrue result → IsClear c lower }
+    {
+        lower_leaves(&self.beneath, lower).clear
     }
 
     /// A copy of the block kept under that key and that digest, if there is one.

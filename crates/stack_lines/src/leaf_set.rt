@@ -1,9 +1,11 @@
-//! A set of leaves.
+//! What a leaf or device stands on.
 
-/// Some of the leaves of a configuration, by their places: a bit for each of 64.
+/// Some of the leaves of a configuration, by their places: a bit for each of 64. And whether it is known that no sector of
+/// what stands on them meets a fault of a line.
 #[derive(Clone, Copy)]
 pub(crate) struct LeafSet {
     pub(crate) bits: u64,
+    pub(crate) clear: bool,
 }
 
 impl LeafSet {
@@ -11,10 +13,11 @@ impl LeafSet {
     ghost use Rattle.stack_rules.specs.Rules.{most_leaves};
     ghost use Rattle.stack_lines.specs.Standing.{has_leaf};
 
-    pub(crate) fn empty() -> LeafSet
-        ensures { (i : ℕ) → has_leaf result i ≡ false }
+    pub(crate) fn empty(clear: bool) -> LeafSet
+        ensures leaves { (i : ℕ) → has_leaf result i ≡ false }
+        ensures clear { result.clear ≡ clear }
     {
-        LeafSet { bits: 0 }
+        LeafSet { bits: 0, clear }
     }
 
     pub(crate) fn contains(self, leaf: u32) -> bool
@@ -27,10 +30,12 @@ impl LeafSet {
     /// This set and the leaf.
     pub(crate) fn with(self, leaf: u32) -> LeafSet
         requires { leaf < most_leaves }
-        ensures { (i : ℕ) → has_leaf result i ≡ (has_leaf self i || i == leaf) }
+        ensures leaves { (i : ℕ) → has_leaf result i ≡ (has_leaf self i || i == leaf) }
+        ensures clear { result.clear ≡ self.clear }
     {
         LeafSet {
             bits: self.bits | 1 << leaf,
+            clear: self.clear,
         }
     }
 
@@ -41,15 +46,18 @@ impl LeafSet {
     {
         LeafSet {
             bits: self.bits & !(1 << leaf),
+            clear: self.clear,
         }
     }
 
     /// What is in this set or in the other.
     pub(crate) fn union(self, other: LeafSet) -> LeafSet
-        ensures { (i : ℕ) → has_leaf result i ≡ (has_leaf self i || has_leaf other i) }
+        ensures leaves { (i : ℕ) → has_leaf result i ≡ (has_leaf self i || has_leaf other i) }
+        ensures clear { result.clear ≡ (self.clear && other.clear) }
     {
         LeafSet {
             bits: self.bits | other.bits,
+            clear: self.clear && other.clear,
         }
     }
 }

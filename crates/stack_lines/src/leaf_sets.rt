@@ -1,12 +1,12 @@
-//! The leaves on which each mapped device stands.
-ghost use Rattle.std.specs.Prelude.{◌≡◌, ◌<◌, ◌+◌, ℕ, length};
-ghost use Rattle.std.specs.List.{list_any};
+//! The leaves on which each mapped device stands, and whether it is clear.
+ghost use Rattle.std.specs.Prelude.{◌≡◌, ◌<◌, ◌+◌, length};
 ghost use Rattle.stack_rules.specs.Descend.{depth};
 ghost use Rattle.stack_rules.specs.Lines.{names_at};
 ghost use Rattle.stack_rules.specs.Names.{mapped, names};
 ghost use Rattle.stack_rules.specs.Records.{Configuration};
 ghost use Rattle.stack_rules.specs.Rules.{IsLoaded};
-ghost use Rattle.stack_lines.specs.Standing.{has_leaf, is_verity, name_stands_on, IsPossibleLower, HasLeaves, KnowsLeaves, AreSetsBelow, AreLeafSets};
+ghost use Rattle.stack_lines.specs.Clear.{adds_no_fault};
+ghost use Rattle.stack_lines.specs.Standing.{is_verity, IsPossibleLower, HasLeaves, HasLineLeaves, KnowsLeaves, AreSetsBelow, AreLeafSets};
 
 use crate::leaf_set::LeafSet;
 use dm_table::Target;
@@ -22,7 +22,7 @@ pub(crate) fn lower_leaves(sets: &[LeafSet; 64], lower: Lower) -> LeafSet
     ensures { (c : Configuration) → IsLoaded c → KnowsLeaves c sets.now lower → HasLeaves c lower result }
 {
     match lower {
-        Lower::Leaf(leaf) => LeafSet::empty().with(leaf),
+        Lower::Leaf(leaf) => LeafSet::empty(true).with(leaf),
         Lower::Device(d) => sets[d.0 as usize],
     }
 }
@@ -34,15 +34,37 @@ pub(crate) fn is_verity(target: &Target) -> bool
     verity_of(target).is_some()
 }
 
-/// The leaves on which one line stands, by the `count` devices that it names.
-fn line_leaves(config: &Config, sets: &[LeafSet; 64], d: DevId, line: u32, count: u32) -> LeafSet
+/// Whether the sectors of a line meet no faults but those that sectors beneath them meet.
+fn adds_no_fault(target: &Target) -> bool
+    ensures { result ≡ adds_no_fault target.now }
+{
+    match target {
+        Target::Error => false,
+        Target::Verity(_) => false,
+        Target::Linear(_) => true,
+        Target::Striped { .. } => true,
+        Target::Zero => true,
+        Target::Crypt(_) => true,
+        Target::Unstriped(_) => true,
+    }
+}
+
+/// The leaves on which one line stands, by the `count` devices that it names, and whether it is known to be clear.
+fn line_leaves(
+    config: &Config,
+    sets: &[LeafSet; 64],
+    d: DevId,
+    line: u32,
+    target: &Target,
+    count: u32,
+) -> LeafSet
     requires loaded { IsLoaded config.now }
     requires device { d.0 < length config.now.devices }
-    requires count { count ≡ length (names_at config.now d.0 line) }
+    requires names { (names_at config.now d.0 line ≡ names target.now) × (count ≡ length (names target.now)) }
     requires below { AreSetsBelow config.now (depth config.now (mapped d.0)) sets.now }
-    ensures { (k : ℕ) → has_leaf result k ≡ list_any (name_stands_on config.now k) (names_at config.now d.0 line) }
+    ensures { HasLineLeaves config.now (names_at config.now d.0 line) target.now result }
 {
-    let mut leaves = LeafSet::empty();
+    let mut leaves = LeafSet::empty(adds_no_fault(target));
     for i in 0..count {
         let lower = config.lower(d, line, i);
         leaves = leaves.union(lower_leaves(sets, lower));
@@ -57,12 +79,13 @@ fn device_leaves(config: &Config, sets: &[LeafSet; 64], d: DevId) -> LeafSet
     requires below { AreSetsBelow config.now (depth config.now (mapped d.0)) sets.now }
     ensures { HasLeaves config.now (mapped d.0) result }
 {
-    let mut leaves = LeafSet::empty();
+    let mut leaves = LeafSet::empty(true);
     let mut number = 0;
     let lines = config.table(d).lines();
     for line in lines {
-        let count = name_count(&line.target) as u32;
-        leaves = leaves.union(line_leaves(config, sets, d, number, count));
+        let target = &line.target;
+        let count = name_count(target) as u32;
+        leaves = leaves.union(line_leaves(config, sets, d, number, target, count));
         number += 1;
     }
     leaves
@@ -87,7 +110,7 @@ pub(crate) fn leaf_sets(config: &Config) -> [LeafSet; 64]
     requires { IsLoaded config.now }
     ensures { AreLeafSets config.now result }
 {
-    let mut sets = [LeafSet::empty(); 64];
+    let mut sets = [LeafSet::empty(false); 64];
     for deep in 0..MOST_DEPTH {
         settle(config, deep + 1, &mut sets);
     }

@@ -2,7 +2,6 @@
 #![tactic(auto)]
 
 mod cache;
-mod clear;
 mod cuts;
 mod encrypts;
 mod keys_on_leaf;

@@ -5,8 +5,9 @@ ghost use Rattle.stack_rules.specs.Rules.{IsLoaded};
 ghost use Rattle.stack_lines.specs.AtOnce.{AreBefore, CanGo, GoAtOnce};
 ghost use Rattle.stack_meaning.specs.Puts.{in_one_run};
 ghost use Rattle.stack_lines.specs.Sources.{AreWholeBlocks, EndsRun, IsServed};
+ghost use Rattle.stack_lines.specs.Standing.{AreLeafSets};
 
-use crate::clear::lower_is_clear;
+use crate::cache::Cache;
 use crate::serve::run_at;
 use crate::source::{Run, Source, VerityPart};
 use stack_config::{Config, DevId};
@@ -29,11 +30,18 @@ fn are_before(found: &[Found], device: u32, line: u32, index: u64) -> bool
 }
 
 /// Whether whole data blocks can be read at once.
-fn go_at_once(config: &Config, part: &VerityPart<'_>, count: u64, found: &[Found]) -> bool
+fn go_at_once(
+    config: &Config,
+    cache: &Cache,
+    part: &VerityPart<'_>,
+    count: u64,
+    found: &[Found],
+) -> bool
     requires loaded { IsLoaded config.now }
     requires blocks { AreWholeBlocks config.now part.now count }
-    ensures { IsTrue result → GoAtOnce config.now part.now count found.now }
+    ensures { AreLeafSets config.now cache.now.beneath → IsTrue result → GoAtOnce config.now part.now count found.now }
 {
+    let _config = config;
     if count > MOST {
         return false;
     }
@@ -41,13 +49,14 @@ fn go_at_once(config: &Config, part: &VerityPart<'_>, count: u64, found: &[Found
     if !are_before(found, part.device.0, part.line, part.first / sectors) {
         return false;
     }
-    lower_is_clear(config, part.data, part.first, count)
+    cache.is_clear(part.data)
 }
 
 /// A run from that sector of a device on, of at most so many sectors, where those chains were found: the longest, or
 /// the first of its data blocks, where these can't be read at once.
 pub fn run_to_read<'a>(
     config: &'a Config,
+    cache: &Cache,
     d: DevId,
     sector: u64,
     most: u64,
@@ -60,13 +69,13 @@ pub fn run_to_read<'a>(
     ensures some { 0 < result.count }
     ensures most { result.count ≤ most }
     ensures ends { EndsRun (in_one_run config.now d.0) sector most result.count }
-    ensures can_go { CanGo config.now result.source result.count found.now }
+    ensures can_go { AreLeafSets config.now cache.now.beneath → CanGo config.now result.source result.count found.now }
 {
     let run = run_at(config, d, sector, most);
     let count = run.count;
     match run.source {
         Source::Blocks(part) => {
-            if go_at_once(config, &part, count, found) {
+            if go_at_once(config, cache, &part, count, found) {
                 Run {
                     source: Source::Blocks(part),
                     count,

@@ -111,6 +111,9 @@ pub fn is_ignored(config: &Config, verity: &Verity, tree: &Tree, expected: &Dige
     requires { IsTreeOf config.now verity.now tree.now }
     ensures { result ≡ is_ignored verity.now expected.now }
 {
+    if !verity.ignore_zero_blocks {
+        return false;
+    }
     match config.zero_digest(tree.device, tree.line) {
         Some(zeros) => zeros == *expected,
         None => false,

@@ -1,5 +1,5 @@
-//! The stack that the text of a stack file makes over the images of its bindings: loaded, a device of it found by its name, and the
-//! images given back.
+//! The stack that the text of a stack file makes over the images of its bindings: loading it, finding a device by name, and
+//! closing the images.
 #![tactic(auto)]
 
 mod closing;

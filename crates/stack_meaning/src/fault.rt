@@ -30,7 +30,7 @@ impl IoFault {
     ghost use Rattle.std.specs.Prelude.{◌≡◌};
     ghost use Rattle.stack_meaning.specs.IoFaults.{io_number, io_name};
 
-    /// The number under which it is printed; 0 for want of memory, which is printed without one.
+    /// Returns the number with which it is printed; 0 for `NoMemory`, which is printed without one.
     pub fn number(self) -> u8
         ensures { result ≡ io_number self }
     {

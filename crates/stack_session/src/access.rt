@@ -1,4 +1,4 @@
-//! Sectors that a line asks to be read or written.
+//! Sectors that a line requests to read or write.
 ghost use Rattle.std.specs.Prelude.{◌≡◌, ◌*◌, ◌≤◌, IfOk, replicate};
 ghost use Rattle.request_queue.specs.Requests.{request_record};
 ghost use Rattle.stack_session.specs.Accesses.{IsSmall, access_record, first_of};

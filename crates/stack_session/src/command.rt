@@ -1,4 +1,4 @@
-//! What a line of a session asks for.
+//! The command of a session's line.
 ghost use Rattle.std.specs.Prelude.{◌≡◌, ◌≤◌, length, option_map, IfSome};
 ghost use Rattle.stack_session.specs.Accesses.{IsSmall, access_record};
 ghost use Rattle.stack_session.specs.Commands.{IsWithinLimits, access_in, session_access, after_word, hex_byte, line_command, command_record, command_with, cost, lone_command, moved, only_word, session_read, remove, step, submit, table, ticket_of, write_count, session_write};
@@ -11,7 +11,7 @@ use table_reader::{Words, number, white_len, word_len};
 // One more than a write may have, so that this is refused and not called usage.
 const MOST_ASKED: u64 = 2049;
 
-/// What a line asks for.
+/// The command of a line.
 #[derive(Clone, Copy, Debug, PartialEq, Eq)]
 pub enum Command<'a> {
     /// The line has no word.

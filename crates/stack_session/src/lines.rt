@@ -100,7 +100,7 @@ fn feed<S: LineServer, W: Write>(
 }
 
 // Serves what of the piece is within the limit, of which `left` bytes are left, and answers how many are
-// left then. Replies are handed on before input that is too long is refused.
+// left then. Replies are flushed before input that is too long is refused.
 fn absorb<S: LineServer, W: Write>(
     alloc: Global,
     server: &mut S,
@@ -129,7 +129,7 @@ fn absorb<S: LineServer, W: Write>(
 
 /// Serves the lines of the input, of which the last may lack its newline.
 ///
-/// Replies are handed on before the reader is called again, and at the end.
+/// Replies are flushed before the reader is called again, and at the end.
 pub fn serve_lines<S: LineServer, R: Read, W: Write>(
     alloc: Global,
     server: &mut S,

@@ -32,12 +32,12 @@ impl<'a, R> SystemCalls<'a, R> {
     }
 }
 
-// The folder in which a path lies.
-fn folder_of(path: &str) -> &str {
+/// The folder in which a path lies, and the name that it has there.
+pub fn folder_and_name(path: &str) -> (&str, &str) {
     match path.rsplit_once('/') {
-        None => ".",
-        Some(("", _)) => "/",
-        Some((folder, _)) => folder,
+        None => (".", path),
+        Some(("", name)) => ("/", name),
+        Some((folder, name)) => (folder, name),
     }
 }
 
@@ -149,7 +149,8 @@ impl<R: Files<File = File> + AllocGlobal> FileCalls for SystemCalls<'_, R> {
     }
 
     fn sync_folder(&mut self, path: &str) -> Result<(), CallFault> {
-        match fs::open(self.rt, folder_of(path)) {
+        let (folder, _) = folder_and_name(path);
+        match fs::open(self.rt, folder) {
             Ok(folder) => done(folder.sync_all()),
             Err(_) => Err(CallFault),
         }

@@ -23,13 +23,13 @@ pub enum ReplaceFault {
 
 /// Texts under paths.
 pub trait Texts {
-    /// What a call leaves: of what was before it, the path, the bytes, its result, and what is behind it.
+    /// What a call leaves: of what was before it, the path, the bytes, its result, and what is after it.
     ghost replaces: { Self → List ℕ → List ℕ → Result Unit Fault → Self → Type 0 };
 
     /// What a trial leaves: of what was before it, the path, its result, and what is after it.
     ghost tries: { Self → List ℕ → Result Unit Fault → Self → Type 0 };
 
-    /// Puts these bytes in the place of what stands under a path: a cut leaves the old text or the new one.
+    /// Replaces the text under a path by these bytes: an interruption leaves the old text or the new one.
     fn replace(&mut self, path: &str, bytes: &[u8]) -> Result<(), ReplaceFault>
         ensures { replaces self.old path.now bytes.now result self.new };
 

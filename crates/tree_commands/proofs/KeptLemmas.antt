@@ -1,6 +1,7 @@
 -- Faults where lines are kept in memory.
 use Rattle.std.proofs.Common.{ℕ, Bool, List, Option}
 use Rattle.block_device.specs.Device.{Device}
+use Rattle.tree_shape.specs.Shape.{ShapeRecord}
 use Rattle.verity_format.specs.declared.verifying.VerifyFault.TheVariants as verify
 use Rattle.tree_difference.specs.declared.difference.Roots.{Roots}
 use Rattle.tree_difference.specs.declared.fault.DifferenceFault.{DifferenceFault}
@@ -25,9 +26,9 @@ trees_cause d e d' e' old new roots failed (difference.Hash Second level n) h = 
 trees_cause d e d' e' old new roots failed difference.NoMemory h = tt
 trees_cause d e d' e' old new roots failed difference.Write h = tt
 
-pub kept_cause : (d h d' h' : Device) (failed : Bool) (fault : SurveyFault) → IsSurveyCause d h d' h' failed fault → IsKeptCause d h d' h' (surveys.unkept_survey fault)
-kept_cause d h d' h' failed (survey.Image (verify.Super f)) p = p
-kept_cause d h d' h' failed (survey.Image verify.TooSmall) p = p
-kept_cause d h d' h' failed (survey.Image verify.Device) p = p
-kept_cause d h d' h' failed (survey.Image verify.NoMemory) p = tt
-kept_cause d h d' h' failed survey.Write p = tt
+pub kept_cause : (shape : ShapeRecord) (d h d' h' : Device) (failed : Bool) (fault : SurveyFault) → IsSurveyCause shape d h d' h' failed fault → IsKeptCause shape d h d' h' (surveys.unkept_survey fault)
+kept_cause shape d h d' h' failed (survey.Image (verify.Super f)) p = p
+kept_cause shape d h d' h' failed (survey.Image verify.TooSmall) p = p
+kept_cause shape d h d' h' failed (survey.Image verify.Device) p = p
+kept_cause shape d h d' h' failed (survey.Image verify.NoMemory) p = tt
+kept_cause shape d h d' h' failed survey.Write p = tt

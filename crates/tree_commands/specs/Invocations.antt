@@ -6,12 +6,13 @@ use Rattle.command_line.specs.declared.words.verify.VerifyWords.{VerifyWords}
 use Rattle.command_line.specs.words.Diff.{DiffRecord, diff_record}
 use Rattle.command_line.specs.words.Verify.{VerifyRecord, verify_record}
 use Rattle.counted_io.specs.Counted.{CountedRecord}
+use Rattle.image_commands.specs.Places.{TwoPlaces}
 use Rattle.image_files.specs.Opener.{Calls, Opener, calls}
 use Rattle.tree_difference.specs.declared.difference.Roots.{Roots}
 use Rattle.tree_commands.specs.declared.fault.TreeFault.{TreeFault}
 use Rattle.tree_commands.specs.Diffs.{IsDiffFilesEnd, PrintsSame}
 use Rattle.tree_commands.specs.Openings.{BothPaths}
-use Rattle.tree_commands.specs.Surveys.{IsSurveyFilesEnd, SurveyedPlaces, PrintsGood}
+use Rattle.tree_commands.specs.Surveys.{IsSurveyFilesEnd, PrintsGood}
 
 -- ---- `diff`
 
@@ -29,8 +30,8 @@ IsDiffWordsEnd w d old new failed fault = IsDiffFilesEnd d.json w (diff_paths d)
 
 -- ---- `verify --all`
 
-abbrev pub survey_at : VerifyRecord → SurveyedPlaces
-survey_at v = record { paths = record { first_path = v.data_path; second_path = v.hash_path }; first = v.hash_offset / 512 }
+abbrev pub survey_at : VerifyRecord → TwoPlaces
+survey_at v = record { paths = record { data_path = v.data_path; hash_path = v.hash_path }; first = v.hash_offset / 512 }
 
 abbrev pub SurveysAt : {S D : Type 0} → Calls S D → VerifyRecord → List ℕ → Option (List ℕ) → Option (List ℕ) → Type 0
 SurveysAt w v root old new = PrintsGood v.json w (survey_at v) root old new

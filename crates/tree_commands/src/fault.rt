@@ -4,6 +4,7 @@ ghost use Rattle.tree_commands.specs.declared.fault.TreeFault.TheVariants as tre
 ghost use Rattle.tree_survey.specs.declared.fault.SurveyFault.TheVariants as survey_fault;
 
 use counted_io::WriteFault;
+use image_commands::NoTree;
 use image_files::UnopenedFile;
 use tree_difference::DifferenceFault;
 use tree_survey::SurveyFault;
@@ -52,6 +53,19 @@ impl From<SurveyFault> for TreeFault<'_> {
 
     fn from(fault: SurveyFault) -> Self {
         TreeFault::Survey(fault)
+    }
+}
+
+impl From<NoTree> for TreeFault<'_> {
+    ghost use Rattle.tree_commands.specs.Surveys.{no_tree_fault};
+
+    ghost from_gives = { λ fault given. given ≡ no_tree_fault fault };
+
+    fn from(fault: NoTree) -> Self {
+        match fault {
+            NoTree::Unread(fault) => TreeFault::from(fault),
+            NoTree::Unaligned => TreeFault::Unaligned,
+        }
     }
 }
 

@@ -20,20 +20,21 @@ use std::io::Write;
 use tree_runs::{KeptLines, Line, hashes_value, runs_value};
 use tree_shape::Digest;
 use tree_survey::{Survey, SurveyFault, Totals, survey_image};
-use verity_format::VerifyFault;
+use verity_format::{VerifyFault, VerityTree};
 
 /// Goes over the two devices, and prints an object at the end.
 pub(crate) fn survey_object<'a, D: BlockDev, H: BlockDev, W: Write>(
     alloc: Global,
     image: &mut SurveyedImage<D, H>,
+    tree: &VerityTree,
     root: &Digest,
     writer: &mut Counted<W>,
 ) -> Result<(), TreeFault<'a>>
-    ensures ok { OnOk result (FindsGood true image.old image.new W.contents writer.old writer.new root.now) }
-    ensures err { IfErr result (FailsSurvey true image.old image.new W.contents writer.old writer.new root.now) }
+    ensures ok { OnOk result (FindsGood true tree.now image.old image.new W.contents writer.old writer.new root.now) }
+    ensures err { IfErr result (FailsSurvey true tree.now image.old image.new W.contents writer.old writer.new root.now) }
 {
     let mut kept = KeptLines::new(alloc);
-    let found = keep_survey(alloc, image, root, &mut kept)?;
+    let found = keep_survey(alloc, image, tree, root, &mut kept)?;
     let line = survey_line(alloc, kept.lines.as_slice(), found.totals)?;
     writer.put(line.as_bytes())?;
     if !is_all_good(found) {
@@ -47,13 +48,15 @@ pub(crate) fn survey_object<'a, D: BlockDev, H: BlockDev, W: Write>(
 fn keep_survey<D: BlockDev, H: BlockDev>(
     alloc: Global,
     image: &mut SurveyedImage<D, H>,
+    tree: &VerityTree,
     root: &Digest,
     kept: &mut KeptLines,
 ) -> Result<Survey, SurveyFault>
-    ensures ok { IfOk result (IsSurvey (listed_survey image.old image.new kept.old kept.new) root.now) }
-    ensures err { IfErr result (FailsToListSurvey image.old image.new) }
+    ensures ok { IfOk result (IsSurvey tree.now (listed_survey image.old image.new kept.old kept.new) root.now) }
+    ensures err { IfErr result (FailsToListSurvey tree.now image.old image.new) }
 {
-    match survey_image(alloc, &mut image.data, &mut image.hash, root, kept) {
+    let found = survey_image(alloc, &mut image.data, &mut image.hash, tree, root, kept);
+    match found {
         Ok(found) => Ok(found),
         Err(fault) => Err(unkept(fault)),
     }

@@ -1,11 +1,12 @@
 -- The trees of two hash images, and what ends their comparison.
 use Rattle.std.specs.Prelude.{◌≡◌, ◌⊎◌, ℕ, ◌+◌, ◌-◌, ◌*◌, ◌/◌, ◌<◌, ◌≤◌, nat_lt, if◌then◌else◌, Bool, true, List, Option, Some, None}
+use Rattle.allocation.specs.Refusal.{IsOutOfMemory}
 use Rattle.block_device.specs.Device.{Device, HasFailed}
 use Rattle.tree_shape.specs.Shape.{ShapeRecord, IsShape, levels}
 use Rattle.verity_format.specs.Image.{tree_sectors}
 use Rattle.verity_format.specs.Superblock.{SuperRecord, shape_of}
 use Rattle.verity_format.specs.Verifying.{IsReadCause}
-use Rattle.tree_path.specs.Path.{IsPathOf}
+use Rattle.tree_path.specs.Path.{IsPathOf, largest_block}
 use Rattle.tree_path.specs.Steps.{IsDown, steps}
 use Rattle.tree_runs.specs.declared.run.Kind.TheVariants.{Removed, Added}
 use Rattle.runs.specs.declared.run.Run.{Run}
@@ -108,7 +109,7 @@ IsDifferenceCause w roots failed (Image Second fault) = IsReadCause w.second w.s
 IsDifferenceCause w roots failed (Unlike field) = AreSuperblocksRead w (λ a b. unlike a b ≡ Some field)
 IsDifferenceCause w roots failed (Hash First level number) = AreSuperblocksRead w (λ a b. IsBadBlock (shape_of a) a.salt roots.first w.first level number)
 IsDifferenceCause w roots failed (Hash Second level number) = AreSuperblocksRead w (λ a b. IsBadBlock (shape_of b) b.salt roots.second w.second level number)
-IsDifferenceCause w roots failed NoMemory = (w.first'.failures ≡ w.first.failures) × (w.second'.failures ≡ w.second.failures)
+IsDifferenceCause w roots failed NoMemory = (w.first'.failures ≡ w.first.failures) × (w.second'.failures ≡ w.second.failures) × IsOutOfMemory largest_block
 IsDifferenceCause w roots failed Write = failed ≡ true
 
 -- ---- calls, by what a proof sees of the two devices: as they were before, and then after

@@ -1,5 +1,7 @@
 //! Two trees compared from their roots down.
-ghost use Rattle.std.specs.Prelude.{◌≡◌, ◌≤◌, ◌<◌, ◌+◌, ◌^◌, OnOk, IfOk, IfErr, IfSome};
+ghost use Rattle.std.specs.Prelude.{◌≡◌, ◌≤◌, ◌<◌, ◌+◌, ◌^◌, OnErr, OnOk, IfOk, IfErr, IfSome};
+ghost use Rattle.allocation.specs.Refusal.{IsOutOfMemory};
+ghost use Rattle.tree_path.specs.Path.{largest_block};
 ghost use Rattle.tree_runs.specs.Listings.{Tells};
 ghost use Rattle.runs.specs.Tallies.{EndsAt};
 ghost use Rattle.tree_difference.specs.Causes.{EndsWalk};
@@ -9,10 +11,11 @@ use crate::fault::{DifferenceFault, Which};
 use crate::reading::read_down;
 use crate::superblocks::{check_alike, superblock_of};
 use crate::walk::Walk;
+use allocation::OutOfMemory;
 use block_device::BlockDev;
 use counted_io::WriteFault;
 use runs::Run;
-use std::alloc::{AllocError, Global};
+use std::alloc::Global;
 use tree_path::{TreePath, span, top_at};
 use tree_runs::{Kind, Listing, Tally};
 use tree_shape::Digest;
@@ -66,8 +69,9 @@ fn begin(
     one: &Superblock,
     two: &Superblock,
     roots: Roots,
-) -> Result<Walk, AllocError>
-    ensures { IfOk result (IsWalkOf (trees_of one.now two.now roots)) }
+) -> Result<Walk, OutOfMemory>
+    ensures ok { IfOk result (IsWalkOf (trees_of one.now two.now roots)) }
+    ensures err { OnErr result (IsOutOfMemory largest_block) }
 {
     let shape = one.shape();
     let other = two.shape();

@@ -2,6 +2,7 @@
 ghost use Rattle.std.specs.Prelude.{◌≡◌};
 ghost use Rattle.tree_difference.specs.declared.fault.DifferenceFault.TheVariants as difference_fault;
 
+use allocation::OutOfMemory;
 use counted_io::WriteFault;
 use std::alloc::AllocError;
 use verity_format::VerifyFault;
@@ -30,10 +31,18 @@ pub enum DifferenceFault {
     Unlike(Unlike),
     /// A hash block, by its level and its number in that, has another digest than stands above it.
     Hash(Which, u32, u64),
-    /// A growth was refused.
+    /// An allocation was refused.
     NoMemory,
     /// A line can't be written.
     Write,
+}
+
+impl From<OutOfMemory> for DifferenceFault {
+    ghost from_gives = { λ _ fault. fault ≡ difference_fault.NoMemory };
+
+    fn from(_error: OutOfMemory) -> DifferenceFault {
+        DifferenceFault::NoMemory
+    }
 }
 
 impl From<AllocError> for DifferenceFault {

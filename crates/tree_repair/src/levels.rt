@@ -1,4 +1,4 @@
-//! The blocks of a height, gone over row by row.
+//! The blocks of a height, scanned row by row.
 ghost use Rattle.std.specs.Prelude.{◌≡◌, ◌<◌, ◌≤◌, false, IfOk, OnOk, OnErr, length, IfErr};
 ghost use Rattle.allocation.specs.Refusal.{IsOutOfMemory};
 ghost use Rattle.tree_shape.specs.Shape.{levels};

@@ -1,6 +1,6 @@
-//! Damaged images, repaired from the root down: each block that isn't good is sought in copies, a hash block that none has is
-//! made again from the blocks beneath it, what none of these gives back is sought by parity, and the bytes are written that have
-//! its digest.
+//! Damaged images, repaired from the root down: each invalid block is sought in copies, a hash block that no copy has is
+//! reconstructed from the blocks beneath it, a block that is still lost is restored by parity, and bytes with its digest are
+//! written.
 #![tactic(auto)]
 
 mod bad;

@@ -16,13 +16,13 @@ use tree_shape::Digest;
 pub enum Mended {
     /// It is good.
     Good,
-    /// It wasn't, and the copy of that number, counted from 1, has it.
+    /// It was invalid, and the copy of that number, counted from 1, has it.
     Copy(usize),
-    /// It is a hash block, and wasn't good, no copy has it, and it was made again from the blocks beneath it.
+    /// It is an invalid hash block, no copy has it, and it was reconstructed from the blocks beneath it.
     Remade,
-    /// It wasn't, no other source has it, and parity brought it back.
+    /// It was invalid, no other source has it, and parity restored it.
     Parity,
-    /// It isn't, and was found nowhere.
+    /// It is invalid, and was found nowhere.
     Lost,
 }
 

@@ -1,4 +1,4 @@
-//! Blocks brought back by parity.
+//! Blocks restored by parity.
 ghost use Rattle.std.specs.Prelude.{◌≡◌, ◌<◌, ◌+◌, ◌++◌, ◌&&◌, ◌||◌, false, IfOk, IsTrue, OnErr, OnOk, length, IfErr};
 ghost use Rattle.allocation.specs.Asked.{WasRefused};
 ghost use Rattle.allocation.specs.Refusal.{IsOutOfMemory};
@@ -31,15 +31,15 @@ use std::alloc::{AllocError, Global};
 use std::io::Write;
 use verity_format::is_same;
 
-/// Whether a hash block came back by parity; and of some blocks whether all came back, of a pass whether all of the image is good.
+/// Whether parity restored a hash block; and for some blocks whether all were restored, for a pass whether all of the image is valid.
 #[derive(Clone, Copy)]
 pub(crate) struct Came {
     pub(crate) tree: bool,
     pub(crate) all: bool,
 }
 
-/// Goes over the blocks that were found nowhere, from the root down, and brings back those that parity has. Tells whether
-/// a hash block is among them, and whether all of them came back and were read back.
+/// Restores the blocks that were found nowhere, from the root down, by parity. Returns whether a hash block is among the
+/// restored ones, and whether all were restored and read back.
 pub(crate) fn restore_bad<D: BlockDev, H: BlockDev, C: BlockDev, P: BlockDev, W: Write>(
     repair: &Repair,
     layout: &Layout,
@@ -142,7 +142,7 @@ fn is_place(repair: &Repair, place: Place) -> bool
     true
 }
 
-// Brings a block back that was found nowhere, if all hash blocks above it are good and parity has it.
+// Restores a block that was found nowhere, if all hash blocks above it are valid and parity has it.
 fn restore_block_at<D: BlockDev, H: BlockDev, C: BlockDev, P: BlockDev, W: Write>(
     repair: &Repair,
     losses: &Losses,
@@ -183,7 +183,7 @@ fn restore_block_at<D: BlockDev, H: BlockDev, C: BlockDev, P: BlockDev, W: Write
     }
 }
 
-// Brings a block back to which good hash blocks lead.
+// Restores a block to which valid hash blocks lead.
 fn restore_missing<D: BlockDev, H: BlockDev, C: BlockDev, P: BlockDev, W: Write>(
     missing: &Missing<'_>,
     losses: &Losses,
@@ -217,7 +217,7 @@ fn restore_missing<D: BlockDev, H: BlockDev, C: BlockDev, P: BlockDev, W: Write>
     put_restored(missing, image, bytes, block, writer, kept)
 }
 
-// Makes a block again by parity, and tells whether it has the digest to which the path leads.
+// Restores a block by parity, and returns whether it has the digest to which the path leads.
 fn make_again<D: BlockDev, H: BlockDev, C: BlockDev, P: BlockDev>(
     missing: &Missing<'_>,
     losses: &Losses,
@@ -249,7 +249,7 @@ fn make_again<D: BlockDev, H: BlockDev, C: BlockDev, P: BlockDev>(
     Ok(is_same(&repair.salt.digest(bytes), &expected))
 }
 
-// Makes a covered block again, and tells whether it could be; a refused allocation is a fault.
+// Restores a covered block, and returns whether that was possible; a failed allocation is a fault.
 fn restore<D: BlockDev, H: BlockDev, C: BlockDev, P: BlockDev>(
     alloc: Global,
     losses: &Losses,

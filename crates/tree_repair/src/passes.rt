@@ -22,11 +22,11 @@ use fec_area::Layout;
 use std::alloc::Global;
 use std::io::Write;
 
-/// As `repair_image`, and each block that no other source has is sought by the parity of its round, where all blocks that the pass
-/// has found bad count as lost. Behind a pass in which a hash block came back by parity the image is gone over anew, if anything
-/// may be written. It tells whether all of the image is known to be good by then.
+/// Like `repair_image`, and restores each block that no other source has by the parity of its round, in which all blocks that
+/// the pass has found invalid count as lost. After a pass in which parity restored a hash block the image is scanned again, if
+/// `write` is set. Returns whether all of the image is known to be valid at the end.
 ///
-/// It keeps 32 bytes for each block that isn't good.
+/// It keeps 32 bytes for each invalid block.
 pub fn repair_with_parity<D: BlockDev, H: BlockDev, C: BlockDev, P: BlockDev, W: Write>(
     alloc: Global,
     image: &mut DamagedImage<D, H, C>,
@@ -83,8 +83,8 @@ fn run_passes<D: BlockDev, H: BlockDev, C: BlockDev, P: BlockDev, W: Write>(
     Ok(came.all)
 }
 
-// Goes over the image, and then over the blocks that are lost. Tells whether a hash block came back and was written, so that it is
-// to be gone over again, and whether all of it is good by then.
+// Scans the image, and then the lost blocks. Returns whether a hash block was restored and written, so that the image has to
+// be scanned again, and whether all of it is valid by then.
 fn run_pass<D: BlockDev, H: BlockDev, C: BlockDev, P: BlockDev, W: Write>(
     repair: &Repair,
     layout: &Layout,

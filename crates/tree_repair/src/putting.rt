@@ -1,4 +1,4 @@
-//! Blocks that parity made again, put where they stand.
+//! Blocks restored by parity, written at their offsets.
 ghost use Rattle.std.specs.Prelude.{◌≡◌, ◌<◌, ◌≤◌, ◌+◌, ◌/◌, false, IfOk, IsTrue, OnErr, length, IfErr};
 ghost use Rattle.block_device.specs.Device.{IsInside};
 ghost use Rattle.tree_shape.specs.Digests.{digest};

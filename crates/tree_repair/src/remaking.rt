@@ -1,4 +1,4 @@
-//! Hash blocks made again from the blocks beneath them.
+//! Hash blocks reconstructed from the blocks beneath them.
 ghost use Rattle.std.specs.Prelude.{◌≡◌, ◌≤◌, ◌<◌, ◌+◌, ◌-◌, ◌*◌, ◌/◌, ◌++◌, ◌^◌, false, min, drop, take, IsTrue, length};
 ghost use Rattle.tree_shape.specs.Digests.{digest};
 ghost use Rattle.tree_shape.specs.Shape.{IsShape, level_blocks, levels, per_block, position};

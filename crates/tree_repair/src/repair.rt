@@ -37,12 +37,12 @@ pub struct Plan {
     pub write: bool,
 }
 
-/// Goes over an image from the root down, and looks at each block to which good hash blocks lead. One that isn't good is
-/// sought in the copies; a hash block that none has is made again from the blocks beneath it. What has its digest is written,
-/// if anything may be written. A line is printed for each such block.
+/// Scans an image from the root down, and checks each block to which valid hash blocks lead. An invalid block is sought in
+/// the copies; a hash block that no copy has is reconstructed from the blocks beneath it. Bytes with its digest are written,
+/// if `write` is set. A line is printed for each such block.
 ///
-/// It tells whether all of the image is known to be good by then. What was seen or written once isn't read again for that; where a
-/// call of the image's devices failed, it isn't known, since a sector that couldn't be read may fail again.
+/// Returns whether all of the image is known to be valid at the end. Blocks that were found valid or written aren't read again
+/// for that; after a failed call of the image's devices it isn't known, since a sector that couldn't be read may fail again.
 pub fn repair_image<D: BlockDev, H: BlockDev, C: BlockDev, W: Write>(
     alloc: Global,
     image: &mut DamagedImage<D, H, C>,

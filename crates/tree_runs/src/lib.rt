@@ -1,4 +1,4 @@
-//! Runs of blocks that are alike, and who is told of them while a tree is gone over: a writer, or a list that becomes JSON.
+//! Runs of equal blocks, and the listings that receive them during a scan of a tree: a writer, or a list that becomes JSON.
 #![tactic(auto)]
 
 mod limit;

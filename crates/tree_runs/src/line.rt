@@ -1,4 +1,4 @@
-//! The lines that are told while trees are gone over.
+//! The lines that a scan of trees reports.
 ghost use Rattle.std.specs.Prelude.{◌≡◌};
 ghost use Rattle.counted_io.specs.Counted.{Writes};
 ghost use Rattle.tree_runs.specs.Lines.{is_more, listing_line};
@@ -9,7 +9,7 @@ use counted_io::{Counted, WriteFault};
 use runs::Run;
 use std::io::Write;
 
-/// A line that is told while trees are gone over.
+/// A line that a scan of trees reports.
 #[derive(Clone, Copy, Debug, PartialEq, Eq)]
 pub enum Line {
     /// A run of data blocks.

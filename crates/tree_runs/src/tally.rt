@@ -1,4 +1,4 @@
-//! The run that may still grow, while blocks are gone over.
+//! The run that may still grow during a scan of blocks.
 ghost use Rattle.std.specs.Prelude.{◌≡◌, ◌+◌, ◌<◌, ◌^◌, None, Some, OnOk};
 ghost use Rattle.tree_runs.specs.Limits.{begun, limit_after, limited_lines};
 ghost use Rattle.tree_runs.specs.Listings.{Tells};
@@ -33,7 +33,7 @@ fn joined(last: Option<Run<Kind>>, run: Run<Kind>) -> Option<Run<Kind>>
 }
 
 impl Tally {
-    /// No block was gone over. At most so many lines are printed, without a number all.
+    /// Makes a tally of no blocks. At most `most` lines are printed, or all without a number.
     pub fn new(most: Option<u64>) -> Tally
         ensures { result ≡ record { last = None; limit = begun most } }
     {

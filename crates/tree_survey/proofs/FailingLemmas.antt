@@ -28,9 +28,6 @@ over-none d = record { read = only_read-none d; more = omega arith; sure = λ ne
 pub over-full : {a b : Device} (n : ℕ) → IsFullRead a n b → IsReadOver a b
 over-full n full = record { read = full.read; more = omega (arith, full.failures); sure = λ never. full.failures }
 
-pub over-same : {a b : Device} → IsOnlyRead a b → b.failures ≡ a.failures → IsReadOver a b
-over-same read same = record { read = read; more = omega (arith, same); sure = λ never. same }
-
 pub over-then : {a b c : Device} → IsReadOver a b → IsReadOver b c → IsReadOver a c
 over-then p q = record {
   read = only_read-then p.read q.read;

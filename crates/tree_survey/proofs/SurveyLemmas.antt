@@ -1,9 +1,9 @@
--- What was found behind the superblock stands of the devices before.
-use Rattle.std.proofs.Common.{◌≡◌, ◌⊎◌, ℕ, Bool, List, Option, Some, None, get_or, length, ap, ◌∙◌, subst}
+-- What was found of data blocks stands once hash blocks were read too.
+use Rattle.std.proofs.Common.{◌≡◌, ◌⊎◌, ℕ, Bool, List, Option, Some, None, get_or, length, ap, arith, ◌∙◌, subst}
 use Rattle.block_device.specs.Device.{Device}
 use Rattle.tree_shape.specs.Shape.{ShapeRecord, levels}
+use Rattle.verity_format.specs.declared.tree.VerityTree.{VerityTree}
 use Rattle.verity_format.specs.declared.verifying.VerifyFault.TheVariants.{Super, TooSmall, Device as DeviceFailed, NoMemory}
-use Rattle.verity_format.specs.Superblock.{SuperRecord, shape_of}
 use Rattle.tree_path.specs.Path.{PathRecord, IsPathOf}
 use Rattle.verity_format.proofs.lemmas.DeviceLemmas.{steady-then}
 use Rattle.tree_runs.specs.declared.run.Kind.TheVariants.{Changed, Unknown, Removed, Added}
@@ -11,33 +11,30 @@ use Rattle.tree_runs.specs.Runs.{State}
 use Rattle.tree_survey.specs.declared.counts.Totals.{Totals}
 use Rattle.tree_survey.specs.declared.fault.SurveyFault.{SurveyFault}
 use Rattle.tree_survey.specs.declared.fault.SurveyFault.TheVariants.{Image, Write}
-use Rattle.tree_survey.specs.Causes.{IsImageCause, IsPassCause, IsSurveyCause}
+use Rattle.tree_survey.specs.Causes.{IsCutOff, IsPassCause, IsSurveyCause}
 use Rattle.tree_survey.specs.Failing.{HasFailedRead, IsReadOver}
 use Rattle.tree_survey.specs.Hashes.{AreBad, HashesFound, AreWithinHashes, bad_of_levels, tree_of_path}
-use Rattle.tree_survey.specs.Passes.{IsHidden, Surveys, Unreadable, pass, super_tree}
-use Rattle.tree_survey.specs.Surveys.{AllStand, IsLedTo, IsContentStoredAs, Tree}
+use Rattle.tree_survey.specs.Passes.{IsHidden, Surveys, Unreadable, pass, tree_under}
+use Rattle.tree_survey.specs.Surveys.{AllStand, IsLedTo, Tree}
 use Rattle.tree_survey.proofs.FailingLemmas.{failed-later, failed-more, or-more, times-within}
 
 -- the tree of a path
-pub tree-of : (s : SuperRecord) (root : List ℕ) (p : PathRecord) → IsPathOf (shape_of s) s.salt root p → tree_of_path p ≡ super_tree s root
-tree-of s root p is =
+pub tree-of : (tree : VerityTree) (root : List ℕ) (p : PathRecord) → IsPathOf tree.shape tree.salt root p → tree_of_path p ≡ tree_under tree root
+tree-of tree root p is =
     let f : ShapeRecord → List ℕ → List ℕ → Tree = λ h x r. record { shape = h; salt = x; root = r } in
-    ap (λ (h : ShapeRecord). f h p.salt p.root) is.shape_is ∙ ap (λ (x : List ℕ). f (shape_of s) x p.root) is.salt_is ∙ ap (f (shape_of s) s.salt) is.root_is
+    ap (λ (h : ShapeRecord). f h p.salt p.root) is.shape_is ∙ ap (λ (x : List ℕ). f tree.shape x p.root) is.salt_is ∙ ap (f tree.shape tree.salt) is.root_is
 
-module _ (t u : Tree) (d h h' d' h'' last : Device) (same : u ≡ t) (read : IsReadOver h h') (behind : IsReadOver h' h'') (later : IsReadOver h'' last) where
-  failed-was : HasFailedRead h' h'' → HasFailedRead h last
-  failed-was failed = failed-more h (failed-later read behind failed) later
+module _ (t u : Tree) (d h d' h' last : Device) (same : u ≡ t) (later : IsReadOver h' last) where
+  hidden-was : (old new : Option (List ℕ)) (lost : Unreadable) (i : ℕ) (above : Type 0) (state : State) → IsHidden t (pass d h d' h' old new) lost i above state → IsHidden t (pass d h d' last old new) lost i above state
+  hidden-was old new lost i above None hidden = absurd hidden
+  hidden-was old new lost i above (Some Changed) hidden = hidden
+  hidden-was old new lost i above (Some Unknown) (some, (under, failed)) = (some, (under, failed-more h failed later))
+  hidden-was old new lost i above (Some Removed) hidden = absurd hidden
+  hidden-was old new lost i above (Some Added) hidden = absurd hidden
 
-  hidden-was : (old new : Option (List ℕ)) (lost : Unreadable) (i : ℕ) (above : Type 0) (state : State) → IsHidden t (pass d h' d' h'' old new) lost i above state → IsHidden t (pass d h d' last old new) lost i above state
-  hidden-was old new lost i above None h = absurd h
-  hidden-was old new lost i above (Some Changed) h = h
-  hidden-was old new lost i above (Some Unknown) (some, (under, failed)) = (some, (under, failed-was failed))
-  hidden-was old new lost i above (Some Removed) h = absurd h
-  hidden-was old new lost i above (Some Added) h = absurd h
-
-  pub surveys-were : (old new : Option (List ℕ)) (totals : Totals) → Surveys u (pass d h' d' h'' old new) totals → Surveys t (pass d h d' last old new) totals
+  pub surveys-were : (old new : Option (List ℕ)) (totals : Totals) → Surveys u (pass d h d' h' old new) totals → Surveys t (pass d h d' last old new) totals
   surveys-were old new totals was =
-      let s : Surveys t (pass d h' d' h'' old new) totals = subst (λ (x : Tree). Surveys x (pass d h' d' h'' old new) totals) same was in
+      let s : Surveys t (pass d h d' h' old new) totals = subst (λ (x : Tree). Surveys x (pass d h d' h' old new) totals) same was in
       record {
         states = s.states;
         seen = record {
@@ -45,16 +42,13 @@ module _ (t u : Tree) (d h h' d' h'' last : Device) (same : u ≡ t) (read : IsR
           lost = s.seen.lost;
           failed = record {
             of_data = s.seen.failed.of_data;
-            of_hash = times-within h h' h'' last (length s.seen.lost.hashes) read.more s.seen.failed.of_hash later.more;
+            of_hash = times-within h h h' last (length s.seen.lost.hashes) (omega arith) s.seen.failed.of_hash later.more;
           };
           contents = s.seen.contents;
           all = s.seen.all;
           over = s.seen.over;
           seen = λ i low. or-more _ _ _ (hidden-was old new s.seen.lost i (IsLedTo t i) (get_or s.states i None)) (s.seen.seen i low);
-          stored = λ steady steady' i low.
-              or-more _ _ _ (hidden-was old new s.seen.lost i (AllStand t h.image i) (get_or s.states i None))
-              (subst (λ (im : List (List ℕ)). IsContentStoredAs t d.image im i (get_or s.states i None) ⊎ IsHidden t (pass d h' d' h'' old new) s.seen.lost i (AllStand t im i) (get_or s.states i None)) (read.read.image steady')
-              (s.seen.stored steady (steady-then read.read.same steady') i low));
+          stored = λ steady steady' i low. or-more _ _ _ (hidden-was old new s.seen.lost i (AllStand t h.image i) (get_or s.states i None)) (s.seen.stored steady steady' i low);
         };
         totals_are = s.totals_are;
         printed_are = s.printed_are;
@@ -73,17 +67,16 @@ hashes-were t u h h' last same read behind f =
 
 -- ---- why it ends
 
-pub image_ends : (d h d' h' : Device) (failed : Bool) (fault : SurveyFault) → IsImageCause d h h' fault → d' ≡ d → IsSurveyCause d h d' h' failed fault
-image_ends d h d' h' failed (Image (Super f)) cause same = (cause, same)
-image_ends d h d' h' failed (Image TooSmall) cause same = (cause, same)
-image_ends d h d' h' failed (Image DeviceFailed) cause same = (cause, same)
-image_ends d h d' h' failed (Image NoMemory) cause same = absurd cause
-image_ends d h d' h' failed Write cause same = absurd cause
+pub room_ends : (shape : ShapeRecord) (d h d' h' : Device) (failed : Bool) (fault : SurveyFault) → IsCutOff shape d h fault → d' ≡ d → h' ≡ h → IsSurveyCause shape d h d' h' failed fault
+room_ends shape d h d' h' failed (Image (Super f)) cut same same' = absurd cut
+room_ends shape d h d' h' failed (Image TooSmall) cut same same' = (cut, (same, same'))
+room_ends shape d h d' h' failed (Image DeviceFailed) cut same same' = absurd cut
+room_ends shape d h d' h' failed (Image NoMemory) cut same same' = absurd cut
+room_ends shape d h d' h' failed Write cut same same' = absurd cut
 
--- behind reads of which none failed
-pub pass_ends : (d h h' d' h'' : Device) (failed : Bool) (fault : SurveyFault) → h'.failures ≡ h.failures → IsPassCause d h' d' h'' failed fault → IsSurveyCause d h d' h'' failed fault
-pass_ends d h h' d' h'' failed (Image (Super f)) same cause = absurd cause
-pass_ends d h h' d' h'' failed (Image TooSmall) same cause = absurd cause
-pass_ends d h h' d' h'' failed (Image DeviceFailed) same cause = absurd cause
-pass_ends d h h' d' h'' failed (Image NoMemory) same cause = (cause.0, cause.1 ∙ same, cause.2)
-pass_ends d h h' d' h'' failed Write same cause = cause
+pub pass_ends : (shape : ShapeRecord) (d h d' h' : Device) (failed : Bool) (fault : SurveyFault) → IsPassCause d h d' h' failed fault → IsSurveyCause shape d h d' h' failed fault
+pass_ends shape d h d' h' failed (Image (Super f)) cause = absurd cause
+pass_ends shape d h d' h' failed (Image TooSmall) cause = absurd cause
+pass_ends shape d h d' h' failed (Image DeviceFailed) cause = absurd cause
+pass_ends shape d h d' h' failed (Image NoMemory) cause = cause
+pass_ends shape d h d' h' failed Write cause = cause

@@ -2,6 +2,8 @@
 use Rattle.std.specs.Prelude.{◌≡◌, ◌⊎◌, ℕ, ◌<◌, ◌≤◌, Bool, true, List}
 use Rattle.allocation.specs.Refusal.{IsOutOfMemory}
 use Rattle.block_device.specs.Device.{Device}
+use Rattle.tree_shape.specs.Shape.{ShapeRecord}
+use Rattle.verity_format.specs.declared.tree.VerityTree.{VerityTree}
 use Rattle.verity_format.specs.declared.verifying.VerifyFault.TheVariants.{TooSmall, NoMemory}
 use Rattle.verity_format.specs.Image.{data_sectors, tree_sectors}
 use Rattle.verity_format.specs.Superblock.{SuperRecord, shape_of}
@@ -39,11 +41,20 @@ IsImageCause data_dev hash_dev hash_dev' (Image TooSmall) = IsReadCause hash_dev
 IsImageCause data_dev hash_dev hash_dev' (Image fault) = IsReadCause hash_dev hash_dev' fault
 IsImageCause data_dev hash_dev hash_dev' Write = ⊥
 
--- All of them. A device ends it only where the hash device failed, and then nothing was read of the data.
-abbrev pub IsSurveyCause : Device → Device → Device → Device → Bool → SurveyFault → Type 0
-IsSurveyCause data_dev hash_dev data_dev' hash_dev' failed (Image NoMemory) = IsPassCause data_dev hash_dev data_dev' hash_dev' failed (Image NoMemory)
-IsSurveyCause data_dev hash_dev data_dev' hash_dev' failed (Image fault) = IsImageCause data_dev hash_dev hash_dev' (Image fault) × (data_dev' ≡ data_dev)
-IsSurveyCause data_dev hash_dev data_dev' hash_dev' failed Write = failed ≡ true
+-- data and tree lie on the devices
+pub record HasRoom (shape : ShapeRecord) (data_dev hash_dev : Device) : Type 0 where
+  pub data_fits : data_sectors shape ≤ data_dev.size
+  pub tree_fits : tree_sectors shape ≤ hash_dev.size
+
+-- one of them goes past its device
+abbrev pub IsCutOff : ShapeRecord → Device → Device → SurveyFault → Type 0
+IsCutOff shape data_dev hash_dev (Image TooSmall) = (data_dev.size < data_sectors shape) ⊎ (hash_dev.size < tree_sectors shape)
+IsCutOff shape data_dev hash_dev fault = ⊥
+
+-- All of them. Where data or tree go past their device, nothing was read.
+abbrev pub IsSurveyCause : ShapeRecord → Device → Device → Device → Device → Bool → SurveyFault → Type 0
+IsSurveyCause shape data_dev hash_dev data_dev' hash_dev' failed (Image TooSmall) = IsCutOff shape data_dev hash_dev (Image TooSmall) × ((data_dev' ≡ data_dev) × (hash_dev' ≡ hash_dev))
+IsSurveyCause shape data_dev hash_dev data_dev' hash_dev' failed fault = IsPassCause data_dev hash_dev data_dev' hash_dev' failed fault
 
 -- ---- calls, by what a proof sees of the two devices: as they were before, and then after
 
@@ -52,5 +63,5 @@ abbrev pub EndsPass : {D H : Type 0} → (D → Device) → (H → Device) → D
 EndsPass data_state hash_state d h d' h' failed fault = IsPassCause (data_state d) (hash_state h) (data_state d') (hash_state h') failed fault
 
 -- why an image wasn't gone over to its end
-abbrev pub EndsSurvey : {D H : Type 0} → (D → Device) → (H → Device) → D → H → D → H → Bool → SurveyFault → Type 0
-EndsSurvey data_state hash_state d h d' h' failed fault = IsSurveyCause (data_state d) (hash_state h) (data_state d') (hash_state h') failed fault
+abbrev pub EndsSurvey : {D H : Type 0} → VerityTree → (D → Device) → (H → Device) → D → H → D → H → Bool → SurveyFault → Type 0
+EndsSurvey tree data_state hash_state d h d' h' failed fault = IsSurveyCause tree.shape (data_state d) (hash_state h) (data_state d') (hash_state h') failed fault

@@ -4,9 +4,11 @@ use Rattle.std.specs.List.{slice_index_or}
 use Rattle.std.specs.Io.KnownBytes.{Appends}
 use Rattle.block_device.specs.Device.{Device}
 use Rattle.tree_shape.specs.Shape.{IsShape, levels}
+use Rattle.verity_format.specs.declared.tree.VerityTree.{VerityTree}
+use Rattle.verity_format.specs.Superblock.{SuperRecord}
+use Rattle.verity_format.specs.Trees.{superblock_tree}
 use Rattle.verity_format.specs.Blocks.{blocks_at}
 use Rattle.verity_format.specs.Image.{data_sectors, tree_sectors}
-use Rattle.verity_format.specs.Superblock.{SuperRecord, shape_of}
 use Rattle.tree_path.specs.Path.{IsPathOf}
 use Rattle.runs.specs.Runs.{runs_of}
 use Rattle.tree_runs.specs.Runs.{is_same, State}
@@ -14,7 +16,7 @@ use Rattle.tree_runs.specs.Texts.{runs_text}
 use Rattle.tree_survey.specs.declared.counts.Totals.{Totals}
 use Rattle.tree_survey.specs.declared.sight.Sight.{Sight}
 use Rattle.tree_survey.specs.declared.survey.Survey.{Survey}
-use Rattle.tree_survey.specs.Causes.{AreImages}
+use Rattle.tree_survey.specs.Causes.{HasRoom}
 use Rattle.tree_survey.specs.Counts.{totals_of}
 use Rattle.tree_survey.specs.Failing.{HasFailedRead, HasFailedTimes, IsReadOver, IsReadThrough}
 use Rattle.tree_survey.specs.Hashes.{HashBlock, HashesFound, IsUnderOne, hash_lines, is_whole}
@@ -87,18 +89,20 @@ pub record Surveys (t : Tree) (w : Pass) (totals : Totals) : Type 0 where
   pub printed_are : Appends w.printed w.printed' (runs_text (runs_of is_same 0 states))
   pub data_read : IsReadThrough w.data_dev (data_sectors t.shape) w.data_dev'
 
--- the tree of a superblock under a root
-abbrev pub super_tree : SuperRecord → List ℕ → Tree
-super_tree s root = record { shape = shape_of s; salt = s.salt; root = root }
+-- a tree under a root
+abbrev pub tree_under : VerityTree → List ℕ → Tree
+tree_under tree root = record { shape = tree.shape; salt = tree.salt; root = root }
 
--- The superblock was read, and then all data blocks and all hash blocks. Behind the lines of runs of data blocks come those
--- of hash blocks.
-pub record IsSurvey (w : Pass) (root : List ℕ) (found : Survey) : Type 0 where
-  pub s : SuperRecord
-  pub images : AreImages w.data_dev w.hash_dev s
+-- that of a superblock
+abbrev pub super_tree : SuperRecord → List ℕ → Tree
+super_tree s root = tree_under (superblock_tree s) root
+
+-- All data blocks and all hash blocks were read. Behind the lines of runs of data blocks come those of hash blocks.
+pub record IsSurvey (tree : VerityTree) (w : Pass) (root : List ℕ) (found : Survey) : Type 0 where
+  pub fits : HasRoom tree.shape w.data_dev w.hash_dev
   pub between : Option (List ℕ)
-  pub surveys : Surveys (super_tree s root) (record w { printed' = between }) found.totals
-  pub hashes : HashesFound (super_tree s root) w.hash_dev w.hash_dev'
+  pub surveys : Surveys (tree_under tree root) (record w { printed' = between }) found.totals
+  pub hashes : HashesFound (tree_under tree root) w.hash_dev w.hash_dev'
   pub hash_read : IsReadOver w.hash_dev w.hash_dev'
   pub whole : found.whole_tree ≡ is_whole hashes.bad
   pub printed_are : Appends between w.printed' (hash_lines hashes.bad)

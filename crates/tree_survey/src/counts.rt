@@ -17,7 +17,7 @@ pub struct Totals {
     pub unknown: u64,
 }
 
-/// The run that may still grow, and how many blocks were gone over.
+/// The run that may still grow, and how many blocks were scanned.
 #[derive(Clone, Copy)]
 pub(crate) struct Counts {
     pub(crate) tally: Tally,
@@ -25,7 +25,7 @@ pub(crate) struct Counts {
 }
 
 impl Counts {
-    /// No block was gone over.
+    /// Returns the counts of no blocks.
     pub(crate) fn new() -> Counts
         ensures { result ≡ none_yet }
     {

@@ -1,4 +1,4 @@
-//! Why an image isn't gone over to its end.
+//! Why a scan of an image ends early.
 ghost use Rattle.std.specs.Prelude.{◌≡◌};
 ghost use Rattle.tree_survey.specs.declared.fault.SurveyFault.TheVariants as survey_fault;
 ghost use Rattle.verity_format.specs.declared.verifying.VerifyFault.TheVariants as verify_fault;
@@ -7,7 +7,7 @@ use allocation::OutOfMemory;
 use counted_io::WriteFault;
 use verity_format::VerifyFault;
 
-/// Why an image isn't gone over to its end.
+/// Why a scan of an image ends early.
 #[derive(Clone, Copy, Debug, PartialEq, Eq)]
 pub enum SurveyFault {
     /// There is no superblock, a device is too small or failed, or an allocation was refused.

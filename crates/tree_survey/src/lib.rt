@@ -1,4 +1,4 @@
-//! An image gone over whole: which of its data blocks are good under a root digest.
+//! A scan of a whole image: which of its data blocks are valid under a root hash.
 #![tactic(auto)]
 
 mod attempt;

@@ -1,4 +1,4 @@
-//! The hash blocks on the way to a data block, while data blocks are gone over.
+//! The hash blocks on the path to a data block, during a scan of data blocks.
 ghost use Rattle.std.specs.Prelude.{◌≡◌};
 ghost use Rattle.tree_shape.specs.Shape.{levels};
 ghost use Rattle.tree_survey.specs.Failing.{IsReadOver};

@@ -1,7 +1,8 @@
-//! All data blocks of an image, gone over once.
-ghost use Rattle.std.specs.Prelude.{◌≡◌, OnOk, IfOk, IfErr};
+//! A scan of all data blocks of an image.
+ghost use Rattle.std.specs.Prelude.{OnOk, IfOk, IfErr};
+ghost use Rattle.tree_shape.specs.Shape.{IsShape};
 ghost use Rattle.verity_format.specs.Blocks.{IsOnlyRead};
-ghost use Rattle.tree_survey.specs.Causes.{EndsPass, EndsSurvey, IsImageCause, AreImages};
+ghost use Rattle.tree_survey.specs.Causes.{EndsPass, EndsSurvey, HasRoom, IsCutOff};
 ghost use Rattle.tree_survey.specs.Failing.{IsReadOver};
 ghost use Rattle.tree_survey.specs.Passes.{CanPass, HasPassed, IsSurvey, Surveys, seen_pass, tree_in};
 
@@ -14,8 +15,8 @@ use block_device::BlockDev;
 use std::alloc::Global;
 use tree_path::TreePath;
 use tree_runs::Listing;
-use tree_shape::{Digest, Salt};
-use verity_format::{Superblock, VerifyFault, data_sectors, read_superblock, tree_sectors};
+use tree_shape::{Digest, Salt, Shape};
+use verity_format::{VerifyFault, VerityTree, data_sectors, tree_sectors};
 
 /// What was found of an image: how many data blocks are good, and whether all hash blocks are.
 #[derive(Clone, Copy, Debug, PartialEq, Eq)]
@@ -24,53 +25,56 @@ pub struct Survey {
     pub whole_tree: bool,
 }
 
-/// Goes over an image: tells a line for each longest run of data blocks that aren't good, in rising order, and then one
-/// for each hash block whose digest doesn't stand above it, in the order in which they lie on the hash device.
+/// Goes over an image, whose tree is known: tells a line for each longest run of data blocks that aren't good, in rising order, and
+/// then one for each hash block whose digest doesn't stand above it, in the order in which they lie on the hash device.
 ///
 /// Data blocks are read once, in large pieces; where a piece can't be read, one by one. A block that can't be read is one that
 /// isn't good.
-#[tactic(auto, using(crate::proofs::SurveyLemmas::image_ends, crate::proofs::SurveyLemmas::pass_ends))]
+///
+/// # Errors
+///
+/// `TooSmall` if the data or the tree go past their device, before anything is read; `NoMemory` if an allocation was refused; `Write`
+/// if a line can't be told.
+#[tactic(auto, using(crate::proofs::SurveyLemmas::room_ends, crate::proofs::SurveyLemmas::pass_ends))]
 pub fn survey_image<D: BlockDev, H: BlockDev, L: Listing>(
     alloc: Global,
     data_dev: &mut D,
     hash_dev: &mut H,
+    tree: &VerityTree,
     root: &Digest,
     listing: &mut L,
 ) -> Result<Survey, SurveyFault>
     ensures data { IsOnlyRead (D.state data_dev.old) (D.state data_dev.new) }
     ensures hash { IsOnlyRead (H.state hash_dev.old) (H.state hash_dev.new) }
-    ensures ok { IfOk result (IsSurvey (seen_pass D.state H.state L.told data_dev.old hash_dev.old data_dev.new hash_dev.new listing.old listing.new) root.now) }
-    ensures err { IfErr result (EndsSurvey D.state H.state data_dev.old hash_dev.old data_dev.new hash_dev.new (L.failed listing.new)) }
+    ensures ok { IfOk result (IsSurvey tree.now (seen_pass D.state H.state L.told data_dev.old hash_dev.old data_dev.new hash_dev.new listing.old listing.new) root.now) }
+    ensures err { IfErr result (EndsSurvey tree.now D.state H.state data_dev.old hash_dev.old data_dev.new hash_dev.new (L.failed listing.new)) }
 {
-    let superblock = superblock_of(data_dev, hash_dev)?;
-    let shape = superblock.shape();
-    let salt = superblock.salt();
-    let path = TreePath::new(alloc, shape, salt, *root)?;
-    let mut sight = Sight::new(path, shape);
-    let totals = survey_data(alloc, &mut sight, &salt, data_dev, hash_dev, listing)?;
-    let whole_tree = say_hashes(&mut sight.path, &shape, hash_dev, listing)?;
+    check_room(data_dev, hash_dev, &tree.shape)?;
+    let path = TreePath::new(alloc, tree.shape, tree.salt, *root)?;
+    let mut sight = Sight::new(path, tree.shape);
+    let totals = survey_data(alloc, &mut sight, &tree.salt, data_dev, hash_dev, listing)?;
+    let whole_tree = say_hashes(&mut sight.path, &tree.shape, hash_dev, listing)?;
     Ok(Survey { totals, whole_tree })
 }
 
-// The superblock of the hash device, where data and tree lie on the devices.
-fn superblock_of<D: BlockDev, H: BlockDev>(
+// Checks that data and tree lie on the devices.
+fn check_room<D: BlockDev, H: BlockDev>(
     data_dev: &D,
-    hash_dev: &mut H,
-) -> Result<Superblock, SurveyFault>
-    ensures read { IsOnlyRead (H.state hash_dev.old) (H.state hash_dev.new) }
-    ensures failures { OnOk result ((H.state hash_dev.new).failures ≡ (H.state hash_dev.old).failures) }
-    ensures ok { IfOk result (AreImages (D.state data_dev.now) (H.state hash_dev.old)) }
-    ensures err { IfErr result (IsImageCause (D.state data_dev.now) (H.state hash_dev.old) (H.state hash_dev.new)) }
+    hash_dev: &H,
+    shape: &Shape,
+) -> Result<(), SurveyFault>
+    ensures valid { IsShape shape.now }
+    ensures ok { OnOk result (HasRoom shape.now (D.state data_dev.now) (H.state hash_dev.now)) }
+    ensures err { IfErr result (IsCutOff shape.now (D.state data_dev.now) (H.state hash_dev.now)) }
 {
-    let superblock = read_superblock(hash_dev)?;
-    let shape = superblock.shape();
-    if data_dev.sectors() < data_sectors(&shape) {
+    let _blocks = shape.blocks();
+    if data_dev.sectors() < data_sectors(shape) {
         return Err(SurveyFault::Image(VerifyFault::TooSmall));
     }
-    if hash_dev.sectors() < tree_sectors(&shape) {
+    if hash_dev.sectors() < tree_sectors(shape) {
         return Err(SurveyFault::Image(VerifyFault::TooSmall));
     }
-    Ok(superblock)
+    Ok(())
 }
 
 // Goes over the data blocks, from the first on.

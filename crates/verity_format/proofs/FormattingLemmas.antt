@@ -94,7 +94,7 @@ pub tree-cause : (s : SuperRecord) (data_dev hash_dev data_dev' hash_dev' : Devi
     → IsFormatCause s data_dev hash_dev data_dev' hash_dev' (format_fault_of f)
 tree-cause s data_dev hash_dev data_dev' hash_dev' tree.Device part (inl h) = inl (record { failed = h.0; failures = h.1; part = part })
 tree-cause s data_dev hash_dev data_dev' hash_dev' tree.Device part (inr h) = inr (inl (record { failed = h; part = part }))
-tree-cause s data_dev hash_dev data_dev' hash_dev' tree.NoMemory part h = record { failures = h.0; hash_failures = h.1; part = part }
+tree-cause s data_dev hash_dev data_dev' hash_dev' tree.NoMemory part h = record { failures = h.0; hash_failures = h.1; refused = h.2; part = part }
 
 -- what was written, told of an equal shape
 pub written-shape : (s t : ShapeRecord) (salt salt' : List ℕ) (a b a' b' : Device) (digest : List ℕ) → s ≡ t → salt ≡ salt'

@@ -4,22 +4,26 @@ use Rattle.std.proofs.Math.Nat.{zero-mul}
 use Rattle.std.proofs.lemmas.List.{length-append, map-append}
 use Rattle.std.proofs.lemmas.List.Elements.{All-append, All-nil}
 use Rattle.std.proofs.lemmas.List.Sorted.{length_permutation}
+use Rattle.allocation.specs.Refusal.{IsOutOfMemory}
 use Rattle.block_device.specs.Device.{Device}
 use Rattle.tree_shape.specs.Digests.{digest}
 use Rattle.hash_tree.specs.Laws.{AreDigests}
 use Rattle.tree_shape.specs.Shape.{ShapeRecord, IsShape, area_blocks}
 use Rattle.hash_tree.specs.Tree.{area}
-use Rattle.hash_tree.specs.Building.{BuilderRecord, PlacedRecord, IsAreaBlock, begun_builder, pushed, completed, last_completed, numbered}
-use Rattle.hash_tree.proofs.lemmas.BuilderLemmas.{pushed-none, pushed-append, completed-append, left-pushed, left-begun, failed-pushed, failed-begun}
+use Rattle.hash_tree.specs.Building.{BuilderRecord, PlacedRecord, IsAreaBlock, begun_builder, builder_room, pushed, completed, last_completed, numbered}
+use Rattle.hash_tree.proofs.lemmas.BuilderLemmas.{pushed-none, pushed-append, completed-append, left-pushed, left-begun, failed-pushed, failed-begun, size-begun}
+use Rattle.hash_tree.proofs.lemmas.BlockwiseLemmas.{size-pushed}
 use Rattle.hash_tree.proofs.lemmas.BuildingLemmas.{builds-area}
 use Rattle.hash_tree.proofs.lemmas.AreaBlockLemmas.{next-inside, last-inside}
 use Rattle.hash_tree.proofs.lemmas.LawLemmas.{stands-in_shape}
 use Rattle.hash_tree.proofs.lemmas.PlacingLemmas.{length-numbered}
+use Rattle.verity_format.specs.Access.{largest_allocation}
 use Rattle.verity_format.specs.Blocks.{IsFullRead, blocks_at}
 use Rattle.verity_format.specs.Image.{data_sectors, digests_of}
 use Rattle.verity_format.specs.Growth.{IsDigest, IsRunTaken, IsTaken}
 use Rattle.verity_format.proofs.lemmas.DeviceLemmas.{full_read-none, full_read-then, steady-then}
 use Rattle.verity_format.proofs.lemmas.RunLemmas.{blocks-more, sectors-more}
+use Rattle.verity_format.proofs.lemmas.SizeLemmas.{block-size}
 
 module _ (s : ShapeRecord) (salt : List ℕ) where
   -- no block yet
@@ -42,6 +46,16 @@ module _ (s : ShapeRecord) (salt : List ℕ) where
 
     pub ready-taken : x.failed ≡ false
     ready-taken = ap (λ (b : BuilderRecord). b.failed) t.after ∙ failed-pushed (begun_builder s salt) t.digests ∙ failed-begun s salt
+
+    pub size-taken : x.hash_block ≡ s.hash_block
+    size-taken = ap (λ (b : BuilderRecord). b.hash_block) t.after ∙ size-pushed (begun_builder s salt) t.digests ∙ size-begun s salt
+
+    -- an allocation that such a builder was refused is within the bound
+    pub refused-taken : IsShape s → (x.failed ≡ false → IsOutOfMemory (builder_room x)) → IsOutOfMemory largest_allocation
+    refused-taken valid refused =
+        let h = refused ready-taken in
+        let block = block-size s.hash_block valid.hash_size in
+        (h.0, omega (arith, h.1, size-taken, block.most_bytes), h.2)
 
     module _ (c : Device) (y : BuilderRecord) (out : List PlacedRecord) (r : IsRunTaken s salt b c x y out) where
       -- a run more

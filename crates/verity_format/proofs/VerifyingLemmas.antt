@@ -63,7 +63,7 @@ pub cause-after : (s : SuperRecord) (sector : List ℕ) (a b mid a' b' : Device)
     → IsTreeVerifyCause (shape_of s) a mid a' b' f → IsVerifyCause a b a' b' f
 cause-after s sector a b mid a' b' verify.Device from one (inl h) = inl h
 cause-after s sector a b mid a' b' verify.Device from one (inr h) = inr (failed-then b mid b' one.failures h)
-cause-after s sector a b mid a' b' verify.NoMemory from one h = (h.0, h.1 ∙ one.failures)
+cause-after s sector a b mid a' b' verify.NoMemory from one h = (h.0, h.1 ∙ one.failures, h.2)
 cause-after s sector a b mid a' b' (verify.Super f) from one h = absurd h
 cause-after s sector a b mid a' b' verify.TooSmall from one h =
     let is : s ≡ read_of sector = sym (same-read s sector from.carried) in

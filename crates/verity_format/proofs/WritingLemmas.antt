@@ -36,7 +36,7 @@ run-before image ss f j k inside low =
     ap (λ n. take k (drop j (take n xs))) split ∙ ap (take k) (drop-take j (f - j) xs) ∙ take-take k (f - j) (drop j xs) fits in
     sym (cut (spliced image f ss)) ∙ ap (λ xs. run_of xs j k) (take-spliced image ss f inside) ∙ cut image
 
--- a run behind a splice
+-- a run after a splice
 run-behind : (image ss : List (List ℕ)) (f j k : ℕ) → f ≤ length image → f + length ss ≤ j → run_of (spliced image f ss) j k ≡ run_of image j k
 run-behind image ss f j k inside high = ap (take k) (drop-same (f + length ss) j (spliced image f ss) image high (drop-spliced image ss f (length ss) inside refl))
 
@@ -169,7 +169,7 @@ may-stand s valid device room size same out ps is all =
     (subst (λ ps. All (MayStand device s.hash_block) ps × All (LiesBetween s.hash_block s.start (tree_sectors s)) ps) (sym is)
     ((λ i d inside. (one (get_or ps i d) (all i d inside)).0), (λ i d inside. (one (get_or ps i d) (all i d inside)).1)))
 
--- an image that is as it was before and behind a tree's sectors, and holds the tree there
+-- an image that is as it was before and after a tree's sectors, and holds the tree in them
 image-with_tree : (s : ShapeRecord) (salt : List ℕ) (data_image old new : List (List ℕ)) → All IsSector new → tree_sectors s ≤ length new
     → blocks_at new s.hash_block s.start (area_blocks s) ≡ area_over s salt data_image
     → take (blocks_sectors s.start s.hash_block) new ≡ take (blocks_sectors s.start s.hash_block) old → drop (tree_sectors s) new ≡ drop (tree_sectors s) old → new ≡ with_tree s salt data_image old

@@ -1,15 +1,20 @@
 -- Digests of a device's blocks, and why they were not taken.
 use Rattle.std.specs.Prelude.{◌≡◌, ℕ, ◌*◌, ◌/◌, IsTrue, List, length, map, All}
+use Rattle.allocation.specs.Refusal.{IsOutOfMemory}
 use Rattle.block_device.specs.Device.{Device, HasFailed}
 use Rattle.tree_shape.specs.Digests.{digest}
 use Rattle.verity_format.specs.declared.access.TreeFault.{TreeFault}
 use Rattle.verity_format.specs.declared.access.TreeFault.TheVariants.{Device as DeviceFailed, NoMemory}
 use Rattle.verity_format.specs.Blocks.{IsFullRead, blocks_at}
 
--- the device failed in the call; where memory ran out it didn't
+-- the most elements that one allocation makes room for: the bytes of the data that one call reads
+abbrev pub largest_allocation : ℕ
+largest_allocation = 65536
+
+-- the device failed in the call, or an allocation was refused and it didn't
 abbrev pub IsTreeCause : Device → Device → TreeFault → Type 0
 IsTreeCause old new DeviceFailed = HasFailed old new
-IsTreeCause old new NoMemory = new.failures ≡ old.failures
+IsTreeCause old new NoMemory = (new.failures ≡ old.failures) × IsOutOfMemory largest_allocation
 
 -- digests, over a steady device those of the blocks of that size that stand there from block first on
 pub record AreDigestsOf (device : Device) (salt : List ℕ) (size first : ℕ) (digests : List (List ℕ)) : Type 0 where

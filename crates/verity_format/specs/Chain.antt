@@ -1,11 +1,13 @@
 -- The chain of a data block as it stands on two devices.
 use Rattle.std.specs.Prelude.{◌≡◌, ◌⊎◌, ℕ, zero, suc, ◌+◌, ◌*◌, ◌/◌, IsTrue, List, Vec, [], ◌∷◌, map}
 use Rattle.std.specs.Global.{Global}
+use Rattle.allocation.specs.Refusal.{IsOutOfMemory}
 use Rattle.block_device.specs.Device.{Device, HasFailed}
 use Rattle.tree_shape.specs.Shape.{ShapeRecord, levels, position, ancestor}
 use Rattle.hash_tree.specs.Chain.{ChainRecord}
 use Rattle.verity_format.specs.declared.chains.ChainFault.{ChainFault}
 use Rattle.verity_format.specs.declared.chains.ChainFault.TheVariants.{Device as DeviceFailed, NoMemory}
+use Rattle.verity_format.specs.Access.{largest_allocation}
 use Rattle.verity_format.specs.Blocks.{IsFullRead, block_at}
 
 -- the hash blocks above data block i as they stand, of the n levels from n - 1 down
@@ -26,10 +28,10 @@ pub record IsChainRead (shape : ShapeRecord) (data_dev hash_dev data_dev' hash_d
   pub data_read : IsFullRead data_dev (shape.data_block / 512) data_dev'
   pub hash_read : IsFullRead hash_dev (levels shape * (shape.hash_block / 512)) hash_dev'
 
--- one of the two devices failed in the call; where memory ran out neither was asked
+-- one of the two devices failed in the call, or an allocation was refused and neither was accessed
 abbrev pub IsChainCause : Device → Device → Device → Device → ChainFault → Type 0
 IsChainCause data_dev hash_dev data_dev' hash_dev' DeviceFailed = HasFailed data_dev data_dev' ⊎ HasFailed hash_dev hash_dev'
-IsChainCause data_dev hash_dev data_dev' hash_dev' NoMemory = (data_dev' ≡ data_dev) × (hash_dev' ≡ hash_dev)
+IsChainCause data_dev hash_dev data_dev' hash_dev' NoMemory = (data_dev' ≡ data_dev) × (hash_dev' ≡ hash_dev) × IsOutOfMemory largest_allocation
 
 -- the hash blocks above data block i were read, each once, over a steady device as they stand there
 pub record IsPathRead (shape : ShapeRecord) (i : ℕ) (old : Device) (blocks : List (List ℕ)) (new : Device) : Type 0 where

@@ -1,5 +1,6 @@
 -- When formatting is refused, and what each fault says.
 use Rattle.std.specs.Prelude.{◌≡◌, ◌⊎◌, ℕ, ◌/◌, true, false, not, nat_lt, Option, Some, None, is_some, if◌then◌else◌, IsTrue, List, drop, Result, Err, IfOk, IfErr}
+use Rattle.allocation.specs.Refusal.{IsOutOfMemory}
 use Rattle.block_device.specs.Device.{Device, HasFailed, IsWritten}
 use Rattle.tree_shape.specs.Shape.{ShapeRecord, first_fault}
 use Rattle.verity_format.specs.declared.access.TreeFault.{TreeFault}
@@ -7,6 +8,7 @@ use Rattle.verity_format.specs.declared.access.TreeFault.TheVariants as tree
 use Rattle.verity_format.specs.declared.formatting.FormatFault.{FormatFault}
 use Rattle.verity_format.specs.declared.formatting.FormatFault.TheVariants.{Shape, DataTooSmall, HashTooSmall, HashReadOnly, Device as DeviceFailed, NoMemory}
 use Rattle.verity_format.specs.Superblock.{SuperRecord, shape_of}
+use Rattle.verity_format.specs.Access.{largest_allocation}
 use Rattle.verity_format.specs.Blocks.{IsOnlyRead, IsFullRead, IsOnlyWritten}
 use Rattle.verity_format.specs.Image.{data_sectors, first_sectors, image_sectors, formatted, root_over}
 use Rattle.verity_format.specs.Writing.{IsPartOfTree}
@@ -56,10 +58,11 @@ pub record FailsAtFirstBlock (s : SuperRecord) (data_dev hash hash' : Device) : 
   pub written : IsWritten hash 0 (image_sectors (shape_of s)) false hash'
   pub tree : IsTrue data_dev.steady → IsTrue hash.steady → drop (first_sectors s) hash'.image ≡ drop (first_sectors s) (formatted s data_dev.image hash.image)
 
--- where memory ran out, neither device failed, and at most the tree's blocks were written
+-- an allocation was refused: neither device failed, and at most the tree's blocks were written
 pub record LacksMemory (s : SuperRecord) (data_dev hash data_dev' hash' : Device) : Type 0 where
   pub failures : data_dev'.failures ≡ data_dev.failures
   pub hash_failures : hash'.failures ≡ hash.failures
+  pub refused : IsOutOfMemory largest_allocation
   pub part : IsPartOfTree (shape_of s) hash hash'
 
 -- A fault's cause, and what it leaves: no superblock is written before the whole tree stands.

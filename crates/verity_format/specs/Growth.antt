@@ -1,12 +1,14 @@
 -- A tree made of a device's data blocks, run by run.
 use Rattle.std.specs.Prelude.{◌≡◌, ◌⊎◌, ℕ, ◌-◌, ◌*◌, ◌/◌, ◌<◌, ◌≤◌, IsTrue, List, Vec, length, map, All}
 use Rattle.std.specs.Global.{Global}
+use Rattle.allocation.specs.Refusal.{IsOutOfMemory}
 use Rattle.block_device.specs.Device.{Device, HasFailed}
 use Rattle.tree_shape.specs.Digests.{digest}
 use Rattle.tree_shape.specs.Shape.{ShapeRecord}
 use Rattle.hash_tree.specs.Building.{BuilderRecord, PlacedRecord, begun_builder, pushed, completed}
 use Rattle.verity_format.specs.declared.access.TreeFault.{TreeFault}
 use Rattle.verity_format.specs.declared.access.TreeFault.TheVariants.{Device as DeviceFailed, NoMemory}
+use Rattle.verity_format.specs.Access.{largest_allocation}
 use Rattle.verity_format.specs.Blocks.{IsFullRead, blocks_at}
 
 abbrev pub IsDigest : List ℕ → Type 0
@@ -32,10 +34,10 @@ pub record IsTaken (shape : ShapeRecord) (salt : List ℕ) (old new : Device) (b
   pub read : IsFullRead old (length digests * (shape.data_block / 512)) new
   pub over : IsTrue old.steady → digests ≡ map (digest salt) (blocks_at old.image shape.data_block 0 (length digests))
 
--- one of two devices failed in the call; where memory ran out neither did
+-- one of two devices failed in the call, or an allocation was refused and neither did
 abbrev pub IsPairCause : Device → Device → Device → Device → TreeFault → Type 0
 IsPairCause data_dev hash_dev data_dev' hash_dev' DeviceFailed = HasFailed data_dev data_dev' ⊎ HasFailed hash_dev hash_dev'
-IsPairCause data_dev hash_dev data_dev' hash_dev' NoMemory = (data_dev'.failures ≡ data_dev.failures) × (hash_dev'.failures ≡ hash_dev.failures)
+IsPairCause data_dev hash_dev data_dev' hash_dev' NoMemory = (data_dev'.failures ≡ data_dev.failures) × (hash_dev'.failures ≡ hash_dev.failures) × IsOutOfMemory largest_allocation
 
 -- ---- calls, by what a proof sees of the devices: as they were before, and then after
 
@@ -43,6 +45,6 @@ IsPairCause data_dev hash_dev data_dev' hash_dev' NoMemory = (data_dev'.failures
 abbrev pub TakesRun : {D : Type 0} → (D → Device) → ShapeRecord → List ℕ → D → D → BuilderRecord → BuilderRecord → Vec PlacedRecord Global → Type 0
 TakesRun state shape salt d d' b b' out = IsRunTaken shape salt (state d) (state d') b b' out.items
 
--- one of the two failed; where memory ran out neither did
+-- one of the two failed, or an allocation was refused and neither did
 abbrev pub FailsOnEither : {D H : Type 0} → (D → Device) → (H → Device) → D → H → D → H → TreeFault → Type 0
 FailsOnEither data_state hash_state d h d' h' fault = IsPairCause (data_state d) (hash_state h) (data_state d') (hash_state h') fault

@@ -4,6 +4,7 @@ use Rattle.std.specs.Global.{Global}
 use Rattle.block_device.specs.Device.{Device}
 use Rattle.tree_shape.specs.Shape.{ShapeRecord, IsShape, is_block_size, levels}
 use Rattle.hash_tree.specs.Building.{BuilderRecord, PlacedRecord}
+use Rattle.verity_format.specs.Access.{largest_allocation}
 use Rattle.verity_format.specs.Comparing.{LiesOn}
 use Rattle.verity_format.specs.Image.{data_sectors, tree_sectors}
 use Rattle.verity_format.specs.Writing.{MayStand}
@@ -41,11 +42,12 @@ pub record CanPutBlocks (device : Device) (block : ℕ) (blocks : List PlacedRec
   pub inside : All (MayStand device block) blocks
   pub allowed : IsTrue device.may_write
 
--- a builder has data blocks left, which lie on the device, and at least one fits into so many bytes
+-- a builder of the shape has data blocks left, which lie on the device, and at least one fits into so many bytes
 pub record CanTake (shape : ShapeRecord) (device : Device) (builder : BuilderRecord) (bytes : ℕ) : Type 0 where
   pub ready : builder.failed ≡ false
   pub left : (0 < builder.left) × (builder.left ≤ shape.blocks)
-  pub run : shape.data_block ≤ bytes
+  pub size : builder.hash_block ≡ shape.hash_block
+  pub run : (shape.data_block ≤ bytes) × (bytes ≤ largest_allocation)
   pub room : data_sectors shape ≤ device.size
 
 -- the data blocks and the tree lie on the two devices

@@ -1,10 +1,12 @@
 -- Trees with and without a superblock before them, and what making one does.
 use Rattle.std.specs.Prelude.{◌≡◌, ◌⊎◌, ℕ, Option, Some, None, List}
+use Rattle.allocation.specs.Refusal.{IsOutOfMemory}
 use Rattle.block_device.specs.Device.{Device, HasFailed}
 use Rattle.tree_shape.specs.Shape.{ShapeRecord, shape_with}
 use Rattle.verity_format.specs.declared.formatting.FormatFault.{FormatFault}
 use Rattle.verity_format.specs.declared.formatting.FormatFault.TheVariants.{Device as DeviceFailed, NoMemory}
 use Rattle.verity_format.specs.declared.tree.VerityTree.{VerityTree}
+use Rattle.verity_format.specs.Access.{largest_allocation}
 use Rattle.verity_format.specs.Formatting.{room_refusal}
 use Rattle.verity_format.specs.Image.{tree_sectors}
 use Rattle.verity_format.specs.Superblock.{SuperRecord, shape_of}
@@ -30,10 +32,10 @@ pub record IsTreeBuilt (shape : ShapeRecord) (salt : List ℕ) (data_dev hash_de
   pub fit : tree_refusal shape data_dev hash_dev ≡ None
   pub written : IsTreeWritten shape salt data_dev hash_dev data_dev' hash_dev' digest
 
--- one of the two devices failed in the call, memory ran out and neither failed, or a refusal applies and neither was accessed
+-- one of the two devices failed in the call, an allocation was refused and neither failed, or a refusal applies and neither was accessed
 abbrev pub IsBuildCause : ShapeRecord → Device → Device → Device → Device → FormatFault → Type 0
 IsBuildCause shape data_dev hash_dev data_dev' hash_dev' DeviceFailed = HasFailed data_dev data_dev' ⊎ HasFailed hash_dev hash_dev'
-IsBuildCause shape data_dev hash_dev data_dev' hash_dev' NoMemory = (data_dev'.failures ≡ data_dev.failures) × (hash_dev'.failures ≡ hash_dev.failures)
+IsBuildCause shape data_dev hash_dev data_dev' hash_dev' NoMemory = (data_dev'.failures ≡ data_dev.failures) × (hash_dev'.failures ≡ hash_dev.failures) × IsOutOfMemory largest_allocation
 IsBuildCause shape data_dev hash_dev data_dev' hash_dev' fault = (tree_refusal shape data_dev hash_dev ≡ Some fault) × (data_dev' ≡ data_dev) × (hash_dev' ≡ hash_dev)
 
 -- ---- calls, by what a proof sees of the devices: as they were before, and then after

@@ -1,5 +1,6 @@
 -- What is found on a data device and a hash device, and when they cannot be compared.
 use Rattle.std.specs.Prelude.{◌≡◌, ◌≢◌, ◌⊎◌, ℕ, ◌+◌, ◌<◌, ◌==◌, ◌||◌, nat_lt, Bool, true, false, Option, Some, None, if◌then◌else◌, IsTrue, List}
+use Rattle.allocation.specs.Refusal.{IsOutOfMemory}
 use Rattle.block_device.specs.Device.{Device, HasFailed}
 use Rattle.tree_shape.specs.Shape.{ShapeRecord, area_blocks}
 use Rattle.hash_tree.specs.Difference.{FirstDiffer}
@@ -12,6 +13,7 @@ use Rattle.verity_format.specs.declared.verifying.Verdict.TheVariants.{Matches, 
 use Rattle.verity_format.specs.declared.verifying.VerifyFault.{VerifyFault}
 use Rattle.verity_format.specs.declared.verifying.VerifyFault.TheVariants.{Super, TooSmall, Device as DeviceFailed, NoMemory}
 use Rattle.verity_format.specs.Superblock.{SuperRecord, shape_of, Carries, super_fault, read_of}
+use Rattle.verity_format.specs.Access.{largest_allocation}
 use Rattle.verity_format.specs.Blocks.{IsFullRead, block_at, blocks_at}
 use Rattle.verity_format.specs.Image.{area_sectors, data_sectors, tree_sectors, area_over, root_over}
 
@@ -66,10 +68,10 @@ IsReadCause hash_dev hash_dev' (Super f) = (0 < hash_dev.size) × ((sector : Lis
 abbrev pub IsRefusedSuper : Device → Device → VerifyFault → Type 0
 IsRefusedSuper data_dev hash_dev fault = (sector : List ℕ) × (IsFirstSector hash_dev sector × (verify_refusal data_dev hash_dev sector ≡ Some fault))
 
--- a fault's cause: one of the two devices failed in the call, or a refusal that applies; where memory ran out neither failed
+-- a fault's cause: one of the two devices failed in the call, an allocation was refused and neither failed, or a refusal that applies
 abbrev pub IsVerifyCause : Device → Device → Device → Device → VerifyFault → Type 0
 IsVerifyCause data_dev hash_dev data_dev' hash_dev' DeviceFailed = HasFailed data_dev data_dev' ⊎ HasFailed hash_dev hash_dev'
-IsVerifyCause data_dev hash_dev data_dev' hash_dev' NoMemory = (data_dev'.failures ≡ data_dev.failures) × (hash_dev'.failures ≡ hash_dev.failures)
+IsVerifyCause data_dev hash_dev data_dev' hash_dev' NoMemory = (data_dev'.failures ≡ data_dev.failures) × (hash_dev'.failures ≡ hash_dev.failures) × IsOutOfMemory largest_allocation
 IsVerifyCause data_dev hash_dev data_dev' hash_dev' (Super f) = IsRefusedSuper data_dev hash_dev (Super f)
 IsVerifyCause data_dev hash_dev data_dev' hash_dev' TooSmall = IsRefusedSuper data_dev hash_dev TooSmall
 
@@ -81,11 +83,11 @@ pub record IsTreeFound (shape : ShapeRecord) (salt : List ℕ) (data_dev hash_de
   pub hash_read : IsFullRead hash_dev (area_sectors shape) hash_dev'
   pub found : IsTrue data_dev.steady → IsTrue hash_dev.steady → IsVerdict shape salt data_dev.image hash_dev.image root verdict
 
--- why a tree isn't compared: one of the two devices failed in the call, memory ran out and neither failed, or the data or the
+-- why a tree isn't compared: one of the two devices failed in the call, an allocation was refused and neither failed, or the data or the
 -- tree goes past its device and neither was read
 abbrev pub IsTreeVerifyCause : ShapeRecord → Device → Device → Device → Device → VerifyFault → Type 0
 IsTreeVerifyCause shape data_dev hash_dev data_dev' hash_dev' DeviceFailed = HasFailed data_dev data_dev' ⊎ HasFailed hash_dev hash_dev'
-IsTreeVerifyCause shape data_dev hash_dev data_dev' hash_dev' NoMemory = (data_dev'.failures ≡ data_dev.failures) × (hash_dev'.failures ≡ hash_dev.failures)
+IsTreeVerifyCause shape data_dev hash_dev data_dev' hash_dev' NoMemory = (data_dev'.failures ≡ data_dev.failures) × (hash_dev'.failures ≡ hash_dev.failures) × IsOutOfMemory largest_allocation
 IsTreeVerifyCause shape data_dev hash_dev data_dev' hash_dev' (Super f) = ⊥
 IsTreeVerifyCause shape data_dev hash_dev data_dev' hash_dev' TooSmall = (is_too_small shape data_dev hash_dev ≡ true) × (data_dev' ≡ data_dev) × (hash_dev' ≡ hash_dev)
 

@@ -1,11 +1,13 @@
 -- Hash blocks written to a device.
 use Rattle.std.specs.Prelude.{◌≡◌, ◌⊎◌, ℕ, ◌+◌, ◌*◌, ◌/◌, ◌≤◌, IsTrue, All, List, length, take, drop}
+use Rattle.allocation.specs.Refusal.{IsOutOfMemory}
 use Rattle.block_device.specs.Device.{Device, IsSameDevice, HasFailed, capped}
 use Rattle.tree_shape.specs.Shape.{ShapeRecord, area_blocks}
 use Rattle.hash_tree.specs.Building.{BuilderRecord, PlacedRecord, begun_builder, completed}
 use Rattle.hash_tree.specs.Placing.{written}
 use Rattle.verity_format.specs.declared.access.TreeFault.{TreeFault}
 use Rattle.verity_format.specs.declared.access.TreeFault.TheVariants.{Device as DeviceFailed, NoMemory}
+use Rattle.verity_format.specs.Access.{largest_allocation}
 use Rattle.verity_format.specs.Blocks.{IsOnlyRead, IsFullRead, block_at}
 use Rattle.verity_format.specs.Comparing.{LiesOn}
 use Rattle.verity_format.specs.Growth.{IsTaken}
@@ -57,10 +59,10 @@ pub record IsTreeWritten (shape : ShapeRecord) (salt : List ℕ) (data_dev hash_
   pub root : IsTrue data_dev.steady → digest ≡ root_over shape salt data_dev.image
   pub image : IsTrue data_dev.steady → IsTrue hash_dev.steady → hash_dev'.image ≡ with_tree shape salt data_dev.image hash_dev.image
 
--- the data device failed and the hash device didn't, or the hash device failed; where memory ran out neither did
+-- the data device failed and the hash device didn't, or the hash device failed, or an allocation was refused and neither did
 abbrev pub IsWriteCause : Device → Device → Device → Device → TreeFault → Type 0
 IsWriteCause data_dev hash_dev data_dev' hash_dev' DeviceFailed = (HasFailed data_dev data_dev' × (hash_dev'.failures ≡ hash_dev.failures)) ⊎ HasFailed hash_dev hash_dev'
-IsWriteCause data_dev hash_dev data_dev' hash_dev' NoMemory = (data_dev'.failures ≡ data_dev.failures) × (hash_dev'.failures ≡ hash_dev.failures)
+IsWriteCause data_dev hash_dev data_dev' hash_dev' NoMemory = (data_dev'.failures ≡ data_dev.failures) × (hash_dev'.failures ≡ hash_dev.failures) × IsOutOfMemory largest_allocation
 
 -- ---- calls, by what a proof sees of the devices: as they were before, and then after
 

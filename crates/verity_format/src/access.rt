@@ -1,5 +1,5 @@
 //! Blocks read from a device, and the tree over a device's blocks.
-ghost use Rattle.std.specs.Prelude.{◌≡◌, ◌^◌, ◌≤◌, OnOk, OnErr, IfOk, is_ok, length, replicate};
+ghost use Rattle.std.specs.Prelude.{◌≡◌, ◌^◌, ◌≤◌, OnOk, OnErr, is_ok, length};
 ghost use Rattle.std.specs.Str.{bytes_eq};
 ghost use Rattle.block_device.specs.Call.{DeviceDoes};
 ghost use Rattle.block_device.specs.Device.{HasFailed};
@@ -9,9 +9,10 @@ ghost use Rattle.verity_format.specs.Access.{IsDigestRun};
 ghost use Rattle.verity_format.specs.Handing.{GivesDigests};
 ghost use Rattle.verity_format.specs.Premises.{IsBlockOn, IsRunOn};
 
+use allocation::OutOfMemory;
 use block_device::{BlockDev, DeviceFault};
 use hash_tree::digest_blocks;
-use std::alloc::{AllocError, Global};
+use std::alloc::AllocError;
 use tree_shape::{Digest, Salt, Shape};
 
 /// Why there is no tree over a device's blocks.
@@ -19,7 +20,7 @@ use tree_shape::{Digest, Salt, Shape};
 pub(crate) enum TreeFault {
     /// The device failed.
     Device,
-    /// A growth was refused.
+    /// An allocation was refused.
     NoMemory,
 }
 
@@ -30,6 +31,16 @@ impl From<DeviceFault> for TreeFault {
 
     fn from(_fault: DeviceFault) -> TreeFault {
         TreeFault::Device
+    }
+}
+
+impl From<OutOfMemory> for TreeFault {
+    ghost use Rattle.verity_format.specs.declared.access.TreeFault.TheVariants.{NoMemory};
+
+    ghost from_gives = { λ _ e. e ≡ NoMemory };
+
+    fn from(_error: OutOfMemory) -> TreeFault {
+        TreeFault::NoMemory
     }
 }
 
@@ -72,13 +83,6 @@ pub fn is_same(a: &Digest, b: &Digest) -> bool
     ensures { result ≡ bytes_eq a.now b.now }
 {
     a == b
-}
-
-/// So many zero bytes.
-pub(crate) fn zeros(alloc: Global, size: usize) -> Result<Vec<u8>, AllocError>
-    ensures { IfOk result (λ v. v.items ≡ replicate size 0) }
-{
-    vec![in alloc; 0u8; size]
 }
 
 /// Reads a block of the size of `block`.

@@ -1,15 +1,17 @@
 //! Reading a data block with the hash blocks on the way to it.
-ghost use Rattle.std.specs.Prelude.{◌≡◌, ◌<◌, ◌≤◌, OnOk, OnErr, IfOk, IfErr, All, length};
+ghost use Rattle.std.specs.Prelude.{◌≡◌, ◌+◌, ◌<◌, ◌≤◌, OnOk, OnErr, IfOk, IfErr, All, length};
+ghost use Rattle.allocation.specs.Refusal.{IsOutOfMemory};
 ghost use Rattle.block_device.specs.Device.{HasFailed};
 ghost use Rattle.verity_format.specs.Blocks.{BothOnlyRead, IsOnlyRead};
 ghost use Rattle.verity_format.specs.Image.{data_sectors, tree_sectors};
 ghost use Rattle.verity_format.specs.Chain.{FailsToReadChain, IsStoredChain, ReadsChain, ReadsPath};
 ghost use Rattle.verity_format.specs.Premises.{IsPathOn};
 
-use crate::access::{read_block, zeros};
+use crate::access::read_block;
+use allocation::{OutOfMemory, push, zeros};
 use block_device::{BlockDev, DeviceFault};
 use hash_tree::Chain;
-use std::alloc::{AllocError, Global};
+use std::alloc::Global;
 use thiserror::Error;
 use tree_shape::Shape;
 
@@ -19,7 +21,7 @@ pub enum ChainFault {
     /// One of the two devices failed in the call.
     #[error("Device")]
     Device,
-    /// A growth was refused.
+    /// An allocation was refused.
     #[error("NoMemory")]
     NoMemory,
 }
@@ -34,12 +36,12 @@ impl From<DeviceFault> for ChainFault {
     }
 }
 
-impl From<AllocError> for ChainFault {
+impl From<OutOfMemory> for ChainFault {
     ghost use Rattle.verity_format.specs.declared.chains.ChainFault.TheVariants.{NoMemory};
 
     ghost from_gives = { λ _ e. e ≡ NoMemory };
 
-    fn from(_error: AllocError) -> ChainFault {
+    fn from(_error: OutOfMemory) -> ChainFault {
         ChainFault::NoMemory
     }
 }
@@ -74,14 +76,15 @@ pub fn read_chain<D: BlockDev, H: BlockDev>(
 }
 
 // So many blocks of that size.
-fn zero_blocks(alloc: Global, count: u32, size: usize) -> Result<Vec<Vec<u8>>, AllocError>
+fn zero_blocks(alloc: Global, count: u32, size: usize) -> Result<Vec<Vec<u8>>, OutOfMemory>
     ensures count { IfOk result (λ v. length v.items ≡ count) }
     ensures sized { IfOk result (λ v. All (λ b. length b.items ≡ size) v.items) }
+    ensures err { OnErr result (IsOutOfMemory (size + 1)) }
 {
     let mut blocks = Vec::new(alloc);
     for _ in 0..count {
         let block = zeros(alloc, size)?;
-        blocks.push(block).map_err(AllocError::from)?;
+        push(&mut blocks, block)?;
     }
     Ok(blocks)
 }

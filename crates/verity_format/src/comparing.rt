@@ -7,11 +7,12 @@ ghost use Rattle.verity_format.specs.Comparing.{ComparesPlaced, ComparesTree};
 ghost use Rattle.verity_format.specs.Growth.{FailsOnEither};
 ghost use Rattle.verity_format.specs.Premises.{AreBlocksOn, HaveTree};
 
-use crate::access::{TreeFault, read_block, zeros};
+use crate::access::{TreeFault, read_block};
 use crate::growth::{RUN, take_run};
+use allocation::zeros;
 use block_device::{BlockDev, DeviceFault};
 use hash_tree::{LevelBuilder, Placed};
-use std::alloc::{AllocError, Global};
+use std::alloc::Global;
 use tree_shape::{Digest, Salt, Shape};
 
 /// The lesser of the two numbers.

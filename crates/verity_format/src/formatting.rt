@@ -1,5 +1,6 @@
 //! Making a hash image over a data image.
-ghost use Rattle.std.specs.Prelude.{◌≡◌, IfOk, IfErr, length};
+ghost use Rattle.std.specs.Prelude.{◌≡◌, IfOk, IfErr, OnErr, length};
+ghost use Rattle.allocation.specs.Refusal.{IsOutOfMemory};
 ghost use Rattle.verity_format.specs.Image.{first_block};
 ghost use Rattle.verity_format.specs.FaultNames.{format_number, format_name};
 ghost use Rattle.verity_format.specs.Options.{FormatsWith, HandsWith};
@@ -7,12 +8,13 @@ ghost use Rattle.verity_format.specs.Formatting.{FormatEnds, Formats, RefusesFor
 ghost use Rattle.verity_format.specs.Handing.{MovesImage};
 
 use crate::Superblock;
-use crate::access::{TreeFault, image_sectors, zeros};
+use crate::access::{TreeFault, image_sectors};
 use crate::making::check_room;
 use crate::superblock::put;
 use crate::writing::write_tree;
+use allocation::{OutOfMemory, zeros};
 use block_device::{BlockDev, DeviceFault};
-use std::alloc::{AllocError, Global};
+use std::alloc::Global;
 use thiserror::Error;
 use tree_shape::{Digest, Salt, Shape};
 
@@ -34,7 +36,7 @@ pub enum FormatFault {
     /// One of the two devices failed in the call.
     #[error("Device")]
     Device,
-    /// A growth was refused.
+    /// An allocation was refused.
     #[error("NoMemory")]
     NoMemory,
 }
@@ -79,12 +81,12 @@ impl From<DeviceFault> for FormatFault {
     }
 }
 
-impl From<AllocError> for FormatFault {
+impl From<OutOfMemory> for FormatFault {
     ghost use Rattle.verity_format.specs.declared.formatting.FormatFault.TheVariants.{NoMemory};
 
     ghost from_gives = { λ _ e. e ≡ NoMemory };
 
-    fn from(_error: AllocError) -> FormatFault {
+    fn from(_error: OutOfMemory) -> FormatFault {
         FormatFault::NoMemory
     }
 }
@@ -191,9 +193,10 @@ fn whole_blocks(sectors: u64, size: u32) -> u64
 }
 
 // Hash block 0: the superblock, and zeros.
-fn encoded_block(alloc: Global, params: &Superblock) -> Result<Vec<u8>, AllocError>
+fn encoded_block(alloc: Global, params: &Superblock) -> Result<Vec<u8>, OutOfMemory>
     ensures value { IfOk result (λ v. v.items ≡ first_block params.now) }
     ensures size { IfOk result (λ v. length v.items ≡ params.now.hash_block) }
+    ensures err { OnErr result (IsOutOfMemory params.now.hash_block) }
 {
     let shape = params.shape();
     let mut block = zeros(alloc, shape.hash_block() as usize)?;

@@ -8,9 +8,10 @@ ghost use Rattle.verity_format.specs.Handing.{TakesOrAsks};
 ghost use Rattle.verity_format.specs.Premises.{CanTake};
 
 use crate::access::{TreeFault, read_run};
+use allocation::filled;
 use block_device::BlockDev;
 use hash_tree::{LevelBuilder, Placed};
-use std::alloc::{AllocError, Global};
+use std::alloc::Global;
 use tree_shape::{Digest, Salt, Shape};
 
 /// How many bytes of the data are read in one call.
@@ -35,7 +36,7 @@ pub(crate) fn take_run<D: BlockDev>(
     let left = builder.left();
     let index = shape.blocks() - left;
     let count = (run.len() / size).min(left as usize);
-    let mut digests = vec![in alloc; Digest::new([0; Digest::SIZE]); count]?;
+    let mut digests = filled(alloc, count, Digest::new([0; Digest::SIZE]))?;
     read_run(
         device,
         salt,

@@ -8,7 +8,7 @@ use crate::access::{TreeFault, data_sectors, is_same, read_block, tree_sectors};
 use crate::comparing::compare_tree;
 use crate::{SuperFault, Superblock, VerityTree, decode};
 use block_device::{BlockDev, DeviceFault};
-use std::alloc::{AllocError, Global};
+use std::alloc::Global;
 use thiserror::Error;
 use tree_shape::{Digest, Shape};
 
@@ -35,7 +35,7 @@ pub enum VerifyFault {
     /// One of the two devices failed in the call.
     #[error("Device")]
     Device,
-    /// A growth was refused.
+    /// An allocation was refused.
     #[error("NoMemory")]
     NoMemory,
 }
@@ -73,16 +73,6 @@ impl From<DeviceFault> for VerifyFault {
 
     fn from(_fault: DeviceFault) -> VerifyFault {
         VerifyFault::Device
-    }
-}
-
-impl From<AllocError> for VerifyFault {
-    ghost use Rattle.verity_format.specs.declared.verifying.VerifyFault.TheVariants.{NoMemory};
-
-    ghost from_gives = { λ _ e. e ≡ NoMemory };
-
-    fn from(_error: AllocError) -> VerifyFault {
-        VerifyFault::NoMemory
     }
 }
 

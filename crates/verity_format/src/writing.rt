@@ -6,11 +6,12 @@ ghost use Rattle.verity_format.specs.Handing.{HandsBlocks, HandsTreeOver};
 ghost use Rattle.verity_format.specs.Premises.{CanPutBlocks, CanWriteTree};
 ghost use Rattle.verity_format.specs.Writing.{AreBlocksWritten, FailsToWrite, MovesTree, WritesTree, WritesWithin};
 
-use crate::access::{TreeFault, zeros};
+use crate::access::TreeFault;
 use crate::growth::{RUN, take_run};
+use allocation::zeros;
 use block_device::{BlockDev, DeviceFault};
 use hash_tree::{LevelBuilder, Placed};
-use std::alloc::{AllocError, Global};
+use std::alloc::Global;
 use tree_shape::{Digest, Salt, Shape};
 
 /// Writes the blocks, each at its place.

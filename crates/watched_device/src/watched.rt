@@ -1,4 +1,4 @@
-//! A device of which it is told how much was read.
+//! A device that reports how much was read.
 ghost use Rattle.std.specs.Prelude.{◌≡◌, ◌*◌, length, min, is_ok, IsOk, IsTrue, OnErr, OnOk};
 ghost use Rattle.block_device.specs.Call.{DeviceDoes, Read};
 ghost use Rattle.block_device.specs.Calls.{DeviceFails, DeviceGives, DeviceReads, ReadsInner};
@@ -8,21 +8,21 @@ ghost use Rattle.watched_device.specs.Watching.{done_after};
 use block_device::{BlockDev, DeviceFault};
 use progress::Progress;
 
-/// A proof sees of it what it sees of the device within. Behind each read that went well its watcher is told how many
-/// bytes were read so far.
+/// Its record is that of the device within. After each successful read it reports to its watcher how many bytes were
+/// read so far.
 #[derive(Drop)]
 pub struct Watched<D, P> {
     /// The device within.
     pub inner: D,
-    /// Who is told.
+    /// The receiver of the reports.
     pub watcher: P,
-    /// The bytes of the reads that went well, at most the greatest `u64`.
+    /// The bytes of the successful reads, at most the greatest `u64`.
     pub done: u64,
-    /// The bytes that are to be read, as the watcher is told.
+    /// The bytes that are to be read, as reported to the watcher.
     pub all: u64,
 }
 
-/// How many bytes lie on a device before that sector, which may be behind its end.
+/// Returns the number of bytes of a device before that sector, which may be past its end.
 pub fn bytes_before<D: BlockDev>(device: &D, end: u64) -> u64
     ensures { result ≡ min (D.state device.now).size end * 512 }
 {

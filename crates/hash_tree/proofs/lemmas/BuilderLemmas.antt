@@ -106,3 +106,7 @@ failed-pushed b ds = refl
 pub failed-begun : (s : ShapeRecord) (salt : List ℕ) → (begun_builder s salt).failed ≡ false
 unfolding begun_builder
 failed-begun s salt = refl
+
+pub size-begun : (s : ShapeRecord) (salt : List ℕ) → (begun_builder s salt).hash_block ≡ s.hash_block
+unfolding begun_builder
+size-begun s salt = refl

@@ -1,11 +1,13 @@
 //! Digests pushed in groups: those of eight whole blocks of the lowest level, which are digested side by side.
 ghost use Rattle.std.specs.Prelude.{true, false, ◌≡◌, ◌+◌, ◌*◌, ◌/◌, ◌^◌, ◌<◌, ◌≤◌, ◌++◌, length, take, All, IfOk, OnOk, OnErr, IsTrue};
 ghost use Rattle.std.specs.List.{concat};
-ghost use Rattle.hash_tree.specs.Building.{completed, HasSome, IsPushed, PushesBlock, are_whole_blocks, is_between, grow_block, completed_block};
+ghost use Rattle.allocation.specs.Refusal.{IsOutOfMemory};
+ghost use Rattle.hash_tree.specs.Building.{block_room, completed, FailsToPush, HasSome, IsPushed, PushesBlock, are_whole_blocks, is_between, grow_block, completed_block};
 
-use super::{Level, LevelBuilder, Placed, append, rise};
+use super::{Level, LevelBuilder, Placed, rise};
 use crate::block_digests::eight_digests;
 use crate::packing::are_whole;
+use allocation::{OutOfMemory, append, copied, push, with_capacity};
 use std::alloc::{AllocError, Global};
 use tree_shape::{Digest, Salt};
 
@@ -22,7 +24,7 @@ impl LevelBuilder {
         requires left { length digests.now ≤ self.old.left }
         ensures count { IfOk result (λ n. (0 < n) × (n ≤ length digests.now)) }
         ensures ok { IfOk result (λ n. IsPushed self.old (take n digests.now) self.new out.old.items out.new.items) }
-        ensures err { OnErr result (self.new.failed ≡ true) }
+        ensures err { OnErr result (FailsToPush self.old self.new) }
         ensures some { HasSome out.old.items (completed self.old digests.now) out.new.items }
     {
         let group = self.hash_block / Digest::SIZE * 8;
@@ -35,14 +37,14 @@ impl LevelBuilder {
     }
 
     /// The digests of eight whole blocks of the lowest level, where none is begun.
-    fn push_group(&mut self, digests: &[Digest], out: &mut Vec<Placed>) -> Result<(), AllocError>
+    fn push_group(&mut self, digests: &[Digest], out: &mut Vec<Placed>) -> Result<(), OutOfMemory>
         requires working { self.old.failed ≡ false }
         requires size { IsTrue (are_whole_blocks self.old.hash_block) }
         requires between { IsTrue (is_between self.old.levels) }
         requires count { length digests.now ≡ self.old.hash_block / 32 * 8 }
         requires left { length digests.now ≤ self.old.left }
         ensures ok { OnOk result (IsPushed self.old digests.now self.new out.old.items out.new.items) }
-        ensures err { OnErr result (self.new.failed ≡ true) }
+        ensures err { OnErr result (FailsToPush self.old self.new) }
         ensures some { HasSome out.old.items (completed self.old digests.now) out.new.items }
     {
         are_whole(digests);
@@ -68,12 +70,12 @@ impl LevelBuilder {
         block: &[u8],
         digest: Digest,
         out: &mut Vec<Placed>,
-    ) -> Result<(), AllocError>
+    ) -> Result<(), OutOfMemory>
         requires working { self.old.failed ≡ false }
         requires some { 32 ≤ self.old.hash_block }
         requires left { self.old.hash_block / 32 ≤ self.old.left }
         ensures ok { OnOk result (PushesBlock self.old block.now digest self.new out.old.items out.new.items) }
-        ensures err { OnErr result (self.new.failed ≡ true) }
+        ensures err { OnErr result ((self.new.failed ≡ true) × IsOutOfMemory (block_room (self.old.hash_block + length block.now))) }
         ensures some { HasSome out.old.items (completed_block self.old block.now digest) out.new.items }
     {
         match rise_block(
@@ -106,24 +108,26 @@ fn rise_block(
     block: &[u8],
     coming: Digest,
     out: &mut Vec<Placed>,
-) -> Result<(), AllocError>
+) -> Result<(), OutOfMemory>
     requires { All (λ l. l.next < 2 ^ 63) levels.old }
     ensures levels { OnOk result (levels.new ≡ (grow_block hash_block salt.now levels.old root.old block.now coming).levels) }
     ensures root { OnOk result (root.new ≡ (grow_block hash_block salt.now levels.old root.old block.now coming).root) }
     ensures out { OnOk result (out.new.items ≡ out.old.items ++ (grow_block hash_block salt.now levels.old root.old block.now coming).placed) }
     ensures some { HasSome out.old.items (grow_block hash_block salt.now levels.old root.old block.now coming).placed out.new.items }
+    ensures err { OnErr result (IsOutOfMemory (block_room (hash_block + length block.now))) }
 {
     let Some((level, above)) = levels.split_first_mut() else {
         return Ok(());
     };
     let alloc = *out.allocator();
-    let bytes = Vec::from_slice(alloc, block)?;
+    let bytes = copied(alloc, block)?;
     let number = level.next;
     level.next += 1;
-    out.push(Placed {
+    let placed = Placed {
         block: number,
         bytes,
-    })?;
+    };
+    push(out, placed)?;
     rise(hash_block, salt, above, root, coming, out)
 }
 
@@ -145,13 +149,14 @@ fn is_between(levels: &[Level]) -> bool
 }
 
 /// The digests in a row.
-fn joined(alloc: Global, digests: &[Digest]) -> Result<Vec<u8>, AllocError>
-    ensures { IfOk result (λ bytes. bytes.items ≡ concat digests.now) }
+fn joined(alloc: Global, digests: &[Digest]) -> Result<Vec<u8>, OutOfMemory>
+    ensures ok { IfOk result (λ bytes. bytes.items ≡ concat digests.now) }
+    ensures err { OnErr result (IsOutOfMemory (block_room (32 * length digests.now))) }
 {
     let size = digests.len().saturating_mul(Digest::SIZE);
-    let mut bytes = Vec::new(alloc);
+    let mut bytes = with_capacity(alloc, size)?;
     for digest in digests {
-        append(&mut bytes, digest, size)?;
+        append(&mut bytes, digest.as_bytes())?;
     }
     Ok(bytes)
 }

@@ -15,7 +15,7 @@ use Rattle.stack_rules.proofs.lemmas.UnitLemmas.{unit_sectors-some}
 use Rattle.stack_meaning.specs.Beneath.{beneath, said_or, HandsOn}
 use Rattle.stack_meaning.specs.TargetMeaning.{Meant, handed, own, IsHanded}
 use Rattle.stack_meaning.specs.MeaningOf.{meaning_of}
-use Rattle.stack_meaning.specs.Puts.{together, in_one_run}
+use Rattle.stack_meaning.specs.Puts.{in_one_run}
 use Rattle.stack_meaning.proofs.lemmas.SectorLemmas.{AsksOfNames, said_or-same}
 use Rattle.stack_lines.specs.declared.source.CryptPart.{CryptPart}
 use Rattle.stack_lines.specs.declared.source.Source.{Source}

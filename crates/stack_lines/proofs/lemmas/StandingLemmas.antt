@@ -31,7 +31,7 @@ use Rattle.stack_rules.proofs.lemmas.ValidLemmas.{depth-low}
 use Rattle.stack_rules.proofs.lemmas.ValidLineLemmas.{few, few_lines}
 use Rattle.stack_lines.specs.declared.leaf_set.LeafSet.{LeafSet}
 use Rattle.stack_meaning.specs.LeavesBeneath.{leaves_rule, leaves_beneath}
-use Rattle.stack_lines.specs.Standing.{has_leaf, is_verity, leaf_set_at, stands_on, name_stands_on, hashes_stand_on, line_stands_on, HasLeaves, IsPossibleLower, KnowsLeaves, AreSetsBelow, AreLeafSets}
+use Rattle.stack_lines.specs.Standing.{is_verity, leaf_set_at, stands_on, name_stands_on, hashes_stand_on, line_stands_on, HasLeaves, IsPossibleLower, KnowsLeaves, AreSetsBelow, AreLeafSets}
 use Rattle.stack_meaning.proofs.lemmas.LoadedLemmas.{at_place}
 
 -- ---- bits
@@ -245,9 +245,9 @@ less_of d n h other = elim (cases_lt d n) [ inl below ↦ below | inr above ↦ 
 -- one of that depth
 pub settled-more : (c : Configuration) (deep n : ℕ) (sets : List LeafSet) (one : LeafSet) → n < length sets → depth c (mapped n) ≡ deep → HasLeaves c (mapped n) one → AreSettled c deep n sets → AreSettled c deep (n + 1) (set sets n one)
 settled-more c deep n sets one inside is has all d low which = elim (cases_eq d n) [
-  | inl same ↦ λ i. ap (λ (s : LeafSet). has_leaf s i) (ap (leaf_set_at (set sets n one)) same ∙ get_or-set_same sets n one (record { bits = 0 }) inside) ∙ has i ∙ ap (λ (k : ℕ). stands_on c i (mapped k)) (sym same)
-  | inr other ↦ λ i. ap (λ (s : LeafSet). has_leaf s i) (get_or-set_other sets n d one (record { bits = 0 }) other)
-      ∙ all d low (elim which [ inl less ↦ inl less | inr here ↦ inr (here.0, less_of d n here.1 other) ]) i
+  | inl same ↦ subst (λ (k : ℕ). HasLeaves c (mapped k) (leaf_set_at (set sets n one) k)) (sym same) (subst (HasLeaves c (mapped n)) (sym (get_or-set_same sets n one (record { bits = 0; clear = false }) inside)) has)
+  | inr other ↦ subst (HasLeaves c (mapped d)) (sym (get_or-set_other sets n d one (record { bits = 0; clear = false }) other))
+      (all d low (elim which [ inl less ↦ inl less | inr here ↦ inr (here.0, less_of d n here.1 other) ]))
 ]
 
 pub settled-all : (c : Configuration) (deep n : ℕ) (sets : List LeafSet) → length c.devices ≤ n → AreSettled c deep n sets → AreSetsBelow c (deep + 1) sets

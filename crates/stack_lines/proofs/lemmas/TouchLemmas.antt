@@ -156,8 +156,3 @@ served-within c d s n Zeros loaded some r i out = refl
 served-within c d s n Fails loaded some r i out = refl
 served-within c d s n (Block x) loaded some r i out = ap (λ (k : ℕ). stands_on c i (mapped k)) r.come.1.0 ∙ out
 served-within c d s n (Blocks x) loaded some r i out = ap (λ (k : ℕ). stands_on c i (mapped k)) r.come.1.0 ∙ out
-
--- the runs of a device before one, and that one
-pub device-touched : {A B : Type 0} (c : Configuration) (d s n : ℕ) (source : Source) {old mid new : List Device} {x : A} {result : Result B IoFault} → IsLoaded c → 0 < n → IsServed c d s n source
-    → TouchesOnly (leaves_of c (mapped d)) old mid (Ok x) → TouchesOnly (source_leaves c source) mid new result → TouchesOnly (leaves_of c (mapped d)) old new result
-device-touched c d s n source {x = x} loaded some r p q = touches-then {x = x} p (touches-up (served-within c d s n source loaded some r) q)

@@ -9,12 +9,10 @@ use Rattle.stack_rules.specs.declared.lower.Lower.{Lower}
 use Rattle.stack_rules.specs.Records.{Configuration}
 use Rattle.stack_rules.specs.Names.{mapped, named}
 use Rattle.stack_rules.specs.Descend.{read_cost, write_cost}
-use Rattle.stack_rules.specs.Lines.{lower_at, key_of_line}
 use Rattle.stack_rules.specs.Rules.{IsLoaded}
-use Rattle.stack_config.proofs.lemmas.CryptLineLemmas.{IsCryptLine, crypt-line, crypt-key}
+use Rattle.stack_config.proofs.lemmas.CryptLineLemmas.{IsCryptLine, crypt-line}
 use Rattle.stack_rules.specs.Units.{unit_sectors, unit_write_cost}
 use Rattle.stack_lines.specs.Sources.{HasTarget}
-use Rattle.stack_lines.proofs.StripeLemmas.{named-by, target-names}
 
 -- a crypt line of device d, and the leaf or device beneath it
 pub record IsUnitLine (c : Configuration) (d : ℕ) (line : Line) (crypt : Crypt) (lower : Lower) : Type 0 where
@@ -60,9 +58,3 @@ module _ (c : Configuration) (d l n : ℕ) (crypt : Crypt) (loaded : IsLoaded c)
       let both : Some unit-line.0 ≡ Some lower = sym unit-line.1.crypt_line.named ∙ is in
       let same : unit-line.0 ≡ lower = cc in
       subst (IsUnitLine c d has.line crypt) same unit-line.1
-
-  pub unit-lower : (lower : Lower) → lower_at c d l 0 ≡ Some lower → named c crypt.base.device ≡ Some lower
-  unit-lower lower at = named-by c d l 0 (crypt_target crypt) crypt.base.device lower (target-names c d l n (crypt_target crypt) has) refl at
-
-  pub unit-key : key_of_line c d l ≡ Some crypt.key
-  unit-key = crypt-key c d l has.line crypt has.is has.has

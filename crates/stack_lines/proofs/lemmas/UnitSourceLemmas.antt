@@ -19,12 +19,10 @@ use Rattle.stack_meaning.specs.Meaning.{Said, crypt_said, said_at}
 use Rattle.stack_meaning.specs.Changes.{AllWhole}
 use Rattle.stack_meaning.specs.Places.{LeafRead}
 use Rattle.stack_meaning.specs.Reading.{Reads, Finds, IsPlain}
-use Rattle.stack_lines.specs.AtOnce.{MeetNone}
 use Rattle.stack_lines.specs.Sources.{AreUnits, LieInUnit, IsWholeOf, from_unit, source_said, ReadsSource}
 use Rattle.stack_rules.proofs.lemmas.UnitLemmas.{unit_sectors-some, unit-bytes}
-use Rattle.stack_lines.proofs.lemmas.UnitReadLemmas.{units_place, unit_first-more, units_ok, units_err, same-first, part_ok, part_err}
+use Rattle.stack_lines.proofs.lemmas.UnitReadLemmas.{units_place, units_ok, units_err, same-first, part_ok, part_err}
 use Rattle.stack_meaning.proofs.lemmas.FoundLemmas.{in-gathered}
-use Rattle.stack_meaning.proofs.lemmas.UnitLemmas.{unit-fits}
 use Rattle.stack_meaning.proofs.lemmas.PlainLemmas.{plain-up, plain-first}
 use Rattle.stack_meaning.proofs.lemmas.UpLemmas.{IsUp}
 use Rattle.stack_lines.specs.Touches.{leaves_of}
@@ -55,17 +53,6 @@ module _ (c : Configuration) (x : CryptPart) (n : ℕ) (loaded : IsLoaded c) (un
   units-failed did all fault p = units_err c x.lower crypt x.first n (read_cost c x.lower) (leaves_of c x.lower) (λ i h. h) did units.aligned units.whole refl fault loaded all p
 
 module _ (c : Configuration) (x : CryptPart) (n : ℕ) (units : AreUnits c x n) where
-  -- no fault is met, where none is beneath them
-  pub units-clear : MeetNone (said_at c x.lower) (unit_first x.crypt.now x.first) n → MeetNone (source_said c (Units x)) 0 n
-  units-clear none fault y =
-      let u : ℕ = unit_sectors x.crypt.now in
-      let j : ℕ = y.0 in
-      let some : 0 < u = omega (arith, unit_sectors-some x.crypt.now) in
-      let own : 0 + j ≡ j = omega arith in
-      let first : unit_first x.crypt.now (x.first + (0 + j)) ≡ unit_first x.crypt.now x.first + j / u * u = ap (λ (k : ℕ). unit_first x.crypt.now (x.first + k)) own ∙ unit_first-more (said_at c x.lower) x.crypt.now x.first units.aligned j in
-      let at : unit_first x.crypt.now (x.first + (0 + j)) + y.2.0 ≡ unit_first x.crypt.now x.first + (j / u * u + y.2.0) = omega (arith, first) in
-      none fault (j / u * u + y.2.0, omega (arith, unit-fits u n j some units.whole y.1, y.2.1), subst (λ (t : ℕ). (said_at c x.lower t).meets fault) at y.2.2)
-
   -- a sector of a unit has what the sector beneath it has
   pub units-up : (j : ℕ) → IsUp (said_at c x.lower (unit_first x.crypt.now x.first + j)) (source_said c (Units x) j)
   units-up j =

@@ -2,7 +2,7 @@ use Rattle.std.proofs.Common.{ℕ, ap, arith, subst, ◌∙◌}
 use Rattle.block_device.specs.Device.{Device}
 use Rattle.device_window.specs.Parts.{part_before, part_behind}
 use Rattle.image_commands.specs.Places.{behind}
-use Rattle.fec_commands.specs.Fitting.{IsNeeded}
+use Rattle.fec_commands.specs.Needed.{IsNeeded}
 use Rattle.fec_commands.proofs.LayingLemmas.{windowed-same}
 use Rattle.fec_commands.proofs.fits.check_room.Goals as goal
 
@@ -18,6 +18,6 @@ returns-then-sectors-needed g c =
     let needed = c.in-Some.needed in
     record {
       needs = subst (λ (n : ℕ). IsNeeded c.args.options.now n (behind hash_dev c.args.extent.first).size roots needed) data_size
-          (subst (λ (n : ℕ). IsNeeded c.args.options.now c.sectors.result n roots needed) hash_size c.in-Some.ensures);
+          (subst (λ (n : ℕ). IsNeeded c.args.options.now c.sectors.result n roots needed) hash_size c.in-Some.ensures.some);
       short = omega arith;
     }

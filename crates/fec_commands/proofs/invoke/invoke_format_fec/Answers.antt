@@ -26,16 +26,15 @@ returns-in_err-check_file-clause-err g c =
 pub returns-in_err-text-clause-err : goal.returns-in_err-text-clause-err
 returns-in_err-text-clause-err g c =
     let cause = c.in_err-text.field-0.0 in
-    let fits = rw c.sector_at.ensures at c.in_ok-check_file.ensures.ok in
     err-from c.from_residual-in_err-text.result _ (Verity cause) c.from_residual-in_err-text.ensures.1
-    (inr (inr (inr (inl (record { measured = c.check_file.new.images; fits = fits; cause = cause; ends = c.in_err-text.ensures.err; is = refl })))), quiet (Verity cause) _)
+    (inr (inr (inr (inl (record { measured = c.check_file.new.images; fits = record { options = c.in-Ok.said; said = c.in-Ok.ensures.ok; fits = rw c.sector_at.ensures at c.in_ok-check_file.ensures.ok }; cause = cause; ends = c.in_err-text.ensures.err; is = refl })))), quiet (Verity cause) _)
 
 pub returns-in_err-protect-clause-err : goal.returns-in_err-protect-clause-err
 returns-in_err-protect-clause-err g c =
     let fault = c.in_err-protect.field-0.0 in
     let ends = rw c.sector_at.ensures at c.in_err-protect.ensures.err in
     err-from c.from_residual-in_err-protect.result _ fault c.from_residual-in_err-protect.ensures.1
-    (inr (inr (inr (inr (inl (record { measured = c.check_file.new.images; fits = rw c.sector_at.ensures at c.in_ok-check_file.ensures.ok; between = c.format_kept.new.images; text = c.in_ok-text.text.items; formats = c.in_ok-text.ensures.ok; ends = ends }))))), quiet fault _)
+    (inr (inr (inr (inr (inl (record { measured = c.check_file.new.images; fits = record { options = c.in-Ok.said; said = c.in-Ok.ensures.ok; fits = rw c.sector_at.ensures at c.in_ok-check_file.ensures.ok }; between = c.format_kept.new.images; text = c.in_ok-text.text.items; formats = c.in_ok-text.ensures.ok; ends = ends }))))), quiet fault _)
 
 pub returns-in_err-put-clause-err : goal.returns-in_err-put-clause-err
 returns-in_err-put-clause-err g c =
@@ -43,7 +42,7 @@ returns-in_err-put-clause-err g c =
     err-from c.from_residual-in_err-put.result _ unwritten c.from_residual-in_err-put.ensures.1 (
       inr (inr (inr (inr (inr (record {
         text = c.in_ok-text.text.items;
-        made = record { measured = c.check_file.new.images; fits = rw c.sector_at.ensures at c.in_ok-check_file.ensures.ok; between = c.format_kept.new.images; formats = c.in_ok-text.ensures.ok; protects = protects };
+        made = record { measured = c.check_file.new.images; fits = record { options = c.in-Ok.said; said = c.in-Ok.ensures.ok; fits = rw c.sector_at.ensures at c.in_ok-check_file.ensures.ok }; between = c.format_kept.new.images; formats = c.in_ok-text.ensures.ok; protects = protects };
         has_failed = c.in_err-put.ensures.writes.failed;
         is = refl;
       }))))),
@@ -55,6 +54,6 @@ returns-clause-ok g c =
     let protects = rw c.sector_at.ensures at c.in_ok-protect.ensures.ok in
     record {
       text = c.in_ok-text.text.items;
-      made = record { measured = c.check_file.new.images; fits = rw c.sector_at.ensures at c.in_ok-check_file.ensures.ok; between = c.format_kept.new.images; formats = c.in_ok-text.ensures.ok; protects = protects };
+      made = record { measured = c.check_file.new.images; fits = record { options = c.in-Ok.said; said = c.in-Ok.ensures.ok; fits = rw c.sector_at.ensures at c.in_ok-check_file.ensures.ok }; between = c.format_kept.new.images; formats = c.in_ok-text.ensures.ok; protects = protects };
       printed = rw c.deref.ensures.value at c.in_ok-put.ensures.writes.ok;
     }

@@ -8,20 +8,20 @@ use Rattle.fec_commands.proofs.EndingLemmas.{err-from}
 use Rattle.fec_commands.proofs.LayingLemmas.{layout_end-as, lays-as, windowed-same}
 use Rattle.fec_commands.proofs.protect.protect_behind.Goals as goal
 
-pub returns-in_err-layout-clause-err : goal.returns-in_err-layout-clause-err
-returns-in_err-layout-clause-err g c =
+pub returns-in_err-laid-clause-err : goal.returns-in_err-laid-clause-err
+returns-in_err-laid-clause-err g c =
     let data_dev = g.D.BlockDev.state c.args.data_dev in
     let hash_dev = g.H.BlockDev.state c.args.hash_dev in
     let read = c.lay_out.new.hash_dev in
     let read_dev = windowed (g.H.BlockDev.state read.inner) read.part in
     let a = windowed-same _ data_dev _ (part_before data_dev c.args.extent.end) (ap g.D.BlockDev.state c.before-before.ensures.inner) c.before-before.ensures.part in
     let b = windowed-same _ hash_dev _ (part_behind hash_dev c.args.extent.first) (ap g.H.BlockDev.state c.behind-behind.ensures.inner) c.behind-behind.ensures.part in
-    let fault = c.in_err-layout.field-0.0 in
+    let fault = c.in_err-laid.field-0.0 in
     err-from c.from_residual.result _ fault c.from_residual.ensures.1
-    (inl (record { read_dev = read_dev; ends = layout_end-as _ _ _ _ read_dev c.args.extent.first fault a b c.in_err-layout.ensures.err; same = refl }))
+    (inl (record { read_dev = read_dev; ends = layout_end-as _ _ _ _ read_dev c.args.extent.first fault a b c.in_err-laid.ensures.err; same = refl }))
 
 pub write_synced-requires : goal.write_synced-requires
-write_synced-requires g c = c.in_ok-layout.ensures.ok.laid
+write_synced-requires g c = c.in_ok-laid.ensures.ok.laid_on
 
 pub returns-in_err-write_synced-clause-err : goal.returns-in_err-write_synced-clause-err
 returns-in_err-write_synced-clause-err g c =
@@ -31,17 +31,17 @@ returns-in_err-write_synced-clause-err g c =
     let read_dev = windowed (g.H.BlockDev.state read.inner) read.part in
     let a = windowed-same _ data_dev _ (part_before data_dev c.args.extent.end) (ap g.D.BlockDev.state c.before-before.ensures.inner) c.before-before.ensures.part in
     let b = windowed-same _ hash_dev _ (part_behind hash_dev c.args.extent.first) (ap g.H.BlockDev.state c.behind-behind.ensures.inner) c.behind-behind.ensures.part in
-    let l = c.in_ok-layout.layout in
+    let l = c.in_ok-laid.laid in
     let cause = c.in_err-write_synced.field-0.0 in
     let old = g.P.BlockDev.state c.args.parity.now in
     let new = g.P.BlockDev.state c.write_synced.new.parity_dev in
     err-from c.from_residual-in_err-write_synced.result _ (Parity cause) c.from_residual-in_err-write_synced.ensures.1
     (inr (record {
-      layout = l;
+      laid = l;
       read_dev = read_dev;
       cause = cause;
-      lays = lays-as _ _ _ _ read_dev c.args.extent.first c.args.extent.roots l a b c.in_ok-layout.ensures.ok;
-      ends = subst (λ (v : Device). IsSealingEnd l v read_dev old new cause) a c.in_err-write_synced.ensures.err;
+      lays = lays-as _ _ _ _ read_dev c.args.extent.first c.args.extent.roots l a b c.in_ok-laid.ensures.ok;
+      ends = subst (λ (v : Device). IsSealingEnd l.layout v read_dev old new cause) a c.in_err-write_synced.ensures.err;
       is = refl;
     }))
 
@@ -53,12 +53,12 @@ returns-clause-ok g c =
     let read_dev = windowed (g.H.BlockDev.state read.inner) read.part in
     let a = windowed-same _ data_dev _ (part_before data_dev c.args.extent.end) (ap g.D.BlockDev.state c.before-before.ensures.inner) c.before-before.ensures.part in
     let b = windowed-same _ hash_dev _ (part_behind hash_dev c.args.extent.first) (ap g.H.BlockDev.state c.behind-behind.ensures.inner) c.behind-behind.ensures.part in
-    let l = c.in_ok-layout.layout in
+    let l = c.in_ok-laid.laid in
     let old = g.P.BlockDev.state c.args.parity.now in
     let new = g.P.BlockDev.state c.write_synced.new.parity_dev in
     record {
-      layout = l;
+      laid = l;
       read_dev = read_dev;
-      lays = lays-as _ _ _ _ read_dev c.args.extent.first c.args.extent.roots l a b c.in_ok-layout.ensures.ok;
-      sealed = subst (λ (v : Device). IsSealed l v read_dev old new) a c.in_ok-write_synced.ensures.ok;
+      lays = lays-as _ _ _ _ read_dev c.args.extent.first c.args.extent.roots l a b c.in_ok-laid.ensures.ok;
+      sealed = subst (λ (v : Device). IsSealed l.layout v read_dev old new) a c.in_ok-write_synced.ensures.ok;
     }

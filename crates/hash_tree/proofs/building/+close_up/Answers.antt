@@ -17,7 +17,7 @@ empty : (t : ℕ) (c : goal.After-drop-bytes-then-is_empty t) → close c.args.h
 empty t c =
     let v = c.extend.new.bytes in
     let is : v.items ≡ c.in-Some.level.now.bytes ++ unwrap_or c.args.coming [] =
-    c.in_ok-extend.ensures ∙ ap (λ v. v.items ++ unwrap_or c.args.coming []) c.replace-bytes.ensures.value ∙ ap (λ (l : LevelRecord). l.bytes ++ unwrap_or c.args.coming []) c.level.view_is in
+    c.in_ok-extend.ensures.ok ∙ ap (λ v. v.items ++ unwrap_or c.args.coming []) c.replace-bytes.ensures.value ∙ ap (λ (l : LevelRecord). l.bytes ++ unwrap_or c.args.coming []) c.level.view_is in
     let none = eqb-true _ 0 (sym c.is_empty.ensures ∙ c.if-is_empty.true) in
     ap (λ ls. close c.args.hash_block c.args.salt.now ls c.args.root c.args.coming) c.in-Some.ensures.cases.0
     ∙ close-empty c.args.hash_block c.args.salt.now c.in-Some.level.now c.in-Some.above.now c.args.root v.items c.args.coming is (omega (arith, none, v.ok.0))
@@ -40,7 +40,7 @@ begun t c =
     let size = c.args.hash_block in
     let salt = c.args.salt.now in
     let is : v.items ≡ c.in-Some.level.now.bytes ++ unwrap_or c.args.coming [] =
-    c.in_ok-extend.ensures ∙ ap (λ v. v.items ++ unwrap_or c.args.coming []) c.replace-bytes.ensures.value ∙ ap (λ (l : LevelRecord). l.bytes ++ unwrap_or c.args.coming []) c.level.view_is in
+    c.in_ok-extend.ensures.ok ∙ ap (λ v. v.items ++ unwrap_or c.args.coming []) c.replace-bytes.ensures.value ∙ ap (λ (l : LevelRecord). l.bytes ++ unwrap_or c.args.coming []) c.level.view_is in
     let some = eqb-false _ 0 (sym c.is_empty.ensures ∙ c.if-is_empty.false) in
     let next : digest salt c.fill.new.bytes.items ≡ c.digest-next.result = ap (digest salt) (sym c.deref.ensures.value) ∙ sym c.digest-next.ensures in
     let closed : List ℕ → List ℕ → Closed = λ b d. record {
@@ -49,11 +49,11 @@ begun t c =
     } in
     ap (λ ls. close size salt ls c.args.root c.args.coming) c.in-Some.ensures.cases.0
     ∙ close-begun size salt c.in-Some.level.now c.in-Some.above.now c.args.root v.items c.args.coming is (λ none. some (omega (arith, none, v.ok.0)))
-    ∙ ap (λ b. closed b (digest salt b)) (sym c.in_ok-fill.ensures)
+    ∙ ap (λ b. closed b (digest salt b)) (sym c.in_ok-fill.ensures.ok)
     ∙ ap (closed c.fill.new.bytes.items) next
 
-put : (t : ℕ) (c : goal.After-levels-3-1 t) → c.push.new.self.items ≡ c.args.out.now.items ++ record { block = c.in-Some.level.now.next; bytes = c.fill.new.bytes.items } ∷ []
-put t c = c.in_ok-push.ensures.items ∙ ap (λ (l : LevelRecord). c.args.out.now.items ++ record { block = l.next; bytes = c.fill.new.bytes.items } ∷ []) c.level.view_is
+put : (t : ℕ) (c : goal.After-levels-3-1 t) → c.push.new.v.items ≡ c.args.out.now.items ++ record { block = c.in-Some.level.now.next; bytes = c.fill.new.bytes.items } ∷ []
+put t c = c.in_ok-push.ensures.ok ∙ ap (λ (l : LevelRecord). c.args.out.now.items ++ record { block = l.next; bytes = c.fill.new.bytes.items } ∷ []) c.level.view_is
 
 pub returns-clause-root : goal.returns-clause-root
 returns-clause-root t c = rw (begun t c) c.close_up-2.ensures.root
@@ -61,8 +61,8 @@ returns-clause-root t c = rw (begun t c) c.close_up-2.ensures.root
 pub returns-clause-out : goal.returns-clause-out
 returns-clause-out t c =
     on_ok_weaker c.close_up-2.result
-    (λ made. rw (begun t c) (put-more c.args.out.now.items c.push.new.self.items c.close_up-2.new.out.items _ _ (put t c) made))
+    (λ made. rw (begun t c) (put-more c.args.out.now.items c.push.new.v.items c.close_up-2.new.out.items _ _ (put t c) made))
     c.close_up-2.ensures.out
 
 pub returns-clause-some : goal.returns-clause-some
-returns-clause-some t c = rw (begun t c) (HasSome-more c.args.out.now.items c.push.new.self.items c.close_up-2.new.out.items _ _ (put t c) c.close_up-2.ensures.some)
+returns-clause-some t c = rw (begun t c) (HasSome-more c.args.out.now.items c.push.new.v.items c.close_up-2.new.out.items _ _ (put t c) c.close_up-2.ensures.some)

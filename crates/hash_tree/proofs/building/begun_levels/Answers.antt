@@ -13,6 +13,6 @@ loop-level-preserved c =
     let s = c.args.shape.now in
     let f : ℕ → LevelRecord = λ l. record { next = position s l 0; bytes = [] } in (
       c.loop-level.invariant.0,
-      c.in_ok-push.ensures.items
+      c.in_ok-push.ensures.ok
           ∙ rw (c.position.ensures.value, c.new.ensures.items, c.loop-level.invariant.1) (sym (map-range_with_len_more f 0 c.loop-level.level c.loop-level.level (zero-add c.loop-level.level))),
     )

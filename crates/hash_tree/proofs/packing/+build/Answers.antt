@@ -35,7 +35,7 @@ next : (t : ℕ) (c : goal.After-build-arg-1 t) → c.deref.result.now ≡ diges
 next t c =
     let ds = c.args.digests.now in
     c.deref.ensures.value
-    ∙ next-is c.args.hash_block c.requires.size c.args.salt.now ds c.requires.sized (omega (arith, c.requires.some, c.if-digests-eq1.false)) c.args.out.now c.requires.room c.level_start-above.result c.level_start-above.ensures c.put_digests.new.out c.put_digests.ensures _ c.in_ok-next.next.items refl c.in_ok-next.ensures
+    ∙ next-is c.args.hash_block c.requires.size c.args.salt.now ds c.requires.sized (omega (arith, c.requires.some, c.if-digests-eq1.false)) c.args.out.now c.requires.room c.level_start-above.result c.level_start-above.ensures c.put_digests.new.out c.put_digests.ensures _ c.in_ok-next.next.items refl c.in_ok-next.ensures.ok
 
 pub build-requires : goal.build-requires
 build-requires t c =
@@ -59,7 +59,7 @@ returns-clause-area t c =
     let more : 1 < length ds = omega (arith, c.requires.some, c.if-digests-eq1.false) in
     let above : c.deref.result.now ≡ digests_above size salt ds =
     c.deref.ensures.value
-    ∙ next-is size c.requires.size salt ds c.requires.sized more c.args.out.now c.requires.room c.level_start-above.result c.level_start-above.ensures c.put_digests.new.out c.put_digests.ensures _ c.in_ok-next.next.items refl c.in_ok-next.ensures in
+    ∙ next-is size c.requires.size salt ds c.requires.sized more c.args.out.now c.requires.room c.level_start-above.result c.level_start-above.ensures c.put_digests.new.out c.put_digests.ensures _ c.in_ok-next.next.items refl c.in_ok-next.ensures.ok in
     on_ok_weaker c.build.result
     (λ made. area-written size c.requires.size salt ds c.requires.sized more c.args.out.now c.requires.room c.level_start-above.result c.level_start-above.ensures c.put_digests.new.out c.put_digests.ensures c.deref.result.now c.build.new.out above made)
     c.build.ensures.area
@@ -72,5 +72,5 @@ returns-clause-root t c =
     let more : 1 < length ds = omega (arith, c.requires.some, c.if-digests-eq1.false) in
     let above : c.deref.result.now ≡ digests_above size salt ds =
     c.deref.ensures.value
-    ∙ next-is size c.requires.size salt ds c.requires.sized more c.args.out.now c.requires.room c.level_start-above.result c.level_start-above.ensures c.put_digests.new.out c.put_digests.ensures _ c.in_ok-next.next.items refl c.in_ok-next.ensures in
+    ∙ next-is size c.requires.size salt ds c.requires.sized more c.args.out.now c.requires.room c.level_start-above.result c.level_start-above.ensures c.put_digests.new.out c.put_digests.ensures _ c.in_ok-next.next.items refl c.in_ok-next.ensures.ok in
     IfOk-weaker c.build.result _ _ (λ r is. is ∙ ap (root size salt) above ∙ sym (root-same size c.requires.size salt ds c.requires.sized more)) c.build.ensures.root

@@ -1,4 +1,5 @@
-use Rattle.std.proofs.Common.{◌≡◌, ◌≤◌, ◌*◌, ◌^◌, [], length, sym, ap, ◌∙◌, arith}
+use Rattle.std.proofs.Common.{◌≡◌, ◌≤◌, ◌*◌, ◌^◌, [], ℕ, length, sym, ap, ◌∙◌, arith}
+use Rattle.std.proofs.lemmas.List.{length-replicate}
 use Rattle.std.proofs.Math.Nat.{mul_comm}
 use Rattle.tree_shape.specs.Shape.{area_blocks}
 use Rattle.hash_tree.specs.Tree.{area}
@@ -19,7 +20,8 @@ build-requires-clause-room c =
     let s = c.args.shape.now in
     let ds = c.args.digests.now in
     let count : length (area s.hash_block c.args.salt.now ds) ≡ area_blocks s = length-area_of s c.hash_block-hash_block.ensures.valid c.args.salt.now ds c.are_whole.ensures c.requires in
-    let room : length c.deref_mut.result.now ≡ c.area_blocks.result * c.hash_block-hash_block.result = c.deref_mut.ensures.len ∙ c.in_ok-bytes.ensures.len in
+    let zeros : length c.in_ok-bytes.bytes.items ≡ c.area_blocks.result * c.hash_block-hash_block.result = ap length c.in_ok-bytes.ensures.ok ∙ length-replicate {A = ℕ} (c.area_blocks.result * c.hash_block-hash_block.result) 0 in
+    let room : length c.deref_mut.result.now ≡ c.area_blocks.result * c.hash_block-hash_block.result = omega (arith, c.deref_mut.ensures.len, zeros, c.in_ok-bytes.bytes.ok.0) in
     room
     ∙ mul_comm c.area_blocks.result c.hash_block-hash_block.result
     ∙ ap (λ n. c.hash_block-hash_block.result * n) (c.area_blocks.ensures.value ∙ sym count ∙ ap (λ h. length (area h c.args.salt.now ds)) (sym c.hash_block-hash_block.ensures.value))

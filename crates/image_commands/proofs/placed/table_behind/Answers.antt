@@ -1,14 +1,14 @@
-use Rattle.std.proofs.Common.{◌≡◌, ◌∙◌, ℕ, true, ap, arith, inl, subst}
+use Rattle.std.proofs.Common.{◌≡◌, ◌∙◌, ℕ, ap, arith, inl, subst}
 use Rattle.std.proofs.lemmas.Result.{IfErr-weaker, on_ok_weaker}
 use Rattle.std.specs.Io.KnownBytes.{Appends}
 use Rattle.block_device.specs.Device.{Device}
 use Rattle.device_window.specs.Parts.{part_behind}
 use Rattle.device_window.specs.Windows.{windowed}
-use Rattle.verity_format.specs.Verifying.{IsReadCause, IsReadFrom}
-use Rattle.image_commands.specs.declared.fault.ImageFault.TheVariants.{Verify}
-use Rattle.image_commands.specs.Places.{is_aligned, tree_start}
+use Rattle.image_commands.specs.Finding.{IsNoTree, ReadsSuper, no_tree_fault}
+use Rattle.image_commands.specs.Places.{tree_start}
 use Rattle.image_commands.specs.TableLines.{named_line}
 use Rattle.image_commands.proofs.lemmas.EndingLemmas.{may_end}
+use Rattle.image_commands.proofs.FindingLemmas.{no-tree-end}
 use Rattle.image_commands.proofs.OpeningLemmas.{err-from}
 use Rattle.image_commands.proofs.PlacedLemmas.{first-small, windowed-same}
 use Rattle.image_commands.proofs.placed.table_behind.Goals as goal
@@ -16,18 +16,19 @@ use Rattle.image_commands.proofs.placed.table_behind.Goals as goal
 pub returns-in_err-superblock-clause-err : goal.returns-in_err-superblock-clause-err
 returns-in_err-superblock-clause-err g c =
     let hash_dev = g.H.BlockDev.state c.args.placed.0 in
-    let new = c.read_superblock.new.hash_dev in
+    let first = c.args.placed.1 in
+    let new = c.find_tree.new.hash_dev in
     let after = windowed (g.H.BlockDev.state new.inner) new.part in
-    let b = windowed-same _ hash_dev _ (part_behind hash_dev c.args.placed.1) (ap g.H.BlockDev.state c.behind-window.ensures.inner) c.behind-window.ensures.part in
-    err-from c.from_residual.result _ (Verify c.in_err-superblock.field-0.0) c.from_residual.ensures.1
-    (inl (after, subst (λ (v : Device). IsReadCause v after c.in_err-superblock.field-0.0) b c.in_err-superblock.ensures.err))
+    let fault = c.in_err-superblock.field-0.0 in
+    let b = windowed-same _ hash_dev _ (part_behind hash_dev first) (ap g.H.BlockDev.state c.behind-window.ensures.inner) c.behind-window.ensures.part in
+    err-from c.from_residual.result _ (no_tree_fault fault) c.from_residual.ensures.1
+    (no-tree-end hash_dev after first _ fault (subst (λ (v : Device). IsNoTree v first after fault) b c.in_err-superblock.ensures.err))
 
 -- there is a sector at the place, so that the device doesn't end before it
 pub tree_start-start-requires : goal.tree_start-start-requires
 tree_start-start-requires g c =
     let window = c.behind-window.result in
-    let found = c.in_ok-superblock.ensures.found in
-    let below = first-small (g.H.BlockDev.state c.args.placed.0) c.args.placed.1 window.part c.behind-window.ensures.part window.small found.1.some in
+    let below = first-small (g.H.BlockDev.state c.args.placed.0) c.args.placed.1 window.part c.behind-window.ensures.part window.small c.in_ok-superblock.ensures.ok.read.some in
     omega (arith, below)
 
 pub returns-clause-err : goal.returns-clause-err
@@ -42,15 +43,14 @@ returns-clause-ok g c =
     let new = g.W.Write.contents c.say_line.new.writer.inner in
     let s = c.in_ok-superblock.superblock in
     let b = windowed-same _ hash_dev _ (part_behind hash_dev first) (ap g.H.BlockDev.state c.behind-window.ensures.inner) c.behind-window.ensures.part in
-    let found = c.in_ok-superblock.ensures.found in
-    let here : is_aligned first c.hash_block-size.result ≡ true = cc (c.if-not-is_aligned.ensures) in
+    let found = subst (λ (v : Device). ReadsSuper v first s) b c.in_ok-superblock.ensures.ok in
     let start : c.tree_start-start.result ≡ tree_start first s.hash_block 1 = c.tree_start-start.ensures ∙ ap (λ (n : ℕ). tree_start first n 1) c.hash_block-size.ensures in
     on_ok_weaker c.say_line.result
     (λ printed. record {
       super = s;
-      sector = found.0;
-      read = subst (λ (v : Device). IsReadFrom v found.0 s) b found.1;
-      allowed = subst (λ (n : ℕ). is_aligned first n ≡ true) c.hash_block-size.ensures here;
+      sector = found.sector;
+      read = found.read;
+      allowed = found.aligned;
       printed = subst (λ (n : ℕ). Appends old new (named_line c.args.name s c.args.words n)) start printed;
     })
     c.say_line.ensures.ok

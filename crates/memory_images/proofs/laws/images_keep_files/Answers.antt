@@ -2,7 +2,7 @@ use Rattle.std.proofs.Common.{ap}
 use Rattle.memory_images.specs.Files.{file_under}
 use Rattle.memory_images.specs.Parts.{grown_image, with_part}
 use Rattle.block_device.specs.Memory.{memory_bytes}
-use Rattle.memory_images.proofs.FileLemmas.{copy-opened, image-taken, others-kept, others-unchanged, others-unreplaced, part-measured, text-replaced, text-told}
+use Rattle.memory_images.proofs.FileLemmas.{copy-opened, image-taken, none-kept, others-kept, others-unchanged, others-unreplaced, part-measured, text-replaced, text-told}
 use Rattle.memory_images.proofs.PartLemmas.{image-grown, part-opened, part-taken}
 use Rattle.memory_images.proofs.laws.images_keep_files.Goals as goal
 
@@ -24,6 +24,8 @@ returns c = record {
   kept_growing = λ old new path other sectors file another is. others-unchanged old new path other (λ image. grown_image image sectors) file another is;
   kept_measuring = λ old new path outcome is. ap file_under is.0;
   measured = λ old new path part is. part-measured old path part is.1;
+  kept_comparing = λ old new path other outcome is. ap file_under is.0;
+  made_apart = λ old between new path other sectors compared is. none-kept between new path other (λ image. grown_image image sectors) is;
   replaced = text-replaced;
   kept_replacing = others-unreplaced;
   kept_trying = λ old new path outcome is. ap file_under is.0;

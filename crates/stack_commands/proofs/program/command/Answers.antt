@@ -21,6 +21,10 @@ returns-else-output_is_data g c = inr (record {
   before = _;
   unwritten = c.run.new.writer.failed;
   fails = c.in-Err.ensures.err;
-  kept = c.end-else-output_is_data.ensures.failed;
-  told_so = told-here _ c.in-Err.fault _ _ _ _ (sym c.output_is_data.ensures ∙ c.if-output_is_data.false) c.end-else-output_is_data.ensures.told (λ command output. c.tell_output.ensures output ∙ c.explain.ensures command);
+  kept = c.report_end.ensures.failed;
+  told_so = told-here _ c.in-Err.fault _ _ _ _ (sym c.output_is_data.ensures ∙ c.if-output_is_data.false) c.report_end.ensures.told (record {
+    before = _;
+    unsaid = λ command output. c.tell_output.ensures output ∙ c.explain.ensures command;
+    repeated = c.report_end.ensures.errors;
+  });
 })

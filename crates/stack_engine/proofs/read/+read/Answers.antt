@@ -81,7 +81,7 @@ read_device-read_run-requires g t c κs within =
       omega (arith, deep),
       (
         within,
-        run-can run (stack-later config inv.so_far.reads.got.moved.moved.fixed c.requires.stack inv.step.cached) (finds-kept c.args.chains c.requires.kept inv.so_far) (subst (CanGo config next.result.source next.result.count) c.as_slice.ensures.value next.ensures.can_go),
+        run-can run (stack-later config inv.so_far.reads.got.moved.moved.fixed c.requires.stack inv.step.cached) (finds-kept c.args.chains c.requires.kept inv.so_far) (subst (CanGo config next.result.source next.result.count) c.as_slice.ensures.value (next.ensures.can_go inv.step.cached.sound.sets)),
       ),
     )
 

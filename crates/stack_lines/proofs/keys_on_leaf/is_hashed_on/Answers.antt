@@ -39,5 +39,5 @@ returns c =
     let at = line_is config c.args.d.0 c.args.line c.lines-lines.result.now x c.requires.line (c.lines-lines.ensures.value ∙ c.table.ensures) c.index-lines-line.is in
     let verity : is_verity x.target ≡ true = ap (λ (l : Line). is_verity l.target) c.index-lines-line.is ∙ sym c.is_verity.ensures ∙ c.if-not-is_verity.false in
     let known = knows-at config c.requires.loaded c.args.beneath.now c.requires.sets c.args.d.0 c.args.line 1 c.lower-hash.result c.lower-hash.ensures in
-    c.contains.ensures ∙ c.lower_leaves.ensures config c.requires.loaded known c.args.leaf
+    c.contains.ensures ∙ (c.lower_leaves.ensures config c.requires.loaded known).leaves c.args.leaf
     ∙ sym (lower-stands config c.args.leaf c.args.d.0 c.args.line x c.lower-hash.result c.requires.loaded at verity c.lower-hash.ensures)

@@ -23,14 +23,14 @@ returns-in_err-two-clause-err g c =
 pub align-requires : goal.align-requires
 align-requires g c =
     have-trees c.in_ok-one.one c.in_ok-two.two c.args.roots c.in_ok-walk.walk (g.D.BlockDev.state c.args.first.now) (g.D.BlockDev.state c.superblock_of.new.device) (g.E.BlockDev.state c.args.second.now) (g.E.BlockDev.state c.superblock_of-2.new.device)
-    c.in_ok-walk.ensures (sym c.in-None.ensures) c.in_ok-one.ensures.found c.in_ok-two.ensures.found c.superblock_of.ensures.read.same.size c.superblock_of-2.ensures.read.same.size
+    c.in_ok-walk.ensures.ok (sym c.in-None.ensures) c.in_ok-one.ensures.found c.in_ok-two.ensures.found c.superblock_of.ensures.read.same.size c.superblock_of-2.ensures.read.same.size
 
 pub returns-in_err-align-clause-err : goal.returns-in_err-align-clause-err
 returns-in_err-align-clause-err g c =
     err-from c.from_residual-in_err-align.result _ c.in_err-align.field-0.0 c.from_residual-in_err-align.ensures.1
     (walk-cause c.in_ok-one.one c.in_ok-two.two c.args.roots c.in_ok-walk.walk (g.D.BlockDev.state c.args.first.now) (g.D.BlockDev.state c.superblock_of.new.device) (g.E.BlockDev.state c.args.second.now) (g.E.BlockDev.state c.superblock_of-2.new.device)
     (g.D.BlockDev.state c.align.new.first) (g.E.BlockDev.state c.align.new.second) (g.L.Listing.told c.args.listing.now) (g.L.Listing.told c.args.listing.now) (g.L.Listing.failed c.args.listing.now)
-    c.in_ok-one.ensures.found c.in_ok-two.ensures.found c.in_ok-walk.ensures.trees c.superblock_of.ensures.read c.superblock_of-2.ensures.read c.in_ok-one.ensures.full.failures c.in_ok-two.ensures.full.failures
+    c.in_ok-one.ensures.found c.in_ok-two.ensures.found c.in_ok-walk.ensures.ok.trees c.superblock_of.ensures.read c.superblock_of-2.ensures.read c.in_ok-one.ensures.full.failures c.in_ok-two.ensures.full.failures
     c.in_err-align.field-0.0 c.in_err-align.ensures.err)
 
 pub compare-requires : goal.compare-requires
@@ -39,7 +39,7 @@ compare-requires g c =
     let e : Device = g.E.BlockDev.state c.superblock_of-2.new.device in
     let have : HaveTrees c.in_ok-walk.walk d e =
     have-trees c.in_ok-one.one c.in_ok-two.two c.args.roots c.in_ok-walk.walk (g.D.BlockDev.state c.args.first.now) d (g.E.BlockDev.state c.args.second.now) e
-    c.in_ok-walk.ensures (sym c.in-None.ensures) c.in_ok-one.ensures.found c.in_ok-two.ensures.found c.superblock_of.ensures.read.same.size c.superblock_of-2.ensures.read.same.size in
+    c.in_ok-walk.ensures.ok (sym c.in-None.ensures) c.in_ok-one.ensures.found c.in_ok-two.ensures.found c.superblock_of.ensures.read.same.size c.superblock_of-2.ensures.read.same.size in
     can-compare c.in_ok-walk.walk c.align.new.walk d e (g.D.BlockDev.state c.align.new.first) (g.E.BlockDev.state c.align.new.second) have c.in_ok-align.ensures.ok
 
 pub returns-clause-ok : goal.returns-clause-ok
@@ -61,8 +61,8 @@ returns-clause-ok g c =
     let new : Option (List ℕ) = g.L.Listing.told c.compare.new.listing in
     let aligned = c.in_ok-align.ensures.ok in
     let have : HaveTrees w d1 e1 =
-    have-trees a b c.args.roots w d0 d1 e0 e1 c.in_ok-walk.ensures (sym c.in-None.ensures) c.in_ok-one.ensures.found c.in_ok-two.ensures.found c.superblock_of.ensures.read.same.size c.superblock_of-2.ensures.read.same.size in
-    let is : trees_in w' ≡ t = same-trees w w' d1 e1 d2 e2 have aligned ∙ c.in_ok-walk.ensures.trees in
+    have-trees a b c.args.roots w d0 d1 e0 e1 c.in_ok-walk.ensures.ok (sym c.in-None.ensures) c.in_ok-one.ensures.found c.in_ok-two.ensures.found c.superblock_of.ensures.read.same.size c.superblock_of-2.ensures.read.same.size in
+    let is : trees_in w' ≡ t = same-trees w w' d1 e1 d2 e2 have aligned ∙ c.in_ok-walk.ensures.ok.trees in
     ok-both c.compare.result _ _ _ c.compare.ensures.ok c.compare.ensures.reads (λ totals found reads. record {
       a = a;
       b = b;
@@ -72,8 +72,8 @@ returns-clause-ok g c =
       compares = compares-was t d0 e0 d2 e2 d3 e3 old new c.args.most totals (only_read-then c.superblock_of.ensures.read aligned.first.full.read) (only_read-then c.superblock_of-2.ensures.read aligned.second.full.read)
           (subst (λ (x : Trees). Compares x (difference_world d2 e2 d3 e3 old new) c.args.most totals) is found);
       reads = reads-was t d0 e0 d2 e2 d3 e3 old new _ _
-          (aligned-read w w' d0 d1 d2 e1 e2 (shape_of a) t c.in_ok-one.ensures.full (ap (λ (x : Trees). x.first) c.in_ok-walk.ensures.trees) c.in_ok-walk.ensures.levels aligned)
-          (aligned-read-second w w' e0 d1 d2 e1 e2 (shape_of b) t c.in_ok-two.ensures.full (ap (λ (x : Trees). x.second) c.in_ok-walk.ensures.trees) c.in_ok-walk.ensures.levels aligned)
+          (aligned-read w w' d0 d1 d2 e1 e2 (shape_of a) t c.in_ok-one.ensures.full (ap (λ (x : Trees). x.first) c.in_ok-walk.ensures.ok.trees) c.in_ok-walk.ensures.ok.levels aligned)
+          (aligned-read-second w w' e0 d1 d2 e1 e2 (shape_of b) t c.in_ok-two.ensures.full (ap (λ (x : Trees). x.second) c.in_ok-walk.ensures.ok.trees) c.in_ok-walk.ensures.ok.levels aligned)
           (subst (λ (x : Trees). ReadsDiffering x (difference_world d2 e2 d3 e3 old new) 0 0) is reads);
     })
 
@@ -88,11 +88,11 @@ returns-clause-err g c =
     let e2 : Device = g.E.BlockDev.state c.align.new.second in
     let aligned = c.in_ok-align.ensures.ok in
     let have : HaveTrees w d1 e1 =
-    have-trees a b c.args.roots w (g.D.BlockDev.state c.args.first.now) d1 (g.E.BlockDev.state c.args.second.now) e1 c.in_ok-walk.ensures (sym c.in-None.ensures) c.in_ok-one.ensures.found c.in_ok-two.ensures.found c.superblock_of.ensures.read.same.size c.superblock_of-2.ensures.read.same.size in
+    have-trees a b c.args.roots w (g.D.BlockDev.state c.args.first.now) d1 (g.E.BlockDev.state c.args.second.now) e1 c.in_ok-walk.ensures.ok (sym c.in-None.ensures) c.in_ok-one.ensures.found c.in_ok-two.ensures.found c.superblock_of.ensures.read.same.size c.superblock_of-2.ensures.read.same.size in
     IfErr-weaker c.compare.result _ _
     (λ fault cause. comparison-cause a b c.args.roots c.align.new.walk (g.D.BlockDev.state c.args.first.now) d2 (g.E.BlockDev.state c.args.second.now) e2 (g.D.BlockDev.state c.compare.new.first) (g.E.BlockDev.state c.compare.new.second)
     (g.L.Listing.told c.args.listing.now) (g.L.Listing.told c.compare.new.listing) (g.L.Listing.failed c.compare.new.listing) c.in_ok-one.ensures.found c.in_ok-two.ensures.found
-    (same-trees w c.align.new.walk d1 e1 d2 e2 have aligned ∙ c.in_ok-walk.ensures.trees)
+    (same-trees w c.align.new.walk d1 e1 d2 e2 have aligned ∙ c.in_ok-walk.ensures.ok.trees)
     (only_read-then c.superblock_of.ensures.read aligned.first.full.read) (only_read-then c.superblock_of-2.ensures.read aligned.second.full.read)
     (aligned.first.full.failures ∙ c.in_ok-one.ensures.full.failures) (aligned.second.full.failures ∙ c.in_ok-two.ensures.full.failures) fault cause)
     c.compare.ensures.err

@@ -4,6 +4,7 @@ use Rattle.tree_shape.specs.Shape.{ShapeRecord, levels}
 use Rattle.tree_path.specs.Path.{IsPathOf, PathRecord}
 use Rattle.tree_path.specs.Steps.{HasReadAtMost}
 use Rattle.verity_format.specs.Superblock.{shape_of}
+use Rattle.verity_format.specs.Trees.{superblock_tree}
 use Rattle.tree_survey.specs.Hashes.{tree_of_path}
 use Rattle.tree_survey.specs.Passes.{super_tree}
 use Rattle.tree_survey.specs.Surveys.{Tree}
@@ -24,7 +25,7 @@ returns-clause-ok g c =
     let path : IsPathOf (shape_of s) s.salt c.args.root.now c.in_ok-path.path =
     subst (λ (x : ShapeRecord). IsPathOf x s.salt c.args.root.now c.in_ok-path.path) c.shape-shape.ensures.value
     (subst (λ (x : List ℕ). IsPathOf c.shape-shape.result x c.args.root.now c.in_ok-path.path) c.salt.ensures c.in_ok-path.ensures.ok) in
-    let tree : tree_of_path c.in_ok-path.path ≡ t = tree-of s c.args.root.now c.in_ok-path.path path in
+    let tree : tree_of_path c.in_ok-path.path ≡ t = tree-of (superblock_tree s) c.args.root.now c.in_ok-path.path path in
     let last : c.blocks-last.result - 1 ≡ last_data t = ap (λ (n : ℕ). n - 1) (c.blocks-last.ensures.value ∙ ap (λ (x : ShapeRecord). x.blocks) c.shape-shape.ensures.value) in
     let down : IsReadDown t d d' (last_data t) good q =
     subst (λ (i : ℕ). IsReadDown t d d' i good q) last (subst (λ (u : Tree). IsReadDown u d d' (c.blocks-last.result - 1) good q) tree c.read_down-good.ensures.down) in

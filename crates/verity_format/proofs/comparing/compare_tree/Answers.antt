@@ -1,13 +1,31 @@
-use Rattle.std.proofs.Common.{◌≡◌, ◌++◌, ◌∙◌, ℕ, List, None, sym, ap, subst, arith, length, rules}
+use Rattle.std.proofs.Common.{◌≡◌, ◌++◌, ◌∙◌, ℕ, List, None, refl, sym, ap, subst, arith, length, rules}
 use Rattle.std.proofs.lemmas.List.{length-replicate}
+use Rattle.std.proofs.lemmas.Result.{err_from_is_err_and}
 use Rattle.hash_tree.specs.Building.{PlacedRecord, BuilderRecord, pushed, last_completed}
 use Rattle.hash_tree.proofs.lemmas.BuilderLemmas.{left-pushed}
 use Rattle.verity_format.specs.Growth.{IsRunTaken}
 use Rattle.verity_format.specs.Comparing.{IsComparing}
 use Rattle.verity_format.proofs.ComparingLemmas.{lies-on, comparing-none, comparing-then, compared-all}
 use Rattle.verity_format.proofs.lemmas.DeviceLemmas.{only_read-then}
-use Rattle.verity_format.proofs.GrowthLemmas.{left-taken, ready-taken, out-inside, last-all}
+use Rattle.verity_format.proofs.lemmas.SizeLemmas.{block-size}
+use Rattle.verity_format.proofs.GrowthLemmas.{left-taken, ready-taken, refused-taken, size-taken, out-inside, last-all}
 use Rattle.verity_format.proofs.comparing.compare_tree.Goals as goal
+
+-- room for a block was refused
+pub returns-in_err-block_memory-clause-fault : goal.returns-in_err-block_memory-clause-fault
+returns-in_err-block_memory-clause-fault g c =
+    let p = err_from_is_err_and c.from_residual-in_err-block_memory.result c.from_residual-in_err-block_memory.ensures.1 in
+    let block = block-size c.args.shape.now.hash_block c.hash_block.ensures.valid.hash_size in
+    let e = c.in_err-block_memory.field-0.0 in
+    rw (p.1, p.2) (refl, refl, (e.asked, omega (arith, c.in_err-block_memory.ensures.err.0, c.hash_block.ensures.value, block.most_bytes), e.refused))
+
+-- room for the last blocks was refused
+pub returns-in_err-root-clause-fault : goal.returns-in_err-root-clause-fault
+returns-in_err-root-clause-fault g c =
+    let p = err_from_is_err_and c.from_residual-in_err-root.result c.from_residual-in_err-root.ensures.1 in
+    let here = c.loop-run.invariant in
+    rw (p.1, p.2)
+    (here.taken.read.failures, here.read.failures, refused-taken c.args.shape.now c.args.salt.now _ _ c.loop-run.builder here.taken c.hash_block.ensures.valid c.in_err-root.ensures.err)
 
 pub loop-run-init : goal.loop-run-init
 loop-run-init g c =
@@ -23,7 +41,8 @@ take_run-requires g c =
     record {
       ready = ready-taken c.args.shape.now c.args.salt.now _ _ c.loop-run.builder taken;
       left = (omega (arith, c.left.ensures, c.loop-run-test.true), omega (arith, left));
-      run = search rules;
+      size = size-taken c.args.shape.now c.args.salt.now _ _ c.loop-run.builder taken;
+      run = (search rules, search rules);
       room = search rules;
     }
 
@@ -32,7 +51,7 @@ compare_blocks-requires g c =
     let s = c.args.shape.now in
     let here = c.loop-run.invariant in
     let size : length c.loop-run.block ≡ s.hash_block =
-    c.loop-run.auto.block ∙ ap length (c.as_mut_slice-block.ensures.value ∙ c.in_ok-block_memory.ensures) ∙ length-replicate {A = ℕ} c.hash_block.result 0 ∙ c.hash_block.ensures.value in
+    c.loop-run.auto.block ∙ ap length (c.as_mut_slice-block.ensures.value ∙ c.in_ok-block_memory.ensures.ok) ∙ length-replicate {A = ℕ} c.hash_block.result 0 ∙ c.hash_block.ensures.value in
     record {
       size = rw size c.hash_block.ensures.valid.hash_size;
       inside = lies-on s c.hash_block.ensures.valid (g.H.BlockDev.state c.loop-run.hash_dev) (omega (arith, c.requires.tree_room, here.read.read.same.size)) (length c.loop-run.block) size
@@ -51,7 +70,7 @@ loop-run-preserved g c =
     let s = c.args.shape.now in
     let here = c.loop-run.invariant in
     let size : length c.loop-run.block ≡ s.hash_block =
-    c.loop-run.auto.block ∙ ap length (c.as_mut_slice-block.ensures.value ∙ c.in_ok-block_memory.ensures) ∙ length-replicate {A = ℕ} c.hash_block.result 0 ∙ c.hash_block.ensures.value in
+    c.loop-run.auto.block ∙ ap length (c.as_mut_slice-block.ensures.value ∙ c.in_ok-block_memory.ensures.ok) ∙ length-replicate {A = ℕ} c.hash_block.result 0 ∙ c.hash_block.ensures.value in
     let data' = g.D.BlockDev.state c.loop-run.data_dev in
     let data'' = g.D.BlockDev.state c.take_run.new.device in
     comparing-then s c.args.salt.now (g.D.BlockDev.state c.args.data_dev.now) (g.H.BlockDev.state c.args.hash_dev.now) data' (g.H.BlockDev.state c.loop-run.hash_dev) c.loop-run.builder c.loop-run.least here
@@ -63,7 +82,7 @@ compare_blocks-requires-2 g c =
     let s = c.args.shape.now in
     let here = c.loop-run.invariant in
     let size : length c.loop-run.block ≡ s.hash_block =
-    c.loop-run.auto.block ∙ ap length (c.as_mut_slice-block.ensures.value ∙ c.in_ok-block_memory.ensures) ∙ length-replicate {A = ℕ} c.hash_block.result 0 ∙ c.hash_block.ensures.value in
+    c.loop-run.auto.block ∙ ap length (c.as_mut_slice-block.ensures.value ∙ c.in_ok-block_memory.ensures.ok) ∙ length-replicate {A = ℕ} c.hash_block.result 0 ∙ c.hash_block.ensures.value in
     let last : c.deref-2.result.now ≡ last_completed c.loop-run.builder = c.deref-2.ensures.value ∙ c.in_ok-root.ensures.out ∙ ap (λ xs. xs ++ last_completed c.loop-run.builder) c.new-out.ensures.items in
     record {
       size = rw size c.hash_block.ensures.valid.hash_size;
@@ -77,7 +96,7 @@ returns-clause-compared g c =
     let s = c.args.shape.now in
     let here = c.loop-run.invariant in
     let size : length c.loop-run.block ≡ s.hash_block =
-    c.loop-run.auto.block ∙ ap length (c.as_mut_slice-block.ensures.value ∙ c.in_ok-block_memory.ensures) ∙ length-replicate {A = ℕ} c.hash_block.result 0 ∙ c.hash_block.ensures.value in
+    c.loop-run.auto.block ∙ ap length (c.as_mut_slice-block.ensures.value ∙ c.in_ok-block_memory.ensures.ok) ∙ length-replicate {A = ℕ} c.hash_block.result 0 ∙ c.hash_block.ensures.value in
     let last : c.deref-2.result.now ≡ last_completed c.loop-run.builder = c.deref-2.ensures.value ∙ c.in_ok-root.ensures.out ∙ ap (λ xs. xs ++ last_completed c.loop-run.builder) c.new-out.ensures.items in
     compared-all s c.args.salt.now (g.D.BlockDev.state c.args.data_dev.now) (g.H.BlockDev.state c.args.hash_dev.now) (g.D.BlockDev.state c.loop-run.data_dev) (g.H.BlockDev.state c.loop-run.hash_dev) c.loop-run.builder c.loop-run.least here
     (g.H.BlockDev.state c.compare_blocks-2.new.hash_dev) (length c.loop-run.block) size c.deref-2.result.now c.in_ok-least-2.least c.in_ok-least-2.ensures.ok.full c.in_ok-least-2.ensures.ok.least

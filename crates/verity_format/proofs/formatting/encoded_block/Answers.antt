@@ -19,7 +19,7 @@ pub returns-clause-value : goal.returns-clause-value
 returns-clause-value c =
     let s : SuperRecord = c.args.params.now in
     let zeros : c.deref_mut.result.now ≡ replicate s.hash_block 0 =
-    c.deref_mut.ensures.value ∙ c.in_ok-block.ensures ∙ ap (λ n. replicate n 0) (c.hash_block.ensures.value ∙ ap (λ t. t.hash_block) c.shape-shape.ensures.value) in
+    c.deref_mut.ensures.value ∙ c.in_ok-block.ensures.ok ∙ ap (λ n. replicate n 0) (c.hash_block.ensures.value ∙ ap (λ t. t.hash_block) c.shape-shape.ensures.value) in
     let size : length c.encode.result ≡ 512 = c.encode.ensures.carried.size in
     let kept : length c.put.new.bytes ≡ c.in_ok-block.block.len = c.put.auto.bytes ∙ c.deref_mut.ensures.len in
     take_at c.put.new.bytes (drop (length c.put.new.bytes) c.in_ok-block.block.items) c.in_ok-block.block.len kept

@@ -15,6 +15,7 @@ use Rattle.verity_format.proofs.lemmas.SizeLemmas.{block-size, tree-within}
 use Rattle.verity_format.proofs.lemmas.DeviceLemmas.{only_read-none, only_written-none, only_written-write, only_written-then, failed-then, steady-then}
 use Rattle.verity_format.proofs.FormattingLemmas.{first-within, part-only_written, tree-cause, first-then, formatted-is, fails-at_first, written-shape}
 use Rattle.verity_format.proofs.HandingLemmas.{stopped-none, stopped-shape, tree-shape}
+use Rattle.verity_format.proofs.WritingLemmas.{part-none-tree}
 use Rattle.verity_format.proofs.formatting.format.Goals as goal
 
 none_applies : (f : FormatFault) → None ≡ Some f → ⊥
@@ -25,6 +26,14 @@ returns-in_err-check_room-clause-err g c =
     let p = err_from_is_err_and c.from_residual.result c.from_residual.ensures.1 in
     rw (p.1, p.2) (refusal-cause c.args.params (g.D.BlockDev.state c.args.data_dev.now) (g.H.BlockDev.state c.args.hash_dev.now) (g.D.BlockDev.state c.args.data_dev.now) (g.H.BlockDev.state c.args.hash_dev.now) _
     (sym (format-room c.args.params (g.D.BlockDev.state c.args.data_dev.now) (g.H.BlockDev.state c.args.hash_dev.now) (first_fault-none (shape_of c.args.params) c.shape-shape.ensures.valid) c.shape-shape.result c.image_sectors.result c.shape-shape.ensures.value c.image_sectors.ensures) ∙ sym c.in_err-check_room.ensures))
+
+pub returns-in_err-first-clause-err : goal.returns-in_err-first-clause-err
+returns-in_err-first-clause-err g c =
+    let p = err_from_is_err_and c.from_residual-in_err-first.result c.from_residual-in_err-first.ensures.1 in
+    let block = block-size c.args.params.hash_block c.shape-shape.ensures.valid.hash_size in
+    let h = c.in_err-first.ensures.err in
+    rw (p.1, p.2)
+    (record { failures = refl; hash_failures = refl; refused = (h.0, omega (arith, h.1, block.most_bytes), h.2); part = part-none-tree (shape_of c.args.params) (g.H.BlockDev.state c.args.hash_dev.now) })
 
 pub write_tree-requires : goal.write_tree-requires
 write_tree-requires g c =

@@ -8,7 +8,7 @@ use Rattle.verity_format.specs.Handing.{HandsGrowth, HandsSome, writes_of}
 use Rattle.verity_format.specs.Image.{tree_sectors}
 use Rattle.verity_format.specs.Writing.{IsWriting, IsPartWritten, AreBlocksWritten}
 use Rattle.verity_format.proofs.lemmas.DeviceLemmas.{only_read-then}
-use Rattle.verity_format.proofs.GrowthLemmas.{left-taken, ready-taken, out-inside, last-all}
+use Rattle.verity_format.proofs.GrowthLemmas.{left-taken, ready-taken, refused-taken, size-taken, out-inside, last-all}
 use Rattle.verity_format.proofs.HandingLemmas.{growth-none, growth-then, stopped-asked, stopped-last, stopped-none, stopped-run, tree-all}
 use Rattle.verity_format.proofs.WritingLemmas.{may-stand, writing-none, part-taken, part-run, part-last, writing-then, written-all}
 use Rattle.verity_format.proofs.writing.write_tree.Goals as goal
@@ -34,7 +34,8 @@ take_run-requires g c =
     record {
       ready = ready-taken c.args.shape.now c.args.salt.now _ _ c.loop-run.builder taken;
       left = (omega (arith, c.left.ensures, c.loop-run-test.true), omega (arith, left));
-      run = search rules;
+      size = size-taken c.args.shape.now c.args.salt.now _ _ c.loop-run.builder taken;
+      run = (search rules, search rules);
       room = search rules;
     }
 
@@ -242,6 +243,14 @@ returns-in_err-write_blocks-clause-handed g c =
     subst (λ (n : ℕ). HandsSome does n c.in_ok-out.out.items c.loop-run.hash_dev c.write_blocks.new.hash_dev) size
     (subst (λ (ps : List PlacedRecord). HandsSome does c.hash_block-size.result ps c.loop-run.hash_dev c.write_blocks.new.hash_dev) c.deref.ensures.value c.in_err-write_blocks.ensures.handed) in
     rw result.1 (stopped-run asks does s c.args.salt.now c.args.data_dev.now c.args.hash_dev.now c.loop-run.data_dev c.loop-run.hash_dev c.loop-run.builder c.loop-run.invariant.growth c.take_run.new.device c.take_run.new.builder c.in_ok-out.out.items c.in_ok-out.ensures.given c.write_blocks.new.hash_dev some)
+
+-- room for the last blocks was refused
+pub returns-in_err-root-clause-fault : goal.returns-in_err-root-clause-fault
+returns-in_err-root-clause-fault g c =
+    let p = err_from_is_err_and c.from_residual-in_err-root.result c.from_residual-in_err-root.ensures.1 in
+    let here = c.loop-run.invariant.writing in
+    rw (p.1, p.2)
+    (here.taken.read.failures, here.done.failures, refused-taken c.args.shape.now c.args.salt.now _ _ c.loop-run.builder here.taken c.hash_block-size.ensures.valid c.in_err-root.ensures.err)
 
 pub returns-in_err-root-clause-handed : goal.returns-in_err-root-clause-handed
 returns-in_err-root-clause-handed g c =

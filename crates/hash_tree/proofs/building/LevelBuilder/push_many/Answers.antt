@@ -4,6 +4,7 @@ use Rattle.hash_tree.specs.Building.{BuilderRecord, completed, HasSome, IsPushed
 use Rattle.hash_tree.proofs.lemmas.GrowLemmas.{HasSome-all}
 use Rattle.hash_tree.proofs.lemmas.BuilderLemmas.{left-pushed, failed-pushed}
 use Rattle.hash_tree.proofs.lemmas.BlockwiseLemmas.{IsPushed-none, IsPushed-next, HasSome-rest}
+use Rattle.hash_tree.proofs.RefusalLemmas.{fails-after, on-err}
 use Rattle.hash_tree.proofs.building.LevelBuilder.push_many.Goals as goal
 
 -- the digests that are left
@@ -35,6 +36,10 @@ returns-in_err-done-clause-some c =
     let n = c.loop-done.done in
     HasSome-rest c.args.self.now c.loop-done.self n ds c.args.out.now.items c.loop-done.out.items c.push_next.new.out.items c.loop-done.invariant.pushed
     (subst (λ xs. HasSome c.loop-done.out.items (completed c.loop-done.self xs) c.push_next.new.out.items) (rest n ds) c.in_err-done.ensures.some)
+
+pub returns-in_err-done-clause-err : goal.returns-in_err-done-clause-err
+returns-in_err-done-clause-err c =
+    on-err c.from_residual.result (fails-after c.args.self.now c.loop-done.self c.push_next.new.self (take c.loop-done.done c.args.digests.now) c.loop-done.invariant.pushed.builder c.in_err-done.ensures.err)
 
 pub loop-done-preserved : goal.loop-done-preserved
 loop-done-preserved c =

@@ -10,11 +10,11 @@ loop-digest-preserved c =
     let ds = c.args.digests.now in
     let d = c.digest-item.result in
     let more : take (i + 1) ds ≡ take i ds ++ d ∷ [] = take_more ds i d c.loop-digest-test.true ∙ ap (λ x. take i ds ++ x ∷ []) (sym c.digest-item.is) in
-    c.in_ok-append.ensures
-    ∙ ap (λ xs. xs ++ d) c.loop-digest.invariant
-    ∙ ap (λ x. concat (take i ds) ++ x) (sym (append-nil d))
+    c.in_ok-append.ensures.ok
+    ∙ ap (λ xs. xs ++ c.as_bytes.result.now) c.loop-digest.invariant
+    ∙ ap (λ x. concat (take i ds) ++ x) (c.as_bytes.ensures.value ∙ sym (append-nil d))
     ∙ sym (concat-append (take i ds) (d ∷ []))
     ∙ sym (ap concat more)
 
-pub returns : goal.returns
-returns c = c.loop-digest.invariant ∙ ap concat (take_all c.loop-digest.digest-index c.args.digests.now c.loop-digest-test.false)
+pub returns-clause-ok : goal.returns-clause-ok
+returns-clause-ok c = c.loop-digest.invariant ∙ ap concat (take_all c.loop-digest.digest-index c.args.digests.now c.loop-digest-test.false)

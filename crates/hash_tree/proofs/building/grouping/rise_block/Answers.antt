@@ -32,17 +32,17 @@ returns-clause-root c =
 pub returns-clause-out : goal.returns-clause-out
 returns-clause-out c =
     let same = grow_block-same c.args.hash_block c.args.salt.now c.args.levels.now c.in-Some.level.now c.in-Some.above.now c.args.root.now c.args.block.now c.args.coming c.in-Some.ensures.cases.0 in
-    let put : c.push.new.self.items ≡ c.args.out.now.items ++ record { block = c.in-Some.level.now.next; bytes = c.args.block.now } ∷ [] =
-    c.in_ok-push.ensures.items
+    let put : c.push.new.v.items ≡ c.args.out.now.items ++ record { block = c.in-Some.level.now.next; bytes = c.args.block.now } ∷ [] =
+    c.in_ok-push.ensures.ok
     ∙ ap (λ (l : LevelRecord). c.args.out.now.items ++ record { block = l.next; bytes = c.in_ok-bytes.bytes.items } ∷ []) c.level.view_is
-    ∙ ap (λ bytes. c.args.out.now.items ++ record { block = c.in-Some.level.now.next; bytes = bytes } ∷ []) c.in_ok-bytes.ensures.items in
-    on_ok_weaker c.rise.result (λ made. rw same (put-more c.args.out.now.items c.push.new.self.items c.rise.new.out.items _ _ put made)) c.rise.ensures.out
+    ∙ ap (λ bytes. c.args.out.now.items ++ record { block = c.in-Some.level.now.next; bytes = bytes } ∷ []) c.in_ok-bytes.ensures.ok in
+    on_ok_weaker c.rise.result (λ made. rw same (put-more c.args.out.now.items c.push.new.v.items c.rise.new.out.items _ _ put made)) c.rise.ensures.out
 
 pub returns-clause-some : goal.returns-clause-some
 returns-clause-some c =
     let same = grow_block-same c.args.hash_block c.args.salt.now c.args.levels.now c.in-Some.level.now c.in-Some.above.now c.args.root.now c.args.block.now c.args.coming c.in-Some.ensures.cases.0 in
-    let put : c.push.new.self.items ≡ c.args.out.now.items ++ record { block = c.in-Some.level.now.next; bytes = c.args.block.now } ∷ [] =
-    c.in_ok-push.ensures.items
+    let put : c.push.new.v.items ≡ c.args.out.now.items ++ record { block = c.in-Some.level.now.next; bytes = c.args.block.now } ∷ [] =
+    c.in_ok-push.ensures.ok
     ∙ ap (λ (l : LevelRecord). c.args.out.now.items ++ record { block = l.next; bytes = c.in_ok-bytes.bytes.items } ∷ []) c.level.view_is
-    ∙ ap (λ bytes. c.args.out.now.items ++ record { block = c.in-Some.level.now.next; bytes = bytes } ∷ []) c.in_ok-bytes.ensures.items in
-    rw same (HasSome-more c.args.out.now.items c.push.new.self.items c.rise.new.out.items _ _ put c.rise.ensures.some)
+    ∙ ap (λ bytes. c.args.out.now.items ++ record { block = c.in-Some.level.now.next; bytes = bytes } ∷ []) c.in_ok-bytes.ensures.ok in
+    rw same (HasSome-more c.args.out.now.items c.push.new.v.items c.rise.new.out.items _ _ put c.rise.ensures.some)

@@ -1,0 +1,158 @@
+use Rattle.std.proofs.Common.{inl, inr, refl, subst, sym}
+use Rattle.std.proofs.lemmas.Result.{IfErr-weaker, on_ok_weaker}
+use Rattle.block_device.specs.Device.{Device}
+use Rattle.device_window.specs.Windows.{windowed}
+use Rattle.command_line.specs.words.FecVerify.{FecVerifyRecord, fec_verify_record}
+use Rattle.fec_area.specs.Layouts.{IsLaidOn}
+use Rattle.image_commands.specs.Comparing.{IsComparedEnd}
+use Rattle.verity_commands.specs.declared.fault.VerityFault.TheVariants.{Image}
+use Rattle.verity_format.specs.declared.verifying.Verdict.TheVariants.{Matches}
+use Rattle.verity_format.specs.Verifying.{IsTreeFound}
+use Rattle.fec_commands.specs.declared.fault.FecFault.TheVariants.{Verity}
+use Rattle.fec_commands.specs.Verifying.{EndsChecking, EndsComparing, IsUnmeasured, Measures, Parts, VerifiesParts}
+use Rattle.fec_commands.proofs.EndingLemmas.{err-from}
+use Rattle.fec_commands.proofs.VerifyingLemmas.{laid-after, parts-are}
+use Rattle.fec_commands.proofs.verifying.verify_open.Goals as goal
+
+pub returns-in_err-laid-clause-err : goal.returns-in_err-laid-clause-err
+returns-in_err-laid-clause-err g c =
+    let state = g.I.Dev.BlockDev.state in
+    let two = c.place_parts-two in
+    let v : FecVerifyRecord = fec_verify_record c.args.words.now in
+    let here = parts-are state c.args.three v _ _ c.sector_at-first.result c.data_end-end.result two.ensures.«data» two.ensures.hash c.data_end-end.ensures c.sector_at-first.ensures in
+    let fault = c.in_err-laid.field-0.0 in
+    err-from c.from_residual.result _ fault c.from_residual.ensures.1
+    (inl (subst (λ (p : Parts). IsUnmeasured p fault) here c.in_err-laid.ensures.err, (refl, refl)))
+
+pub returns-in_err-root-clause-err : goal.returns-in_err-root-clause-err
+returns-in_err-root-clause-err g c =
+    let state = g.I.Dev.BlockDev.state in
+    let read = c.measure.new.hash_dev in
+    let read_dev : Device = windowed (state read.inner) read.part in
+    let two = c.place_parts-two in
+    let v : FecVerifyRecord = fec_verify_record c.args.words.now in
+    let here = parts-are state c.args.three v _ _ c.sector_at-first.result c.data_end-end.result two.ensures.«data» two.ensures.hash c.data_end-end.ensures c.sector_at-first.ensures in
+    let cause = c.in_err-root.field-0.0 in
+    err-from c.from_residual-in_err-root.result _ (Verity (Image cause)) c.from_residual-in_err-root.ensures.1
+    (inr (inl (
+      record {
+        laid = c.in_ok-laid.laid;
+        read_dev = read_dev;
+        cause = cause;
+        measures = subst (λ (p : Parts). Measures p read_dev c.in_ok-laid.laid) here c.in_ok-laid.ensures.ok;
+        ends = c.in_err-root.ensures.err;
+        is = refl;
+      },
+      refl,
+    )))
+
+pub returns-in_err-compare-clause-err : goal.returns-in_err-compare-clause-err
+returns-in_err-compare-clause-err g c =
+    let state = g.I.Dev.BlockDev.state in
+    let read = c.measure.new.hash_dev in
+    let read_dev : Device = windowed (state read.inner) read.part in
+    let data_new : Device = windowed (state c.compare.new.two.«data».inner.inner) c.compare.new.two.«data».inner.part in
+    let hash_new : Device = windowed (state c.compare.new.two.hash.inner) c.compare.new.two.hash.part in
+    let two = c.place_parts-two in
+    let v : FecVerifyRecord = fec_verify_record c.args.words.now in
+    let here = parts-are state c.args.three v _ _ c.sector_at-first.result c.data_end-end.result two.ensures.«data» two.ensures.hash c.data_end-end.ensures c.sector_at-first.ensures in
+    let root = c.in_ok-root.root in
+    let old = g.W.Write.contents c.args.writer.now.inner in
+    let new = g.W.Write.contents c.compare.new.writer.inner in
+    let failed = c.compare.new.writer.failed in
+    let cause = c.in_err-compare.field-0.0 in
+    err-from c.from_residual-in_err-compare.result _ (Verity (Image cause)) c.from_residual-in_err-compare.ensures.1
+    (inr (inr (record {
+      root = root;
+      told = c.in_ok-root.ensures.ok;
+      ends = inl (subst (λ (p : Parts). EndsComparing p root old new failed (Verity (Image cause))) here (record {
+        cause = cause;
+        laid = c.in_ok-laid.laid;
+        read_dev = read_dev;
+        data_dev' = data_new;
+        hash_dev' = hash_new;
+        measures = c.in_ok-laid.ensures.ok;
+        ends = subst (λ (d : Device). IsComparedEnd c.in_ok-laid.laid.tree d read_dev data_new hash_new root failed cause) c.new-data.ensures.state c.in_err-compare.ensures.err;
+        is = refl;
+        quiet = c.in_err-compare.ensures.quiet;
+      }));
+    })))
+
+pub print_checked-requires : goal.print_checked-requires
+print_checked-requires g c =
+    let state = g.I.Dev.BlockDev.state in
+    let read = c.measure.new.hash_dev in
+    let read_dev : Device = windowed (state read.inner) read.part in
+    let laid = subst (λ (d : Device). IsLaidOn c.in_ok-laid.laid.layout d read_dev) (sym c.new-data.ensures.state) c.in_ok-laid.ensures.ok.lays.laid_on in
+    laid-after _ _ _ _ _ c.compare.ensures.read.0 c.compare.ensures.read.1 laid
+
+pub returns-clause-ok : goal.returns-clause-ok
+returns-clause-ok g c =
+    let state = g.I.Dev.BlockDev.state in
+    let read = c.measure.new.hash_dev in
+    let read_dev : Device = windowed (state read.inner) read.part in
+    let data_new : Device = windowed (state c.compare.new.two.«data».inner.inner) c.compare.new.two.«data».inner.part in
+    let hash_new : Device = windowed (state c.compare.new.two.hash.inner) c.compare.new.two.hash.part in
+    let two = c.place_parts-two in
+    let v : FecVerifyRecord = fec_verify_record c.args.words.now in
+    let here = parts-are state c.args.three v _ _ c.sector_at-first.result c.data_end-end.result two.ensures.«data» two.ensures.hash c.data_end-end.ensures c.sector_at-first.ensures in
+    let root = c.in_ok-root.root in
+    let laid = c.in_ok-laid.laid in
+    let old = g.W.Write.contents c.args.writer.now.inner in
+    let told = g.W.Write.contents c.compare.new.writer.inner in
+    let new = g.W.Write.contents c.print_checked.new.writer.inner in
+    on_ok_weaker c.print_checked.result
+    (λ done. record {
+      root = root;
+      told = c.in_ok-root.ensures.ok;
+      verifies = subst (λ (p : Parts). VerifiesParts p root old new) here (record {
+        told = told;
+        matches = record {
+          laid = laid;
+          read_dev = read_dev;
+          data_dev' = data_new;
+          hash_dev' = hash_new;
+          measures = c.in_ok-laid.ensures.ok;
+          found = subst (λ (d : Device). IsTreeFound laid.tree.shape laid.tree.salt d read_dev data_new hash_new root Matches) c.new-data.ensures.state c.in_ok-compare.ensures.ok.0;
+          printed = c.in_ok-compare.ensures.ok.1;
+        };
+        checks = done;
+      });
+    })
+    c.print_checked.ensures.ok
+
+pub returns-clause-err : goal.returns-clause-err
+returns-clause-err g c =
+    let state = g.I.Dev.BlockDev.state in
+    let read = c.measure.new.hash_dev in
+    let read_dev : Device = windowed (state read.inner) read.part in
+    let data_new : Device = windowed (state c.compare.new.two.«data».inner.inner) c.compare.new.two.«data».inner.part in
+    let hash_new : Device = windowed (state c.compare.new.two.hash.inner) c.compare.new.two.hash.part in
+    let two = c.place_parts-two in
+    let v : FecVerifyRecord = fec_verify_record c.args.words.now in
+    let here = parts-are state c.args.three v _ _ c.sector_at-first.result c.data_end-end.result two.ensures.«data» two.ensures.hash c.data_end-end.ensures c.sector_at-first.ensures in
+    let root = c.in_ok-root.root in
+    let laid = c.in_ok-laid.laid in
+    let failed = c.print_checked.new.writer.failed in
+    let old = g.W.Write.contents c.args.writer.now.inner in
+    let told = g.W.Write.contents c.compare.new.writer.inner in
+    let new = g.W.Write.contents c.print_checked.new.writer.inner in
+    IfErr-weaker c.print_checked.result _ _
+    (λ fault ends. inr (inr (record {
+      root = root;
+      told = c.in_ok-root.ensures.ok;
+      ends = inr (subst (λ (p : Parts). EndsChecking p root old new failed fault) here (record {
+        between = told;
+        matches = record {
+          laid = laid;
+          read_dev = read_dev;
+          data_dev' = data_new;
+          hash_dev' = hash_new;
+          measures = c.in_ok-laid.ensures.ok;
+          found = subst (λ (d : Device). IsTreeFound laid.tree.shape laid.tree.salt d read_dev data_new hash_new root Matches) c.new-data.ensures.state c.in_ok-compare.ensures.ok.0;
+          printed = c.in_ok-compare.ensures.ok.1;
+        };
+        ends = ends;
+      }));
+    })))
+    c.print_checked.ensures.err

@@ -1,0 +1,173 @@
+-- What `verify --fec` finds of an image and its parity in files that are open, what it prints, and how it ends early.
+use Rattle.std.specs.Prelude.{◌≡◌, ◌⊎◌, ℕ, ◌/◌, ◌<◌, ◌≤◌, Bool, true, List, Option, None, Some, codes}
+use Rattle.std.specs.Io.KnownBytes.{Appends}
+use Rattle.block_device.specs.Device.{Device}
+use Rattle.command_line.specs.declared.words.fec_verify.FecVerifyWords.{FecVerifyWords}
+use Rattle.command_line.specs.words.FecVerify.{FecVerifyRecord, fec_verify_record}
+use Rattle.counted_io.specs.Counted.{CountedRecord}
+use Rattle.fec_area.specs.declared.layout.Layout.{Layout}
+use Rattle.fec_area.specs.declared.writing.ParityFault.TheVariants.{TooSmall}
+use Rattle.fec_area.specs.Checking.{IsCheckCause, IsChecked}
+use Rattle.fec_area.specs.Layouts.{parity_sectors}
+use Rattle.image_files.specs.Opener.{Calls, Opener, calls}
+use Rattle.image_commands.specs.declared.comparing.ImagePair.{ImagePair}
+use Rattle.image_commands.specs.declared.fault.ImageFault.{ImageFault}
+use Rattle.image_commands.specs.Comparing.{IsComparedEnd}
+use Rattle.image_commands.specs.Endings.{IsQuiet}
+use Rattle.image_commands.specs.Places.{before, behind}
+use Rattle.verity_commands.specs.declared.fault.VerityFault.TheVariants.{Image}
+use Rattle.verity_commands.specs.Endings.{IsVerityQuiet}
+use Rattle.verity_commands.specs.Places.{IsRootEnd, TellsRoot}
+use Rattle.verity_format.specs.declared.verifying.Verdict.TheVariants.{Matches}
+use Rattle.verity_format.specs.Verifying.{IsTreeFound}
+use Rattle.fec_commands.specs.declared.fault.FecFault.{FecFault}
+use Rattle.fec_commands.specs.declared.fault.FecFault.TheVariants.{BlockSizes, Differs, Parity, Verity}
+use Rattle.fec_commands.specs.declared.image.LaidTree.{LaidTree}
+use Rattle.fec_commands.specs.declared.image.ThreeImages.{ThreeImages}
+use Rattle.fec_commands.specs.FecFaults.{unwritten}
+use Rattle.fec_commands.specs.Images.{three_data_end}
+use Rattle.fec_commands.specs.Layings.{IsLayoutEnd, LaysOut}
+
+-- ---- the parts of an image, and the device of its parity
+
+pub record Parts : Type 0 where
+  pub data_dev : Device
+  pub hash_dev : Device
+  pub parity_dev : Device
+  pub first : ℕ
+  pub roots : ℕ
+
+-- the superblock was read once, and the parity of its image has room on its device
+pub record Measures (p : Parts) (read_dev : Device) (laid : LaidTree) : Type 0 where
+  pub lays : LaysOut p.data_dev p.hash_dev p.first p.roots read_dev laid
+  pub room : parity_sectors laid.layout ≤ p.parity_dev.size
+
+-- it hasn't
+pub record IsParityShort (p : Parts) (fault : FecFault) : Type 0 where
+  pub laid : LaidTree
+  pub read_dev : Device
+  pub lays : LaysOut p.data_dev p.hash_dev p.first p.roots read_dev laid
+  pub short : p.parity_dev.size < parity_sectors laid.layout
+  pub is : fault ≡ Parity (TooSmall (parity_sectors laid.layout))
+
+-- that, or there is no layout
+abbrev pub IsUnmeasured : Parts → FecFault → Type 0
+IsUnmeasured p fault = ((read_dev : Device) × IsLayoutEnd p.data_dev p.hash_dev p.first read_dev fault) ⊎ IsParityShort p fault
+
+-- the parity is that of the image, and this is printed
+pub record ChecksParity (l : Layout) (data_dev hash_dev parity_dev : Device) (old new : Option (List ℕ)) : Type 0 where
+  pub checked : IsChecked l data_dev hash_dev parity_dev None
+  pub printed : Appends old new (codes "parity ok\n")
+
+-- it wasn't compared, or is another one from that round on, and nothing was printed; or the line can't be written
+abbrev pub IsParityEnd : Layout → Device → Device → Device → Option (List ℕ) → Option (List ℕ) → Bool → FecFault → Type 0
+IsParityEnd l data_dev hash_dev parity_dev old new failed (Parity cause) =
+    ((data_dev' : Device) × ((hash_dev' : Device) × ((parity_dev' : Device) × IsCheckCause l data_dev hash_dev parity_dev data_dev' hash_dev' parity_dev' cause))) × (new ≡ old)
+IsParityEnd l data_dev hash_dev parity_dev old new failed (Differs round) = IsChecked l data_dev hash_dev parity_dev (Some round) × (new ≡ old)
+IsParityEnd l data_dev hash_dev parity_dev old new failed fault = IsChecked l data_dev hash_dev parity_dev None × ((failed ≡ true) × (fault ≡ unwritten))
+
+-- the tree of the superblock stands over the data, under that root, and this is printed
+pub record MatchesLaid (p : Parts) (root : List ℕ) (old new : Option (List ℕ)) : Type 0 where
+  pub laid : LaidTree
+  pub read_dev : Device
+  pub data_dev' : Device
+  pub hash_dev' : Device
+  pub measures : Measures p read_dev laid
+  pub found : IsTreeFound laid.tree.shape laid.tree.salt p.data_dev read_dev data_dev' hash_dev' root Matches
+  pub printed : Appends old new (codes "matches\n")
+
+-- it doesn't, or that isn't known or printed
+pub record EndsComparing (p : Parts) (root : List ℕ) (old new : Option (List ℕ)) (failed : Bool) (fault : FecFault) : Type 0 where
+  pub cause : ImageFault
+  pub laid : LaidTree
+  pub read_dev : Device
+  pub data_dev' : Device
+  pub hash_dev' : Device
+  pub measures : Measures p read_dev laid
+  pub ends : IsComparedEnd laid.tree p.data_dev read_dev data_dev' hash_dev' root failed cause
+  pub is : fault ≡ Verity (Image cause)
+  pub quiet : IsQuiet cause old new
+
+-- it does, and the parity isn't that of the image, or isn't compared
+pub record EndsChecking (p : Parts) (root : List ℕ) (old new : Option (List ℕ)) (failed : Bool) (fault : FecFault) : Type 0 where
+  pub between : Option (List ℕ)
+  pub matches : MatchesLaid p root old between
+  pub ends : IsParityEnd matches.laid.layout matches.data_dev' matches.hash_dev' p.parity_dev between new failed fault
+
+-- both
+pub record VerifiesParts (p : Parts) (root : List ℕ) (old new : Option (List ℕ)) : Type 0 where
+  pub told : Option (List ℕ)
+  pub matches : MatchesLaid p root old told
+  pub checks : ChecksParity matches.laid.layout matches.data_dev' matches.hash_dev' p.parity_dev told new
+
+-- ---- files that are open; the arguments or a file give the root
+
+abbrev pub parts_of : {D : Type 0} → (D → Device) → ThreeImages D → FecVerifyRecord → Parts
+parts_of state three v =
+    let first = v.verify.hash_offset / 512 in
+    record {
+      data_dev = before (state three.«data».device) (three_data_end three first);
+      hash_dev = behind (state three.hash.device) first;
+      parity_dev = state three.parity.device;
+      first = first;
+      roots = v.fec.roots;
+    }
+
+pub record VerifiesThree {S D : Type 0} (w : Calls S D) (three : ThreeImages D) (v : FecVerifyRecord) (old new : Option (List ℕ)) : Type 0 where
+  pub root : List ℕ
+  pub told : TellsRoot w v.verify.root root
+  pub verifies : VerifiesParts (parts_of w.state three v) root old new
+
+-- there is no root
+pub record EndsUnrooted {S D : Type 0} (w : Calls S D) (three : ThreeImages D) (v : FecVerifyRecord) (fault : FecFault) : Type 0 where
+  pub laid : LaidTree
+  pub read_dev : Device
+  pub cause : ImageFault
+  pub measures : Measures (parts_of w.state three v) read_dev laid
+  pub ends : IsRootEnd w v.verify.root cause
+  pub is : fault ≡ Verity (Image cause)
+
+-- the image isn't the one under the root, or isn't compared; or it is, as is printed, and its parity isn't, or isn't compared
+pub record EndsRooted {S D : Type 0} (w : Calls S D) (three : ThreeImages D) (v : FecVerifyRecord) (old new : Option (List ℕ)) (failed : Bool) (fault : FecFault) : Type 0 where
+  pub root : List ℕ
+  pub told : TellsRoot w v.verify.root root
+  pub ends : EndsComparing (parts_of w.state three v) root old new failed fault ⊎ EndsChecking (parts_of w.state three v) root old new failed fault
+
+-- there is no layout, no room for the parity, or no root, and nothing was printed; or it ended later
+abbrev pub IsVerifyThreeEnd : {S D : Type 0} → Calls S D → ThreeImages D → FecVerifyRecord → Option (List ℕ) → Option (List ℕ) → Bool → FecFault → Type 0
+IsVerifyThreeEnd w three v old new failed fault =
+    (IsUnmeasured (parts_of w.state three v) fault × ((w.new ≡ w.old) × (new ≡ old))) ⊎ ((EndsUnrooted w three v fault × (new ≡ old)) ⊎ EndsRooted w three v old new failed fault)
+
+-- nothing is written ahead of what ends it, unless it is the writing that fails
+abbrev pub IsFecQuiet : FecFault → Option (List ℕ) → Option (List ℕ) → Type 0
+IsFecQuiet (Verity fault) old new = IsVerityQuiet fault old new
+IsFecQuiet BlockSizes old new = new ≡ old
+IsFecQuiet (Parity fault) old new = new ≡ old
+IsFecQuiet (Differs round) old new = new ≡ old
+
+-- ---- the same by what devices of any kind are, an opener and a writer, each before and after, and the program's own words
+
+abbrev pub parts_by : {D H P : Type 0} → (D → Device) → (H → Device) → (P → Device) → D → H → P → ℕ → ℕ → Parts
+parts_by data_state hash_state parity_state d h p first roots = record { data_dev = data_state d; hash_dev = hash_state h; parity_dev = parity_state p; first = first; roots = roots }
+
+abbrev pub MeasuresBy : {D H P : Type 0} → (D → Device) → (H → Device) → (P → Device) → D → H → P → ℕ → ℕ → H → LaidTree → Type 0
+MeasuresBy data_state hash_state parity_state d h p first roots h' = Measures (parts_by data_state hash_state parity_state d h p first roots) (hash_state h')
+
+abbrev pub IsUnmeasuredBy : {D H P : Type 0} → (D → Device) → (H → Device) → (P → Device) → D → H → P → ℕ → ℕ → FecFault → Type 0
+IsUnmeasuredBy data_state hash_state parity_state d h p first roots = IsUnmeasured (parts_by data_state hash_state parity_state d h p first roots)
+
+abbrev pub PrintsParity : {D H P W : Type 0} → Layout → (D → Device) → (H → Device) → (P → Device) → ImagePair D H → P → (W → Option (List ℕ)) → CountedRecord W → CountedRecord W → Type 0
+PrintsParity l data_state hash_state parity_state two parity contents writer writer' =
+    ChecksParity l (data_state two.«data») (hash_state two.hash) (parity_state parity) (contents writer.inner) (contents writer'.inner)
+
+abbrev pub FailsToCheckParity : {D H P W : Type 0} → Layout → (D → Device) → (H → Device) → (P → Device) → ImagePair D H → P → (W → Option (List ℕ)) → CountedRecord W → CountedRecord W → FecFault → Type 0
+FailsToCheckParity l data_state hash_state parity_state two parity contents writer writer' =
+    IsParityEnd l (data_state two.«data») (hash_state two.hash) (parity_state parity) (contents writer.inner) (contents writer'.inner) writer'.failed
+
+abbrev pub VerifiesOpen : {S D W : Type 0} → Opener S D → (D → Device) → S → S → ThreeImages D → FecVerifyWords → (W → Option (List ℕ)) → CountedRecord W → CountedRecord W → Type 0
+VerifiesOpen relations state old new three words contents writer writer' =
+    VerifiesThree (calls relations state old new) three (fec_verify_record words) (contents writer.inner) (contents writer'.inner)
+
+abbrev pub FailsToVerifyOpen : {S D W : Type 0} → Opener S D → (D → Device) → S → S → ThreeImages D → FecVerifyWords → (W → Option (List ℕ)) → CountedRecord W → CountedRecord W → FecFault → Type 0
+FailsToVerifyOpen relations state old new three words contents writer writer' =
+    IsVerifyThreeEnd (calls relations state old new) three (fec_verify_record words) (contents writer.inner) (contents writer'.inner) writer'.failed

@@ -1,0 +1,104 @@
+//! `verify --fec`: an image and its parity, compared over files that are opened once.
+ghost use Rattle.std.specs.Prelude.{IfErr, IfOk, OnOk};
+ghost use Rattle.fec_area.specs.Layouts.{IsLaidOn};
+ghost use Rattle.fec_commands.specs.Layings.{IsRoots};
+ghost use Rattle.fec_commands.specs.Verifying.{FailsToCheckParity, FailsToVerifyOpen, IsUnmeasuredBy, MeasuresBy, PrintsParity, VerifiesOpen};
+
+use crate::fault::FecFault;
+use crate::image::{LaidTree, ThreeImages, data_end, lay_out};
+use block_device::BlockDev;
+use command_line::FecVerifyWords;
+use counted_io::Counted;
+use fec_area::{Layout, ParityFault, check_parity};
+use image_commands::{Bounds, ImagePair, compare, place_parts};
+use image_files::{Images, OpenImage};
+use std::alloc::Global;
+use std::io::Write;
+use verity_commands::{root_in, sector_at};
+use watched_device::{Watched, Watchers, bytes_before, watcher_of};
+
+/// Compares an image with its tree, and then its parity with the one in a file. The superblock is read once.
+pub(crate) fn verify_open<'a, I: Images, S: Watchers, W: Write>(
+    alloc: Global,
+    images: &mut I,
+    watchers: &S,
+    three: ThreeImages<I::Dev>,
+    words: &FecVerifyWords<'a>,
+    writer: &mut Counted<W>,
+) -> Result<(), FecFault<'a>>
+    requires { IsRoots words.now.fec.roots }
+    ensures ok { OnOk result (VerifiesOpen I.relations I.Dev.state images.old images.new three words.now W.contents writer.old writer.new) }
+    ensures err { IfErr result (FailsToVerifyOpen I.relations I.Dev.state images.old images.new three words.now W.contents writer.old writer.new) }
+{
+    let first = sector_at(words.verify.hash_offset);
+    let end = data_end(&three, first);
+    let all = bytes_before(&three.data.device, end);
+    let ThreeImages {
+        data: OpenImage {
+            device: data_dev,
+            id: _,
+        },
+        hash: OpenImage {
+            device: hash_dev,
+            id: _,
+        },
+        parity: OpenImage {
+            device: mut parity_dev,
+            id: _,
+        },
+    } = three;
+    let mut two = place_parts(data_dev, hash_dev, Bounds { end, first });
+    let roots = words.fec.roots;
+    let laid = measure(&two.data, &mut two.hash, &parity_dev, first, roots)?;
+    let root = root_in(images, &words.verify.root)?;
+    let watcher = watcher_of(watchers, words.verify.progress);
+    let ImagePair { data, hash } = two;
+    let data = Watched::new(data, watcher, all);
+    let mut watched = ImagePair { data, hash };
+    compare(alloc, &mut watched, &laid.tree, &root, writer)?;
+    let ImagePair { data, hash } = watched;
+    let data = data.inner;
+    let mut parts = ImagePair { data, hash };
+    print_checked(alloc, &mut parts, &laid.layout, &mut parity_dev, writer)
+}
+
+// The tree of an image, and how its parity lies across it, which has all its sectors on its device.
+fn measure<'a, D: BlockDev, H: BlockDev, P: BlockDev>(
+    data_dev: &D,
+    hash_dev: &mut H,
+    parity: &P,
+    first: u64,
+    roots: u32,
+) -> Result<LaidTree, FecFault<'a>>
+    requires { IsRoots roots }
+    ensures ok { IfOk result (MeasuresBy D.state H.state P.state data_dev.now hash_dev.old parity.now first roots hash_dev.new) }
+    ensures err { IfErr result (IsUnmeasuredBy D.state H.state P.state data_dev.now hash_dev.old parity.now first roots) }
+{
+    let laid = lay_out(data_dev, hash_dev, first, roots)?;
+    let needed = laid.layout.parity_sectors();
+    if parity.sectors() < needed {
+        return Err(FecFault::Parity(ParityFault::TooSmall { needed }));
+    }
+    Ok(laid)
+}
+
+// Compares the parity, and prints that it is the image's. Another one is the fault `Differs`.
+fn print_checked<'a, D: BlockDev, H: BlockDev, P: BlockDev, W: Write>(
+    alloc: Global,
+    two: &mut ImagePair<D, H>,
+    layout: &Layout,
+    parity: &mut P,
+    writer: &mut Counted<W>,
+) -> Result<(), FecFault<'a>>
+    requires { IsLaidOn layout.now (D.state two.old.data) (H.state two.old.hash) }
+    ensures ok { OnOk result (PrintsParity layout.now D.state H.state P.state two.old parity.old W.contents writer.old writer.new) }
+    ensures err { IfErr result (FailsToCheckParity layout.now D.state H.state P.state two.old parity.old W.contents writer.old writer.new) }
+{
+    match check_parity(alloc, layout, &mut two.data, &mut two.hash, parity)? {
+        Some(round) => Err(FecFault::Differs(round)),
+        None => {
+            writer.put(b"parity ok\n")?;
+            Ok(())
+        }
+    }
+}

@@ -1,0 +1,35 @@
+-- How commands end that find no tree, or compare one with what devices hold.
+use Rattle.std.proofs.Common.{ℕ, Bool, List, inl, inr, refl}
+use Rattle.block_device.specs.Device.{Device}
+use Rattle.verity_format.specs.Superblock.{SuperRecord}
+use Rattle.verity_format.specs.Trees.{tree_alone}
+use Rattle.image_commands.specs.declared.fault.ImageFault.{ImageFault}
+use Rattle.image_commands.specs.declared.fault.ImageFault.TheVariants.{DataOverlapsTree, NoMemory, Open, Format, Verify, Differs, Pin, PinUnwritten, RootText, Unaligned, Unpinned, Random, Write}
+use Rattle.image_commands.specs.declared.finding.NoTree.{NoTree}
+use Rattle.image_commands.specs.declared.finding.NoTree.TheVariants.{Unread, Unaligned as Misplaced}
+use Rattle.image_commands.specs.Comparing.{IsComparedEnd}
+use Rattle.image_commands.specs.Finding.{IsNoTree, no_tree_fault}
+use Rattle.image_commands.specs.PlacedImages.{IsPlacedSuperEnd}
+use Rattle.image_commands.specs.Places.{behind}
+use Rattle.image_commands.specs.TreeImages.{IsTreeComparisonEnd}
+
+pub no-tree-end : (device device' : Device) (first : ℕ) (failed : Bool) (fault : NoTree) → IsNoTree (behind device first) first device' fault → IsPlacedSuperEnd device first failed (no_tree_fault fault)
+no-tree-end device device' first failed (Unread fault) cause = inl (device', cause)
+no-tree-end device device' first failed Misplaced cause = inr (cause, refl)
+
+-- of a tree without a superblock
+pub compared-alone : (s : SuperRecord) (d h d' h' : Device) (first : ℕ) (root : List ℕ) (failed : Bool) (fault : ImageFault)
+    → IsComparedEnd (tree_alone s) d (behind h first) d' h' root failed fault → IsTreeComparisonEnd s d h first root failed fault
+compared-alone s d h d' h' first root failed (Verify fault) end = (d', (h', end))
+compared-alone s d h d' h' first root failed (Differs verdict) (apart, found) = (apart, (d', (h', found)))
+compared-alone s d h d' h' first root failed (Format fault) end = absurd end
+compared-alone s d h d' h' first root failed NoMemory end = end
+compared-alone s d h d' h' first root failed (Open file) end = end
+compared-alone s d h d' h' first root failed RootText end = end
+compared-alone s d h d' h' first root failed Unaligned end = end
+compared-alone s d h d' h' first root failed DataOverlapsTree end = end
+compared-alone s d h d' h' first root failed (Pin fault) end = end
+compared-alone s d h d' h' first root failed (Unpinned mismatch) end = end
+compared-alone s d h d' h' first root failed (PinUnwritten fault) end = end
+compared-alone s d h d' h' first root failed Random end = end
+compared-alone s d h d' h' first root failed Write end = end

@@ -1,0 +1,68 @@
+//! Whether two paths lead to one place.
+ghost use Rattle.std.specs.Prelude.{◌≡◌, true, IfErr, IfOk};
+ghost use Rattle.block_device.specs.declared.open_fault.OpenFault.TheVariants as open_fault;
+
+use crate::one_file::is_one_file;
+use block_device::{FileId, OpenFault, metadata_at};
+use std::fs::File;
+use std::rt::Files;
+use text_files::{FileCalls, ReplaceFault, SystemCalls, folder_and_name};
+
+/// Whether both paths lead to one name in one folder, after the symbolic links at their ends.
+///
+/// # Errors
+///
+/// `NoMemory`.
+pub fn is_one_place<R: Files<File = File> + AllocGlobal>(
+    rt: &R,
+    path: &str,
+    other: &str,
+) -> Result<bool, OpenFault>
+    ensures equal { IfOk result (λ one. path.now ≡ other.now → one ≡ true) }
+    ensures err { IfErr result (λ fault. fault ≡ open_fault.NoMemory) }
+{
+    if path == other {
+        return Ok(true);
+    }
+    let Some(target) = target_of(rt, path)? else {
+        return Ok(false);
+    };
+    let Some(other_target) = target_of(rt, other)? else {
+        return Ok(false);
+    };
+    let (folder, name) = folder_and_name(target.as_str());
+    let (other_folder, other_name) = folder_and_name(other_target.as_str());
+    if name != other_name {
+        return Ok(false);
+    }
+    Ok(is_one_file(id_at(rt, folder)?, id_at(rt, other_folder)?))
+}
+
+/// The path with the symbolic links at its end followed, if they can be.
+///
+/// # Errors
+///
+/// `NoMemory`.
+pub fn target_of<R: Files<File = File> + AllocGlobal>(
+    rt: &R,
+    path: &str,
+) -> Result<Option<String>, OpenFault>
+    ensures { IfErr result (λ fault. fault ≡ open_fault.NoMemory) }
+{
+    match SystemCalls::new(rt).resolve(path) {
+        Ok(target) => Ok(Some(target)),
+        Err(ReplaceFault::NoMemory) => Err(OpenFault::NoMemory),
+        Err(_) => Ok(None),
+    }
+}
+
+// Which file or folder is under a path, if the system says so.
+fn id_at<R: Files>(rt: &R, path: &str) -> Result<Option<FileId>, OpenFault>
+    ensures { IfErr result (λ fault. fault ≡ open_fault.NoMemory) }
+{
+    match metadata_at(rt, path) {
+        Ok(metadata) => Ok(FileId::of(&metadata)),
+        Err(OpenFault::NoMemory) => Err(OpenFault::NoMemory),
+        Err(_) => Ok(None),
+    }
+}
