@@ -16,8 +16,8 @@ use Rattle.rescue_files.specs.MapFiles.{MapPathRecord, map_path_of}
 use Rattle.rescue_files.specs.declared.map_file.MapFile.{MapFile}
 use Rattle.rescue_files.specs.declared.map_file.MapPath.{MapPath}
 use Rattle.rescue_files.specs.declared.turns.NextTurn.{NextTurn}
-use Rattle.rescue_files.specs.declared.fault.RescueFault.{RescueFault}
-use Rattle.rescue_files.specs.declared.fault.RescueFault.TheVariants.{NoMemory, Output, Unwritten}
+use Rattle.rescue_files.specs.declared.fault.PassFault.{PassFault}
+use Rattle.rescue_files.specs.declared.fault.PassFault.TheVariants.{NoMemory, Output, Unwritten}
 
 -- what puts bytes under a path
 abbrev pub Replaces : Type 0 → Type 1
@@ -96,7 +96,7 @@ pub record RescuesInTurns {S : Type 0} (k : Kept S) (first : Progressed S) (imag
   pub counted : totals ≡ map_totals runs
 
 -- a map isn't put in the place of the one before: its text is refused, or memory ran out before
-abbrev pub IsMapUnwritten : {S : Type 0} → Replaces S → List ℕ → S → List ℕ → S → RescueFault → Type 0
+abbrev pub IsMapUnwritten : {S : Type 0} → Replaces S → List ℕ → S → List ℕ → S → PassFault → Type 0
 IsMapUnwritten replaces path old text new NoMemory = new ≡ old
 IsMapUnwritten replaces path old text new (Unwritten fault) = replaces old path text (Err fault) new
 IsMapUnwritten replaces path old text new other = ⊥
@@ -106,14 +106,14 @@ abbrev pub IsUnfailed : Sides → Sides → Type 0
 IsUnfailed old new = new.out.failures ≡ old.out.failures
 
 -- why the turn after some ended early: the map that stands is the last one that was put in its place
-abbrev pub StopsIn : {S : Type 0} → Kept S → Progressed S → S → Sides → RescueFault → Type 0
+abbrev pub StopsIn : {S : Type 0} → Kept S → Progressed S → S → Sides → PassFault → Type 0
 StopsIn k now images new NoMemory = (images ≡ now.images) × IsUnfailed now.sides new
 StopsIn k now images new Output = (images ≡ now.images) × HasFailed now.sides.out new.out × (IsTrue now.sides.out.never_fails → ⊥)
 StopsIn k now images new (Unwritten fault) = (text : List ℕ) × k.replaces now.images k.file.path text (Err fault) images × IsUnfailed now.sides new
 StopsIn k now images new other = ⊥
 
 -- some turns were ended, and the next one wasn't
-pub record IsTurnsEnd {S : Type 0} (k : Kept S) (first : Progressed S) (images : S) (new : Sides) (fault : RescueFault) : Type 0 where
+pub record IsTurnsEnd {S : Type 0} (k : Kept S) (first : Progressed S) (images : S) (new : Sides) (fault : PassFault) : Type 0 where
   pub now : Progressed S
   pub turns : Turns k first now
   pub stops : StopsIn k now images new fault
@@ -125,7 +125,7 @@ abbrev pub TakesTurn : {S O L : Type 0} → Replaces S → (O → Device) → (L
 TakesTurn replaces state told d turn images old images' new map =
     IsTurn (kept replaces (map_path_of turn.file) d turn.sectors) (progressed images (seen_sides state told old) turn.map.now turn.span.first) (progressed images' (seen_sides state told new) map (turn.span.first + turn.span.count))
 
-abbrev pub StopsTurn : {S O L : Type 0} → Replaces S → (O → Device) → (L → Listed) → ℕ → NextTurn → S → Parties O L → S → Parties O L → RescueFault → Type 0
+abbrev pub StopsTurn : {S O L : Type 0} → Replaces S → (O → Device) → (L → Listed) → ℕ → NextTurn → S → Parties O L → S → Parties O L → PassFault → Type 0
 StopsTurn replaces state told d turn images old images' new fault =
     StopsIn (kept replaces (map_path_of turn.file) d turn.sectors) (progressed images (seen_sides state told old) turn.map.now turn.span.first) images' (seen_sides state told new) fault
 
@@ -134,10 +134,10 @@ abbrev pub RescuesByFile : {S O L : Type 0} → Replaces S → (O → Device) �
 RescuesByFile replaces state told d kept_map images old images' new totals =
     RescuesInTurns (kept replaces (map_path_of kept_map.file) d (size old.stack.config (mapped d))) (progressed images (seen_sides state told old) kept_map.map 0) images' (seen_sides state told new) totals
 
-abbrev pub StopsByFile : {S O L : Type 0} → Replaces S → (O → Device) → (L → Listed) → ℕ → MapFile → S → Parties O L → S → Parties O L → RescueFault → Type 0
+abbrev pub StopsByFile : {S O L : Type 0} → Replaces S → (O → Device) → (L → Listed) → ℕ → MapFile → S → Parties O L → S → Parties O L → PassFault → Type 0
 StopsByFile replaces state told d kept_map images old images' new fault =
     IsTurnsEnd (kept replaces (map_path_of kept_map.file) d (size old.stack.config (mapped d))) (progressed images (seen_sides state told old) kept_map.map 0) images' (seen_sides state told new) fault
 
 -- the map of a file isn't replaced by this one
-abbrev pub LeavesMap : {S : Type 0} → Replaces S → MapPath → S → Option ℕ → List Run → S → RescueFault → Type 0
+abbrev pub LeavesMap : {S : Type 0} → Replaces S → MapPath → S → Option ℕ → List Run → S → PassFault → Type 0
 LeavesMap replaces file images tried map images' = IsMapUnwritten replaces file.path.now images (map_text file.kind tried map) images'

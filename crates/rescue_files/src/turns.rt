@@ -6,7 +6,7 @@ ghost use Rattle.stack_rules.specs.Names.{mapped, size};
 ghost use Rattle.stack_recovery.specs.Recoveries.{parties};
 ghost use Rattle.rescue_files.specs.Turns.{IsSpan, LeavesMap, RescuesByFile, StopsByFile, StopsTurn, TakesTurn, asked_marks, tried_before, turn_len};
 
-use crate::fault::RescueFault;
+use crate::fault::PassFault;
 use crate::map_file::{MapFile, MapPath};
 use block_device::{BlockDev, SyncDev};
 use image_files::Images;
@@ -50,13 +50,13 @@ fn tried_before(sectors: u64, at: u64) -> Option<u64>
 }
 
 // Puts a map, whose sectors before one were tried, in the place of the one before.
-fn write_map<I: Images>(
+fn write_map<'a, I: Images>(
     alloc: Global,
     images: &mut I,
     file: MapPath<'_>,
     map: &Map,
     tried: Option<u64>,
-) -> Result<(), RescueFault>
+) -> Result<(), PassFault<'a>>
     ensures ok { OnOk result (I.relations.replaces images.old file.entry.path.now (map_text file.entry.kind tried map.now) (Ok tt) images.new) }
     ensures err { IfErr result (LeavesMap I.relations.replaces file.entry images.old tried map.now images.new) }
 {
@@ -75,7 +75,7 @@ struct NextTurn<'a> {
 }
 
 // Asks the sectors, and puts the map that says what was had in the place of the one before.
-fn take_turn<I: Images, D: BlockDev, O: SyncDev, L: Listing, P: Progress>(
+fn take_turn<'a, I: Images, D: BlockDev, O: SyncDev, L: Listing, P: Progress>(
     alloc: Global,
     images: &mut I,
     stack: &mut Stack<D>,
@@ -84,7 +84,7 @@ fn take_turn<I: Images, D: BlockDev, O: SyncDev, L: Listing, P: Progress>(
     turn: NextTurn<'_>,
     listing: &mut L,
     progress: &mut P,
-) -> Result<Map, RescueFault>
+) -> Result<Map, PassFault<'a>>
     requires device { d.0 < length stack.old.config.devices }
     requires next { IsSpan turn.sectors turn.span.first turn.span (turn.span.first + turn.span.count) }
     requires all { turn.sectors ≡ size stack.old.config (mapped d.0) }
@@ -112,7 +112,7 @@ fn take_turn<I: Images, D: BlockDev, O: SyncDev, L: Listing, P: Progress>(
 /// # Errors
 ///
 /// The map that then stands is that of the turns before.
-pub fn rescue_in_turns<I: Images, D: BlockDev, O: SyncDev, L: Listing, P: Progress>(
+pub fn rescue_in_turns<'a, I: Images, D: BlockDev, O: SyncDev, L: Listing, P: Progress>(
     alloc: Global,
     images: &mut I,
     stack: &mut Stack<D>,
@@ -121,7 +121,7 @@ pub fn rescue_in_turns<I: Images, D: BlockDev, O: SyncDev, L: Listing, P: Progre
     kept: MapFile<'_>,
     listing: &mut L,
     progress: &mut P,
-) -> Result<Totals, RescueFault>
+) -> Result<Totals, PassFault<'a>>
     requires device { d.0 < length stack.old.config.devices }
     requires fits { length (marks kept.map) ≡ size stack.old.config (mapped d.0) }
     requires room { size stack.old.config (mapped d.0) ≤ (O.state out.old).size }

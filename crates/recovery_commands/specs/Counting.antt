@@ -1,15 +1,13 @@
--- What the commands that go over a device have in common.
+-- How many sectors of a device are readable, and how many are lost.
 use Rattle.std.specs.Prelude.{◌≡◌, ℕ, ◌<◌, ◌++◌, Bool, true, false, List, codes, decimal, Option}
 use Rattle.std.specs.Io.KnownBytes.{Appends}
-use Rattle.block_device.specs.Device.{Device}
 use Rattle.counted_io.specs.Counted.{CountedRecord}
+use Rattle.rescue_files.specs.declared.fault.PassFault.{PassFault}
 use Rattle.stack_making.specs.declared.fault.StackFault.{StackFault}
-use Rattle.stack_recovery.specs.declared.fault.RecoveryFault.TheVariants as recovery
 use Rattle.stack_recovery.specs.declared.recovery.Counts.{Counts}
 use Rattle.stack_recovery.specs.Listings.{Listed, listed}
-use Rattle.stack_recovery.specs.Recoveries.{IsRecoveryEnd, Parties, Sides, seen_sides}
 use Rattle.recovery_commands.specs.declared.fault.RecoveringFault.{RecoveringFault}
-use Rattle.recovery_commands.specs.declared.fault.RecoveringFault.TheVariants.{Lost, NoMemory, OutputFailed, Stack, Write}
+use Rattle.recovery_commands.specs.declared.fault.RecoveringFault.TheVariants.{Lost, Pass, Stack, Write}
 
 -- a relation of what a counted writer held before and what it holds then; and of that, whether it failed, and a fault
 abbrev pub PrintedBy : {T : Type 0} → (T → Option (List ℕ)) → CountedRecord T → CountedRecord T → (Option (List ℕ) → Option (List ℕ) → Type 0) → Type 0
@@ -23,18 +21,14 @@ abbrev pub IsRecoveryStackless : (StackFault → Type 0) → RecoveringFault →
 IsRecoveryStackless Fails (Stack fault) = Fails fault
 IsRecoveryStackless Fails fault = ⊥
 
--- how many sectors of a device were had, and how many are lost
+-- the pass over the device ended early
+abbrev pub IsPassEnd : (PassFault → Type 0) → RecoveringFault → Type 0
+IsPassEnd Ends (Pass fault) = Ends fault
+IsPassEnd Ends fault = ⊥
+
+-- how many sectors of a device are readable, and how many are lost
 abbrev pub counts_text : ℕ → ℕ → List ℕ
 counts_text read lost = codes "read " ++ (decimal read ++ (codes " lost " ++ (decimal lost ++ codes "\n")))
-
--- the ends of a recovery as a command's
-abbrev pub IsRecoverEnd : ℕ → Sides → Sides → RecoveringFault → Type 0
-IsRecoverEnd d old new NoMemory = IsRecoveryEnd d old new recovery.NoMemory
-IsRecoverEnd d old new OutputFailed = IsRecoveryEnd d old new recovery.Output
-IsRecoverEnd d old new fault = ⊥
-
-abbrev pub EndsRecovering : {O L : Type 0} → (O → Device) → (L → Listed) → ℕ → Parties O L → Parties O L → RecoveringFault → Type 0
-EndsRecovering state told d old new fault = IsRecoverEnd d (seen_sides state told old) (seen_sides state told new) fault
 
 -- what a counted writer holds, and whether it failed
 abbrev pub listed_by : {T : Type 0} → (T → Option (List ℕ)) → CountedRecord T → Listed
