@@ -27,7 +27,7 @@ abbrev pub is_missing : OpenFault → Bool
 is_missing NotFound = true
 is_missing fault = false
 
--- the file under that path was told
+-- the opener returned the text of the file under that path
 abbrev pub TellsMap : {S D : Type 0} → Calls S D → List ℕ → FileText → Type 0
 TellsMap w path text = w.relations.tells w.old path most_map (Ok text) w.new
 
@@ -36,11 +36,11 @@ abbrev pub continues : MapKind → MapKind → Bool
 continues Copy Scan = false
 continues kind read = true
 
--- of each sector, whether it was had before: by the runs of a text, if they are continued
+-- of each sector, whether it was read before: by the runs of a text, if they are continued
 abbrev pub marks_before : MapKind → List ℕ → ℕ → List Run → List Bool
 marks_before kind text sectors runs = if continues kind (kind_of text) then marks runs else replicate sectors false
 
--- the runs with which a map of a kind begins, where a text is a map of a device of so many sectors
+-- the runs with which a map of a kind begins, if a text is a map of a device of so many sectors
 pub record IsMapOfText (kind : MapKind) (text : List ℕ) (sectors : ℕ) (runs : List Run) : Type 0 where
   pub read : List Run
   pub says : map_of sectors text ≡ Ok read
@@ -61,13 +61,13 @@ map_path_of file = map_path file.path.now file.kind
 abbrev pub map_at : Option (List ℕ) → MapKind → Option MapPathRecord
 map_at path kind = option_map (λ p. map_path p kind) path
 
--- it begins with what the file says
+-- it begins with the marks of the file
 pub record IsMapTold {S D : Type 0} (w : Calls S D) (file : MapPathRecord) (sectors : ℕ) (runs : List Run) : Type 0 where
   pub text : FileText
   pub told : TellsMap w file.path text
   pub says : IsMapOfText file.kind text.bytes.items sectors runs
 
--- or there is none, and no sector was had
+-- or there is no file, and no sector was read before
 pub record IsMapNew {S D : Type 0} (w : Calls S D) (path : List ℕ) (sectors : ℕ) (runs : List Run) : Type 0 where
   pub missing : w.relations.tells w.old path most_map (Err NotFound) w.new
   pub unread : marks runs ≡ replicate sectors false

@@ -13,7 +13,7 @@ use std::alloc::Global;
 
 const MOST_TEXT: usize = 1 << 24;
 
-/// The path of a map file, and what its map is of.
+/// The path of a map file, and the kind of the map that is kept there.
 #[derive(Clone, Copy, Debug, PartialEq, Eq)]
 pub struct MapPath<'a> {
     pub path: &'a str,
@@ -28,19 +28,20 @@ pub fn map_at<'a>(path: Option<&'a str>, kind: MapKind) -> Option<MapPath<'a>>
     Some(MapPath { path, kind })
 }
 
-/// A map of a device, which is kept under a path.
+/// A map of a device, and the file in which it is kept.
 #[derive(Drop)]
 pub struct MapFile<'a> {
     pub file: MapPath<'a>,
     pub map: Map,
 }
 
-/// The map of a device of so many sectors in a file. If there is no file, no sector was had; nor if the file has a scan's map
-/// and the map is to be a copy's.
+/// The map of a device of so many sectors in a file. If there is no file, no sector was read before; nor if the file has a
+/// scan's map and the map is to be a copy's.
 ///
 /// # Errors
 ///
-/// `Unread`, `TooLong` or `NoMap`, or `NoMemory`.
+/// `Unread` if the file can't be read, `TooLong` if it has more than 16 MiB, `NoMap` if it isn't a map of the device, or
+/// `NoMemory`.
 pub fn read_map<'a, I: Images>(
     alloc: Global,
     images: &mut I,
@@ -69,7 +70,7 @@ pub fn read_map<'a, I: Images>(
     }
 }
 
-// The map in a text, or one of no sector that was had if a map of the kind doesn't continue it.
+// The map in a text, or one of no sector that was read before if a map of the kind doesn't continue it.
 fn map_in<'a>(alloc: Global, kind: MapKind, text: &[u8], sectors: u64) -> Result<Map, PassFault<'a>>
     requires { sectors ≤ 2 ^ 54 }
     ensures ok { IfOk result (IsMapOfText kind text.now sectors) }
@@ -106,7 +107,7 @@ fn is_missing(fault: OpenFault) -> bool
     }
 }
 
-// A map of so many sectors, of which none was had.
+// A map of so many sectors, of which none was read before.
 fn new_map<'a>(alloc: Global, sectors: u64) -> Result<Map, PassFault<'a>>
     requires { sectors ≤ 2 ^ 54 }
     ensures ok { IfOk result (λ map. marks map ≡ replicate sectors false) }
