@@ -1,11 +1,12 @@
 -- Reports of passes of which more is known.
 use Rattle.std.proofs.Common.{◌≡◌, ℕ, Bool, false, List, [], Option, Some, inl, inr, ap, ◌∙◌}
+use Rattle.stack_recovery.specs.declared.listing.KeptRuns.{KeptRuns}
 use Rattle.stack_recovery.specs.declared.recovery.Counts.{Counts}
 use Rattle.stack_recovery.specs.Listings.{Listed, listed}
 use Rattle.stack_recovery.specs.LostRuns.{LostRun}
 use Rattle.stack_recovery.specs.Texts.{lost_text}
 use Rattle.recovery_commands.specs.declared.fault.RecoveringFault.{RecoveringFault}
-use Rattle.recovery_commands.specs.Reports.{Early, IsUnreported, Reports, Whole}
+use Rattle.recovery_commands.specs.Reports.{AreKept, Early, IsUnreported, Reports, Whole, kept_text}
 
 pub reports-more : (P Q : Whole) (json : Bool) (old new : Option (List ℕ)) → ((before : Listed) (counts : Counts) (told : Listed) → P before counts told → Q before counts told)
     → Reports P json old new → Reports Q json old new
@@ -34,3 +35,7 @@ unreported-more S T P Q json old new failed fault stops more (inr l) = inr (reco
 -- at first no run is kept
 pub none-kept : (runs : List LostRun) (refused : Bool) → runs ≡ [] → refused ≡ false → listed (Some (lost_text runs)) refused ≡ listed (Some []) false
 none-kept runs refused none kept = ap (λ (rs : List LostRun). listed (Some (lost_text rs)) refused) none ∙ ap (λ (b : Bool). listed (Some []) b) kept
+
+-- none was refused
+abbrev pub all-kept : (kept : KeptRuns) → kept.refused ≡ false → AreKept (kept_text kept)
+all-kept kept is = record { runs = kept.runs.items; same = ap (λ (b : Bool). listed (Some (lost_text kept.runs.items)) b) is }

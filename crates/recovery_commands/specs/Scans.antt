@@ -8,11 +8,12 @@ use Rattle.rescue_files.specs.MapFiles.{map_at}
 use Rattle.rescue_files.specs.Passes.{Moving, Passes, StopsPass, moving}
 use Rattle.rescue_map.specs.declared.kind.MapKind.TheVariants as map_kind
 use Rattle.stack_making.specs.NamedDevices.{DevicePlace, DeviceWords, FailsToFindDevice, FindsDevice, words_for}
+use Rattle.stack_engine.specs.Stacks.{StackRecord}
 use Rattle.stack_opening.specs.declared.stack_file.StackFile.{StackFile}
 use Rattle.stack_recovery.specs.declared.discard.Discard.{Discard}
 use Rattle.stack_recovery.specs.declared.recovery.Counts.{Counts}
 use Rattle.stack_recovery.specs.Listings.{Listed}
-use Rattle.stack_recovery.specs.Recoveries.{Sides, sides}
+use Rattle.stack_recovery.specs.Recoveries.{sides}
 use Rattle.recovery_commands.specs.declared.fault.RecoveringFault.{RecoveringFault}
 use Rattle.recovery_commands.specs.declared.scan.ScanPlan.{ScanPlan}
 use Rattle.recovery_commands.specs.Counting.{IsPassEnd, IsRecoveryStackless}
@@ -34,22 +35,22 @@ words_to_scan file plan = scan_words (words_for file plan.device) (option_map (�
 pub record Scans {S D : Type 0} (w : Calls S D) (words : ScanWords) (before : Listed) (counts : Counts) (told : Listed) : Type 0 where
   pub at : DevicePlace
   pub out : Device
-  pub left : Sides
+  pub out' : Device
+  pub left : StackRecord
   pub between : S
   pub found : FindsDevice (record w { new = between }) words.words at
-  pub passed : Passes (record w { old = between }) (map_at words.map map_kind.Scan) at.d (moving (sides at.stack out before) left) counts
-  pub same : left.printed ≡ told
+  pub passed : Passes (record w { old = between }) (map_at words.map map_kind.Scan) at.d (moving (sides at.stack out before) (sides left out' told)) counts
 
--- it was begun, and ended early, though no device failed to which it copies
+-- the scan was begun and ended early; the device to which it copies never fails
 pub record StopsScan {S D : Type 0} (w : Calls S D) (words : ScanWords) (before : Listed) (fault : RecoveringFault) (told : Listed) : Type 0 where
   pub at : DevicePlace
   pub out : Device
-  pub left : Sides
+  pub out' : Device
+  pub left : StackRecord
   pub between : S
   pub found : FindsDevice (record w { new = between }) words.words at
   pub sure : IsTrue out.never_fails
-  pub stops : IsPassEnd (StopsPass (record w { old = between }) (map_at words.map map_kind.Scan) at.d (moving (sides at.stack out before) left)) fault
-  pub same : left.printed ≡ told
+  pub stops : IsPassEnd (StopsPass (record w { old = between }) (map_at words.map map_kind.Scan) at.d (moving (sides at.stack out before) (sides left out' told))) fault
 
 -- no sector is lost, and all was reported
 abbrev pub PrintsScan : {S D : Type 0} → Calls S D → ScanWords → Option (List ℕ) → Option (List ℕ) → Type 0

@@ -32,11 +32,11 @@ pub returns-clause-ok : goal.returns-clause-ok
 returns-clause-ok g c = on_ok_weaker c.report_scan.result (λ told. reports-more _ _ _ _ _ (λ before counts told passed. record {
   at = device_place c.in_ok-stack.stack c.in_ok-stack.device.0;
   out = _;
+  out' = _;
   left = _;
   between = c.open_device.new.images;
   found = c.in_ok-stack.ensures.ok;
   passed = passed;
-  same = refl;
 }) told) c.report_scan.ensures.ok
 
 pub returns-clause-err : goal.returns-clause-err
@@ -44,20 +44,20 @@ returns-clause-err g c = IfErr-weaker c.report_scan.result _ _ (λ fault ends. i
     (λ before told stops. record {
       at = device_place c.in_ok-stack.stack c.in_ok-stack.device.0;
       out = _;
+      out' = _;
       left = _;
       between = c.open_device.new.images;
       found = c.in_ok-stack.ensures.ok;
       sure = refl;
       stops = stops;
-      same = refl;
     })
     (λ before counts told passed. record {
       at = device_place c.in_ok-stack.stack c.in_ok-stack.device.0;
       out = _;
+      out' = _;
       left = _;
       between = c.open_device.new.images;
       found = c.in_ok-stack.ensures.ok;
       passed = passed;
-      same = refl;
     })
     ends)) c.report_scan.ensures.err
