@@ -1,5 +1,8 @@
 use Rattle.std.proofs.Common.{inl, inr, refl}
 use Rattle.std.proofs.lemmas.Result.{IfErr-weaker, on_ok_weaker}
+use Rattle.std.specs.Prelude.{option_map}
+use Rattle.image_files.specs.Opener.{calls}
+use Rattle.rescue_files.specs.MapFiles.{map_path_of}
 use Rattle.recovery_commands.specs.declared.fault.RecoveringFault.TheVariants.{Pass}
 use Rattle.recovery_commands.specs.Counting.{listed_by}
 use Rattle.recovery_commands.specs.Reports.{kept_text}
@@ -13,9 +16,9 @@ returns-in_err-found-clause-err g c = rw c.if-plan.true (
     err-from c.from_residual.result _ (Pass c.in_err-found.field-0.0) c.from_residual.ensures.1
     (inl (record {
       before = kept_text c.new-kept.result;
-      told = _;
+      told = kept_text c.run_pass.new.listing;
       begun = none-kept _ _ c.new-kept.ensures.runs c.new-kept.ensures.refused;
-      stopped = stops-by _ _ _ _ _ _ c.map_at-map.ensures c.in_err-found.ensures.err;
+      stopped = stops-by (calls g.I.Images.relations g.I.Dev.BlockDev.state c.args.images.now c.run_pass.new.images) (option_map map_path_of c.map_at-map.result) _ c.args.passing.now.device.0 _ c.in_err-found.field-0.0 c.map_at-map.ensures c.in_err-found.ensures.err;
       kept = refl;
     })))
 
@@ -44,9 +47,9 @@ returns-in_err-counts-clause-err g c = rw c.if-plan.false (
     err-from c.from_residual-in_err-counts.result _ (Pass c.in_err-counts.field-0.0) c.from_residual-in_err-counts.ensures.1
     (inl (record {
       before = listed_by g.W.Write.contents c.args.writer.now;
-      told = _;
+      told = listed_by g.W.Write.contents c.run_pass-2.new.listing;
       begun = refl;
-      stopped = stops-by _ _ _ _ _ _ c.map_at-map.ensures c.in_err-counts.ensures.err;
+      stopped = stops-by (calls g.I.Images.relations g.I.Dev.BlockDev.state c.args.images.now c.run_pass-2.new.images) (option_map map_path_of c.map_at-map.result) _ c.args.passing.now.device.0 _ c.in_err-counts.field-0.0 c.map_at-map.ensures c.in_err-counts.ensures.err;
       kept = refl;
     })))
 
