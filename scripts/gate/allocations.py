@@ -41,6 +41,7 @@ PLACES = {
     "image_pin": (11, NOT_YET),
     "memory_images": (5, NOT_YET),
     "partition_commands": (30, NOT_YET),
+    "recovery_commands": (3, VALUES),
     "reed_solomon": (4, STATED),
     "repair_commands": (1, NOT_YET),
     "reply_json": (4, VALUES),

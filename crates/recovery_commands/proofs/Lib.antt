@@ -1,3 +1,3 @@
-pub mod KeptLemmas
-pub mod ListedLemmas
 pub mod OpeningLemmas
+mod PassLemmas
+pub mod ReportLemmas

@@ -1,3 +1,4 @@
 pub mod Copies
-pub mod Recovering
+pub mod Counting
+pub mod Reports
 pub mod Scans

@@ -1,107 +1,80 @@
--- Which sectors of a device are lost, and how the going over ends early.
-use Rattle.std.specs.Global.{Global}
-use Rattle.std.specs.Prelude.{◌≡◌, ◌⊎◌, ◌≤◌, ℕ, Bool, true, false, IsTrue, List, [], Option, Some, Vec}
+-- Which sectors of a device are lost, and how a scan ends early.
+use Rattle.std.specs.Prelude.{◌≡◌, ◌⊎◌, ℕ, Bool, IsTrue, List, Option, option_map}
 use Rattle.block_device.specs.Device.{Device}
+use Rattle.counted_io.specs.Counted.{CountedRecord}
 use Rattle.image_files.specs.Opener.{Calls, Opener, calls}
-use Rattle.stack_rules.specs.Names.{mapped, size}
-use Rattle.stack_making.specs.NamedDevices.{DeviceWords, FailsToFindDevice, FindsDevice, DevicePlace, words_for}
-use Rattle.stack_making.specs.declared.device.NamedDevice.{NamedDevice}
-use Rattle.stack_recovery.specs.declared.listing.KeptRuns.{KeptRuns}
-use Rattle.stack_recovery.specs.LostRuns.{LostRun}
-use Rattle.stack_recovery.specs.declared.recovery.Counts.{Counts}
-use Rattle.stack_recovery.specs.Listings.{Listed, listed}
-use Rattle.stack_recovery.specs.Recoveries.{Parties, Recovers, RecoversBy, Sides, parties, sides}
-use Rattle.stack_recovery.specs.declared.discard.Discard.{Discard}
-use Rattle.stack_recovery.specs.Texts.{lost_text}
-use Rattle.recovery_commands.specs.declared.fault.RecoveringFault.{RecoveringFault}
-use Rattle.recovery_commands.specs.declared.fault.RecoveringFault.TheVariants.{NoMemory}
-use Rattle.recovery_commands.specs.Recovering.{EndsRecovering, IsCountsEnd, IsRecoverEnd, IsRecoveryStackless, TellsCounts}
-use Rattle.recovery_commands.specs.declared.lost.Search.{Search}
+use Rattle.rescue_files.specs.declared.passing.Passing.{Passing}
+use Rattle.rescue_files.specs.MapFiles.{map_at}
+use Rattle.rescue_files.specs.Passes.{Moving, Passes, StopsPass, moving}
+use Rattle.rescue_map.specs.declared.kind.MapKind.TheVariants as map_kind
+use Rattle.stack_making.specs.NamedDevices.{DevicePlace, DeviceWords, FailsToFindDevice, FindsDevice, words_for}
+use Rattle.stack_engine.specs.Stacks.{StackRecord}
 use Rattle.stack_opening.specs.declared.stack_file.StackFile.{StackFile}
+use Rattle.stack_recovery.specs.declared.discard.Discard.{Discard}
+use Rattle.stack_recovery.specs.declared.recovery.Counts.{Counts}
+use Rattle.stack_recovery.specs.Listings.{Listed}
+use Rattle.stack_recovery.specs.Recoveries.{sides}
+use Rattle.recovery_commands.specs.declared.fault.RecoveringFault.{RecoveringFault}
+use Rattle.recovery_commands.specs.declared.scan.ScanPlan.{ScanPlan}
+use Rattle.recovery_commands.specs.Counting.{IsPassEnd, IsRecoveryStackless}
+use Rattle.recovery_commands.specs.Reports.{IsUnreported, Reports}
 
--- A device was gone over: a line was told for each longest lost run.
-pub record Scans {S D : Type 0} (w : Calls S D) (words : DeviceWords) (old : Listed) (counts : Counts) (printed : Listed) : Type 0 where
+-- a device of a stack file over bindings, the path of its map file, if there is one, and whether the report is an object
+pub record ScanWords : Type 0 where
+  pub words : DeviceWords
+  pub map : Option (List ℕ)
+  pub json : Bool
+
+abbrev pub scan_words : DeviceWords → Option (List ℕ) → Bool → ScanWords
+scan_words words map json = record { words = words; map = map; json = json }
+
+abbrev pub words_to_scan : StackFile → ScanPlan → ScanWords
+words_to_scan file plan = scan_words (words_for file plan.device) (option_map (λ p. p.now) plan.map) plan.json
+
+-- the device was scanned, by a scan's map if there is one
+pub record Scans {S D : Type 0} (w : Calls S D) (words : ScanWords) (before : Listed) (counts : Counts) (told : Listed) : Type 0 where
   pub at : DevicePlace
   pub out : Device
-  pub left : Sides
-  pub found : FindsDevice w words at
-  pub recovered : Recovers at.d (sides at.stack out old) counts left
-  pub same : left.printed ≡ printed
+  pub out' : Device
+  pub left : StackRecord
+  pub between : S
+  pub found : FindsDevice (record w { new = between }) words.words at
+  pub passed : Passes (record w { old = between }) (map_at words.map map_kind.Scan) at.d (moving (sides at.stack out before) (sides left out' told)) counts
 
--- no sector is lost, and the counts were printed, as all before
-pub record PrintsScan {S D : Type 0} (w : Calls S D) (words : DeviceWords) (old new : Option (List ℕ)) : Type 0 where
-  pub counts : Counts
-  pub unprinted : Bool
-  pub printed : Option (List ℕ)
-  pub scanned : Scans w words (listed old unprinted) counts (listed printed false)
-  pub told : TellsCounts counts printed new
-
--- it was begun, and ended early; the writer may have failed before
-pub record FailsToScan {S D : Type 0} (w : Calls S D) (words : DeviceWords) (old new : Option (List ℕ)) (failed : Bool) (fault : RecoveringFault) : Type 0 where
+-- the scan was begun and ended early; the device to which it copies never fails
+pub record StopsScan {S D : Type 0} (w : Calls S D) (words : ScanWords) (before : Listed) (fault : RecoveringFault) (told : Listed) : Type 0 where
   pub at : DevicePlace
   pub out : Device
-  pub left : Sides
-  pub unprinted : Bool
-  pub found : FindsDevice w words at
+  pub out' : Device
+  pub left : StackRecord
+  pub between : S
+  pub found : FindsDevice (record w { new = between }) words.words at
   pub sure : IsTrue out.never_fails
-  pub fails : IsRecoverEnd at.d (sides at.stack out (listed old unprinted)) left fault
-  pub same : left.printed ≡ listed new failed
+  pub stops : IsPassEnd (StopsPass (record w { old = between }) (map_at words.map map_kind.Scan) at.d (moving (sides at.stack out before) (sides left out' told))) fault
 
--- All of it was gone over. Sectors are lost, or a line can't be written.
-pub record LosesInScan {S D : Type 0} (w : Calls S D) (words : DeviceWords) (old new : Option (List ℕ)) (failed : Bool) (fault : RecoveringFault) : Type 0 where
-  pub counts : Counts
-  pub unprinted : Bool
-  pub printed : Listed
-  pub scanned : Scans w words (listed old unprinted) counts printed
-  pub ends : IsCountsEnd counts printed new failed fault
+-- no sector is lost, and all was reported
+abbrev pub PrintsScan : {S D : Type 0} → Calls S D → ScanWords → Option (List ℕ) → Option (List ℕ) → Type 0
+PrintsScan w words old new = Reports (Scans w words) words.json old new
 
--- nothing is printed where there is no such device
-abbrev pub IsScanEnd : {S D : Type 0} → Calls S D → DeviceWords → Option (List ℕ) → Option (List ℕ) → Bool → RecoveringFault → Type 0
+-- there is no such device, and nothing is printed; or the scan ended early, or sectors are lost or not all is printed
+abbrev pub IsScanEnd : {S D : Type 0} → Calls S D → ScanWords → Option (List ℕ) → Option (List ℕ) → Bool → RecoveringFault → Type 0
 IsScanEnd w words old new failed fault =
-    ((new ≡ old) × IsRecoveryStackless (FailsToFindDevice w words) fault) ⊎ (FailsToScan w words old new failed fault ⊎ LosesInScan w words old new failed fault)
+    ((new ≡ old) × IsRecoveryStackless (FailsToFindDevice w words.words) fault) ⊎ IsUnreported (StopsScan w words) (Scans w words) words.json old new failed fault
 
--- ---- where the lost runs are kept in memory
+-- ---- as a call sees them, of an open device
 
--- the text of the runs that are kept, and whether one couldn't be
-abbrev pub kept_text : KeptRuns → Listed
-kept_text kept = listed (Some (lost_text kept.runs.items)) kept.refused
+module _ {S D E T : Type 0} (relations : Opener S D) (state : D → Device) (seen : Discard → Device) (contents : T → Option (List ℕ)) (images images' : S) (old new : Passing E Discard) (writer writer' : CountedRecord T) where
+  abbrev scanned : Listed → Listed → Moving
+  scanned before told = moving (sides old.stack (seen old.out) before) (sides new.stack (seen new.out) told)
 
--- a device is gone over and its lost runs kept, or that ends early
-abbrev pub search_parties : {D : Type 0} → Search D → Parties Discard KeptRuns
-search_parties search = parties search.stack search.out search.kept
+  abbrev scans : ScanPlan → Listed → Counts → Listed → Type 0
+  scans plan before counts told = Passes (calls relations state images images') (map_at (option_map (λ p. p.now) plan.map) map_kind.Scan) old.device.0 (scanned before told) counts
 
-abbrev pub HasRoomToSearch : {D : Type 0} → (Discard → Device) → Search D → Type 0
-HasRoomToSearch state search = size search.stack.config (mapped search.device.0) ≤ (state search.out).size
+  abbrev stops_scan : ScanPlan → Listed → RecoveringFault → Listed → Type 0
+  stops_scan plan before fault told = IsPassEnd (StopsPass (calls relations state images images') (map_at (option_map (λ p. p.now) plan.map) map_kind.Scan) old.device.0 (scanned before told)) fault
 
-abbrev pub KeepsRuns : {D : Type 0} → (Discard → Device) → Search D → Search D → Counts → Type 0
-KeepsRuns state old new counts = RecoversBy state kept_text old.device.0 (search_parties old) (search_parties new) counts
+  abbrev pub ReportsScan : ScanPlan → Type 0
+  ReportsScan plan = Reports (scans plan) plan.json (contents writer.inner) (contents writer'.inner)
 
-abbrev pub EndsSearch : {D : Type 0} → (Discard → Device) → Search D → Search D → RecoveringFault → Type 0
-EndsSearch state old new fault = EndsRecovering state kept_text old.device.0 (search_parties old) (search_parties new) fault
-
--- it ended early, and no run that was kept is told
-pub record CutsScan {S D : Type 0} (w : Calls S D) (words : DeviceWords) (fault : RecoveringFault) : Type 0 where
-  pub kept : Option (List ℕ)
-  pub failed : Bool
-  pub cuts : FailsToScan w words (Some []) kept failed fault
-
--- all of it was gone over, and memory ran out for a run
-pub record MissesRuns {S D : Type 0} (w : Calls S D) (words : DeviceWords) (fault : RecoveringFault) : Type 0 where
-  pub counts : Counts
-  pub kept : Option (List ℕ)
-  pub scanned : Scans w words (listed (Some []) false) counts (listed kept true)
-  pub is : fault ≡ NoMemory
-
-abbrev pub IsLostEnd : {S D : Type 0} → Calls S D → DeviceWords → RecoveringFault → Type 0
-IsLostEnd w words fault = IsRecoveryStackless (FailsToFindDevice w words) fault ⊎ (CutsScan w words fault ⊎ MissesRuns w words fault)
-
--- ---- the same by the opener, before and after its calls, and by the words of the program
-
--- the lost runs of a device, and how many sectors were had and lost
-abbrev pub FindsLost : {S D : Type 0} → Opener S D → (D → Device) → S → S → StackFile → NamedDevice → Vec LostRun Global × Counts → Type 0
-FindsLost relations state old new file device =
-    λ found. Scans (calls relations state old new) (words_for file device) (listed (Some []) false) found.1 (listed (Some (lost_text found.0.items)) false)
-
--- they are not all found
-abbrev pub FailsToFindLost : {S D : Type 0} → Opener S D → (D → Device) → S → S → StackFile → NamedDevice → RecoveringFault → Type 0
-FailsToFindLost relations state old new file device = IsLostEnd (calls relations state old new) (words_for file device)
+  abbrev pub EndsReporting : ScanPlan → RecoveringFault → Type 0
+  EndsReporting plan = IsUnreported (stops_scan plan) (scans plan) plan.json (contents writer.inner) (contents writer'.inner) writer'.failed

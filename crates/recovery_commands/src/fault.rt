@@ -1,25 +1,37 @@
-//! Why a device isn't gone over to its end.
+//! Why a device isn't scanned or copied to its end, or not all of it is readable.
 ghost use Rattle.std.specs.Prelude.{◌≡◌};
 ghost use Rattle.recovery_commands.specs.declared.fault.RecoveringFault.TheVariants as recovering_fault;
 
 use counted_io::WriteFault;
+use rescue_files::PassFault;
 use stack_making::StackFault;
+use std::alloc::AllocError;
 
-/// Why a device isn't gone over to its end, or not all of it was had.
+/// Why a device isn't scanned or copied to its end, or not all of it is readable.
 #[derive(Clone, Copy, Debug, PartialEq, Eq)]
 pub enum RecoveringFault<'a> {
-    /// Memory ran out.
+    /// Memory ran out for the runs of a JSON object, or for the object.
     NoMemory,
     /// There is no such device.
     Stack(StackFault<'a>),
-    /// So many sectors of a device were had, and so many are lost.
-    Lost { read: u64, lost: u64 },
     /// The image to which a device is copied has fewer sectors than the device.
     OutputTooSmall { needed: u64 },
-    /// The image to which a device is copied failed.
-    OutputFailed,
-    /// A line can't be written; all of the device was gone over.
+    /// The pass over the device ended early.
+    Pass(PassFault<'a>),
+    /// So many sectors of a device are readable, and so many are lost.
+    Lost { read: u64, lost: u64 },
+    /// Sectors of a device are lost, as the JSON object states.
+    LostAsSaid,
+    /// A line can't be written; the pass over the device was completed.
     Write,
+}
+
+impl From<AllocError> for RecoveringFault<'_> {
+    ghost from_gives = { λ _ given. given ≡ recovering_fault.NoMemory };
+
+    fn from(_error: AllocError) -> Self {
+        RecoveringFault::NoMemory
+    }
 }
 
 impl<'a> From<StackFault<'a>> for RecoveringFault<'a> {
@@ -27,6 +39,14 @@ impl<'a> From<StackFault<'a>> for RecoveringFault<'a> {
 
     fn from(fault: StackFault<'a>) -> Self {
         RecoveringFault::Stack(fault)
+    }
+}
+
+impl<'a> From<PassFault<'a>> for RecoveringFault<'a> {
+    ghost from_gives = { λ fault given. given ≡ recovering_fault.Pass fault };
+
+    fn from(fault: PassFault<'a>) -> Self {
+        RecoveringFault::Pass(fault)
     }
 }
 

@@ -13,15 +13,8 @@ use stack_making::{NamedDevice, open_device_and_output};
 use stack_opening::StackFile;
 use std::alloc::Global;
 
-/// An image to which a device is copied, and whether only what differs is written.
-#[derive(Clone, Copy, Debug, PartialEq, Eq)]
-pub struct Output<'a> {
-    pub path: &'a str,
-    pub differing: bool,
-}
-
 /// A device of a stack file over the bindings, and beside it an image with room for all its sectors.
-pub fn open_with_room<'a, I: Images>(
+pub(crate) fn open_with_room<'a, I: Images>(
     alloc: Global,
     images: &mut I,
     file: StackFile<'a, '_>,

@@ -6,8 +6,8 @@ use Rattle.rescue_map.specs.declared.fault.MapFault.{MapFault}
 use Rattle.rescue_map.specs.declared.fault.MapFault.TheVariants as map_fault
 use Rattle.rescue_map.specs.declared.map.Run.{Run}
 use Rattle.rescue_map.specs.MapText.{IsMapAnswer}
-use Rattle.rescue_files.specs.declared.fault.RescueFault.{RescueFault}
-use Rattle.rescue_files.specs.declared.fault.RescueFault.TheVariants as rescue
+use Rattle.rescue_files.specs.declared.fault.PassFault.{PassFault}
+use Rattle.rescue_files.specs.declared.fault.PassFault.TheVariants as rescue
 use Rattle.image_files.specs.declared.images.FileText.{FileText}
 use Rattle.image_files.specs.Opener.{Calls}
 use Rattle.rescue_files.specs.MapFiles.{IsMapUnread, IsTextUnread, TellsMap, is_missing}
@@ -31,7 +31,7 @@ told-fault map_fault.Overlap answer e = inr e
 told-fault map_fault.Size answer e = inr e
 
 -- the file has a text, which isn't read
-pub unread-told : {S D : Type 0} (w : Calls S D) (path : List ℕ) (sectors : ℕ) (text : FileText) (fault : RescueFault) → TellsMap w path text → IsTextUnread text.bytes.items sectors fault → IsMapUnread w path sectors fault
+pub unread-told : {S D : Type 0} (w : Calls S D) (path : List ℕ) (sectors : ℕ) (text : FileText) (fault : PassFault) → TellsMap w path text → IsTextUnread text.bytes.items sectors fault → IsMapUnread w path sectors fault
 unread-told w path sectors text rescue.NoMemory told unread = inr (text, told)
 unread-told w path sectors text (rescue.NoMap fault) told unread = (text, told, unread)
 unread-told w path sectors text (rescue.Unread fault) told unread = absurd unread

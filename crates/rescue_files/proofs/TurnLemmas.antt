@@ -6,8 +6,8 @@ use Rattle.rescue_map.specs.Maps.{marks, map_totals}
 use Rattle.stack_rules.specs.Names.{mapped, size}
 use Rattle.stack_engine.specs.Stacks.{StackRecord}
 use Rattle.stack_recovery.specs.declared.rescued.Rescued.{Rescued}
-use Rattle.rescue_files.specs.declared.fault.RescueFault.{RescueFault}
-use Rattle.rescue_files.specs.declared.fault.RescueFault.TheVariants.{NoMap, NoMemory, Output, TooLong, Unread, Unwritten}
+use Rattle.rescue_files.specs.declared.fault.PassFault.{PassFault}
+use Rattle.rescue_files.specs.declared.fault.PassFault.TheVariants.{NoMap, NoMemory, Output, TooLong, Unread, Unwritten}
 use Rattle.rescue_files.specs.MapFiles.{MapPathRecord, recovery_ending}
 use Rattle.text_files.specs.declared.texts.ReplaceFault.{ReplaceFault}
 use Rattle.rescue_map.specs.declared.totals.Totals.{Totals}
@@ -56,7 +56,7 @@ pub stops-rescue : {S : Type 0} (k : Kept S) (now : Progressed S) (before : List
 stops-rescue k now before new recovery.NoMemory e = (refl, e.unfailed)
 stops-rescue k now before new recovery.Output e = (refl, e.1.0, e.1.1)
 
-pub stops-unwritten : {S : Type 0} (k : Kept S) (now : Progressed S) (text : List ℕ) (images : S) (new : Sides) (fault : RescueFault)
+pub stops-unwritten : {S : Type 0} (k : Kept S) (now : Progressed S) (text : List ℕ) (images : S) (new : Sides) (fault : PassFault)
     → IsUnfailed now.sides new → IsMapUnwritten k.replaces k.file.path now.images text images fault → StopsIn k now images new fault
 stops-unwritten k now text images new NoMemory u e = (e, u)
 stops-unwritten k now text images new (Unread cause) u e = absurd e
@@ -80,7 +80,7 @@ turn-out k old new t =
     (ap (λ (s : Sides). s.out.size) t.on_medium ∙ same.size, λ h. subst IsTrue (sym (ap (λ (s : Sides). s.out.may_write) t.on_medium ∙ same.may_write)) h)
 
 -- the size of the device as it was told
-pub ends-as : {S : Type 0} (replaces : S → List ℕ → List ℕ → Result (Unit {0}) ReplaceFault → S → Type 0) (file : MapPathRecord) (d m n : ℕ) (first now : Progressed S) (images : S) (new : Sides) (fault : RescueFault)
+pub ends-as : {S : Type 0} (replaces : S → List ℕ → List ℕ → Result (Unit {0}) ReplaceFault → S → Type 0) (file : MapPathRecord) (d m n : ℕ) (first now : Progressed S) (images : S) (new : Sides) (fault : PassFault)
     → m ≡ n → Turns (kept_by replaces file d m) first now → StopsIn (kept_by replaces file d m) now images new fault → IsTurnsEnd (kept_by replaces file d n) first images new fault
 ends-as replaces file d m n first now images new fault e t s =
     subst (λ (k : ℕ). IsTurnsEnd (kept_by replaces file d k) first images new fault) e (record { now = now; turns = t; stops = s })

@@ -1,4 +1,4 @@
-pub mod ByMap
+pub mod Passes
 pub mod MapFiles
 pub mod MapTexts
 pub mod Turns

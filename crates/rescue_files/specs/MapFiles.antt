@@ -1,5 +1,5 @@
 -- The map file of a device.
-use Rattle.std.specs.Prelude.{◌≡◌, ◌⊎◌, ℕ, ◌<◌, Bool, true, false, List, length, replicate, Ok, Err, if◌then◌else◌}
+use Rattle.std.specs.Prelude.{◌≡◌, ◌⊎◌, ℕ, ◌<◌, Bool, true, false, List, length, replicate, Option, option_map, Ok, Err, if◌then◌else◌}
 use Rattle.block_device.specs.Device.{Device}
 use Rattle.block_device.specs.declared.open_fault.OpenFault.{OpenFault}
 use Rattle.block_device.specs.declared.open_fault.OpenFault.TheVariants.{NotFound}
@@ -12,9 +12,9 @@ use Rattle.rescue_map.specs.declared.map.Run.{Run}
 use Rattle.rescue_map.specs.Kinds.{kind_of}
 use Rattle.rescue_map.specs.Maps.{marks}
 use Rattle.rescue_map.specs.MapText.{map_of}
-use Rattle.rescue_files.specs.declared.fault.RescueFault.{RescueFault}
+use Rattle.rescue_files.specs.declared.fault.PassFault.{PassFault}
 use Rattle.rescue_files.specs.declared.map_file.MapPath.{MapPath}
-use Rattle.rescue_files.specs.declared.fault.RescueFault.TheVariants.{NoMap, NoMemory, Output, TooLong, Unread}
+use Rattle.rescue_files.specs.declared.fault.PassFault.TheVariants.{NoMap, NoMemory, Output, TooLong, Unread}
 use Rattle.stack_recovery.specs.declared.fault.RecoveryFault.{RecoveryFault}
 use Rattle.stack_recovery.specs.declared.fault.RecoveryFault.TheVariants as recovery
 
@@ -27,7 +27,7 @@ abbrev pub is_missing : OpenFault → Bool
 is_missing NotFound = true
 is_missing fault = false
 
--- the file under that path was told
+-- the opener returned the text of the file under that path
 abbrev pub TellsMap : {S D : Type 0} → Calls S D → List ℕ → FileText → Type 0
 TellsMap w path text = w.relations.tells w.old path most_map (Ok text) w.new
 
@@ -36,11 +36,11 @@ abbrev pub continues : MapKind → MapKind → Bool
 continues Copy Scan = false
 continues kind read = true
 
--- of each sector, whether it was had before: by the runs of a text, if they are continued
+-- of each sector, whether it was read before: by the runs of a text, if they are continued
 abbrev pub marks_before : MapKind → List ℕ → ℕ → List Run → List Bool
 marks_before kind text sectors runs = if continues kind (kind_of text) then marks runs else replicate sectors false
 
--- the runs with which a map of a kind begins, where a text is a map of a device of so many sectors
+-- the runs with which a map of a kind begins, if a text is a map of a device of so many sectors
 pub record IsMapOfText (kind : MapKind) (text : List ℕ) (sectors : ℕ) (runs : List Run) : Type 0 where
   pub read : List Run
   pub says : map_of sectors text ≡ Ok read
@@ -57,13 +57,17 @@ map_path path kind = record { path = path; kind = kind }
 abbrev pub map_path_of : MapPath → MapPathRecord
 map_path_of file = map_path file.path.now file.kind
 
--- it begins with what the file says
+-- the map file of that kind under a path, if one is given
+abbrev pub map_at : Option (List ℕ) → MapKind → Option MapPathRecord
+map_at path kind = option_map (λ p. map_path p kind) path
+
+-- it begins with the marks of the file
 pub record IsMapTold {S D : Type 0} (w : Calls S D) (file : MapPathRecord) (sectors : ℕ) (runs : List Run) : Type 0 where
   pub text : FileText
   pub told : TellsMap w file.path text
   pub says : IsMapOfText file.kind text.bytes.items sectors runs
 
--- or there is none, and no sector was had
+-- or there is no file, and no sector was read before
 pub record IsMapNew {S D : Type 0} (w : Calls S D) (path : List ℕ) (sectors : ℕ) (runs : List Run) : Type 0 where
   pub missing : w.relations.tells w.old path most_map (Err NotFound) w.new
   pub unread : marks runs ≡ replicate sectors false
@@ -72,21 +76,21 @@ abbrev pub IsMapRead : {S D : Type 0} → Calls S D → MapPathRecord → ℕ �
 IsMapRead w file sectors runs = IsMapTold w file sectors runs ⊎ IsMapNew w file.path sectors runs
 
 -- the text has that fault, or memory ran out
-abbrev pub IsTextUnread : List ℕ → ℕ → RescueFault → Type 0
+abbrev pub IsTextUnread : List ℕ → ℕ → PassFault → Type 0
 IsTextUnread text sectors (NoMap fault) = (fault ≡ map_fault.NoMemory) ⊎ (map_of sectors text ≡ Err fault)
 IsTextUnread text sectors NoMemory = Unit {0}
 IsTextUnread text sectors fault = ⊥
 
 -- why there is no map: the file can't be read, has more than 16 MiB, or its text has that fault, unless memory ran out
-abbrev pub IsMapUnread : {S D : Type 0} → Calls S D → List ℕ → ℕ → RescueFault → Type 0
-IsMapUnread w path sectors (Unread fault) = (is_missing fault ≡ false) × w.relations.tells w.old path most_map (Err fault) w.new
+abbrev pub IsMapUnread : {S D : Type 0} → Calls S D → List ℕ → ℕ → PassFault → Type 0
+IsMapUnread w path sectors (Unread file) = (file.path.now ≡ path) × (is_missing file.fault ≡ false) × w.relations.tells w.old path most_map (Err file.fault) w.new
 IsMapUnread w path sectors TooLong = (text : FileText) × TellsMap w path text × (16777216 < length text.bytes.items)
 IsMapUnread w path sectors (NoMap fault) = (text : FileText) × TellsMap w path text × IsTextUnread text.bytes.items sectors (NoMap fault)
 IsMapUnread w path sectors NoMemory = w.relations.tells w.old path most_map (Err NotFound) w.new ⊎ ((text : FileText) × TellsMap w path text)
 IsMapUnread w path sectors fault = ⊥
 
 -- the ends of a recovery
-abbrev pub recovery_ending : RecoveryFault → RescueFault
+abbrev pub recovery_ending : RecoveryFault → PassFault
 recovery_ending recovery.NoMemory = NoMemory
 recovery_ending recovery.Output = Output
 

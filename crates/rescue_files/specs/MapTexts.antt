@@ -1,13 +1,11 @@
--- What is printed of map files.
+-- What is printed when a pass over a device ends early.
 use Rattle.std.specs.Prelude.{ℕ, List, codes}
-use Rattle.std.specs.Borrow.{Bor}
 use Rattle.io_fault_text.specs.Opening.{open_text}
 use Rattle.io_fault_text.specs.Texts.{no_memory, refused_text}
 use Rattle.rescue_map.specs.declared.fault.MapFault.{MapFault}
 use Rattle.rescue_map.specs.declared.fault.MapFault.TheVariants as why
-use Rattle.rescue_files.specs.declared.fault.RescueFault.{RescueFault}
-use Rattle.rescue_files.specs.declared.fault.RescueFault.TheVariants as rescue
-use Rattle.rescue_files.specs.declared.by_map.UnkeptMap.{UnkeptMap}
+use Rattle.rescue_files.specs.declared.fault.PassFault.{PassFault}
+use Rattle.rescue_files.specs.declared.fault.PassFault.TheVariants as pass
 use Rattle.text_files.specs.declared.texts.ReplaceFault.{ReplaceFault}
 use Rattle.text_files.specs.declared.texts.ReplaceFault.TheVariants as replace
 
@@ -29,13 +27,10 @@ unreplaced_text replace.Sync = refused_text 32 (codes "MapSync")
 unreplaced_text replace.Rename = refused_text 33 (codes "MapRename")
 
 -- by what ended it
-abbrev pub rescue_text : Bor (List ℕ) → RescueFault → List ℕ
-rescue_text path rescue.NoMemory = no_memory
-rescue_text path (rescue.Unread fault) = open_text (record { fault = fault; path = path })
-rescue_text path rescue.TooLong = refused_text 30 (codes "MapTooLong")
-rescue_text path (rescue.NoMap fault) = no_map_text fault
-rescue_text path rescue.Output = codes "refused 2 Device\n"
-rescue_text path (rescue.Unwritten fault) = unreplaced_text fault
-
-abbrev pub map_fault_text : UnkeptMap → List ℕ
-map_fault_text map = rescue_text map.path map.fault
+abbrev pub pass_text : PassFault → List ℕ
+pass_text pass.NoMemory = no_memory
+pass_text (pass.Unread file) = open_text file
+pass_text pass.TooLong = refused_text 30 (codes "MapTooLong")
+pass_text (pass.NoMap fault) = no_map_text fault
+pass_text pass.Output = codes "refused 2 Device\n"
+pass_text (pass.Unwritten fault) = unreplaced_text fault

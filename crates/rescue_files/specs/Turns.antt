@@ -1,4 +1,4 @@
--- A device that is gone over in turns, behind each of which its map is put in the place of the one before.
+-- A device that is read in turns, after each of which its map file is replaced.
 use Rattle.std.specs.Prelude.{◌≡◌, ℕ, ◌+◌, ◌/◌, ◌≤◌, ◌==◌, max, Bool, true, IsTrue, List, replicate, Option, Some, None, Result, Ok, Err, if◌then◌else◌}
 use Rattle.std.specs.List.{list_all}
 use Rattle.block_device.specs.Device.{Device, HasFailed, synced}
@@ -16,14 +16,14 @@ use Rattle.rescue_files.specs.MapFiles.{MapPathRecord, map_path_of}
 use Rattle.rescue_files.specs.declared.map_file.MapFile.{MapFile}
 use Rattle.rescue_files.specs.declared.map_file.MapPath.{MapPath}
 use Rattle.rescue_files.specs.declared.turns.NextTurn.{NextTurn}
-use Rattle.rescue_files.specs.declared.fault.RescueFault.{RescueFault}
-use Rattle.rescue_files.specs.declared.fault.RescueFault.TheVariants.{NoMemory, Output, Unwritten}
+use Rattle.rescue_files.specs.declared.fault.PassFault.{PassFault}
+use Rattle.rescue_files.specs.declared.fault.PassFault.TheVariants.{NoMemory, Output, Unwritten}
 
--- what puts bytes under a path
+-- what replaces a file by bytes
 abbrev pub Replaces : Type 0 → Type 1
 Replaces S = S → List ℕ → List ℕ → Result (Unit {0}) ReplaceFault → S → Type 0
 
--- a device of so many sectors, its map file, and what puts a map there
+-- a device of so many sectors, its map file, and what replaces it
 pub record Kept (S : Type 0) : Type 1 where
   pub replaces : Replaces S
   pub file : MapPathRecord
@@ -47,11 +47,11 @@ progressed images sides runs at = record { images = images; sides = sides; runs 
 unfoldable pub turn_len : ℕ → ℕ
 turn_len sectors = max 131072 (sectors / 256)
 
--- those of the span as the map says; all others count as had, so that they aren't asked
+-- the marks of the span as the map has them; all other sectors count as read before, so that they aren't read
 abbrev pub asked_marks : Span → ℕ → List Run → List Bool
 asked_marks span sectors runs = spliced_marks span (replicate sectors true) (marks runs)
 
--- of a map that is put in the place of the one before: the sectors before that one were tried, or all
+-- of a map that replaces the one before: the sectors before that one were tried, or all
 abbrev pub tried_before : ℕ → ℕ → Option ℕ
 tried_before sectors at = if at == sectors then None else Some at
 
@@ -63,8 +63,8 @@ pub record IsSpan (sectors at : ℕ) (span : Span) (at' : ℕ) : Type 0 where
   pub end : at' ≡ at + span.count
   pub inside : at' ≤ sectors
 
--- A turn: of the next sectors those that weren't had were asked, what was had was copied and is on the medium, and then the
--- map that says so was put in the place of the old one.
+-- A turn: of the next sectors those that weren't read before were read, the readable ones were copied to the other device, which
+-- was synced, and then the map file was replaced by a map that states so.
 pub record IsTurn {S : Type 0} (k : Kept S) (old new : Progressed S) : Type 0 where
   pub span : Span
   pub next : IsSpan k.sectors old.at span new.at
@@ -75,7 +75,7 @@ pub record IsTurn {S : Type 0} (k : Kept S) (old new : Progressed S) : Type 0 wh
   pub map : marks new.runs ≡ spliced_marks span (marks old.runs) (marks rescued.map)
   pub written : k.replaces old.images k.file.path (map_text k.file.kind (tried_before k.sectors new.at) new.runs) (Ok tt) new.images
 
--- all of the next sectors were had before, so that nothing is done
+-- all of the next sectors were read before, so that nothing is done
 pub record IsSkipped {S : Type 0} (k : Kept S) (old new : Progressed S) : Type 0 where
   pub span : Span
   pub next : IsSpan k.sectors old.at span new.at
@@ -95,8 +95,8 @@ pub record RescuesInTurns {S : Type 0} (k : Kept S) (first : Progressed S) (imag
   pub turns : Turns k first (progressed images sides runs k.sectors)
   pub counted : totals ≡ map_totals runs
 
--- a map isn't put in the place of the one before: its text is refused, or memory ran out before
-abbrev pub IsMapUnwritten : {S : Type 0} → Replaces S → List ℕ → S → List ℕ → S → RescueFault → Type 0
+-- a map file isn't replaced: by that fault, or memory ran out before the opener was called
+abbrev pub IsMapUnwritten : {S : Type 0} → Replaces S → List ℕ → S → List ℕ → S → PassFault → Type 0
 IsMapUnwritten replaces path old text new NoMemory = new ≡ old
 IsMapUnwritten replaces path old text new (Unwritten fault) = replaces old path text (Err fault) new
 IsMapUnwritten replaces path old text new other = ⊥
@@ -105,15 +105,15 @@ IsMapUnwritten replaces path old text new other = ⊥
 abbrev pub IsUnfailed : Sides → Sides → Type 0
 IsUnfailed old new = new.out.failures ≡ old.out.failures
 
--- why the turn after some ended early: the map that stands is the last one that was put in its place
-abbrev pub StopsIn : {S : Type 0} → Kept S → Progressed S → S → Sides → RescueFault → Type 0
+-- why the turn after some ended early: the map file is that of the turns before
+abbrev pub StopsIn : {S : Type 0} → Kept S → Progressed S → S → Sides → PassFault → Type 0
 StopsIn k now images new NoMemory = (images ≡ now.images) × IsUnfailed now.sides new
 StopsIn k now images new Output = (images ≡ now.images) × HasFailed now.sides.out new.out × (IsTrue now.sides.out.never_fails → ⊥)
 StopsIn k now images new (Unwritten fault) = (text : List ℕ) × k.replaces now.images k.file.path text (Err fault) images × IsUnfailed now.sides new
 StopsIn k now images new other = ⊥
 
--- some turns were ended, and the next one wasn't
-pub record IsTurnsEnd {S : Type 0} (k : Kept S) (first : Progressed S) (images : S) (new : Sides) (fault : RescueFault) : Type 0 where
+-- some turns were completed, and the next one wasn't
+pub record IsTurnsEnd {S : Type 0} (k : Kept S) (first : Progressed S) (images : S) (new : Sides) (fault : PassFault) : Type 0 where
   pub now : Progressed S
   pub turns : Turns k first now
   pub stops : StopsIn k now images new fault
@@ -125,7 +125,7 @@ abbrev pub TakesTurn : {S O L : Type 0} → Replaces S → (O → Device) → (L
 TakesTurn replaces state told d turn images old images' new map =
     IsTurn (kept replaces (map_path_of turn.file) d turn.sectors) (progressed images (seen_sides state told old) turn.map.now turn.span.first) (progressed images' (seen_sides state told new) map (turn.span.first + turn.span.count))
 
-abbrev pub StopsTurn : {S O L : Type 0} → Replaces S → (O → Device) → (L → Listed) → ℕ → NextTurn → S → Parties O L → S → Parties O L → RescueFault → Type 0
+abbrev pub StopsTurn : {S O L : Type 0} → Replaces S → (O → Device) → (L → Listed) → ℕ → NextTurn → S → Parties O L → S → Parties O L → PassFault → Type 0
 StopsTurn replaces state told d turn images old images' new fault =
     StopsIn (kept replaces (map_path_of turn.file) d turn.sectors) (progressed images (seen_sides state told old) turn.map.now turn.span.first) images' (seen_sides state told new) fault
 
@@ -134,10 +134,10 @@ abbrev pub RescuesByFile : {S O L : Type 0} → Replaces S → (O → Device) �
 RescuesByFile replaces state told d kept_map images old images' new totals =
     RescuesInTurns (kept replaces (map_path_of kept_map.file) d (size old.stack.config (mapped d))) (progressed images (seen_sides state told old) kept_map.map 0) images' (seen_sides state told new) totals
 
-abbrev pub StopsByFile : {S O L : Type 0} → Replaces S → (O → Device) → (L → Listed) → ℕ → MapFile → S → Parties O L → S → Parties O L → RescueFault → Type 0
+abbrev pub StopsByFile : {S O L : Type 0} → Replaces S → (O → Device) → (L → Listed) → ℕ → MapFile → S → Parties O L → S → Parties O L → PassFault → Type 0
 StopsByFile replaces state told d kept_map images old images' new fault =
     IsTurnsEnd (kept replaces (map_path_of kept_map.file) d (size old.stack.config (mapped d))) (progressed images (seen_sides state told old) kept_map.map 0) images' (seen_sides state told new) fault
 
 -- the map of a file isn't replaced by this one
-abbrev pub LeavesMap : {S : Type 0} → Replaces S → MapPath → S → Option ℕ → List Run → S → RescueFault → Type 0
+abbrev pub LeavesMap : {S : Type 0} → Replaces S → MapPath → S → Option ℕ → List Run → S → PassFault → Type 0
 LeavesMap replaces file images tried map images' = IsMapUnwritten replaces file.path.now images (map_text file.kind tried map) images'

@@ -1,62 +1,63 @@
-//! Why a device isn't gone over to its end by a map.
+//! Why a pass over a device ends early.
 ghost use Rattle.std.specs.Prelude.{◌≡◌};
 ghost use Rattle.rescue_files.specs.MapFiles.{recovery_ending};
-ghost use Rattle.rescue_files.specs.declared.fault.RescueFault.TheVariants as rescue_fault;
+ghost use Rattle.rescue_files.specs.declared.fault.PassFault.TheVariants as pass_fault;
 
-use block_device::{DeviceFault, OpenFault};
+use block_device::DeviceFault;
+use image_files::UnopenedFile;
 use rescue_map::MapFault;
 use stack_recovery::RecoveryFault;
 use std::alloc::AllocError;
 use text_files::ReplaceFault;
 
-/// Why a device isn't gone over to its end by a map.
+/// Why a pass over a device ends early.
 #[derive(Clone, Copy, Debug, PartialEq, Eq)]
-pub enum RescueFault {
+pub enum PassFault<'a> {
     /// Memory ran out.
     NoMemory,
     /// The map file can't be read.
-    Unread(OpenFault),
-    /// It has more than 16 MiB.
+    Unread(UnopenedFile<'a>),
+    /// The map file has more than 16 MiB.
     TooLong,
-    /// It isn't a map of the device.
+    /// The file isn't a map of the device.
     NoMap(MapFault),
-    /// The device failed to which the sectors are copied.
+    /// The device to which the sectors are copied failed.
     Output,
     /// The map file can't be replaced.
     Unwritten(ReplaceFault),
 }
 
-impl From<AllocError> for RescueFault {
-    ghost from_gives = { λ _ given. given ≡ rescue_fault.NoMemory };
+impl From<AllocError> for PassFault<'_> {
+    ghost from_gives = { λ _ given. given ≡ pass_fault.NoMemory };
 
     fn from(_error: AllocError) -> Self {
-        RescueFault::NoMemory
+        PassFault::NoMemory
     }
 }
 
-impl From<DeviceFault> for RescueFault {
-    ghost from_gives = { λ _ given. given ≡ rescue_fault.Output };
+impl From<DeviceFault> for PassFault<'_> {
+    ghost from_gives = { λ _ given. given ≡ pass_fault.Output };
 
     fn from(_fault: DeviceFault) -> Self {
-        RescueFault::Output
+        PassFault::Output
     }
 }
 
-impl From<ReplaceFault> for RescueFault {
-    ghost from_gives = { λ fault given. given ≡ rescue_fault.Unwritten fault };
+impl From<ReplaceFault> for PassFault<'_> {
+    ghost from_gives = { λ fault given. given ≡ pass_fault.Unwritten fault };
 
     fn from(fault: ReplaceFault) -> Self {
-        RescueFault::Unwritten(fault)
+        PassFault::Unwritten(fault)
     }
 }
 
-impl From<RecoveryFault> for RescueFault {
+impl From<RecoveryFault> for PassFault<'_> {
     ghost from_gives = { λ fault given. given ≡ recovery_ending fault };
 
     fn from(fault: RecoveryFault) -> Self {
         match fault {
-            RecoveryFault::NoMemory => RescueFault::NoMemory,
-            RecoveryFault::Output => RescueFault::Output,
+            RecoveryFault::NoMemory => PassFault::NoMemory,
+            RecoveryFault::Output => PassFault::Output,
         }
     }
 }

@@ -1,14 +1,14 @@
-//! Map files under paths: read before a device is gone over, and kept while it is.
+//! A pass over a device: by a map file, which is kept turn by turn, or without one.
 #![tactic(auto)]
 
-mod by_map;
 mod fault;
 mod map_file;
 mod map_texts;
+mod passing;
 mod turns;
 
-pub use by_map::{UnkeptMap, rescue_by_map};
-pub use fault::RescueFault;
-pub use map_file::{MapFile, MapPath, read_map};
-pub use map_texts::say_map_fault;
+pub use fault::PassFault;
+pub use map_file::{MapFile, MapPath, map_at, read_map};
+pub use map_texts::say_pass_fault;
+pub use passing::{Passing, run_pass};
 pub use turns::rescue_in_turns;

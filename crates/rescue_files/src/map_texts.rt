@@ -1,32 +1,29 @@
-//! What is printed of map files.
+//! What is printed when a pass over a device ends early.
 ghost use Rattle.std.specs.Prelude.{◌≡◌};
 ghost use Rattle.counted_io.specs.Counted.{Writes};
-ghost use Rattle.rescue_files.specs.MapTexts.{map_fault_text, no_map_text, unreplaced_text};
+ghost use Rattle.rescue_files.specs.MapTexts.{no_map_text, pass_text, unreplaced_text};
 
-use crate::by_map::UnkeptMap;
-use crate::fault::RescueFault;
+use crate::fault::PassFault;
 use counted_io::{Counted, WriteFault};
-use image_files::UnopenedFile;
 use io_fault_text::{say_no_memory, say_refused, say_unopened};
 use rescue_map::MapFault;
 use std::io::Write;
 use text_files::ReplaceFault;
 
 /// One line.
-pub fn say_map_fault<W: Write>(
+pub fn say_pass_fault<W: Write>(
     writer: &mut Counted<W>,
-    map: UnkeptMap<'_>,
+    fault: PassFault<'_>,
 ) -> Result<(), WriteFault>
-    ensures { Writes W.contents writer.old writer.new (map_fault_text map.entry) result }
+    ensures { Writes W.contents writer.old writer.new (pass_text fault.entry) result }
 {
-    let UnkeptMap { path, fault } = map;
     match fault {
-        RescueFault::NoMemory => say_no_memory(writer),
-        RescueFault::Unread(fault) => say_unopened(writer, UnopenedFile { fault, path }),
-        RescueFault::TooLong => say_refused(writer, 30, "MapTooLong"),
-        RescueFault::NoMap(fault) => say_no_map(writer, fault),
-        RescueFault::Output => writer.put(b"refused 2 Device\n"),
-        RescueFault::Unwritten(fault) => say_unreplaced(writer, fault),
+        PassFault::NoMemory => say_no_memory(writer),
+        PassFault::Unread(file) => say_unopened(writer, file),
+        PassFault::TooLong => say_refused(writer, 30, "MapTooLong"),
+        PassFault::NoMap(fault) => say_no_map(writer, fault),
+        PassFault::Output => writer.put(b"refused 2 Device\n"),
+        PassFault::Unwritten(fault) => say_unreplaced(writer, fault),
     }
 }
 

@@ -1,4 +1,4 @@
-//! Goes over a mapped device in turns, and keeps its map.
+//! A mapped device is read in turns, after each of which its map file is replaced.
 ghost use Rattle.std.specs.Prelude.{◌≡◌, ◌+◌, ◌≤◌, ◌<◌, length, IsTrue, IfOk, IfErr, OnOk};
 ghost use Rattle.rescue_map.specs.Maps.{marks};
 ghost use Rattle.rescue_map.specs.MapText.{map_text};
@@ -6,7 +6,7 @@ ghost use Rattle.stack_rules.specs.Names.{mapped, size};
 ghost use Rattle.stack_recovery.specs.Recoveries.{parties};
 ghost use Rattle.rescue_files.specs.Turns.{IsSpan, LeavesMap, RescuesByFile, StopsByFile, StopsTurn, TakesTurn, asked_marks, tried_before, turn_len};
 
-use crate::fault::RescueFault;
+use crate::fault::PassFault;
 use crate::map_file::{MapFile, MapPath};
 use block_device::{BlockDev, SyncDev};
 use image_files::Images;
@@ -21,7 +21,7 @@ const LEAST_TURN: u64 = 131_072;
 
 const MOST_TURNS: u64 = 256;
 
-// How many sectors of a device of so many are asked in a turn.
+// How many sectors of a device of so many are read in a turn.
 #[tactic(auto, unfolding(crate::specs::Turns::turn_len))]
 fn turn_len(sectors: u64) -> u64
     ensures value { result ≡ turn_len sectors }
@@ -30,7 +30,7 @@ fn turn_len(sectors: u64) -> u64
     LEAST_TURN.max(sectors / MOST_TURNS)
 }
 
-// The map by which the sectors of a span are asked, and no others.
+// The map by which only sectors of a span are read: all others count as read before.
 fn asked(alloc: Global, map: &Map, span: Span, sectors: u64) -> Result<Map, AllocError>
     requires map { length (marks map.now) ≡ sectors }
     requires inside { span.first + span.count ≤ sectors }
@@ -42,21 +42,21 @@ fn asked(alloc: Global, map: &Map, span: Span, sectors: u64) -> Result<Map, Allo
     splice(alloc, &all, map, span, sectors)
 }
 
-// Which sectors were tried, where those before one are.
+// Up to which sector a map was tried, or all of it.
 fn tried_before(sectors: u64, at: u64) -> Option<u64>
     ensures { result ≡ tried_before sectors at }
 {
     if at == sectors { None } else { Some(at) }
 }
 
-// Puts a map, whose sectors before one were tried, in the place of the one before.
-fn write_map<I: Images>(
+// Replaces the map file by a map that was tried up to a sector, or all of it.
+fn write_map<'a, I: Images>(
     alloc: Global,
     images: &mut I,
     file: MapPath<'_>,
     map: &Map,
     tried: Option<u64>,
-) -> Result<(), RescueFault>
+) -> Result<(), PassFault<'a>>
     ensures ok { OnOk result (I.relations.replaces images.old file.entry.path.now (map_text file.entry.kind tried map.now) (Ok tt) images.new) }
     ensures err { IfErr result (LeavesMap I.relations.replaces file.entry images.old tried map.now images.new) }
 {
@@ -64,7 +64,7 @@ fn write_map<I: Images>(
     Ok(images.replace(file.path, text.as_slice())?)
 }
 
-/// A turn: the sectors that are asked in it, and the maps before it.
+/// A turn: its sectors, the map before it, and the map by which its sectors are read.
 #[derive(Clone, Copy)]
 struct NextTurn<'a> {
     span: Span,
@@ -74,8 +74,8 @@ struct NextTurn<'a> {
     wanted: &'a Map,
 }
 
-// Asks the sectors, and puts the map that says what was had in the place of the one before.
-fn take_turn<I: Images, D: BlockDev, O: SyncDev, L: Listing, P: Progress>(
+// Reads the sectors, syncs the other device, and replaces the map file.
+fn take_turn<'a, I: Images, D: BlockDev, O: SyncDev, L: Listing, P: Progress>(
     alloc: Global,
     images: &mut I,
     stack: &mut Stack<D>,
@@ -84,7 +84,7 @@ fn take_turn<I: Images, D: BlockDev, O: SyncDev, L: Listing, P: Progress>(
     turn: NextTurn<'_>,
     listing: &mut L,
     progress: &mut P,
-) -> Result<Map, RescueFault>
+) -> Result<Map, PassFault<'a>>
     requires device { d.0 < length stack.old.config.devices }
     requires next { IsSpan turn.sectors turn.span.first turn.span (turn.span.first + turn.span.count) }
     requires all { turn.sectors ≡ size stack.old.config (mapped d.0) }
@@ -104,15 +104,16 @@ fn take_turn<I: Images, D: BlockDev, O: SyncDev, L: Listing, P: Progress>(
     Ok(map)
 }
 
-/// Reads each sector of a mapped device that wasn't had, as a map says, in turns of 64 MiB or of a 256th of the device. In
-/// each turn the longest runs of sectors that are lost by one fault are told; what is had is put where it stands on
-/// another device, which has room for all, and on its medium; and then the map, with what was had and what is lost, is put
-/// in the place of the one before. So a cut loses one turn.
+/// Reads the sectors of a mapped device that a map doesn't mark as read, in turns of 64 MiB or of a 256th of the device. Each
+/// turn lists the longest runs of sectors that are lost by one fault, copies the readable sectors to the same offset of another
+/// device, which has room for all, and syncs that device; then it replaces the map file by the map of what was read and lost so
+/// far. So an interruption loses one turn.
 ///
 /// # Errors
 ///
-/// The map that then stands is that of the turns before.
-pub fn rescue_in_turns<I: Images, D: BlockDev, O: SyncDev, L: Listing, P: Progress>(
+/// `NoMemory`, `Output` if the other device fails, or `Unwritten` if the map file can't be replaced. The map file is then that
+/// of the turns before.
+pub fn rescue_in_turns<'a, I: Images, D: BlockDev, O: SyncDev, L: Listing, P: Progress>(
     alloc: Global,
     images: &mut I,
     stack: &mut Stack<D>,
@@ -121,7 +122,7 @@ pub fn rescue_in_turns<I: Images, D: BlockDev, O: SyncDev, L: Listing, P: Progre
     kept: MapFile<'_>,
     listing: &mut L,
     progress: &mut P,
-) -> Result<Totals, RescueFault>
+) -> Result<Totals, PassFault<'a>>
     requires device { d.0 < length stack.old.config.devices }
     requires fits { length (marks kept.map) ≡ size stack.old.config (mapped d.0) }
     requires room { size stack.old.config (mapped d.0) ≤ (O.state out.old).size }

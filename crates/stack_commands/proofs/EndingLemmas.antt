@@ -1,7 +1,7 @@
 -- Commands that end early.
 use Rattle.std.proofs.Common.{◌≡◌, ℕ, Bool, true, false, List, Option, refl, sym, subst}
 use Rattle.stack_commands.specs.declared.fault.CommandFault.{CommandFault}
-use Rattle.stack_commands.specs.declared.fault.CommandFault.TheVariants.{Usage, NoMemory, Stack, Request, Io, Recovering, Stream, Verity, Fec, Partitions, Trees, LostAsSaid, Map, Session, Service}
+use Rattle.stack_commands.specs.declared.fault.CommandFault.TheVariants.{Usage, NoMemory, Stack, Request, Io, Recovering, Stream, Verity, Fec, Partitions, Trees, Session, Service}
 use Rattle.verity_commands.proofs.EndingLemmas.{quiet as verity-quiet}
 use Rattle.stack_commands.specs.Commands.{IsEndOr, IsTold, TellsErrors, Told, is_usage}
 use Rattle.stack_commands.specs.Endings.{IsSilent}
@@ -18,8 +18,6 @@ quiet (Verity fault) bytes = verity-quiet fault bytes
 quiet (Fec fault) bytes = refl
 quiet (Partitions fault) bytes = refl
 quiet (Trees fault) bytes = refl
-quiet LostAsSaid bytes = refl
-quiet (Map fault) bytes = refl
 quiet (Session fault) bytes = tt
 quiet (Service fault) bytes = refl
 

@@ -3,10 +3,10 @@ use Rattle.std.specs.Prelude.{◌≡◌, ◌⊎◌, ◌||◌, ℕ, Bool, true, f
 use Rattle.std.specs.Io.KnownBytes.{Appends}
 use Rattle.std.specs.Str.{bytes_eq}
 use Rattle.stack_commands.specs.declared.fault.CommandFault.{CommandFault}
-use Rattle.stack_commands.specs.declared.fault.CommandFault.TheVariants.{Map, Recovering, Usage, Verity}
-use Rattle.recovery_commands.specs.declared.fault.RecoveringFault.TheVariants.{OutputFailed}
-use Rattle.rescue_files.specs.declared.fault.RescueFault.{RescueFault}
-use Rattle.rescue_files.specs.declared.fault.RescueFault.TheVariants as rescue
+use Rattle.stack_commands.specs.declared.fault.CommandFault.TheVariants.{Recovering, Usage, Verity}
+use Rattle.recovery_commands.specs.declared.fault.RecoveringFault.TheVariants.{Pass}
+use Rattle.rescue_files.specs.declared.fault.PassFault.{PassFault}
+use Rattle.rescue_files.specs.declared.fault.PassFault.TheVariants as pass
 use Rattle.stack_commands.specs.Endings.{IsEnd, IsSilent, ending_text}
 use Rattle.verity_commands.specs.declared.fault.VerityFault.TheVariants as verity_fault
 use Rattle.counted_io.specs.Streams.{Streams}
@@ -43,13 +43,12 @@ is_usage (Verity verity_fault.Usage) = true
 is_usage fault = false
 
 -- OUT failed, the image to which `copy` writes
-abbrev pub is_output : RescueFault → Bool
-is_output rescue.Output = true
+abbrev pub is_output : PassFault → Bool
+is_output pass.Output = true
 is_output fault = false
 
 abbrev pub is_output_failed : CommandFault → Bool
-is_output_failed (Recovering OutputFailed) = true
-is_output_failed (Map map) = is_output map.fault
+is_output_failed (Recovering (Pass fault)) = is_output fault
 is_output_failed fault = false
 
 -- whether the writer failed; what stood on the errors' writer and stands there now, and whether that failed

@@ -27,35 +27,21 @@ use Rattle.command_line.specs.words.Scan.{scan_record}
 use Rattle.command_line.specs.words.Verify.{verify_record}
 use Rattle.command_line.specs.words.Write.{write_record}
 use Rattle.image_files.specs.Opener.{Calls, Opener, calls}
-use Rattle.recovery_commands.specs.declared.output.Output.{Output}
-use Rattle.recovery_commands.specs.Copies.{CopyWords as OutputWords, copy_words}
-use Rattle.recovery_commands.specs.Recovering.{listed_by}
-use Rattle.recovery_commands.specs.Scans.{Scans}
 use Rattle.repair_commands.specs.declared.pair.RepairPlaces.{RepairPlaces}
 use Rattle.repair_commands.specs.ByParity.{RepairsByParity}
 use Rattle.repair_commands.specs.Commands.{IsRepairEnd, RepairsFiles}
 use Rattle.repair_commands.specs.Pairs.{places_of}
 use Rattle.request_commands.specs.Requests.{read_request, write_request}
 use Rattle.request_commands.specs.Writes.{PutWords, put_words}
-use Rattle.rescue_files.specs.declared.by_map.UnkeptMap.{UnkeptMap}
-use Rattle.rescue_files.specs.ByMap.{IsMapEnd, Moving, moving}
-use Rattle.stack_engine.specs.Stacks.{StackRecord}
 use Rattle.stack_json.specs.Lines.{load_text}
-use Rattle.stack_making.specs.declared.device.NamedDevice.{NamedDevice}
-use Rattle.stack_making.specs.NamedDevices.{DeviceWords, device_words}
 use Rattle.stack_opening.specs.declared.stack_file.StackFile.{StackFile}
 use Rattle.stack_opening.specs.OpenStacks.{stack_words}
-use Rattle.stack_recovery.specs.LostRuns.{LostRun}
-use Rattle.stack_recovery.specs.declared.recovery.Counts.{Counts}
-use Rattle.stack_recovery.specs.Recoveries.{sides}
 use Rattle.stack_rules.specs.Records.{Configuration}
 use Rattle.stack_commands.specs.declared.desk.Desk.{Desk}
 use Rattle.stack_commands.specs.declared.fault.CommandFault.{CommandFault}
 use Rattle.stack_commands.specs.Endings.{IsEnd, IsSilent}
 use Rattle.stack_commands.specs.Invocations.{CatsSectors, CopiesSectors, IsCatCommandEnd, IsCopyWordsEnd, IsLoadWordsEnd, IsPageEnd, IsReadWordsEnd, IsScanWordsEnd, IsWriteWordsEnd, ListsDevices, ReadsDevice, ScansSectors, WritesDevice}
-use Rattle.stack_commands.specs.MappedCopies.{CopiesByMap, CutsCopying, IsMappedCopyEnd, IsMappedScanEnd, PrintsMappedCopy, PrintsMappedScan, ScansByMap}
 use Rattle.stack_commands.specs.Repairing.{IsParityWordsEnd, IsRepairWordsEnd, RepairsImage}
-use Rattle.stack_commands.specs.ScanObjects.{IsMappedObjectEnd, IsObjectEnd, IsScanObjectEnd, PrintsLost, PrintsScanObject}
 use Rattle.stack_commands.specs.StackCommands.{IsListEnd, IsReadEnd, IsWriteEnd, PrintsDevices, PrintsReply, PrintsWritten}
 use Rattle.stack_commands.specs.Uses.{IsTreesEnd}
 use Rattle.stack_commands.specs.Verifying.{ChecksImage, GoesOverImage, IsCheckCommandEnd, IsGoingOverEnd}
@@ -65,12 +51,6 @@ abbrev pub DeskLeft : Type 0 → Type 0 → Type 0
 DeskLeft S T = MutBor S × (MutBor (CountedRecord T) × ⊤)
 
 -- the words of functions that are lent a desk name these
-abbrev named_device_words : StackFile → NamedDevice → DeviceWords
-named_device_words file device = device_words (stack_words file) device.name.now device.cache
-
-abbrev output_words : StackFile → NamedDevice → Output → OutputWords
-output_words file device output = copy_words (named_device_words file device) output.path.now output.differing
-
 abbrev transfer_words : StackFile → ℕ → Transfer → PutWords
 transfer_words file cache transfer = put_words (stack_words file) cache transfer.source.now (write_request transfer)
 
@@ -177,32 +157,6 @@ module _ {S D T E : Type 0} (relations : Opener S D) (state : D → Device) (con
   abbrev pub EndsWriting : StackFile → ℕ → Transfer → CommandFault → Type 0
   EndsWriting file cache transfer = IsWriteEnd desk_calls (transfer_words file cache transfer) desk_failed
 
-  -- over a device of one; of `scan` as an object too
-  abbrev pub TellsObject : StackFile → NamedDevice → Type 0
-  TellsObject file device = PrintsScanObject (Scans desk_calls (named_device_words file device)) desk_before desk_behind
-
-  abbrev pub EndsObject : StackFile → NamedDevice → CommandFault → Type 0
-  EndsObject file device = IsScanObjectEnd desk_calls (named_device_words file device) desk_before desk_behind desk_failed
-
-  -- with a map file
-  abbrev pub TellsMapped : StackFile → NamedDevice → List ℕ → Type 0
-  TellsMapped file device map = PrintsScanObject (ScansByMap desk_calls (named_device_words file device) map) desk_before desk_behind
-
-  abbrev pub EndsMappedObject : StackFile → NamedDevice → List ℕ → CommandFault → Type 0
-  EndsMappedObject file device map = IsMappedObjectEnd desk_calls (named_device_words file device) map desk_before desk_behind desk_failed
-
-  abbrev pub ScansMapped : StackFile → NamedDevice → List ℕ → Type 0
-  ScansMapped file device map = PrintsMappedScan desk_calls (named_device_words file device) map desk_before desk_behind
-
-  abbrev pub EndsMappedScan : StackFile → NamedDevice → List ℕ → CommandFault → Type 0
-  EndsMappedScan file device map = IsMappedScanEnd desk_calls (named_device_words file device) map desk_before desk_behind desk_failed
-
-  abbrev pub CopiesMapped : StackFile → NamedDevice → Output → List ℕ → Type 0
-  CopiesMapped file device output map = PrintsMappedCopy desk_calls (output_words file device output) map desk_before desk_behind
-
-  abbrev pub EndsMappedCopy : StackFile → NamedDevice → Output → List ℕ → CommandFault → Type 0
-  EndsMappedCopy file device output map = IsMappedCopyEnd desk_calls (output_words file device output) map desk_before desk_behind desk_failed
-
 -- nothing is written ahead of what ends a command, unless it is the writing that fails
 abbrev pub IsSilentOn : {S T E : Type 0} → (T → Option (List ℕ)) → Desk S T E → DeskLeft S T → CommandFault → Type 0
 IsSilentOn contents old new fault = IsSilent fault (contents old.writer.now.inner) (contents new.1.0.now.inner)
@@ -221,25 +175,6 @@ module _ {T : Type 0} (contents : T → Option (List ℕ)) (old new : CountedRec
   abbrev pub EndsPage : CommandFault → Type 0
   EndsPage = IsPageEnd (contents old.inner) (contents new.inner) new.failed
 
-  -- the object of runs that are lost, of which there are none
-  abbrev pub SaysNoneLost : List LostRun → Counts → Type 0
-  SaysNoneLost runs counts = (counts.lost ≡ 0) × PrintsLost runs counts (contents old.inner) (contents new.inner)
-
-  abbrev pub EndsSaying : List LostRun → Counts → CommandFault → Type 0
-  EndsSaying runs counts = IsObjectEnd runs counts (contents old.inner) (contents new.inner) new.failed
-
   -- why a command ended early, with its status, or the status 1 where that can't be written
   abbrev pub IsToldBy : CommandFault → ℕ → Type 0
   IsToldBy fault status = IsEnd fault (contents old.inner) (contents new.inner) status ⊎ ((status ≡ 1) × (new.failed ≡ true))
-
--- ---- by a map file, over a stack that is open, to an image
-module _ {S D O T : Type 0} (relations : Opener S D) (state : D → Device) (seen : O → Device) (contents : T → Option (List ℕ)) (old new : S) (stack stack' : StackRecord) (image image' : O) (writer writer' : CountedRecord T)
-    (map : List ℕ) (d : ℕ) (is_differing : Bool) where
-  abbrev image_moved : Moving
-  image_moved = moving (sides stack (seen image) (listed_by contents writer)) (sides stack' (seen image') (listed_by contents writer'))
-
-  abbrev pub CopiesInTurns : Counts → Type 0
-  CopiesInTurns = CopiesByMap is_differing (calls relations state old new) map d image_moved
-
-  abbrev pub CutsInTurns : UnkeptMap → Type 0
-  CutsInTurns = IsMapEnd map (CutsCopying is_differing (calls relations state old new) map d image_moved)

@@ -4,7 +4,7 @@ use Rattle.std.specs.Io.KnownBytes.{Appends}
 use Rattle.command_line.specs.declared.fault.WordsFault.{WordsFault}
 use Rattle.command_line.specs.declared.fault.WordsFault.TheVariants as words
 use Rattle.stack_commands.specs.declared.fault.CommandFault.{CommandFault}
-use Rattle.stack_commands.specs.declared.fault.CommandFault.TheVariants.{Usage, NoMemory, Stack, Request, Io, Recovering, Stream, Verity, Fec, Partitions, Trees, LostAsSaid, Map, Session, Service}
+use Rattle.stack_commands.specs.declared.fault.CommandFault.TheVariants.{Usage, NoMemory, Stack, Request, Io, Recovering, Stream, Verity, Fec, Partitions, Trees, Session, Service}
 use Rattle.nbd_protocol.specs.declared.fault.ServiceFault.TheVariants as service
 use Rattle.stack_session.specs.declared.fault.SessionFault.TheVariants.{WriteFault}
 use Rattle.verity_commands.specs.Endings as verity
@@ -12,7 +12,6 @@ use Rattle.verity_commands.specs.Texts.{verity_text}
 use Rattle.fec_commands.specs.FaultTexts.{fec_status, fec_text}
 use Rattle.partition_commands.specs.FaultTexts.{partitions_status, partitions_text}
 use Rattle.tree_commands.specs.FaultTexts.{tree_status, tree_fault_text}
-use Rattle.rescue_files.specs.MapTexts.{map_fault_text}
 use Rattle.io_fault_text.specs.Texts.{io_text, no_memory, usage_text}
 use Rattle.stack_commands.specs.FaultTexts.{io_status, recovering_status, recovering_text, request_status, request_text, stack_fault_text, stream_status, stream_text}
 
@@ -21,7 +20,7 @@ abbrev pub command_words_ending : WordsFault → CommandFault
 command_words_ending words.Usage = Usage
 command_words_ending words.NoMemory = NoMemory
 
--- what is printed of it; the own faults of a session and of the service of a client print nothing, nor what an object said
+-- what is printed of it; the own faults of a session and of the service of a client print nothing
 abbrev pub ending_text : CommandFault → List ℕ
 ending_text Usage = usage_text
 ending_text NoMemory = no_memory
@@ -34,8 +33,6 @@ ending_text (Verity fault) = verity_text fault
 ending_text (Fec fault) = fec_text fault
 ending_text (Partitions fault) = partitions_text fault
 ending_text (Trees fault) = tree_fault_text fault
-ending_text LostAsSaid = []
-ending_text (Map fault) = map_fault_text fault
 ending_text (Session fault) = []
 ending_text (Service fault) = []
 
@@ -51,7 +48,6 @@ ending_status (Verity fault) = verity.verity_status fault
 ending_status (Fec fault) = fec_status fault
 ending_status (Partitions fault) = partitions_status
 ending_status (Trees fault) = tree_status fault
-ending_status LostAsSaid = 3
 ending_status (Service service.Lost) = 4
 ending_status (Service service.Magic) = 4
 ending_status (Service service.Flags) = 4

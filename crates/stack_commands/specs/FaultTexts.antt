@@ -15,7 +15,8 @@ use Rattle.request_commands.specs.declared.fault.RequestFault.{RequestFault}
 use Rattle.request_commands.specs.declared.fault.RequestFault.TheVariants as request
 use Rattle.recovery_commands.specs.declared.fault.RecoveringFault.{RecoveringFault}
 use Rattle.recovery_commands.specs.declared.fault.RecoveringFault.TheVariants as recovering
-use Rattle.recovery_commands.specs.Recovering.{counts_text}
+use Rattle.recovery_commands.specs.Counting.{counts_text}
+use Rattle.rescue_files.specs.MapTexts.{pass_text}
 use Rattle.stack_streams.specs.declared.fault.StreamFault.{StreamFault}
 use Rattle.stack_streams.specs.declared.fault.StreamFault.TheVariants as stream
 use Rattle.stack_streams.specs.StreamTexts.{cat_status, cat_text, store_status, store_text}
@@ -68,14 +69,16 @@ too_small_text needed = codes "refused 1 TooSmall needed " ++ (decimal needed ++
 abbrev pub recovering_text : RecoveringFault → List ℕ
 recovering_text recovering.NoMemory = no_memory
 recovering_text (recovering.Stack fault) = stack_fault_text fault
-recovering_text (recovering.Lost read lost) = counts_text read lost
 recovering_text (recovering.OutputTooSmall needed) = too_small_text needed
-recovering_text recovering.OutputFailed = codes "refused 2 Device\n"
+recovering_text (recovering.Pass fault) = pass_text fault
+recovering_text (recovering.Lost read lost) = counts_text read lost
+recovering_text recovering.LostAsSaid = []
 recovering_text recovering.Write = []
 
 -- 3 for lost sectors
 abbrev pub recovering_status : RecoveringFault → ℕ
 recovering_status (recovering.Lost read lost) = 3
+recovering_status recovering.LostAsSaid = 3
 recovering_status fault = 1
 
 -- ---- of the bytes of a device

@@ -23,15 +23,13 @@ use Rattle.tree_commands.specs.Invocations.{DiffsTrees, IsDiffWordsEnd}
 use Rattle.stack_commands.specs.declared.fault.CommandFault.{CommandFault}
 use Rattle.stack_commands.specs.declared.fault.CommandFault.TheVariants.{Fec, Partitions, Usage}
 use Rattle.stack_commands.specs.Endings.{IsSilent, IsReplyUnwritten}
-use Rattle.stack_commands.specs.MappedCopies.{IsMappedCopyEnd, IsMappedScanEnd, PrintsMappedCopy, PrintsMappedScan, ScansByMap}
 use Rattle.request_commands.specs.Writes.{PutWords, put_words}
 use Rattle.request_queue.specs.Requests.{a_read, a_write}
 use Rattle.recovery_commands.specs.Copies.{CopyWords, IsCopyEnd, PrintsCopy, copy_words}
-use Rattle.recovery_commands.specs.Scans.{IsScanEnd, PrintsScan, Scans}
+use Rattle.recovery_commands.specs.Scans.{IsScanEnd, PrintsScan, ScanWords, scan_words}
 use Rattle.stack_making.specs.NamedDevices.{DeviceWords}
 use Rattle.stack_streams.specs.StoredFiles.{FileWords, IsFileEnd, PrintsFileStored, file_words}
 use Rattle.stack_streams.specs.Streaming.{IsBytesEnd, IsStoringEnd, PrintsBytes, PrintsStored}
-use Rattle.stack_commands.specs.ScanObjects.{IsMappedObjectEnd, IsScanObjectEnd, PrintsScanObject}
 use Rattle.stack_commands.specs.ManyExports.{IsExportsEnd, ServesExports}
 use Rattle.stack_commands.specs.StackCommands.{IsClientEnd, IsListEnd, IsReadEnd, IsServeEnd, IsWriteEnd, PrintsDevices, PrintsReply, PrintsWritten, ServesClient, ServesSession, device_on, on}
 use Rattle.verity_commands.specs.Pinned.{FormatsByPin, IsPinFormatEnd, IsPinVerifyEnd, VerifiesPin}
@@ -117,43 +115,25 @@ IsStoreCommandEnd w s old new failed fault = BySource s
     (IsStreamEnd (IsStoringEnd w (device_on s.stack s.name s.cache s.bindings) s.first old new failed) fault)
     ((new.input ≡ old.input) × IsStreamEnd (IsFileEnd w (stored_words s) old.output new.output failed) fault)
 
--- ---- a device that is gone over
+-- ---- a whole device
 
--- with a map file or without one, as an object or as lines
-abbrev pub ScansBy : {S D : Type 0} → Option (List ℕ) → Bool → Calls S D → DeviceWords → Option (List ℕ) → Option (List ℕ) → Type 0
-ScansBy None false w words old new = PrintsScan w words old new
-ScansBy (Some map) false w words old new = PrintsMappedScan w words map old new
-ScansBy None true w words old new = PrintsScanObject (Scans w words) old new
-ScansBy (Some map) true w words old new = PrintsScanObject (ScansByMap w words map) old new
+abbrev pub scanned : ScanRecord → ScanWords
+scanned s = scan_words (device_on s.stack s.name s.cache s.bindings) s.map s.json
 
 abbrev pub ScansSectors : {S D : Type 0} → Calls S D → ScanRecord → Option (List ℕ) → Option (List ℕ) → Type 0
-ScansSectors w s old new = ScansBy s.map s.json w (device_on s.stack s.name s.cache s.bindings) old new
-
-abbrev pub IsScanEndBy : {S D : Type 0} → Option (List ℕ) → Bool → Calls S D → DeviceWords → Option (List ℕ) → Option (List ℕ) → Bool → CommandFault → Type 0
-IsScanEndBy None false w words old new failed fault = IsRecoveringEnd (IsScanEnd w words old new failed) fault
-IsScanEndBy (Some map) false w words old new failed fault = IsMappedScanEnd w words map old new failed fault
-IsScanEndBy None true w words old new failed fault = IsScanObjectEnd w words old new failed fault
-IsScanEndBy (Some map) true w words old new failed fault = IsMappedObjectEnd w words map old new failed fault
+ScansSectors w s old new = PrintsScan w (scanned s) old new
 
 abbrev pub IsScanWordsEnd : {S D : Type 0} → Calls S D → ScanRecord → Option (List ℕ) → Option (List ℕ) → Bool → CommandFault → Type 0
-IsScanWordsEnd w s old new failed fault = IsScanEndBy s.map s.json w (device_on s.stack s.name s.cache s.bindings) old new failed fault
+IsScanWordsEnd w s old new failed fault = IsRecoveringEnd (IsScanEnd w (scanned s) old new failed) fault
 
 abbrev pub copied : CopyRecord → CopyWords
-copied c = copy_words (device_on c.stack c.name c.cache c.bindings) c.out c.differing
-
-abbrev pub CopiesWithMap : {S D : Type 0} → Option (List ℕ) → Calls S D → CopyWords → Option (List ℕ) → Option (List ℕ) → Type 0
-CopiesWithMap None w words old new = PrintsCopy w words old new
-CopiesWithMap (Some map) w words old new = PrintsMappedCopy w words map old new
+copied c = copy_words (device_on c.stack c.name c.cache c.bindings) c.out c.differing c.map
 
 abbrev pub CopiesSectors : {S D : Type 0} → Calls S D → CopyRecord → Option (List ℕ) → Option (List ℕ) → Type 0
-CopiesSectors w c old new = CopiesWithMap c.map w (copied c) old new
-
-abbrev pub IsCopyEndBy : {S D : Type 0} → Option (List ℕ) → Calls S D → CopyWords → Option (List ℕ) → Option (List ℕ) → Bool → CommandFault → Type 0
-IsCopyEndBy None w words old new failed fault = IsRecoveringEnd (IsCopyEnd w words old new failed) fault
-IsCopyEndBy (Some map) w words old new failed fault = IsMappedCopyEnd w words map old new failed fault
+CopiesSectors w c old new = PrintsCopy w (copied c) old new
 
 abbrev pub IsCopyWordsEnd : {S D : Type 0} → Calls S D → CopyRecord → Option (List ℕ) → Option (List ℕ) → Bool → CommandFault → Type 0
-IsCopyWordsEnd w c old new failed fault = IsCopyEndBy c.map w (copied c) old new failed fault
+IsCopyWordsEnd w c old new failed fault = IsRecoveringEnd (IsCopyEnd w (copied c) old new failed) fault
 
 -- ---- a client that is served each device
 

@@ -5,9 +5,7 @@ pub mod FaultTexts
 pub mod Invocations
 pub mod Lines
 pub mod ManyExports
-pub mod MappedCopies
 pub mod Repairing
-pub mod ScanObjects
 pub mod Served
 pub mod StackCommands
 pub mod Uses

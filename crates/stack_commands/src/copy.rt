@@ -1,15 +1,14 @@
-//! The command `copy`, with a map file or without one.
+//! The command `copy`.
 ghost use Rattle.std.specs.Prelude.{OnOk, IfErr};
 ghost use Rattle.stack_commands.specs.Desks.{DoesCopy, EndsCopy};
 
 use crate::desk::Desk;
 use crate::fault::CommandFault;
-use crate::mapped_copy::copy_by_map;
 use crate::words::stack_file;
 use command_line::CopyWords;
 use image_files::Images;
 use progress::Progress;
-use recovery_commands::{Output, copy_device};
+use recovery_commands::{CopyPlan, copy_device};
 use stack_making::NamedDevice;
 use std::alloc::Global;
 use std::io::Write;
@@ -24,6 +23,7 @@ pub fn invoke_copy<'a, I: Images, W: Write, P: Progress>(
     ensures ok { OnOk result (DoesCopy I.relations I.Dev.state W.contents desk.entry desk.exit words.entry) }
     ensures err { IfErr result (EndsCopy I.relations I.Dev.state W.contents desk.entry desk.exit words.entry) }
 {
+    let Desk { images, writer } = desk;
     let CopyWords {
         cache,
         differing,
@@ -39,15 +39,11 @@ pub fn invoke_copy<'a, I: Images, W: Write, P: Progress>(
     }
     let file = stack_file(stack, &bindings);
     let device = NamedDevice { name, cache };
-    let output = Output {
-        path: out,
+    let plan = CopyPlan {
+        device,
+        out,
         differing,
+        map,
     };
-    match map {
-        None => {
-            let Desk { images, writer } = desk;
-            Ok(copy_device(alloc, images, file, device, output, writer, progress)?)
-        }
-        Some(map) => copy_by_map(alloc, desk, file, device, output, map, progress),
-    }
+    Ok(copy_device(alloc, images, file, plan, writer, progress)?)
 }

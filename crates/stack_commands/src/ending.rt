@@ -14,7 +14,6 @@ use fec_commands::{fec_status, say_fec_fault};
 use io_fault_text::{say_io_fault, say_no_memory, say_usage};
 use nbd_server::ServiceFault;
 use partition_commands::{partitions_status, say_partitions_fault};
-use rescue_files::say_map_fault;
 use std::io::Write;
 use tree_commands::{say_tree_fault, tree_status};
 use verity_commands::{say_verity_fault, verity_status};
@@ -53,7 +52,6 @@ fn status_of(fault: CommandFault<'_>) -> u8
         CommandFault::Fec(fault) => fec_status(fault),
         CommandFault::Partitions(fault) => partitions_status(fault),
         CommandFault::Trees(fault) => tree_status(fault),
-        CommandFault::LostAsSaid => FAULT,
         CommandFault::Service(
             ServiceFault::Lost
             | ServiceFault::Magic
@@ -80,8 +78,6 @@ fn say_fault<W: Write>(writer: &mut Counted<W>, fault: CommandFault<'_>) -> Resu
         CommandFault::Fec(fault) => say_fec_fault(writer, fault),
         CommandFault::Partitions(fault) => say_partitions_fault(writer, fault),
         CommandFault::Trees(fault) => say_tree_fault(writer, fault),
-        CommandFault::LostAsSaid => Ok(()),
-        CommandFault::Map(fault) => say_map_fault(writer, fault),
         CommandFault::Session(_) => Ok(()),
         CommandFault::Service(_) => Ok(()),
     }

@@ -12,7 +12,6 @@ use nbd_server::ServiceFault;
 use partition_commands::PartitionsFault;
 use recovery_commands::RecoveringFault;
 use request_commands::RequestFault;
-use rescue_files::UnkeptMap;
 use stack_engine::IoFault;
 use stack_making::StackFault;
 use stack_session::SessionFault;
@@ -34,7 +33,7 @@ pub enum CommandFault<'a> {
     Request(RequestFault<'a>),
     /// The leaves that were written can't be synced.
     Io(IoFault),
-    /// A command that scans a device ended early.
+    /// A command that reads a whole device ended early, or sectors of the device are lost.
     Recovering(RecoveringFault<'a>),
     /// A command on the bytes of a device ended early.
     Stream(StreamFault<'a>),
@@ -46,10 +45,6 @@ pub enum CommandFault<'a> {
     Partitions(PartitionsFault<'a>),
     /// A command on hash trees ended early.
     Trees(TreeFault<'a>),
-    /// Sectors of a device are lost, as an object said.
-    LostAsSaid,
-    /// A map file can't be read, or the scan by it ended early.
-    Map(UnkeptMap<'a>),
     /// The session failed, or a line can't be written.
     Session(SessionFault),
     /// The service of a client ended early.
@@ -120,14 +115,6 @@ impl<'a> From<StreamFault<'a>> for CommandFault<'a> {
 
     fn from(fault: StreamFault<'a>) -> Self {
         CommandFault::Stream(fault)
-    }
-}
-
-impl<'a> From<UnkeptMap<'a>> for CommandFault<'a> {
-    ghost from_gives = { λ fault given. given ≡ command_fault.Map fault };
-
-    fn from(fault: UnkeptMap<'a>) -> Self {
-        CommandFault::Map(fault)
     }
 }
 

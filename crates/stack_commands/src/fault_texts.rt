@@ -8,6 +8,7 @@ use io_fault_text::{say_io_fault, say_no_memory, say_path, say_refused, say_unop
 use recovery_commands::{RecoveringFault, say_counts};
 use request_commands::RequestFault;
 use request_queue::SubmitFault;
+use rescue_files::say_pass_fault;
 use stack_engine::IoFault;
 use stack_loader::ConfigFault;
 use stack_making::StackFault;
@@ -92,7 +93,7 @@ pub fn io_status(fault: IoFault) -> u8
     }
 }
 
-/// One line, or none where the writer failed.
+/// One line, or none if the writer failed or a JSON object states it.
 pub fn say_recovering_fault<W: Write>(
     writer: &mut Counted<W>,
     fault: RecoveringFault<'_>,
@@ -102,9 +103,10 @@ pub fn say_recovering_fault<W: Write>(
     match fault {
         RecoveringFault::NoMemory => say_no_memory(writer),
         RecoveringFault::Stack(fault) => say_stack_fault(writer, fault),
-        RecoveringFault::Lost { read, lost } => say_counts(writer, read, lost),
         RecoveringFault::OutputTooSmall { needed } => say_too_small(writer, needed),
-        RecoveringFault::OutputFailed => writer.put(b"refused 2 Device\n"),
+        RecoveringFault::Pass(fault) => say_pass_fault(writer, fault),
+        RecoveringFault::Lost { read, lost } => say_counts(writer, read, lost),
+        RecoveringFault::LostAsSaid => Ok(()),
         RecoveringFault::Write => Ok(()),
     }
 }
@@ -122,6 +124,7 @@ pub fn recovering_status(fault: RecoveringFault<'_>) -> u8
 {
     match fault {
         RecoveringFault::Lost { .. } => FAULT,
+        RecoveringFault::LostAsSaid => FAULT,
         _ => REFUSED,
     }
 }

@@ -18,7 +18,7 @@ use image_files::Images;
 use manual_pages::say_wrong_words;
 use progress::Progress;
 use recovery_commands::RecoveringFault;
-use rescue_files::RescueFault;
+use rescue_files::PassFault;
 use std::alloc::Global;
 use std::io::{Read, Write};
 use verity_commands::VerityFault;
@@ -107,8 +107,7 @@ fn is_output_failed(fault: CommandFault<'_>) -> bool
     ensures { result ≡ is_output_failed fault.entry }
 {
     match fault {
-        CommandFault::Recovering(fault) => fault == RecoveringFault::OutputFailed,
-        CommandFault::Map(map) => map.fault == RescueFault::Output,
+        CommandFault::Recovering(RecoveringFault::Pass(fault)) => fault == PassFault::Output,
         _ => false,
     }
 }

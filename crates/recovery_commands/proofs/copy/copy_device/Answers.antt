@@ -1,9 +1,12 @@
 use Rattle.std.proofs.Common.{inl, inr, refl}
 use Rattle.std.proofs.lemmas.Result.{IfErr-weaker, on_ok_weaker}
 use Rattle.stack_making.specs.NamedDevices.{device_place}
-use Rattle.recovery_commands.proofs.ListedLemmas.{copies-whole}
+use Rattle.recovery_commands.specs.Counting.{listed_by}
 use Rattle.recovery_commands.proofs.OpeningLemmas.{err-from}
 use Rattle.recovery_commands.proofs.copy.copy_device.Goals as goal
+
+pub copy_synced-left-requires : goal.copy_synced-left-requires
+copy_synced-left-requires g c = record { device = c.in_ok-stack.ensures.there; room = c.in_ok-stack.ensures.room; allowed = c.in_ok-stack.ensures.writable }
 
 pub returns-in_err-stack-clause-err : goal.returns-in_err-stack-clause-err
 returns-in_err-stack-clause-err g c =
@@ -11,48 +14,58 @@ returns-in_err-stack-clause-err g c =
 
 pub returns-clause-err : goal.returns-clause-err
 returns-clause-err g c = inr (inl (record {
-  at = device_place c.in_ok-stack.stack c.in_ok-stack.device.0;
-  image = c.in_ok-stack.image;
-  image' = c.copy_to-left.result.0.out;
-  left = c.copy_to-left.result.0.stack;
-  between = c.open_with_room.new.images;
-  unprinted = _;
-  found = c.in_ok-stack.ensures.ok;
-  fails = rw c.in-Err.is at c.copy_to-left.ensures.err;
-  back = c.close.ensures;
+  before = listed_by g.W.Write.contents c.args.writer.now;
+  told = listed_by g.W.Write.contents c.copy_synced-left.new.writer;
+  begun = refl;
+  stopped = record {
+    at = device_place c.in_ok-stack.stack c.in_ok-stack.device.0;
+    image = c.in_ok-stack.image;
+    image' = c.copy_synced-left.result.0.out;
+    left = c.copy_synced-left.result.0.stack;
+    between = c.open_with_room.new.images;
+    behind = c.copy_synced-left.new.images;
+    found = c.in_ok-stack.ensures.ok;
+    stops = rw c.in-Err.is at c.copy_synced-left.ensures.err;
+    back = c.close.ensures;
+  };
+  kept = refl;
 }))
 
 pub returns-in-Ok-clause-ok : goal.returns-in-Ok-clause-ok
 returns-in-Ok-clause-ok g c = on_ok_weaker c.tell_counts.result (λ told. record {
   counts = c.in-Ok.counts;
-  unprinted = _;
-  printed = _;
-  copied = record {
+  before = listed_by g.W.Write.contents c.args.writer.now;
+  told = listed_by g.W.Write.contents c.copy_synced-left.new.writer;
+  begun = refl;
+  done = record {
     at = device_place c.in_ok-stack.stack c.in_ok-stack.device.0;
     image = c.in_ok-stack.image;
-    image' = c.copy_to-left.result.0.out;
+    image' = c.copy_synced-left.result.0.out;
     left = _;
     between = c.open_with_room.new.images;
+    behind = c.copy_synced-left.new.images;
     found = c.in_ok-stack.ensures.ok;
-    copied = copies-whole _ _ _ _ _ _ _ _ told.0 (rw c.in-Ok.is at c.copy_to-left.ensures.ok);
+    copied = rw c.in-Ok.is at c.copy_synced-left.ensures.ok;
     back = c.close.ensures;
   };
-  told = told.1;
+  reported = told;
 }) c.tell_counts.ensures.ok
 
 pub returns-in-Ok-clause-err : goal.returns-in-Ok-clause-err
 returns-in-Ok-clause-err g c = IfErr-weaker c.tell_counts.result _ _ (λ fault ends. inr (inr (record {
   counts = c.in-Ok.counts;
-  unprinted = _;
-  printed = _;
-  copied = record {
+  before = listed_by g.W.Write.contents c.args.writer.now;
+  told = listed_by g.W.Write.contents c.copy_synced-left.new.writer;
+  begun = refl;
+  done = record {
     at = device_place c.in_ok-stack.stack c.in_ok-stack.device.0;
     image = c.in_ok-stack.image;
-    image' = c.copy_to-left.result.0.out;
+    image' = c.copy_synced-left.result.0.out;
     left = _;
     between = c.open_with_room.new.images;
+    behind = c.copy_synced-left.new.images;
     found = c.in_ok-stack.ensures.ok;
-    copied = rw c.in-Ok.is at c.copy_to-left.ensures.ok;
+    copied = rw c.in-Ok.is at c.copy_synced-left.ensures.ok;
     back = c.close.ensures;
   };
   ends = ends;

@@ -1,9 +1,9 @@
-use Rattle.std.proofs.Common.{false, length, Err, sym, ap, subst, ◌∙◌, arith, inl, inr}
+use Rattle.std.proofs.Common.{false, length, Err, refl, sym, ap, subst, ◌∙◌, arith, inl, inr}
 use Rattle.std.proofs.lemmas.List.{length-replicate}
 use Rattle.std.proofs.lemmas.Result.{IfErr-weaker, IfOk-weaker}
 use Rattle.block_device.specs.declared.open_fault.OpenFault.{OpenFault}
 use Rattle.image_files.specs.Opener.{calls}
-use Rattle.rescue_files.specs.declared.fault.RescueFault.{RescueFault}
+use Rattle.rescue_files.specs.declared.fault.PassFault.{PassFault}
 use Rattle.rescue_files.specs.MapFiles.{IsMapUnread, most_map}
 use Rattle.rescue_files.proofs.MapFileLemmas.{missing-is, unread-told}
 use Rattle.rescue_files.proofs.map_file.read_map.Goals as goal
@@ -34,7 +34,7 @@ pub returns-then-is_missing-clause-err : goal.returns-then-is_missing-clause-err
 returns-then-is_missing-clause-err g c =
     let missing = missing-is c.in-Err.fault (sym c.is_missing.ensures ∙ c.if-is_missing.true) in
     let told = subst (λ (f : OpenFault). g.I.Images.relations.tells c.args.images.now c.args.file.path.now most_map (Err f) c.read_text.new.self) missing c.in-Err.ensures.told in
-    IfErr-weaker c.new_map.result _ _ (λ fault is. subst (λ (f : RescueFault). IsMapUnread (calls g.I.Images.relations g.I.Dev.BlockDev.state c.args.images.now c.read_text.new.self) c.args.file.path.now c.args.sectors f) (sym is) (inl told)) c.new_map.ensures.err
+    IfErr-weaker c.new_map.result _ _ (λ fault is. subst (λ (f : PassFault). IsMapUnread (calls g.I.Images.relations g.I.Dev.BlockDev.state c.args.images.now c.read_text.new.self) c.args.file.path.now c.args.sectors f) (sym is) (inl told)) c.new_map.ensures.err
 
 pub returns-else-is_missing : goal.returns-else-is_missing
-returns-else-is_missing g c = record { ok = tt; sectors = tt; err = (sym c.is_missing.ensures ∙ c.if-is_missing.false, c.in-Err.ensures.told) }
+returns-else-is_missing g c = record { ok = tt; sectors = tt; err = (refl, sym c.is_missing.ensures ∙ c.if-is_missing.false, c.in-Err.ensures.told) }

@@ -1,7 +1,7 @@
 use Rattle.std.proofs.Common.{◌≡◌, ◌+◌, ◌≤◌, refl, sym, ap, ◌∙◌, arith}
 use Rattle.stack_rules.specs.Names.{mapped, size}
 use Rattle.stack_rules.specs.Records.{Configuration}
-use Rattle.rescue_files.specs.declared.fault.RescueFault.TheVariants.{NoMemory}
+use Rattle.rescue_files.specs.declared.fault.PassFault.TheVariants.{NoMemory}
 use Rattle.stack_recovery.specs.Recoveries.{sides}
 use Rattle.rescue_files.specs.MapFiles.{map_path_of}
 use Rattle.rescue_files.specs.Turns.{begins, goes_on, passes}

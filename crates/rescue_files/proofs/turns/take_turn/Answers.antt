@@ -3,7 +3,7 @@ use Rattle.std.proofs.lemmas.Bool.{false≢true}
 use Rattle.block_device.specs.Device.{Device}
 use Rattle.rescue_map.specs.MapText.{map_text}
 use Rattle.stack_recovery.specs.Recoveries.{Rescues, Sides, sides}
-use Rattle.rescue_files.specs.declared.fault.RescueFault.TheVariants.{NoMemory, Output}
+use Rattle.rescue_files.specs.declared.fault.PassFault.TheVariants.{NoMemory, Output}
 use Rattle.rescue_files.specs.MapFiles.{map_path_of, recovery_ending}
 use Rattle.rescue_files.specs.Turns.{kept, progressed}
 use Rattle.rescue_files.proofs.TurnLemmas.{err-from, failed-behind, stops-rescue, stops-unwritten}

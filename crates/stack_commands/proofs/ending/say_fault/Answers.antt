@@ -8,6 +8,3 @@ returns-in-Session g c = rw c.in-Session.is (record { ok = Appends-nil (g.W.Writ
 
 pub returns-in-Service : goal.returns-in-Service
 returns-in-Service g c = rw c.in-Service.is (record { ok = Appends-nil (g.W.Write.contents c.args.writer.now.inner); kept = refl; failed = tt })
-
-pub returns-in-LostAsSaid : goal.returns-in-LostAsSaid
-returns-in-LostAsSaid g c = rw c.in-LostAsSaid.is (record { ok = Appends-nil (g.W.Write.contents c.args.writer.now.inner); kept = refl; failed = tt })
