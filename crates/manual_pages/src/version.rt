@@ -5,9 +5,9 @@ ghost use Rattle.counted_io.specs.Counted.{Writes};
 use counted_io::{Counted, WriteFault};
 use std::io::Write;
 
-/// Prints the program's name and the kit that its sources are proved with.
+/// Prints the program's name and the logic of the prover that its sources are proved with.
 pub fn print_version<W: Write>(writer: &mut Counted<W>) -> Result<(), WriteFault>
-    ensures { Writes W.contents writer.old writer.new (codes "dmstack 1, of sources that are proved with rattle-kit-13b\n") result }
+    ensures { Writes W.contents writer.old writer.new (codes "dmstack 1, of sources that are proved with rattle logic dac8208d650f15bf\n") result }
 {
-    writer.put(b"dmstack 1, of sources that are proved with rattle-kit-13b\n")
+    writer.put(b"dmstack 1, of sources that are proved with rattle logic dac8208d650f15bf\n")
 }
