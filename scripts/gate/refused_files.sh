@@ -122,6 +122,20 @@ expect 1 $'refused 2 Device\ndmstack: OUT failed' copy readable_stack a image D=
 unset LD_PRELOAD
 expect 0 'read 4 lost 0' copy readable_stack a image D=ramp:4
 
+# So with a map, which marks nothing that isn't synced: none is made, and a complete one stays as it is.
+mkdir maps
+chmod 777 maps
+export LD_PRELOAD=$room/sync.so
+expect 1 $'refused 2 Device\ndmstack: OUT failed' copy --map maps/map readable_stack a image D=ramp:4
+unset LD_PRELOAD
+same 'a map was made of what is not synced' test ! -e maps/map
+expect 0 'read 4 lost 0' copy --map maps/map readable_stack a image D=ramp:4
+cp maps/map maps/kept
+export LD_PRELOAD=$room/sync.so
+expect 1 $'refused 2 Device\ndmstack: OUT failed' copy --map maps/map readable_stack a image D=ramp:4
+unset LD_PRELOAD
+same 'a complete map was changed' cmp maps/map maps/kept
+
 # A full file system, where this one may mount a small one, of two pages. A failed write is the leaf's fault; a format whose
 # tree finds no room leaves no superblock before it, and so does one for which there is no room at all.
 mkdir full
