@@ -6,7 +6,7 @@ use block_device::{BlockDev, MemoryDev};
 use dm_table::{ParseFault, StackText, Table};
 use hash_tree::{Chain, area};
 use std::alloc::{AllocError, Global};
-use table_reader::parse_table;
+use table_text::parse_table;
 use tree_shape::{Algorithm, Digest, Salt, Shape};
 use verity_format::{ChainFault, data_sectors, read_chain, tree_sectors};
 

@@ -3,7 +3,7 @@ ghost use Rattle.std.specs.Prelude.{◌≡◌, option_map};
 ghost use Rattle.command_line.specs.Bindings.{backing_by, backing_record, backing_of, binding_record, binding_of, part_backing, sectors_at};
 
 use crate::part_bindings::{FilePart, kind_part};
-use table_reader::number;
+use table_text::number;
 
 const MOST_SECTORS: u64 = 65536;
 

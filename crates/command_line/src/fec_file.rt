@@ -3,7 +3,7 @@ ghost use Rattle.std.specs.Prelude.{◌≡◌, option_map};
 ghost use Rattle.command_line.specs.FormatOptions.{text_of};
 ghost use Rattle.command_line.specs.FecFiles.{fec_choice_of, fec_file_of, fec_record, roots_of};
 
-use table_reader::number;
+use table_text::number;
 
 const ROOTS: u32 = 2;
 

@@ -8,7 +8,7 @@ ghost use Rattle.command_line.specs.FormatOptions.{AreSaid, block_size_of, optio
 use crate::fault::WordsFault;
 use crate::option_words::OptionWords;
 use std::alloc::Global;
-use table_reader::number;
+use table_text::number;
 use tree_shape::{Algorithm, Salt};
 use uuid::Uuid;
 

@@ -2,7 +2,7 @@
 ghost use Rattle.std.specs.Prelude.{◌≡◌, option_map};
 ghost use Rattle.command_line.specs.PartBindings.{access_of, kind_part, part_record, said_part, sectors_from};
 
-use table_reader::number;
+use table_text::number;
 
 // The bytes of an image stay below 2^64.
 const SECTORS_END: u64 = 1 << 55;

@@ -4,7 +4,7 @@ ghost use Rattle.command_line.specs.FormatOptions.{text_of, texts_of};
 ghost use Rattle.command_line.specs.Values.{cache_said, count_said, device_names, first_said, form_of, form_record, map_said, name_said, offset_of, pin_of, root_alone, root_first, root_first_record, root_of, root_record, runs_said, sector_size_of, two_roots};
 
 use dm_table::{is_device, is_mapped_name};
-use table_reader::number;
+use table_text::number;
 use tree_shape::Digest;
 
 const CACHED_BLOCKS: u32 = 64;

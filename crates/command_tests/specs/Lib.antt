@@ -1,1 +1,5 @@
 pub mod Relations
+pub mod Files
+pub mod MemoryRelations
+pub mod Named
+pub mod Parts

@@ -1,10 +1,10 @@
 //! What is printed and what then stands in the images, with a failure at each call of a device.
 use crate::failing_images::FailingImages;
+use crate::named_images::MemoryImages;
 use crate::quiet_system::QuietSystem;
-use counted_io::Counted;
 use image_commands::SystemGenerators;
 use image_files::Images;
-use memory_images::MemoryImages;
+use program_io::Counted;
 use stack_commands::command;
 use std::alloc::Global;
 use std::rt::HostRuntime;

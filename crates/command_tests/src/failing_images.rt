@@ -1,11 +1,10 @@
 //! Images in memory, of which each device that is opened fails at one of its calls.
 ghost use Rattle.command_tests.specs.Relations.{any_relations};
 
+use crate::named_images::MemoryImages;
 use block_device::{BlockDev, FailAt, MemoryDev, OpenFault};
-use device_window::Part;
-use image_files::{FileText, Images, OpenImage, PartFault};
-use memory_images::MemoryImages;
-use text_files::ReplaceFault;
+use device_adapters::Part;
+use image_files::{FileText, Images, OpenImage, PartFault, ReplaceFault};
 
 /// The number of the call that fails is counted from the opening of a device; it is 0 where none fails.
 #[derive(Drop)]

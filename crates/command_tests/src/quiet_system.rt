@@ -1,11 +1,10 @@
 //! Generators that are seeded by the system, and nothing that is shown.
 ghost use Rattle.std.specs.Prelude.{◌≡◌};
 
+use device_adapters::{NoProgress, Progress, Watchers};
 use image_commands::{Generators, NoRandomBytes, SystemGenerators};
-use progress::{NoProgress, Progress};
 use rand::rngs::StdRng;
 use std::random::RandomSource;
-use watched_device::Watchers;
 
 #[derive(Drop)]
 pub struct QuietSystem<'a, R> {

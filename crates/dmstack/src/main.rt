@@ -3,8 +3,8 @@
 
 mod system;
 
-use counted_io::Counted;
 use image_files::FileImages;
+use program_io::Counted;
 use stack_commands::{CommandFault, command, end, writes_data};
 use std::fs::File;
 use std::io::{BufWriter, ErrorKind, Write};

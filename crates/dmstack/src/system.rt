@@ -1,12 +1,11 @@
 //! What the system gives: generators of random bytes, and a line that shows how far a transfer has come.
 ghost use Rattle.std.specs.Prelude.{◌≡◌};
 
+use device_adapters::{Progress, ProgressLine, Watchers};
 use image_commands::{Generators, NoRandomBytes, SystemGenerators};
-use progress::{Progress, ProgressLine};
 use rand::rngs::StdRng;
 use std::random::RandomSource;
 use std::rt::Clock;
-use watched_device::Watchers;
 
 /// Generators that are seeded by the system, and a line on standard error.
 #[derive(Drop)]

@@ -2,8 +2,8 @@
 use Rattle.std.proofs.Common.{◌≡◌, ℕ, ◌+◌, ◌*◌, ◌/◌, ◌≤◌, ap, subst, ◌∙◌, arith, inl}
 use Rattle.std.proofs.Math.Nat.{div-mul-le_self}
 use Rattle.block_device.specs.Device.{Device}
-use Rattle.device_window.specs.declared.part.Part.{Part}
-use Rattle.device_window.specs.Windows.{windowed}
+use Rattle.device_adapters.specs.declared.part.Part.{Part}
+use Rattle.device_adapters.specs.Windows.{windowed}
 use Rattle.fec_area.specs.declared.layout.Layout.{Layout}
 use Rattle.fec_area.specs.Layouts.{IsLaidOn, IsLayout, IsLayoutOf}
 use Rattle.tree_shape.specs.Shape.{ShapeRecord}

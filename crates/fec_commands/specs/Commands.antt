@@ -11,11 +11,11 @@ use Rattle.command_line.specs.declared.image_options.ImageOptions.{ImageOptions}
 use Rattle.command_line.specs.FormatOptions.{AreSaid, OptionTexts, option_texts}
 use Rattle.command_line.specs.words.Format.{FormatRecord, format_record}
 use Rattle.command_line.specs.words.Verify.{VerifyRecord}
-use Rattle.counted_io.specs.Counted.{CountedRecord}
+use Rattle.program_io.specs.Counted.{CountedRecord}
 use Rattle.image_commands.specs.Drawing.{Drawing}
 use Rattle.image_commands.specs.Places.{TwoPlaces}
 use Rattle.image_files.specs.Opener.{Calls, Opener, calls}
-use Rattle.verity_commands.specs.declared.fault.VerityFault.{VerityFault}
+use Rattle.verity_commands.specs.declared.verity_fault.VerityFault.{VerityFault}
 use Rattle.verity_commands.specs.Endings.{IsUnsaid}
 use Rattle.verity_commands.specs.Placed.{FormatsAt, IsSaidFormatEnd}
 use Rattle.verity_commands.specs.Places.{image_places}

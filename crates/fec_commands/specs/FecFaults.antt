@@ -4,8 +4,8 @@ use Rattle.image_commands.specs.declared.fault.ImageFault.TheVariants as image
 use Rattle.image_commands.specs.declared.finding.NoTree.{NoTree}
 use Rattle.image_commands.specs.Finding.{no_tree_fault}
 use Rattle.image_files.specs.declared.opening.UnopenedFile.{UnopenedFile}
-use Rattle.verity_commands.specs.declared.fault.VerityFault.{VerityFault}
-use Rattle.verity_commands.specs.declared.fault.VerityFault.TheVariants as verity
+use Rattle.verity_commands.specs.declared.verity_fault.VerityFault.{VerityFault}
+use Rattle.verity_commands.specs.declared.verity_fault.VerityFault.TheVariants as verity
 use Rattle.fec_commands.specs.declared.fault.FecFault.{FecFault}
 use Rattle.fec_commands.specs.declared.fault.FecFault.TheVariants as fec
 

@@ -8,7 +8,7 @@ use Rattle.image_files.specs.FileUses.{has_clash, image_use}
 use Rattle.image_files.specs.OnePlace.{Compares, FailsToCompare}
 use Rattle.image_files.specs.Opened.{Opens, Refuses}
 use Rattle.image_files.specs.Opener.{Calls}
-use Rattle.text_files.specs.declared.texts.ReplaceFault.{ReplaceFault}
+use Rattle.image_files.specs.declared.texts.ReplaceFault.{ReplaceFault}
 use Rattle.image_commands.specs.Places.{TwoPlaces}
 use Rattle.verity_commands.specs.Growing.{GrowsFile}
 use Rattle.fec_commands.specs.declared.finding.FoundThree.{FoundThree}

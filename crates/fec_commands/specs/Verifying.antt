@@ -4,7 +4,7 @@ use Rattle.std.specs.Io.KnownBytes.{Appends}
 use Rattle.block_device.specs.Device.{Device}
 use Rattle.command_line.specs.declared.words.fec_verify.FecVerifyWords.{FecVerifyWords}
 use Rattle.command_line.specs.words.FecVerify.{FecVerifyRecord, fec_verify_record}
-use Rattle.counted_io.specs.Counted.{CountedRecord}
+use Rattle.program_io.specs.Counted.{CountedRecord}
 use Rattle.fec_area.specs.declared.layout.Layout.{Layout}
 use Rattle.fec_area.specs.declared.writing.ParityFault.TheVariants.{TooSmall}
 use Rattle.fec_area.specs.Checking.{IsCheckCause, IsChecked}
@@ -15,7 +15,7 @@ use Rattle.image_commands.specs.declared.fault.ImageFault.{ImageFault}
 use Rattle.image_commands.specs.Comparing.{IsComparedEnd}
 use Rattle.image_commands.specs.Endings.{IsQuiet}
 use Rattle.image_commands.specs.Places.{before, behind}
-use Rattle.verity_commands.specs.declared.fault.VerityFault.TheVariants.{Image}
+use Rattle.verity_commands.specs.declared.verity_fault.VerityFault.TheVariants.{Image}
 use Rattle.verity_commands.specs.Endings.{IsVerityQuiet}
 use Rattle.verity_commands.specs.Places.{IsRootEnd, TellsRoot}
 use Rattle.verity_format.specs.declared.verifying.Verdict.TheVariants.{Matches}

@@ -2,10 +2,10 @@
 ghost use Rattle.std.specs.Prelude.{◌≡◌};
 ghost use Rattle.fec_commands.specs.declared.fault.FecFault.TheVariants as fec_fault;
 
-use counted_io::WriteFault;
 use fec_area::ParityFault;
 use image_commands::{ImageFault, NoTree};
 use image_files::UnopenedFile;
+use program_io::WriteFault;
 use verity_commands::VerityFault;
 
 /// Why a command on an image with parity ends early.
@@ -30,7 +30,7 @@ impl<'a> From<VerityFault<'a>> for FecFault<'a> {
 }
 
 impl<'a> From<ImageFault<'a>> for FecFault<'a> {
-    ghost use Rattle.verity_commands.specs.declared.fault.VerityFault.TheVariants as verity_fault;
+    ghost use Rattle.verity_commands.specs.declared.verity_fault.VerityFault.TheVariants as verity_fault;
 
     ghost from_gives = { λ fault given. given ≡ fec_fault.Verity (verity_fault.Image fault) };
 

@@ -1,13 +1,13 @@
 //! What is printed of a command on an image with parity that ends early, and its status: 1 refused, 2 for words that are
 //! no command, 3 for images or parity that differ.
 ghost use Rattle.std.specs.Prelude.{◌≡◌};
-ghost use Rattle.counted_io.specs.Counted.{Writes};
+ghost use Rattle.program_io.specs.Counted.{Writes};
 ghost use Rattle.fec_commands.specs.FaultTexts.{differs_text, fec_status, fec_text, parity_text};
 
 use crate::fault::FecFault;
-use counted_io::{Counted, WriteFault};
 use fec_area::ParityFault;
 use io_fault_text::say_no_memory;
+use program_io::{Counted, WriteFault};
 use std::io::Write;
 use verity_commands::{say_verity_fault, verity_status};
 

@@ -9,7 +9,7 @@ use crate::image::{Extent, ThreeImages, data_end, open_three};
 use crate::needed::needed_sectors;
 use block_device::BlockDev;
 use command_line::{FecFile, ImageOptions};
-use device_window::Window;
+use device_adapters::Window;
 use fec_area::ParityFault;
 use image_commands::ImagePlaces;
 use image_files::{Images, OpenImage};

@@ -20,13 +20,13 @@ use crate::verifying::verify_open;
 use command_line::{
     FecFile, FecFormatWords, FecVerifyWords, ImageOptions, OptionWords, options_of,
 };
-use counted_io::Counted;
+use device_adapters::Watchers;
 use image_commands::{Generators, ImagePlaces};
 use image_files::Images;
+use program_io::Counted;
 use std::alloc::Global;
 use std::io::Write;
 use verity_commands::{VerityFault, sector_at};
-use watched_device::Watchers;
 
 /// `format --fec FILE [--fec-roots N] [--grow] [--progress] [OPTION..] DATA HASH`: as `format`, and then the parity, which is synced
 /// before anything is printed. FILE is opened and measured before anything is written.

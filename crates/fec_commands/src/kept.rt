@@ -5,12 +5,12 @@ ghost use Rattle.fec_commands.specs.FecFaults.{kept_fault, kept_image};
 ghost use Rattle.fec_commands.specs.Commands.{FailsToKeep, KeepsText};
 
 use command_line::{FormatWords, OptionWords};
-use counted_io::Counted;
+use device_adapters::Watchers;
 use image_commands::{Generators, ImageFault};
 use image_files::Images;
+use program_io::Counted;
 use std::alloc::Global;
 use verity_commands::{VerityFault, invoke_format};
-use watched_device::Watchers;
 
 /// Makes the image, and gives the text that is printed of it.
 pub(crate) fn format_kept<'a, I: Images, G: Generators + Watchers>(

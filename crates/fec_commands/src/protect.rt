@@ -10,7 +10,7 @@ use crate::fault::FecFault;
 use crate::image::{Extent, ThreeImages, data_end, lay_out, open_three};
 use block_device::{BlockDev, SyncDev};
 use command_line::FecFile;
-use device_window::Window;
+use device_adapters::Window;
 use fec_area::{Layout, ParityFault, write_parity};
 use image_commands::ImagePlaces;
 use image_files::{Images, OpenImage};

@@ -4,7 +4,7 @@ ghost use Rattle.command_line.specs.FormatOptions.{block_size_of, option_texts, 
 ghost use Rattle.fec_commands.specs.Sizes.{differ, says_two_sizes};
 
 use command_line::OptionWords;
-use table_reader::number;
+use table_text::number;
 
 const SIZE: u64 = 4096;
 

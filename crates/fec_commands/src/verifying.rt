@@ -8,14 +8,14 @@ use crate::fault::FecFault;
 use crate::image::{LaidTree, ThreeImages, data_end, lay_out};
 use block_device::BlockDev;
 use command_line::FecVerifyWords;
-use counted_io::Counted;
+use device_adapters::{Watched, Watchers, bytes_before, watcher_of};
 use fec_area::{Layout, ParityFault, check_parity};
 use image_commands::{Bounds, ImagePair, compare, place_parts};
 use image_files::{Images, OpenImage};
+use program_io::Counted;
 use std::alloc::Global;
 use std::io::Write;
 use verity_commands::{root_in, sector_at};
-use watched_device::{Watched, Watchers, bytes_before, watcher_of};
 
 /// Compares an image with its tree, and then its parity with the one in a file. The superblock is read once.
 pub(crate) fn verify_open<'a, I: Images, S: Watchers, W: Write>(

@@ -1,9 +1,9 @@
 -- Windows of devices that are the same.
 use Rattle.std.proofs.Common.{◌≡◌, ◌+◌, ◌^◌, ◌<◌, ◌≤◌, ℕ, ap, arith, subst, ◌∙◌}
 use Rattle.block_device.specs.Device.{Device}
-use Rattle.device_window.specs.declared.part.Part.{Part}
-use Rattle.device_window.specs.Parts.{part_behind}
-use Rattle.device_window.specs.Windows.{windowed}
+use Rattle.device_adapters.specs.declared.part.Part.{Part}
+use Rattle.device_adapters.specs.Parts.{part_behind}
+use Rattle.device_adapters.specs.Windows.{windowed}
 use Rattle.verity_format.specs.declared.formatting.FormatFault.{FormatFault}
 use Rattle.verity_format.specs.declared.formatting.FormatOptions.{FormatOptions}
 use Rattle.image_commands.specs.declared.fault.ImageFault.TheVariants.{Format}

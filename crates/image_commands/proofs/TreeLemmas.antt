@@ -5,8 +5,8 @@ use Rattle.std.proofs.Math.Nat.{zero-mul}
 use Rattle.std.proofs.lemmas.List.{append_assoc, drop-append-le, drop-drop, length-drop, length-take-le, take-append-drop}
 use Rattle.block_device.specs.Device.{Device, IsUnsynced, IsWhole, run_of, spliced}
 use Rattle.block_device.specs.Whole.{length-sectors_of}
-use Rattle.device_window.specs.Parts.{Outside, StandOutside, outside_of, part_behind}
-use Rattle.device_window.specs.Windows.{windowed}
+use Rattle.device_adapters.specs.Parts.{Outside, StandOutside, outside_of, part_behind}
+use Rattle.device_adapters.specs.Windows.{windowed}
 use Rattle.verity_format.specs.declared.formatting.FormatFault.{FormatFault}
 use Rattle.verity_format.specs.Image.{area_sectors, tree_over}
 use Rattle.verity_format.specs.Superblock.{SuperRecord}

@@ -10,7 +10,7 @@ use Rattle.image_files.specs.declared.opening.UnopenedFile.{UnopenedFile}
 use Rattle.image_files.specs.OneFile.{is_one_file}
 use Rattle.image_files.specs.OnePlace.{Compares, FailsToCompare}
 use Rattle.image_files.specs.Opener.{Calls}
-use Rattle.text_files.specs.declared.texts.ReplaceFault.{ReplaceFault}
+use Rattle.image_files.specs.declared.texts.ReplaceFault.{ReplaceFault}
 use Rattle.image_pin.specs.declared.fault.PinFault.{PinFault}
 use Rattle.image_pin.specs.declared.pin.Pin.{Pin}
 use Rattle.image_pin.specs.PinTexts.{limited_pin, pin_text}

@@ -1,7 +1,7 @@
 -- What `verify` says by a pin, and how it ends early.
 use Rattle.std.specs.Prelude.{◌≡◌, ◌⊎◌, ◌+◌, ◌-◌, ◌/◌, ◌^◌, ◌<◌, ◌≤◌, min, ℕ, Bool, true, false, IsTrue, List, Option, Some, None}
 use Rattle.std.specs.Io.KnownBytes.{Appends}
-use Rattle.counted_io.specs.Counted.{CountedRecord}
+use Rattle.program_io.specs.Counted.{CountedRecord}
 use Rattle.std.specs.List.{concat}
 use Rattle.block_device.specs.Device.{Device, HasFailed, run_of}
 use Rattle.image_files.specs.Opener.{Calls, Opener, calls}

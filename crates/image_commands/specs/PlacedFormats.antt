@@ -2,8 +2,8 @@
 use Rattle.std.specs.Prelude.{◌≡◌, ◌⊎◌, ℕ, Bool, true, false}
 use Rattle.rand_core.specs.Stream.{Stream}
 use Rattle.block_device.specs.Device.{Device}
-use Rattle.device_window.specs.Parts.{StandOutside, outside_of, part_behind}
-use Rattle.device_window.specs.Windows.{windowed}
+use Rattle.device_adapters.specs.Parts.{StandOutside, outside_of, part_behind}
+use Rattle.device_adapters.specs.Windows.{windowed}
 use Rattle.verity_format.specs.declared.formatting.FormatFault.{FormatFault}
 use Rattle.verity_format.specs.declared.formatting.FormatOptions.{FormatOptions}
 use Rattle.command_line.specs.declared.image_options.ImageOptions.{ImageOptions}

@@ -2,8 +2,8 @@
 use Rattle.std.specs.Prelude.{◌≡◌, ◌⊎◌, ℕ, ◌+◌, ◌-◌, ◌/◌, ◌%◌, ◌^◌, ◌==◌, ◌&&◌, nat_lt, Bool, true, false, Option, is_none, if◌then◌else◌}
 use Rattle.block_device.specs.Device.{Device}
 use Rattle.block_device.specs.declared.open_fault.OpenFault.TheVariants.{SameFile}
-use Rattle.device_window.specs.Parts.{part_before, part_behind}
-use Rattle.device_window.specs.Windows.{windowed}
+use Rattle.device_adapters.specs.Parts.{part_before, part_behind}
+use Rattle.device_adapters.specs.Windows.{windowed}
 use Rattle.image_files.specs.declared.opening.UnopenedFile.{UnopenedFile}
 use Rattle.image_files.specs.OneFile.{is_one_file}
 use Rattle.image_files.specs.Opener.{Calls, Opener, calls}

@@ -1,10 +1,10 @@
 -- The fields of a superblock as a JSON object, and in which form they are printed.
 use Rattle.std.specs.Prelude.{ℕ, Bool, true, false, List, Option, codes}
 use Rattle.std.specs.Io.KnownBytes.{Appends}
-use Rattle.counted_io.specs.Counted.{CountedRecord}
+use Rattle.program_io.specs.Counted.{CountedRecord}
 use Rattle.uuid.specs.Text.{hyphenated_text, lower}
 use Rattle.serde_json.specs.Data.{Data, number, object, string, unsigned, member, no_members}
-use Rattle.reply_json.specs.Lines.{json_line}
+use Rattle.program_io.specs.JsonLines.{json_line}
 use Rattle.verity_format.specs.Line.{salt_word}
 use Rattle.verity_format.specs.Superblock.{SuperRecord}
 use Rattle.image_commands.specs.SuperblockTexts.{superblock_text}

@@ -2,7 +2,7 @@
 use Rattle.std.specs.Prelude.{ℕ, List, [], ◌++◌, codes, Option, Some, None}
 use Rattle.std.specs.Borrow.{Bor}
 use Rattle.std.specs.Io.KnownBytes.{Appends}
-use Rattle.counted_io.specs.Counted.{CountedRecord}
+use Rattle.program_io.specs.Counted.{CountedRecord}
 use Rattle.verity_format.specs.Line.{verity_text}
 use Rattle.verity_format.specs.Superblock.{SuperRecord}
 use Rattle.image_commands.specs.declared.table.LineWords.{LineWords}

@@ -2,7 +2,7 @@
 use Rattle.std.specs.Prelude.{◌≡◌, ◌≢◌, ◌⊎◌, ℕ, Bool, false, true, List, codes, Option, None}
 use Rattle.std.specs.Borrow.{Bor}
 use Rattle.std.specs.Io.KnownBytes.{Appends}
-use Rattle.counted_io.specs.Counted.{CountedRecord}
+use Rattle.program_io.specs.Counted.{CountedRecord}
 use Rattle.block_device.specs.Device.{Device}
 use Rattle.tree_shape.specs.Shape.{first_fault}
 use Rattle.verity_format.specs.declared.formatting.FormatOptions.{FormatOptions}

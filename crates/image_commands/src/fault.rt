@@ -3,11 +3,10 @@ ghost use Rattle.std.specs.Prelude.{◌≡◌};
 ghost use Rattle.image_commands.specs.declared.fault.ImageFault.TheVariants as image_fault;
 
 use crate::finding::NoTree;
-use counted_io::WriteFault;
-use image_files::UnopenedFile;
+use image_files::{ReplaceFault, UnopenedFile};
 use image_pin::{Mismatch, PinFault};
+use program_io::WriteFault;
 use std::alloc::{AllocError, AllocFailed};
-use text_files::ReplaceFault;
 use verity_format::{FormatFault, Verdict, VerifyFault};
 
 /// Why a command on verity images ends early.

@@ -1,6 +1,6 @@
 //! Makes a hash image over a data image.
 ghost use Rattle.std.specs.Prelude.{IfErr, IfOk};
-ghost use Rattle.counted_io.specs.Counted.{Writes};
+ghost use Rattle.program_io.specs.Counted.{Writes};
 ghost use Rattle.image_commands.specs.Drawing.{DrawsOptions, FailsToDraw};
 ghost use Rattle.image_commands.specs.Formats.{IsUnmade, MakesImage, made_text};
 
@@ -11,7 +11,7 @@ use crate::refusal::check_format;
 use crate::superblock_text::{say_blocks, say_root, say_salt, say_uuid};
 use block_device::{BlockDev, SyncDev};
 use command_line::ImageOptions;
-use counted_io::{Counted, WriteFault};
+use program_io::{Counted, WriteFault};
 use std::alloc::Global;
 use std::io::Write;
 use tree_shape::{Digest, Salt};

@@ -1,12 +1,12 @@
 //! The printed table line of a hash image.
 ghost use Rattle.std.specs.Prelude.{◌++◌, codes, IfErr, OnOk};
-ghost use Rattle.counted_io.specs.Counted.{Writes};
+ghost use Rattle.program_io.specs.Counted.{Writes};
 ghost use Rattle.image_commands.specs.Endings.{IsCommonEnd, IsQuiet};
 ghost use Rattle.image_commands.specs.TableLines.{SaysNamedLine, entry_head};
 
 use crate::fault::ImageFault;
 use crate::table::LineWords;
-use counted_io::{Counted, WriteFault};
+use program_io::{Counted, WriteFault};
 use std::alloc::Global;
 use std::io::Write;
 use verity_format::{Superblock, table_line_at};

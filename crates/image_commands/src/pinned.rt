@@ -10,13 +10,13 @@ use crate::places::{Bounds, ImagePlaces, data_end, is_aligned};
 use crate::tree_verify::compare_at;
 use crate::watching::{WatchedPlaces, bytes_of_blocks, watch};
 use block_device::BlockDev;
-use counted_io::Counted;
+use device_adapters::{Watchers, bytes_before};
 use image_files::Images;
 use image_pin::{Pin, check_superblock};
+use program_io::Counted;
 use std::alloc::Global;
 use std::io::Write;
 use verity_format::{FormatOptions, Verdict, VerifyFault, decode};
-use watched_device::{Watchers, bytes_before};
 
 /// `verify --pin FILE [--hash-offset BYTES] DATA HASH`: `matches` where the superblock at that sector of HASH says what the pin
 /// says, and the tree of the pin over the data stands behind it, under the pin's root. What the superblock says isn't used

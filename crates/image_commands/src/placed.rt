@@ -13,15 +13,14 @@ use crate::superblock_json::say_dump;
 use crate::table::LineWords;
 use crate::watching::{WatchedPlaces, watch};
 use block_device::BlockDev;
-use counted_io::Counted;
-use device_window::Window;
+use device_adapters::{Watchers, Window, bytes_before};
 use image_files::{Images, open_image};
+use program_io::Counted;
 use std::alloc::Global;
 use std::io::Write;
 use std::marker::Brand;
 use tree_shape::Digest;
 use verity_format::read_superblock;
-use watched_device::{Watchers, bytes_before};
 
 /// `dump [--hash-offset BYTES] [--json] HASH`: the fields of the superblock at that place, as a JSON object or a line each.
 #[tactic(auto, using(crate::proofs::lemmas::EndingLemmas::quiet))]

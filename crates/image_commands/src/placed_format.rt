@@ -1,7 +1,7 @@
 //! The command `format`.
 ghost use Rattle.std.specs.Prelude.{◌≡◌, Some, IfErr, IfOk};
 ghost use Rattle.std.specs.Option.{ForSome};
-ghost use Rattle.device_window.specs.Parts.{StandOutside, outside_of, part_behind};
+ghost use Rattle.device_adapters.specs.Parts.{StandOutside, outside_of, part_behind};
 ghost use Rattle.image_commands.specs.PlacedFormats.{FailsToMakeAt, IsUnmadeAt, MakesImageAt, MakesImagesAt};
 
 use crate::fault::ImageFault;
@@ -11,12 +11,11 @@ use crate::random::Generators;
 use crate::watching::{WatchedPlaces, bytes_of_blocks, watch};
 use block_device::{BlockDev, SyncDev};
 use command_line::ImageOptions;
-use device_window::{Beside, Window};
+use device_adapters::{Beside, Watchers, Window, bytes_before};
 use image_files::Images;
 use std::alloc::Global;
 use std::marker::Brand;
 use verity_format::{FormatFault, FormatOptions};
-use watched_device::{Watchers, bytes_before};
 
 /// `format [--hash-offset BYTES] [OPTIONS] DATA HASH`: makes the hash image that begins at that sector of HASH. Both may be one
 /// file if that sector isn't the first; the data are then as many blocks as the options say, which lie before it.

@@ -1,6 +1,6 @@
 //! The fields of a superblock as a JSON object.
 ghost use Rattle.std.specs.Prelude.{◌≡◌, ◌≤◌, length, string_bytes, IfOk, IfErr, OnOk};
-ghost use Rattle.reply_json.specs.Lines.{json_line};
+ghost use Rattle.program_io.specs.JsonLines.{json_line};
 ghost use Rattle.uuid.specs.Text.{hyphenated_text, lower};
 ghost use Rattle.serde_json.specs.Data.{string};
 ghost use Rattle.serde_json.specs.View.{view};
@@ -10,8 +10,7 @@ ghost use Rattle.image_commands.specs.SuperblockJson.{SaysDump, fields_json, sup
 
 use crate::fault::ImageFault;
 use crate::superblock_text::say_superblock;
-use counted_io::Counted;
-use reply_json::line_of;
+use program_io::{Counted, line_of};
 use serde_json::{Value, json};
 use std::alloc::{AllocError, Global};
 use std::io::Write;

@@ -1,10 +1,10 @@
 //! The printed fields of a superblock.
 ghost use Rattle.std.specs.Prelude.{◌≤◌, ◌++◌, codes, length};
 ghost use Rattle.hex.specs.Hex.{encode_lower};
-ghost use Rattle.counted_io.specs.Counted.{Writes};
+ghost use Rattle.program_io.specs.Counted.{Writes};
 ghost use Rattle.image_commands.specs.SuperblockTexts.{algorithm_text, blocks_text, data_block_text, data_blocks_text, hash_block_text, root_text, salt_text, sizes_text, superblock_text, uuid_text};
 
-use counted_io::{Counted, WriteFault};
+use program_io::{Counted, WriteFault};
 use std::io::Write;
 use tree_shape::Digest;
 use uuid::Uuid;

@@ -1,7 +1,7 @@
 //! The command `format --no-superblock`: makes a tree alone.
 ghost use Rattle.std.specs.Prelude.{◌≡◌, Some, IfErr, IfOk, OnOk};
-ghost use Rattle.counted_io.specs.Counted.{Writes};
-ghost use Rattle.device_window.specs.Parts.{outside_of, part_behind};
+ghost use Rattle.program_io.specs.Counted.{Writes};
+ghost use Rattle.device_adapters.specs.Parts.{outside_of, part_behind};
 ghost use Rattle.image_commands.specs.Endings.{IsQuiet};
 ghost use Rattle.image_commands.specs.TreeFormats.{FailsToMakeShape, FailsToPlaceTree, FailsToMakeTree, FormatsTree, IsFinished, IsTreeMade, IsUnfinished, MakesTreeBehind, tree_text};
 
@@ -15,15 +15,14 @@ use crate::tree_place::{tree_of, unnamed};
 use crate::watching::{WatchedPlaces, bytes_of_blocks, watch};
 use block_device::{BlockDev, SyncDev};
 use command_line::ImageOptions;
-use counted_io::{Counted, WriteFault};
-use device_window::{Beside, Part, Window};
+use device_adapters::{Beside, Part, Watchers, Window, bytes_before};
 use image_files::Images;
+use program_io::{Counted, WriteFault};
 use std::alloc::Global;
 use std::io::Write;
 use std::marker::{Brand, PhantomData};
 use tree_shape::Digest;
 use verity_format::{FormatFault, FormatOptions, Superblock};
-use watched_device::{Watchers, bytes_before};
 
 /// `format --no-superblock [--hash-offset BYTES] [OPTIONS] DATA HASH`: writes the tree alone at that sector of HASH, and
 /// its root, salt and number of blocks to the writer. Both may be one file; the data are then as many blocks as the options

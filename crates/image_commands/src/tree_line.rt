@@ -8,7 +8,7 @@ use crate::line::say_line;
 use crate::places::{is_aligned, tree_start};
 use crate::table::LineWords;
 use crate::tree_place::tree_of;
-use counted_io::Counted;
+use program_io::Counted;
 use std::alloc::Global;
 use std::io::Write;
 use verity_format::FormatOptions;

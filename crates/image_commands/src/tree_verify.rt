@@ -10,13 +10,13 @@ use crate::places::{Bounds, ImagePlaces, data_end, is_aligned};
 use crate::tree_place::tree_of;
 use crate::watching::{WatchedPlaces, bytes_of_blocks, watch};
 use block_device::BlockDev;
-use counted_io::Counted;
+use device_adapters::{Watchers, bytes_before};
 use image_files::Images;
+use program_io::Counted;
 use std::alloc::Global;
 use std::io::Write;
 use tree_shape::Digest;
 use verity_format::FormatOptions;
-use watched_device::{Watchers, bytes_before};
 
 /// What a tree is to be: its options and its root.
 #[derive(Clone, Copy)]

@@ -4,9 +4,9 @@ ghost use Rattle.std.specs.Prelude.{◌≡◌};
 use crate::paths::TwoImages;
 use crate::places::ImagePlaces;
 use block_device::BlockDev;
+use device_adapters::{Watched, Watchers, watcher_of};
 use image_files::OpenImage;
 use verity_format::FormatOptions;
-use watched_device::{Watched, Watchers, watcher_of};
 
 /// The places of two images, and whether it is shown how much of the data was read.
 #[derive(Clone, Copy, Debug, PartialEq, Eq)]

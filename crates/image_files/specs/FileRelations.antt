@@ -9,9 +9,9 @@ use Rattle.block_device.specs.Device.{Device}
 use Rattle.block_device.specs.File.{IsOpened}
 use Rattle.block_device.specs.FileCalls.{IsOfPath, Opened}
 use Rattle.block_device.specs.Identity.{IsLongEnough}
-use Rattle.device_window.specs.declared.part.Part.{Part}
-use Rattle.device_window.specs.Parts.{LiesInside}
-use Rattle.device_window.specs.Windows.{windowed}
+use Rattle.device_adapters.specs.declared.part.Part.{Part}
+use Rattle.device_adapters.specs.Parts.{LiesInside}
+use Rattle.device_adapters.specs.Windows.{windowed}
 use Rattle.image_files.specs.declared.images.OpenImage.{OpenImage}
 use Rattle.image_files.specs.FileLocks.{Locks, LocksAtMost}
 use Rattle.image_files.specs.Opener.{Opener}

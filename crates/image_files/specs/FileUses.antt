@@ -1,8 +1,8 @@
 -- Which files are open, and how: no sector of a file may be open twice where one of the two may write.
 use Rattle.std.specs.Prelude.{◌&&◌, ◌||◌, Bool, false, true, List, Option, None, Some}
 use Rattle.std.specs.List.{list_any}
-use Rattle.device_window.specs.declared.part.Part.{Part}
-use Rattle.device_window.specs.Parts.{overlaps}
+use Rattle.device_adapters.specs.declared.part.Part.{Part}
+use Rattle.device_adapters.specs.Parts.{overlaps}
 use Rattle.image_files.specs.declared.file_use.FileUse.{FileUse}
 use Rattle.image_files.specs.declared.images.FileText.{FileText}
 use Rattle.image_files.specs.declared.images.OpenImage.{OpenImage}

@@ -8,3 +8,5 @@ pub mod Opened
 pub mod Opener
 pub mod OpenParts
 pub mod Promises
+pub mod Calls
+pub mod Drafts

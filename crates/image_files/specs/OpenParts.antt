@@ -1,7 +1,7 @@
 -- Parts of images that are opened beside files which are open already.
 use Rattle.std.specs.Prelude.{◌≡◌, ◌⊎◌, ℕ, Bool, true, false, List, Ok, Err}
 use Rattle.block_device.specs.declared.open_fault.OpenFault.TheVariants.{SameFile}
-use Rattle.device_window.specs.declared.part.Part.{Part}
+use Rattle.device_adapters.specs.declared.part.Part.{Part}
 use Rattle.image_files.specs.declared.file_use.FileUse.{FileUse}
 use Rattle.image_files.specs.declared.images.OpenImage.{OpenImage}
 use Rattle.image_files.specs.declared.opening.UnopenedFile.{UnopenedFile}

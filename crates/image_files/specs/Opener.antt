@@ -1,12 +1,12 @@
 -- What a proof sees of what commands open. S is the opener, D a device that it opens.
 use Rattle.std.specs.Prelude.{◌≡◌, ℕ, Bool, false, List, Result}
-use Rattle.device_window.specs.declared.part.Part.{Part}
+use Rattle.device_adapters.specs.declared.part.Part.{Part}
 use Rattle.block_device.specs.declared.open_fault.OpenFault.{OpenFault}
 use Rattle.block_device.specs.Device.{Device}
 use Rattle.image_files.specs.declared.images.FileText.{FileText}
 use Rattle.image_files.specs.declared.images.OpenImage.{OpenImage}
 use Rattle.image_files.specs.declared.parts.PartFault.{PartFault}
-use Rattle.text_files.specs.declared.texts.ReplaceFault.{ReplaceFault}
+use Rattle.image_files.specs.declared.texts.ReplaceFault.{ReplaceFault}
 
 -- Relations of the opener before a call, the call's arguments, its outcome, and the opener after it. What is generic over the
 -- opener knows none of them but by a call, so that a clause that cites one says which call was made.

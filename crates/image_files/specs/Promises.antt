@@ -1,16 +1,16 @@
 -- What is taken of an operating system's files: a premise of who reads the commands' clauses of files. The library's contracts
--- say none of it, so no proof gives it of `FileImages`; images in memory keep it (`memory_images`).
+-- say none of it, so no proof gives it of `FileImages`; images in memory keep it (`command_tests`).
 use Rattle.std.specs.Prelude.{◌≡◌, ◌+◌, ◌-◌, ◌*◌, ◌/◌, ◌%◌, ◌≤◌, ◌==◌, ◌++◌, ℕ, Bool, true, false, not, IsSome, List, length, take, drop, replicate, Option, Some, None, Result, Ok}
 use Rattle.block_device.specs.declared.file_id.FileId.{FileId}
 use Rattle.block_device.specs.declared.open_fault.OpenFault.{OpenFault}
 use Rattle.block_device.specs.Device.{Device, sectors_of}
-use Rattle.device_window.specs.declared.part.Part.{Part}
+use Rattle.device_adapters.specs.declared.part.Part.{Part}
 use Rattle.image_files.specs.declared.images.FileText.{FileText}
 use Rattle.image_files.specs.declared.images.OpenImage.{OpenImage}
 use Rattle.image_files.specs.declared.parts.PartFault.{PartFault}
 use Rattle.image_files.specs.OneFile.{is_one_file}
 use Rattle.image_files.specs.Opener.{Opener}
-use Rattle.text_files.specs.declared.texts.ReplaceFault.{ReplaceFault}
+use Rattle.image_files.specs.declared.texts.ReplaceFault.{ReplaceFault}
 
 -- a file, and the bytes that it holds
 pub record FileRecord : Type 0 where

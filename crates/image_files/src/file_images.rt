@@ -7,20 +7,22 @@ ghost use Rattle.block_device.specs.FileId.{file_id, file_of};
 ghost use Rattle.image_files.specs.FileLocks.{Locks, LocksAtMost};
 
 use crate::file_locks::FileLocks;
+use crate::file_texts::FileTexts;
 use crate::growing::make_file;
 use crate::images::{FileText, Images, OpenImage};
 use crate::one_place::is_one_place;
 use crate::parts::PartFault;
+use crate::system_calls::SystemCalls;
+use crate::texts::{ReplaceFault, Texts};
 use block_device::{
     AnyDev, BlockDev, FileDev, FileId, MemoryDev, OpenFault, metadata_at, metadata_of,
 };
-use device_window::{OutsideDevice, Part, Window};
+use device_adapters::{OutsideDevice, Part, Window};
 use std::alloc::Global;
 use std::fs;
 use std::fs::File;
 use std::io::{ErrorKind, Read};
 use std::rt::Files;
-use text_files::{FileTexts, ReplaceFault, SystemCalls, Texts};
 
 // The text under this path is the standard input's.
 const INPUT: &str = "-";

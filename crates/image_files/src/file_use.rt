@@ -4,7 +4,7 @@ ghost use Rattle.image_files.specs.FileUses.{do_meet, has_clash, is_clash};
 
 use crate::one_file::is_one_file;
 use block_device::FileId;
-use device_window::Part;
+use device_adapters::Part;
 
 /// Which file is open, where the opener tells it, whether it may be written, and which part of it, where it isn't all.
 #[derive(Clone, Copy, Debug, PartialEq, Eq)]

@@ -1,10 +1,11 @@
 //! Files that are made.
+use crate::calls::{CallFault, FileCalls};
 use crate::one_place::target_of;
+use crate::system_calls::SystemCalls;
 use block_device::OpenFault;
 use std::fs::File;
 use std::io::ErrorKind;
 use std::rt::Files;
-use text_files::{CallFault, FileCalls, SystemCalls};
 
 /// Makes an empty file if a path leads to none, and syncs the folder that lists it.
 ///

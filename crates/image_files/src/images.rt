@@ -4,9 +4,9 @@ ghost use Rattle.block_device.specs.declared.open_fault.OpenFault.TheVariants as
 ghost use Rattle.image_files.specs.Opener.{IsFresh, Opener};
 
 use crate::parts::PartFault;
+use crate::texts::ReplaceFault;
 use block_device::{BlockDev, FileId, MemoryDev, OpenFault, SyncDev};
-use device_window::Part;
-use text_files::ReplaceFault;
+use device_adapters::Part;
 
 /// An image that was opened, and which file it is, where that is known.
 #[derive(Drop)]

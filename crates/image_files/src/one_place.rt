@@ -2,11 +2,13 @@
 ghost use Rattle.std.specs.Prelude.{◌≡◌, true, IfErr, IfOk};
 ghost use Rattle.block_device.specs.declared.open_fault.OpenFault.TheVariants as open_fault;
 
+use crate::calls::FileCalls;
 use crate::one_file::is_one_file;
+use crate::system_calls::{SystemCalls, folder_and_name};
+use crate::texts::ReplaceFault;
 use block_device::{FileId, OpenFault, metadata_at};
 use std::fs::File;
 use std::rt::Files;
-use text_files::{FileCalls, ReplaceFault, SystemCalls, folder_and_name};
 
 /// Whether both paths lead to one name in one folder, after the symbolic links at their ends.
 ///

@@ -8,7 +8,7 @@ use crate::file_use::{FileUse, has_clash};
 use crate::images::{Images, OpenImage};
 use crate::opening::UnopenedFile;
 use block_device::{BlockDev, OpenFault};
-use device_window::Part;
+use device_adapters::Part;
 
 /// Why a part of an image isn't opened.
 #[derive(Clone, Copy, Debug, PartialEq, Eq)]

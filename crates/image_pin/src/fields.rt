@@ -6,7 +6,7 @@ ghost use Rattle.image_pin.specs.Fields.{block_size_of, finish, needed, no_field
 use crate::fault::PinFault;
 use crate::name::PinName;
 use crate::pin::Pin;
-use table_reader::number;
+use table_text::number;
 use tree_shape::{Algorithm, Digest, Salt};
 
 const DIGITS: usize = 512;

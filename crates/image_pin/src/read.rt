@@ -9,7 +9,7 @@ use crate::fault::PinFault;
 use crate::fields::{PinFields, finish, set_field};
 use crate::name::name_of;
 use crate::pin::Pin;
-use table_reader::Words;
+use table_text::Words;
 
 /// The most bytes that a pin may have.
 pub const MOST_BYTES: usize = 4096;

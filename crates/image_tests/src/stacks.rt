@@ -7,7 +7,7 @@ use stack_engine::{Answer, IoFault, Stack};
 use stack_loader::config_over;
 use std::alloc::{AllocError, Global};
 use std::test::Fail;
-use table_reader::parse_stack;
+use table_text::parse_stack;
 
 /// The leaf of that name which the device serves.
 fn leaf_of<D: BlockDev>(alloc: Global, name: &[u8], device: &D) -> Result<Leaf, AllocError>

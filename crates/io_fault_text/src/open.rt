@@ -1,12 +1,12 @@
 //! Writes which file isn't opened, and why.
-ghost use Rattle.counted_io.specs.Counted.{Writes};
+ghost use Rattle.program_io.specs.Counted.{Writes};
 ghost use Rattle.io_fault_text.specs.Opening.{open_text};
 
 use crate::path::say_path;
 use crate::say::say_no_memory;
 use block_device::OpenFault;
-use counted_io::{Counted, WriteFault};
 use image_files::UnopenedFile;
+use program_io::{Counted, WriteFault};
 use std::io::Write;
 
 /// `refused K NAME PATH`, or `no memory`.

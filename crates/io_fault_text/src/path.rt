@@ -1,9 +1,9 @@
 //! Writes paths.
 ghost use Rattle.std.specs.Prelude.{◌≡◌, IsTrue, length};
-ghost use Rattle.counted_io.specs.Counted.{Writes};
+ghost use Rattle.program_io.specs.Counted.{Writes};
 ghost use Rattle.io_fault_text.specs.Paths.{is_control, shown_byte, shown_path};
 
-use counted_io::{Counted, WriteFault};
+use program_io::{Counted, WriteFault};
 use std::io::Write;
 
 /// The path, in which each control character is `\xHH`: so it stays on its line, whatever it holds.

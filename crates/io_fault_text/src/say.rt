@@ -1,8 +1,8 @@
 //! Writes faults.
-ghost use Rattle.counted_io.specs.Counted.{Writes};
+ghost use Rattle.program_io.specs.Counted.{Writes};
 ghost use Rattle.io_fault_text.specs.Texts.{io_text, io_words, no_memory, refused_text, usage_text};
 
-use counted_io::{Counted, WriteFault};
+use program_io::{Counted, WriteFault};
 use stack_meaning::IoFault;
 use std::io::Write;
 

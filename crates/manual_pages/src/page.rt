@@ -1,8 +1,8 @@
 //! A page of the manual.
-ghost use Rattle.counted_io.specs.Counted.{Writes};
+ghost use Rattle.program_io.specs.Counted.{Writes};
 
 use crate::pages::{IMAGE_PAGES, STACK_PAGES};
-use counted_io::{Counted, WriteFault};
+use program_io::{Counted, WriteFault};
 use std::io::Write;
 
 /// A command's name, or no letter for the page of the program; and what is printed.

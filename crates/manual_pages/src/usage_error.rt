@@ -1,12 +1,12 @@
 //! What is printed of arguments that are no command.
 ghost use Rattle.std.specs.Prelude.{◌≡◌, ◌==◌, IfSome, option_copied, position};
 ghost use Rattle.std.specs.List.{before_first};
-ghost use Rattle.counted_io.specs.Counted.{Writes};
+ghost use Rattle.program_io.specs.Counted.{Writes};
 ghost use Rattle.manual_pages.specs.UsageErrors.{IsFirst, IsUsageError, command_error, has_option, is_ahead, is_unknown, name_error, no_command_text, no_option_text, option_text, page_text, unknown_option, usage_error, usage_text};
 
 use crate::commands::COMMANDS;
-use counted_io::{Counted, WriteFault};
 use io_fault_text::say_path;
+use program_io::{Counted, WriteFault};
 use std::io::Write;
 
 /// A command: its name, how it is called, and its options, by each of their names.

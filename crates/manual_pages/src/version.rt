@@ -1,8 +1,8 @@
 //! Which program this is.
 ghost use Rattle.std.specs.Prelude.{codes};
-ghost use Rattle.counted_io.specs.Counted.{Writes};
+ghost use Rattle.program_io.specs.Counted.{Writes};
 
-use counted_io::{Counted, WriteFault};
+use program_io::{Counted, WriteFault};
 use std::io::Write;
 
 /// Prints the program's name and the logic of the prover that its sources are proved with.

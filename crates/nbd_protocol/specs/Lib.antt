@@ -3,3 +3,7 @@ pub mod Exports
 pub mod Offers
 pub mod Headers
 pub mod Streaming
+pub mod Chunks
+pub mod OptionReplies
+pub mod Contexts
+pub mod Handshake

@@ -2,7 +2,7 @@
 ghost use Rattle.std.specs.Prelude.{◌≡◌};
 ghost use Rattle.nbd_protocol.specs.declared.fault.ServiceFault.TheVariants as service_fault;
 
-use counted_io::WriteFault;
+use program_io::WriteFault;
 use thiserror::Error;
 
 /// Why the service of a client ended early.

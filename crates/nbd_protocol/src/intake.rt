@@ -4,7 +4,7 @@ ghost use Rattle.nbd_protocol.specs.Streaming.{Fills, FillsPart, HasRead, HavePl
 
 use crate::fault::ServiceFault;
 use allocation::zeros;
-use counted_io::Counted;
+use program_io::Counted;
 use std::alloc::Global;
 use std::io::{ErrorKind, Read};
 

@@ -1,9 +1,9 @@
 //! Numbers in network byte order.
 ghost use Rattle.std.specs.Prelude.{◌≡◌, ◌+◌, ◌≤◌, length};
-ghost use Rattle.counted_io.specs.Counted.{Writes};
+ghost use Rattle.program_io.specs.Counted.{Writes};
 ghost use Rattle.nbd_protocol.specs.Numbers.{bytes16, bytes32, bytes64, big_endian16, big_endian32, big_endian64};
 
-use counted_io::{Counted, WriteFault};
+use program_io::{Counted, WriteFault};
 use std::io::Write;
 
 /// The number in two bytes from a place on.

@@ -7,9 +7,9 @@ use Rattle.std.proofs.KnownBytes.{Appends-trans}
 use Rattle.std.proofs.lemmas.List.{drop-drop, length-drop, length-take-le, replicate-append-replicate, take-append-drop, take-replicate}
 use Rattle.std.proofs.lemmas.Slice.Eq.{bytes_eq-Decides}
 use Rattle.std.proofs.Math.Seq.{take-add, take-length}
-use Rattle.counted_io.specs.Counted.{CountedRecord, Writes, WritesSome}
-use Rattle.counted_io.specs.declared.fault.WriteFault.{WriteFault}
-use Rattle.nbd_chunks.specs.Chunks.{data_chunk, hole_chunk}
+use Rattle.program_io.specs.Counted.{CountedRecord, Writes, WritesSome}
+use Rattle.program_io.specs.declared.fault.WriteFault.{WriteFault}
+use Rattle.nbd_protocol.specs.Chunks.{data_chunk, hole_chunk}
 use Rattle.nbd_server.specs.Content.{HaveData, TellsContent, TellsData, some_hole}
 
 -- ---- zeros

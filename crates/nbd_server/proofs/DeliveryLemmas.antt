@@ -5,8 +5,8 @@ use Rattle.std.specs.Io.KnownBytes.{Appends, Keeps}
 use Rattle.std.proofs.KnownBytes.{Appends-kept, Appends-nil, Appends-trans}
 use Rattle.std.proofs.lemmas.Bool.{cases_lt}
 use Rattle.std.proofs.lemmas.List.{drop-append-le, length-drop, length-take-le, take-append-le}
-use Rattle.counted_io.specs.Counted.{CountedRecord, Grows, Writes, WritesSome, Writing}
-use Rattle.counted_io.specs.declared.fault.WriteFault.{WriteFault}
+use Rattle.program_io.specs.Counted.{CountedRecord, Grows, Writes, WritesSome, Writing}
+use Rattle.program_io.specs.declared.fault.WriteFault.{WriteFault}
 use Rattle.request_queue.specs.Parts.{EachPart}
 use Rattle.request_queue.specs.Runs.{IsLed}
 use Rattle.request_queue.specs.World.{World}
@@ -18,7 +18,7 @@ use Rattle.nbd_server.specs.Sectors.{IsFetched, FailsToFetch, EndsIn, HasNoBuffe
 use Rattle.nbd_server.specs.Status.{TouchZeros, touched}
 use Rattle.nbd_server.specs.Transmission.{ReadsExport}
 use Rattle.nbd_server.specs.Premises.{AreBytesOf, IsDeliveryRest}
-use Rattle.nbd_chunks.specs.Chunks.{error_at_chunk, hole_chunk}
+use Rattle.nbd_protocol.specs.Chunks.{error_at_chunk, hole_chunk}
 use Rattle.nbd_server.specs.Content.{TellsContent}
 use Rattle.stack_rules.specs.Records.{Configuration}
 use Rattle.nbd_server.specs.Delivery.{AnswersPiece, Delivers, delivers_none, delivers_more, DeliversPart, GoesOnReplying, IsDelivered, IsLost, IsDeliveryPiece, IsStuck, SendsPiece, at_first}

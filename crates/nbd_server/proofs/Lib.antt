@@ -8,3 +8,4 @@ pub mod ReadStatusLemmas
 pub mod StoreLemmas
 pub mod MessageLemmas
 pub mod RunLemmas
+mod ExtentLemmas

@@ -9,8 +9,8 @@ use Rattle.std.proofs.lemmas.List.Elements.{All-get_or}
 use Rattle.std.proofs.lemmas.List.Quantifiers.{position-Some}
 use Rattle.std.proofs.lemmas.Slice.Eq.{bytes_eq-Decides}
 use Rattle.request_queue.specs.World.{World}
-use Rattle.counted_io.specs.Counted.{Grows}
-use Rattle.counted_io.specs.Streams.{Streams, streams}
+use Rattle.program_io.specs.Counted.{Grows}
+use Rattle.program_io.specs.Streams.{Streams, streams}
 use Rattle.nbd_protocol.specs.declared.fault.ServiceFault.{ServiceFault}
 use Rattle.nbd_protocol.specs.declared.fault.ServiceFault.TheVariants as fault
 use Rattle.nbd_protocol.specs.declared.phase.Terms.{Terms}
@@ -20,7 +20,7 @@ use Rattle.nbd_protocol.specs.declared.phase.Phase.TheVariants.{Greeted, Hagglin
 use Rattle.nbd_protocol.specs.declared.header.Header.{Header}
 use Rattle.nbd_protocol.specs.Numbers.{big_endian32}
 use Rattle.nbd_protocol.specs.Exports.{ExportRecord, HasShortName, asked, export_at, most_name, no_export, export_place}
-use Rattle.nbd_options.specs.Handshake.{answer_to, answer_to_long, most_data, names_export, phase_after, phase_after_long}
+use Rattle.nbd_protocol.specs.Handshake.{answer_to, answer_to_long, most_data, names_export, phase_after, phase_after_long}
 use Rattle.nbd_protocol.specs.Headers.{command_of, header_of, is_chunked, payload_len, request_magic}
 use Rattle.nbd_server.specs.Causes.{Breaks, IsMessageCut, IsCutWithin, IsNaming}
 use Rattle.nbd_protocol.specs.Streaming.{IsShort, Spoken, Stops, TakesInto}

@@ -6,7 +6,7 @@ use Rattle.std.proofs.KnownBytes.{Appends-nil, Appends-trans, Appends-kept, Cons
 use Rattle.request_queue.specs.Parts.{EachPart}
 use Rattle.request_queue.specs.Runs.{IsLed}
 use Rattle.request_queue.specs.World.{World}
-use Rattle.counted_io.specs.Streams.{Streams, streams}
+use Rattle.program_io.specs.Streams.{Streams, streams}
 use Rattle.nbd_protocol.specs.declared.fault.ServiceFault.{ServiceFault}
 use Rattle.nbd_protocol.specs.declared.fault.ServiceFault.TheVariants as fault
 use Rattle.nbd_protocol.specs.declared.phase.Terms.{Terms}
@@ -23,7 +23,7 @@ use Rattle.nbd_protocol.specs.Headers.{command_of, header_of}
 use Rattle.nbd_server.specs.Sectors.{EndsPut, StopsPut}
 use Rattle.nbd_server.specs.Replies.{RequestOutcome}
 use Rattle.nbd_server.specs.Transmission.{FailsToReadEnds, Flushes, IsFramed, ServesCommand, Settles, WritesExport, WritesGiven, WritesPart, WritesPayload, WritesAny, room_behind}
-use Rattle.nbd_options.specs.Handshake.{greeting, is_info, name_in, phase_after, serving_at, terms_after, terms_after_long}
+use Rattle.nbd_protocol.specs.Handshake.{greeting, is_info, name_in, phase_after, serving_at, terms_after, terms_after_long}
 use Rattle.nbd_protocol.proofs.lemmas.ExportLemmas.{asked-inside}
 use Rattle.nbd_server.specs.Premises.{IsExportPlaced}
 use Rattle.nbd_server.specs.Causes.{Breaks}

@@ -5,9 +5,9 @@ use Rattle.std.proofs.lemmas.List.{length-append}
 use Rattle.stack_rules.specs.Names.{mapped}
 use Rattle.stack_rules.specs.Records.{Configuration}
 use Rattle.stack_meaning.specs.Meaning.{said_at}
-use Rattle.stack_extents.specs.declared.extent.Extent.{Extent}
-use Rattle.stack_extents.specs.declared.extent.ExtentKind.TheVariants as known
-use Rattle.stack_extents.specs.Extents.{IgnoresZeros, IsToldExtent}
+use Rattle.nbd_server.specs.declared.extent.Extent.{Extent}
+use Rattle.nbd_server.specs.declared.extent.ExtentKind.TheVariants as known
+use Rattle.nbd_server.specs.Extents.{IgnoresZeros, IsToldExtent}
 use Rattle.nbd_protocol.specs.Exports.{ExportRecord}
 use Rattle.nbd_protocol.specs.Numbers.{bytes32}
 use Rattle.nbd_server.specs.declared.status.BlockStatus.{BlockStatus}

@@ -1,6 +1,6 @@
 -- Bytes that were read, told by at most three chunks: a hole, data and a hole.
 use Rattle.std.specs.Prelude.{◌≡◌, ◌≢◌, ◌⊎◌, ◌<◌, ℕ, ◌+◌, ◌==◌, ◌&&◌, Bool, false, List, [], ◌++◌, length, replicate, if◌then◌else◌}
-use Rattle.nbd_chunks.specs.Chunks.{data_chunk, hole_chunk}
+use Rattle.nbd_protocol.specs.Chunks.{data_chunk, hole_chunk}
 
 -- some of the bytes isn't zero
 abbrev pub HaveData : List ℕ → Type 0

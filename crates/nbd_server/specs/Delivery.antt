@@ -2,8 +2,8 @@
 -- reply types": OFFSET_DATA, OFFSET_HOLE and ERROR_OFFSET).
 use Rattle.std.specs.Prelude.{◌≡◌, ◌⊎◌, ◌<◌, ◌≤◌, ℕ, ◌+◌, ◌/◌, ◌%◌, ◌==◌, ◌&&◌, Bool, not, nat_lt, List, [], ◌++◌, Option, Some, None, Result, Ok, Err, if◌then◌else◌}
 use Rattle.std.specs.Io.KnownBytes.{Appends}
-use Rattle.counted_io.specs.Counted.{CountedRecord, WritesSome}
-use Rattle.counted_io.specs.declared.fault.WriteFault.{WriteFault}
+use Rattle.program_io.specs.Counted.{CountedRecord, WritesSome}
+use Rattle.program_io.specs.declared.fault.WriteFault.{WriteFault}
 use Rattle.request_queue.specs.World.{World}
 use Rattle.nbd_protocol.specs.Exports.{ExportRecord, export_record}
 use Rattle.nbd_protocol.specs.Headers.{command_of, is_chunked}
@@ -13,7 +13,7 @@ use Rattle.nbd_protocol.specs.declared.header.Header.{Header}
 use Rattle.nbd_protocol.specs.declared.phase.Agreement.{Agreement}
 use Rattle.nbd_protocol.specs.declared.request_error.RequestError.{RequestError}
 use Rattle.nbd_protocol.specs.declared.export.Export.{Export}
-use Rattle.nbd_chunks.specs.Chunks.{error_at_chunk, hole_chunk}
+use Rattle.nbd_protocol.specs.Chunks.{error_at_chunk, hole_chunk}
 use Rattle.nbd_server.specs.Content.{TellsContent}
 use Rattle.nbd_server.specs.Status.{TouchZeros, touched}
 use Rattle.nbd_server.specs.Transmission.{ReadsExport}

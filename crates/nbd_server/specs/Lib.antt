@@ -8,3 +8,4 @@ pub mod Causes
 pub mod Service
 pub mod Zeros
 pub mod Premises
+pub mod Extents

@@ -5,7 +5,7 @@ use Rattle.nbd_protocol.specs.Numbers.{bytes32, bytes64}
 use Rattle.nbd_protocol.specs.declared.header.Header.{Header}
 use Rattle.nbd_protocol.specs.declared.phase.Agreement.{Agreement}
 use Rattle.nbd_protocol.specs.declared.request_error.RequestError.{RequestError}
-use Rattle.nbd_chunks.specs.Chunks.{data_chunk, error_chunk, none_chunk, status_chunk}
+use Rattle.nbd_protocol.specs.Chunks.{data_chunk, error_chunk, none_chunk, status_chunk}
 
 -- the bytes that a request gives, or why it fails
 abbrev pub RequestOutcome : Type 0

@@ -4,12 +4,12 @@ use Rattle.std.specs.Io.KnownBytes.{Appends, Consumes, IsAtEnd, Keeps}
 use Rattle.request_queue.specs.Parts.{EachPart}
 use Rattle.request_queue.specs.Runs.{IsLed}
 use Rattle.request_queue.specs.World.{World}
-use Rattle.counted_io.specs.Counted.{CountedRecord}
-use Rattle.counted_io.specs.Streams.{Streams, streams}
+use Rattle.program_io.specs.Counted.{CountedRecord}
+use Rattle.program_io.specs.Streams.{Streams, streams}
 use Rattle.nbd_protocol.specs.Numbers.{big_endian32}
 use Rattle.nbd_protocol.specs.Exports.{ExportRecord, asked, export_at, export_records}
 use Rattle.nbd_protocol.specs.declared.export.Export.{Export}
-use Rattle.nbd_options.specs.Handshake.{greeting, answer_to, answer_to_long, phase_after, phase_after_long, names_export, most_data}
+use Rattle.nbd_protocol.specs.Handshake.{greeting, answer_to, answer_to_long, phase_after, phase_after_long, names_export, most_data}
 use Rattle.nbd_protocol.specs.Headers.{header_of, payload_len, request_magic}
 use Rattle.nbd_server.specs.Causes.{Breaks}
 use Rattle.nbd_protocol.specs.Streaming.{Spoken, TakesInto, content_in}

@@ -5,8 +5,8 @@ use Rattle.std.specs.Global.{Global}
 use Rattle.stack_rules.specs.Names.{mapped}
 use Rattle.stack_rules.specs.Records.{Configuration}
 use Rattle.stack_meaning.specs.Meaning.{said_at}
-use Rattle.stack_extents.specs.Extents.{AreZeros, IgnoresZeros}
-use Rattle.stack_extents.specs.declared.extent.ExtentKind.TheVariants as known
+use Rattle.nbd_server.specs.Extents.{AreZeros, IgnoresZeros}
+use Rattle.nbd_server.specs.declared.extent.ExtentKind.TheVariants as known
 use Rattle.nbd_protocol.specs.Exports.{ExportRecord}
 use Rattle.nbd_protocol.specs.Numbers.{bytes32}
 use Rattle.nbd_server.specs.Replies.{RequestOutcome}

@@ -1,11 +1,11 @@
 //! Bytes that were read, told as data and as holes.
 ghost use Rattle.std.specs.Prelude.{◌≡◌, ◌≤◌, ◌<◌, ◌+◌, ◌-◌, ◌^◌, drop, length, replicate, take};
 ghost use Rattle.std.specs.Str.{bytes_eq};
-ghost use Rattle.counted_io.specs.Counted.{WritesSome};
+ghost use Rattle.program_io.specs.Counted.{WritesSome};
 ghost use Rattle.nbd_server.specs.Content.{HaveData, TellsContent, TellsData};
 
-use counted_io::{Counted, WriteFault};
-use nbd_chunks::{say_data, say_hole};
+use nbd_protocol::{say_data, say_hole};
+use program_io::{Counted, WriteFault};
 use std::io::Write;
 
 /// Zeros are looked for by blocks of so many bytes.

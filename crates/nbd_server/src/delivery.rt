@@ -1,8 +1,8 @@
 //! A READ that is answered piece by piece.
 ghost use Rattle.std.specs.Prelude.{◌≡◌, ◌<◌, ◌≤◌, ◌+◌, ◌*◌, ◌%◌, ◌^◌, ◌==◌, length, true, IsTrue, IfErr, IfOk, IfSome, OnErr, OnOk};
-ghost use Rattle.counted_io.specs.Counted.{Writes, WritesSome};
+ghost use Rattle.program_io.specs.Counted.{Writes, WritesSome};
 ghost use Rattle.nbd_protocol.specs.Exports.{export_record};
-ghost use Rattle.nbd_chunks.specs.Chunks.{hole_chunk};
+ghost use Rattle.nbd_protocol.specs.Chunks.{hole_chunk};
 ghost use Rattle.nbd_server.specs.Content.{TellsContent};
 ghost use Rattle.nbd_server.specs.Premises.{AreBytesOf, IsDeliveryRest, ReadsTo};
 ghost use Rattle.nbd_server.specs.Status.{touched};
@@ -15,9 +15,8 @@ use crate::fetch::read_into;
 use crate::room::Room;
 use crate::status::status_at;
 use block_device::BlockDev;
-use counted_io::{Counted, WriteFault};
-use nbd_chunks::{say_error_at, say_hole};
-use nbd_protocol::{Agreement, Command, Export, Header, RequestError};
+use nbd_protocol::{Agreement, Command, Export, Header, RequestError, say_error_at, say_hole};
+use program_io::{Counted, WriteFault};
 use request_queue::Queue;
 use std::io::Write;
 

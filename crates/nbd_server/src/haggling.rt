@@ -1,18 +1,17 @@
 //! The handshake's messages: the client's flags, and the options that it haggles over.
 ghost use Rattle.std.specs.Prelude.{◌≡◌, ◌≢◌, ◌<◌, ◌≤◌, ◌^◌, length, nat_le, IfOk, IfErr};
-ghost use Rattle.counted_io.specs.Streams.{streams};
+ghost use Rattle.program_io.specs.Streams.{streams};
 ghost use Rattle.request_queue.specs.World.{World};
 ghost use Rattle.nbd_protocol.specs.Exports.{HaveShortNames, export_records};
 ghost use Rattle.nbd_server.specs.Service.{EndsFlags, EndsLongOption, EndsMessage, EndsOption, TakesContent};
 ghost use Rattle.nbd_protocol.specs.Streaming.{HasRead, HasWritten, IsShort, result_fault};
 ghost use Rattle.nbd_protocol.specs.declared.phase.Phase.TheVariants.{Haggling};
 
-use counted_io::Counted;
-use nbd_options::{
-    ABORT, EXPORT_NAME, Refusal, acknowledge, names_export, phase_after, refuse, say_answer,
-    terms_after_long,
+use nbd_protocol::{
+    ABORT, EXPORT_NAME, Export, Phase, Refusal, ServiceFault, Terms, acknowledge, fill, fill_part,
+    names_export, number32, phase_after, refuse, say_answer, skip, terms_after_long,
 };
-use nbd_protocol::{Export, Phase, ServiceFault, Terms, fill, fill_part, number32, skip};
+use program_io::Counted;
 use std::io::{Read, Write};
 
 // The most bytes of an option's data.

@@ -1,9 +1,10 @@
-//! Serves a mapped device to a client of the NBD protocol.
+//! Serves a mapped device to a client of the NBD protocol, and tells which of its runs are zeros.
 #![tactic(auto)]
 
 mod byte_range;
 mod content;
 mod delivery;
+mod extent;
 mod fetch;
 mod haggling;
 mod read_status;

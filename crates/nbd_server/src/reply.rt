@@ -1,13 +1,15 @@
 //! Replies to requests.
 ghost use Rattle.std.specs.Prelude.{◌≡◌, ◌<◌, ◌≤◌, ◌+◌, ◌^◌, [], length};
-ghost use Rattle.counted_io.specs.Counted.{Writes};
+ghost use Rattle.program_io.specs.Counted.{Writes};
 ghost use Rattle.nbd_protocol.specs.Headers.{most_length};
 ghost use Rattle.nbd_server.specs.Replies.{chunked_reply, content_chunk, read_chunk, agreed_reply, simple_head, simple_reply};
 ghost use Rattle.nbd_server.specs.Transmission.{IsPart, IsSendable, reply_data, data_outcome};
 
-use counted_io::{Counted, WriteFault};
-use nbd_chunks::{say_data, say_error, say_none, say_status};
-use nbd_protocol::{Agreement, BLOCK_STATUS, Header, RequestError, put32, put64};
+use nbd_protocol::{
+    Agreement, BLOCK_STATUS, Header, RequestError, put32, put64, say_data, say_error, say_none,
+    say_status,
+};
+use program_io::{Counted, WriteFault};
 use std::alloc::Global;
 use std::io::Write;
 

@@ -1,6 +1,6 @@
 //! The service of a client: its messages one after another, and what is replied to each.
 ghost use Rattle.std.specs.Prelude.{◌≢◌};
-ghost use Rattle.counted_io.specs.Streams.{streams};
+ghost use Rattle.program_io.specs.Streams.{streams};
 ghost use Rattle.nbd_protocol.specs.Exports.{AreExports, export_records};
 ghost use Rattle.nbd_server.specs.Premises.{IsGoing};
 ghost use Rattle.nbd_server.specs.Service.{IsService, EndsMessage};
@@ -11,8 +11,8 @@ use crate::haggling::{take_flags, take_option};
 use crate::room::Room;
 use crate::transmission::take_request;
 use block_device::SyncDev;
-use counted_io::Counted;
 use nbd_protocol::{Export, Phase, ServiceFault, export_at};
+use program_io::Counted;
 use request_queue::Queue;
 use std::alloc::Global;
 use std::io::{Read, Write};

@@ -4,15 +4,15 @@ ghost use Rattle.allocation.specs.Refusal.{IsOutOfMemory};
 ghost use Rattle.nbd_protocol.specs.Exports.{export_record};
 ghost use Rattle.nbd_protocol.specs.Numbers.{bytes32};
 ghost use Rattle.stack_rules.specs.Rules.{IsLoaded};
-ghost use Rattle.stack_extents.specs.declared.extent.ExtentKind.TheVariants as known;
+ghost use Rattle.nbd_server.specs.declared.extent.ExtentKind.TheVariants as known;
 ghost use Rattle.nbd_server.specs.Premises.{AreBytesOf};
 ghost use Rattle.nbd_server.specs.Status.{IsByteExtent, IsStatus, IsStatusOfLines, TouchZeros, descriptor, status_flags};
 
 use crate::byte_range::touched;
+use crate::extent::{ExtentKind, extent_at};
 use allocation::{OutOfMemory, append};
 use nbd_protocol::Export;
 use stack_config::Config;
-use stack_extents::{ExtentKind, extent_at};
 use std::alloc::Global;
 
 /// The most extents of one reply.

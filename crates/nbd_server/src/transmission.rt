@@ -2,7 +2,7 @@
 ghost use Rattle.std.specs.Prelude.{◌≡◌, ◌<◌, ◌≤◌, ◌+◌, ◌^◌, ℕ, List, [], length, Ok, IfOk, IfErr, IsTrue, OnErr};
 ghost use Rattle.std.specs.Io.KnownBytes.{Consumes};
 ghost use Rattle.allocation.specs.Refusal.{IsOutOfMemory};
-ghost use Rattle.counted_io.specs.Streams.{streams};
+ghost use Rattle.program_io.specs.Streams.{streams};
 ghost use Rattle.nbd_protocol.specs.Exports.{ExportRecord, IsExport, export_at, export_record};
 ghost use Rattle.nbd_protocol.specs.Headers.{IsWithin, most_length, payload_len};
 ghost use Rattle.nbd_server.specs.Premises.{AreBytesOf, IsBare};
@@ -13,19 +13,19 @@ ghost use Rattle.nbd_protocol.specs.declared.phase.Phase.TheVariants.{Serving};
 
 use crate::byte_range::{read_bytes, touched, write_bytes, write_zeros};
 use crate::delivery::{Delivery, deliver};
+use crate::extent::ExtentKind;
 use crate::read_status::read_status;
 use crate::reply::{Data, say_reply};
 use crate::room::Room;
 use crate::status::{bytes_at, status_of};
 use allocation::OutOfMemory;
 use block_device::{BlockDev, SyncDev};
-use counted_io::Counted;
 use nbd_protocol::{
     Agreement, Command, DISCONNECT, Export, Header, Phase, RequestError, ServiceFault, fill,
     number32, skip, take_sectors,
 };
+use program_io::Counted;
 use request_queue::Queue;
-use stack_extents::ExtentKind;
 use std::alloc::Global;
 use std::io::{Read, Write};
 

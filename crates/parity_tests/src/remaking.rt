@@ -1,6 +1,6 @@
 //! Lost hash blocks, reconstructed from the blocks beneath them.
 use block_device::{BlockDev, MemoryDev};
-use counted_io::Counted;
+use program_io::Counted;
 use std::alloc::Global;
 use std::process::Abort;
 use std::test::Fail;

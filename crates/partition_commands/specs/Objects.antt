@@ -3,7 +3,7 @@ use Rattle.std.specs.Prelude.{ℕ, List, map, codes, Option, Some, None}
 use Rattle.uuid.specs.Text.{hyphenated_text, lower}
 use Rattle.serde_json.specs.Data.{Data, array, null, number, object, string, unsigned, member, no_members}
 use Rattle.serde_json.specs.View.{items_of}
-use Rattle.reply_json.specs.Lines.{json_line}
+use Rattle.program_io.specs.JsonLines.{json_line}
 use Rattle.partition_table.specs.declared.partition.Partition.{Partition}
 use Rattle.partition_table.specs.declared.read_fault.ReadFault.{ReadFault}
 use Rattle.partition_table.specs.declared.table.Source.{Source}

@@ -1,6 +1,6 @@
 -- Where a partition lies on the device, in sectors of 512 bytes.
 use Rattle.std.specs.Prelude.{ℕ, ◌*◌, ◌-◌, ◌^◌, min}
-use Rattle.device_window.specs.declared.part.Part.{Part}
+use Rattle.device_adapters.specs.declared.part.Part.{Part}
 use Rattle.partition_table.specs.declared.partition.Partition.{Partition}
 use Rattle.partition_table.specs.declared.sector_size.SectorSize.{SectorSize}
 use Rattle.partition_table.specs.Disks.{unit_of}

@@ -1,6 +1,6 @@
 -- The stack text that opens a verity image of two partitions.
 use Rattle.std.specs.Prelude.{ℕ, List, ◌++◌, codes, Option}
-use Rattle.counted_io.specs.Counted.{CountedRecord}
+use Rattle.program_io.specs.Counted.{CountedRecord}
 use Rattle.partition_table.specs.declared.sector_size.SectorSize.{SectorSize}
 use Rattle.verity_format.specs.Line.{table_text}
 use Rattle.verity_format.specs.Superblock.{SuperRecord}

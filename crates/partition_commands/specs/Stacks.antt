@@ -1,8 +1,8 @@
 -- The stack texts that are printed of a table: an entry for each partition, over the leaf DISK.
 use Rattle.std.specs.Prelude.{ℕ, List, ◌++◌, codes, decimal, Option}
 use Rattle.std.specs.List.{flat_map}
-use Rattle.counted_io.specs.Counted.{CountedRecord}
-use Rattle.device_window.specs.declared.part.Part.{Part}
+use Rattle.program_io.specs.Counted.{CountedRecord}
+use Rattle.device_adapters.specs.declared.part.Part.{Part}
 use Rattle.partition_table.specs.declared.partition.Partition.{Partition}
 use Rattle.partition_table.specs.declared.sector_size.SectorSize.{SectorSize}
 use Rattle.partition_commands.specs.Lines.{SaysText}

@@ -1,10 +1,10 @@
 //! The entries of stack texts, each of one line.
 ghost use Rattle.std.specs.Prelude.{◌++◌, codes};
-ghost use Rattle.counted_io.specs.Counted.{Writes};
+ghost use Rattle.program_io.specs.Counted.{Writes};
 ghost use Rattle.partition_commands.specs.Stacks.{entry_text, linear_line};
 
-use counted_io::{Counted, WriteFault};
-use device_window::Part;
+use device_adapters::Part;
+use program_io::{Counted, WriteFault};
 use std::io::Write;
 
 /// A read-only device of that name over a part of the leaf DISK.

@@ -5,9 +5,9 @@ ghost use Rattle.partition_commands.specs.declared.fault.PartitionsFault.TheVari
 ghost use Rattle.partition_commands.specs.declared.refusal.PartitionRefusal.TheVariants as refusals;
 
 use crate::PartitionRefusal;
-use counted_io::WriteFault;
 use image_files::UnopenedFile;
 use partition_table::NoTable;
+use program_io::WriteFault;
 use std::alloc::AllocError;
 
 /// Why partitions aren't printed.

@@ -1,12 +1,12 @@
 //! What is printed of partitions that aren't printed, and the status.
 ghost use Rattle.std.specs.Prelude.{◌≡◌};
-ghost use Rattle.counted_io.specs.Counted.{Writes};
+ghost use Rattle.program_io.specs.Counted.{Writes};
 ghost use Rattle.partition_commands.specs.FaultTexts.{partitions_status, partitions_text};
 
 use crate::fault::PartitionsFault;
 use crate::refusal::say_refusal;
-use counted_io::{Counted, WriteFault};
 use io_fault_text::{say_no_memory, say_unopened};
+use program_io::{Counted, WriteFault};
 use std::io::Write;
 
 const REFUSED: u8 = 1;

@@ -9,9 +9,9 @@ use crate::entries::say_linear_entry;
 use crate::object::table_line;
 use crate::{PartitionsFault, PrintFault, part_of, partition_name, print_partitions};
 use block_device::BlockDev;
-use counted_io::Counted;
 use image_files::{Images, open_image};
 use partition_table::{Partition, SectorSize, read_table};
+use program_io::Counted;
 use std::alloc::Global;
 use std::io::Write;
 

@@ -6,9 +6,9 @@ use crate::fault::PartitionsFault;
 use crate::image::{object_of_image, partitions_of_image, stack_of_image};
 use crate::root_stack::root_stack_of_image;
 use command_line::{PartitionForm, PartitionsWords};
-use counted_io::Counted;
 use image_files::Images;
 use partition_table::SectorSize;
+use program_io::Counted;
 use std::alloc::Global;
 use std::io::Write;
 

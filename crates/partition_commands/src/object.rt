@@ -7,7 +7,7 @@ ghost use Rattle.partition_commands.specs.Objects.{fault_json, good_copies, numb
 
 use crate::{kind_name, label_text};
 use partition_table::{Partition, PartitionTable, ReadFault, Source};
-use reply_json::line_of;
+use program_io::line_of;
 use serde_json::{Value, json};
 use std::alloc::{AllocError, Global};
 use uuid::Uuid;

@@ -2,7 +2,7 @@
 ghost use Rattle.std.specs.Prelude.{◌≡◌};
 ghost use Rattle.partition_commands.specs.Parts.{part_of, units};
 
-use device_window::Part;
+use device_adapters::Part;
 use partition_table::{Partition, SectorSize};
 
 /// The partition's sectors of 512 bytes.

@@ -8,8 +8,8 @@ ghost use Rattle.partition_commands.specs.Prints.{IsPrintEnd, IsSayEnd, PrintsTa
 use crate::PrintFault;
 use crate::line::{say_partition, say_source};
 use block_device::BlockDev;
-use counted_io::Counted;
 use partition_table::{Partition, PartitionTable, SectorSize, read_table};
+use program_io::Counted;
 use std::alloc::Global;
 use std::io::Write;
 

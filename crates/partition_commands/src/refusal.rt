@@ -1,11 +1,11 @@
 //! Why the partitions of an image can't serve.
 ghost use Rattle.std.specs.Prelude.{◌≡◌, codes};
-ghost use Rattle.counted_io.specs.Counted.{Writes};
+ghost use Rattle.program_io.specs.Counted.{Writes};
 ghost use Rattle.partition_commands.specs.RefusalNames.{cause_text, damaged_line, refusal_name, refusal_number, refusal_text, refused_line};
 
 use crate::line::say_number;
-use counted_io::{Counted, WriteFault};
 use partition_table::{NoTable, ReadFault};
+use program_io::{Counted, WriteFault};
 use std::io::Write;
 use verity_format::VerifyFault;
 

@@ -1,6 +1,6 @@
 //! The command `partitions --root`: the stack that opens a verity image of two partitions.
 ghost use Rattle.std.specs.Prelude.{ℕ, List, IfErr, IfOk, OnOk};
-ghost use Rattle.device_window.specs.Windows.{windowed};
+ghost use Rattle.device_adapters.specs.Windows.{windowed};
 ghost use Rattle.verity_format.specs.Verifying.{IsReadFrom};
 ghost use Rattle.partition_commands.specs.Commands.{FailsToFindRoot, IsRootTextEnd, IsSayFault, IsPartSuperEnd, PrintsRootOf, SaysRoot};
 ghost use Rattle.partition_commands.specs.Lines.{SaysText};
@@ -9,10 +9,10 @@ ghost use Rattle.partition_commands.specs.RootStacks.{SaysRootStack, root_entry}
 use crate::entries::{say_entry, say_linear_entry};
 use crate::{ImagePartitions, PartitionRefusal, PartitionsFault, part_of};
 use block_device::BlockDev;
-use counted_io::Counted;
-use device_window::{Part, Window};
+use device_adapters::{Part, Window};
 use image_files::{Images, open_image};
 use partition_table::{SectorSize, read_table};
+use program_io::Counted;
 use std::alloc::Global;
 use std::io::Write;
 use std::marker::Brand;

@@ -4,7 +4,7 @@ use Rattle.std.proofs.lemmas.List.{map-append, take_more}
 use Rattle.block_device.specs.Device.{Device}
 use Rattle.image_files.specs.declared.file_use.FileUse.{FileUse}
 use Rattle.image_files.specs.Opener.{Opener, calls}
-use Rattle.tree_commands.specs.declared.fault.TreeFault.{TreeFault}
+use Rattle.verity_commands.specs.declared.tree_fault.TreeFault.{TreeFault}
 use Rattle.repair_commands.specs.Copies.{IsCopyUnopened, OpensImageCopy, OpensEachCopy, RefusesEach}
 
 -- a list at one of its elements

@@ -2,7 +2,7 @@
 use Rattle.std.proofs.Common.{◌<◌, ℕ, true, false, IsTrue, List, sym, ◌∙◌, subst, arith, inl, inr}
 use Rattle.std.proofs.lemmas.Bool.{false≢true}
 use Rattle.block_device.specs.Device.{Device}
-use Rattle.tree_commands.specs.declared.fault.TreeFault.TheVariants.{Survey}
+use Rattle.verity_commands.specs.declared.tree_fault.TreeFault.TheVariants.{Survey}
 use Rattle.verity_format.proofs.lemmas.DeviceLemmas.{failed-then, steady-then}
 use Rattle.tree_survey.specs.declared.fault.SurveyFault.TheVariants.{Image}
 use Rattle.tree_survey.specs.declared.unused.Unused.TheVariants.{Nonzero, Unknown, Zero}

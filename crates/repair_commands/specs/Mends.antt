@@ -1,7 +1,7 @@
 -- What a repair of two devices did, up to their media.
 use Rattle.std.specs.Prelude.{◌≡◌, ◌≤◌, ◌⊎◌, ℕ, Bool, true, false, IsTrue, List, Option, None, Some, Result, Ok, Err}
 use Rattle.block_device.specs.Device.{Device, HasFailed}
-use Rattle.counted_io.specs.Counted.{CountedRecord}
+use Rattle.program_io.specs.Counted.{CountedRecord}
 use Rattle.fec_area.specs.declared.layout.Layout.{Layout}
 use Rattle.tree_repair.specs.declared.fault.RepairFault.{RepairFault}
 use Rattle.tree_repair.specs.declared.fault.RepairFault.TheVariants.{Image, Write}
@@ -12,7 +12,7 @@ use Rattle.tree_repair.specs.Outcomes.{IsOutcomeOf, IsParityOutcome}
 use Rattle.tree_repair.specs.ParityBounds.{RepairsInPasses}
 use Rattle.tree_repair.specs.Repairs.{IsUnrepairedBy, LooksAtAll, Repairs, SeeksByParity}
 use Rattle.tree_repair.specs.Worlds.{IsHashReadAlone, RepairWorld}
-use Rattle.tree_commands.specs.declared.fault.TreeFault.{TreeFault}
+use Rattle.verity_commands.specs.declared.tree_fault.TreeFault.{TreeFault}
 use Rattle.verity_format.specs.declared.verifying.VerifyFault.{VerifyFault}
 use Rattle.verity_format.specs.declared.verifying.VerifyFault.TheVariants.{Device as DeviceFailed}
 use Rattle.repair_commands.specs.Endings.{ending_fault}

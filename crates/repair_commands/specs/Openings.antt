@@ -5,8 +5,8 @@ use Rattle.command_line.specs.declared.image_copies.ImageCopy.{ImageCopy}
 use Rattle.image_files.specs.declared.file_use.FileUse.{FileUse}
 use Rattle.image_files.specs.declared.opening.UnopenedFile.{UnopenedFile}
 use Rattle.image_files.specs.Opener.{Calls, Opener, calls}
-use Rattle.tree_commands.specs.declared.fault.TreeFault.{TreeFault}
-use Rattle.tree_commands.specs.declared.fault.TreeFault.TheVariants.{Open}
+use Rattle.verity_commands.specs.declared.tree_fault.TreeFault.{TreeFault}
+use Rattle.verity_commands.specs.declared.tree_fault.TreeFault.TheVariants.{Open}
 use Rattle.repair_commands.specs.Copies.{OpensEachCopy, RefusesEach, path_in}
 use Rattle.repair_commands.specs.Pairs.{FailsToMeasure, FailsToOpenPair, MeasuresBoth, OpensPair, Places, pair_uses, places_of}
 use Rattle.repair_commands.specs.declared.opening.Copies.{Copies}

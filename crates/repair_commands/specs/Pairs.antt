@@ -1,8 +1,8 @@
 -- Which parts of which files `repair` opens, in which order and with which rights.
 use Rattle.std.specs.Prelude.{◌≡◌, ◌⊎◌, ℕ, ◌-◌, ◌^◌, ◌&&◌, nat_lt, Bool, false, List, [], ◌∷◌, if◌then◌else◌}
 use Rattle.block_device.specs.Device.{Device}
-use Rattle.device_window.specs.declared.part.Part.{Part}
-use Rattle.device_window.specs.Parts.{part_before, part_behind}
+use Rattle.device_adapters.specs.declared.part.Part.{Part}
+use Rattle.device_adapters.specs.Parts.{part_before, part_behind}
 use Rattle.image_files.specs.declared.file_use.FileUse.{FileUse}
 use Rattle.image_files.specs.declared.images.OpenImage.{OpenImage}
 use Rattle.image_files.specs.declared.opening.UnopenedFile.{UnopenedFile}
@@ -13,8 +13,8 @@ use Rattle.image_files.specs.OneFile.{is_one_file}
 use Rattle.image_files.specs.Opened.{Opens, Refuses}
 use Rattle.image_files.specs.Opener.{Calls, Opener, calls}
 use Rattle.image_files.specs.OpenParts.{OpensPart, RefusesPart}
-use Rattle.tree_commands.specs.declared.fault.TreeFault.{TreeFault}
-use Rattle.tree_commands.specs.declared.fault.TreeFault.TheVariants.{Open, Survey}
+use Rattle.verity_commands.specs.declared.tree_fault.TreeFault.{TreeFault}
+use Rattle.verity_commands.specs.declared.tree_fault.TreeFault.TheVariants.{Open, Survey}
 use Rattle.tree_survey.specs.declared.fault.SurveyFault.TheVariants.{Image}
 use Rattle.verity_format.specs.declared.verifying.VerifyFault.TheVariants.{TooSmall}
 use Rattle.repair_commands.specs.declared.pair.Pair.{Pair}

@@ -9,7 +9,7 @@ use Rattle.fec_area.specs.Layouts.{IsLaidOn, IsLayoutOf, parity_sectors}
 use Rattle.image_files.specs.declared.opening.UnopenedFile.{UnopenedFile}
 use Rattle.image_files.specs.Apart.{OpensApart, RefusesApart}
 use Rattle.image_files.specs.Opener.{Calls, Opener, calls}
-use Rattle.tree_commands.specs.declared.fault.TreeFault.TheVariants as trees
+use Rattle.verity_commands.specs.declared.tree_fault.TreeFault.TheVariants as trees
 use Rattle.tree_survey.specs.declared.fault.SurveyFault.TheVariants as survey
 use Rattle.tree_survey.specs.Causes.{AreImages, IsImageCause}
 use Rattle.verity_format.specs.declared.verifying.VerifyFault.{VerifyFault}

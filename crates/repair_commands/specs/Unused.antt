@@ -2,8 +2,8 @@
 -- entry.
 use Rattle.std.specs.Prelude.{◌≡◌, ℕ, ◌*◌, ◌/◌, ◌≤◌, Bool, true, IsTrue, List}
 use Rattle.block_device.specs.Device.{Device}
-use Rattle.tree_commands.specs.declared.fault.TreeFault.{TreeFault}
-use Rattle.tree_commands.specs.declared.fault.TreeFault.TheVariants.{Survey, UnusedEntries}
+use Rattle.verity_commands.specs.declared.tree_fault.TreeFault.{TreeFault}
+use Rattle.verity_commands.specs.declared.tree_fault.TreeFault.TheVariants.{Survey, UnusedEntries}
 use Rattle.tree_path.specs.Steps.{HasReadAtMost}
 use Rattle.tree_shape.specs.Shape.{levels}
 use Rattle.tree_survey.specs.declared.fault.SurveyFault.TheVariants.{Image}

@@ -16,15 +16,15 @@ use crate::syncing::{end_of, sync_both};
 use crate::unused::check_unused;
 use block_device::{BlockDev, SyncDev};
 use command_line::{FecFile, ImageCopy};
-use counted_io::Counted;
+use device_adapters::Watchers;
 use fec_area::Layout;
 use image_files::Images;
+use program_io::Counted;
 use std::alloc::Global;
 use std::io::Write;
-use tree_commands::TreeFault;
 use tree_repair::{DamagedImage, Outcome, Plan, RepairFault, repair_with_parity};
 use tree_shape::Digest;
-use watched_device::Watchers;
+use verity_commands::TreeFault;
 
 /// `repair --fec FILE [--fec-roots N] ..`: as `repair_images`, and each block that no copy has is sought by the parity in that
 /// file, which is opened last, and for reading.

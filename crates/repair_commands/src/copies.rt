@@ -5,8 +5,8 @@ ghost use Rattle.repair_commands.specs.Copies.{EachIsOpen, RefusesOne, path_in};
 use command_line::ImageCopy;
 use image_files::{FileUse, Images, open_apart};
 use std::alloc::Global;
-use tree_commands::TreeFault;
 use tree_survey::SurveyFault;
+use verity_commands::TreeFault;
 use verity_format::VerifyFault;
 
 /// Opens the data of the copies for reading, or their hashes, beside files of which none may be among them where it may be

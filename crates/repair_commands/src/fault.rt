@@ -2,8 +2,8 @@
 ghost use Rattle.std.specs.Prelude.{◌≡◌};
 ghost use Rattle.repair_commands.specs.declared.fault.ParityRepairFault.TheVariants as parity_repair_fault;
 
-use tree_commands::TreeFault;
 use tree_repair::RepairFault;
+use verity_commands::TreeFault;
 use verity_format::VerifyFault;
 
 /// Why a repair by parity ends early.

@@ -8,11 +8,11 @@ use crate::repair::fault_of;
 use crate::standing::check_start;
 use crate::syncing::{end_of, sync_both};
 use block_device::{BlockDev, SyncDev};
-use counted_io::Counted;
+use program_io::Counted;
 use std::alloc::Global;
 use std::io::Write;
-use tree_commands::TreeFault;
 use tree_repair::{DamagedImage, Outcome, Plan, RepairFault, repair_image};
+use verity_commands::TreeFault;
 
 /// Repairs both, and syncs them however that ends. Returns what is known of the image by then.
 ///

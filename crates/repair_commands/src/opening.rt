@@ -9,7 +9,7 @@ use crate::pair::{Pair, Parts, RepairPlaces, measure, open_pair, part_use};
 use command_line::ImageCopy;
 use image_files::{FileUse, Images};
 use std::alloc::Global;
-use tree_commands::TreeFault;
+use verity_commands::TreeFault;
 
 /// The two parts of files that are repaired, open, and the copies of each.
 #[derive(Drop)]

@@ -1,17 +1,17 @@
 //! The data image and the hash image that are repaired, each a part of its file.
 ghost use Rattle.std.specs.Prelude.{◌≡◌, IfErr, IfOk};
-ghost use Rattle.device_window.specs.Parts.{part_before, part_behind};
+ghost use Rattle.device_adapters.specs.Parts.{part_before, part_behind};
 ghost use Rattle.image_files.specs.FileUses.{part_use};
 ghost use Rattle.image_files.specs.Opener.{IsFresh};
 ghost use Rattle.repair_commands.specs.Pairs.{AreMeasured, AreUnmeasured, IsPairOpened, IsPairUnopened, pair_data_end, part_fault};
 
 use block_device::BlockDev;
-use device_window::Part;
+use device_adapters::Part;
 use image_files::{
     FileUse, Images, OpenImage, UnopenedFile, UnopenedPart, is_one_file, open_image, open_part,
 };
-use tree_commands::TreeFault;
 use tree_survey::SurveyFault;
+use verity_commands::TreeFault;
 use verity_format::VerifyFault;
 
 /// The paths of a data image and of its hash image, the sector of 512 bytes of the hash image's file where the hash image

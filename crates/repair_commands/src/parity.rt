@@ -11,7 +11,7 @@ use command_line::FecFile;
 use fec_area::Layout;
 use image_commands::is_aligned;
 use image_files::{Images, UnopenedFile, open_apart};
-use tree_commands::TreeFault;
+use verity_commands::TreeFault;
 use verity_format::{VerifyFault, data_sectors, read_superblock, tree_sectors};
 
 /// The device that holds it, and how many bytes of it a codeword has.

@@ -10,15 +10,15 @@ use crate::pair::{Pair, Parts, RepairPlaces};
 use crate::rest::{known_by, say_rest};
 use crate::unused::check_unused;
 use command_line::ImageCopy;
-use counted_io::Counted;
+use device_adapters::Watchers;
 use image_files::Images;
+use program_io::Counted;
 use std::alloc::Global;
 use std::io::Write;
-use tree_commands::TreeFault;
 use tree_repair::{DamagedImage, Outcome, Plan, RepairFault};
 use tree_shape::Digest;
 use tree_survey::SurveyFault;
-use watched_device::Watchers;
+use verity_commands::TreeFault;
 
 /// `repair [--check] [--hash-offset BYTES] DATA HASH ROOT [COPY ..]`: a line for each block that isn't good and was found in a
 /// copy, and then what `verify --all` prints; where the repair left all good, without reading all again. Each copy is asked for

@@ -1,19 +1,19 @@
 //! What is still lost behind a repair.
 ghost use Rattle.std.specs.Prelude.{◌≡◌, IfErr, OnOk};
-ghost use Rattle.counted_io.specs.Counted.{Writes};
-ghost use Rattle.tree_commands.specs.Surveys.{survey_totals};
+ghost use Rattle.program_io.specs.Counted.{Writes};
+ghost use Rattle.verity_commands.specs.Surveys.{survey_totals};
 ghost use Rattle.repair_commands.specs.Rest.{IsRestTold, IsRestUntold, all_good_totals, known_by, known_good};
 
 use crate::pair::RepairPlaces;
-use counted_io::{Counted, WriteFault};
+use device_adapters::Watchers;
 use image_files::Images;
+use program_io::{Counted, WriteFault};
 use std::alloc::Global;
 use std::io::Write;
-use tree_commands::{SurveyOrder, TreeFault, say_totals, survey_images};
 use tree_repair::Outcome;
 use tree_shape::Digest;
 use tree_survey::Totals;
-use watched_device::Watchers;
+use verity_commands::{SurveyOrder, TreeFault, say_totals, survey_images};
 
 // How many sectors the largest hash block takes.
 const MOST_SECTORS: u64 = 8;

@@ -5,7 +5,7 @@ ghost use Rattle.repair_commands.specs.Standing.{IsMisplacedBy, IsPlacedBy};
 
 use block_device::BlockDev;
 use image_commands::is_aligned;
-use tree_commands::TreeFault;
+use verity_commands::TreeFault;
 use verity_format::read_superblock;
 
 /// Reads the superblock, and checks that the hash image begins at a multiple of its hash block's size.

@@ -5,9 +5,9 @@ ghost use Rattle.repair_commands.specs.Unused.{IsUnusedCauseBy, IsUnusedPassedBy
 
 use block_device::BlockDev;
 use std::alloc::Global;
-use tree_commands::TreeFault;
 use tree_shape::Digest;
 use tree_survey::{SurveyFault, Unused, read_unused};
+use verity_commands::TreeFault;
 use verity_format::{VerifyFault, read_superblock, tree_sectors};
 
 /// Returns whether all hash blocks on the way to the last data block are good, and hold zeros after their last used entries. A

@@ -6,7 +6,7 @@ ghost use Rattle.rescue_map.specs.Blocks.{map_block, is_whole_status, is_status,
 use crate::fault::MapFault;
 use crate::map::Run;
 use crate::numbers::map_number;
-use table_reader::Words;
+use table_text::Words;
 
 /// So many bytes from `first` on, and whether they were recovered.
 #[derive(Clone, Copy)]

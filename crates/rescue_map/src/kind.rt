@@ -4,7 +4,7 @@ ghost use Rattle.dm_table.specs.Words.{words};
 ghost use Rattle.rescue_map.specs.Kinds.{is_mark, kind_in, kind_of};
 
 use crate::lines::Lines;
-use table_reader::Words;
+use table_text::Words;
 
 /// What a map is of, and so what its `+` says of a sector.
 #[derive(Clone, Copy, Debug, PartialEq, Eq)]

@@ -6,7 +6,7 @@ ghost use Rattle.dm_table.specs.Words.{text_lines, words};
 ghost use Rattle.rescue_map.specs.MapText.{said};
 
 use std::marker::Model;
-use table_reader::Words;
+use table_text::Words;
 
 // The number of bytes before the first newline.
 fn line_len(text: &[u8]) -> usize

@@ -2,7 +2,7 @@
 ghost use Rattle.std.specs.Prelude.{◌≡◌};
 ghost use Rattle.rescue_map.specs.Numbers.{hexadecimal, map_number};
 
-use table_reader::number;
+use table_text::number;
 
 // The value of one or more hexadecimal digits, if it is below 2^64.
 fn hexadecimal(word: &[u8]) -> Option<u64>

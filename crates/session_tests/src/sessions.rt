@@ -1,6 +1,6 @@
 //! Sessions over readers and writers that fail, and what no line of a session can ask of a queue.
 use block_device::MemoryDev;
-use counted_io::Counted;
+use program_io::Counted;
 use request_queue::{Queue, Request};
 use stack_engine::Stack;
 use stack_loader::config_over;
@@ -10,7 +10,7 @@ use std::io;
 use std::io::{Read, Write};
 use std::rt::HostRuntime;
 use std::test::Fail;
-use table_reader::parse_stack;
+use table_text::parse_stack;
 
 /// What a reader answers once its text is at its end.
 #[derive(Clone, Copy, PartialEq, Eq)]

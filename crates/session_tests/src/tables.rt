@@ -3,8 +3,7 @@ use dm_table::StackText;
 use std::alloc::Global;
 use std::rt::HostRuntime;
 use std::test::Fail;
-use table_printer::print_table;
-use table_reader::parse_table;
+use table_text::{parse_table, print_table};
 
 const SPELLED: &str =
     "0 8 linear D 2\n8 32 striped 2 8 A 0 /dev/mapper/b 16\n40 1 error\n41 18446744073709551615 zero\n";

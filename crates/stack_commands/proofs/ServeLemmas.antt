@@ -1,6 +1,6 @@
 -- Sessions and services of clients.
 use Rattle.std.proofs.Common.{◌≡◌, ℕ, subst, List, [], ◌∷◌, Result}
-use Rattle.counted_io.specs.Streams.{Streams}
+use Rattle.program_io.specs.Streams.{Streams}
 use Rattle.command_line.specs.Bindings.{BindingRecord}
 use Rattle.image_files.specs.Opener.{Calls}
 use Rattle.nbd_protocol.specs.declared.fault.ServiceFault.{ServiceFault}
@@ -8,14 +8,14 @@ use Rattle.nbd_protocol.specs.Exports.{ExportRecord, IsExport}
 use Rattle.nbd_protocol.specs.Offers.{AreNames, Offers}
 use Rattle.nbd_server.specs.Service.{IsService}
 use Rattle.request_queue.specs.World.{World}
-use Rattle.request_commands.specs.Requests.{new_world}
+use Rattle.transfer_commands.specs.Requests.{new_world}
 use Rattle.stack_engine.specs.Stacks.{StackRecord}
 use Rattle.stack_meaning.specs.declared.fault.IoFault.{IoFault}
-use Rattle.stack_making.specs.BareLeaves.{StandsOnLeaves}
-use Rattle.stack_making.specs.Closings.{GivesBack}
-use Rattle.stack_making.specs.NamedDevices.{DeviceWords}
-use Rattle.stack_making.specs.StacksOfTexts.{Loads}
-use Rattle.stack_opening.specs.OpenStacks.{StackWords}
+use Rattle.stack_files.specs.BareLeaves.{StandsOnLeaves}
+use Rattle.stack_files.specs.Closings.{GivesBack}
+use Rattle.stack_files.specs.NamedDevices.{DeviceWords}
+use Rattle.stack_files.specs.StacksOfTexts.{Loads}
+use Rattle.stack_files.specs.OpenStacks.{StackWords}
 use Rattle.stack_session.specs.declared.fault.SessionFault.{SessionFault}
 use Rattle.stack_session.specs.QueueSessions.{IsQueueSession}
 use Rattle.stack_commands.specs.ManyExports.{ServesExports}

@@ -4,12 +4,12 @@ use Rattle.std.specs.Io.KnownBytes.{Appends}
 use Rattle.std.specs.Str.{bytes_eq}
 use Rattle.stack_commands.specs.declared.fault.CommandFault.{CommandFault}
 use Rattle.stack_commands.specs.declared.fault.CommandFault.TheVariants.{Recovering, Usage, Verity}
-use Rattle.recovery_commands.specs.declared.fault.RecoveringFault.TheVariants.{Pass}
-use Rattle.rescue_files.specs.declared.fault.PassFault.{PassFault}
-use Rattle.rescue_files.specs.declared.fault.PassFault.TheVariants as pass
+use Rattle.scan_commands.specs.declared.recovering_fault.RecoveringFault.TheVariants.{Pass}
+use Rattle.scan_commands.specs.declared.rescue_fault.PassFault.{PassFault}
+use Rattle.scan_commands.specs.declared.rescue_fault.PassFault.TheVariants as pass
 use Rattle.stack_commands.specs.Endings.{IsEnd, IsSilent, ending_text}
-use Rattle.verity_commands.specs.declared.fault.VerityFault.TheVariants as verity_fault
-use Rattle.counted_io.specs.Streams.{Streams}
+use Rattle.verity_commands.specs.declared.verity_fault.VerityFault.TheVariants as verity_fault
+use Rattle.program_io.specs.Streams.{Streams}
 use Rattle.command_line.specs.Invocations.{InvocationRecord}
 use Rattle.command_parser.specs.CommandLines.{IsNoCommand, invoked, options_said}
 use Rattle.command_line.specs.FormatOptions.{OptionTexts}

@@ -4,7 +4,7 @@ use Rattle.std.specs.Prelude.{◌≡◌, ◌⊎◌, ℕ, Bool, true, List, Optio
 use Rattle.std.specs.Borrow.{MutBor}
 use Rattle.std.specs.Io.KnownBytes.{Appends}
 use Rattle.block_device.specs.Device.{Device}
-use Rattle.counted_io.specs.Counted.{CountedRecord}
+use Rattle.program_io.specs.Counted.{CountedRecord}
 use Rattle.command_line.specs.declared.fec_file.FecFile.{FecFile}
 use Rattle.command_line.specs.declared.image_copies.ImageCopy.{ImageCopy}
 use Rattle.command_line.specs.declared.invocation.Sectors.{Sectors}
@@ -31,11 +31,11 @@ use Rattle.repair_commands.specs.declared.pair.RepairPlaces.{RepairPlaces}
 use Rattle.repair_commands.specs.ByParity.{RepairsByParity}
 use Rattle.repair_commands.specs.Commands.{IsRepairEnd, RepairsFiles}
 use Rattle.repair_commands.specs.Pairs.{places_of}
-use Rattle.request_commands.specs.Requests.{read_request, write_request}
-use Rattle.request_commands.specs.Writes.{PutWords, put_words}
-use Rattle.stack_json.specs.Lines.{load_text}
-use Rattle.stack_opening.specs.declared.stack_file.StackFile.{StackFile}
-use Rattle.stack_opening.specs.OpenStacks.{stack_words}
+use Rattle.transfer_commands.specs.Requests.{read_request, write_request}
+use Rattle.transfer_commands.specs.Writes.{PutWords, put_words}
+use Rattle.scan_commands.specs.DeviceLines.{load_text}
+use Rattle.stack_files.specs.declared.stack_file.StackFile.{StackFile}
+use Rattle.stack_files.specs.OpenStacks.{stack_words}
 use Rattle.stack_rules.specs.Records.{Configuration}
 use Rattle.stack_commands.specs.declared.desk.Desk.{Desk}
 use Rattle.stack_commands.specs.declared.fault.CommandFault.{CommandFault}

@@ -11,7 +11,7 @@ use Rattle.verity_commands.specs.Endings as verity
 use Rattle.verity_commands.specs.Texts.{verity_text}
 use Rattle.fec_commands.specs.FaultTexts.{fec_status, fec_text}
 use Rattle.partition_commands.specs.FaultTexts.{partitions_status, partitions_text}
-use Rattle.tree_commands.specs.FaultTexts.{tree_status, tree_fault_text}
+use Rattle.verity_commands.specs.TreeFaultTexts.{tree_status, tree_fault_text}
 use Rattle.io_fault_text.specs.Texts.{io_text, no_memory, usage_text}
 use Rattle.stack_commands.specs.FaultTexts.{io_status, recovering_status, recovering_text, request_status, request_text, stack_fault_text, stream_status, stream_text}
 

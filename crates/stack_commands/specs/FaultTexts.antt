@@ -8,18 +8,18 @@ use Rattle.stack_meaning.specs.declared.fault.IoFault.TheVariants as io
 use Rattle.stack_rules.specs.declared.refusal.ConfigFault.{ConfigFault}
 use Rattle.stack_rules.specs.declared.refusal.ConfigFault.TheVariants as config
 use Rattle.stack_rules.specs.FaultKinds.{config_number, config_name}
-use Rattle.stack_making.specs.declared.fault.StackFault.{StackFault}
-use Rattle.stack_making.specs.declared.fault.StackFault.TheVariants as stack
+use Rattle.stack_files.specs.declared.stack_fault.StackFault.{StackFault}
+use Rattle.stack_files.specs.declared.stack_fault.StackFault.TheVariants as stack
 use Rattle.request_queue.specs.declared.fault.SubmitFault.TheVariants.{NoSuchDevice}
-use Rattle.request_commands.specs.declared.fault.RequestFault.{RequestFault}
-use Rattle.request_commands.specs.declared.fault.RequestFault.TheVariants as request
-use Rattle.recovery_commands.specs.declared.fault.RecoveringFault.{RecoveringFault}
-use Rattle.recovery_commands.specs.declared.fault.RecoveringFault.TheVariants as recovering
-use Rattle.recovery_commands.specs.Counting.{counts_text}
-use Rattle.rescue_files.specs.MapTexts.{pass_text}
-use Rattle.stack_streams.specs.declared.fault.StreamFault.{StreamFault}
-use Rattle.stack_streams.specs.declared.fault.StreamFault.TheVariants as stream
-use Rattle.stack_streams.specs.StreamTexts.{cat_status, cat_text, store_status, store_text}
+use Rattle.transfer_commands.specs.declared.request_fault.RequestFault.{RequestFault}
+use Rattle.transfer_commands.specs.declared.request_fault.RequestFault.TheVariants as request
+use Rattle.scan_commands.specs.declared.recovering_fault.RecoveringFault.{RecoveringFault}
+use Rattle.scan_commands.specs.declared.recovering_fault.RecoveringFault.TheVariants as recovering
+use Rattle.scan_commands.specs.Counting.{counts_text}
+use Rattle.scan_commands.specs.MapTexts.{pass_text}
+use Rattle.transfer_commands.specs.declared.stream_fault.StreamFault.{StreamFault}
+use Rattle.transfer_commands.specs.declared.stream_fault.StreamFault.TheVariants as stream
+use Rattle.transfer_commands.specs.StreamTexts.{cat_status, cat_text, store_status, store_text}
 use Rattle.stack_session.specs.Texts.{fault_text, load_refusal_text, submit_text}
 
 -- ---- of stacks

@@ -13,23 +13,23 @@ use Rattle.command_line.specs.words.Scan.{ScanRecord}
 use Rattle.command_line.specs.words.Session.{SessionRecord}
 use Rattle.command_line.specs.words.Store.{StoreRecord}
 use Rattle.command_line.specs.words.Write.{WriteRecord}
-use Rattle.counted_io.specs.Streams.{Streams}
+use Rattle.program_io.specs.Streams.{Streams}
 use Rattle.image_files.specs.Opener.{Calls}
 use Rattle.fec_commands.specs.declared.fault.FecFault.{FecFault}
 use Rattle.fec_commands.specs.Commands.{FormatsFec, IsFormatFecEnd, IsVerifyFecEnd, VerifiesFec}
 use Rattle.partition_commands.specs.declared.fault.PartitionsFault.{PartitionsFault}
 use Rattle.partition_commands.specs.Invocations.{IsListingEnd, ListsPartitions}
-use Rattle.tree_commands.specs.Invocations.{DiffsTrees, IsDiffWordsEnd}
+use Rattle.verity_commands.specs.Invocations.{DiffsTrees, IsDiffWordsEnd}
 use Rattle.stack_commands.specs.declared.fault.CommandFault.{CommandFault}
 use Rattle.stack_commands.specs.declared.fault.CommandFault.TheVariants.{Fec, Partitions, Usage}
 use Rattle.stack_commands.specs.Endings.{IsSilent, IsReplyUnwritten}
-use Rattle.request_commands.specs.Writes.{PutWords, put_words}
+use Rattle.transfer_commands.specs.Writes.{PutWords, put_words}
 use Rattle.request_queue.specs.Requests.{a_read, a_write}
-use Rattle.recovery_commands.specs.Copies.{CopyWords, IsCopyEnd, PrintsCopy, copy_words}
-use Rattle.recovery_commands.specs.Scans.{IsScanEnd, PrintsScan, ScanWords, scan_words}
-use Rattle.stack_making.specs.NamedDevices.{DeviceWords}
-use Rattle.stack_streams.specs.StoredFiles.{FileWords, IsFileEnd, PrintsFileStored, file_words}
-use Rattle.stack_streams.specs.Streaming.{IsBytesEnd, IsStoringEnd, PrintsBytes, PrintsStored}
+use Rattle.scan_commands.specs.Copies.{CopyWords, IsCopyEnd, PrintsCopy, copy_words}
+use Rattle.scan_commands.specs.Scans.{IsScanEnd, PrintsScan, ScanWords, scan_words}
+use Rattle.stack_files.specs.NamedDevices.{DeviceWords}
+use Rattle.transfer_commands.specs.StoredFiles.{FileWords, IsFileEnd, PrintsFileStored, file_words}
+use Rattle.transfer_commands.specs.Streaming.{IsBytesEnd, IsStoringEnd, PrintsBytes, PrintsStored}
 use Rattle.stack_commands.specs.ManyExports.{IsExportsEnd, ServesExports}
 use Rattle.stack_commands.specs.StackCommands.{IsClientEnd, IsListEnd, IsReadEnd, IsServeEnd, IsWriteEnd, PrintsDevices, PrintsReply, PrintsWritten, ServesClient, ServesSession, device_on, on}
 use Rattle.verity_commands.specs.Pinned.{FormatsByPin, IsPinFormatEnd, IsPinVerifyEnd, VerifiesPin}

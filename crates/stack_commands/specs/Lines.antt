@@ -1,8 +1,8 @@
 -- What the functions that run a command line do with all that a command may use.
 use Rattle.std.specs.Prelude.{ℕ, List, Option}
 use Rattle.block_device.specs.Device.{Device}
-use Rattle.counted_io.specs.Counted.{CountedRecord}
-use Rattle.counted_io.specs.Streams.{streams}
+use Rattle.program_io.specs.Counted.{CountedRecord}
+use Rattle.program_io.specs.Streams.{streams}
 use Rattle.command_line.specs.FormatOptions.{option_texts}
 use Rattle.command_line.specs.Invocations.{invocation_record}
 use Rattle.command_parser.specs.declared.parser.CommandLine.{CommandLine}

@@ -1,7 +1,7 @@
 -- `nbd --all`: each device of a stack is an export under its name.
 use Rattle.std.specs.Prelude.{◌≡◌, ◌⊎◌, ℕ, Bool, true, List, Result, Ok, Err}
 use Rattle.allocation.specs.Refusal.{IsOutOfMemory}
-use Rattle.counted_io.specs.Streams.{Streams}
+use Rattle.program_io.specs.Streams.{Streams}
 use Rattle.image_files.specs.Opener.{Calls}
 use Rattle.nbd_protocol.specs.Exports.{ExportRecord}
 use Rattle.nbd_protocol.specs.Offers.{AreNames, Offers, longest_name}
@@ -11,10 +11,10 @@ use Rattle.nbd_server.specs.Service.{IsService}
 use Rattle.request_queue.specs.World.{World}
 use Rattle.stack_engine.specs.Stacks.{StackRecord}
 use Rattle.stack_meaning.specs.declared.fault.IoFault.{IoFault}
-use Rattle.stack_opening.specs.OpenStacks.{StackWords}
-use Rattle.stack_making.specs.Closings.{GivesBack}
-use Rattle.stack_making.specs.StacksOfTexts.{FailsToLoadFile, Loads}
-use Rattle.request_commands.specs.Requests.{new_world}
+use Rattle.stack_files.specs.OpenStacks.{StackWords}
+use Rattle.stack_files.specs.Closings.{GivesBack}
+use Rattle.stack_files.specs.StacksOfTexts.{FailsToLoadFile, Loads}
+use Rattle.transfer_commands.specs.Requests.{new_world}
 use Rattle.stack_commands.specs.declared.fault.CommandFault.{CommandFault}
 use Rattle.stack_commands.specs.declared.fault.CommandFault.TheVariants.{NoMemory, Service}
 use Rattle.stack_commands.specs.StackCommands.{IsSyncEnd}

@@ -2,8 +2,8 @@
 -- call and after it.
 use Rattle.std.specs.Prelude.{ℕ, List, Ok, Option, map}
 use Rattle.block_device.specs.Device.{Device}
-use Rattle.counted_io.specs.Counted.{CountedRecord}
-use Rattle.counted_io.specs.Streams.{Streams, streams}
+use Rattle.program_io.specs.Counted.{CountedRecord}
+use Rattle.program_io.specs.Streams.{Streams, streams}
 use Rattle.command_line.specs.declared.bindings.Binding.{Binding}
 use Rattle.command_line.specs.declared.invocation.ServedDevice.{ServedDevice}
 use Rattle.command_line.specs.declared.words.exports.ExportsWords.{ExportsWords}
@@ -16,7 +16,7 @@ use Rattle.command_line.specs.words.Nbd.{nbd_record}
 use Rattle.command_line.specs.words.Session.{session_record}
 use Rattle.command_line.specs.words.Store.{store_record}
 use Rattle.image_files.specs.Opener.{Calls, Opener, calls}
-use Rattle.stack_making.specs.NamedDevices.{DeviceWords}
+use Rattle.stack_files.specs.NamedDevices.{DeviceWords}
 use Rattle.stack_commands.specs.declared.fault.CommandFault.{CommandFault}
 use Rattle.stack_commands.specs.Invocations.{IsExportsWordsEnd, IsNbdWordsEnd, IsSessionWordsEnd, IsStoreCommandEnd, ServesDevices, ServesInputLines, ServesNamedDevice, StoresSectors}
 use Rattle.stack_commands.specs.ManyExports.{IsExportsEnd, ServesExports}

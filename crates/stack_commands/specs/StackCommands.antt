@@ -12,26 +12,26 @@ use Rattle.nbd_server.specs.Service.{IsService}
 use Rattle.request_queue.specs.declared.reply.Reply.{Reply}
 use Rattle.request_queue.specs.Requests.{RequestRecord}
 use Rattle.request_queue.specs.World.{World}
-use Rattle.request_commands.specs.Reads.{FailsToRead, ReadsSectors}
-use Rattle.request_commands.specs.Requests.{new_world}
-use Rattle.request_commands.specs.Writes.{IsPutEnd, PutWords, PutsBack}
+use Rattle.transfer_commands.specs.Reads.{FailsToRead, ReadsSectors}
+use Rattle.transfer_commands.specs.Requests.{new_world}
+use Rattle.transfer_commands.specs.Writes.{IsPutEnd, PutWords, PutsBack}
 use Rattle.stack_session.specs.declared.fault.SessionFault.{SessionFault}
 use Rattle.stack_session.specs.declared.fault.SessionFault.TheVariants.{WriteFault}
 use Rattle.stack_session.specs.Accesses.{first_of}
 use Rattle.stack_session.specs.QueueSessions.{IsQueueSession}
-use Rattle.counted_io.specs.Streams.{Streams}
-use Rattle.stack_json.specs.Lines.{load_text}
+use Rattle.program_io.specs.Streams.{Streams}
+use Rattle.scan_commands.specs.DeviceLines.{load_text}
 use Rattle.stack_session.specs.Texts.{reply_text, written_text}
 use Rattle.stack_commands.specs.declared.fault.CommandFault.{CommandFault}
 use Rattle.stack_commands.specs.declared.fault.CommandFault.TheVariants.{Io, NoMemory, Service, Session, Stack}
 use Rattle.command_line.specs.Bindings.{BindingRecord}
-use Rattle.stack_making.specs.declared.fault.StackFault.{StackFault}
-use Rattle.stack_making.specs.declared.fault.StackFault.TheVariants.{NoSuchDevice}
-use Rattle.stack_making.specs.BareLeaves.{FailsToStand, StandsOnLeaves}
-use Rattle.stack_making.specs.Closings.{GivesBack}
-use Rattle.stack_making.specs.NamedDevices.{DeviceWords, device_words}
-use Rattle.stack_making.specs.StacksOfTexts.{Configures, FailsToLoadFile, Loads}
-use Rattle.stack_opening.specs.OpenStacks.{StackWords}
+use Rattle.stack_files.specs.declared.stack_fault.StackFault.{StackFault}
+use Rattle.stack_files.specs.declared.stack_fault.StackFault.TheVariants.{NoSuchDevice}
+use Rattle.stack_files.specs.BareLeaves.{FailsToStand, StandsOnLeaves}
+use Rattle.stack_files.specs.Closings.{GivesBack}
+use Rattle.stack_files.specs.NamedDevices.{DeviceWords, device_words}
+use Rattle.stack_files.specs.StacksOfTexts.{Configures, FailsToLoadFile, Loads}
+use Rattle.stack_files.specs.OpenStacks.{StackWords}
 use Rattle.stack_commands.specs.Endings.{IsReplyUnwritten}
 use Rattle.stack_commands.specs.Uses.{IsRequestEnd, IsStackEnd}
 

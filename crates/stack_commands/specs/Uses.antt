@@ -1,15 +1,15 @@
 -- What a command uses, and ends that several commands have.
 use Rattle.stack_commands.specs.declared.fault.CommandFault.{CommandFault}
 use Rattle.stack_commands.specs.declared.fault.CommandFault.TheVariants.{NoMemory, Recovering, Request, Stack, Stream, Trees, Usage, Verity}
-use Rattle.counted_io.specs.Streams.{Streams}
+use Rattle.program_io.specs.Streams.{Streams}
 use Rattle.image_commands.specs.Drawing.{Drawing}
 use Rattle.image_files.specs.Opener.{Calls}
-use Rattle.recovery_commands.specs.declared.fault.RecoveringFault.{RecoveringFault}
-use Rattle.request_commands.specs.declared.fault.RequestFault.{RequestFault}
-use Rattle.stack_making.specs.declared.fault.StackFault.{StackFault}
-use Rattle.stack_streams.specs.declared.fault.StreamFault.{StreamFault}
-use Rattle.tree_commands.specs.declared.fault.TreeFault.{TreeFault}
-use Rattle.verity_commands.specs.declared.fault.VerityFault.{VerityFault}
+use Rattle.scan_commands.specs.declared.recovering_fault.RecoveringFault.{RecoveringFault}
+use Rattle.transfer_commands.specs.declared.request_fault.RequestFault.{RequestFault}
+use Rattle.stack_files.specs.declared.stack_fault.StackFault.{StackFault}
+use Rattle.transfer_commands.specs.declared.stream_fault.StreamFault.{StreamFault}
+use Rattle.verity_commands.specs.declared.tree_fault.TreeFault.{TreeFault}
+use Rattle.verity_commands.specs.declared.verity_fault.VerityFault.{VerityFault}
 
 -- the fault is `Usage` with that cause, or memory ran out
 abbrev pub IsUsageEnd : CommandFault → Type 0 → Type 0

@@ -2,8 +2,8 @@
 use Rattle.std.specs.Prelude.{◌≡◌, ◌⊎◌, ℕ, Bool, true, List, Option}
 use Rattle.command_line.specs.words.Verify.{VerifyRecord}
 use Rattle.image_files.specs.Opener.{Calls}
-use Rattle.tree_commands.specs.declared.fault.TreeFault.{TreeFault}
-use Rattle.tree_commands.specs.Invocations.{IsSurveyWordsEnd, SurveysAt}
+use Rattle.verity_commands.specs.declared.tree_fault.TreeFault.{TreeFault}
+use Rattle.verity_commands.specs.Invocations.{IsSurveyWordsEnd, SurveysAt}
 use Rattle.verity_commands.specs.Endings.{IsImageEnd}
 use Rattle.verity_commands.specs.Placed.{IsSaidVerifyEnd, VerifiesAt}
 use Rattle.verity_commands.specs.Places.{IsRootEnd, TellsRoot}

@@ -6,10 +6,10 @@ use crate::desk::Desk;
 use crate::fault::CommandFault;
 use crate::words::stack_file;
 use command_line::CopyWords;
+use device_adapters::Progress;
 use image_files::Images;
-use progress::Progress;
-use recovery_commands::{CopyPlan, copy_device};
-use stack_making::NamedDevice;
+use scan_commands::{CopyPlan, copy_device};
+use stack_files::NamedDevice;
 use std::alloc::Global;
 use std::io::Write;
 

@@ -1,7 +1,7 @@
 //! What commands that print work with.
 
-use counted_io::Counted;
 use image_files::Images;
+use program_io::Counted;
 use std::io::Write;
 
 /// What a command opens images by, and prints to, lent by who runs it.

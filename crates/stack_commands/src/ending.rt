@@ -1,6 +1,6 @@
 //! How a command ends early: what is printed, and the status.
 ghost use Rattle.std.specs.Prelude.{true, ◌≡◌};
-ghost use Rattle.counted_io.specs.Counted.{Writes};
+ghost use Rattle.program_io.specs.Counted.{Writes};
 ghost use Rattle.stack_commands.specs.Desks.{IsToldBy};
 ghost use Rattle.stack_commands.specs.Endings.{ending_status, ending_text};
 
@@ -9,14 +9,13 @@ use crate::fault_texts::{
     io_status, recovering_status, request_status, say_recovering_fault, say_request_fault,
     say_stack_fault, say_stream_fault, stream_status,
 };
-use counted_io::{Counted, WriteFault};
 use fec_commands::{fec_status, say_fec_fault};
 use io_fault_text::{say_io_fault, say_no_memory, say_usage};
 use nbd_server::ServiceFault;
 use partition_commands::{partitions_status, say_partitions_fault};
+use program_io::{Counted, WriteFault};
 use std::io::Write;
-use tree_commands::{say_tree_fault, tree_status};
-use verity_commands::{say_verity_fault, verity_status};
+use verity_commands::{say_tree_fault, say_verity_fault, tree_status, verity_status};
 
 const REFUSED: u8 = 1;
 

@@ -6,19 +6,17 @@ ghost use Rattle.stack_commands.specs.Endings.{command_words_ending};
 
 use allocation::OutOfMemory;
 use command_line::WordsFault;
-use counted_io::WriteFault;
 use fec_commands::FecFault;
 use nbd_server::ServiceFault;
 use partition_commands::PartitionsFault;
-use recovery_commands::RecoveringFault;
-use request_commands::RequestFault;
+use program_io::WriteFault;
+use scan_commands::RecoveringFault;
 use stack_engine::IoFault;
-use stack_making::StackFault;
+use stack_files::StackFault;
 use stack_session::SessionFault;
-use stack_streams::StreamFault;
 use std::alloc::AllocError;
-use tree_commands::TreeFault;
-use verity_commands::VerityFault;
+use transfer_commands::{RequestFault, StreamFault};
+use verity_commands::{TreeFault, VerityFault};
 
 /// Why a command ends early.
 #[derive(Clone, Copy, Debug, PartialEq, Eq)]

@@ -1,20 +1,20 @@
 //! The texts of the faults of stacks, of requests, of scans of devices, and of their bytes; and the statuses.
 ghost use Rattle.std.specs.Prelude.{◌≡◌};
-ghost use Rattle.counted_io.specs.Counted.{Writes};
+ghost use Rattle.program_io.specs.Counted.{Writes};
 ghost use Rattle.stack_commands.specs.FaultTexts.{config_text, io_status, outside_text, recovering_status, recovering_text, request_status, request_text, stack_fault_text, stream_status, stream_text, too_small_text};
 
-use counted_io::{Counted, WriteFault};
 use io_fault_text::{say_io_fault, say_no_memory, say_path, say_refused, say_unopened};
-use recovery_commands::{RecoveringFault, say_counts};
-use request_commands::RequestFault;
+use program_io::{Counted, WriteFault};
 use request_queue::SubmitFault;
-use rescue_files::say_pass_fault;
+use scan_commands::{RecoveringFault, say_counts, say_pass_fault};
 use stack_engine::IoFault;
+use stack_files::StackFault;
 use stack_loader::ConfigFault;
-use stack_making::StackFault;
 use stack_session::{say_refusal, say_submit_fault, say_text_fault};
-use stack_streams::{StreamFault, cat_status, say_cat_fault, say_store_fault, store_status};
 use std::io::Write;
+use transfer_commands::{
+    RequestFault, StreamFault, cat_status, say_cat_fault, say_store_fault, store_status,
+};
 
 const REFUSED: u8 = 1;
 

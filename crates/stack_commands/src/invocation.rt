@@ -18,21 +18,19 @@ use crate::verify::check_image;
 use crate::write::invoke_write;
 use command_line::Invocation;
 use command_parser::CommandLine;
-use counted_io::Counted;
+use device_adapters::{Progress, Watchers};
 use fec_commands::{invoke_format_fec, invoke_verify_fec};
 use image_commands::Generators;
 use image_files::Images;
 use manual_pages::{page_of, print_page, print_version};
 use partition_commands::invoke_partitions;
-use progress::Progress;
+use program_io::Counted;
 use std::alloc::Global;
 use std::io::{Read, Write};
-use tree_commands::invoke_diff;
 use verity_commands::{
-    invoke_dump, invoke_format, invoke_format_pinned, invoke_format_tree, invoke_table,
-    invoke_table_tree, invoke_verify_pinned, invoke_verify_tree,
+    invoke_diff, invoke_dump, invoke_format, invoke_format_pinned, invoke_format_tree,
+    invoke_table, invoke_table_tree, invoke_verify_pinned, invoke_verify_tree,
 };
-use watched_device::Watchers;
 
 /// Runs a command; the options are those that say what an image is.
 pub fn invoke<'a, I: Images, G: Generators + Progress + Watchers, S: Read, W: Write>(

@@ -7,12 +7,11 @@ use crate::desk::Desk;
 use crate::fault::CommandFault;
 use crate::words::stack_file;
 use command_line::LoadWords;
-use counted_io::Counted;
 use image_files::Images;
+use program_io::Counted;
+use scan_commands::{devices_line, say_devices};
 use stack_config::Config;
-use stack_json::{devices_line, say_devices};
-use stack_making::open_configuration;
-use stack_opening::StackFile;
+use stack_files::{StackFile, open_configuration};
 use std::alloc::Global;
 use std::io::Write;
 

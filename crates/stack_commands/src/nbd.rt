@@ -5,13 +5,12 @@ ghost use Rattle.stack_commands.specs.Served.{DoesExports, DoesNbd, EndsAll, End
 use crate::fault::CommandFault;
 use block_device::BlockDev;
 use command_line::{Binding, ExportsWords, NbdWords, ServedDevice};
-use counted_io::Counted;
 use image_files::Images;
 use nbd_protocol::{Export, exports_of, names_of};
 use nbd_server::serve;
+use program_io::Counted;
 use request_queue::Queue;
-use stack_making::{StackFault, open_loaded, sync_and_close};
-use stack_opening::StackFile;
+use stack_files::{StackFault, StackFile, open_loaded, sync_and_close};
 use std::alloc::Global;
 use std::io::{Read, Write};
 

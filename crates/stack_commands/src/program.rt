@@ -1,6 +1,6 @@
 //! The whole program: its words, a reader and a writer in, the status out.
 ghost use Rattle.std.specs.Prelude.{false, true, ◌≡◌, ◌⊎◌, ℕ, List, Option, map, string_bytes, OnOk, IfErr};
-ghost use Rattle.counted_io.specs.Streams.{streams};
+ghost use Rattle.program_io.specs.Streams.{streams};
 ghost use Rattle.image_commands.specs.Drawing.{drawing};
 ghost use Rattle.image_files.specs.Opener.{calls};
 ghost use Rattle.stack_commands.specs.Commands.{EndsCommand, IsCommandDone, IsRepeated, is_output_failed, is_usage, output_is_data, told_to, writes_data};
@@ -12,17 +12,15 @@ use crate::ending::end;
 use crate::fault::CommandFault;
 use crate::invocation::invoke;
 use command_parser::parse;
-use counted_io::{Counted, WriteFault};
+use device_adapters::{Progress, Watchers};
 use image_commands::Generators;
 use image_files::Images;
 use manual_pages::say_wrong_words;
-use progress::Progress;
-use recovery_commands::RecoveringFault;
-use rescue_files::PassFault;
+use program_io::{Counted, WriteFault};
+use scan_commands::{PassFault, RecoveringFault};
 use std::alloc::Global;
 use std::io::{Read, Write};
 use verity_commands::VerityFault;
-use watched_device::Watchers;
 
 const DONE: u8 = 0;
 

@@ -7,11 +7,11 @@ use crate::fault::CommandFault;
 use crate::words::stack_file;
 use command_line::{ReadWords, Sectors};
 use image_files::Images;
-use request_commands::read_sectors;
-use stack_opening::StackFile;
+use stack_files::StackFile;
 use stack_session::say_reply;
 use std::alloc::Global;
 use std::io::Write;
+use transfer_commands::read_sectors;
 
 /// `read [--cache N] STACK NAME FIRST COUNT BINDING...`: sectors of a device of a stack file over the bindings, written as a
 /// session does.

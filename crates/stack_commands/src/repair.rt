@@ -6,6 +6,7 @@ ghost use Rattle.stack_commands.specs.Repairing.{parity_fault};
 use crate::desk::Desk;
 use crate::fault::CommandFault;
 use command_line::{FecFile, ImageCopy, RepairWords};
+use device_adapters::Watchers;
 use fec_area::ParityFault;
 use fec_commands::FecFault;
 use image_files::Images;
@@ -14,7 +15,6 @@ use std::alloc::Global;
 use std::io::Write;
 use tree_shape::Digest;
 use verity_commands::{VerityFault, root_in, sector_at};
-use watched_device::Watchers;
 
 /// `repair [--check] [--fec FILE [--fec-roots N]] [--hash-offset BYTES] [--root-hash-file FILE] DATA HASH [ROOT] [COPY ..]`: the root
 /// is known before an image is opened.

@@ -5,10 +5,10 @@ ghost use Rattle.stack_commands.specs.Served.{DoesSession, EndsLines, EndsSessio
 use crate::fault::CommandFault;
 use block_device::BlockDev;
 use command_line::{Binding, SessionWords};
-use counted_io::Counted;
 use image_files::Images;
+use program_io::Counted;
 use request_queue::Queue;
-use stack_making::{open_leaves, sync_and_close};
+use stack_files::{open_leaves, sync_and_close};
 use stack_session::session;
 use std::alloc::Global;
 use std::io::{Read, Write};

@@ -7,12 +7,12 @@ use crate::desk::Desk;
 use crate::fault::CommandFault;
 use crate::words::stack_file;
 use command_line::{CatWords, StoreWords};
-use counted_io::Counted;
+use device_adapters::Progress;
 use image_files::Images;
-use progress::Progress;
-use stack_streams::{Target, Wanted, cat_device, store_device, store_file};
+use program_io::Counted;
 use std::alloc::Global;
 use std::io::{Read, Write};
+use transfer_commands::{Target, Wanted, cat_device, store_device, store_file};
 
 /// `cat [--cache N] [--progress] [--first N] [--count N] STACK NAME BINDING...`
 pub fn invoke_cat<'a, I: Images, W: Write, P: Progress>(

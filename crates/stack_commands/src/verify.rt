@@ -5,12 +5,11 @@ ghost use Rattle.stack_commands.specs.Desks.{DoesVerify, DoesVerifyAll, EndsVeri
 use crate::desk::Desk;
 use crate::fault::CommandFault;
 use command_line::VerifyWords;
+use device_adapters::Watchers;
 use image_files::Images;
 use std::alloc::Global;
 use std::io::Write;
-use tree_commands::invoke_survey;
-use verity_commands::{VerityFault, invoke_verify, root_in};
-use watched_device::Watchers;
+use verity_commands::{VerityFault, invoke_survey, invoke_verify, root_in};
 
 /// `verify [--all] [--progress] [--hash-offset BYTES] [--root-hash-file FILE] DATA HASH [ROOT]`
 pub fn check_image<'a, I: Images, S: Watchers, W: Write>(

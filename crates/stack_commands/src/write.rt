@@ -7,11 +7,11 @@ use crate::fault::CommandFault;
 use crate::words::stack_file;
 use command_line::{Transfer, WriteWords};
 use image_files::Images;
-use request_commands::write_source;
-use stack_opening::StackFile;
+use stack_files::StackFile;
 use stack_session::say_written;
 use std::alloc::Global;
 use std::io::Write;
+use transfer_commands::write_source;
 
 /// `write [--cache N] STACK NAME FIRST SOURCE BINDING...`: writes the bytes of the source file to a device of a stack file
 /// over the bindings. The images are synced and closed before anything is printed.

@@ -9,3 +9,10 @@ pub mod RemoveLemmas
 pub mod RemovalRuleLemmas
 pub mod RemovalFactLemmas
 mod FactsLemmas
+pub mod PlaceLemmas
+pub mod TableLemmas
+pub mod LineRuleLemmas
+pub mod GreatestLemmas
+pub mod DeviceSetLemmas
+pub mod ClosureLemmas
+pub mod LowerSetLemmas

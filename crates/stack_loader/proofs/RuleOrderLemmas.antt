@@ -3,7 +3,7 @@ use Rattle.std.proofs.Common.{◌≡◌, ◌+◌, ◌-◌, ℕ, List, [], ◌∷
 use Rattle.std.specs.Prelude.{flat_map}
 use Rattle.std.specs.List.{enumerate_from, range_with_len}
 use Rattle.std.proofs.lemmas.List.{append_assoc}
-use Rattle.stack_costs.specs.declared.cost.Direction.TheVariants.{Read}
+use Rattle.stack_loader.specs.declared.cost.Direction.TheVariants.{Read}
 use Rattle.stack_rules.specs.declared.lower.Lower.{Lower}
 use Rattle.stack_rules.specs.declared.refusal.LoadFault.{LoadFault}
 use Rattle.stack_rules.specs.declared.refusal.LoadFault.TheVariants.{Refused, NoMemory}
@@ -16,8 +16,8 @@ use Rattle.stack_rules.specs.Descend.{depth, read_cost}
 use Rattle.stack_rules.specs.Kept.{AreLowers, each_mapped}
 use Rattle.stack_rules.specs.Passing.{IsFirst, above}
 use Rattle.stack_rules.specs.Rules.{first, refuse, rules, is_too_many, unknown_names, cycles, each_device, table_rules, depth_rules, cost_rules, most_depth, most_cost}
-use Rattle.stack_costs.specs.Costs.{AreMeasured, capped_cost}
-use Rattle.stack_costs.proofs.lemmas.CappedLemmas.{above-capped}
+use Rattle.stack_loader.specs.Costs.{AreMeasured, capped_cost}
+use Rattle.stack_loader.proofs.lemmas.CappedLemmas.{above-capped}
 use Rattle.stack_rules.proofs.lemmas.FirstRefusalLemmas.{first-none, first-some}
 
 pub left : (fault : LoadFault) (xs ys : List (Option Refusal)) → IsFirst fault xs → IsFirst fault (xs ++ ys)

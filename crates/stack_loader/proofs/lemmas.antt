@@ -2,3 +2,6 @@
 pub mod RenumberLemmas
 pub mod RemovalLemmas
 pub mod RemovedDeviceLemmas
+pub mod DepthLemmas
+pub mod CappedLemmas
+pub mod CostLemmas

@@ -7,19 +7,21 @@ ghost use Rattle.stack_rules.specs.Records.{configuration};
 ghost use Rattle.stack_rules.specs.Kept.{AreLowers};
 ghost use Rattle.stack_rules.specs.Passing.{IsPassed, above};
 ghost use Rattle.stack_config.specs.Facts.{AreFacts};
-ghost use Rattle.stack_costs.specs.Costs.{AreMeasured};
+ghost use Rattle.stack_loader.specs.Costs.{AreMeasured};
 ghost use Rattle.stack_loader.specs.Next.{IsNext};
 ghost use Rattle.stack_rules.specs.Descend.{most_devices};
 ghost use Rattle.stack_rules.specs.Rules.{first, rules, load_rules, cycles, each_device, table_rules, depth_rules, is_too_many, most_leaves, most_lines};
 
+use crate::cost::{Direction, MOST_COST, MOST_DEPTH, costs};
+use crate::cycles::cycle_refusal;
+use crate::depth::depths;
 use crate::facts::device_facts;
+use crate::lower_set::{MOST_DEVICES, lower_sets};
 use crate::next::{copied_devices, duplicate, planned_devices};
+use crate::resolve::lowers_of;
+use crate::rules::lines_refusal;
 use dm_table::Entry;
-use stack_checks::{lines_refusal, lowers_of};
 use stack_config::Facts;
-use stack_costs::{
-    Direction, MOST_COST, MOST_DEPTH, MOST_DEVICES, costs, cycle_refusal, depths, lower_sets,
-};
 use stack_rules::{DeviceLowers, Leaf, LoadFault, LoadKind, Mapped, Planned, Refusal};
 use std::alloc::Global;
 

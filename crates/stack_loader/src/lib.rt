@@ -1,12 +1,23 @@
-//! Configurations of stacked devices: checked as a whole, and loaded all or none.
+//! Configurations of stacked devices: checked as a whole by the rules, with their depths and costs, and loaded all or none.
 #![tactic(auto)]
 
 mod check;
+mod cost;
+mod cycles;
+mod depth;
+mod device_set;
 mod facts;
+mod index;
 mod keys;
+mod leaves;
 mod loading;
+mod lower_set;
 mod next;
+mod ranges;
 mod removal;
+mod resolve;
+mod rules;
+mod units;
 mod zero_digests;
 
 pub use loading::{config_over, load};

@@ -7,8 +7,8 @@ ghost use Rattle.stack_rules.specs.declared.refusal.Refusal.{Refusal};
 ghost use Rattle.stack_rules.specs.Rules.{IsRefusal, after_load, first_refusal};
 
 use crate::check::next_load;
+use crate::leaves::leaves_fault;
 use dm_table::StackText;
-use stack_checks::leaves_fault;
 use stack_config::Config;
 use stack_rules::{ConfigFault, Leaf, LoadFault};
 use std::alloc::Global;

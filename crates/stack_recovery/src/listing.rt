@@ -4,7 +4,7 @@ ghost use Rattle.stack_recovery.specs.Listings.{Listed, Tells};
 ghost use Rattle.stack_recovery.specs.Texts.{lost_run_text};
 
 use crate::lost_run::{LostRun, say_run};
-use counted_io::Counted;
+use program_io::Counted;
 use std::alloc::{AllocError, Global};
 use std::io::Write;
 

@@ -1,11 +1,11 @@
 //! A run of sectors that are lost by one fault.
 ghost use Rattle.std.specs.Prelude.{◌≡◌};
-ghost use Rattle.counted_io.specs.Counted.{Writes};
+ghost use Rattle.program_io.specs.Counted.{Writes};
 ghost use Rattle.stack_recovery.specs.LostRuns.{is_same_fault};
 ghost use Rattle.stack_recovery.specs.Texts.{lost_run_text};
 
-use counted_io::{Counted, WriteFault};
 use io_fault_text::say_io_words;
+use program_io::{Counted, WriteFault};
 use runs::Run;
 use stack_engine::{Fault, IoFault};
 use std::io::Write;

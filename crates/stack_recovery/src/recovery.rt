@@ -17,7 +17,7 @@ use crate::pace::Pace;
 use crate::piece::{Piece, piece_at};
 use crate::tally::Tally;
 use block_device::BlockDev;
-use progress::{NoProgress, Progress};
+use device_adapters::{NoProgress, Progress};
 use rescue_map::{Ahead, Map};
 use stack_config::DevId;
 use stack_engine::{IoFault, Stack};

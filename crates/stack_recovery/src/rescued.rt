@@ -8,7 +8,7 @@ use crate::fault::RecoveryFault;
 use crate::listing::Listing;
 use crate::recovery::{Counts, go_over};
 use block_device::BlockDev;
-use progress::Progress;
+use device_adapters::Progress;
 use rescue_map::{Ahead, Map};
 use stack_config::DevId;
 use stack_engine::Stack;

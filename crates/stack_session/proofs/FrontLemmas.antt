@@ -4,7 +4,7 @@ use Rattle.std.specs.Prelude.{flat_map, Result, Ok, Err, OnErr, IsErrOf}
 use Rattle.std.proofs.KnownBytes.{Appends-nil, Appends-trans}
 use Rattle.std.proofs.lemmas.Grind.{flat_map-append}
 use Rattle.std.proofs.lemmas.List.Elements.{All-append, All-nil, All-push}
-use Rattle.counted_io.specs.Counted.{Grows}
+use Rattle.program_io.specs.Counted.{Grows}
 use Rattle.stack_session.specs.declared.fault.SessionFault.{SessionFault}
 use Rattle.stack_session.specs.declared.fault.SessionFault.TheVariants.{WriteFault, NoMemory}
 use Rattle.stack_session.specs.Session.{Replying, ended, IsOneLine, IsSessionStopped, ServesFront, ServesWhole}

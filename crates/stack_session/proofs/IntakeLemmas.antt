@@ -3,14 +3,14 @@ use Rattle.std.proofs.Common.{◌≡◌, ℕ, ◌+◌, ◌<◌, ◌≤◌, List,
 use Rattle.std.specs.Prelude.{Result, Ok, Err, IsErrOf}
 use Rattle.std.specs.Io.KnownBytes.{Consumes, Keeps, IsAtEnd}
 use Rattle.std.proofs.KnownBytes.{Consumes-nil, Consumes-trans, Consumes-kept}
-use Rattle.counted_io.specs.Counted.{CountedRecord, Grows}
+use Rattle.program_io.specs.Counted.{CountedRecord, Grows}
 use Rattle.stack_session.specs.declared.fault.SessionFault.{SessionFault}
 use Rattle.stack_session.specs.declared.fault.SessionFault.TheVariants.{WriteFault, NoMemory}
 use Rattle.stack_session.specs.Session.{Replying, IsOneLine, IsSession, IsSessionStopped, ServesFront, ServesWhole, Taking, WritesAll, WritesReply, WritesWholeLines}
-use Rattle.counted_io.specs.Streams.{Streams}
+use Rattle.program_io.specs.Streams.{Streams}
 use Rattle.stack_session.proofs.FrontLemmas.{front-one, front-then, front-whole, grows-then}
 use Rattle.stack_session.proofs.SessionLemmas.{serves_nothing, serves_more, serves_end}
-use Rattle.counted_io.proofs.lemmas.CountedLemmas.{Grows-kept}
+use Rattle.program_io.proofs.lemmas.CountedLemmas.{Grows-kept}
 use Rattle.std.proofs.lemmas.List.Elements.{All-nil}
 use Rattle.std.proofs.lemmas.List.{take_all}
 use Rattle.std.proofs.Math.Seq.{take-append-add}

@@ -11,13 +11,13 @@ use Rattle.request_queue.specs.Parts.{EachPart}
 use Rattle.request_queue.specs.Requests.{RequestRecord}
 use Rattle.request_queue.specs.World.{World, Step}
 use Rattle.request_queue.specs.World as event
-use Rattle.counted_io.specs.declared.fault.WriteFault.{WriteFault}
+use Rattle.program_io.specs.declared.fault.WriteFault.{WriteFault}
 use Rattle.request_queue.specs.declared.fault.NoSuchTicket.{NoSuchTicket}
 use Rattle.request_queue.specs.declared.reply.Progress.{Progress}
 use Rattle.request_queue.specs.declared.reply.Progress.TheVariants.{Done}
 use Rattle.request_queue.specs.declared.reply.Reply.{Reply}
 use Rattle.stack_session.specs.Commands.{step, submit}
-use Rattle.counted_io.specs.Counted.{CountedRecord, Writes}
+use Rattle.program_io.specs.Counted.{CountedRecord, Writes}
 use Rattle.stack_session.specs.Texts.{reply_text, step_text, submit_text, submission_text}
 use Rattle.stack_session.specs.Replies.{device_text, first_sector, RepliesTo, WholeStep}
 use Rattle.stack_session.specs.Session.{WritesReply}

@@ -2,9 +2,9 @@
 use Rattle.std.proofs.Common.{take, ℕ, List, [], ◌∷◌, ◌++◌, Result, Ok, Err, Option}
 use Rattle.std.specs.Prelude.{OnOk}
 use Rattle.stack_session.specs.declared.fault.SessionFault.{SessionFault}
-use Rattle.counted_io.specs.Counted.{Grows}
+use Rattle.program_io.specs.Counted.{Grows}
 use Rattle.stack_session.specs.Session.{Replying, ServesLines, ServesWhole, ServesAll, ServesFront, Taking, WritesAll, WritesWholeLines, IsSession}
-use Rattle.counted_io.specs.Streams.{Streams}
+use Rattle.program_io.specs.Streams.{Streams}
 
 -- each reply of one way is one of the other, and a fact about the states goes on
 abbrev pub Follows : {S : Type 0} → Replying S → Replying S → (S → Type 0) → Type 0

@@ -2,7 +2,7 @@
 use Rattle.std.proofs.Common.{◌≡◌, ◌≢◌, ℕ, List, [], ◌∷◌, ◌++◌, refl, ap, sym, ◌∙◌, append_assoc, append-nil, subst, ◌+◌, ◌≤◌, length, arith, length-append}
 use Rattle.std.specs.Prelude.{flat_map, Option, Err, IsErrOf, Result, Ok, OnOk}
 use Rattle.std.proofs.KnownBytes.{Appends-nil, Appends-trans}
-use Rattle.counted_io.specs.Counted.{Grows}
+use Rattle.program_io.specs.Counted.{Grows}
 use Rattle.stack_session.specs.Session.{Replying, ended, IsOneLine, ServesLines, ServesWhole, ServesAll}
 use Rattle.std.proofs.lemmas.Grind.{flat_map-append}
 use Rattle.std.proofs.lemmas.List.Elements.{All-append, All-nil, All-push}

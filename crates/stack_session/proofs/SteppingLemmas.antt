@@ -17,7 +17,7 @@ use Rattle.request_queue.proofs.lemmas.PremiseLemmas.{OutlivesSyncs, Passes, ste
 use Rattle.stack_session.specs.declared.fault.SessionFault.{SessionFault}
 use Rattle.stack_session.specs.declared.fault.SessionFault.TheVariants as fault
 use Rattle.stack_session.specs.Session.{IsSession}
-use Rattle.counted_io.specs.Streams.{Streams}
+use Rattle.program_io.specs.Streams.{Streams}
 use Rattle.stack_session.specs.QueueSessions.{IsQueueSession, SteadyBeneath}
 use Rattle.stack_session.specs.Commands.{CommandRecord, nothing, load, run, submit, step, remove, cost, table, moved, usage, line_command}
 use Rattle.stack_session.specs.Replies.{Stepping, WholeStep, RepliesToText, RepliesTo, Replies}

@@ -8,8 +8,8 @@ use Rattle.request_queue.specs.Parts.{AnyPart, EachPart, PartRelation, SteadyPar
 use Rattle.request_queue.specs.Runs.{IsLed}
 use Rattle.request_queue.specs.World.{World, Step}
 use Rattle.stack_session.specs.declared.fault.SessionFault.{SessionFault}
-use Rattle.counted_io.specs.Counted.{CountedRecord}
-use Rattle.counted_io.specs.Streams.{Streams, streams}
+use Rattle.program_io.specs.Counted.{CountedRecord}
+use Rattle.program_io.specs.Streams.{Streams, streams}
 use Rattle.stack_session.specs.Session.{IsSession}
 use Rattle.stack_session.specs.Replies.{Replies, WholeStep}
 

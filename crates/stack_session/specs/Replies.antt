@@ -6,7 +6,7 @@ use Rattle.dm_table.specs.declared.stack.Entry.{Entry}
 use Rattle.dm_table.specs.declared.fault.TextFault.{TextFault}
 use Rattle.dm_table.specs.Words.{Word}
 use Rattle.dm_table.specs.StackText.{stack_of}
-use Rattle.table_printer.specs.Print.{printed_table}
+use Rattle.table_text.specs.Print.{printed_table}
 use Rattle.stack_rules.specs.declared.refusal.LoadFault.{LoadFault}
 use Rattle.stack_rules.specs.declared.refusal.RemoveFault.{RemoveFault}
 use Rattle.stack_rules.specs.Records.{Configuration}
@@ -31,8 +31,8 @@ use Rattle.stack_session.specs.Commands.{CommandRecord, nothing, load, run, subm
 use Rattle.stack_session.specs.Session.{WritesReply}
 use Rattle.stack_session.specs.Texts.{usage_text, fault_text, submit_text, load_reply_text, remove_text, submission_text, run_reply_text, step_text, cost_text, moved_text}
 use Rattle.stack_session.specs.declared.access.Access.{Access}
-use Rattle.counted_io.specs.Counted.{CountedRecord}
-use Rattle.counted_io.specs.declared.fault.WriteFault.{WriteFault}
+use Rattle.program_io.specs.Counted.{CountedRecord}
+use Rattle.program_io.specs.declared.fault.WriteFault.{WriteFault}
 
 -- How an event leads from one world of a queue to the next.
 abbrev pub Stepping : Type 1

@@ -7,9 +7,9 @@ use Rattle.block_device.specs.Device.{capped}
 use Rattle.stack_session.specs.declared.fault.SessionFault.{SessionFault}
 use Rattle.stack_session.specs.declared.fault.SessionFault.TheVariants.{TooLong, ReadFault, WriteFault, NoMemory}
 use Rattle.stack_session.specs.declared.lines.TheConstants.{LIMIT}
-use Rattle.counted_io.specs.declared.fault.WriteFault.{WriteFault as WriterFailed}
-use Rattle.counted_io.specs.Counted.{CountedRecord, Grows, Writes}
-use Rattle.counted_io.specs.Streams.{Streams, streams}
+use Rattle.program_io.specs.declared.fault.WriteFault.{WriteFault as WriterFailed}
+use Rattle.program_io.specs.Counted.{CountedRecord, Grows, Writes}
+use Rattle.program_io.specs.Streams.{Streams, streams}
 
 -- a text with its newline
 abbrev pub ended : List ℕ → List ℕ

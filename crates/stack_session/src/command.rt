@@ -6,7 +6,7 @@ ghost use Rattle.stack_session.specs.Commands.{run};
 
 use crate::access::{Access, Filling};
 use crate::verb::{Verb, verb_of};
-use table_reader::{Words, number, white_len, word_len};
+use table_text::{Words, number, white_len, word_len};
 
 // One more than a write may have, so that this is refused and not called usage.
 const MOST_ASKED: u64 = 2049;

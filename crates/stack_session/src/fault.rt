@@ -2,7 +2,7 @@
 ghost use Rattle.std.specs.Prelude.{◌≡◌};
 ghost use Rattle.stack_session.specs.declared.fault.SessionFault.TheVariants as session_fault;
 
-use counted_io::WriteFault;
+use program_io::WriteFault;
 use thiserror::Error;
 
 /// Why a session ended early.

@@ -3,7 +3,7 @@ ghost use Rattle.std.specs.Prelude.{false, ◌≡◌, ◌≢◌, ℕ, ◌+◌, �
 ghost use Rattle.stack_session.specs.Session.{AddsText, HandsOnText, IsEnding, IsOneLine, IsRemembered, IsSessionOf, KeepsAtMost, OnTooLong, ServesFront, ServesWhole, IsWithinLine, StopsWriting, WritesReply, StopsLine};
 
 use crate::fault::SessionFault;
-use counted_io::{Counted, WriteFault};
+use program_io::{Counted, WriteFault};
 use std::alloc::Global;
 use std::io;
 use std::io::{Read, Write};

@@ -1,13 +1,13 @@
 //! Writes the replies.
 ghost use Rattle.std.specs.Prelude.{◌≡◌, ◌+◌, ◌*◌, ◌<◌, decimal, ◌==◌, length, slice_index};
 ghost use Rattle.std.specs.List.{list_all};
-ghost use Rattle.counted_io.specs.Counted.{Writes};
+ghost use Rattle.program_io.specs.Counted.{Writes};
 ghost use Rattle.stack_session.specs.Texts.{busy_text, loaded_text, fault_text, load_refusal_text, removed_text, removal_text, ticket_text, more_reply, no_ticket_text, written_text, submit_text, reply_text, sector_line, moved_text, digits_line, sectors_text};
 ghost use Rattle.stack_session.specs.Replies.{cost_of};
 
-use counted_io::{Counted, WriteFault};
 use dm_table::TextFault;
 use io_fault_text::{say_no_memory, say_refused};
+use program_io::{Counted, WriteFault};
 use request_queue::{Reply, SubmitFault, Ticket};
 use stack_config::{Config, DevId};
 use stack_loader::{Refusal, RemoveFault};

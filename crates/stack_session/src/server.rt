@@ -15,15 +15,14 @@ use crate::reply::{
     say_removal_fault, say_removed, say_reply, say_submit_fault, say_text_fault, say_ticket,
 };
 use block_device::BlockDev;
-use counted_io::{Counted, WriteFault};
 use dm_table::ParseFault;
 use io_fault_text::{say_io_fault, say_no_memory, say_usage};
+use program_io::{Counted, WriteFault};
 use request_queue::{Held, NoSuchTicket, Progress, Queue, RunFault, SubmitFault, Ticket};
 use stack_loader::LoadFault;
 use std::alloc::Global;
 use std::io::{Read, Write};
-use table_printer::print_table;
-use table_reader::parse_stack;
+use table_text::{parse_stack, print_table};
 
 // Loads a text, and replies to that. A fault of the text goes before requests in flight.
 fn reply_to_load<D: BlockDev, W: Write>(

@@ -16,7 +16,7 @@ use Rattle.tree_path.specs.Path.{PathRecord, IsPathOf, LeadsTo, AreStored}
 use Rattle.tree_path.specs.Steps.{IsDown, steps}
 use Rattle.verity_format.proofs.lemmas.DeviceLemmas.{failed-then, full_read-then, steady-then}
 use Rattle.tree_path.proofs.lemmas.PathLemmas.{leads-down, stored-down}
-use Rattle.tree_runs.specs.Runs.{State}
+use Rattle.runs.specs.Kinds.{State}
 use Rattle.tree_difference.specs.declared.difference.Roots.{Roots}
 use Rattle.tree_difference.specs.declared.difference.Totals.{Totals}
 use Rattle.tree_difference.specs.declared.fault.DifferenceFault.{DifferenceFault}

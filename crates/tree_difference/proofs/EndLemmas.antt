@@ -9,12 +9,12 @@ use Rattle.tree_shape.proofs.lemmas.ShapeLemmas.{pow_pos}
 use Rattle.verity_format.specs.declared.verifying.VerifyFault.TheVariants.{Super, TooSmall, Device as DeviceFailed, NoMemory as NoRoom}
 use Rattle.verity_format.specs.Blocks.{IsFullRead}
 use Rattle.tree_path.specs.Spans.{IsTopAt}
-use Rattle.tree_runs.specs.declared.run.Kind.{Kind}
-use Rattle.tree_runs.specs.declared.run.Kind.TheVariants.{Changed}
+use Rattle.runs.specs.declared.kind.Kind.{Kind}
+use Rattle.runs.specs.declared.kind.Kind.TheVariants.{Changed}
 use Rattle.runs.specs.declared.run.Run.{Run}
-use Rattle.tree_runs.specs.Limits.{limited_lines}
-use Rattle.tree_runs.specs.Runs.{State, count_of, is_state, one_if}
-use Rattle.tree_runs.proofs.lemmas.ListingLemmas.{IsListed}
+use Rattle.runs.specs.Limits.{limited_lines}
+use Rattle.runs.specs.Kinds.{State, count_of, is_state, one_if}
+use Rattle.runs.proofs.lemmas.ListingLemmas.{IsListed}
 use Rattle.tree_difference.specs.declared.difference.Totals.{Totals}
 use Rattle.tree_difference.specs.declared.fault.DifferenceFault.{DifferenceFault}
 use Rattle.tree_difference.specs.declared.fault.DifferenceFault.TheVariants.{Image, Unlike, Hash, NoMemory, Write}

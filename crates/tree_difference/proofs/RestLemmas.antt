@@ -5,15 +5,15 @@ use Rattle.std.proofs.lemmas.Bool.{cases_lt, le-ltb, lt-ltb}
 use Rattle.std.proofs.lemmas.List.{append-nil}
 use Rattle.tree_shape.specs.Shape.{ShapeRecord}
 use Rattle.runs.specs.declared.run.Run.{Run}
-use Rattle.tree_runs.specs.declared.run.Kind.{Kind}
-use Rattle.tree_runs.specs.declared.run.Kind.TheVariants.{Changed, Removed, Added}
-use Rattle.tree_runs.specs.declared.tally.Tally.{Tally}
-use Rattle.tree_runs.specs.Limits.{limited_lines}
+use Rattle.runs.specs.declared.kind.Kind.{Kind}
+use Rattle.runs.specs.declared.kind.Kind.TheVariants.{Changed, Removed, Added}
+use Rattle.runs.specs.declared.tally.Tally.{Tally}
+use Rattle.runs.specs.Limits.{limited_lines}
 use Rattle.runs.specs.Runs.{run, runs_of}
-use Rattle.tree_runs.specs.Runs.{is_same, State}
+use Rattle.runs.specs.Kinds.{is_same, State}
 use Rattle.runs.specs.Tallies.{closed_by, listed, opened_by}
-use Rattle.tree_runs.specs.Texts.{listing_text}
-use Rattle.tree_runs.proofs.lemmas.ListingLemmas.{IsListed, listed-all, listed-last}
+use Rattle.runs.specs.Texts.{listing_text}
+use Rattle.runs.proofs.lemmas.ListingLemmas.{IsListed, listed-all, listed-last}
 use Rattle.tree_difference.specs.declared.walk.Walk.{Walk}
 use Rattle.tree_difference.specs.Comparisons.{rest_states}
 use Rattle.tree_difference.specs.Differences.{rest_run}

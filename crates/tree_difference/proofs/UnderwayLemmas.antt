@@ -18,11 +18,11 @@ use Rattle.tree_path.proofs.lemmas.PathLemmas.{digest_on-along, digest_on-stored
 use Rattle.tree_path.proofs.lemmas.SpanLemmas.{along, lower-mod}
 use Rattle.tree_shape.proofs.lemmas.ShapeFactLemmas.{two}
 use Rattle.tree_shape.proofs.lemmas.ShapeLemmas.{pow_pos}
-use Rattle.tree_runs.specs.declared.run.Kind.{Kind}
-use Rattle.tree_runs.specs.declared.run.Kind.TheVariants.{Changed}
-use Rattle.tree_runs.specs.declared.tally.Tally.{Tally}
-use Rattle.tree_runs.specs.Runs.{State, count_of}
-use Rattle.tree_runs.proofs.lemmas.ListingLemmas.{IsListed}
+use Rattle.runs.specs.declared.kind.Kind.{Kind}
+use Rattle.runs.specs.declared.kind.Kind.TheVariants.{Changed}
+use Rattle.runs.specs.declared.tally.Tally.{Tally}
+use Rattle.runs.specs.Kinds.{State, count_of}
+use Rattle.runs.proofs.lemmas.ListingLemmas.{IsListed}
 use Rattle.tree_difference.specs.declared.walk.Walk.{Walk}
 use Rattle.tree_difference.specs.Comparisons.{AreDistinctPairs, AreBehind, AreEntered, AreStatesSeen, HashPair, IsReadAfter, IsEntered, DifferenceWorld, hash_images}
 use Rattle.tree_difference.specs.Differences.{CanCompare, HaveTrees, IsWalkOf, trees_in}

@@ -6,10 +6,10 @@ use Rattle.block_device.specs.Device.{Device}
 use Rattle.tree_shape.specs.Shape.{ShapeRecord, levels, per_block}
 use Rattle.verity_format.specs.Blocks.{IsFullRead}
 use Rattle.tree_path.specs.Path.{PathRecord, digest_on}
-use Rattle.tree_runs.specs.declared.run.Kind.TheVariants.{Changed, Removed, Added}
+use Rattle.runs.specs.declared.kind.Kind.TheVariants.{Changed, Removed, Added}
 use Rattle.runs.specs.Runs.{runs_of}
-use Rattle.tree_runs.specs.Runs.{is_same, State, count_of}
-use Rattle.tree_runs.specs.Texts.{listing_text}
+use Rattle.runs.specs.Kinds.{is_same, State, count_of}
+use Rattle.runs.specs.Texts.{listing_text}
 use Rattle.tree_difference.specs.declared.difference.Totals.{Totals}
 use Rattle.tree_difference.specs.Trees.{Trees, HashImages, AreWays, IsSeenAs, IsStoredAs, common_blocks, common_levels}
 

@@ -8,11 +8,11 @@ use Rattle.verity_format.specs.Superblock.{SuperRecord, shape_of}
 use Rattle.verity_format.specs.Verifying.{IsReadCause}
 use Rattle.tree_path.specs.Path.{IsPathOf, largest_block}
 use Rattle.tree_path.specs.Steps.{IsDown, steps}
-use Rattle.tree_runs.specs.declared.run.Kind.TheVariants.{Removed, Added}
+use Rattle.runs.specs.declared.kind.Kind.TheVariants.{Removed, Added}
 use Rattle.runs.specs.declared.run.Run.{Run}
-use Rattle.tree_runs.specs.declared.run.Kind.{Kind}
-use Rattle.tree_runs.specs.declared.tally.Tally.{Tally}
-use Rattle.tree_runs.specs.Limits.{limited_lines}
+use Rattle.runs.specs.declared.kind.Kind.{Kind}
+use Rattle.runs.specs.declared.tally.Tally.{Tally}
+use Rattle.runs.specs.Limits.{limited_lines}
 use Rattle.runs.specs.Runs.{run}
 use Rattle.tree_difference.specs.declared.difference.Roots.{Roots}
 use Rattle.tree_difference.specs.declared.difference.Totals.{Totals}

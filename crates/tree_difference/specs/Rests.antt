@@ -1,9 +1,9 @@
 -- The last runs of a comparison.
 use Rattle.std.specs.Prelude.{List, [], ◌∷◌, ◌++◌, Option, Some, None}
 use Rattle.runs.specs.declared.run.Run.{Run}
-use Rattle.tree_runs.specs.declared.run.Kind.{Kind}
+use Rattle.runs.specs.declared.kind.Kind.{Kind}
 use Rattle.runs.specs.Tallies.{closed_by, listed, opened_by}
-use Rattle.tree_runs.specs.Runs.{is_same}
+use Rattle.runs.specs.Kinds.{is_same}
 
 -- the run that may still grow, and one behind it
 abbrev pub last_runs : Option (Run Kind) → Option (Run Kind) → List (Run Kind)

@@ -2,9 +2,9 @@
 use Rattle.std.specs.Prelude.{◌≡◌, ◌≢◌, ℕ, ◌+◌, ◌<◌, ◌≤◌, min, Option, Some, None, List}
 use Rattle.tree_shape.specs.Shape.{ShapeRecord, levels}
 use Rattle.tree_path.specs.Path.{PathRecord, IsPathOf, LeadsTo, digest_on, stored_digest}
-use Rattle.tree_runs.specs.declared.run.Kind.{Kind}
-use Rattle.tree_runs.specs.declared.run.Kind.TheVariants.{Changed}
-use Rattle.tree_runs.specs.Runs.{State}
+use Rattle.runs.specs.declared.kind.Kind.{Kind}
+use Rattle.runs.specs.declared.kind.Kind.TheVariants.{Changed}
+use Rattle.runs.specs.Kinds.{State}
 
 -- the shapes, salts and root digests of two trees
 pub record Trees : Type 0 where

@@ -2,7 +2,7 @@
 ghost use Rattle.std.specs.Prelude.{◌≡◌, ◌≤◌, ◌<◌, ◌+◌, ◌^◌, OnErr, OnOk, IfOk, IfErr, IfSome};
 ghost use Rattle.allocation.specs.Refusal.{IsOutOfMemory};
 ghost use Rattle.tree_path.specs.Path.{largest_block};
-ghost use Rattle.tree_runs.specs.Listings.{Tells};
+ghost use Rattle.runs.specs.Listings.{Tells};
 ghost use Rattle.runs.specs.Tallies.{EndsAt};
 ghost use Rattle.tree_difference.specs.Causes.{EndsWalk};
 ghost use Rattle.tree_difference.specs.Differences.{Aligns, CanCompare, EndsDifference, HaveTrees, IsDifference, IsDifferenceCause, IsWalkOf, ReadsPairs, ComparesBlocks, last_lines, rest_run, seen_world, totals_in, trees_of};
@@ -13,11 +13,10 @@ use crate::superblocks::{check_alike, superblock_of};
 use crate::walk::Walk;
 use allocation::OutOfMemory;
 use block_device::BlockDev;
-use counted_io::WriteFault;
-use runs::Run;
+use program_io::WriteFault;
+use runs::{Kind, Listing, Run, Tally};
 use std::alloc::Global;
 use tree_path::{TreePath, span, top_at};
-use tree_runs::{Kind, Listing, Tally};
 use tree_shape::Digest;
 use verity_format::Superblock;
 

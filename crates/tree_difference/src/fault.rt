@@ -3,7 +3,7 @@ ghost use Rattle.std.specs.Prelude.{◌≡◌};
 ghost use Rattle.tree_difference.specs.declared.fault.DifferenceFault.TheVariants as difference_fault;
 
 use allocation::OutOfMemory;
-use counted_io::WriteFault;
+use program_io::WriteFault;
 use std::alloc::AllocError;
 use verity_format::VerifyFault;
 

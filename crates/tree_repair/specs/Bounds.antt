@@ -3,7 +3,7 @@ use Rattle.std.specs.Prelude.{◌≡◌, ◌⊎◌, ℕ, ◌+◌, ◌*◌, ◌<�
 use Rattle.std.specs.List.{slice_index_or}
 use Rattle.std.specs.Result.{result_err}
 use Rattle.block_device.specs.Device.{Device}
-use Rattle.counted_io.specs.Counted.{CountedRecord}
+use Rattle.program_io.specs.Counted.{CountedRecord}
 use Rattle.tree_shape.specs.Shape.{ShapeRecord, area_blocks, levels, blocks_sectors}
 use Rattle.tree_path.specs.Steps.{HasReadAtMost}
 use Rattle.verity_format.specs.Image.{data_sectors}

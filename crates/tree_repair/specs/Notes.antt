@@ -1,6 +1,6 @@
 -- What is noted of the blocks that are due, as the functions that go over them say it.
 use Rattle.std.specs.Prelude.{ℕ, List, Option, Result}
-use Rattle.counted_io.specs.Counted.{CountedRecord}
+use Rattle.program_io.specs.Counted.{CountedRecord}
 use Rattle.tree_repair.specs.declared.bad.BadBlocks.{BadBlocks}
 use Rattle.tree_repair.specs.declared.fault.RepairFault.{RepairFault}
 use Rattle.tree_repair.specs.declared.place.Place.{Place}

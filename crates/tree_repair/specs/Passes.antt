@@ -3,7 +3,7 @@ use Rattle.std.specs.Prelude.{◌≡◌, ◌⊎◌, ◌<◌, ◌≤◌, ℕ, IsT
 use Rattle.std.specs.List.{flat_map}
 use Rattle.std.specs.Result.{result_err}
 use Rattle.block_device.specs.Device.{Device}
-use Rattle.counted_io.specs.Counted.{CountedRecord}
+use Rattle.program_io.specs.Counted.{CountedRecord}
 use Rattle.tree_shape.specs.Shape.{ShapeRecord, levels}
 use Rattle.fec_area.specs.declared.layout.Layout.{Layout}
 use Rattle.verity_format.specs.Blocks.{IsOnlyRead}

@@ -1,7 +1,7 @@
 -- What a repair of an image did.
 use Rattle.std.specs.Prelude.{◌⊎◌, ℕ, Bool, true, false, IsTrue, List, Option, None, Some, ◌<◌, ◌≤◌}
 use Rattle.block_device.specs.Device.{Device}
-use Rattle.counted_io.specs.Counted.{CountedRecord}
+use Rattle.program_io.specs.Counted.{CountedRecord}
 use Rattle.fec_area.specs.declared.layout.Layout.{Layout}
 use Rattle.tree_shape.specs.Shape.{IsShape, levels}
 use Rattle.verity_format.specs.Superblock.{SuperRecord, shape_of}

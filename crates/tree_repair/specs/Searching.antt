@@ -2,7 +2,7 @@
 -- `state` tells the device.
 use Rattle.std.specs.Prelude.{ℕ, Bool, false, IfOk, List, OnErr, OnOk, Option, Result}
 use Rattle.block_device.specs.Device.{Device}
-use Rattle.counted_io.specs.Counted.{CountedRecord}
+use Rattle.program_io.specs.Counted.{CountedRecord}
 use Rattle.fec_area.specs.declared.layout.Layout.{Layout}
 use Rattle.tree_survey.specs.Surveys.{IsWay}
 use Rattle.tree_repair.specs.declared.bad.BadBlock.{BadBlock}

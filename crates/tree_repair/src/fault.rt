@@ -5,7 +5,7 @@ ghost use Rattle.verity_format.specs.declared.verifying.VerifyFault.TheVariants 
 
 use allocation::OutOfMemory;
 use block_device::DeviceFault;
-use counted_io::WriteFault;
+use program_io::WriteFault;
 use std::alloc::AllocError;
 use verity_format::VerifyFault;
 

@@ -26,7 +26,7 @@ use crate::saying::say_mended;
 use crate::verified_path::VerifiedPath;
 use crate::visiting::visit;
 use block_device::BlockDev;
-use counted_io::Counted;
+use program_io::Counted;
 use std::io::Write;
 use tree_path::{TreePath, span};
 

@@ -17,8 +17,8 @@ use crate::parity::{Came, restore_bad};
 use crate::place::Repair;
 use crate::repair::{Plan, repair_heights, repair_of, superblock_of};
 use block_device::BlockDev;
-use counted_io::Counted;
 use fec_area::Layout;
+use program_io::Counted;
 use std::alloc::Global;
 use std::io::Write;
 

@@ -17,7 +17,7 @@ use crate::place::{Place, Repair, block_size};
 use crate::saying::say_mended;
 use crate::seeking::is_there;
 use block_device::{BlockDev, DeviceFault};
-use counted_io::Counted;
+use program_io::Counted;
 use std::io::Write;
 use tree_path::TreePath;
 use tree_shape::Digest;

@@ -23,7 +23,7 @@ use crate::outcome::{Failures, Outcome, outcome_of};
 use crate::place::{ROOM, Repair};
 use allocation::zeros;
 use block_device::BlockDev;
-use counted_io::Counted;
+use program_io::Counted;
 use std::alloc::Global;
 use std::io::Write;
 use tree_shape::Digest;

@@ -1,12 +1,12 @@
 //! A line for each block that was mended.
 ghost use Rattle.std.specs.Prelude.{◌≡◌, ◌<◌};
-ghost use Rattle.counted_io.specs.Counted.{Writes};
+ghost use Rattle.program_io.specs.Counted.{Writes};
 ghost use Rattle.tree_repair.specs.Jobs.{copy_line_at, job, block_lines, parity_line_at};
 ghost use Rattle.tree_repair.specs.Runs.{data_line, data_parity_line, repaired_hash_line, hash_parity_line, made_line, remade_line, verb};
 
 use crate::mending::Mended;
 use crate::place::{Place, Repair};
-use counted_io::{Counted, WriteFault};
+use program_io::{Counted, WriteFault};
 use std::io::Write;
 
 /// Prints the line of a block that was mended, and hands it on at once, since the next one may take long; of another block nothing.

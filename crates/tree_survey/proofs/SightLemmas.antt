@@ -17,7 +17,7 @@ use Rattle.tree_path.specs.Spans.{IsTopAt}
 use Rattle.verity_format.proofs.lemmas.DeviceLemmas.{steady-then}
 use Rattle.tree_path.proofs.lemmas.PathLemmas.{digest_on-along, digest_on-stored, leads-along, leads-higher, stored-along, stored-higher}
 use Rattle.tree_path.proofs.lemmas.SpanLemmas.{behind, lower-mod, power-least}
-use Rattle.tree_runs.specs.declared.run.Kind.TheVariants.{Changed, Unknown}
+use Rattle.runs.specs.declared.kind.Kind.TheVariants.{Changed, Unknown}
 use Rattle.tree_survey.specs.declared.sight.Sight.{Sight}
 use Rattle.tree_survey.specs.Sights.{IsOnWay, IsReady, read_to, state_at, state_with}
 use Rattle.tree_survey.specs.Surveys.{AllStand, IsLedTo, IsContentSeenAs, IsStoredBy, IsUnknownAt, IsUnreadAs, IsWay, Tree}

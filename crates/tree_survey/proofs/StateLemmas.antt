@@ -2,12 +2,12 @@
 use Rattle.std.proofs.Common.{◌≡◌, ◌≤◌, ◌+◌, ℕ, Bool, true, false, List, [], ◌∷◌, ◌++◌, length, get_or, Option, Some, None, sym, ap, ◌∙◌, arith}
 use Rattle.std.specs.Io.KnownBytes.{Appends}
 use Rattle.std.proofs.lemmas.List.{get_or-append-add, length-append}
-use Rattle.tree_runs.specs.declared.run.Kind.{Kind}
-use Rattle.tree_runs.specs.declared.run.Kind.TheVariants.{Changed, Unknown, Removed, Added}
-use Rattle.tree_runs.specs.Limits.{limited_lines}
-use Rattle.tree_runs.specs.Runs.{State, count_of, is_state, one_if}
-use Rattle.tree_runs.proofs.lemmas.ListingLemmas.{IsListed, listed-had, listed-run}
-use Rattle.tree_runs.proofs.lemmas.RunLemmas.{count_of-append}
+use Rattle.runs.specs.declared.kind.Kind.{Kind}
+use Rattle.runs.specs.declared.kind.Kind.TheVariants.{Changed, Unknown, Removed, Added}
+use Rattle.runs.specs.Limits.{limited_lines}
+use Rattle.runs.specs.Kinds.{State, count_of, is_state, one_if}
+use Rattle.runs.proofs.lemmas.ListingLemmas.{IsListed, listed-had, listed-run}
+use Rattle.runs.proofs.lemmas.KindLemmas.{count_of-append}
 use Rattle.tree_survey.specs.declared.counts.Counts.{Counts}
 use Rattle.tree_survey.specs.declared.counts.Totals.{Totals}
 use Rattle.tree_survey.specs.Counts.{IsAdded, closed_at, counted, good_of, totals_of}

@@ -13,11 +13,11 @@ use Rattle.verity_format.specs.Blocks.{block_at, blocks_at}
 use Rattle.verity_format.specs.Image.{tree_sectors}
 use Rattle.tree_path.specs.Path.{IsPathOf}
 use Rattle.tree_path.specs.Spans.{IsTopAt}
-use Rattle.tree_runs.specs.declared.run.Kind.TheVariants.{Changed, Unknown, Removed, Added}
-use Rattle.tree_runs.specs.Limits.{begun, limited_lines}
-use Rattle.tree_runs.specs.Runs.{State}
+use Rattle.runs.specs.declared.kind.Kind.TheVariants.{Changed, Unknown, Removed, Added}
+use Rattle.runs.specs.Limits.{begun, limited_lines}
+use Rattle.runs.specs.Kinds.{State}
 use Rattle.runs.specs.Tallies.{EndsAt, listed}
-use Rattle.tree_runs.proofs.lemmas.ListingLemmas.{IsListed, listed-all, listed-ends, listed-none}
+use Rattle.runs.proofs.lemmas.ListingLemmas.{IsListed, listed-all, listed-ends, listed-none}
 use Rattle.tree_survey.specs.declared.counts.Counts.{Counts}
 use Rattle.tree_survey.specs.declared.counts.Totals.{Totals}
 use Rattle.tree_survey.specs.declared.sight.Sight.{Sight}

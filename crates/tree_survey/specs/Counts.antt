@@ -1,12 +1,12 @@
 -- Runs and counts of data blocks, one block after another.
 use Rattle.std.specs.Prelude.{◌≡◌, ℕ, suc, ◌+◌, ◌^◌, ◌<◌, List, [], ◌∷◌, Option, Some, None}
-use Rattle.tree_runs.specs.declared.run.Kind.TheVariants.{Changed, Unknown}
+use Rattle.runs.specs.declared.kind.Kind.TheVariants.{Changed, Unknown}
 use Rattle.runs.specs.declared.run.Run.{Run}
-use Rattle.tree_runs.specs.declared.run.Kind.{Kind}
-use Rattle.tree_runs.specs.declared.tally.Tally.{Tally}
-use Rattle.tree_runs.specs.Limits.{begun, limit_after, limited_lines}
+use Rattle.runs.specs.declared.kind.Kind.{Kind}
+use Rattle.runs.specs.declared.tally.Tally.{Tally}
+use Rattle.runs.specs.Limits.{begun, limit_after, limited_lines}
 use Rattle.runs.specs.Runs.{run}
-use Rattle.tree_runs.specs.Runs.{is_same, State, count_of}
+use Rattle.runs.specs.Kinds.{is_same, State, count_of}
 use Rattle.runs.specs.Tallies.{closed_by, listed, opened_by}
 use Rattle.tree_survey.specs.declared.counts.Counts.{Counts}
 use Rattle.tree_survey.specs.declared.counts.Totals.{Totals}

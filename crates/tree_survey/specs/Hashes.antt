@@ -9,7 +9,7 @@ use Rattle.tree_shape.specs.Shape.{ShapeRecord, IsShape, ancestor, level_blocks,
 use Rattle.verity_format.specs.Image.{tree_sectors}
 use Rattle.tree_path.specs.Path.{PathRecord, IsPathOf, block_of, stored_block, stored_digest}
 use Rattle.tree_path.specs.Unused.{is_unused_zero}
-use Rattle.tree_runs.specs.Texts.{hash_text}
+use Rattle.runs.specs.Texts.{hash_text}
 use Rattle.tree_survey.specs.Failing.{HasFailedRead}
 use Rattle.tree_survey.specs.Surveys.{Tree}
 

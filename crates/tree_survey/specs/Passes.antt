@@ -11,8 +11,8 @@ use Rattle.verity_format.specs.Blocks.{blocks_at}
 use Rattle.verity_format.specs.Image.{data_sectors, tree_sectors}
 use Rattle.tree_path.specs.Path.{IsPathOf}
 use Rattle.runs.specs.Runs.{runs_of}
-use Rattle.tree_runs.specs.Runs.{is_same, State}
-use Rattle.tree_runs.specs.Texts.{runs_text}
+use Rattle.runs.specs.Kinds.{is_same, State}
+use Rattle.runs.specs.Texts.{runs_text}
 use Rattle.tree_survey.specs.declared.counts.Totals.{Totals}
 use Rattle.tree_survey.specs.declared.sight.Sight.{Sight}
 use Rattle.tree_survey.specs.declared.survey.Survey.{Survey}

@@ -7,8 +7,8 @@ use Rattle.tree_shape.specs.Shape.{ShapeRecord, levels, per_block}
 use Rattle.verity_format.specs.Image.{tree_sectors}
 use Rattle.tree_path.specs.Path.{PathRecord, IsPathOf, LeadsTo, AreStored, block_of, digest_on}
 use Rattle.tree_path.specs.Spans.{IsTopAt}
-use Rattle.tree_runs.specs.declared.run.Kind.TheVariants.{Changed, Unknown}
-use Rattle.tree_runs.specs.Runs.{State}
+use Rattle.runs.specs.declared.kind.Kind.TheVariants.{Changed, Unknown}
+use Rattle.runs.specs.Kinds.{State}
 use Rattle.tree_survey.specs.declared.sight.Sight.{Sight}
 use Rattle.tree_survey.specs.Failing.{HasFailedRead}
 

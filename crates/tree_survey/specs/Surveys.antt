@@ -4,8 +4,8 @@ use Rattle.tree_shape.specs.Digests.{digest}
 use Rattle.tree_shape.specs.Shape.{ShapeRecord, levels}
 use Rattle.verity_format.specs.Blocks.{block_at}
 use Rattle.tree_path.specs.Path.{PathRecord, IsPathOf, LeadsTo, block_of, digest_on, stored_block, stored_digest}
-use Rattle.tree_runs.specs.declared.run.Kind.TheVariants.{Changed, Unknown}
-use Rattle.tree_runs.specs.Runs.{State}
+use Rattle.runs.specs.declared.kind.Kind.TheVariants.{Changed, Unknown}
+use Rattle.runs.specs.Kinds.{State}
 
 -- a tree's shape, salt and root digest
 pub record Tree : Type 0 where

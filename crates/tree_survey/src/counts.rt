@@ -1,13 +1,12 @@
 //! Runs and counts of data blocks, one block after another.
 ghost use Rattle.std.specs.Prelude.{◌≡◌, ◌^◌, ◌<◌, OnOk};
-ghost use Rattle.tree_runs.specs.Limits.{limit_after};
-ghost use Rattle.tree_runs.specs.Listings.{Tells};
+ghost use Rattle.runs.specs.Limits.{limit_after};
+ghost use Rattle.runs.specs.Listings.{Tells};
 ghost use Rattle.runs.specs.Tallies.{EndsAt};
 ghost use Rattle.tree_survey.specs.Counts.{AreFew, IsAdded, closed_at, counted, lines_at, none_yet, opened_at};
 
-use counted_io::WriteFault;
-use runs::Run;
-use tree_runs::{Kind, Listing, Tally};
+use program_io::WriteFault;
+use runs::{Kind, Listing, Run, Tally};
 
 /// How many data blocks are good, how many changed, and of how many nothing is known.
 #[derive(Clone, Copy, Debug, PartialEq, Eq)]

@@ -4,7 +4,7 @@ ghost use Rattle.tree_survey.specs.declared.fault.SurveyFault.TheVariants as sur
 ghost use Rattle.verity_format.specs.declared.verifying.VerifyFault.TheVariants as verify_fault;
 
 use allocation::OutOfMemory;
-use counted_io::WriteFault;
+use program_io::WriteFault;
 use verity_format::VerifyFault;
 
 /// Why a scan of an image ends early.

@@ -2,15 +2,15 @@
 ghost use Rattle.std.specs.Prelude.{◌≡◌, ◌&&◌, ◌<◌, ◌≤◌, true, IfOk, OnErr};
 ghost use Rattle.tree_shape.specs.Shape.{levels};
 ghost use Rattle.verity_format.specs.Image.{tree_sectors};
-ghost use Rattle.tree_runs.specs.Listings.{Tells};
+ghost use Rattle.runs.specs.Listings.{Tells};
 ghost use Rattle.tree_survey.specs.Failing.{IsReadOver};
 ghost use Rattle.tree_survey.specs.Hashes.{CanCompareHashes, IsAbove, IsCompared, TellsBad, TellsTree, hash_line_at};
 
 use crate::path::load;
 use block_device::BlockDev;
-use counted_io::WriteFault;
+use program_io::WriteFault;
+use runs::{Line, Listing};
 use tree_path::{TreePath, span};
-use tree_runs::{Line, Listing};
 use tree_shape::Shape;
 
 /// Tells a line for each hash block that isn't seen to be good, in the order in which they lie on the device, the top level

@@ -6,8 +6,8 @@ ghost use Rattle.tree_survey.specs.Sights.{CanGoDown, HasGone, none_read, state_
 
 use crate::path::{Reach, descend};
 use block_device::BlockDev;
+use runs::Kind;
 use tree_path::{TreePath, top_at};
-use tree_runs::Kind;
 use tree_shape::{Digest, Shape};
 use verity_format::is_same;
 

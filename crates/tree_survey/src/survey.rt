@@ -12,9 +12,9 @@ use crate::hashes::say_hashes;
 use crate::pieces::{blocks_of, digest_of, digest_room, piece_room, read_piece};
 use crate::sight::Sight;
 use block_device::BlockDev;
+use runs::Listing;
 use std::alloc::Global;
 use tree_path::TreePath;
-use tree_runs::Listing;
 use tree_shape::{Digest, Salt, Shape};
 use verity_format::{VerifyFault, VerityTree, data_sectors, tree_sectors};
 

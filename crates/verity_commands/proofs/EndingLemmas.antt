@@ -7,8 +7,8 @@ use Rattle.image_commands.specs.declared.fault.ImageFault.{ImageFault}
 use Rattle.image_commands.specs.declared.fault.ImageFault.TheVariants as image
 use Rattle.image_commands.specs.Endings.{IsLineUnwritten}
 use Rattle.image_commands.proofs.lemmas.EndingLemmas.{quiet as image-quiet}
-use Rattle.verity_commands.specs.declared.fault.VerityFault.{VerityFault}
-use Rattle.verity_commands.specs.declared.fault.VerityFault.TheVariants as verity
+use Rattle.verity_commands.specs.declared.verity_fault.VerityFault.{VerityFault}
+use Rattle.verity_commands.specs.declared.verity_fault.VerityFault.TheVariants as verity
 use Rattle.verity_commands.specs.Endings.{IsVerityQuiet, IsUnsaid, words_ending}
 
 pub quiet : (fault : VerityFault) (bytes : Option (List ℕ)) → IsVerityQuiet fault bytes bytes

@@ -1,1 +1,4 @@
 pub mod EndingLemmas
+pub mod OpeningLemmas
+pub mod KeptLemmas
+pub mod ObjectLemmas

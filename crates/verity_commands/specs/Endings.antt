@@ -5,8 +5,8 @@ use Rattle.command_line.specs.declared.fault.WordsFault.TheVariants as words
 use Rattle.image_commands.specs.declared.fault.ImageFault.{ImageFault}
 use Rattle.image_commands.specs.declared.fault.ImageFault.TheVariants as image
 use Rattle.image_commands.specs.Endings as images
-use Rattle.verity_commands.specs.declared.fault.VerityFault.{VerityFault}
-use Rattle.verity_commands.specs.declared.fault.VerityFault.TheVariants.{Image, Usage}
+use Rattle.verity_commands.specs.declared.verity_fault.VerityFault.{VerityFault}
+use Rattle.verity_commands.specs.declared.verity_fault.VerityFault.TheVariants.{Image, Usage}
 
 -- where the words are none
 abbrev pub words_ending : WordsFault → VerityFault

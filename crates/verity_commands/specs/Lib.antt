@@ -5,3 +5,10 @@ pub mod Pinned
 pub mod Places
 pub mod Texts
 pub mod Trees
+pub mod Openings
+pub mod Objects
+pub mod Diffs
+pub mod TreeFaultTexts
+pub mod Invocations
+pub mod Surveys
+pub mod Surveyed

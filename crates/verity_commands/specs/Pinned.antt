@@ -2,7 +2,7 @@
 use Rattle.std.specs.Prelude.{◌≡◌, ◌⊎◌, ℕ, Bool, List, Option}
 use Rattle.std.specs.Io.KnownBytes.{Appends}
 use Rattle.block_device.specs.Device.{Device}
-use Rattle.counted_io.specs.Counted.{CountedRecord}
+use Rattle.program_io.specs.Counted.{CountedRecord}
 use Rattle.command_line.specs.declared.image_options.ImageOptions.{ImageOptions}
 use Rattle.command_line.specs.declared.option_words.OptionWords.{OptionWords}
 use Rattle.command_line.specs.declared.words.pin_format.PinFormatWords.{PinFormatWords}
@@ -21,7 +21,7 @@ use Rattle.image_commands.specs.Pinned.{IsPinnedMatchesEnd, PrintsPinnedMatches}
 use Rattle.image_commands.specs.Places.{TwoPlaces}
 use Rattle.image_files.specs.Opener.{Calls, Opener, calls}
 use Rattle.image_pin.specs.declared.pin.Pin.{Pin}
-use Rattle.verity_commands.specs.declared.fault.VerityFault.{VerityFault}
+use Rattle.verity_commands.specs.declared.verity_fault.VerityFault.{VerityFault}
 use Rattle.verity_commands.specs.Endings.{IsImageEnd, IsUnsaid, IsVerityQuiet}
 use Rattle.verity_commands.specs.Placed.{IsMakingEnd, MakesImage}
 use Rattle.verity_commands.specs.Places.{image_places}

@@ -3,7 +3,7 @@ use Rattle.std.specs.Borrow.{Bor}
 use Rattle.std.specs.Io.KnownBytes.{Appends}
 use Rattle.std.specs.Prelude.{◌≡◌, ◌⊎◌, ℕ, ◌/◌, Bool, true, false, List, Option}
 use Rattle.block_device.specs.Device.{Device}
-use Rattle.counted_io.specs.Counted.{CountedRecord}
+use Rattle.program_io.specs.Counted.{CountedRecord}
 use Rattle.command_line.specs.declared.image_options.ImageOptions.{ImageOptions}
 use Rattle.command_line.specs.declared.option_words.OptionWords.{OptionWords}
 use Rattle.command_line.specs.declared.words.dump.DumpWords.{DumpWords}
@@ -30,8 +30,8 @@ use Rattle.image_commands.specs.Places.{TwoPlaces, is_aligned, two_places}
 use Rattle.image_commands.specs.SuperblockJson.{dump_text}
 use Rattle.image_commands.specs.TableLines.{placed_line}
 use Rattle.image_files.specs.Opener.{Calls, Opener, calls}
-use Rattle.verity_commands.specs.declared.fault.VerityFault.{VerityFault}
-use Rattle.verity_commands.specs.declared.fault.VerityFault.TheVariants.{Usage}
+use Rattle.verity_commands.specs.declared.verity_fault.VerityFault.{VerityFault}
+use Rattle.verity_commands.specs.declared.verity_fault.VerityFault.TheVariants.{Usage}
 use Rattle.verity_commands.specs.Endings.{IsImageEnd, IsVerityQuiet, IsUnsaid}
 use Rattle.verity_commands.specs.Growing.{FormatsGrowing, IsGrowingEnd, PreparesFirst}
 use Rattle.verity_commands.specs.Places.{IsRootEnd, TellsRoot, image_places, start_of}

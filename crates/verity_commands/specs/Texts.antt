@@ -15,12 +15,12 @@ use Rattle.image_pin.specs.declared.name.PinName.{PinName}
 use Rattle.image_pin.specs.Faults.{fault_name, fault_number}
 use Rattle.image_pin.specs.Mismatches.{mismatch_name, mismatch_number}
 use Rattle.image_pin.specs.Names.{name_text}
-use Rattle.text_files.specs.declared.texts.ReplaceFault.{ReplaceFault}
-use Rattle.text_files.specs.declared.texts.ReplaceFault.TheVariants as replace
+use Rattle.image_files.specs.declared.texts.ReplaceFault.{ReplaceFault}
+use Rattle.image_files.specs.declared.texts.ReplaceFault.TheVariants as replace
 use Rattle.io_fault_text.specs.Opening.{open_text}
 use Rattle.io_fault_text.specs.Texts.{kind_then, no_memory, refused_text, usage_text}
-use Rattle.verity_commands.specs.declared.fault.VerityFault.{VerityFault}
-use Rattle.verity_commands.specs.declared.fault.VerityFault.TheVariants as verity
+use Rattle.verity_commands.specs.declared.verity_fault.VerityFault.{VerityFault}
+use Rattle.verity_commands.specs.declared.verity_fault.VerityFault.TheVariants as verity
 
 -- an image that isn't made, and what it needs
 abbrev pub format_text : FormatFault → List ℕ

@@ -2,7 +2,7 @@
 use Rattle.std.specs.Borrow.{Bor}
 use Rattle.std.specs.Prelude.{◌≡◌, ◌⊎◌, ℕ, ◌/◌, Bool, true, false, List, Option, Some}
 use Rattle.block_device.specs.Device.{Device}
-use Rattle.counted_io.specs.Counted.{CountedRecord}
+use Rattle.program_io.specs.Counted.{CountedRecord}
 use Rattle.command_line.specs.declared.image_options.ImageOptions.{ImageOptions}
 use Rattle.command_line.specs.declared.option_words.OptionWords.{OptionWords}
 use Rattle.command_line.specs.declared.words.tree_format.TreeFormatWords.{TreeFormatWords}
@@ -24,7 +24,7 @@ use Rattle.image_commands.specs.Preparing.{IsPreparingEnd}
 use Rattle.image_commands.specs.TreePlaces.{given_options, unnamed}
 use Rattle.image_files.specs.Opener.{Calls, Opener, calls}
 use Rattle.verity_format.specs.declared.formatting.FormatOptions.{FormatOptions}
-use Rattle.verity_commands.specs.declared.fault.VerityFault.{VerityFault}
+use Rattle.verity_commands.specs.declared.verity_fault.VerityFault.{VerityFault}
 use Rattle.verity_commands.specs.Endings.{IsImageEnd, IsVerityQuiet, IsUnsaid}
 use Rattle.verity_commands.specs.Growing.{FormatsGrowing, IsGrowingEnd, PreparesFirst}
 use Rattle.verity_commands.specs.Places.{IsRootEnd, TellsRoot, image_places, start_of}

@@ -11,15 +11,15 @@ ghost use Rattle.verity_commands.specs.Trees.{FailsGrownTree, MakesGrownTree};
 
 use block_device::BlockDev;
 use command_line::ImageOptions;
-use counted_io::Counted;
+use device_adapters::Watchers;
 use image_commands::{
     Generators, ImageFault, ImagePlaces, MadeImage, WatchedPlaces, format_tree, make_placed,
 };
 use image_files::{Images, UnopenedFile};
+use program_io::Counted;
 use std::alloc::Global;
 use std::io::Write;
 use verity_format::FormatFault;
-use watched_device::Watchers;
 
 // The file under a path has at least so many sectors from then on.
 fn make_room<'a, I: Images>(

@@ -1,19 +1,33 @@
-//! The commands on verity images: words in, and what `image_commands` does for them; how each ends early.
+//! The commands on verity images by their arguments, comparing two of their hash trees, and scanning one.
 #![tactic(auto)]
 
-mod fault;
+mod diff;
+mod diff_object;
 mod growing;
+mod invoke;
+mod paths;
 mod pinned;
 mod placed;
 mod places;
 mod status;
+mod survey;
+mod survey_object;
 mod texts;
+mod tree_fault;
+mod tree_fault_text;
 mod trees;
+mod verity_fault;
 
-pub use fault::VerityFault;
+pub use diff::diff_images;
+pub use invoke::{invoke_diff, invoke_survey};
+pub use paths::HashPaths;
 pub use pinned::{invoke_format_pinned, invoke_verify_pinned};
 pub use placed::{invoke_dump, invoke_format, invoke_table, invoke_verify};
 pub use places::{root_in, sector_at};
 pub use status::verity_status;
+pub use survey::{SurveyOrder, say_totals, survey_images};
 pub use texts::{say_image_fault, say_verity_fault};
+pub use tree_fault::TreeFault;
+pub use tree_fault_text::{say_tree_fault, tree_status};
 pub use trees::{invoke_format_tree, invoke_table_tree, invoke_verify_tree};
+pub use verity_fault::VerityFault;

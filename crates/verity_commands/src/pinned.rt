@@ -3,19 +3,19 @@ ghost use Rattle.std.specs.Prelude.{OnOk, IfErr};
 ghost use Rattle.image_commands.specs.Drawing.{drawing};
 ghost use Rattle.verity_commands.specs.Pinned.{FailsToFormatPinned, FailsToVerifyByPin, FormatsPinned, VerifiesByPin};
 
-use crate::fault::VerityFault;
 use crate::placed::{make_image, places_of, print_made};
 use crate::places::sector_at;
+use crate::verity_fault::VerityFault;
 use command_line::{OptionWords, PinFormatWords, PinVerifyWords, options_of};
-use counted_io::Counted;
+use device_adapters::Watchers;
 use image_commands::{
     Generators, ImagePlaces, WatchedPlaces, check_pin_path, pin_of_image, read_pin, verify_pinned,
     write_pin,
 };
 use image_files::Images;
+use program_io::Counted;
 use std::alloc::Global;
 use std::io::Write;
-use watched_device::Watchers;
 
 /// `format --pin FILE [--grow] [--progress] [--hash-offset BYTES] [OPTION..] DATA HASH`: whether FILE can be written is found out
 /// before anything is made. It is written once the image is synced, and before the root is printed.

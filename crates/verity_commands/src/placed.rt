@@ -4,21 +4,21 @@ ghost use Rattle.image_commands.specs.Drawing.{drawing};
 ghost use Rattle.image_commands.specs.Endings.{IsLineUnwritten};
 ghost use Rattle.verity_commands.specs.Placed.{DumpsByWords, FailsSaidImage, FailsToDump, FailsToFormat, FailsToPrintTable, FailsToVerifyByWords, FormatsByWords, MakesSaidImage, PrintsByWords, PrintsMade, VerifiesByWords, places_of};
 
-use crate::fault::VerityFault;
 use crate::growing::make_growing;
 use crate::places::{root_in, sector_at};
+use crate::verity_fault::VerityFault;
 use command_line::{
     DumpWords, FormatWords, ImageOptions, OptionWords, TableWords, VerifyWords, options_of,
 };
-use counted_io::Counted;
+use device_adapters::Watchers;
 use image_commands::{
     Generators, HashPlace, ImageFault, ImagePlaces, LineWords, MadeImage, WatchedPlaces,
     dump_placed, make_placed, prepare_image, say_made, table_placed, verify_placed,
 };
 use image_files::Images;
+use program_io::Counted;
 use std::alloc::Global;
 use std::io::Write;
-use watched_device::Watchers;
 
 /// `format [--grow] [--progress] [--hash-offset BYTES] [OPTION..] DATA HASH`
 pub fn invoke_format<'a, I: Images, G: Generators + Watchers, W: Write>(

@@ -2,7 +2,7 @@
 ghost use Rattle.std.specs.Prelude.{◌≡◌};
 ghost use Rattle.verity_commands.specs.Endings.{verity_status};
 
-use crate::fault::VerityFault;
+use crate::verity_fault::VerityFault;
 use image_commands::ImageFault;
 
 const REFUSED: u8 = 1;

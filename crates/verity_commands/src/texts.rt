@@ -1,15 +1,15 @@
 //! What is printed of commands on verity images that end early.
 ghost use Rattle.std.specs.Prelude.{◌≡◌};
-ghost use Rattle.counted_io.specs.Counted.{Writes};
+ghost use Rattle.program_io.specs.Counted.{Writes};
 ghost use Rattle.verity_commands.specs.Texts.{format_text, image_text, pin_fault_text, unwritten_pin_text, verdict_text, verify_text, verity_text};
 
-use crate::fault::VerityFault;
-use counted_io::{Counted, WriteFault};
+use crate::verity_fault::VerityFault;
 use image_commands::ImageFault;
+use image_files::ReplaceFault;
 use image_pin::PinFault;
 use io_fault_text::{say_no_memory, say_refused, say_unopened, say_usage};
+use program_io::{Counted, WriteFault};
 use std::io::Write;
-use text_files::ReplaceFault;
 use verity_format::{FormatFault, Verdict, VerifyFault};
 
 /// One line, or none where a line can't be written.

@@ -5,20 +5,20 @@ ghost use Rattle.image_commands.specs.Drawing.{drawing};
 ghost use Rattle.verity_commands.specs.Endings.{IsUnsaid};
 ghost use Rattle.verity_commands.specs.Trees.{FailsToFormatTree, FailsToPrintTree, FailsToVerifySaidTree, FormatsTreeByWords, PrintsTreeByWords, SaysTree, VerifiesTreeByWords};
 
-use crate::fault::VerityFault;
 use crate::growing::format_tree_growing;
 use crate::places::{root_in, sector_at};
+use crate::verity_fault::VerityFault;
 use command_line::{OptionWords, TreeFormatWords, TreeTableWords, TreeVerifyWords, options_of};
-use counted_io::Counted;
+use device_adapters::Watchers;
 use image_commands::{
     ExpectedTree, Generators, ImagePlaces, LineWords, WatchedPlaces, format_tree, given_options,
     prepare_image, print_tree_line, unnamed, verify_tree,
 };
 use image_files::Images;
+use program_io::Counted;
 use std::alloc::Global;
 use std::io::Write;
 use verity_format::FormatOptions;
-use watched_device::Watchers;
 
 /// `format --no-superblock [--grow] [--progress] [OPTION..] DATA HASH`
 pub fn invoke_format_tree<'a, I: Images, G: Generators + Watchers, W: Write>(

@@ -2,7 +2,7 @@
 use Rattle.std.proofs.Common.{◌≡◌, ℕ, ◌^◌, ◌<◌, List, arith}
 use Rattle.tree_shape.proofs.lemmas.ShapeFaultLemmas.{blocks-le}
 use Rattle.dm_table.specs.Grammar.{IsLineOfGrammar}
-use Rattle.table_printer.proofs.lemmas.ReadBackLemmas.{line-reads-back}
+use Rattle.table_text.proofs.lemmas.ReadBackLemmas.{line-reads-back}
 use Rattle.verity_format.specs.Superblock.{SuperRecord, shape_of}
 use Rattle.verity_format.specs.Line.{AreLineParts, TableLinesReadBack, verity_line}
 

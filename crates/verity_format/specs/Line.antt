@@ -5,8 +5,8 @@ use Rattle.dm_table.specs.declared.table.Line.{Line}
 use Rattle.dm_table.specs.declared.table.Target.TheVariants.{Verity as verity_target}
 use Rattle.dm_table.specs.Names.{is_device}
 use Rattle.dm_table.specs.TableText.{table_of}
-use Rattle.table_printer.specs.Print.{line_text}
-pub use Rattle.table_printer.specs.ArgumentWords.{salt_word}
+use Rattle.table_text.specs.Print.{line_text}
+pub use Rattle.table_text.specs.ArgumentWords.{salt_word}
 use Rattle.verity_format.specs.Superblock.{SuperRecord, IsSuperblock, shape_of}
 use Rattle.verity_format.specs.Image.{data_sectors}
 

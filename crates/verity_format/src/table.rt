@@ -6,7 +6,7 @@ use crate::Superblock;
 use crate::access::data_sectors;
 use dm_table::{Line, Name, Target, Verity};
 use std::alloc::{AllocError, Global};
-use table_printer::print_line;
+use table_text::print_line;
 use tree_shape::Digest;
 
 /// The table line of the image, `0 N verity 1 DATA HASH ..`, without a newline.

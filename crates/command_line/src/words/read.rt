@@ -11,7 +11,7 @@ use crate::invocation::{Invocation, Sectors};
 use crate::option_words::OptionWords;
 use crate::values::cache_of;
 use std::alloc::Global;
-use table_reader::number;
+use table_text::number;
 
 /// Sectors of a device are printed.
 #[derive(Drop)]

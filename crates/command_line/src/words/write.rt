@@ -11,7 +11,7 @@ use crate::invocation::{Invocation, Transfer};
 use crate::option_words::OptionWords;
 use crate::values::cache_of;
 use std::alloc::Global;
-use table_reader::number;
+use table_text::number;
 
 /// The bytes of a file are written to a device by one request.
 #[derive(Drop)]

@@ -8,7 +8,7 @@ use Rattle.stack_lines.specs.Touches.{leaves_of}
 use Rattle.request_queue.specs.Parts.{SteadyPart}
 use Rattle.request_queue.specs.World.{World, Step}
 use Rattle.request_queue.proofs.lemmas.PremiseLemmas.{OutlivesSyncs, Passes, step-as}
-use Rattle.counted_io.specs.Streams.{Streams}
+use Rattle.program_io.specs.Streams.{Streams}
 use Rattle.stack_session.specs.declared.fault.SessionFault.{SessionFault}
 use Rattle.stack_session.specs.QueueSessions.{IsQueueSession, SteadyBeneath}
 use Rattle.stack_session.specs.Replies.{Replies}

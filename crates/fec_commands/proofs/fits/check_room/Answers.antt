@@ -1,6 +1,6 @@
 use Rattle.std.proofs.Common.{ℕ, ap, arith, subst, ◌∙◌}
 use Rattle.block_device.specs.Device.{Device}
-use Rattle.device_window.specs.Parts.{part_before, part_behind}
+use Rattle.device_adapters.specs.Parts.{part_before, part_behind}
 use Rattle.image_commands.specs.Places.{behind}
 use Rattle.fec_commands.specs.Needed.{IsNeeded}
 use Rattle.fec_commands.proofs.LayingLemmas.{windowed-same}

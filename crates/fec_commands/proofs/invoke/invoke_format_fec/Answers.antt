@@ -1,5 +1,5 @@
 use Rattle.std.proofs.Common.{ap, inl, inr, refl, sym, ◌∙◌}
-use Rattle.verity_commands.specs.declared.fault.VerityFault.TheVariants.{Usage}
+use Rattle.verity_commands.specs.declared.verity_fault.VerityFault.TheVariants.{Usage}
 use Rattle.verity_commands.specs.Endings.{words_ending}
 use Rattle.fec_commands.specs.declared.fault.FecFault.TheVariants.{Verity}
 use Rattle.fec_commands.specs.FecFaults.{unwritten}

@@ -1,6 +1,6 @@
 use Rattle.std.proofs.Common.{inl, inr, refl}
 use Rattle.std.proofs.lemmas.Result.{IfErr-weaker, on_ok_weaker}
-use Rattle.verity_commands.specs.declared.fault.VerityFault.TheVariants.{Usage}
+use Rattle.verity_commands.specs.declared.verity_fault.VerityFault.TheVariants.{Usage}
 use Rattle.fec_commands.specs.FecFaults.{unopened}
 use Rattle.fec_commands.proofs.EndingLemmas.{err-from}
 use Rattle.fec_commands.proofs.invoke.invoke_verify_fec.Goals as goal

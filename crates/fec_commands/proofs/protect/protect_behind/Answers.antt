@@ -1,7 +1,7 @@
 use Rattle.std.proofs.Common.{ap, inl, inr, refl, subst}
 use Rattle.block_device.specs.Device.{Device}
-use Rattle.device_window.specs.Parts.{part_before, part_behind}
-use Rattle.device_window.specs.Windows.{windowed}
+use Rattle.device_adapters.specs.Parts.{part_before, part_behind}
+use Rattle.device_adapters.specs.Windows.{windowed}
 use Rattle.fec_commands.specs.declared.fault.FecFault.TheVariants.{Parity}
 use Rattle.fec_commands.specs.Protecting.{IsSealed, IsSealingEnd}
 use Rattle.fec_commands.proofs.EndingLemmas.{err-from}

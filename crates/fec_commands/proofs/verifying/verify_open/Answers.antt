@@ -1,11 +1,11 @@
 use Rattle.std.proofs.Common.{inl, inr, refl, subst, sym}
 use Rattle.std.proofs.lemmas.Result.{IfErr-weaker, on_ok_weaker}
 use Rattle.block_device.specs.Device.{Device}
-use Rattle.device_window.specs.Windows.{windowed}
+use Rattle.device_adapters.specs.Windows.{windowed}
 use Rattle.command_line.specs.words.FecVerify.{FecVerifyRecord, fec_verify_record}
 use Rattle.fec_area.specs.Layouts.{IsLaidOn}
 use Rattle.image_commands.specs.Comparing.{IsComparedEnd}
-use Rattle.verity_commands.specs.declared.fault.VerityFault.TheVariants.{Image}
+use Rattle.verity_commands.specs.declared.verity_fault.VerityFault.TheVariants.{Image}
 use Rattle.verity_format.specs.declared.verifying.Verdict.TheVariants.{Matches}
 use Rattle.verity_format.specs.Verifying.{IsTreeFound}
 use Rattle.fec_commands.specs.declared.fault.FecFault.TheVariants.{Verity}

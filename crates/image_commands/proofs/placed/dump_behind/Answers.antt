@@ -1,8 +1,8 @@
 use Rattle.std.proofs.Common.{ap, inl, refl, subst}
 use Rattle.std.proofs.lemmas.Result.{IfErr-weaker, on_ok_weaker}
 use Rattle.block_device.specs.Device.{Device}
-use Rattle.device_window.specs.Parts.{part_behind}
-use Rattle.device_window.specs.Windows.{windowed}
+use Rattle.device_adapters.specs.Parts.{part_behind}
+use Rattle.device_adapters.specs.Windows.{windowed}
 use Rattle.verity_format.specs.Verifying.{IsReadCause, IsReadFrom}
 use Rattle.image_commands.specs.declared.fault.ImageFault.TheVariants.{Verify}
 use Rattle.image_commands.proofs.lemmas.EndingLemmas.{may_end}

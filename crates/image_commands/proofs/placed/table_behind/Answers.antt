@@ -2,8 +2,8 @@ use Rattle.std.proofs.Common.{◌≡◌, ◌∙◌, ℕ, ap, arith, inl, subst}
 use Rattle.std.proofs.lemmas.Result.{IfErr-weaker, on_ok_weaker}
 use Rattle.std.specs.Io.KnownBytes.{Appends}
 use Rattle.block_device.specs.Device.{Device}
-use Rattle.device_window.specs.Parts.{part_behind}
-use Rattle.device_window.specs.Windows.{windowed}
+use Rattle.device_adapters.specs.Parts.{part_behind}
+use Rattle.device_adapters.specs.Windows.{windowed}
 use Rattle.image_commands.specs.Finding.{IsNoTree, ReadsSuper, no_tree_fault}
 use Rattle.image_commands.specs.Places.{tree_start}
 use Rattle.image_commands.specs.TableLines.{named_line}

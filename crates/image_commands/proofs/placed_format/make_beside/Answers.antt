@@ -1,8 +1,8 @@
 use Rattle.std.proofs.Common.{ap, subst, sym}
 use Rattle.std.proofs.lemmas.Result.{IfErr-weaker, IfOk-weaker}
-use Rattle.device_window.specs.declared.part.Part.{Part}
-use Rattle.device_window.specs.Parts.{StandOutside, outside_of, part_before, part_behind}
-use Rattle.device_window.specs.Windows.{windowed}
+use Rattle.device_adapters.specs.declared.part.Part.{Part}
+use Rattle.device_adapters.specs.Parts.{StandOutside, outside_of, part_before, part_behind}
+use Rattle.device_adapters.specs.Windows.{windowed}
 use Rattle.image_commands.proofs.PlacedLemmas.{end-as, made-as, windowed-same}
 use Rattle.image_commands.proofs.placed_format.make_beside.Goals as goal
 

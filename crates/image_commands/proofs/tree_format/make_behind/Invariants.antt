@@ -1,5 +1,5 @@
 use Rattle.std.proofs.Common.{Some}
-use Rattle.device_window.specs.Parts.{outside_of, part_behind}
+use Rattle.device_adapters.specs.Parts.{outside_of, part_behind}
 use Rattle.image_commands.proofs.tree_format.make_behind.Given as goal
 
 abbrev pub ghosts-make_beside : goal.ghosts-make_beside

@@ -2,7 +2,7 @@ use Rattle.std.proofs.Common.{◌≡◌, ap, subst, ◌∙◌}
 use Rattle.std.proofs.Math.Path.{subst₃}
 use Rattle.std.proofs.lemmas.Result.{IfErr-weaker, on_ok_weaker}
 use Rattle.block_device.specs.Device.{Device}
-use Rattle.device_window.specs.Windows.{windowed}
+use Rattle.device_adapters.specs.Windows.{windowed}
 use Rattle.verity_format.specs.declared.tree.VerityTree.{VerityTree}
 use Rattle.verity_format.specs.declared.verifying.Verdict.TheVariants.{Matches}
 use Rattle.verity_format.specs.Options.{superblock_with}

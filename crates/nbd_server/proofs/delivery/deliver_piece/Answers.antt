@@ -1,7 +1,7 @@
 use Rattle.std.proofs.Common.{◌≡◌, ◌<◌, ◌≤◌, ◌%◌, ◌∙◌, ℕ, List, Ok, ap, arith, drop, length, refl, subst, sym, take}
 use Rattle.std.proofs.lemmas.Result.{err_from_is_err_and}
 use Rattle.nbd_protocol.specs.Exports.{export_record}
-use Rattle.nbd_chunks.specs.Chunks.{error_at_chunk}
+use Rattle.nbd_protocol.specs.Chunks.{error_at_chunk}
 use Rattle.nbd_server.specs.Delivery.{IsDeliveryPiece}
 use Rattle.nbd_server.specs.Status.{touched}
 use Rattle.nbd_server.specs.Transmission.{ReadsExport}

@@ -1,5 +1,5 @@
 use Rattle.std.proofs.Common.{None}
-use Rattle.counted_io.specs.Streams.{streams}
+use Rattle.program_io.specs.Streams.{streams}
 use Rattle.nbd_protocol.specs.Exports.{AreExports, export_records}
 use Rattle.nbd_protocol.specs.Streaming.{HasRead, HasWritten}
 use Rattle.nbd_server.specs.Premises.{IsExportPlaced}

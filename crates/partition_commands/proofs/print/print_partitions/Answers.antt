@@ -1,4 +1,4 @@
-use Rattle.counted_io.proofs.lemmas.CountedLemmas.{on_ok-as}
+use Rattle.program_io.proofs.lemmas.CountedLemmas.{on_ok-as}
 use Rattle.partition_commands.proofs.print.print_partitions.Goals as goal
 
 pub returns-clause-ok : goal.returns-clause-ok

@@ -1,7 +1,7 @@
 use Rattle.std.proofs.Common.{map, subst}
 use Rattle.std.proofs.lemmas.List.{take_all}
 use Rattle.image_files.specs.Opener.{calls}
-use Rattle.tree_commands.specs.declared.fault.TreeFault.TheVariants.{Open, Survey}
+use Rattle.verity_commands.specs.declared.tree_fault.TreeFault.TheVariants.{Open, Survey}
 use Rattle.tree_survey.specs.declared.fault.SurveyFault.TheVariants.{Image}
 use Rattle.verity_format.specs.declared.verifying.VerifyFault.TheVariants.{NoMemory}
 use Rattle.repair_commands.specs.Copies.{OpensEachCopy, path_in}

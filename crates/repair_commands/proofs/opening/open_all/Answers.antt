@@ -1,5 +1,5 @@
 use Rattle.std.proofs.Common.{inl, inr, refl}
-use Rattle.tree_commands.specs.declared.fault.TreeFault.TheVariants.{Open}
+use Rattle.verity_commands.specs.declared.tree_fault.TreeFault.TheVariants.{Open}
 use Rattle.repair_commands.proofs.EndingLemmas.{err-from}
 use Rattle.repair_commands.proofs.opening.open_all.Goals as goal
 

@@ -1,6 +1,6 @@
 use Rattle.std.proofs.Common.{◌<◌, ◌∙◌, arith, ap, sym, subst}
 use Rattle.block_device.specs.Device.{Device}
-use Rattle.tree_commands.specs.declared.fault.TreeFault.TheVariants.{Survey}
+use Rattle.verity_commands.specs.declared.tree_fault.TreeFault.TheVariants.{Survey}
 use Rattle.verity_format.proofs.lemmas.DeviceLemmas.{only_read-then}
 use Rattle.tree_survey.specs.declared.fault.SurveyFault.TheVariants.{Image}
 use Rattle.verity_format.specs.Blocks.{IsOnlyRead}

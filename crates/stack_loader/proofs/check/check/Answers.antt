@@ -13,10 +13,10 @@ use Rattle.stack_rules.proofs.lemmas.KeptLemmas.{length-each_mapped, length-lowe
 use Rattle.stack_rules.proofs.lemmas.PassingLemmas.{IsFirst-passed, passed-IsFirst, out_of_memory-more}
 use Rattle.stack_rules.proofs.lemmas.ValidLemmas.{costs-low}
 use Rattle.stack_rules.proofs.lemmas.ValidLineLemmas.{or-false}
-use Rattle.stack_costs.specs.declared.cost.Direction.TheVariants.{Read, Write}
-use Rattle.stack_costs.specs.Costs.{AreMeasured, capped_cost, cost}
-use Rattle.stack_costs.proofs.lemmas.CappedLemmas.{each-exact}
-use Rattle.stack_costs.proofs.lemmas.CostLemmas.{lowers-rows, write_cost-given}
+use Rattle.stack_loader.specs.declared.cost.Direction.TheVariants.{Read, Write}
+use Rattle.stack_loader.specs.Costs.{AreMeasured, capped_cost, cost}
+use Rattle.stack_loader.proofs.lemmas.CappedLemmas.{each-exact}
+use Rattle.stack_loader.proofs.lemmas.CostLemmas.{lowers-rows, write_cost-given}
 use Rattle.stack_config.specs.Facts.{AreFacts}
 use Rattle.stack_config.proofs.lemmas.WriteCostLemmas.{write_cost-low}
 use Rattle.stack_loader.proofs.FactsLemmas.{facts-are}

@@ -9,8 +9,8 @@ use Rattle.stack_rules.specs.Rules.{first, cycles, each_device, table_rules, dep
 use Rattle.stack_rules.proofs.lemmas.FirstRefusalLemmas.{first-none}
 use Rattle.stack_rules.proofs.lemmas.KeptLemmas.{length-each_mapped, length-lowers}
 use Rattle.stack_rules.proofs.lemmas.PassingLemmas.{out_of_memory-more}
-use Rattle.stack_costs.specs.Depths.{depth_rounds}
-use Rattle.stack_costs.proofs.lemmas.DepthLemmas.{rounds-depths}
+use Rattle.stack_loader.specs.Depths.{depth_rounds}
+use Rattle.stack_loader.proofs.lemmas.DepthLemmas.{rounds-depths}
 use Rattle.stack_loader.proofs.RuleOrderLemmas.{left, right, depths-above, measured-of}
 use Rattle.stack_loader.proofs.check.checked_depths.Goals as goal
 

@@ -1,5 +1,5 @@
 use Rattle.std.proofs.Common.{◌≡◌, ◌+◌, ◌≤◌, ◌++◌, length}
-use Rattle.counted_io.specs.Counted.{Grows}
+use Rattle.program_io.specs.Counted.{Grows}
 use Rattle.stack_session.specs.Session.{ServesWhole}
 use Rattle.stack_session.proofs.SessionLemmas.{Feeding}
 use Rattle.stack_session.proofs.lines.feed.Given as goal

@@ -4,8 +4,8 @@ use Rattle.std.proofs.KnownBytes.{Consumes-nil}
 use Rattle.std.proofs.lemmas.Grind.{common_steps}
 use Rattle.std.proofs.lemmas.Result.{err_from_is_err_and}
 use Rattle.stack_session.specs.declared.fault.SessionFault.TheVariants.{TooLong, ReadFault, WriteFault, NoMemory}
-use Rattle.counted_io.specs.Streams.{streams}
-use Rattle.counted_io.proofs.lemmas.CountedLemmas.{Grows-kept, Keeps-refl}
+use Rattle.program_io.specs.Streams.{streams}
+use Rattle.program_io.proofs.lemmas.CountedLemmas.{Grows-kept, Keeps-refl}
 use Rattle.stack_session.proofs.SessionLemmas.{same_error}
 use Rattle.stack_session.proofs.IntakeLemmas.{intake_starts, intake_more, intake_kept, intake_ends, intake_too_long, intake_write_fault, intake_no_memory, intake_stuck, intake_unwritten, session-stuck, reply-grows}
 use Rattle.stack_session.proofs.lines.serve_lines.Goals as goal

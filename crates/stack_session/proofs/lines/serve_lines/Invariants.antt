@@ -1,7 +1,7 @@
 use Rattle.std.proofs.Common.{◌≡◌, ◌+◌, ◌≤◌, false, length}
 use Rattle.block_device.specs.Device.{capped}
 use Rattle.stack_session.specs.Session.{ServesWhole}
-use Rattle.counted_io.specs.Streams.{streams}
+use Rattle.program_io.specs.Streams.{streams}
 use Rattle.stack_session.proofs.IntakeLemmas.{Intake}
 use Rattle.stack_session.proofs.lines.serve_lines.Given as goal
 

@@ -1,6 +1,6 @@
 use Rattle.std.proofs.Common.{ap, ◌∙◌, refl, inl}
 use Rattle.std.specs.Prelude.{false}
-use Rattle.table_printer.specs.Print.{printed_table}
+use Rattle.table_text.specs.Print.{printed_table}
 use Rattle.request_queue.specs.declared.fault.SubmitFault.TheVariants.{NoSuchDevice}
 use Rattle.stack_session.specs.Commands.{table}
 use Rattle.stack_session.specs.Texts.{submit_text}

@@ -1,4 +1,4 @@
-use Rattle.counted_io.specs.Streams.{streams}
+use Rattle.program_io.specs.Streams.{streams}
 use Rattle.stack_session.proofs.SteppingLemmas.{queue-session}
 use Rattle.stack_session.proofs.server.session.Goals as goal
 

@@ -6,12 +6,12 @@ use Rattle.block_device.specs.Device.{Device}
 use Rattle.tree_shape.specs.Shape.{ShapeRecord, per_block}
 use Rattle.tree_path.specs.Path.{digest_on}
 use Rattle.tree_path.specs.Spans.{IsTopAt}
-use Rattle.tree_runs.specs.declared.run.Kind.TheVariants.{Changed}
-use Rattle.tree_runs.specs.declared.tally.Tally.{Tally}
-use Rattle.tree_runs.specs.Runs.{State, count_of}
+use Rattle.runs.specs.declared.kind.Kind.TheVariants.{Changed}
+use Rattle.runs.specs.declared.tally.Tally.{Tally}
+use Rattle.runs.specs.Kinds.{State, count_of}
 use Rattle.runs.specs.Tallies.{EndsAt}
-use Rattle.tree_runs.proofs.lemmas.ListingLemmas.{listed-ends, listed-had, listed-none, listed-run}
-use Rattle.tree_runs.proofs.lemmas.RunLemmas.{count_of-append, count_of-had, count_of-some}
+use Rattle.runs.proofs.lemmas.ListingLemmas.{listed-ends, listed-had, listed-none, listed-run}
+use Rattle.runs.proofs.lemmas.KindLemmas.{count_of-append, count_of-had, count_of-some}
 use Rattle.tree_difference.specs.declared.walk.Walk.{Walk}
 use Rattle.tree_difference.specs.Comparisons.{DifferenceWorld, difference_world}
 use Rattle.tree_difference.specs.Differences.{trees_in}

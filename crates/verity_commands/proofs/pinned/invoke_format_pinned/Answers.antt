@@ -1,5 +1,5 @@
 use Rattle.std.proofs.Common.{inl, inr, refl}
-use Rattle.verity_commands.specs.declared.fault.VerityFault.TheVariants.{Image}
+use Rattle.verity_commands.specs.declared.verity_fault.VerityFault.TheVariants.{Image}
 use Rattle.verity_commands.proofs.EndingLemmas.{err-from, quiet, unwritten-quiet}
 use Rattle.verity_commands.proofs.pinned.invoke_format_pinned.Goals as goal
 

@@ -1,5 +1,5 @@
 use Rattle.std.proofs.Common.{inl, inr}
-use Rattle.verity_commands.specs.declared.fault.VerityFault.TheVariants.{Image}
+use Rattle.verity_commands.specs.declared.verity_fault.VerityFault.TheVariants.{Image}
 use Rattle.verity_commands.proofs.EndingLemmas.{err-from, quiet}
 use Rattle.verity_commands.proofs.trees.invoke_format_tree.Goals as goal
 

@@ -1,0 +1,32 @@
+use Rattle.std.proofs.Common.{ap}
+use Rattle.command_tests.specs.Files.{file_under}
+use Rattle.command_tests.specs.Parts.{grown_image, with_part}
+use Rattle.block_device.specs.Memory.{memory_bytes}
+use Rattle.command_tests.proofs.FileLemmas.{copy-opened, image-taken, none-kept, others-kept, others-unchanged, others-unreplaced, part-measured, text-replaced, text-told}
+use Rattle.command_tests.proofs.PartLemmas.{image-grown, part-opened, part-taken}
+use Rattle.command_tests.proofs.laws.images_keep_files.Goals as goal
+
+pub returns : goal.returns
+returns c = record {
+  kept_opening = λ old new path writable outcome is. ap file_under is.0;
+  kept_reading = λ old new path most outcome is. ap file_under is.0;
+  opened = λ old new path writable image is. copy-opened old path writable image is.1;
+  steady = λ old new path writable image is. ap (λ d. d.steady) is.1.is;
+  told = λ old new path most text is. text-told old path most text is.1;
+  taken = image-taken;
+  kept_taking = others-kept;
+  kept_opening_part = λ old new path writable part outcome is. ap file_under is.0;
+  opened_part = λ old new path writable part image is. part-opened old path writable part image is.1;
+  steady_part = λ old new path writable part image is. ap (λ d. d.steady) is.1.is;
+  taken_part = part-taken;
+  kept_taking_part = λ old new path other part device file another is. others-unchanged old new path other (λ image. with_part image part (memory_bytes device)) file another is;
+  grown = image-grown;
+  kept_growing = λ old new path other sectors file another is. others-unchanged old new path other (λ image. grown_image image sectors) file another is;
+  kept_measuring = λ old new path outcome is. ap file_under is.0;
+  measured = λ old new path part is. part-measured old path part is.1;
+  kept_comparing = λ old new path other outcome is. ap file_under is.0;
+  made_apart = λ old between new path other sectors compared is. none-kept between new path other (λ image. grown_image image sectors) is;
+  replaced = text-replaced;
+  kept_replacing = others-unreplaced;
+  kept_trying = λ old new path outcome is. ap file_under is.0;
+}

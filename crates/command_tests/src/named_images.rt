@@ -1,0 +1,196 @@
+//! Images in memory.
+ghost use Rattle.std.specs.Prelude.{◌≡◌, IfErr, IfOk, OnErr, OnOk};
+ghost use Rattle.command_tests.specs.Named.{IsChanged, AreBytesPut, IsUncopied, Stands, named_place};
+ghost use Rattle.command_tests.specs.Parts.{grown_image, with_part};
+
+use crate::part::{lengthen, overwrite, part_of};
+use block_device::{FileId, MemoryDev, OpenFault};
+use device_adapters::Part;
+use image_files::{FileText, Images, OpenImage, PartFault, ReplaceFault};
+use std::alloc::AllocError;
+
+const SECTOR: usize = 512;
+
+/// Images in memory under names, of which the first with a name counts. An open image is a copy; its name has what was
+/// written to it once it is closed.
+#[derive(Drop)]
+pub struct MemoryImages {
+    names: Vec<String>,
+    images: Vec<Vec<u8>>,
+}
+
+impl MemoryImages {
+    /// The images under the names at the same places.
+    pub fn new(names: Vec<String>, images: Vec<Vec<u8>>) -> MemoryImages
+        ensures names { result.names ≡ names }
+        ensures images { result.images ≡ images }
+    {
+        MemoryImages { names, images }
+    }
+}
+
+// The first place with that name.
+fn place_of(names: &[String], path: &str) -> Option<usize>
+    ensures { result ≡ named_place names.now path.now }
+{
+    names.iter().position(|name| name.as_str() == path)
+}
+
+// A copy of what stands under a path, and its place.
+fn copy_under(
+    names: &[String],
+    images: &[Vec<u8>],
+    path: &str,
+) -> Result<(usize, Vec<u8>), OpenFault>
+    ensures ok { IfOk result (λ copy. Stands names.now images.now path.now copy.0 copy.1.items) }
+    ensures err { IfErr result (IsUncopied names.now images.now path.now) }
+{
+    let Some(place) = place_of(names, path) else {
+        return Err(OpenFault::NotFound);
+    };
+    let Some(bytes) = images.get(place) else {
+        return Err(OpenFault::NotFound);
+    };
+    match copy_of(bytes) {
+        Ok(copy) => Ok((place, copy)),
+        Err(_) => Err(OpenFault::NoMemory),
+    }
+}
+
+fn copy_of(bytes: &Vec<u8>) -> Result<Vec<u8>, AllocError>
+    ensures { IfOk result (λ copy. copy.items ≡ bytes.now.items) }
+{
+    bytes.clone()
+}
+
+fn put_image(images: &mut Vec<Vec<u8>>, place: usize, bytes: Vec<u8>)
+    ensures { AreBytesPut images.old.items place bytes.items images.new.items }
+{
+    if let Some(image) = images.get_mut(place) {
+        *image = bytes;
+    }
+}
+
+fn grow_image(images: &mut Vec<Vec<u8>>, place: usize, sectors: u64) -> Result<(), OpenFault>
+    ensures ok { OnOk result (IsChanged images.old.items place (λ image. grown_image image sectors) images.new.items) }
+    ensures err { OnErr result (IsChanged images.old.items place (λ image. image) images.new.items) }
+{
+    match images.get_mut(place) {
+        Some(image) => lengthen(image, sectors),
+        None => Err(OpenFault::NotFound),
+    }
+}
+
+// Puts the bytes of a part in their place.
+fn put_part(images: &mut Vec<Vec<u8>>, place: usize, part: Part, bytes: Vec<u8>)
+    ensures { IsChanged images.old.items place (λ image. with_part image part bytes.items) images.new.items }
+{
+    if let Some(image) = images.get_mut(place) {
+        overwrite(image, part, bytes);
+    }
+}
+
+impl Images for MemoryImages {
+    ghost use Rattle.command_tests.specs.MemoryRelations.{memory_relations};
+
+    type Dev = MemoryDev;
+
+    ghost relations = { memory_relations };
+
+    fn open(&mut self, path: &str, writable: bool) -> Result<OpenImage<MemoryDev>, OpenFault> {
+        let (place, bytes) = copy_under(&self.names, &self.images, path)?;
+        Ok(OpenImage {
+            device: MemoryDev::new(bytes, writable),
+            id: Some(FileId::Inode {
+                device: 0,
+                inode: place as u64,
+            }),
+        })
+    }
+
+    fn open_part(
+        &mut self,
+        path: &str,
+        writable: bool,
+        part: Part,
+    ) -> Result<OpenImage<MemoryDev>, PartFault> {
+        let (place, bytes) = copy_under(&self.names, &self.images, path)?;
+        let Some(held) = part_of(bytes, part) else {
+            return Err(PartFault::Outside);
+        };
+        Ok(OpenImage {
+            device: MemoryDev::new(held, writable),
+            id: Some(FileId::Inode {
+                device: 0,
+                inode: place as u64,
+            }),
+        })
+    }
+
+    // Its first bytes.
+    fn read_text(&mut self, path: &str, most: usize) -> Result<FileText, OpenFault> {
+        let (place, mut bytes) = copy_under(&self.names, &self.images, path)?;
+        bytes.truncate(most);
+        Ok(FileText {
+            bytes,
+            id: Some(FileId::Inode {
+                device: 0,
+                inode: place as u64,
+            }),
+        })
+    }
+
+    fn close(&mut self, path: &str, device: MemoryDev) {
+        if let Some(place) = place_of(&self.names, path) {
+            put_image(&mut self.images, place, device.into_bytes());
+        }
+    }
+
+    fn close_part(&mut self, path: &str, part: Part, device: MemoryDev) {
+        if let Some(place) = place_of(&self.names, path) {
+            put_part(&mut self.images, place, part, device.into_bytes());
+        }
+    }
+
+    // What stands under no name isn't made.
+    fn grow(&mut self, path: &str, sectors: u64) -> Result<(), OpenFault> {
+        let Some(place) = place_of(&self.names, path) else {
+            return Err(OpenFault::NotFound);
+        };
+        grow_image(&mut self.images, place, sectors)
+    }
+
+    fn has_part_sector(&mut self, path: &str) -> Result<bool, OpenFault> {
+        let (_, bytes) = copy_under(&self.names, &self.images, path)?;
+        Ok(bytes.len() % SECTOR != 0)
+    }
+
+    // A place is a name.
+    fn is_one_place(&mut self, path: &str, other: &str) -> Result<bool, OpenFault> {
+        Ok(path == other)
+    }
+
+    // What stands under no name isn't made.
+    fn replace(&mut self, path: &str, bytes: &[u8]) -> Result<(), ReplaceFault> {
+        let Ok((place, mut text)) = copy_under(&self.names, &self.images, path) else {
+            return Err(ReplaceFault::Write);
+        };
+        text.clear();
+        if text.extend_from_slice(bytes).is_err() {
+            return Err(ReplaceFault::NoMemory);
+        }
+        put_image(&mut self.images, place, text);
+        Ok(())
+    }
+
+    fn try_replace(&mut self, path: &str) -> Result<(), ReplaceFault> {
+        match place_of(&self.names, path) {
+            Some(_) => Ok(()),
+            None => Err(ReplaceFault::Write),
+        }
+    }
+
+    fn of_memory(memory: MemoryDev) -> MemoryDev {
+        memory
+    }
+}

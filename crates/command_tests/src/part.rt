@@ -1,0 +1,66 @@
+//! Parts of the bytes of an image.
+ghost use Rattle.std.specs.Prelude.{◌≡◌, ◌↔◌, IfSome, IsSome, OnErr, OnOk, length};
+ghost use Rattle.command_tests.specs.Parts.{LiesWithin, grown_image, part_bytes, with_bytes, with_part};
+
+use block_device::OpenFault;
+use device_adapters::Part;
+
+const SECTOR: usize = 512;
+
+// The bytes of an image stay below 2^63.
+const MOST_SECTORS: u64 = 1 << 54;
+
+/// The bytes of a part, where all of it is inside.
+pub fn part_of(mut bytes: Vec<u8>, part: Part) -> Option<Vec<u8>>
+    ensures inside { IsSome result ↔ LiesWithin bytes.items part }
+    ensures bytes { IfSome result (λ held. held.items ≡ part_bytes bytes.items part) }
+{
+    let sectors = (bytes.len() / SECTOR) as u64;
+    if part.first > sectors || part.count > sectors - part.first {
+        return None;
+    }
+    bytes.rotate_left(part.first as usize * SECTOR);
+    bytes.truncate(part.count as usize * SECTOR);
+    Some(bytes)
+}
+
+/// The image with these bytes in place of the part's, where all of it is inside.
+pub fn overwrite(image: &mut Vec<u8>, part: Part, mut bytes: Vec<u8>)
+    ensures { image.new.items ≡ with_part image.old.items part bytes.items }
+{
+    let sectors = (image.len() / SECTOR) as u64;
+    if part.first > sectors || part.count > sectors - part.first {
+        return;
+    }
+    bytes.truncate(part.count as usize * SECTOR);
+    put_at(image, part.first as usize * SECTOR, bytes.as_slice());
+}
+
+// These bytes in place of those from an offset on, where there are as many.
+fn put_at(image: &mut Vec<u8>, offset: usize, bytes: &[u8])
+    ensures { image.new.items ≡ with_bytes image.old.items offset bytes.now }
+{
+    if offset > image.len() || bytes.len() > image.len() - offset {
+        return;
+    }
+    let end = offset + bytes.len();
+    image.as_mut_slice()[offset..end].copy_from_slice(bytes);
+}
+
+/// The image with zeros behind it, so that it has at least so many sectors.
+pub fn lengthen(image: &mut Vec<u8>, sectors: u64) -> Result<(), OpenFault>
+    ensures ok { OnOk result (image.new.items ≡ grown_image image.old.items sectors) }
+    ensures err { OnErr result (image.new.items ≡ image.old.items) }
+{
+    if sectors > MOST_SECTORS {
+        return Err(OpenFault::TooLarge);
+    }
+    let bytes = sectors as usize * SECTOR;
+    if bytes <= image.len() {
+        return Ok(());
+    }
+    match image.resize(bytes, 0) {
+        Ok(()) => Ok(()),
+        Err(_) => Err(OpenFault::NoMemory),
+    }
+}

@@ -1,0 +1,4 @@
+mod PartLemmas
+mod WindowCallLemmas
+mod PutLemmas
+mod DifferingCallLemmas

@@ -1,0 +1,5 @@
+pub mod Parts
+pub mod Windows
+pub mod Differing
+pub mod DifferingCalls
+pub mod Watching

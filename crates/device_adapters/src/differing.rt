@@ -1,0 +1,114 @@
+//! A device of which only what differs is written.
+ghost use Rattle.std.specs.Prelude.{◌≡◌, ◌+◌, false, length, is_ok, IsOk, IsTrue, OnErr, OnOk};
+ghost use Rattle.block_device.specs.Call.{DeviceDoes, Sync, Write};
+ghost use Rattle.block_device.specs.CallList.{DeviceCalls, sectors_read, sectors_written};
+ghost use Rattle.block_device.specs.Calls.{DeviceFails, DeviceFailsToSync, DevicePuts, DeviceSyncs, DeviceWrites, SyncsInner};
+ghost use Rattle.block_device.specs.Counters.{capped-fits};
+ghost use Rattle.block_device.specs.Device.{IsInside, capped};
+ghost use Rattle.device_adapters.specs.DifferingCalls.{LeavesStanding};
+ghost use Rattle.device_adapters.specs.Differing.{differing};
+
+use crate::put::put_blocks;
+use block_device::{BlockDev, DeviceFault, SyncDev};
+
+/// Before a block of 4,096 bytes is written it is read, and sectors that already have the content aren't written. So a
+/// sparse file stays sparse, and the same bytes written twice are written once. It counts requested sectors, while its
+/// device counts those that are read and written.
+#[derive(Drop)]
+pub struct Differing<D> {
+    /// The device that is compared with.
+    pub inner: D,
+    /// The requested sectors.
+    pub reads: u64,
+    pub writes: u64,
+    /// A write was requested since the last successful sync.
+    pub dirty: bool,
+}
+
+impl<D> Differing<D> {
+    /// Makes a device to which no request was made yet.
+    pub fn new(inner: D) -> Differing<D>
+        ensures { result ≡ record { inner = inner; reads = 0; writes = 0; dirty = false } }
+    {
+        Differing {
+            inner,
+            reads: 0,
+            writes: 0,
+            dirty: false,
+        }
+    }
+}
+
+impl<D: BlockDev> BlockDev for Differing<D> {
+    ghost state = { λ d. differing (D.state d.inner) (capped d.reads) (capped d.writes) d.dirty };
+
+    ghost gives = { λ d first bytes. D.gives d.inner first bytes };
+
+    ghost does = { λ old call new. DeviceCalls D.state D.does (sectors_read call + sectors_written call) (sectors_written call) old.inner new.inner };
+
+    ghost whole = { λ d. record { length = (D.whole d.inner).length; sectors = (D.whole d.inner).sectors } };
+
+    ghost counters = { λ d. record { reads = capped-fits d.reads; writes = capped-fits d.writes; failures = (D.counters d.inner).failures } };
+
+    fn sectors(&self) -> u64 {
+        self.inner.sectors()
+    }
+
+    fn writable(&self) -> bool {
+        self.inner.writable()
+    }
+
+    fn read(&mut self, first: u64, out: &mut [u8]) -> Result<(), DeviceFault> {
+        self.reads = self.reads.saturating_add(out.len() as u64 / 512);
+        self.inner.read(first, out)
+    }
+
+    fn write(&mut self, first: u64, bytes: &[u8]) -> Result<(), DeviceFault>
+        requires range { IsInside (⟦<Differing<D> as BlockDev>⟧.state self.old) first (length bytes.now) }
+        requires allowed { IsTrue (⟦<Differing<D> as BlockDev>⟧.state self.old).may_write }
+        ensures moved { DeviceWrites ⟦<Differing<D> as BlockDev>⟧.state self.old self.new first bytes.now (is_ok result) }
+        ensures image { OnOk result (DevicePuts ⟦<Differing<D> as BlockDev>⟧.state self.old self.new first bytes.now) }
+        ensures call { DeviceDoes ⟦<Differing<D> as BlockDev>⟧.state ⟦<Differing<D> as BlockDev>⟧.does self.old (Write first bytes.now (is_ok result)) self.new }
+        ensures sure { IsTrue (⟦<Differing<D> as BlockDev>⟧.state self.old).never_fails → IsOk result }
+        ensures fault { OnErr result (DeviceFails ⟦<Differing<D> as BlockDev>⟧.state self.old self.new) }
+
+        // Equal sectors aren't written.
+        ensures same { OnOk result (LeavesStanding D.state self.old.inner self.new.inner first bytes.now) }
+    {
+        self.writes = self.writes.saturating_add(bytes.len() as u64 / 512);
+        self.dirty = true;
+        put_blocks(&mut self.inner, first, bytes)
+    }
+
+    fn reads(&self) -> u64 {
+        self.reads
+    }
+
+    fn writes(&self) -> u64 {
+        self.writes
+    }
+
+    fn failures(&self) -> u64 {
+        self.inner.failures()
+    }
+}
+
+impl<D: SyncDev> SyncDev for Differing<D> {
+    fn is_dirty(&self) -> bool {
+        self.dirty
+    }
+
+    fn sync(&mut self) -> Result<(), DeviceFault>
+        ensures ok { OnOk result (DeviceSyncs ⟦<Differing<D> as BlockDev>⟧.state self.old self.new) }
+        ensures err { OnErr result (DeviceFailsToSync ⟦<Differing<D> as BlockDev>⟧.state self.old self.new) }
+        ensures call { DeviceDoes ⟦<Differing<D> as BlockDev>⟧.state ⟦<Differing<D> as BlockDev>⟧.does self.old (Sync (is_ok result)) self.new }
+        ensures sure { IsTrue (⟦<Differing<D> as BlockDev>⟧.state self.old).never_fails → IsOk result }
+
+        // It is one of the device that is compared with.
+        ensures inner { SyncsInner D.state self.old.inner self.new.inner (is_ok result) }
+    {
+        self.inner.sync()?;
+        self.dirty = false;
+        Ok(())
+    }
+}

@@ -1,0 +1,21 @@
+//! Devices over another device: a part of it, one that writes only sectors that differ, and one that reports its reads as progress.
+#![tactic(auto)]
+
+mod beside;
+mod differing;
+mod part;
+mod progress;
+mod progress_line;
+mod put;
+mod watched;
+mod watchers;
+mod window;
+
+pub use beside::Beside;
+pub use differing::Differing;
+pub use part::{OutsideDevice, Part};
+pub use progress::{NoProgress, Progress};
+pub use progress_line::ProgressLine;
+pub use watched::{Watched, bytes_before};
+pub use watchers::{Watchers, watcher_of};
+pub use window::Window;

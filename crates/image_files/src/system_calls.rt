@@ -1,0 +1,162 @@
+//! The operating system's files.
+ghost use Rattle.image_files.specs.Calls.{IsNoDraft};
+
+use crate::calls::{CallFault, CreateFault, FileCalls};
+use crate::texts::ReplaceFault;
+use std::fs::{File, Metadata, OpenFile, OpenOptions, Permissions};
+use std::io::{ErrorKind, Write};
+use std::os::fd::AsFd;
+use std::os::unix::fs::{MetadataExt, OpenOptionsExt, PermissionsExt, fchown};
+use std::path::PathBuf;
+use std::rt::Files;
+use std::{fs, io};
+
+/// As many links as Linux follows in a path.
+const MOST_LINKS: u32 = 40;
+
+/// The bits of a mode that say who may read, write and run a file.
+const PERMISSION_BITS: u32 = 0o777;
+
+/// The permissions of a new file, of which the process takes away those of its mask.
+const NEW_FILE: u32 = 0o666;
+
+/// The operating system's files.
+#[derive(Drop)]
+pub struct SystemCalls<'a, R> {
+    rt: &'a R,
+}
+
+impl<'a, R> SystemCalls<'a, R> {
+    pub fn new(rt: &'a R) -> SystemCalls<'a, R> {
+        SystemCalls { rt }
+    }
+}
+
+/// The folder in which a path lies, and the name that it has there.
+pub fn folder_and_name(path: &str) -> (&str, &str) {
+    match path.rsplit_once('/') {
+        None => (".", path),
+        Some(("", name)) => ("/", name),
+        Some((folder, name)) => (folder, name),
+    }
+}
+
+// Whether a path names no symbolic link, by what the reading of one answered.
+fn is_no_link(kind: ErrorKind) -> bool {
+    matches!(kind, ErrorKind::InvalidInput | ErrorKind::NotFound)
+}
+
+fn resolve_fault(kind: ErrorKind) -> ReplaceFault
+    ensures { IsNoDraft result }
+{
+    match kind {
+        ErrorKind::OutOfMemory => ReplaceFault::NoMemory,
+        _ => ReplaceFault::Write,
+    }
+}
+
+fn done(outcome: io::Result<()>) -> Result<(), CallFault> {
+    match outcome {
+        Ok(()) => Ok(()),
+        Err(_) => Err(CallFault),
+    }
+}
+
+// Gives a file the owner, where the process may, and the permissions of another one.
+fn take_after(file: &File, other: &Metadata) -> io::Result<()> {
+    let _owner = fchown(file.as_fd(), Some(other.uid()), Some(other.gid()));
+    file.set_permissions(Permissions::from_mode(other.mode() & PERMISSION_BITS))
+}
+
+impl<R: Files<File = File> + AllocGlobal> SystemCalls<'_, R> {
+    // What is known of a regular file, if there is one under the path.
+    fn file_under(&self, path: &str) -> Result<Option<Metadata>, CreateFault> {
+        match fs::metadata(self.rt, path) {
+            Ok(metadata) if metadata.is_file() => Ok(Some(metadata)),
+            Err(error) if error.kind() == ErrorKind::NotFound => Ok(None),
+            _ => Err(CreateFault::Failed),
+        }
+    }
+
+    fn create_new(&self, name: &str, mode: u32) -> Result<File, CreateFault> {
+        let mut options = OpenOptions::new();
+        options.write(true).create_new(true).mode(mode);
+        match options.open(self.rt, name) {
+            Ok(file) => Ok(file),
+            Err(error) if error.kind() == ErrorKind::AlreadyExists => Err(CreateFault::Exists),
+            Err(_) => Err(CreateFault::Failed),
+        }
+    }
+}
+
+impl<R: Files<File = File> + AllocGlobal> FileCalls for SystemCalls<'_, R> {
+    ghost use Rattle.std.specs.Prelude.{◌≡◌};
+
+    type File = File;
+
+    ghost relations = { record {
+      resolves = λ old path target new. new ≡ old;
+      creates = λ old name like file new. new ≡ old;
+      writes = λ old file bytes result file' new. new ≡ old;
+      syncs = λ old file result new. new ≡ old;
+      renames = λ old from to result new. new ≡ old;
+      lists = λ old path result new. new ≡ old;
+      removes = λ old name new. new ≡ old;
+    } };
+
+    fn resolve(&mut self, path: &str) -> Result<String, ReplaceFault> {
+        let Ok(mut at) = PathBuf::from_str(self.rt.alloc(), path) else {
+            return Err(ReplaceFault::NoMemory);
+        };
+        for _ in 0..MOST_LINKS {
+            match fs::read_link(self.rt, at.as_path()) {
+                Ok(target) => {
+                    at.pop();
+                    if at.push(target.as_path()).is_err() {
+                        return Err(ReplaceFault::NoMemory);
+                    }
+                }
+                Err(error) if is_no_link(error.kind()) => return Ok(at.into_string()),
+                Err(error) => return Err(resolve_fault(error.kind())),
+            }
+        }
+        Err(ReplaceFault::Write)
+    }
+
+    // It is created with the permissions that it is to have, so that nobody else can open it before.
+    fn create(&mut self, name: &str, like: &str) -> Result<File, CreateFault> {
+        let Some(other) = self.file_under(like)? else {
+            return self.create_new(name, NEW_FILE);
+        };
+        let file = self.create_new(name, other.mode() & PERMISSION_BITS)?;
+        if take_after(&file, &other).is_err() {
+            self.remove(name);
+            return Err(CreateFault::Failed);
+        }
+        Ok(file)
+    }
+
+    fn write(&mut self, file: &mut File, bytes: &[u8]) -> Result<(), CallFault> {
+        done(file.write_all(bytes))
+    }
+
+    fn sync(&mut self, file: &File) -> Result<(), CallFault> {
+        done(file.sync_all())
+    }
+
+    fn rename(&mut self, from: &str, to: &str) -> Result<(), CallFault> {
+        done(fs::rename(self.rt, from, to))
+    }
+
+    fn sync_folder(&mut self, path: &str) -> Result<(), CallFault> {
+        let (folder, _) = folder_and_name(path);
+        match fs::open(self.rt, folder) {
+            Ok(folder) => done(folder.sync_all()),
+            Err(_) => Err(CallFault),
+        }
+    }
+
+    fn remove(&mut self, name: &str) {
+        let _removed = fs::remove_file(self.rt, name);
+    }
+}

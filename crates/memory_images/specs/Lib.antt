@@ -1,4 +1,0 @@
-pub mod Files
-pub mod MemoryRelations
-pub mod Named
-pub mod Parts

@@ -1,3 +1,0 @@
-pub mod OptionReplies
-pub mod Contexts
-pub mod Handshake

@@ -1,0 +1,140 @@
+//! The chunks of a structured reply.
+ghost use Rattle.std.specs.Prelude.{◌≡◌, ◌<◌, ◌+◌, ◌^◌, length};
+ghost use Rattle.program_io.specs.Counted.{Writes};
+ghost use Rattle.nbd_protocol.specs.Chunks.{chunk_head, data_chunk, error_at_chunk, error_chunk, error_told, flag_of_last, hole_chunk, none_chunk, status_chunk};
+
+use crate::numbers::{put16, put32, put64};
+use crate::request_error::RequestError;
+use program_io::{Counted, WriteFault};
+use std::io::Write;
+
+const MAGIC: u32 = 0x668e_33ef;
+
+// The number of the only context.
+const CONTEXT: u32 = 1;
+
+// The flag of the last chunk.
+const DONE: u16 = 1;
+
+// The types of chunks.
+const NONE: u16 = 0;
+
+const OFFSET_DATA: u16 = 1;
+
+const OFFSET_HOLE: u16 = 2;
+
+const BLOCK_STATUS: u16 = 5;
+
+const ERROR: u16 = 0x8001;
+
+const ERROR_OFFSET: u16 = 0x8002;
+
+// The flag of the last chunk.
+fn flag_of_last(done: bool) -> u16
+    ensures { result ≡ flag_of_last done }
+{
+    if done { DONE } else { 0 }
+}
+
+// A chunk of that type, before its payload.
+fn say_head<W: Write>(
+    writer: &mut Counted<W>,
+    done: bool,
+    kind: u16,
+    cookie: u64,
+    count: u32,
+) -> Result<(), WriteFault>
+    ensures { Writes W.contents writer.old writer.new (chunk_head done kind cookie count) result }
+{
+    put32(writer, MAGIC)?;
+    put16(writer, flag_of_last(done))?;
+    put16(writer, kind)?;
+    put64(writer, cookie)?;
+    put32(writer, count)
+}
+
+/// The last chunk of a reply, which says nothing else.
+pub fn say_none<W: Write>(writer: &mut Counted<W>, cookie: u64) -> Result<(), WriteFault>
+    ensures { Writes W.contents writer.old writer.new (none_chunk cookie) result }
+{
+    say_head(writer, true, NONE, cookie, 0)
+}
+
+/// Bytes of the export from a place on, in the last chunk of a reply if it is `done`.
+pub fn say_data<W: Write>(
+    writer: &mut Counted<W>,
+    done: bool,
+    cookie: u64,
+    offset: u64,
+    bytes: &[u8],
+) -> Result<(), WriteFault>
+    requires { 8 + length bytes.now < 2 ^ 32 }
+    ensures { Writes W.contents writer.old writer.new (data_chunk done cookie offset bytes.now) result }
+{
+    say_head(writer, done, OFFSET_DATA, cookie, 8 + bytes.len() as u32)?;
+    put64(writer, offset)?;
+    writer.put(bytes)
+}
+
+/// So many bytes of the export from a place on that are zeros, in the last chunk of a reply if it is `done`.
+pub fn say_hole<W: Write>(
+    writer: &mut Counted<W>,
+    done: bool,
+    cookie: u64,
+    offset: u64,
+    count: u32,
+) -> Result<(), WriteFault>
+    ensures { Writes W.contents writer.old writer.new (hole_chunk done cookie offset count) result }
+{
+    say_head(writer, done, OFFSET_HOLE, cookie, 12)?;
+    put64(writer, offset)?;
+    put32(writer, count)
+}
+
+/// Writes the extents of the only context, in the last chunk of a reply.
+pub fn say_status<W: Write>(
+    writer: &mut Counted<W>,
+    cookie: u64,
+    told: &[u8],
+) -> Result<(), WriteFault>
+    requires { 4 + length told.now < 2 ^ 32 }
+    ensures { Writes W.contents writer.old writer.new (status_chunk cookie told.now) result }
+{
+    say_head(writer, true, BLOCK_STATUS, cookie, 4 + told.len() as u32)?;
+    put32(writer, CONTEXT)?;
+    writer.put(told)
+}
+
+// An error, with no text.
+fn say_told<W: Write>(writer: &mut Counted<W>, error: RequestError) -> Result<(), WriteFault>
+    ensures { Writes W.contents writer.old writer.new (error_told error) result }
+{
+    put32(writer, error.number())?;
+    put16(writer, 0)
+}
+
+/// The last chunk of a reply, which says why the request fails.
+pub fn say_error<W: Write>(
+    writer: &mut Counted<W>,
+    cookie: u64,
+    error: RequestError,
+) -> Result<(), WriteFault>
+    ensures { Writes W.contents writer.old writer.new (error_chunk cookie error) result }
+{
+    say_head(writer, true, ERROR, cookie, 6)?;
+    say_told(writer, error)
+}
+
+/// The last chunk of a reply, which says why the request fails, and at which byte of the export.
+pub fn say_error_at<W: Write>(
+    writer: &mut Counted<W>,
+    cookie: u64,
+    offset: u64,
+    error: RequestError,
+) -> Result<(), WriteFault>
+    ensures { Writes W.contents writer.old writer.new (error_at_chunk cookie offset error) result }
+{
+    say_head(writer, true, ERROR_OFFSET, cookie, 14)?;
+    say_told(writer, error)?;
+    put64(writer, offset)
+}

@@ -1,0 +1,215 @@
+//! Writes the replies to options.
+ghost use Rattle.std.specs.Prelude.{◌≡◌, flat_map};
+ghost use Rattle.program_io.specs.Counted.{Writes};
+ghost use Rattle.nbd_protocol.specs.Exports.{HaveShortNames, HasShortName, export_record, export_records};
+ghost use Rattle.nbd_protocol.specs.OptionReplies.{acknowledged, refused, reply_head, reply_magic};
+ghost use Rattle.nbd_protocol.specs.Handshake.{export_fields, export_info, list_reply, many_zeros, name_field, server_reply, size_info, told_by, wanted_sizes, wants_sizes};
+
+use crate::export::Export;
+use crate::header::MOST_LENGTH;
+use crate::numbers::{put16, put32, put64};
+use crate::phase::Terms;
+use program_io::{Counted, WriteFault};
+use std::io::Write;
+
+const MAGIC: [u8; 8] = [0, 3, 0xe8, 0x89, 4, 0x55, 0x65, 0xa9];
+
+/// The option that lists the names of all exports.
+pub(crate) const LIST: u32 = 3;
+
+const ACKNOWLEDGED: u32 = 1;
+
+const SERVER: u32 = 2;
+
+const INFO: u32 = 3;
+
+/// The error reply to an option.
+#[derive(Clone, Copy, Debug, PartialEq, Eq)]
+pub enum Refusal {
+    Unsupported,
+    Invalid,
+    Unknown,
+    TooBig,
+}
+
+#[tactic(auto, unfolding(crate::specs::OptionReplies::reply_magic))]
+fn put_magic<W: Write>(writer: &mut Counted<W>) -> Result<(), WriteFault>
+    ensures { Writes W.contents writer.old writer.new reply_magic result }
+{
+    writer.put(&MAGIC)
+}
+
+/// A reply before its data.
+pub(crate) fn say_head<W: Write>(
+    writer: &mut Counted<W>,
+    option: u32,
+    kind: u32,
+    count: u32,
+) -> Result<(), WriteFault>
+    ensures { Writes W.contents writer.old writer.new (reply_head option kind count) result }
+{
+    put_magic(writer)?;
+    put32(writer, option)?;
+    put32(writer, kind)?;
+    put32(writer, count)
+}
+
+/// The option is done.
+pub fn acknowledge<W: Write>(writer: &mut Counted<W>, option: u32) -> Result<(), WriteFault>
+    ensures { Writes W.contents writer.old writer.new (acknowledged option) result }
+{
+    say_head(writer, option, ACKNOWLEDGED, 0)
+}
+
+/// The option isn't done.
+pub fn refuse<W: Write>(
+    writer: &mut Counted<W>,
+    option: u32,
+    refusal: Refusal,
+) -> Result<(), WriteFault>
+    ensures { Writes W.contents writer.old writer.new (refused refusal option) result }
+{
+    match refusal {
+        Refusal::Unsupported => say_head(writer, option, 0x8000_0001, 0),
+        Refusal::Invalid => say_head(writer, option, 0x8000_0003, 0),
+        Refusal::Unknown => say_head(writer, option, 0x8000_0006, 0),
+        Refusal::TooBig => say_head(writer, option, 0x8000_0009, 0),
+    }
+}
+
+#[tactic(auto, unfolding(crate::specs::Handshake::many_zeros))]
+fn put_zeros<W: Write>(writer: &mut Counted<W>) -> Result<(), WriteFault>
+    ensures { Writes W.contents writer.old writer.new many_zeros result }
+{
+    writer.put(&[0; 124])
+}
+
+/// Size and flags, and zeros unless the client wants none.
+pub(crate) fn say_export<W: Write>(
+    writer: &mut Counted<W>,
+    export: &Export<'_>,
+    terms: Terms,
+) -> Result<(), WriteFault>
+    ensures { Writes W.contents writer.old writer.new (export_fields (export_record export.now) terms) result }
+{
+    put64(writer, export.size)?;
+    put16(writer, export.flags(terms.structured))?;
+    if terms.no_zeroes {
+        return Ok(());
+    }
+    put_zeros(writer)
+}
+
+// The export's size and flags.
+fn say_export_info<W: Write>(
+    writer: &mut Counted<W>,
+    export: &Export<'_>,
+    terms: Terms,
+) -> Result<(), WriteFault>
+    ensures { Writes W.contents writer.old writer.new (export_info (export_record export.now) terms) result }
+{
+    put16(writer, 0)?;
+    put64(writer, export.size)?;
+    put16(writer, export.flags(terms.structured))
+}
+
+// The least, the best and the greatest block of a request.
+fn say_sizes<W: Write>(writer: &mut Counted<W>) -> Result<(), WriteFault>
+    ensures { Writes W.contents writer.old writer.new size_info result }
+{
+    put16(writer, 3)?;
+    put32(writer, 1)?;
+    put32(writer, 4096)?;
+    put32(writer, MOST_LENGTH)
+}
+
+// The sizes, where they are wanted.
+fn say_wanted<W: Write>(
+    writer: &mut Counted<W>,
+    option: u32,
+    wanted: &[u8],
+) -> Result<(), WriteFault>
+    ensures { Writes W.contents writer.old writer.new (wanted_sizes option wanted.now) result }
+{
+    if !wants_sizes(wanted) {
+        return Ok(());
+    }
+    say_head(writer, option, INFO, 14)?;
+    say_sizes(writer)
+}
+
+/// Writes the information about the export.
+pub(crate) fn say_told<W: Write>(
+    writer: &mut Counted<W>,
+    export: &Export<'_>,
+    terms: Terms,
+    option: u32,
+    wanted: &[u8],
+) -> Result<(), WriteFault>
+    ensures { Writes W.contents writer.old writer.new (told_by export.now terms option wanted.now) result }
+{
+    say_head(writer, option, INFO, 12)?;
+    say_export_info(writer, export, terms)?;
+    say_wanted(writer, option, wanted)?;
+    acknowledge(writer, option)
+}
+
+// Whether the block sizes are among the facts that are wanted.
+fn wants_sizes(wanted: &[u8]) -> bool
+    ensures { result ≡ wants_sizes wanted.now }
+{
+    let mut rest = wanted;
+    'facts: while let [high, low, more @ ..] = rest {
+        if *high == 0 && *low == 3 {
+            return true;
+        }
+        rest = more;
+    }
+    false
+}
+
+/// The names of all exports, where the option has no data.
+pub(crate) fn say_list<W: Write>(
+    writer: &mut Counted<W>,
+    exports: &[Export<'_>],
+    content: &[u8],
+) -> Result<(), WriteFault>
+    requires { HaveShortNames exports.now }
+    ensures { Writes W.contents writer.old writer.new (list_reply (export_records exports.now) content.now) result }
+{
+    if !content.is_empty() {
+        return refuse(writer, LIST, Refusal::Invalid);
+    }
+    say_servers(writer, exports)?;
+    acknowledge(writer, LIST)
+}
+
+// A reply for each export.
+fn say_servers<W: Write>(writer: &mut Counted<W>, exports: &[Export<'_>]) -> Result<(), WriteFault>
+    requires { HaveShortNames exports.now }
+    ensures { Writes W.contents writer.old writer.new (flat_map server_reply (export_records exports.now)) result }
+{
+    for export in exports {
+        say_server(writer, export)?;
+    }
+    Ok(())
+}
+
+// The reply that names an export.
+#[tactic(auto, unfolding(crate::specs::Handshake::server_reply))]
+fn say_server<W: Write>(writer: &mut Counted<W>, export: &Export<'_>) -> Result<(), WriteFault>
+    requires { HasShortName (export_record export.now) }
+    ensures { Writes W.contents writer.old writer.new (server_reply (export_record export.now)) result }
+{
+    say_head(writer, LIST, SERVER, export.name.len() as u32 + 4)?;
+    say_name(writer, export)
+}
+
+// The length of the export's name, and the name.
+fn say_name<W: Write>(writer: &mut Counted<W>, export: &Export<'_>) -> Result<(), WriteFault>
+    requires { HasShortName (export_record export.now) }
+    ensures { Writes W.contents writer.old writer.new (name_field (export_record export.now)) result }
+{
+    put32(writer, export.name.len() as u32)?;
+    writer.put(export.name)
+}

@@ -1,0 +1,137 @@
+//! A run of sectors, and what its lines alone say of them.
+ghost use Rattle.std.specs.Prelude.{◌≡◌, ◌<◌, ◌≤◌, ◌+◌};
+ghost use Rattle.stack_rules.specs.Names.{mapped, size};
+ghost use Rattle.stack_rules.specs.Rules.{IsLoaded};
+ghost use Rattle.stack_meaning.specs.Meaning.{said_at};
+ghost use Rattle.stack_lines.specs.Sources.{SourceHolds, source_said};
+ghost use Rattle.stack_lines.specs.declared.source.Source.TheVariants.{Block};
+ghost use Rattle.nbd_server.specs.Extents.{IgnoresZeros, IsToldExtent, SourceIgnores, is_same_kind};
+
+use stack_config::{Config, DevId, Lower};
+use stack_lines::{Source, VerityPart, run_at};
+
+// The most runs that are joined in one extent.
+const MOST_RUNS: u32 = 4096;
+
+/// What is known of sectors while nothing is read.
+#[derive(Clone, Copy, Debug, PartialEq, Eq)]
+pub enum ExtentKind {
+    /// They are zeros because of the lines alone.
+    Zeros,
+    /// They lie on `verity` lines that ignore blocks of zeros: a read tells these, and asks for the data of the others alone.
+    IgnoresZeros,
+    /// Nothing.
+    Unknown,
+}
+
+/// So many sectors, of all of which the same is known.
+#[derive(Clone, Copy, Debug, PartialEq, Eq)]
+pub struct Extent {
+    pub count: u64,
+    pub kind: ExtentKind,
+}
+
+/// Whether the same is known.
+fn is_same_kind(a: ExtentKind, b: ExtentKind) -> bool
+    ensures { result ≡ is_same_kind a b }
+{
+    match (a, b) {
+        (ExtentKind::Zeros, ExtentKind::Zeros)
+        | (ExtentKind::IgnoresZeros, ExtentKind::IgnoresZeros)
+        | (ExtentKind::Unknown, ExtentKind::Unknown) => true,
+        _ => false,
+    }
+}
+
+/// The extent of so many sectors of a `verity` line.
+fn verity_extent(config: &Config, part: VerityPart<'_>, most: u64) -> Extent
+    requires { 0 < most }
+    ensures { IsToldExtent (source_said config.now (Block part.entry)) (SourceIgnores config.now (Block part.entry)) 0 most result }
+{
+    let _config = config;
+    if part.verity.ignore_zero_blocks {
+        return Extent {
+            count: most,
+            kind: ExtentKind::IgnoresZeros,
+        };
+    }
+    Extent {
+        count: most,
+        kind: ExtentKind::Unknown,
+    }
+}
+
+/// The extent of so many sectors of a source at most, from its first on.
+#[cycle(extent)]
+fn source_extent(config: &Config, source: Source<'_>, most: u64) -> Extent
+    requires loaded { IsLoaded config.now }
+    requires some { 0 < most }
+    requires inside { SourceHolds config.now source most }
+    ensures { IsToldExtent (source_said config.now source.entry) (SourceIgnores config.now source.entry) 0 most result }
+{
+    match source {
+        Source::Zeros => Extent {
+            count: most,
+            kind: ExtentKind::Zeros,
+        },
+        Source::Below { lower, first } => lower_extent(config, lower, first, most),
+        Source::Block(part) => verity_extent(config, part, most),
+        Source::Blocks(part) => verity_extent(config, part, most),
+        _ => Extent {
+            count: most,
+            kind: ExtentKind::Unknown,
+        },
+    }
+}
+
+/// The extent of so many sectors of a leaf or a mapped device at most, from that one on.
+#[cycle(extent)]
+fn lower_extent(config: &Config, lower: Lower, first: u64, most: u64) -> Extent
+    requires loaded { IsLoaded config.now }
+    requires some { 0 < most }
+    requires inside { first + most ≤ size config.now lower }
+    ensures { IsToldExtent (said_at config.now lower) (IgnoresZeros config.now lower) first most result }
+{
+    match lower {
+        Lower::Leaf(_) => Extent {
+            count: most,
+            kind: ExtentKind::Unknown,
+        },
+        Lower::Device(d) => device_extent(config, d, first, most),
+    }
+}
+
+/// The extent of so many sectors of a mapped device at most, from that one on.
+#[cycle(extent)]
+fn device_extent(config: &Config, d: DevId, first: u64, most: u64) -> Extent
+    requires loaded { IsLoaded config.now }
+    requires some { 0 < most }
+    requires inside { first + most ≤ size config.now (mapped d.0) }
+    ensures { IsToldExtent (said_at config.now (mapped d.0)) (IgnoresZeros config.now (mapped d.0)) first most result }
+{
+    let run = run_at(config, d, first, most);
+    source_extent(config, run.source, run.count)
+}
+
+/// Sectors of a mapped device from that one on, at most so many, of which the same is known: as many as are found in some
+/// runs.
+pub fn extent_at(config: &Config, d: DevId, first: u64, most: u64) -> Extent
+    requires loaded { IsLoaded config.now }
+    requires some { 0 < most }
+    requires inside { first + most ≤ size config.now (mapped d.0) }
+    ensures { IsToldExtent (said_at config.now (mapped d.0)) (IgnoresZeros config.now (mapped d.0)) first most result }
+{
+    let mut extent = device_extent(config, d, first, most);
+    for _run in 0..MOST_RUNS {
+        if extent.count == most {
+            return extent;
+        }
+        let at = first + extent.count;
+        let next = device_extent(config, d, at, most - extent.count);
+        if !is_same_kind(next.kind, extent.kind) {
+            return extent;
+        }
+        extent.count += next.count;
+    }
+    extent
+}

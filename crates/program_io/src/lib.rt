@@ -1,0 +1,10 @@
+//! Counting readers and writers, and the line of a JSON value.
+#![tactic(auto)]
+
+mod counted;
+mod fault;
+mod json_line;
+
+pub use counted::Counted;
+pub use fault::WriteFault;
+pub use json_line::line_of;

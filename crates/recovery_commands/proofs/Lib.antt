@@ -1,3 +1,0 @@
-pub mod OpeningLemmas
-mod PassLemmas
-pub mod ReportLemmas

@@ -1,4 +1,0 @@
-pub mod Copies
-pub mod Counting
-pub mod Reports
-pub mod Scans

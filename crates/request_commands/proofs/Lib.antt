@@ -1,2 +1,0 @@
-pub mod OpeningLemmas
-pub mod WriteLemmas

@@ -1,2 +1,0 @@
-mod MapFileLemmas
-mod TurnLemmas

@@ -1,4 +1,0 @@
-pub mod Passes
-pub mod MapFiles
-pub mod MapTexts
-pub mod Turns

@@ -1,0 +1,59 @@
+//! The kinds of data blocks, and the line of a run of one kind.
+ghost use Rattle.std.specs.Prelude.{◌≡◌};
+ghost use Rattle.program_io.specs.Counted.{Writes};
+ghost use Rattle.runs.specs.Kinds.{kind_number, is_same};
+ghost use Rattle.runs.specs.Texts.{kind_name, run_text};
+
+use crate::run::Run;
+use program_io::{Counted, WriteFault};
+use std::io::Write;
+
+/// What is said of data blocks.
+#[derive(Clone, Copy, Debug, PartialEq, Eq)]
+pub enum Kind {
+    /// The path down to the block is good and its digest isn't, or its digests in two trees differ.
+    Changed = 1,
+    /// A hash block above it isn't good.
+    Unknown = 2,
+    /// The first of two images alone has it.
+    Removed = 3,
+    /// The second of two images alone has it.
+    Added = 4,
+}
+
+impl Kind {
+    fn number(self) -> u8
+        ensures { result ≡ kind_number self }
+    {
+        self as u8
+    }
+
+    /// The word that begins its line.
+    pub fn name(self) -> &'static str
+        ensures { result.now ≡ kind_name self }
+    {
+        match self {
+            Kind::Changed => "changed",
+            Kind::Unknown => "unknown",
+            Kind::Removed => "removed",
+            Kind::Added => "added",
+        }
+    }
+
+    /// Whether both are the same.
+    pub fn is_same(self, other: Kind) -> bool
+        ensures { result ≡ is_same self other }
+    {
+        self.number() == other.number()
+    }
+}
+
+/// `KIND FIRST COUNT`
+#[tactic(auto, unfolding(crate::specs::Texts::run_text))]
+pub(crate) fn say_run<W: Write>(writer: &mut Counted<W>, run: Run<Kind>) -> Result<(), WriteFault>
+    ensures { Writes W.contents writer.old writer.new (run_text run) result }
+{
+    let Run { first, count, kind } = run;
+    writer.put(kind.name().as_bytes())?;
+    writer.print(format_args!(" {first} {count}\n"))
+}

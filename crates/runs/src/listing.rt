@@ -1,0 +1,78 @@
+//! Who is told of lines: a writer, or a list in memory.
+ghost use Rattle.std.specs.Prelude.{◌≡◌, ◌++◌, ◌∷◌, [], ℕ, Bool, List, Option, OnOk};
+ghost use Rattle.runs.specs.Lines.{listing_line};
+ghost use Rattle.runs.specs.Listings.{Tells};
+
+use crate::line::{Line, say_line};
+use program_io::{Counted, WriteFault};
+use std::alloc::{AllocError, Global};
+use std::io::Write;
+
+/// Who is told of lines, one after another.
+pub trait Listing {
+    /// The text of the lines that were told, where it is known.
+    ghost told: { Self → Option (List ℕ) };
+
+    /// Whether a line couldn't be told.
+    ghost failed: { Self → Bool };
+
+    /// Tells a line.
+    fn tell(&mut self, line: Line) -> Result<(), WriteFault>
+        ensures { Tells told failed self.old self.new (listing_line line) result };
+}
+
+impl<W: Write> Listing for Counted<W> {
+    ghost told = { λ writer. W.contents writer.inner };
+
+    ghost failed = { λ writer. writer.failed };
+
+    fn tell(&mut self, line: Line) -> Result<(), WriteFault> {
+        say_line(self, line)
+    }
+}
+
+/// Lines that are kept in memory, and whether one couldn't be, since a growth was refused.
+#[derive(Drop)]
+pub struct KeptLines {
+    pub lines: Vec<Line>,
+    pub refused: bool,
+}
+
+impl KeptLines {
+    /// No line yet.
+    pub fn new(alloc: Global) -> KeptLines
+        ensures lines { result.lines.items ≡ [] }
+    {
+        KeptLines {
+            lines: Vec::new(alloc),
+            refused: false,
+        }
+    }
+}
+
+impl Listing for KeptLines {
+    ghost use Rattle.std.specs.Prelude.{Some};
+    ghost use Rattle.runs.specs.Lines.{lines_text};
+
+    ghost told = { λ kept. Some (lines_text kept.lines.items) };
+
+    ghost failed = { λ kept. kept.refused };
+
+    #[tactic(auto, using(crate::proofs::KeptLemmas::lines_text_last))]
+    fn tell(&mut self, line: Line) -> Result<(), WriteFault> {
+        match keep(&mut self.lines, line) {
+            Ok(()) => Ok(()),
+            Err(_refused) => {
+                self.refused = true;
+                Err(WriteFault)
+            }
+        }
+    }
+}
+
+fn keep(lines: &mut Vec<Line>, line: Line) -> Result<(), AllocError>
+    ensures { OnOk result (lines.new.items ≡ lines.old.items ++ line ∷ []) }
+{
+    lines.push(line)?;
+    Ok(())
+}

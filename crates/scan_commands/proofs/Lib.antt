@@ -1,0 +1,7 @@
+pub mod OpeningLemmas
+mod PassLemmas
+pub mod ReportLemmas
+mod MapFileLemmas
+mod TurnLemmas
+pub mod NameLemmas
+pub mod PlainLemmas

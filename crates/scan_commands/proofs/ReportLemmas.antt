@@ -1,0 +1,41 @@
+-- Reports of passes of which more is known.
+use Rattle.std.proofs.Common.{◌≡◌, ℕ, Bool, false, List, [], Option, Some, inl, inr, ap, ◌∙◌}
+use Rattle.stack_recovery.specs.declared.listing.KeptRuns.{KeptRuns}
+use Rattle.stack_recovery.specs.declared.recovery.Counts.{Counts}
+use Rattle.stack_recovery.specs.Listings.{Listed, listed}
+use Rattle.stack_recovery.specs.LostRuns.{LostRun}
+use Rattle.stack_recovery.specs.Texts.{lost_text}
+use Rattle.scan_commands.specs.declared.recovering_fault.RecoveringFault.{RecoveringFault}
+use Rattle.scan_commands.specs.Reports.{AreKept, Early, IsUnreported, Reports, Whole, kept_text}
+
+pub reports-more : (P Q : Whole) (json : Bool) (old new : Option (List ℕ)) → ((before : Listed) (counts : Counts) (told : Listed) → P before counts told → Q before counts told)
+    → Reports P json old new → Reports Q json old new
+reports-more P Q json old new more r = record {
+  counts = r.counts;
+  before = r.before;
+  told = r.told;
+  begun = r.begun;
+  done = more r.before r.counts r.told r.done;
+  reported = r.reported;
+}
+
+pub unreported-more : (S T : Early) (P Q : Whole) (json : Bool) (old new : Option (List ℕ)) (failed : Bool) (fault : RecoveringFault)
+    → ((before told : Listed) → S before fault told → T before fault told) → ((before : Listed) (counts : Counts) (told : Listed) → P before counts told → Q before counts told)
+    → IsUnreported S P json old new failed fault → IsUnreported T Q json old new failed fault
+unreported-more S T P Q json old new failed fault stops more (inl s) = inl (record { before = s.before; told = s.told; begun = s.begun; stopped = stops s.before s.told s.stopped; kept = s.kept })
+unreported-more S T P Q json old new failed fault stops more (inr l) = inr (record {
+  counts = l.counts;
+  before = l.before;
+  told = l.told;
+  begun = l.begun;
+  done = more l.before l.counts l.told l.done;
+  ends = l.ends;
+})
+
+-- at first no run is kept
+pub none-kept : (runs : List LostRun) (refused : Bool) → runs ≡ [] → refused ≡ false → listed (Some (lost_text runs)) refused ≡ listed (Some []) false
+none-kept runs refused none kept = ap (λ (rs : List LostRun). listed (Some (lost_text rs)) refused) none ∙ ap (λ (b : Bool). listed (Some []) b) kept
+
+-- none was refused
+abbrev pub all-kept : (kept : KeptRuns) → kept.refused ≡ false → AreKept (kept_text kept)
+all-kept kept is = record { runs = kept.runs.items; same = ap (λ (b : Bool). listed (Some (lost_text kept.runs.items)) b) is }

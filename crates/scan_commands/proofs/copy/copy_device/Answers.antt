@@ -1,0 +1,72 @@
+use Rattle.std.proofs.Common.{inl, inr, refl}
+use Rattle.std.proofs.lemmas.Result.{IfErr-weaker, on_ok_weaker}
+use Rattle.stack_files.specs.NamedDevices.{device_place}
+use Rattle.scan_commands.specs.Counting.{listed_by}
+use Rattle.scan_commands.proofs.OpeningLemmas.{err-from}
+use Rattle.scan_commands.proofs.copy.copy_device.Goals as goal
+
+pub copy_synced-left-requires : goal.copy_synced-left-requires
+copy_synced-left-requires g c = record { device = c.in_ok-stack.ensures.there; room = c.in_ok-stack.ensures.room; allowed = c.in_ok-stack.ensures.writable }
+
+pub returns-in_err-stack-clause-err : goal.returns-in_err-stack-clause-err
+returns-in_err-stack-clause-err g c =
+    err-from c.from_residual.result _ c.in_err-stack.field-0.0 c.from_residual.ensures.1 (inl (refl, c.in_err-stack.ensures.err))
+
+pub returns-clause-err : goal.returns-clause-err
+returns-clause-err g c = inr (inl (record {
+  before = listed_by g.W.Write.contents c.args.writer.now;
+  told = listed_by g.W.Write.contents c.copy_synced-left.new.writer;
+  begun = refl;
+  stopped = record {
+    at = device_place c.in_ok-stack.stack c.in_ok-stack.device.0;
+    image = c.in_ok-stack.image;
+    image' = c.copy_synced-left.result.0.out;
+    left = c.copy_synced-left.result.0.stack;
+    between = c.open_with_room.new.images;
+    behind = c.copy_synced-left.new.images;
+    found = c.in_ok-stack.ensures.ok;
+    stops = rw c.in-Err.is at c.copy_synced-left.ensures.err;
+    back = c.close.ensures;
+  };
+  kept = refl;
+}))
+
+pub returns-in-Ok-clause-ok : goal.returns-in-Ok-clause-ok
+returns-in-Ok-clause-ok g c = on_ok_weaker c.tell_counts.result (λ told. record {
+  counts = c.in-Ok.counts;
+  before = listed_by g.W.Write.contents c.args.writer.now;
+  told = listed_by g.W.Write.contents c.copy_synced-left.new.writer;
+  begun = refl;
+  done = record {
+    at = device_place c.in_ok-stack.stack c.in_ok-stack.device.0;
+    image = c.in_ok-stack.image;
+    image' = c.copy_synced-left.result.0.out;
+    left = _;
+    between = c.open_with_room.new.images;
+    behind = c.copy_synced-left.new.images;
+    found = c.in_ok-stack.ensures.ok;
+    copied = rw c.in-Ok.is at c.copy_synced-left.ensures.ok;
+    back = c.close.ensures;
+  };
+  reported = told;
+}) c.tell_counts.ensures.ok
+
+pub returns-in-Ok-clause-err : goal.returns-in-Ok-clause-err
+returns-in-Ok-clause-err g c = IfErr-weaker c.tell_counts.result _ _ (λ fault ends. inr (inr (record {
+  counts = c.in-Ok.counts;
+  before = listed_by g.W.Write.contents c.args.writer.now;
+  told = listed_by g.W.Write.contents c.copy_synced-left.new.writer;
+  begun = refl;
+  done = record {
+    at = device_place c.in_ok-stack.stack c.in_ok-stack.device.0;
+    image = c.in_ok-stack.image;
+    image' = c.copy_synced-left.result.0.out;
+    left = _;
+    between = c.open_with_room.new.images;
+    behind = c.copy_synced-left.new.images;
+    found = c.in_ok-stack.ensures.ok;
+    copied = rw c.in-Ok.is at c.copy_synced-left.ensures.ok;
+    back = c.close.ensures;
+  };
+  ends = ends;
+}))) c.tell_counts.ensures.err

@@ -1,0 +1,32 @@
+-- The devices of a configuration as lines, or as an object on one.
+use Rattle.std.specs.Prelude.{ℕ, zero, suc, Bool, true, false, List, [], ◌++◌, length, codes, decimal, if◌then◌else◌}
+use Rattle.stack_rules.specs.Records.{Configuration}
+use Rattle.stack_rules.specs.Names.{mapped, name_of, size, may_write}
+use Rattle.stack_rules.specs.Descend.{depth, read_cost, write_cost}
+use Rattle.program_io.specs.JsonLines.{json_line}
+use Rattle.scan_commands.specs.Devices.{load_json}
+
+-- ` sectors S depth D read R write W rw`, or `ro`
+abbrev pub device_facts : Configuration → ℕ → List ℕ
+device_facts c d =
+    codes " sectors " ++ (decimal (size c (mapped d)) ++ (codes " depth " ++ (decimal (depth c (mapped d))
+    ++ (codes " read " ++ (decimal (read_cost c (mapped d)) ++ (codes " write " ++ (decimal (write_cost c (mapped d))
+    ++ (codes " " ++ ((if may_write c (mapped d) then codes "rw" else codes "ro") ++ codes "\n")))))))))
+
+-- a device's name and what it is
+unfoldable pub device_line : Configuration → ℕ → List ℕ
+device_line c d = name_of c d ++ device_facts c d
+
+-- a line for each of the first n devices
+abbrev pub device_lines : Configuration → ℕ → List ℕ
+device_lines c zero = []
+device_lines c (suc n) = device_lines c n ++ device_line c n
+
+-- a line for each device
+abbrev pub devices_text : Configuration → List ℕ
+devices_text c = device_lines c (length c.devices)
+
+-- as an object, or a line each
+abbrev pub load_text : Bool → Configuration → List ℕ
+load_text true c = json_line (load_json c)
+load_text false c = devices_text c

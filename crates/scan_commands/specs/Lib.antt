@@ -1,0 +1,11 @@
+pub mod Copies
+pub mod Counting
+pub mod Reports
+pub mod Scans
+pub mod Passes
+pub mod MapFiles
+pub mod MapTexts
+pub mod Turns
+pub mod Devices
+pub mod DeviceLines
+pub mod LostJson

@@ -1,0 +1,93 @@
+-- A pass over a mapped device, by a map file or without one.
+use Rattle.std.specs.Prelude.{◌≡◌, ◌⊎◌, ℕ, ◌<◌, ◌≤◌, IsTrue, List, length, Option, Some, None, option_map}
+use Rattle.block_device.specs.Device.{Device}
+use Rattle.image_files.specs.Opener.{Calls, Opener, calls}
+use Rattle.rescue_map.specs.declared.map.Run.{Run}
+use Rattle.rescue_map.specs.declared.totals.Totals.{Totals}
+use Rattle.scan_commands.specs.declared.rescue_fault.PassFault.{PassFault}
+use Rattle.scan_commands.specs.declared.rescue_fault.PassFault.TheVariants.{NoMemory, Output}
+use Rattle.scan_commands.specs.declared.map_file.MapPath.{MapPath}
+use Rattle.scan_commands.specs.declared.passing.Passing.{Passing}
+use Rattle.scan_commands.specs.MapFiles.{IsMapRead, IsMapUnread, MapPathRecord, map_path_of}
+use Rattle.scan_commands.specs.Turns.{IsTurnsEnd, RescuesInTurns, kept, progressed}
+use Rattle.stack_rules.specs.Names.{mapped, size}
+use Rattle.stack_recovery.specs.declared.fault.RecoveryFault.TheVariants as recovery
+use Rattle.stack_recovery.specs.declared.recovery.Counts.{Counts}
+use Rattle.stack_recovery.specs.Listings.{Listed}
+use Rattle.stack_recovery.specs.Recoveries.{IsRecoveryEnd, Recovers, Sides, sides}
+
+-- the stack with what is copied and listed, before and after
+pub record Moving : Type 0 where
+  pub old : Sides
+  pub new : Sides
+
+abbrev pub moving : Sides → Sides → Moving
+moving old new = record { old = old; new = new }
+
+-- how many sectors a map marks as read, and how many as lost
+abbrev pub counts_of : Totals → Counts
+counts_of totals = record { read = totals.had; lost = totals.lost }
+
+-- ---- with a map file
+
+-- A map file was read, or there is none and no sector was read before. Then what wasn't read was read in turns, after each of
+-- which the map was replaced.
+pub record IsRescued {S D : Type 0} (w : Calls S D) (file : MapPathRecord) (d : ℕ) (m : Moving) (counts : Counts) : Type 0 where
+  pub totals : Totals
+  pub runs : List Run
+  pub between : S
+  pub read : IsMapRead (record w { new = between }) file (size m.old.stack.config (mapped d)) runs
+  pub rescued : RescuesInTurns (kept w.relations.replaces file d (size m.old.stack.config (mapped d))) (progressed between m.old runs 0) w.new m.new totals
+  pub counted : counts ≡ counts_of totals
+
+-- it was read, and a turn ended early
+pub record IsCutShort {S D : Type 0} (w : Calls S D) (file : MapPathRecord) (d : ℕ) (m : Moving) (fault : PassFault) : Type 0 where
+  pub runs : List Run
+  pub between : S
+  pub read : IsMapRead (record w { new = between }) file (size m.old.stack.config (mapped d)) runs
+  pub ends : IsTurnsEnd (kept w.relations.replaces file d (size m.old.stack.config (mapped d))) (progressed between m.old runs 0) w.new m.new fault
+
+-- or it wasn't read, and nothing was done
+abbrev pub IsUnrescued : {S D : Type 0} → Calls S D → MapPathRecord → ℕ → Moving → PassFault → Type 0
+IsUnrescued w file d m fault =
+    ((m.new ≡ m.old) × IsMapUnread w file.path (size m.old.stack.config (mapped d)) fault) ⊎ IsCutShort w file d m fault
+
+-- ---- with a map file or without one, where the opener isn't called
+
+abbrev pub Passes : {S D : Type 0} → Calls S D → Option MapPathRecord → ℕ → Moving → Counts → Type 0
+Passes w None d m counts = (w.new ≡ w.old) × Recovers d m.old counts m.new
+Passes w (Some file) d m counts = IsRescued w file d m counts
+
+-- a recovery ended early
+abbrev pub IsRecoveryStopped : ℕ → Moving → PassFault → Type 0
+IsRecoveryStopped d m NoMemory = IsRecoveryEnd d m.old m.new recovery.NoMemory
+IsRecoveryStopped d m Output = IsRecoveryEnd d m.old m.new recovery.Output
+IsRecoveryStopped d m fault = ⊥
+
+abbrev pub StopsPass : {S D : Type 0} → Calls S D → Option MapPathRecord → ℕ → Moving → PassFault → Type 0
+StopsPass w None d m fault = (w.new ≡ w.old) × IsRecoveryStopped d m fault
+StopsPass w (Some file) d m fault = IsUnrescued w file d m fault
+
+-- ---- as a call sees them
+
+-- the device is one of the stack's, and the other one has room for all its sectors and may be written
+pub record CanPass {D O : Type 0} (state : O → Device) (p : Passing D O) : Type 0 where
+  pub device : p.device.0 < length p.stack.config.devices
+  pub room : size p.stack.config (mapped p.device.0) ≤ (state p.out).size
+  pub allowed : IsTrue (state p.out).may_write
+
+module _ {S D E O L : Type 0} (relations : Opener S D) (state : D → Device) (seen : O → Device) (told : L → Listed) (images images' : S) (old new : Passing E O) (listing listing' : L) where
+  abbrev passed : Moving
+  passed = moving (sides old.stack (seen old.out) (told listing)) (sides new.stack (seen new.out) (told listing'))
+
+  abbrev pub PassesMapBy : MapPath → Counts → Type 0
+  PassesMapBy file = IsRescued (calls relations state images images') (map_path_of file) old.device.0 passed
+
+  abbrev pub StopsMapBy : MapPath → PassFault → Type 0
+  StopsMapBy file = IsUnrescued (calls relations state images images') (map_path_of file) old.device.0 passed
+
+  abbrev pub PassesBy : Option MapPath → Counts → Type 0
+  PassesBy map = Passes (calls relations state images images') (option_map map_path_of map) old.device.0 passed
+
+  abbrev pub StopsBy : Option MapPath → PassFault → Type 0
+  StopsBy map = StopsPass (calls relations state images images') (option_map map_path_of map) old.device.0 passed

@@ -1,0 +1,80 @@
+-- Which sectors of a device are lost, and how a scan ends early.
+use Rattle.std.specs.Prelude.{◌≡◌, ◌⊎◌, ℕ, Bool, IsTrue, List, Option, option_map}
+use Rattle.block_device.specs.Device.{Device}
+use Rattle.program_io.specs.Counted.{CountedRecord}
+use Rattle.image_files.specs.Opener.{Calls, Opener, calls}
+use Rattle.scan_commands.specs.declared.passing.Passing.{Passing}
+use Rattle.scan_commands.specs.MapFiles.{map_at}
+use Rattle.scan_commands.specs.Passes.{Moving, Passes, StopsPass, moving}
+use Rattle.rescue_map.specs.declared.kind.MapKind.TheVariants as map_kind
+use Rattle.stack_files.specs.NamedDevices.{DevicePlace, DeviceWords, FailsToFindDevice, FindsDevice, words_for}
+use Rattle.stack_engine.specs.Stacks.{StackRecord}
+use Rattle.stack_files.specs.declared.stack_file.StackFile.{StackFile}
+use Rattle.stack_recovery.specs.declared.discard.Discard.{Discard}
+use Rattle.stack_recovery.specs.declared.recovery.Counts.{Counts}
+use Rattle.stack_recovery.specs.Listings.{Listed}
+use Rattle.stack_recovery.specs.Recoveries.{sides}
+use Rattle.scan_commands.specs.declared.recovering_fault.RecoveringFault.{RecoveringFault}
+use Rattle.scan_commands.specs.declared.scan.ScanPlan.{ScanPlan}
+use Rattle.scan_commands.specs.Counting.{IsPassEnd, IsRecoveryStackless}
+use Rattle.scan_commands.specs.Reports.{IsUnreported, Reports}
+
+-- a device of a stack file over bindings, the path of its map file, if there is one, and whether the report is an object
+pub record ScanWords : Type 0 where
+  pub words : DeviceWords
+  pub map : Option (List ℕ)
+  pub json : Bool
+
+abbrev pub scan_words : DeviceWords → Option (List ℕ) → Bool → ScanWords
+scan_words words map json = record { words = words; map = map; json = json }
+
+abbrev pub words_to_scan : StackFile → ScanPlan → ScanWords
+words_to_scan file plan = scan_words (words_for file plan.device) (option_map (λ p. p.now) plan.map) plan.json
+
+-- the device was scanned, by a scan's map if there is one
+pub record Scans {S D : Type 0} (w : Calls S D) (words : ScanWords) (before : Listed) (counts : Counts) (told : Listed) : Type 0 where
+  pub at : DevicePlace
+  pub out : Device
+  pub out' : Device
+  pub left : StackRecord
+  pub between : S
+  pub found : FindsDevice (record w { new = between }) words.words at
+  pub passed : Passes (record w { old = between }) (map_at words.map map_kind.Scan) at.d (moving (sides at.stack out before) (sides left out' told)) counts
+
+-- the scan was begun and ended early; the device to which it copies never fails
+pub record StopsScan {S D : Type 0} (w : Calls S D) (words : ScanWords) (before : Listed) (fault : RecoveringFault) (told : Listed) : Type 0 where
+  pub at : DevicePlace
+  pub out : Device
+  pub out' : Device
+  pub left : StackRecord
+  pub between : S
+  pub found : FindsDevice (record w { new = between }) words.words at
+  pub sure : IsTrue out.never_fails
+  pub stops : IsPassEnd (StopsPass (record w { old = between }) (map_at words.map map_kind.Scan) at.d (moving (sides at.stack out before) (sides left out' told))) fault
+
+-- no sector is lost, and all was reported
+abbrev pub PrintsScan : {S D : Type 0} → Calls S D → ScanWords → Option (List ℕ) → Option (List ℕ) → Type 0
+PrintsScan w words old new = Reports (Scans w words) words.json old new
+
+-- there is no such device, and nothing is printed; or the scan ended early, or sectors are lost or not all is printed
+abbrev pub IsScanEnd : {S D : Type 0} → Calls S D → ScanWords → Option (List ℕ) → Option (List ℕ) → Bool → RecoveringFault → Type 0
+IsScanEnd w words old new failed fault =
+    ((new ≡ old) × IsRecoveryStackless (FailsToFindDevice w words.words) fault) ⊎ IsUnreported (StopsScan w words) (Scans w words) words.json old new failed fault
+
+-- ---- as a call sees them, of an open device
+
+module _ {S D E T : Type 0} (relations : Opener S D) (state : D → Device) (seen : Discard → Device) (contents : T → Option (List ℕ)) (images images' : S) (old new : Passing E Discard) (writer writer' : CountedRecord T) where
+  abbrev scanned : Listed → Listed → Moving
+  scanned before told = moving (sides old.stack (seen old.out) before) (sides new.stack (seen new.out) told)
+
+  abbrev scans : ScanPlan → Listed → Counts → Listed → Type 0
+  scans plan before counts told = Passes (calls relations state images images') (map_at (option_map (λ p. p.now) plan.map) map_kind.Scan) old.device.0 (scanned before told) counts
+
+  abbrev stops_scan : ScanPlan → Listed → RecoveringFault → Listed → Type 0
+  stops_scan plan before fault told = IsPassEnd (StopsPass (calls relations state images images') (map_at (option_map (λ p. p.now) plan.map) map_kind.Scan) old.device.0 (scanned before told)) fault
+
+  abbrev pub ReportsScan : ScanPlan → Type 0
+  ReportsScan plan = Reports (scans plan) plan.json (contents writer.inner) (contents writer'.inner)
+
+  abbrev pub EndsReporting : ScanPlan → RecoveringFault → Type 0
+  EndsReporting plan = IsUnreported (stops_scan plan) (scans plan) plan.json (contents writer.inner) (contents writer'.inner) writer'.failed

@@ -1,0 +1,109 @@
+//! The readable sectors of a device are copied to an image.
+ghost use Rattle.std.specs.Prelude.{OnOk, IfOk, IfErr};
+ghost use Rattle.image_files.specs.Opener.{calls};
+ghost use Rattle.scan_commands.specs.Passes.{CanPass};
+ghost use Rattle.scan_commands.specs.Copies.{CopiesBy, EndsCopyingBy, IsCopyEnd, PassesToBy, PrintsCopy, StopsToBy, words_to_copy};
+ghost use Rattle.scan_commands.specs.Counting.{EndsPrintedBy, PrintedBy};
+
+use crate::map_file::map_at;
+use crate::output::open_with_room;
+use crate::passing::{Passing, run_pass};
+use crate::recovering_fault::RecoveringFault;
+use crate::report::tell_counts;
+use crate::rescue_fault::PassFault;
+use block_device::{BlockDev, SyncDev};
+use device_adapters::{Differing, Progress};
+use image_files::{Images, OpenImage};
+use program_io::Counted;
+use rescue_map::MapKind;
+use stack_files::{NamedDevice, StackFile};
+use stack_recovery::Counts;
+use std::alloc::Global;
+use std::io::Write;
+
+/// The device that is copied, the path of the image to which it is copied, whether only what differs is written, and the path of
+/// the map file, if there is one.
+#[derive(Clone, Copy, Debug, PartialEq, Eq)]
+pub struct CopyPlan<'a> {
+    pub device: NamedDevice<'a>,
+    pub out: &'a str,
+    pub differing: bool,
+    pub map: Option<&'a str>,
+}
+
+/// Copies the readable sectors of a device of a stack file over the bindings to an image, which is synced and closed before the
+/// counts are printed. With a map file it copies the sectors that the map doesn't mark as read, and keeps the map, as a copy's.
+/// By a scan's map no sector was read: the image has none of the sectors that it marks `+`.
+pub fn copy_device<'a, I: Images, W: Write, P: Progress>(
+    alloc: Global,
+    images: &mut I,
+    file: StackFile<'a, '_>,
+    plan: CopyPlan<'a>,
+    writer: &mut Counted<W>,
+    progress: &mut P,
+) -> Result<(), RecoveringFault<'a>>
+    ensures ok { OnOk result (PrintedBy W.contents writer.old writer.new (PrintsCopy (calls I.relations I.Dev.state images.old images.new) (words_to_copy file.entry plan.entry))) }
+    ensures err { IfErr result (EndsPrintedBy W.contents writer.old writer.new (IsCopyEnd (calls I.relations I.Dev.state images.old images.new) (words_to_copy file.entry plan.entry))) }
+{
+    let (stack, device, image) = open_with_room(alloc, images, file, plan.device, plan.out)?;
+    let OpenImage { device: out, id: _ } = image;
+    let passing = Passing { stack, device, out };
+    let (left, outcome) = copy_synced(alloc, images, passing, plan, writer, progress);
+    images.close(plan.out, left.out);
+    match outcome {
+        Ok(counts) => tell_counts(counts, writer),
+        Err(fault) => Err(RecoveringFault::Pass(fault)),
+    }
+}
+
+// Copies the device, and syncs the image.
+fn copy_synced<'a, I: Images, D: BlockDev + Drop, O: SyncDev + Drop, W: Write, P: Progress>(
+    alloc: Global,
+    images: &mut I,
+    passing: Passing<D, O>,
+    plan: CopyPlan<'a>,
+    writer: &mut Counted<W>,
+    progress: &mut P,
+) -> (Passing<D, O>, Result<Counts, PassFault<'a>>)
+    requires { CanPass O.state passing }
+    ensures ok { IfOk result.1 (CopiesBy I.relations I.Dev.state O.state W.contents images.old images.new passing result.0 writer.old writer.new plan.entry) }
+    ensures err { IfErr result.1 (EndsCopyingBy I.relations I.Dev.state O.state W.contents images.old images.new passing result.0 writer.old writer.new plan.entry) }
+{
+    let (mut left, outcome) = copy_to(alloc, images, passing, plan, writer, progress);
+    let counts = match outcome {
+        Ok(counts) => counts,
+        Err(fault) => return (left, Err(fault)),
+    };
+    match left.out.sync() {
+        Ok(()) => (left, Ok(counts)),
+        Err(_unsynced) => (left, Err(PassFault::Output)),
+    }
+}
+
+// Copies the device; with `--differing` to a device that reads before it writes.
+fn copy_to<'a, I: Images, D: BlockDev + Drop, O: SyncDev + Drop, W: Write, P: Progress>(
+    alloc: Global,
+    images: &mut I,
+    passing: Passing<D, O>,
+    plan: CopyPlan<'a>,
+    writer: &mut Counted<W>,
+    progress: &mut P,
+) -> (Passing<D, O>, Result<Counts, PassFault<'a>>)
+    requires { CanPass O.state passing }
+    ensures ok { IfOk result.1 (PassesToBy I.relations I.Dev.state O.state W.contents images.old images.new passing result.0 writer.old writer.new plan.entry) }
+    ensures err { IfErr result.1 (StopsToBy I.relations I.Dev.state O.state W.contents images.old images.new passing result.0 writer.old writer.new plan.entry) }
+{
+    let map = map_at(plan.map, MapKind::Copy);
+    if plan.differing {
+        let Passing { stack, device, out } = passing;
+        let out = Differing::new(out);
+        let mut compared = Passing { stack, device, out };
+        let copied = run_pass(alloc, images, &mut compared, map, writer, progress);
+        let Passing { stack, device, out } = compared;
+        let out = out.inner;
+        return (Passing { stack, device, out }, copied);
+    }
+    let mut plain = passing;
+    let outcome = run_pass(alloc, images, &mut plain, map, writer, progress);
+    (plain, outcome)
+}

@@ -1,0 +1,28 @@
+//! Scans and copies of a stack file's device, with a map file and without one, and the devices and lost sectors as lines of JSON.
+#![tactic(auto)]
+
+mod copy;
+mod device_lines;
+mod devices;
+mod lost_json;
+mod map_file;
+mod map_texts;
+mod output;
+mod passing;
+mod recovering_fault;
+mod report;
+mod rescue_fault;
+mod scan;
+mod turns;
+
+pub use copy::{CopyPlan, copy_device};
+pub use device_lines::say_devices;
+pub use devices::devices_line;
+pub use map_file::{MapFile, MapPath, read_map};
+pub use map_texts::say_pass_fault;
+pub use passing::Passing;
+pub use recovering_fault::RecoveringFault;
+pub use report::say_counts;
+pub use rescue_fault::PassFault;
+pub use scan::{ScanPlan, scan_device};
+pub use turns::rescue_in_turns;

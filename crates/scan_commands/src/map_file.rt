@@ -1,0 +1,120 @@
+//! The map file of a device.
+ghost use Rattle.std.specs.Prelude.{◌≡◌, ◌^◌, ◌≤◌, false, length, option_map, replicate, IfOk, IfErr};
+ghost use Rattle.image_files.specs.Opener.{calls};
+ghost use Rattle.rescue_map.specs.Maps.{marks};
+ghost use Rattle.scan_commands.specs.MapFiles.{IsMapOfText, IsMapUnread, IsTextUnread, ReadsMap, continues, is_missing, map_at, map_path_of};
+ghost use Rattle.scan_commands.specs.declared.rescue_fault.PassFault.TheVariants as pass_fault;
+
+use crate::rescue_fault::PassFault;
+use block_device::OpenFault;
+use image_files::{Images, UnopenedFile};
+use rescue_map::{Map, MapKind, kind_of, parse_map};
+use std::alloc::Global;
+
+const MOST_TEXT: usize = 1 << 24;
+
+/// The path of a map file, and the kind of the map that is kept there.
+#[derive(Clone, Copy, Debug, PartialEq, Eq)]
+pub struct MapPath<'a> {
+    pub path: &'a str,
+    pub kind: MapKind,
+}
+
+/// The map file of that kind under a path, if one is given.
+pub fn map_at<'a>(path: Option<&'a str>, kind: MapKind) -> Option<MapPath<'a>>
+    ensures { option_map map_path_of result ≡ map_at (option_map (λ p. p.now) path.entry) kind }
+{
+    let path = path?;
+    Some(MapPath { path, kind })
+}
+
+/// A map of a device, and the file in which it is kept.
+#[derive(Drop)]
+pub struct MapFile<'a> {
+    pub file: MapPath<'a>,
+    pub map: Map,
+}
+
+/// The map of a device of so many sectors in a file. If there is no file, no sector was read before; nor if the file has a
+/// scan's map and the map is to be a copy's.
+///
+/// # Errors
+///
+/// `Unread` if the file can't be read, `TooLong` if it has more than 16 MiB, `NoMap` if it isn't a map of the device, or
+/// `NoMemory`.
+pub fn read_map<'a, I: Images>(
+    alloc: Global,
+    images: &mut I,
+    file: MapPath<'a>,
+    sectors: u64,
+) -> Result<Map, PassFault<'a>>
+    requires { sectors ≤ 2 ^ 54 }
+    ensures ok { IfOk result (ReadsMap I.relations I.Dev.state images.old images.new file.entry sectors) }
+    ensures sectors { IfOk result (λ map. length (marks map) ≡ sectors) }
+    ensures err { IfErr result (IsMapUnread (calls I.relations I.Dev.state images.old images.new) file.entry.path.now sectors) }
+{
+    match images.read_text(file.path, MOST_TEXT + 1) {
+        Ok(text) => {
+            if text.bytes.len() > MOST_TEXT {
+                return Err(PassFault::TooLong);
+            }
+            map_in(alloc, file.kind, text.bytes.as_slice(), sectors)
+        }
+        Err(fault) => {
+            if is_missing(fault) {
+                return new_map(alloc, sectors);
+            }
+            let path = file.path;
+            Err(PassFault::Unread(UnopenedFile { fault, path }))
+        }
+    }
+}
+
+// The map in a text, or one of no sector that was read before if a map of the kind doesn't continue it.
+fn map_in<'a>(alloc: Global, kind: MapKind, text: &[u8], sectors: u64) -> Result<Map, PassFault<'a>>
+    requires { sectors ≤ 2 ^ 54 }
+    ensures ok { IfOk result (IsMapOfText kind text.now sectors) }
+    ensures sectors { IfOk result (λ map. length (marks map) ≡ sectors) }
+    ensures err { IfErr result (IsTextUnread text.now sectors) }
+{
+    let map = match parse_map(alloc, text, sectors) {
+        Ok(map) => map,
+        Err(fault) => return Err(PassFault::NoMap(fault)),
+    };
+    if continues(kind, kind_of(text)) {
+        return Ok(map);
+    }
+    new_map(alloc, sectors)
+}
+
+// Whether a map of a kind continues one that was read: a copy's doesn't continue a scan's, whose `+` isn't in the copy.
+fn continues(kind: MapKind, read: MapKind) -> bool
+    ensures { result ≡ continues kind read }
+{
+    match (kind, read) {
+        (MapKind::Copy, MapKind::Scan) => false,
+        _ => true,
+    }
+}
+
+// Whether there is no file.
+fn is_missing(fault: OpenFault) -> bool
+    ensures { result ≡ is_missing fault }
+{
+    match fault {
+        OpenFault::NotFound => true,
+        _ => false,
+    }
+}
+
+// A map of so many sectors, of which none was read before.
+fn new_map<'a>(alloc: Global, sectors: u64) -> Result<Map, PassFault<'a>>
+    requires { sectors ≤ 2 ^ 54 }
+    ensures ok { IfOk result (λ map. marks map ≡ replicate sectors false) }
+    ensures err { IfErr result (λ fault. fault ≡ pass_fault.NoMemory) }
+{
+    match Map::filled(alloc, sectors, false) {
+        Ok(map) => Ok(map),
+        Err(_) => Err(PassFault::NoMemory),
+    }
+}

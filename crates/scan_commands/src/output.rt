@@ -1,0 +1,35 @@
+//! The image to which a device is copied.
+ghost use Rattle.std.specs.Prelude.{◌≡◌, ◌≤◌, ◌<◌, length, true, IfOk, IfErr};
+ghost use Rattle.stack_rules.specs.Names.{mapped, size};
+ghost use Rattle.stack_files.specs.NamedDevices.{FindsTo};
+ghost use Rattle.scan_commands.specs.Copies.{FailsTo};
+
+use crate::recovering_fault::RecoveringFault;
+use block_device::BlockDev;
+use image_files::{Images, OpenImage};
+use stack_config::DevId;
+use stack_engine::Stack;
+use stack_files::{NamedDevice, StackFile, open_device_and_output};
+use std::alloc::Global;
+
+/// A device of a stack file over the bindings, and beside it an image with room for all its sectors.
+pub(crate) fn open_with_room<'a, I: Images>(
+    alloc: Global,
+    images: &mut I,
+    file: StackFile<'a, '_>,
+    device: NamedDevice<'_>,
+    out: &'a str,
+) -> Result<(Stack<I::Dev>, DevId, OpenImage<I::Dev>), RecoveringFault<'a>>
+    ensures ok { IfOk result (FindsTo I.relations I.Dev.state images.old images.new file.entry device.entry out.now) }
+    ensures there { IfOk result (λ found. found.1.0 < length found.0.config.devices) }
+    ensures room { IfOk result (λ found. size found.0.config (mapped found.1.0) ≤ (I.Dev.state found.2.device).size) }
+    ensures writable { IfOk result (λ found. (I.Dev.state found.2.device).may_write ≡ true) }
+    ensures err { IfErr result (FailsTo I.relations I.Dev.state images.old images.new file.entry device.entry out.now) }
+{
+    let (stack, device, image) = open_device_and_output(alloc, images, file, device, out)?;
+    let needed = stack.config().sectors(device);
+    if image.device.sectors() < needed {
+        return Err(RecoveringFault::OutputTooSmall { needed });
+    }
+    Ok((stack, device, image))
+}

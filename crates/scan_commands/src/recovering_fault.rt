@@ -1,0 +1,59 @@
+//! Why a device isn't scanned or copied to its end, or not all of it is readable.
+ghost use Rattle.std.specs.Prelude.{◌≡◌};
+ghost use Rattle.scan_commands.specs.declared.recovering_fault.RecoveringFault.TheVariants as recovering_fault;
+
+use crate::rescue_fault::PassFault;
+use program_io::WriteFault;
+use stack_files::StackFault;
+use std::alloc::AllocError;
+
+/// Why a device isn't scanned or copied to its end, or not all of it is readable.
+#[derive(Clone, Copy, Debug, PartialEq, Eq)]
+pub enum RecoveringFault<'a> {
+    /// Memory ran out for the runs of a JSON object, or for the object.
+    NoMemory,
+    /// There is no such device.
+    Stack(StackFault<'a>),
+    /// The image to which a device is copied has fewer sectors than the device.
+    OutputTooSmall { needed: u64 },
+    /// The pass over the device ended early.
+    Pass(PassFault<'a>),
+    /// So many sectors of a device are readable, and so many are lost.
+    Lost { read: u64, lost: u64 },
+    /// Sectors of a device are lost, as the JSON object states.
+    LostAsSaid,
+    /// A line can't be written; the pass over the device was completed.
+    Write,
+}
+
+impl From<AllocError> for RecoveringFault<'_> {
+    ghost from_gives = { λ _ given. given ≡ recovering_fault.NoMemory };
+
+    fn from(_error: AllocError) -> Self {
+        RecoveringFault::NoMemory
+    }
+}
+
+impl<'a> From<StackFault<'a>> for RecoveringFault<'a> {
+    ghost from_gives = { λ fault given. given ≡ recovering_fault.Stack fault };
+
+    fn from(fault: StackFault<'a>) -> Self {
+        RecoveringFault::Stack(fault)
+    }
+}
+
+impl<'a> From<PassFault<'a>> for RecoveringFault<'a> {
+    ghost from_gives = { λ fault given. given ≡ recovering_fault.Pass fault };
+
+    fn from(fault: PassFault<'a>) -> Self {
+        RecoveringFault::Pass(fault)
+    }
+}
+
+impl From<WriteFault> for RecoveringFault<'_> {
+    ghost from_gives = { λ _ given. given ≡ recovering_fault.Write };
+
+    fn from(_fault: WriteFault) -> Self {
+        RecoveringFault::Write
+    }
+}

@@ -1,0 +1,58 @@
+//! What `scan` and `copy` report of a device that was read whole.
+ghost use Rattle.std.specs.Prelude.{IfErr, OnOk};
+ghost use Rattle.program_io.specs.Counted.{Writes};
+ghost use Rattle.scan_commands.specs.Counting.{EndsCounts, TellsCountsBy, counts_text};
+ghost use Rattle.scan_commands.specs.Reports.{EndsObject, TellsObject};
+
+use crate::lost_json::lost_line;
+use crate::recovering_fault::RecoveringFault;
+use program_io::{Counted, WriteFault};
+use stack_recovery::{Counts, KeptRuns};
+use std::alloc::Global;
+use std::io::Write;
+
+/// Prints the counts if no sector is lost; else they are a fault. After a line that couldn't be written it prints nothing.
+pub(crate) fn tell_counts<'a, W: Write>(
+    counts: Counts,
+    writer: &mut Counted<W>,
+) -> Result<(), RecoveringFault<'a>>
+    ensures ok { OnOk result (TellsCountsBy W.contents writer.old writer.new counts) }
+    ensures err { IfErr result (EndsCounts W.contents writer.old writer.new counts) }
+{
+    if writer.failed() {
+        return Err(RecoveringFault::Write);
+    }
+    let Counts { read, lost } = counts;
+    if lost > 0 {
+        return Err(RecoveringFault::Lost { read, lost });
+    }
+    Ok(say_counts(writer, read, lost)?)
+}
+
+/// `read N lost M`
+pub fn say_counts<W: Write>(writer: &mut Counted<W>, read: u64, lost: u64) -> Result<(), WriteFault>
+    ensures { Writes W.contents writer.old writer.new (counts_text read lost) result }
+{
+    writer.print(format_args!("read {read} lost {lost}\n"))
+}
+
+/// Prints one JSON object of the counts and of the runs that were kept; if sectors are lost, that is a fault.
+pub(crate) fn tell_object<'a, W: Write>(
+    alloc: Global,
+    kept: &KeptRuns,
+    counts: Counts,
+    writer: &mut Counted<W>,
+) -> Result<(), RecoveringFault<'a>>
+    ensures ok { OnOk result (TellsObject W.contents kept.now counts writer.old writer.new) }
+    ensures err { IfErr result (EndsObject W.contents kept.now counts writer.old writer.new) }
+{
+    if kept.refused {
+        return Err(RecoveringFault::NoMemory);
+    }
+    let line = lost_line(alloc, kept.runs.as_slice(), counts)?;
+    writer.put(line.as_bytes())?;
+    if counts.lost > 0 {
+        return Err(RecoveringFault::LostAsSaid);
+    }
+    Ok(())
+}

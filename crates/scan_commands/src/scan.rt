@@ -1,0 +1,70 @@
+//! Which sectors of a device are lost.
+ghost use Rattle.std.specs.Prelude.{OnOk, IfErr};
+ghost use Rattle.image_files.specs.Opener.{calls};
+ghost use Rattle.scan_commands.specs.Passes.{CanPass};
+ghost use Rattle.scan_commands.specs.Counting.{EndsPrintedBy, PrintedBy};
+ghost use Rattle.scan_commands.specs.Scans.{EndsReporting, IsScanEnd, PrintsScan, ReportsScan, words_to_scan};
+
+use crate::map_file::map_at;
+use crate::passing::{Passing, run_pass};
+use crate::recovering_fault::RecoveringFault;
+use crate::report::{tell_counts, tell_object};
+use block_device::BlockDev;
+use device_adapters::Progress;
+use image_files::Images;
+use program_io::Counted;
+use rescue_map::MapKind;
+use stack_files::{NamedDevice, StackFile, open_device};
+use stack_recovery::{Discard, KeptRuns};
+use std::alloc::Global;
+use std::io::Write;
+
+/// The device that is scanned, the path of its map file, if it has one, and whether the report is one JSON object.
+#[derive(Clone, Copy, Debug, PartialEq, Eq)]
+pub struct ScanPlan<'a> {
+    pub device: NamedDevice<'a>,
+    pub map: Option<&'a str>,
+    pub json: bool,
+}
+
+/// Reads a device of a stack file over the bindings, and reports which sectors are lost. With a map file it reads the sectors
+/// that the map doesn't mark as read, and keeps the map, as a scan's.
+pub fn scan_device<'a, I: Images, W: Write, P: Progress>(
+    alloc: Global,
+    images: &mut I,
+    file: StackFile<'a, '_>,
+    plan: ScanPlan<'a>,
+    writer: &mut Counted<W>,
+    progress: &mut P,
+) -> Result<(), RecoveringFault<'a>>
+    ensures ok { OnOk result (PrintedBy W.contents writer.old writer.new (PrintsScan (calls I.relations I.Dev.state images.old images.new) (words_to_scan file.entry plan.entry))) }
+    ensures err { IfErr result (EndsPrintedBy W.contents writer.old writer.new (IsScanEnd (calls I.relations I.Dev.state images.old images.new) (words_to_scan file.entry plan.entry))) }
+{
+    let (stack, device) = open_device(alloc, images, file, plan.device)?;
+    let out = Discard::new(stack.config().sectors(device));
+    let mut passing = Passing { stack, device, out };
+    report_scan(alloc, images, &mut passing, plan, writer, progress)
+}
+
+// Scans an open device: prints each lost run as it is found, or keeps the runs for one JSON object.
+fn report_scan<'a, I: Images, D: BlockDev, W: Write, P: Progress>(
+    alloc: Global,
+    images: &mut I,
+    passing: &mut Passing<D, Discard>,
+    plan: ScanPlan<'a>,
+    writer: &mut Counted<W>,
+    progress: &mut P,
+) -> Result<(), RecoveringFault<'a>>
+    requires { CanPass ⟦<Discard as BlockDev>⟧.state passing.old }
+    ensures ok { OnOk result (ReportsScan I.relations I.Dev.state ⟦<Discard as BlockDev>⟧.state W.contents images.old images.new passing.old passing.new writer.old writer.new plan.entry) }
+    ensures err { IfErr result (EndsReporting I.relations I.Dev.state ⟦<Discard as BlockDev>⟧.state W.contents images.old images.new passing.old passing.new writer.old writer.new plan.entry) }
+{
+    let map = map_at(plan.map, MapKind::Scan);
+    if plan.json {
+        let mut kept = KeptRuns::new(alloc);
+        let found = run_pass(alloc, images, passing, map, &mut kept, progress)?;
+        return tell_object(alloc, &kept, found, writer);
+    }
+    let counts = run_pass(alloc, images, passing, map, writer, progress)?;
+    tell_counts(counts, writer)
+}

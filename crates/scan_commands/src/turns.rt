@@ -1,0 +1,155 @@
+//! A mapped device is read in turns, after each of which its map file is replaced.
+ghost use Rattle.std.specs.Prelude.{◌≡◌, ◌+◌, ◌≤◌, ◌<◌, length, IsTrue, IfOk, IfErr, OnOk};
+ghost use Rattle.rescue_map.specs.Maps.{marks};
+ghost use Rattle.rescue_map.specs.MapText.{map_text};
+ghost use Rattle.stack_rules.specs.Names.{mapped, size};
+ghost use Rattle.stack_recovery.specs.Recoveries.{parties};
+ghost use Rattle.scan_commands.specs.Turns.{IsSpan, LeavesMap, RescuesByFile, StopsByFile, StopsTurn, TakesTurn, asked_marks, tried_before, turn_len};
+
+use crate::map_file::{MapFile, MapPath};
+use crate::rescue_fault::PassFault;
+use block_device::{BlockDev, SyncDev};
+use device_adapters::Progress;
+use image_files::Images;
+use rescue_map::{Map, Span, Totals, is_had, print_map, splice, totals_of};
+use stack_config::DevId;
+use stack_engine::Stack;
+use stack_recovery::{Listing, rescue};
+use std::alloc::{AllocError, Global};
+
+const LEAST_TURN: u64 = 131_072;
+
+const MOST_TURNS: u64 = 256;
+
+// How many sectors of a device of so many are read in a turn.
+#[tactic(auto, unfolding(crate::specs::Turns::turn_len))]
+fn turn_len(sectors: u64) -> u64
+    ensures value { result ≡ turn_len sectors }
+    ensures some { 1 ≤ result }
+{
+    LEAST_TURN.max(sectors / MOST_TURNS)
+}
+
+// The map by which only sectors of a span are read: all others count as read before.
+fn asked(alloc: Global, map: &Map, span: Span, sectors: u64) -> Result<Map, AllocError>
+    requires map { length (marks map.now) ≡ sectors }
+    requires inside { span.first + span.count ≤ sectors }
+    ensures { IfOk result (λ runs. marks runs ≡ asked_marks span sectors map.now) }
+{
+    // How many sectors a map can have is learned from a call.
+    let _runs = map.runs();
+    let all = Map::filled(alloc, sectors, true)?;
+    splice(alloc, &all, map, span, sectors)
+}
+
+// Up to which sector a map was tried, or all of it.
+fn tried_before(sectors: u64, at: u64) -> Option<u64>
+    ensures { result ≡ tried_before sectors at }
+{
+    if at == sectors { None } else { Some(at) }
+}
+
+// Replaces the map file by a map that was tried up to a sector, or all of it.
+fn write_map<'a, I: Images>(
+    alloc: Global,
+    images: &mut I,
+    file: MapPath<'_>,
+    map: &Map,
+    tried: Option<u64>,
+) -> Result<(), PassFault<'a>>
+    ensures ok { OnOk result (I.relations.replaces images.old file.entry.path.now (map_text file.entry.kind tried map.now) (Ok tt) images.new) }
+    ensures err { IfErr result (LeavesMap I.relations.replaces file.entry images.old tried map.now images.new) }
+{
+    let text = print_map(alloc, file.kind, map, tried)?;
+    Ok(images.replace(file.path, text.as_slice())?)
+}
+
+/// A turn: its sectors, the map before it, and the map by which its sectors are read.
+#[derive(Clone, Copy)]
+struct NextTurn<'a> {
+    span: Span,
+    sectors: u64,
+    file: MapPath<'a>,
+    map: &'a Map,
+    wanted: &'a Map,
+}
+
+// Reads the sectors, syncs the other device, and replaces the map file.
+fn take_turn<'a, I: Images, D: BlockDev, O: SyncDev, L: Listing, P: Progress>(
+    alloc: Global,
+    images: &mut I,
+    stack: &mut Stack<D>,
+    d: DevId,
+    out: &mut O,
+    turn: NextTurn<'_>,
+    listing: &mut L,
+    progress: &mut P,
+) -> Result<Map, PassFault<'a>>
+    requires device { d.0 < length stack.old.config.devices }
+    requires next { IsSpan turn.sectors turn.span.first turn.span (turn.span.first + turn.span.count) }
+    requires all { turn.sectors ≡ size stack.old.config (mapped d.0) }
+    requires map { length (marks turn.map.now) ≡ turn.sectors }
+    requires wanted { marks turn.wanted.now ≡ asked_marks turn.span turn.sectors turn.map.now }
+    requires room { size stack.old.config (mapped d.0) ≤ (O.state out.old).size }
+    requires allowed { IsTrue (O.state out.old).may_write }
+    ensures ok { IfOk result (TakesTurn I.relations.replaces O.state L.told d.0 turn.entry images.old (parties stack.old out.old listing.old) images.new (parties stack.new out.new listing.new)) }
+    ensures sectors { IfOk result (λ map. length (marks map) ≡ turn.entry.sectors) }
+    ensures err { IfErr result (StopsTurn I.relations.replaces O.state L.told d.0 turn.entry images.old (parties stack.old out.old listing.old) images.new (parties stack.new out.new listing.new)) }
+{
+    let rescued = rescue(alloc, stack, d, out, turn.wanted, listing, progress)?;
+    out.sync()?;
+    let map = splice(alloc, turn.map, &rescued.map, turn.span, turn.sectors)?;
+    let tried = tried_before(turn.sectors, turn.span.first + turn.span.count);
+    write_map(alloc, images, turn.file, &map, tried)?;
+    Ok(map)
+}
+
+/// Reads the sectors of a mapped device that a map doesn't mark as read, in turns of 64 MiB or of a 256th of the device. Each
+/// turn lists the longest runs of sectors that are lost by one fault, copies the readable sectors to the same offset of another
+/// device, which has room for all, and syncs that device; then it replaces the map file by the map of what was read and lost so
+/// far. So an interruption loses one turn.
+///
+/// # Errors
+///
+/// `NoMemory`, `Output` if the other device fails, or `Unwritten` if the map file can't be replaced. The map file is then that
+/// of the turns before.
+pub fn rescue_in_turns<'a, I: Images, D: BlockDev, O: SyncDev, L: Listing, P: Progress>(
+    alloc: Global,
+    images: &mut I,
+    stack: &mut Stack<D>,
+    d: DevId,
+    out: &mut O,
+    kept: MapFile<'_>,
+    listing: &mut L,
+    progress: &mut P,
+) -> Result<Totals, PassFault<'a>>
+    requires device { d.0 < length stack.old.config.devices }
+    requires fits { length (marks kept.map) ≡ size stack.old.config (mapped d.0) }
+    requires room { size stack.old.config (mapped d.0) ≤ (O.state out.old).size }
+    requires allowed { IsTrue (O.state out.old).may_write }
+    ensures ok { IfOk result (RescuesByFile I.relations.replaces O.state L.told d.0 kept.entry images.old (parties stack.old out.old listing.old) images.new (parties stack.new out.new listing.new)) }
+    ensures err { IfErr result (StopsByFile I.relations.replaces O.state L.told d.0 kept.entry images.old (parties stack.old out.old listing.old) images.new (parties stack.new out.new listing.new)) }
+{
+    let sectors = stack.config().sectors(d);
+    let MapFile { file, mut map } = kept;
+    let mut at = 0;
+    'turns: while at < sectors {
+        let count = turn_len(sectors).min(sectors - at);
+        let span = Span { first: at, count };
+        let wanted = asked(alloc, &map, span, sectors)?;
+        if is_had(&wanted) {
+            at += count;
+        } else {
+            let turn = NextTurn {
+                span,
+                sectors,
+                file,
+                map: &map,
+                wanted: &wanted,
+            };
+            map = take_turn(alloc, images, stack, d, out, turn, listing, progress)?;
+            at += count;
+        }
+    }
+    Ok(totals_of(&map))
+}

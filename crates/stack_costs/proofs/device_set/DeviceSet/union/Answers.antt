@@ -1,5 +1,0 @@
-use Rattle.stack_costs.proofs.DeviceSetLemmas.{bit_or-at}
-use Rattle.stack_costs.proofs.device_set.DeviceSet.union.Goals as goal
-
-pub returns : goal.returns
-returns c = λ d. bit_or-at c.args.self.bits c.args.other.bits d

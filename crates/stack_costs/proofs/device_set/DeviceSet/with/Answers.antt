@@ -1,5 +1,0 @@
-use Rattle.stack_costs.proofs.DeviceSetLemmas.{bit_set-at}
-use Rattle.stack_costs.proofs.device_set.DeviceSet.with.Goals as goal
-
-pub returns : goal.returns
-returns c = λ e. bit_set-at c.args.self.bits c.args.d e c.requires

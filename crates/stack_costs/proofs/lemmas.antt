@@ -1,4 +1,0 @@
--- What callers may cite.
-pub mod DepthLemmas
-pub mod CappedLemmas
-pub mod CostLemmas

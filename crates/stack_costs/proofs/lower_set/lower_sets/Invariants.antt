@@ -1,5 +1,0 @@
-use Rattle.stack_costs.proofs.LowerSetLemmas.{SetsSoFar}
-use Rattle.stack_costs.proofs.lower_set.lower_sets.Given as goal
-
-abbrev pub invariant-loop-device : goal.invariant-loop-device
-invariant-loop-device l = SetsSoFar l.lowers l.device-index l.sets.items

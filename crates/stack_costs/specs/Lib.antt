@@ -1,3 +1,0 @@
-pub mod DeviceSet
-pub mod Depths
-pub mod Costs

@@ -1,8 +1,0 @@
-use Rattle.stack_rules.specs.Names.{mapped}
-use Rattle.stack_meaning.specs.Meaning.{said_at}
-use Rattle.stack_extents.specs.Extents.{IgnoresZeros, IsToldExtent}
-use Rattle.stack_extents.proofs.extent.extent_at.Given as goal
-
--- the runs so far are one extent
-abbrev pub invariant-loop-run : goal.invariant-loop-run
-invariant-loop-run l = record { extent : IsToldExtent (said_at l.config (mapped l.d.0)) (IgnoresZeros l.config (mapped l.d.0)) l.first l.most l.extent }

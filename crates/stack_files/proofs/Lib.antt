@@ -1,0 +1,6 @@
+pub mod LeafClosingLemmas
+pub mod OpeningLemmas
+pub mod ClosingLemmas
+pub mod ConfigurationLemmas
+pub mod DeviceLemmas
+pub mod StackLemmas

@@ -1,0 +1,55 @@
+use Rattle.std.proofs.Common.{◌++◌, [], ◌∷◌, refl, inr}
+use Rattle.image_files.specs.FileUses.{image_use, part_use}
+use Rattle.stack_files.specs.declared.opening_fault.OpeningFault.TheVariants.{NoMemory}
+use Rattle.command_line.specs.PartBindings.{part_record}
+use Rattle.stack_files.specs.Bindings.{device_part}
+use Rattle.stack_files.specs.Openings.{part_ending}
+use Rattle.stack_files.proofs.OpeningLemmas.{err-from, part-refused}
+use Rattle.stack_files.proofs.leaves.open_backing.Goals as goal
+
+pub returns-in_err-push-in-File-clause-err : goal.returns-in_err-push-in-File-clause-err
+returns-in_err-push-in-File-clause-err g c =
+    err-from c.from_residual-in_err-push-in-File.result _ NoMemory c.from_residual-in_err-push-in-File.ensures.1
+    (inr (
+      c.in_ok-image-in-File.image.device,
+      c.args.files.now.items ++ image_use c.in-File.writable c.in_ok-image-in-File.image ∷ [],
+      rw c.in-File.is (record { image = c.in_ok-image-in-File.image; opened = rw c.as_slice.ensures.value at c.in_ok-image-in-File.ensures.ok; is = refl; more = refl }),
+    ))
+
+pub returns-in_ok-push-in-File-clause-ok : goal.returns-in_ok-push-in-File-clause-ok
+returns-in_ok-push-in-File-clause-ok g c =
+    rw c.in-File.is (record {
+      image = c.in_ok-image-in-File.image;
+      opened = rw c.as_slice.ensures.value at c.in_ok-image-in-File.ensures.ok;
+      is = refl;
+      more = c.in_ok-push-in-File.ensures.items;
+    })
+
+pub returns-in_err-image-in-Part-clause-err : goal.returns-in_err-image-in-Part-clause-err
+returns-in_err-image-in-Part-clause-err g c =
+    let refused = rw (c.as_slice-in-Part.ensures.value, c.device_part-part.ensures) at c.in_err-image-in-Part.ensures.err in
+    err-from c.from_residual-in_err-image-in-Part.result _ (part_ending c.in_err-image-in-Part.field-0.0) c.from_residual-in_err-image-in-Part.ensures.1
+    (rw c.in-Part.is (part-refused _ _ _ _ (part_record c.in-Part.part) c.in_err-image-in-Part.field-0.0 refused))
+
+pub returns-in_err-push-in-Part-clause-err : goal.returns-in_err-push-in-Part-clause-err
+returns-in_err-push-in-Part-clause-err g c =
+    err-from c.from_residual-in_err-push-in-Part.result _ NoMemory c.from_residual-in_err-push-in-Part.ensures.1
+    (inr (
+      c.in_ok-image-in-Part.image.device,
+      c.args.files.now.items ++ part_use c.in-Part.writable (device_part (part_record c.in-Part.part)) c.in_ok-image-in-Part.image ∷ [],
+      rw c.in-Part.is (record {
+        image = c.in_ok-image-in-Part.image;
+        opened = rw (c.as_slice-in-Part.ensures.value, c.device_part-part.ensures) at c.in_ok-image-in-Part.ensures.ok;
+        is = refl;
+        more = refl;
+      }),
+    ))
+
+pub returns-in_ok-push-in-Part-clause-ok : goal.returns-in_ok-push-in-Part-clause-ok
+returns-in_ok-push-in-Part-clause-ok g c =
+    rw c.in-Part.is (record {
+      image = c.in_ok-image-in-Part.image;
+      opened = rw (c.as_slice-in-Part.ensures.value, c.device_part-part.ensures) at c.in_ok-image-in-Part.ensures.ok;
+      is = refl;
+      more = rw c.device_part-part.ensures at c.in_ok-push-in-Part.ensures.items;
+    })

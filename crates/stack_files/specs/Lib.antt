@@ -1,0 +1,9 @@
+pub mod Bindings
+pub mod Openings
+pub mod OpenStacks
+pub mod BareLeaves
+pub mod Closings
+pub mod Configuration
+pub mod Endings
+pub mod NamedDevices
+pub mod StacksOfTexts

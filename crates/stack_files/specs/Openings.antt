@@ -1,0 +1,105 @@
+-- How a command ends where what it names isn't opened or read.
+use Rattle.std.specs.Global.{Global}
+use Rattle.std.specs.Prelude.{◌≡◌, ◌⊎◌, ℕ, ◌+◌, ◌*◌, ◌^◌, ◌<◌, ◌≤◌, Bool, List, [], ◌∷◌, ◌++◌, length, map, Vec}
+use Rattle.block_device.specs.Device.{Device}
+use Rattle.command_line.specs.Bindings.{BackingRecord, BindingRecord, backing_record, binding_record, file, part, ramp, zeros}
+use Rattle.command_line.specs.declared.bindings.Backing.{Backing}
+use Rattle.command_line.specs.declared.bindings.Binding.{Binding}
+use Rattle.image_files.specs.Apart.{RefusesApart}
+use Rattle.image_files.specs.declared.file_use.FileUse.{FileUse}
+use Rattle.image_files.specs.declared.images.FileText.{FileText}
+use Rattle.image_files.specs.declared.opening.UnopenedFile.{UnopenedFile}
+use Rattle.image_files.specs.Opened.{RefusesText, TellsFile}
+use Rattle.image_files.specs.declared.parts.UnopenedPart.{UnopenedPart}
+use Rattle.image_files.specs.declared.parts.UnopenedPart.TheVariants as unopened_part
+use Rattle.image_files.specs.Opener.{Calls, Opener, calls}
+use Rattle.image_files.specs.OpenParts.{RefusesPart}
+use Rattle.stack_files.specs.declared.opening_fault.OpeningFault.{OpeningFault}
+use Rattle.stack_files.specs.declared.opening_fault.OpeningFault.TheVariants.{NoMemory, Open, Outside, TooLong}
+use Rattle.stack_files.specs.Bindings.{OpensBacking, OpensEach, backings_of, device_part}
+
+-- a part of a file that isn't opened
+abbrev pub part_ending : UnopenedPart → OpeningFault
+part_ending (unopened_part.File unopened) = Open unopened
+part_ending (unopened_part.Outside path) = Outside path
+
+-- a file isn't opened or told, as is said of it
+abbrev pub IsFileUnopened : (UnopenedFile → Type 0) → OpeningFault → Type 0
+IsFileUnopened Refused (Open unopened) = Refused unopened
+IsFileUnopened Refused fault = ⊥
+
+-- the text under STACK's path was told, of at most 1 MiB
+pub record TellsStack {S D : Type 0} (w : Calls S D) (path : List ℕ) (text : FileText) : Type 0 where
+  pub told : TellsFile w path (2 ^ 20 + 1) text
+  pub short : length text.bytes.items ≤ 2 ^ 20
+
+-- it has more
+pub record TellsLongText {S D : Type 0} (w : Calls S D) (path : List ℕ) : Type 0 where
+  pub text : FileText
+  pub told : TellsFile w path (2 ^ 20 + 1) text
+  pub long : 2 ^ 20 < length text.bytes.items
+
+-- or it wasn't told
+abbrev pub IsTextEnd : {S D : Type 0} → Calls S D → List ℕ → OpeningFault → Type 0
+IsTextEnd w path TooLong = TellsLongText w path
+IsTextEnd w path fault = IsFileUnopened (RefusesText w path (2 ^ 20 + 1)) fault
+
+-- one sector more than a write may have, in bytes
+abbrev pub most_source : ℕ
+most_source = 2049 * 512
+
+-- nothing was opened or made
+abbrev pub IsIdle : {S D : Type 0} → Calls S D → Type 0
+IsIdle w = w.new ≡ w.old
+
+-- the image behind a name, or the part of one, isn't opened
+abbrev pub RefusesBacking : {S D : Type 0} → Calls S D → List FileUse → BackingRecord → OpeningFault → Type 0
+RefusesBacking w files (file path writable) (Open unopened) = RefusesApart w files path writable unopened
+RefusesBacking w files (part path writable at) (Open unopened) = RefusesPart w files path writable (device_part at) (unopened_part.File unopened)
+RefusesBacking w files (part path writable at) (Outside of) = RefusesPart w files path writable (device_part at) (unopened_part.Outside of)
+RefusesBacking w files backing fault = ⊥
+
+-- that, or memory ran out before or behind it
+abbrev pub IsBackingEnd : {S D : Type 0} → Calls S D → List FileUse → BackingRecord → OpeningFault → Type 0
+IsBackingEnd {S} {D} w files backing NoMemory = IsIdle w ⊎ ((device : D) × (files' : List FileUse) × OpensBacking w files backing device files')
+IsBackingEnd w files backing fault = RefusesBacking w files backing fault
+
+-- the first of them were opened, and the image behind them wasn't
+pub record RefusesBinding {S D : Type 0} (w : Calls S D) (files : List FileUse) (backings : List BackingRecord) (fault : OpeningFault) : Type 0 where
+  pub first : List BackingRecord
+  pub backing : BackingRecord
+  pub more : List BackingRecord
+  pub devices : List D
+  pub files' : List FileUse
+  pub between : S
+  pub are : backings ≡ first ++ backing ∷ more
+  pub opened : OpensEach (record w { new = between }) files first devices files'
+  pub refused : RefusesBacking (record w { old = between }) files' backing fault
+
+-- the first of them were opened, and then memory ran out
+pub record RunsOut {S D : Type 0} (w : Calls S D) (files : List FileUse) (backings : List BackingRecord) : Type 0 where
+  pub first : List BackingRecord
+  pub more : List BackingRecord
+  pub devices : List D
+  pub files' : List FileUse
+  pub are : backings ≡ first ++ more
+  pub opened : OpensEach w files first devices files'
+
+-- the images of some bindings aren't all opened
+abbrev pub IsBindingEnd : {S D : Type 0} → Calls S D → List FileUse → List BindingRecord → OpeningFault → Type 0
+IsBindingEnd w files bindings NoMemory = RunsOut w files (backings_of bindings)
+IsBindingEnd w files bindings fault = RefusesBinding w files (backings_of bindings) fault
+
+-- ---- the same by the opener, before and after its calls, and by what the program names
+
+-- what is written to a device isn't told
+abbrev pub RefusesSource : {S D : Type 0} → Opener S D → (D → Device) → S → S → List ℕ → UnopenedFile → Type 0
+RefusesSource relations state old new path = RefusesText (calls relations state old new) path most_source
+
+-- the device behind a name isn't opened
+abbrev pub FailsToBack : {S D : Type 0} → Opener S D → (D → Device) → S → S → Vec FileUse Global → Backing → OpeningFault → Type 0
+FailsToBack relations state old new files backing = IsBackingEnd (calls relations state old new) files.items (backing_record backing)
+
+-- one of the bindings isn't
+abbrev pub FailsToBindAll : {S D : Type 0} → Opener S D → (D → Device) → S → S → List FileUse → List Binding → OpeningFault → Type 0
+FailsToBindAll relations state old new files bindings = IsBindingEnd (calls relations state old new) files (map binding_record bindings)

@@ -1,0 +1,61 @@
+-- The stack that a text makes of open leaves, and of a stack file's bindings.
+use Rattle.std.specs.Prelude.{◌≡◌, ◌⊎◌, ℕ, map, Ok, Err}
+use Rattle.block_device.specs.Device.{Device}
+use Rattle.image_files.specs.Opener.{Calls, Opener, calls}
+use Rattle.stack_rules.specs.Records.{Configuration}
+use Rattle.stack_engine.specs.Pieces.{stack_over}
+use Rattle.stack_engine.specs.Stacks.{StackRecord}
+use Rattle.stack_files.specs.declared.stack_file.OpenStack.{OpenStack}
+use Rattle.stack_files.specs.OpenStacks.{FailsToOpen, OpensStack, StackWords, stack_words}
+use Rattle.stack_files.specs.declared.stack_file.StackFile.{StackFile}
+use Rattle.stack_files.specs.declared.stack_fault.StackFault.{StackFault}
+use Rattle.stack_files.specs.declared.stack_fault.StackFault.TheVariants.{NoMemory}
+use Rattle.stack_files.specs.Configuration.{configuration_of}
+use Rattle.stack_files.specs.Endings.{IsOpeningEnd}
+
+-- the stack of the configuration that the text makes of the open leaves, over their devices, with a cache of so many hash
+-- blocks of which none is kept
+pub record IsStackOf {D : Type 0} (state : D → Device) (over : OpenStack D) (cache : ℕ) (stack : StackRecord) : Type 0 where
+  pub config : Configuration
+  pub makes : configuration_of over.leaves.items over.text.bytes.items ≡ Ok config
+  pub is : stack ≡ stack_over config (map state over.devices.items) cache
+
+-- the text makes none, or memory runs out
+abbrev pub FailsToLoad : {D : Type 0} → OpenStack D → StackFault → Type 0
+FailsToLoad over fault = (configuration_of over.leaves.items over.text.bytes.items ≡ Err fault) ⊎ (fault ≡ NoMemory)
+
+-- ---- of a stack file
+
+-- the configuration that STACK's text makes of the bindings' leaves
+pub record Configures {S D : Type 0} (w : Calls S D) (words : StackWords) (config : Configuration) : Type 0 where
+  pub over : OpenStack D
+  pub opened : OpensStack w words over
+  pub makes : configuration_of over.leaves.items over.text.bytes.items ≡ Ok config
+
+-- the stack that it makes of them
+pub record Loads {S D : Type 0} (w : Calls S D) (words : StackWords) (cache : ℕ) (stack : StackRecord) : Type 0 where
+  pub over : OpenStack D
+  pub opened : OpensStack w words over
+  pub made : IsStackOf w.state over cache stack
+
+-- what is named isn't opened, or this is said of what is open
+abbrev pub FailsBehind : {S D : Type 0} → Calls S D → StackWords → (OpenStack D → StackFault → Type 0) → StackFault → Type 0
+FailsBehind {S} {D} w words Fails fault =
+    IsOpeningEnd (FailsToOpen w words) fault ⊎ ((over : OpenStack D) × OpensStack w words over × Fails over fault)
+
+abbrev pub FailsToLoadFile : {S D : Type 0} → Calls S D → StackWords → StackFault → Type 0
+FailsToLoadFile w words fault = FailsBehind w words FailsToLoad fault
+
+-- ---- the same by the opener, before and after its calls, and by the words of the program
+
+-- the configuration that the text makes
+abbrev pub ConfiguresBy : {S D : Type 0} → Opener S D → (D → Device) → S → S → StackFile → Configuration → Type 0
+ConfiguresBy relations state old new file = λ config. Configures (calls relations state old new) (stack_words file) config
+
+-- the stack that it makes
+abbrev pub LoadsBy : {S D : Type 0} → Opener S D → (D → Device) → S → S → StackFile → ℕ → StackRecord → Type 0
+LoadsBy relations state old new file cache = Loads (calls relations state old new) (stack_words file) cache
+
+-- it makes none
+abbrev pub FailsLoading : {S D : Type 0} → Opener S D → (D → Device) → S → S → StackFile → StackFault → Type 0
+FailsLoading relations state old new file = FailsToLoadFile (calls relations state old new) (stack_words file)

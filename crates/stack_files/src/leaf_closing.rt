@@ -1,0 +1,33 @@
+//! Gives back what was opened.
+ghost use Rattle.stack_files.specs.Bindings.{ClosesAll, ClosesBy};
+
+use crate::part::device_part;
+use block_device::BlockDev;
+use command_line::{Backing, Binding};
+use image_files::Images;
+
+// The image of a binding. What is in memory alone is under no path.
+fn close_backing<I: Images>(images: &mut I, backing: Backing<'_>, device: I::Dev)
+    ensures { ClosesBy I.relations I.Dev.state images.old images.new backing.entry device }
+{
+    match backing {
+        Backing::File { path, writable: _ } => images.close(path, device),
+        Backing::Part {
+            path,
+            writable: _,
+            part,
+        } => images.close_part(path, device_part(part), device),
+        Backing::Zeros(_) | Backing::Ramp(_) => drop(device),
+    }
+}
+
+/// Gives the images of the bindings back, from the last one to the first.
+pub fn close_each<I: Images>(images: &mut I, bindings: &[Binding<'_>], mut devices: Vec<I::Dev>)
+    ensures { ClosesAll I.relations I.Dev.state images.old images.new bindings.now devices.items }
+{
+    'devices: while let Some(device) = devices.pop() {
+        if let Some(binding) = bindings.get(devices.len()) {
+            close_backing(images, binding.backing, device);
+        }
+    }
+}

@@ -1,0 +1,107 @@
+//! The leaves of the bindings that a command line names, opened in their order.
+ghost use Rattle.std.specs.Prelude.{◌≡◌, ◌++◌, [], ◌∷◌, map, IfOk, IfErr, OnOk};
+ghost use Rattle.stack_meaning.specs.Leaves.{ServeLeaves};
+ghost use Rattle.stack_files.specs.Bindings.{Backs, BindsAll, names_in};
+ghost use Rattle.stack_files.specs.Openings.{FailsToBack, FailsToBindAll};
+
+use crate::opening_fault::OpeningFault;
+use crate::part::device_part;
+use block_device::{BlockDev, MemoryDev};
+use command_line::{Backing, Binding};
+use image_files::{FileUse, Images, open_apart, open_part};
+use stack_config::Leaf;
+use std::alloc::{AllocError, Global};
+
+/// Leaves, and their devices in the same order.
+#[derive(Drop)]
+pub struct OpenLeaves<D> {
+    pub leaves: Vec<Leaf>,
+    pub devices: Vec<D>,
+}
+
+impl<D: BlockDev + Drop> OpenLeaves<D> {
+    fn new(alloc: Global) -> OpenLeaves<D>
+        ensures served { ServeLeaves result.leaves.items (map D.state result.devices.items) }
+        ensures none { (result.leaves.items ≡ []) × (result.devices.items ≡ []) }
+    {
+        OpenLeaves {
+            leaves: Vec::new(alloc),
+            devices: Vec::new(alloc),
+        }
+    }
+
+    // Adds a device under a name.
+    fn bind(&mut self, alloc: Global, name: &str, device: D) -> Result<(), AllocError>
+        requires { ServeLeaves self.old.leaves.items (map D.state self.old.devices.items) }
+        ensures served { OnOk result (ServeLeaves self.new.leaves.items (map D.state self.new.devices.items)) }
+        ensures names { OnOk result (names_in self.new.leaves.items ≡ names_in self.old.leaves.items ++ name.now ∷ []) }
+        ensures devices { OnOk result (self.new.devices.items ≡ self.old.devices.items ++ device ∷ []) }
+    {
+        let leaf = Leaf {
+            name: Vec::from_slice(alloc, name.as_bytes())?,
+            sectors: device.sectors(),
+            writable: device.writable(),
+        };
+        self.leaves.push(leaf)?;
+        self.devices.push(device)?;
+        Ok(())
+    }
+}
+
+// Opens the image of a binding, or a part of one, or makes its sectors. A sector that is open already is refused where one
+// of the two may be written: the engine takes leaves for devices of their own.
+fn open_backing<'a, I: Images>(
+    alloc: Global,
+    images: &mut I,
+    files: &mut Vec<FileUse>,
+    backing: Backing<'a>,
+) -> Result<I::Dev, OpeningFault<'a>>
+    ensures ok { IfOk result (Backs I.relations I.Dev.state images.old images.new files.old files.new backing.entry) }
+    ensures err { IfErr result (FailsToBack I.relations I.Dev.state images.old images.new files.old backing.entry) }
+{
+    match backing {
+        Backing::File { path, writable } => {
+            let image = open_apart(images, files.as_slice(), path, writable)?;
+            let id = image.id;
+            files.push(FileUse {
+                id,
+                writable,
+                part: None,
+            })?;
+            Ok(image.device)
+        }
+        Backing::Part {
+            path,
+            writable,
+            part,
+        } => {
+            let part = device_part(part);
+            let image = open_part(images, files.as_slice(), path, writable, part)?;
+            let id = image.id;
+            let part = Some(part);
+            files.push(FileUse { id, writable, part })?;
+            Ok(image.device)
+        }
+        Backing::Zeros(sectors) => Ok(I::of_memory(MemoryDev::zeros(alloc, sectors, true)?)),
+        Backing::Ramp(sectors) => Ok(I::of_memory(MemoryDev::ramp(alloc, sectors, true)?)),
+    }
+}
+
+/// The leaves and devices of the bindings, opened in their order beside these files.
+pub fn open_all<'a, I: Images>(
+    alloc: Global,
+    images: &mut I,
+    files: &[FileUse],
+    bindings: &[Binding<'a>],
+) -> Result<OpenLeaves<I::Dev>, OpeningFault<'a>>
+    ensures ok { IfOk result (BindsAll I.relations I.Dev.state images.old images.new files.now bindings.now) }
+    ensures err { IfErr result (FailsToBindAll I.relations I.Dev.state images.old images.new files.now bindings.now) }
+{
+    let mut open_leaves = OpenLeaves::new(alloc);
+    let mut open_files = Vec::from_slice(alloc, files)?;
+    'bindings: for binding in bindings {
+        let device = open_backing(alloc, images, &mut open_files, binding.backing)?;
+        open_leaves.bind(alloc, binding.name, device)?;
+    }
+    Ok(open_leaves)
+}

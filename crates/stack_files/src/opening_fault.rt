@@ -1,0 +1,55 @@
+//! Why what a command names isn't opened.
+ghost use Rattle.std.specs.Prelude.{◌≡◌};
+ghost use Rattle.stack_files.specs.declared.opening_fault.OpeningFault.TheVariants as opening_fault;
+ghost use Rattle.stack_files.specs.Openings.{part_ending};
+
+use image_files::{UnopenedFile, UnopenedPart};
+use std::alloc::{AllocError, AllocFailed};
+
+/// Why what a command names isn't opened.
+#[derive(Clone, Copy, Debug, PartialEq, Eq)]
+pub enum OpeningFault<'a> {
+    /// Memory ran out.
+    NoMemory,
+    /// A stack file has more than 1 MiB.
+    TooLong,
+    /// A file isn't opened, or can't be read.
+    Open(UnopenedFile<'a>),
+    /// A binding's part isn't inside the file under this path.
+    Outside(&'a str),
+}
+
+impl From<AllocError> for OpeningFault<'_> {
+    ghost from_gives = { λ _ fault. fault ≡ opening_fault.NoMemory };
+
+    fn from(_error: AllocError) -> Self {
+        OpeningFault::NoMemory
+    }
+}
+
+impl<T: Drop> From<AllocFailed<T>> for OpeningFault<'_> {
+    ghost from_gives = { λ _ fault. fault ≡ opening_fault.NoMemory };
+
+    fn from(_refused: AllocFailed<T>) -> Self {
+        OpeningFault::NoMemory
+    }
+}
+
+impl<'a> From<UnopenedFile<'a>> for OpeningFault<'a> {
+    ghost from_gives = { λ file given. given ≡ opening_fault.Open file };
+
+    fn from(file: UnopenedFile<'a>) -> Self {
+        OpeningFault::Open(file)
+    }
+}
+
+impl<'a> From<UnopenedPart<'a>> for OpeningFault<'a> {
+    ghost from_gives = { λ unopened given. given ≡ part_ending unopened };
+
+    fn from(unopened: UnopenedPart<'a>) -> Self {
+        match unopened {
+            UnopenedPart::File(file) => OpeningFault::Open(file),
+            UnopenedPart::Outside(path) => OpeningFault::Outside(path),
+        }
+    }
+}

@@ -1,0 +1,68 @@
+//! Stacks of configurations, with a cache of so many hash blocks.
+ghost use Rattle.std.specs.Prelude.{◌≡◌, ◌≤◌, ◌^◌, length, map, IfOk, IfErr};
+ghost use Rattle.stack_meaning.specs.Leaves.{ServeLeaves};
+ghost use Rattle.stack_files.specs.BareLeaves.{FailsStanding, StandsBy};
+ghost use Rattle.stack_files.specs.StacksOfTexts.{FailsLoading, FailsToLoad, IsStackOf, LoadsBy};
+
+use crate::configuration::configuration_of;
+use crate::leaves::{OpenLeaves, open_all};
+use crate::stack_fault::StackFault;
+use crate::stack_file::{OpenStack, StackFile, open_stack};
+use block_device::BlockDev;
+use command_line::Binding;
+use image_files::Images;
+use stack_engine::Stack;
+use stack_loader::config_over;
+use std::alloc::Global;
+
+/// The stack that a stack file's text makes of the leaves of its bindings.
+pub fn open_loaded<'a, I: Images>(
+    alloc: Global,
+    images: &mut I,
+    file: StackFile<'a, '_>,
+    cache: u32,
+) -> Result<Stack<I::Dev>, StackFault<'a>>
+    ensures ok { IfOk result (LoadsBy I.relations I.Dev.state images.old images.new file.entry cache) }
+    ensures err { IfErr result (FailsLoading I.relations I.Dev.state images.old images.new file.entry) }
+{
+    let over = open_stack(alloc, images, file)?;
+    load_stack(alloc, over, cache)
+}
+
+/// The stack of no mapped device over the leaves of bindings alone.
+pub fn open_leaves<'a, I: Images>(
+    alloc: Global,
+    images: &mut I,
+    bindings: &[Binding<'a>],
+    cache: u32,
+) -> Result<Stack<I::Dev>, StackFault<'a>>
+    ensures ok { IfOk result (StandsBy I.relations I.Dev.state images.old images.new bindings.now cache) }
+    ensures err { IfErr result (FailsStanding I.relations I.Dev.state images.old images.new bindings.now) }
+{
+    let OpenLeaves { leaves, devices } = open_all(alloc, images, &[], bindings)?;
+    let config = config_over(alloc, leaves)?;
+    Ok(Stack::over(alloc, config, devices, cache))
+}
+
+/// The stack that a text makes of the open leaves.
+pub fn load_stack<'a, D: BlockDev + Drop>(
+    alloc: Global,
+    over: OpenStack<D>,
+    cache: u32,
+) -> Result<Stack<D>, StackFault<'a>>
+    requires text { length over.text.bytes.items ≤ 2 ^ 20 }
+    requires served { ServeLeaves over.leaves.items (map D.state over.devices.items) }
+    ensures ok { IfOk result (IsStackOf D.state over cache) }
+    ensures err { IfErr result (FailsToLoad over) }
+{
+    let OpenStack {
+        text,
+        leaves,
+        devices,
+    } = over;
+    let config = match configuration_of(alloc, leaves, text.bytes.as_slice()) {
+        Ok(config) => config,
+        Err(fault) => return Err(fault),
+    };
+    Ok(Stack::over(alloc, config, devices, cache))
+}

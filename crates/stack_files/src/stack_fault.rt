@@ -1,0 +1,73 @@
+//! Why there is no stack, or no such device.
+ghost use Rattle.std.specs.Prelude.{◌≡◌};
+ghost use Rattle.stack_files.specs.declared.stack_fault.StackFault.TheVariants as stack_fault;
+ghost use Rattle.stack_files.specs.Endings.{load_ending, opening_ending, text_ending};
+
+use crate::opening_fault::OpeningFault;
+use dm_table::{ParseFault, TextFault};
+use image_files::UnopenedFile;
+use stack_loader::{ConfigFault, LoadFault, Refusal};
+
+/// Why a stack isn't made, or a device of it not found.
+#[derive(Clone, Copy, Debug, PartialEq, Eq)]
+pub enum StackFault<'a> {
+    /// Memory ran out.
+    NoMemory,
+    /// A stack file has more than 1 MiB.
+    TooLong,
+    /// A file isn't opened, or can't be read.
+    Open(UnopenedFile<'a>),
+    /// A binding's part isn't inside the file under this path.
+    Outside(&'a str),
+    /// The leaves aren't taken.
+    Leaves(ConfigFault),
+    /// The stack text has a fault.
+    Text(TextFault),
+    /// The stack isn't loaded.
+    Load(Refusal),
+    /// It has no device of that name.
+    NoSuchDevice,
+}
+
+impl<'a> From<OpeningFault<'a>> for StackFault<'a> {
+    ghost from_gives = { λ fault given. given ≡ opening_ending fault };
+
+    fn from(fault: OpeningFault<'a>) -> Self {
+        match fault {
+            OpeningFault::NoMemory => StackFault::NoMemory,
+            OpeningFault::TooLong => StackFault::TooLong,
+            OpeningFault::Open(file) => StackFault::Open(file),
+            OpeningFault::Outside(path) => StackFault::Outside(path),
+        }
+    }
+}
+
+impl From<ConfigFault> for StackFault<'_> {
+    ghost from_gives = { λ fault given. given ≡ stack_fault.Leaves fault };
+
+    fn from(fault: ConfigFault) -> Self {
+        StackFault::Leaves(fault)
+    }
+}
+
+impl From<ParseFault> for StackFault<'_> {
+    ghost from_gives = { λ fault given. given ≡ text_ending fault };
+
+    fn from(fault: ParseFault) -> Self {
+        match fault {
+            ParseFault::Text(fault) => StackFault::Text(fault),
+            ParseFault::NoMemory => StackFault::NoMemory,
+        }
+    }
+}
+
+impl From<LoadFault> for StackFault<'_> {
+    ghost from_gives = { λ fault given. given ≡ load_ending fault };
+
+    fn from(fault: LoadFault) -> Self {
+        match fault {
+            LoadFault::Refused(refusal) => StackFault::Load(refusal),
+            LoadFault::NoMemory => StackFault::NoMemory,
+        }
+    }
+}

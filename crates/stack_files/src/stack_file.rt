@@ -1,0 +1,137 @@
+//! What a command on a stack file opens, in this order: the stack text, what stands beside it, and the bindings.
+ghost use Rattle.std.specs.Prelude.{◌≡◌, false, true, IfOk, IfErr};
+ghost use Rattle.image_files.specs.FileUses.{text_use};
+ghost use Rattle.stack_files.specs.OpenStacks.{FailsByFile, FailsWith, FailsWithInput, FailsWithOutput, FailsWithSource, OpensByFile, OpensWith, OpensWithInput, OpensWithOutput, OpensWithSource};
+
+use crate::leaves::{OpenLeaves, open_all};
+use crate::opening_fault::OpeningFault;
+use crate::source::{read_source, read_stack};
+use block_device::BlockDev;
+use command_line::Binding;
+use image_files::{FileText, FileUse, Images, OpenImage, open_apart};
+use stack_config::Leaf;
+use std::alloc::Global;
+
+/// A stack file, and what its leaves are bound to.
+#[derive(Clone, Copy)]
+pub struct StackFile<'a, 'b> {
+    pub path: &'a str,
+    pub bindings: &'b [Binding<'a>],
+}
+
+/// A stack text, and the leaves under it with their devices in the same order.
+#[derive(Drop)]
+pub struct OpenStack<D> {
+    pub text: FileText,
+    pub leaves: Vec<Leaf>,
+    pub devices: Vec<D>,
+}
+
+// How a text's file is used.
+fn text_use(text: &FileText) -> FileUse
+    ensures { result ≡ text_use text.now }
+{
+    FileUse {
+        id: text.id,
+        writable: false,
+        part: None,
+    }
+}
+
+/// The text of a stack file, and then the leaves of the bindings.
+pub fn open_stack<'a, I: Images>(
+    alloc: Global,
+    images: &mut I,
+    file: StackFile<'a, '_>,
+) -> Result<OpenStack<I::Dev>, OpeningFault<'a>>
+    ensures ok { IfOk result (OpensByFile I.relations I.Dev.state images.old images.new file.entry) }
+    ensures err { IfErr result (FailsByFile I.relations I.Dev.state images.old images.new file.entry) }
+{
+    let text = read_stack(images, file.path)?;
+    let OpenLeaves { leaves, devices } = open_all(
+        alloc,
+        images,
+        &[text_use(&text)],
+        file.bindings,
+    )?;
+    Ok(OpenStack {
+        text,
+        leaves,
+        devices,
+    })
+}
+
+/// The same, and between them a file that is written to a device.
+pub fn open_with_source<'a, I: Images>(
+    alloc: Global,
+    images: &mut I,
+    file: StackFile<'a, '_>,
+    source: &'a str,
+) -> Result<(OpenStack<I::Dev>, FileText), OpeningFault<'a>>
+    ensures ok { IfOk result (OpensWithSource I.relations I.Dev.state images.old images.new file.entry source.now) }
+    ensures err { IfErr result (FailsWithSource I.relations I.Dev.state images.old images.new file.entry source.now) }
+{
+    let text = read_stack(images, file.path)?;
+    let source = read_source(images, source)?;
+    let files = [text_use(&text), text_use(&source)];
+    let OpenLeaves { leaves, devices } = open_all(alloc, images, &files, file.bindings)?;
+    let over = OpenStack {
+        text,
+        leaves,
+        devices,
+    };
+    Ok((over, source))
+}
+
+/// The same, and between them an image that is copied to, which may not be the stack file.
+pub fn open_with_output<'a, I: Images>(
+    alloc: Global,
+    images: &mut I,
+    file: StackFile<'a, '_>,
+    out: &'a str,
+) -> Result<(OpenStack<I::Dev>, OpenImage<I::Dev>), OpeningFault<'a>>
+    ensures ok { IfOk result (OpensWithOutput I.relations I.Dev.state images.old images.new file.entry out.now) }
+    ensures writable { IfOk result (λ both. (I.Dev.state both.1.device).may_write ≡ true) }
+    ensures err { IfErr result (FailsWithOutput I.relations I.Dev.state images.old images.new file.entry out.now) }
+{
+    open_beside(alloc, images, file, out, true)
+}
+
+/// The same, and between them an image that is only read, which may be the stack file.
+pub fn open_with_input<'a, I: Images>(
+    alloc: Global,
+    images: &mut I,
+    file: StackFile<'a, '_>,
+    source: &'a str,
+) -> Result<(OpenStack<I::Dev>, OpenImage<I::Dev>), OpeningFault<'a>>
+    ensures ok { IfOk result (OpensWithInput I.relations I.Dev.state images.old images.new file.entry source.now) }
+    ensures err { IfErr result (FailsWithInput I.relations I.Dev.state images.old images.new file.entry source.now) }
+{
+    open_beside(alloc, images, file, source, false)
+}
+
+// The stack file, an image, for writing too where `writable` says so, and then the leaves of the bindings.
+fn open_beside<'a, I: Images>(
+    alloc: Global,
+    images: &mut I,
+    file: StackFile<'a, '_>,
+    path: &'a str,
+    writable: bool,
+) -> Result<(OpenStack<I::Dev>, OpenImage<I::Dev>), OpeningFault<'a>>
+    ensures ok { IfOk result (OpensWith I.relations I.Dev.state images.old images.new file.entry path.now writable) }
+    ensures writable { IfOk result (λ both. (I.Dev.state both.1.device).may_write ≡ writable) }
+    ensures err { IfErr result (FailsWith I.relations I.Dev.state images.old images.new file.entry path.now writable) }
+{
+    let text = read_stack(images, file.path)?;
+    let image = open_apart(images, &[text_use(&text)], path, writable)?;
+    let id = image.id;
+    let part = None;
+    let files = [text_use(&text), FileUse { id, writable, part }];
+    let OpenLeaves { leaves, devices } = open_all(alloc, images, &files, file.bindings)?;
+    let over = OpenStack {
+        text,
+        leaves,
+        devices,
+    };
+    Ok((over, image))
+}

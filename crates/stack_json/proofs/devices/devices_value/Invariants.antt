@@ -1,8 +1,0 @@
-use Rattle.std.proofs.Common.{◌≡◌, map}
-use Rattle.serde_json.specs.View.{view}
-use Rattle.stack_json.specs.Devices.{devices_json}
-use Rattle.stack_json.proofs.devices.devices_value.Given as goal
-
--- the devices so far
-abbrev pub invariant-devices : goal.invariant-devices
-invariant-devices l = map view l.values.items ≡ devices_json l.config l.d

@@ -1,5 +1,0 @@
-use Rattle.stack_json.proofs.NameLemmas.{utf8_name}
-use Rattle.stack_json.proofs.devices.name_text.Goals as goal
-
-pub unreachable-requires : goal.unreachable-requires
-unreachable-requires c = c.in-Err.ensures.cases.0 (rw c.name.ensures (utf8_name c.args.config.now c.args.d.0 c.count-loaded.ensures.loaded c.requires))

@@ -1,0 +1,45 @@
+//! A set of mapped devices.
+
+/// Some of the mapped devices of a configuration, by their places: a bit for each of 64.
+#[derive(Clone, Copy)]
+pub struct DeviceSet {
+    pub bits: u64,
+}
+
+impl DeviceSet {
+    ghost use Rattle.std.specs.Prelude.{◌≡◌, ◌==◌, ◌<◌, ◌||◌, false, ℕ};
+    ghost use Rattle.stack_rules.specs.Descend.{most_devices};
+    ghost use Rattle.stack_loader.specs.DeviceSet.{contains};
+
+    pub(crate) fn empty() -> DeviceSet
+        ensures { (d : ℕ) → contains result d ≡ false }
+    {
+        DeviceSet { bits: 0 }
+    }
+
+    pub(crate) fn contains(self, d: usize) -> bool
+        requires { d < most_devices }
+        ensures { result ≡ contains self d }
+    {
+        self.bits >> d & 1 == 1
+    }
+
+    /// This set and the device.
+    pub(crate) fn with(self, d: usize) -> DeviceSet
+        requires { d < most_devices }
+        ensures { (e : ℕ) → contains result e ≡ (contains self e || e == d) }
+    {
+        DeviceSet {
+            bits: self.bits | 1 << d,
+        }
+    }
+
+    /// What is in this set or in the other.
+    pub(crate) fn union(self, other: DeviceSet) -> DeviceSet
+        ensures { (d : ℕ) → contains result d ≡ (contains self d || contains other d) }
+    {
+        DeviceSet {
+            bits: self.bits | other.bits,
+        }
+    }
+}

@@ -1,3 +1,0 @@
-pub mod Bindings
-pub mod Openings
-pub mod OpenStacks

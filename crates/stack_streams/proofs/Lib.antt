@@ -1,6 +1,0 @@
-mod CatLemmas
-mod FillLemmas
-mod ImageLemmas
-mod OpeningLemmas
-mod StoreLemmas
-mod StreamingLemmas

@@ -1,6 +1,0 @@
-use Rattle.std.proofs.Common.{◌≡◌, ◌++◌, take, flat_map}
-use Rattle.table_printer.specs.Print.{spaced_word}
-use Rattle.table_printer.proofs.print_options.print_words.Given as goal
-
-abbrev pub invariant-loop-word : goal.invariant-loop-word
-invariant-loop-word l = l.text.items ≡ l.fn.text.items ++ flat_map spaced_word (take l.word-index l.words)

@@ -1,4 +1,0 @@
-pub mod ArgumentWords
-pub mod Unstriped
-pub mod Print
-pub mod Keys

@@ -1,7 +1,0 @@
-use Rattle.std.proofs.Common.{refl}
-use Rattle.dm_table.specs.Words.{pieces_left}
-use Rattle.table_reader.proofs.cut.Pieces.new.Goals as goal
-
-pub returns : goal.returns
-unfolding pieces_left
-returns c = refl

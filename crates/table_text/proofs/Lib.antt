@@ -1,0 +1,24 @@
+pub mod lemmas
+pub mod CutLemmas
+pub mod NumberLemmas
+pub mod LineLemmas
+pub mod ReadLemmas
+pub mod ReadValueLemmas
+pub mod GrammarLemmas
+pub mod StackLemmas
+pub mod BytesLemmas
+pub mod OptionLemmas
+pub mod CryptLemmas
+pub mod VerityLemmas
+pub mod UnstripedLemmas
+pub mod PrintLemmas
+pub mod PrintedLemmas
+pub mod PrintedTargetLemmas
+pub mod PrintedBytesLemmas
+pub mod PrintedOptionLemmas
+pub mod PrintedCryptLemmas
+pub mod PrintedVerityLemmas
+pub mod PrintedUnstripedLemmas
+pub mod RoundTripLemmas
+pub mod HiddenKeyLemmas
+mod WorkedPrintLemmas

@@ -1,0 +1,47 @@
+//! The arguments of a `crypt` line, printed.
+ghost use Rattle.std.specs.Prelude.{◌≡◌, ◌*◌, ◌≤◌, ◌∷◌, ◌++◌, OnOk, codes, length, replicate};
+ghost use Rattle.hex.specs.Hex.{encode_lower};
+ghost use Rattle.table_text.specs.ArgumentWords.{crypt_words, key_word};
+ghost use Rattle.table_text.specs.Print.{PrintsWords};
+
+use crate::print::{print_base, push_spaced, push_spaced_number};
+use crate::print_digits::push_digits;
+use crate::print_options::print_options;
+use dm_table::{Crypt, Key};
+use std::alloc::AllocError;
+
+/// Prints the target of a `crypt` line; in place of the key, unless it is asked for, so many zeros.
+pub(crate) fn print_crypt(
+    text: &mut Vec<u8>,
+    crypt: &Crypt,
+    show_keys: bool,
+) -> Result<(), AllocError>
+    ensures { OnOk result (PrintsWords text.old (codes "crypt" ∷ crypt_words show_keys crypt.now) text.new) }
+{
+    push_spaced(text, b"crypt")?;
+    push_spaced(text, b"aes-xts-plain64")?;
+    print_key(text, &crypt.key, show_keys)?;
+    push_spaced_number(text, crypt.iv_offset)?;
+    print_base(text, &crypt.base)?;
+    print_options(text, crypt.options.as_slice())?;
+    Ok(())
+}
+
+fn print_key(text: &mut Vec<u8>, key: &Key, show_keys: bool) -> Result<(), AllocError>
+    ensures { OnOk result (text.new.items ≡ text.old.items ++ 32 ∷ key_word show_keys key.now) }
+{
+    let bytes = key.bytes();
+    if show_keys {
+        push_digits(text, bytes)
+    } else {
+        push_zeros(text, 2 * bytes.len())
+    }
+}
+
+fn push_zeros(text: &mut Vec<u8>, count: usize) -> Result<(), AllocError>
+    requires { count ≤ 128 }
+    ensures { OnOk result (text.new.items ≡ text.old.items ++ 32 ∷ replicate count 48) }
+{
+    let zeros = [b'0'; 128];
+    push_spaced(text, &zeros[..count])
+}

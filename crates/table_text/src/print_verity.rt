@@ -1,0 +1,51 @@
+//! The arguments of a `verity` line, printed.
+ghost use Rattle.std.specs.Prelude.{◌≡◌, ◌≤◌, ◌∷◌, ◌++◌, OnOk, codes, length};
+ghost use Rattle.table_text.specs.ArgumentWords.{options_words, salt_word, verity_words};
+ghost use Rattle.dm_table.specs.Verity.{verity_options};
+ghost use Rattle.table_text.specs.Print.{PrintsWords};
+
+use crate::print::{push_spaced, push_spaced_number};
+use crate::print_digits::push_digits;
+use dm_table::Verity;
+use std::alloc::AllocError;
+
+/// Prints the target of a `verity` line.
+pub(crate) fn print_verity(text: &mut Vec<u8>, verity: &Verity) -> Result<(), AllocError>
+    ensures { OnOk result (PrintsWords text.old (codes "verity" ∷ verity_words verity.now) text.new) }
+{
+    push_spaced(text, b"verity")?;
+    push_spaced(text, b"1")?;
+    push_spaced(text, verity.data.as_slice())?;
+    push_spaced(text, verity.hash.as_slice())?;
+    push_spaced_number(text, u64::from(verity.data_block))?;
+    push_spaced_number(text, u64::from(verity.hash_block))?;
+    push_spaced_number(text, verity.blocks)?;
+    push_spaced_number(text, verity.start)?;
+    push_spaced(text, verity.salt.algorithm().name())?;
+    push_digits(text, verity.root.as_bytes())?;
+    print_salt(text, verity.salt.bytes())?;
+    print_options(text, verity.ignore_zero_blocks)?;
+    Ok(())
+}
+
+fn print_salt(text: &mut Vec<u8>, salt: &[u8]) -> Result<(), AllocError>
+    requires { length salt.now ≤ 256 }
+    ensures { OnOk result (text.new.items ≡ text.old.items ++ 32 ∷ salt_word salt.now) }
+{
+    if salt.is_empty() {
+        push_spaced(text, b"-")
+    } else {
+        push_digits(text, salt)
+    }
+}
+
+// The option and its count, where the line has it.
+fn print_options(text: &mut Vec<u8>, ignore_zero_blocks: bool) -> Result<(), AllocError>
+    ensures { OnOk result (PrintsWords text.old (options_words (verity_options ignore_zero_blocks)) text.new) }
+{
+    if !ignore_zero_blocks {
+        return Ok(());
+    }
+    push_spaced_number(text, 1)?;
+    push_spaced(text, b"ignore_zero_blocks")
+}

@@ -1,0 +1,5 @@
+use Rattle.std.proofs.Common.{inl, inr}
+use Rattle.transfer_commands.proofs.image.store_image.Goals as goal
+
+pub returns-in-Err-clause-err : goal.returns-in-Err-clause-err
+returns-in-Err-clause-err g c = inr (inl (record { left = c.store_image_by.new.stack; stops = c.in-Err.ensures.err; synced = c.sync_stopped.ensures }))

@@ -1,0 +1,75 @@
+-- Sectors of a mapped device that are written out.
+use Rattle.std.specs.Prelude.{◌≡◌, ◌≢◌, ℕ, ◌+◌, ◌<◌, ◌≤◌, Bool, true, List, Option, Ok, Err}
+use Rattle.std.specs.Io.KnownBytes.{Appends}
+use Rattle.program_io.specs.Counted.{CountedRecord}
+use Rattle.stack_rules.specs.Names.{mapped, size}
+use Rattle.stack_meaning.specs.declared.fault.IoFault.{IoFault}
+use Rattle.stack_meaning.specs.declared.fault.IoFault.TheVariants as io
+use Rattle.stack_meaning.specs.Leaves.{AreSteady, AreRead, steady_images}
+use Rattle.stack_meaning.specs.Meaning.{said_at, sector}
+use Rattle.stack_meaning.specs.Outcomes.{Outcome, span}
+use Rattle.stack_meaning.specs.Reading.{MeetVerity}
+use Rattle.stack_lines.specs.Touches.{TouchesOnly, leaves_of}
+use Rattle.stack_engine.specs.Bytes.{EachBytes, MayBeBytes}
+use Rattle.stack_engine.specs.Stacks.{StackRecord}
+use Rattle.stack_recovery.specs.Alike.{AreAlike}
+use Rattle.transfer_commands.specs.declared.output.SectorRange.{SectorRange}
+use Rattle.transfer_commands.specs.declared.stream_fault.CatFault.{CatFault}
+use Rattle.transfer_commands.specs.declared.stream_fault.CatFault.TheVariants.{Range, Read, Write}
+
+-- the stack, and what the writer holds, where that is known
+pub record CatSide : Type 0 where
+  pub stack : StackRecord
+  pub written : Option (List ℕ)
+
+abbrev pub cat_side : StackRecord → Option (List ℕ) → CatSide
+cat_side stack written = record { stack = stack; written = written }
+
+-- The bytes of k sectors of device d from the first on were written out, and nothing else: over any leaves bytes for which
+-- there are good chains, where those beneath are steady what the stack means. Leaves were read alone, and only those on which the device
+-- stands.
+pub record IsCat (d first k : ℕ) (old new : CatSide) : Type 0 where
+  pub bytes : List ℕ
+  pub most : ℕ
+  pub config : new.stack.config ≡ old.stack.config
+  pub capacity : new.stack.capacity ≡ old.stack.capacity
+  pub moved : AreRead old.stack.leaves most new.stack.leaves
+  pub touches : TouchesOnly (leaves_of old.stack.config (mapped d)) old.stack.leaves new.stack.leaves (Ok bytes)
+  pub may : MayBeBytes old.stack.config (mapped d) first k bytes
+  pub exact : AreSteady (leaves_of old.stack.config (mapped d)) old.stack.leaves → span (sector old.stack.config (steady_images old.stack.leaves) (mapped d)) first k ≡ Ok bytes
+  pub written : Appends old.written new.written bytes
+
+-- a sector means this fault, where it is one that a sector may mean
+abbrev pub MeansFault : Outcome → IoFault → Type 0
+MeansFault outcome (io.Stack fault) = outcome ≡ Err fault
+MeansFault outcome fault = Unit {0}
+
+-- Of so many sectors those before one were written out. That one is lost by the fault: of it alone, or of it and those behind
+-- it that are lost with it, some sectors were read, unless memory ran out, which a verity line alone takes.
+pub record IsCatStop (d first count : ℕ) (old new : CatSide) (fault : IoFault) : Type 0 where
+  pub k : ℕ
+  pub left : StackRecord
+  pub n : ℕ
+  pub before : k + n ≤ count
+  pub some : 1 ≤ n
+  pub had : IsCat d first k old (cat_side left new.written)
+  pub read : EachBytes left d (first + k) n (Err fault) new.stack
+  pub memory : fault ≡ io.NoMemory → MeetVerity (said_at old.stack.config (mapped d)) (first + k) n
+  pub alike : fault ≢ io.NoMemory → AreAlike old.stack.config d (first + k) n
+  pub means : AreSteady (leaves_of old.stack.config (mapped d)) old.stack.leaves → MeansFault (sector old.stack.config (steady_images old.stack.leaves) (mapped d) (first + k)) fault
+
+-- why it ended early, where the last says whether the writer failed
+abbrev pub IsCatEnd : ℕ → SectorRange → CatSide → CatSide → Bool → CatFault → Type 0
+IsCatEnd d range old new failed Range = (new ≡ old) × (size old.stack.config (mapped d) < range.first + range.count)
+IsCatEnd d range old new failed (Read fault) = IsCatStop d range.first range.count old new fault
+IsCatEnd d range old new failed Write = failed ≡ true
+
+-- ---- as a call sees them: the stack and a counted writer before, and both after
+
+abbrev pub CatsBy : {T : Type 0} → (T → Option (List ℕ)) → ℕ → SectorRange → StackRecord → CountedRecord T → StackRecord → CountedRecord T → Type 0
+CatsBy contents d range stack writer stack' writer' =
+    IsCat d range.first range.count (cat_side stack (contents writer.inner)) (cat_side stack' (contents writer'.inner))
+
+abbrev pub EndsCatBy : {T : Type 0} → (T → Option (List ℕ)) → ℕ → SectorRange → StackRecord → CountedRecord T → StackRecord → CountedRecord T → CatFault → Type 0
+EndsCatBy contents d range stack writer stack' writer' fault =
+    IsCatEnd d range (cat_side stack (contents writer.inner)) (cat_side stack' (contents writer'.inner)) writer'.failed fault

@@ -1,0 +1,10 @@
+pub mod Reads
+pub mod Requests
+pub mod Writes
+pub mod Cats
+pub mod Filling
+pub mod Images
+pub mod StoredFiles
+pub mod Stores
+pub mod StreamTexts
+pub mod Streaming

@@ -1,0 +1,184 @@
+-- Bytes of a reader that are written to a mapped device.
+use Rattle.std.specs.Prelude.{◌≡◌, ◌⊎◌, ◌≢◌, ℕ, ◌+◌, ◌-◌, ◌*◌, ◌/◌, ◌%◌, ◌<◌, ◌==◌, nat_lt, not, List, [], ◌++◌, length, map, take, Option, Some, None, Ok, Err, if◌then◌else◌}
+use Rattle.std.specs.Io.KnownBytes.{Consumes, IsAtEnd}
+use Rattle.block_device.specs.Device.{synced}
+use Rattle.program_io.specs.Counted.{CountedRecord}
+use Rattle.stack_rules.specs.Names.{mapped, may_write, size}
+use Rattle.stack_rules.specs.Records.{Configuration}
+use Rattle.stack_meaning.specs.declared.fault.IoFault.{IoFault}
+use Rattle.stack_engine.specs.Stacks.{StackRecord}
+use Rattle.stack_engine.specs.Syncs.{FailsToSync}
+use Rattle.stack_engine.specs.WritePieces.{EachWrite, WritesInPieces}
+use Rattle.transfer_commands.specs.declared.stream_fault.StoreCause.{StoreCause}
+use Rattle.transfer_commands.specs.declared.stream_fault.StoreCause.TheVariants as cause
+use Rattle.transfer_commands.specs.declared.stream_fault.StoreFault.{StoreFault}
+use Rattle.transfer_commands.specs.declared.input.StorePlace.{StorePlace}
+use Rattle.transfer_commands.specs.Filling.{IsBroken}
+
+-- ---- what is known before
+
+-- of that many sectors behind the first one, so many bytes
+abbrev pub length_refusal : ℕ → Option ℕ → Option StoreCause
+length_refusal sectors None = None
+length_refusal sectors (Some bytes) = if not (bytes % 512 == 0) then Some cause.Length else if nat_lt sectors (bytes / 512) then Some cause.Range else None
+
+-- why nothing is written: the first of these reasons
+abbrev pub put_refusal : Configuration → ℕ → StorePlace → Option StoreCause
+put_refusal c d place =
+    if not (may_write c (mapped d)) then Some cause.ReadOnly
+    else if nat_lt (size c (mapped d)) place.first then Some cause.Range
+    else length_refusal (size c (mapped d) - place.first) place.length
+
+-- ---- what was done
+
+-- the stack, and what the reader has left, where that is known
+pub record StoreSide : Type 0 where
+  pub stack : StackRecord
+  pub input : Option (List ℕ)
+
+abbrev pub store_side : StackRecord → Option (List ℕ) → StoreSide
+store_side stack input = record { stack = stack; input = input }
+
+-- The bytes of n sectors were taken from the reader, and written to device d from its sector first on, in pieces: what
+-- that leaves is what a write leaves.
+pub record HasStored (d first n : ℕ) (old new : StoreSide) : Type 0 where
+  pub bytes : List ℕ
+  pub count : length bytes ≡ 512 * n
+  pub pieces : WritesInPieces old.stack d first bytes (Ok tt) new.stack
+  pub taken : Consumes old.input new.input bytes
+
+-- no leaf is dirty, and nothing else changed
+pub record IsSynced (old new : StackRecord) : Type 0 where
+  pub config : new.config ≡ old.config
+  pub capacity : new.capacity ≡ old.capacity
+  pub kept : new.kept ≡ old.kept
+  pub leaves : new.leaves ≡ map synced old.leaves
+
+-- What was written to the leaves was synced, or one of them couldn't be; nothing else changed.
+pub record IsSyncTried (old new : StackRecord) : Type 0 where
+  pub config : new.config ≡ old.config
+  pub capacity : new.capacity ≡ old.capacity
+  pub kept : new.kept ≡ old.kept
+  pub leaves : (new.leaves ≡ map synced old.leaves) ⊎ ((fault : IoFault) × FailsToSync old.leaves new.leaves fault)
+
+-- all bytes of the reader were written, those of n sectors, and put on the media
+pub record Stores (d first : ℕ) (old new : StoreSide) (n : ℕ) : Type 0 where
+  pub left : StackRecord
+  pub stored : HasStored d first n old (store_side left new.input)
+  pub ended : IsAtEnd new.input
+  pub synced : IsSynced left new.stack
+
+-- ---- where it ended early
+
+-- so many sectors were written, and then some more bytes taken, of which these are
+pub record IsLeftOver (d first n : ℕ) (old new : StoreSide) (more : List ℕ) : Type 0 where
+  pub left : Option (List ℕ)
+  pub stored : HasStored d first n old (store_side new.stack left)
+  pub taken : Consumes left new.input more
+
+-- the next piece was taken, and its write ended in this fault
+pub record IsWriteStop (d first n : ℕ) (old new : StoreSide) (fault : IoFault) : Type 0 where
+  pub left : StoreSide
+  pub piece : List ℕ
+  pub more : List ℕ
+  pub stored : HasStored d first n old left
+  pub taken : Consumes left.input new.input (piece ++ more)
+  pub failed : EachWrite left.stack d (first + n) piece (Err fault) new.stack
+
+-- all was written, and a leaf couldn't be synced
+abbrev pub IsStoreUnsynced : StoreCause → StackRecord → StackRecord → Type 0
+IsStoreUnsynced (cause.Sync fault) old new = (new.config ≡ old.config) × (new.capacity ≡ old.capacity) × (new.kept ≡ old.kept) × FailsToSync old.leaves new.leaves fault
+IsStoreUnsynced other old new = ⊥
+
+-- why it ended early behind so many sectors, where the reader may be broken
+abbrev pub StopsStore : ℕ → ℕ → ℕ → StoreSide → StoreSide → Type 0 → StoreCause → Type 0
+StopsStore d first n old new broken cause.TooLong = (more : List ℕ) × (0 < length more) × IsLeftOver d first n old new more × (first + n ≡ size old.stack.config (mapped d))
+StopsStore d first n old new broken cause.PartSector = (more : List ℕ) × (0 < length more) × (length more < 512) × IsLeftOver d first n old new more × IsAtEnd new.input
+StopsStore d first n old new broken cause.Read = (more : List ℕ) × IsLeftOver d first n old new more × broken
+StopsStore d first n old new broken (cause.Write fault) = IsWriteStop d first n old new fault
+StopsStore d first n old new broken other = ⊥
+
+abbrev pub IsStoreStop : ℕ → ℕ → StoreSide → StoreSide → Type 0 → StoreFault → Type 0
+IsStoreStop d first old new broken fault = StopsStore d first fault.written old new broken fault.cause
+
+-- it ended early, and what was written until then was synced, or one leaf couldn't be
+pub record IsStoppedSynced (d first : ℕ) (old new : StoreSide) (broken : Type 0) (fault : StoreFault) : Type 0 where
+  pub left : StackRecord
+  pub stops : IsStoreStop d first old (store_side left new.input) broken fault
+  pub synced : IsSyncTried left new.stack
+
+-- nothing was written to the media: the fault was known before, and nothing was done; or all but the sync was
+pub record IsStoreRefused (d : ℕ) (place : StorePlace) (old new : StoreSide) (fault : StoreFault) : Type 0 where
+  pub none : fault.written ≡ 0
+  pub same : new ≡ old
+  pub why : put_refusal old.stack.config d place ≡ Some fault.cause
+
+pub record IsSyncStop (d first : ℕ) (old new : StoreSide) (fault : StoreFault) : Type 0 where
+  pub left : StackRecord
+  pub stored : HasStored d first fault.written old (store_side left new.input)
+  pub ended : IsAtEnd new.input
+  pub unsynced : IsStoreUnsynced fault.cause left new.stack
+
+-- one of the three
+abbrev pub IsStoreEnd : ℕ → StorePlace → StoreSide → StoreSide → Type 0 → StoreFault → Type 0
+IsStoreEnd d place old new broken fault =
+    IsStoreRefused d place old new fault ⊎ (IsStoppedSynced d place.first old new broken fault ⊎ IsSyncStop d place.first old new fault)
+
+-- ---- on the way
+
+-- these bytes of whole sectors were written, of which there may be none
+abbrev pub StoresPiece : StackRecord → ℕ → ℕ → List ℕ → StackRecord → Type 0
+StoresPiece w d first bytes w' = ((bytes ≡ []) × (w' ≡ w)) ⊎ EachWrite w d first bytes (Ok tt) w'
+
+-- the whole sectors of some bytes
+abbrev pub whole_of : List ℕ → List ℕ
+whole_of bytes = take (length bytes / 512 * 512) bytes
+
+-- the last bytes behind so many sectors are no whole sectors, or their write ended in a fault
+abbrev pub LastEnds : ℕ → ℕ → List ℕ → StackRecord → StackRecord → ℕ → ℕ → StoreCause → Type 0
+LastEnds d at bytes w w' written n cause.PartSector = (n ≡ written + length bytes / 512) × (length bytes % 512 ≢ 0) × StoresPiece w d at (whole_of bytes) w'
+LastEnds d at bytes w w' written n (cause.Write fault) = (n ≡ written) × EachWrite w d at (whole_of bytes) (Err fault) w'
+LastEnds d at bytes w w' written n other = ⊥
+
+abbrev pub IsLastEnd : ℕ → ℕ → ℕ → List ℕ → StackRecord → StackRecord → StoreFault → Type 0
+IsLastEnd d at written bytes w w' fault = LastEnds d at bytes w w' written fault.written fault.cause
+
+-- the reader has more, or is broken
+abbrev pub IsProbeEnd : Option (List ℕ) → Option (List ℕ) → Type 0 → StoreCause → Type 0
+IsProbeEnd old new broken cause.TooLong = (more : List ℕ) × (0 < length more) × Consumes old new more
+IsProbeEnd old new broken cause.Read = (more : List ℕ) × Consumes old new more × broken
+IsProbeEnd old new broken other = ⊥
+
+-- ---- as a call sees them: the stack and a counted reader before, and both after
+
+abbrev pub StoresBy : {T : Type 0} → (T → Option (List ℕ)) → ℕ → StorePlace → StackRecord → CountedRecord T → StackRecord → CountedRecord T → ℕ → Type 0
+StoresBy remaining d place stack reader stack' reader' n =
+    Stores d place.first (store_side stack (remaining reader.inner)) (store_side stack' (remaining reader'.inner)) n
+
+abbrev pub EndsStoreBy : {T : Type 0} → (T → Option (List ℕ)) → ℕ → StorePlace → StackRecord → CountedRecord T → StackRecord → CountedRecord T → StoreFault → Type 0
+EndsStoreBy remaining d place stack reader stack' reader' fault =
+    IsStoreEnd d place (store_side stack (remaining reader.inner)) (store_side stack' (remaining reader'.inner)) (IsBroken reader') fault
+
+-- all bytes of the reader were written, and nothing is synced yet
+abbrev pub HasStoredBy : {T : Type 0} → (T → Option (List ℕ)) → ℕ → StorePlace → StackRecord → CountedRecord T → StackRecord → CountedRecord T → ℕ → Type 0
+HasStoredBy remaining d place stack reader stack' reader' n =
+    HasStored d place.first n (store_side stack (remaining reader.inner)) (store_side stack' (remaining reader'.inner)) × IsAtEnd (remaining reader'.inner)
+
+abbrev pub StopsStoreBy : {T : Type 0} → (T → Option (List ℕ)) → ℕ → StorePlace → StackRecord → CountedRecord T → StackRecord → CountedRecord T → StoreFault → Type 0
+StopsStoreBy remaining d place stack reader stack' reader' fault =
+    IsStoreStop d place.first (store_side stack (remaining reader.inner)) (store_side stack' (remaining reader'.inner)) (IsBroken reader') fault
+
+-- the reader ends there, behind so many sectors
+abbrev pub EndsThere : {T : Type 0} → (T → Option (List ℕ)) → CountedRecord T → CountedRecord T → ℕ → ℕ → Type 0
+EndsThere remaining reader reader' written =
+    λ n. (n ≡ written) × Consumes (remaining reader.inner) (remaining reader'.inner) [] × IsAtEnd (remaining reader'.inner)
+
+-- or it doesn't
+abbrev pub GoesFurther : {T : Type 0} → (T → Option (List ℕ)) → CountedRecord T → CountedRecord T → ℕ → StoreFault → Type 0
+GoesFurther remaining reader reader' written =
+    λ fault. (fault.written ≡ written) × IsProbeEnd (remaining reader.inner) (remaining reader'.inner) (IsBroken reader') fault.cause
+
+-- the last bytes are whole sectors, and were written behind so many others
+abbrev pub StoresLast : ℕ → ℕ → ℕ → List ℕ → StackRecord → StackRecord → ℕ → Type 0
+StoresLast d at written bytes w w' =
+    λ n. (n ≡ written + length bytes / 512) × (length bytes % 512 ≡ 0) × StoresPiece w d at (whole_of bytes) w'

@@ -1,0 +1,51 @@
+//! The bytes of a reader are written to a stack file's device.
+ghost use Rattle.std.specs.Prelude.{OnOk, IfErr};
+ghost use Rattle.image_files.specs.Opener.{calls};
+ghost use Rattle.transfer_commands.specs.Streaming.{IsTargetEnd, StoresTarget, ends};
+
+use crate::input::{StorePlace, store};
+use crate::stream_fault::StreamFault;
+use crate::texts::say_stored;
+use block_device::BlockDev;
+use device_adapters::Progress;
+use image_files::Images;
+use program_io::Counted;
+use stack_files::{NamedDevice, StackFile, close_stack, open_device};
+use std::alloc::Global;
+use std::io::{Read, Write};
+
+/// The mapped device to which bytes go from its sector `first` on, and how many blocks are cached.
+#[derive(Clone, Copy, Debug, PartialEq, Eq)]
+pub struct Target<'a> {
+    pub name: &'a str,
+    pub first: u64,
+    pub cache: u32,
+}
+
+/// All bytes of the reader to a device of a stack file over the bindings, whose images are synced and given back before anything is printed.
+pub fn store_device<'a, I: Images, S: Read, W: Write, P: Progress>(
+    alloc: Global,
+    images: &mut I,
+    file: StackFile<'a, '_>,
+    target: Target<'a>,
+    reader: &mut Counted<S>,
+    writer: &mut Counted<W>,
+    progress: &mut P,
+) -> Result<(), StreamFault<'a>>
+    ensures ok { OnOk result (StoresTarget (calls I.relations I.Dev.state images.old images.new) file.entry target.entry S.remaining W.contents (ends reader.old writer.old) (ends reader.new writer.new)) }
+    ensures err { IfErr result (IsTargetEnd (calls I.relations I.Dev.state images.old images.new) file.entry target.entry S.remaining W.contents (ends reader.old writer.old) (ends reader.new writer.new)) }
+{
+    let Target { name, first, cache } = target;
+    let device = NamedDevice { name, cache };
+    let (mut stack, device) = open_device(alloc, images, file, device)?;
+    let place = StorePlace {
+        first,
+        length: None,
+    };
+    let outcome = store(&mut stack, device, place, reader, progress);
+    close_stack(images, file.bindings, stack);
+    match outcome {
+        Ok(written) => Ok(say_stored(writer, written)?),
+        Err(fault) => Err(StreamFault::Store(fault)),
+    }
+}

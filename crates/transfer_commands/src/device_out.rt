@@ -1,0 +1,60 @@
+//! The bytes of a stack file's device are written out, and nothing else.
+ghost use Rattle.std.specs.Prelude.{◌≡◌, OnOk, IfErr};
+ghost use Rattle.image_files.specs.Opener.{calls};
+ghost use Rattle.transfer_commands.specs.Streaming.{EndsPrinting, IsWantedEnd, Printing, PrintsWanted, count_from};
+
+use crate::output::{SectorRange, cat};
+use crate::stream_fault::StreamFault;
+use block_device::BlockDev;
+use device_adapters::Progress;
+use image_files::Images;
+use program_io::Counted;
+use stack_files::{NamedDevice, StackFile, open_device};
+use std::alloc::Global;
+use std::io::Write;
+
+/// Sectors of a mapped device: all from the first one on where no count is said. How many blocks are cached.
+#[derive(Clone, Copy, Debug, PartialEq, Eq)]
+pub struct Wanted<'a> {
+    pub name: &'a str,
+    pub first: u64,
+    pub count: Option<u64>,
+    pub cache: u32,
+}
+
+fn count_from(count: Option<u64>, first: u64, sectors: u64) -> u64
+    ensures { result ≡ count_from count first sectors }
+{
+    match count {
+        Some(count) => count,
+        None => sectors.saturating_sub(first),
+    }
+}
+
+/// The bytes of a device of a stack file over the bindings.
+pub fn cat_device<'a, I: Images, W: Write, P: Progress>(
+    alloc: Global,
+    images: &mut I,
+    file: StackFile<'a, '_>,
+    wanted: Wanted<'a>,
+    writer: &mut Counted<W>,
+    progress: &mut P,
+) -> Result<(), StreamFault<'a>>
+    ensures ok { OnOk result (Printing W.contents writer.old writer.new (PrintsWanted (calls I.relations I.Dev.state images.old images.new) file.entry wanted.entry)) }
+    ensures err { IfErr result (EndsPrinting W.contents writer.old writer.new (IsWantedEnd (calls I.relations I.Dev.state images.old images.new) file.entry wanted.entry)) }
+{
+    let Wanted {
+        name,
+        first,
+        count,
+        cache,
+    } = wanted;
+    let device = NamedDevice { name, cache };
+    let (mut stack, device) = open_device(alloc, images, file, device)?;
+    let count = count_from(count, first, stack.config().sectors(device));
+    let range = SectorRange { first, count };
+    match cat(&mut stack, device, range, writer, progress) {
+        Ok(()) => Ok(()),
+        Err(fault) => Err(StreamFault::Cat(fault)),
+    }
+}

@@ -1,0 +1,49 @@
+//! Sectors of a device are read by one request.
+ghost use Rattle.std.specs.Prelude.{IfOk, IfErr};
+ghost use Rattle.transfer_commands.specs.Reads.{ReadsBy, UnreadBy};
+ghost use Rattle.transfer_commands.specs.Requests.{FailsServing, HasReply, read_request};
+
+use crate::request::serve_request;
+use crate::request_fault::RequestFault;
+use allocation::copied;
+use block_device::BlockDev;
+use command_line::Sectors;
+use image_files::Images;
+use request_queue::{Queue, Reply, Request};
+use stack_files::{StackFile, open_loaded};
+use std::alloc::Global;
+
+/// Sectors of a device of a stack file over the bindings, with a cache of so many hash blocks.
+pub fn read_sectors<'a, I: Images>(
+    alloc: Global,
+    images: &mut I,
+    file: StackFile<'a, '_>,
+    cache: u32,
+    sectors: Sectors<'_>,
+) -> Result<Reply, RequestFault<'a>>
+    ensures ok { IfOk result (ReadsBy I.relations I.Dev.state images.old images.new file.entry cache sectors.entry) }
+    ensures err { IfErr result (UnreadBy I.relations I.Dev.state images.old images.new file.entry cache sectors.entry) }
+{
+    let stack = open_loaded(alloc, images, file, cache)?;
+    let mut queue = Queue::new(alloc, stack);
+    fetch(alloc, &mut queue, sectors)
+}
+
+// The sectors that are wanted.
+fn fetch<'a, D: BlockDev + Drop>(
+    alloc: Global,
+    queue: &mut Queue<D>,
+    sectors: Sectors<'_>,
+) -> Result<Reply, RequestFault<'a>>
+    ensures ok { IfOk result (λ reply. HasReply queue.old (read_request sectors.entry) reply queue.new) }
+    ensures err { IfErr result (FailsServing queue.old (read_request sectors.entry) queue.new) }
+{
+    let Sectors { name, first, count } = sectors;
+    let device = copied(alloc, name.as_bytes())?;
+    let request = Request::Read {
+        device,
+        first,
+        count,
+    };
+    serve_request(queue, request)
+}

@@ -1,0 +1,57 @@
+//! A file's bytes are written to a device by one request.
+ghost use Rattle.std.specs.Prelude.{OnOk, Ok, IfOk, IfErr};
+ghost use Rattle.transfer_commands.specs.Requests.{FailsServing, HasReply, write_request};
+ghost use Rattle.transfer_commands.specs.Writes.{PutsBy, UnputBy};
+
+use crate::request::serve_request;
+use crate::request_fault::RequestFault;
+use allocation::copied;
+use block_device::BlockDev;
+use command_line::Transfer;
+use image_files::Images;
+use request_queue::{Queue, Reply, Request};
+use stack_files::{StackFile, load_stack, open_with_source, sync_and_close};
+use std::alloc::Global;
+
+/// Writes the bytes of the source file to a device of a stack file over the bindings. The images are synced and closed,
+/// also after a fault of the request, which is returned if the sync fails too.
+pub fn write_source<'a, I: Images>(
+    alloc: Global,
+    images: &mut I,
+    file: StackFile<'a, '_>,
+    cache: u32,
+    transfer: Transfer<'a>,
+) -> Result<(), RequestFault<'a>>
+    ensures ok { OnOk result (PutsBy I.relations I.Dev.state images.old images.new file.entry cache transfer.entry) }
+    ensures err { IfErr result (UnputBy I.relations I.Dev.state images.old images.new file.entry cache transfer.entry) }
+{
+    let (over, source) = open_with_source(alloc, images, file, transfer.source)?;
+    let stack = load_stack(alloc, over, cache)?;
+    let mut queue = Queue::new(alloc, stack);
+    let outcome = store(alloc, &mut queue, transfer, source.bytes);
+    let stack = queue.into_stack();
+    let synced = sync_and_close(images, file.bindings, stack);
+    match outcome {
+        Ok(_reply) => Ok(synced?),
+        Err(fault) => Err(fault),
+    }
+}
+
+// Writes the bytes to the device from its first sector on.
+fn store<'a, D: BlockDev + Drop>(
+    alloc: Global,
+    queue: &mut Queue<D>,
+    transfer: Transfer<'_>,
+    bytes: Vec<u8>,
+) -> Result<Reply, RequestFault<'a>>
+    ensures ok { IfOk result (λ reply. HasReply queue.old (write_request transfer.entry bytes.items) reply queue.new) }
+    ensures err { IfErr result (FailsServing queue.old (write_request transfer.entry bytes.items) queue.new) }
+{
+    let device = copied(alloc, transfer.name.as_bytes())?;
+    let request = Request::Write {
+        device,
+        first: transfer.first,
+        bytes,
+    };
+    serve_request(queue, request)
+}

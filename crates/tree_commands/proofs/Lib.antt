@@ -1,3 +1,0 @@
-pub mod OpeningLemmas
-pub mod KeptLemmas
-pub mod ObjectLemmas

@@ -1,7 +1,0 @@
-use Rattle.std.proofs.Common.{ap, ◌∙◌}
-use Rattle.serde_json.specs.Written.{has_float}
-use Rattle.tree_commands.proofs.ObjectLemmas.{plain_survey}
-use Rattle.tree_commands.proofs.survey_object.survey_line.Goals as goal
-
-pub line_of-requires : goal.line_of-requires
-line_of-requires c = ap has_float c.in-Ok.ensures ∙ plain_survey c.args.lines.now c.args.totals

@@ -1,3 +1,0 @@
-pub mod lemmas
-pub mod WritingLemmas
-pub mod KeptLemmas

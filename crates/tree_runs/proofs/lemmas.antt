@@ -1,4 +1,0 @@
--- What callers may cite.
-pub mod ListingLemmas
-pub mod RunLemmas
-pub mod ObjectLemmas

@@ -1,0 +1,54 @@
+-- What the commands on hash trees print by their words, and how they end early.
+use Rattle.std.specs.Prelude.{ℕ, ◌/◌, Bool, List, Option}
+use Rattle.block_device.specs.Device.{Device}
+use Rattle.command_line.specs.declared.words.diff.DiffWords.{DiffWords}
+use Rattle.command_line.specs.declared.words.verify.VerifyWords.{VerifyWords}
+use Rattle.command_line.specs.words.Diff.{DiffRecord, diff_record}
+use Rattle.command_line.specs.words.Verify.{VerifyRecord, verify_record}
+use Rattle.program_io.specs.Counted.{CountedRecord}
+use Rattle.image_commands.specs.Places.{TwoPlaces}
+use Rattle.image_files.specs.Opener.{Calls, Opener, calls}
+use Rattle.tree_difference.specs.declared.difference.Roots.{Roots}
+use Rattle.verity_commands.specs.declared.tree_fault.TreeFault.{TreeFault}
+use Rattle.verity_commands.specs.Diffs.{IsDiffFilesEnd, PrintsSame}
+use Rattle.verity_commands.specs.Openings.{BothPaths}
+use Rattle.verity_commands.specs.Surveys.{IsSurveyFilesEnd, PrintsGood}
+
+-- ---- `diff`
+
+abbrev pub diff_paths : DiffRecord → BothPaths
+diff_paths d = record { first_path = d.old_path; second_path = d.new_path }
+
+abbrev pub diff_roots : DiffRecord → Roots
+diff_roots d = record { first = d.old_root; second = d.new_root }
+
+abbrev pub DiffsTrees : {S D : Type 0} → Calls S D → DiffRecord → Option (List ℕ) → Option (List ℕ) → Type 0
+DiffsTrees w d old new = PrintsSame d.json w (diff_paths d) (diff_roots d) d.blocks old new
+
+abbrev pub IsDiffWordsEnd : {S D : Type 0} → Calls S D → DiffRecord → Option (List ℕ) → Option (List ℕ) → Bool → TreeFault → Type 0
+IsDiffWordsEnd w d old new failed fault = IsDiffFilesEnd d.json w (diff_paths d) (diff_roots d) d.blocks old new failed fault
+
+-- ---- `verify --all`
+
+abbrev pub survey_at : VerifyRecord → TwoPlaces
+survey_at v = record { paths = record { data_path = v.data_path; hash_path = v.hash_path }; first = v.hash_offset / 512 }
+
+abbrev pub SurveysAt : {S D : Type 0} → Calls S D → VerifyRecord → List ℕ → Option (List ℕ) → Option (List ℕ) → Type 0
+SurveysAt w v root old new = PrintsGood v.json w (survey_at v) root old new
+
+abbrev pub IsSurveyWordsEnd : {S D : Type 0} → Calls S D → VerifyRecord → List ℕ → Option (List ℕ) → Option (List ℕ) → Bool → TreeFault → Type 0
+IsSurveyWordsEnd w v root old new failed fault = IsSurveyFilesEnd v.json w (survey_at v) root old new failed fault
+
+-- ---- as a call sees them, by the program's own words
+
+abbrev pub DiffsByWords : {S D W : Type 0} → Opener S D → (D → Device) → S → S → (W → Option (List ℕ)) → CountedRecord W → CountedRecord W → DiffWords → Type 0
+DiffsByWords relations state images images' contents writer writer' words = DiffsTrees (calls relations state images images') (diff_record words) (contents writer.inner) (contents writer'.inner)
+
+abbrev pub FailsDiffByWords : {S D W : Type 0} → Opener S D → (D → Device) → S → S → (W → Option (List ℕ)) → CountedRecord W → CountedRecord W → DiffWords → TreeFault → Type 0
+FailsDiffByWords relations state images images' contents writer writer' words = IsDiffWordsEnd (calls relations state images images') (diff_record words) (contents writer.inner) (contents writer'.inner) writer'.failed
+
+abbrev pub SurveysByWords : {S D W : Type 0} → Opener S D → (D → Device) → S → S → (W → Option (List ℕ)) → CountedRecord W → CountedRecord W → VerifyWords → List ℕ → Type 0
+SurveysByWords relations state images images' contents writer writer' words root = SurveysAt (calls relations state images images') (verify_record words) root (contents writer.inner) (contents writer'.inner)
+
+abbrev pub FailsSurveyByWords : {S D W : Type 0} → Opener S D → (D → Device) → S → S → (W → Option (List ℕ)) → CountedRecord W → CountedRecord W → VerifyWords → List ℕ → TreeFault → Type 0
+FailsSurveyByWords relations state images images' contents writer writer' words root = IsSurveyWordsEnd (calls relations state images images') (verify_record words) root (contents writer.inner) (contents writer'.inner) writer'.failed

@@ -1,0 +1,186 @@
+-- What `verify --all` prints, and how it ends.
+use Rattle.std.specs.Prelude.{◌≡◌, ◌⊎◌, ℕ, ◌==◌, ◌&&◌, Bool, true, false, List, [], ◌++◌, codes, decimal, Option, Some}
+use Rattle.std.specs.Io.KnownBytes.{Appends}
+use Rattle.block_device.specs.Device.{Device}
+use Rattle.program_io.specs.Counted.{CountedRecord}
+use Rattle.image_commands.specs.declared.finding.NoTree.{NoTree}
+use Rattle.image_commands.specs.declared.finding.NoTree.TheVariants as no_tree
+use Rattle.image_commands.specs.declared.paths.TwoImages.{TwoImages}
+use Rattle.image_commands.specs.declared.places.Bounds.{Bounds}
+use Rattle.image_commands.specs.Finding.{IsNoTree, ReadsSuper}
+use Rattle.image_commands.specs.Openings.{FailsToOpenTwo, OpensTwo, TwoPaths}
+use Rattle.image_commands.specs.Places.{TwoPlaces, before, behind, data_end}
+use Rattle.image_files.specs.Opener.{Calls, Opener, calls}
+use Rattle.program_io.specs.JsonLines.{json_line}
+use Rattle.tree_shape.specs.Shape.{ShapeRecord}
+use Rattle.verity_format.specs.declared.tree.VerityTree.{VerityTree}
+use Rattle.verity_format.specs.declared.verifying.VerifyFault.TheVariants as verify
+use Rattle.verity_format.specs.Blocks.{IsFullRead}
+use Rattle.verity_format.specs.Superblock.{SuperRecord}
+use Rattle.verity_format.specs.Trees.{superblock_tree}
+use Rattle.runs.specs.declared.line.Line.{Line}
+use Rattle.runs.specs.declared.listing.KeptLines.{KeptLines}
+use Rattle.runs.specs.Lines.{lines_text}
+use Rattle.tree_survey.specs.declared.counts.Totals.{Totals}
+use Rattle.tree_survey.specs.declared.fault.SurveyFault.{SurveyFault}
+use Rattle.tree_survey.specs.declared.fault.SurveyFault.TheVariants.{Image}
+use Rattle.tree_survey.specs.declared.fault.SurveyFault.TheVariants as survey_fault
+use Rattle.tree_survey.specs.declared.survey.Survey.{Survey as Found}
+use Rattle.tree_survey.specs.Causes.{IsSurveyCause}
+use Rattle.tree_survey.specs.Passes.{IsSurvey, Pass, pass}
+use Rattle.verity_commands.specs.declared.tree_fault.TreeFault.{TreeFault}
+use Rattle.verity_commands.specs.declared.tree_fault.TreeFault.TheVariants.{Damaged, Open, Survey, Unaligned, Write}
+use Rattle.verity_commands.specs.declared.survey.SurveyOrder.{SurveyOrder}
+use Rattle.verity_commands.specs.Objects.{survey_json}
+use Rattle.verity_commands.specs.Surveyed.{SurveyedDevices}
+
+-- `good N changed N unknown N`
+unfoldable pub survey_totals : Totals → List ℕ
+survey_totals t = codes "good " ++ (decimal t.good ++ (codes " changed " ++ (decimal t.changed ++ (codes " unknown " ++ (decimal t.unknown ++ codes "\n")))))
+
+-- no data block is changed or unknown, and all hash blocks are good
+abbrev pub is_all_good : Found → Bool
+is_all_good found = (found.totals.changed == 0) && ((found.totals.unknown == 0) && found.whole_tree)
+
+-- the image was gone over, its lines and totals printed, and this says whether all of it is good
+pub record SaysSurvey (tree : VerityTree) (w : Pass) (root : List ℕ) (good : Bool) : Type 0 where
+  pub found : Found
+  pub between : Option (List ℕ)
+  pub survey : IsSurvey tree (record w { printed' = between }) root found
+  pub printed_are : Appends between w.printed' (survey_totals found.totals)
+  pub is : is_all_good found ≡ good
+
+-- the same, where one object was printed: of the lines and totals that are printed else
+pub record SaysObject (tree : VerityTree) (w : Pass) (root : List ℕ) (good : Bool) : Type 0 where
+  pub found : Found
+  pub lines : List Line
+  pub survey : IsSurvey tree (record w { printed = Some []; printed' = Some (lines_text lines) }) root found
+  pub printed_are : Appends w.printed w.printed' (json_line (survey_json lines found.totals))
+  pub is : is_all_good found ≡ good
+
+-- as an object, or as lines
+abbrev pub SaysFound : Bool → VerityTree → Pass → List ℕ → Bool → Type 0
+SaysFound true tree w root good = SaysObject tree w root good
+SaysFound false tree w root good = SaysSurvey tree w root good
+
+-- a line that isn't kept in memory is want of it
+abbrev pub unkept_survey : SurveyFault → SurveyFault
+unkept_survey survey_fault.Write = Image verify.NoMemory
+unkept_survey (Image fault) = Image fault
+
+-- why an image isn't gone over, where lines are kept in memory
+abbrev pub IsKeptCause : ShapeRecord → Device → Device → Device → Device → SurveyFault → Type 0
+IsKeptCause shape data_dev hash_dev data_dev' hash_dev' (Image verify.NoMemory) = Unit {0}
+IsKeptCause shape data_dev hash_dev data_dev' hash_dev' fault = IsSurveyCause shape data_dev hash_dev data_dev' hash_dev' false fault
+
+-- the same; nothing was printed before where it would be an object
+abbrev pub IsUnseen : Bool → ShapeRecord → Pass → Bool → SurveyFault → Type 0
+IsUnseen true shape w failed fault = IsKeptCause shape w.data_dev w.hash_dev w.data_dev' w.hash_dev' fault × (w.printed' ≡ w.printed)
+IsUnseen false shape w failed fault = IsSurveyCause shape w.data_dev w.hash_dev w.data_dev' w.hash_dev' failed fault
+
+-- a part of it isn't good, or why the image isn't gone over, or a line can't be written
+abbrev pub IsSurveyEnd : Bool → VerityTree → Pass → List ℕ → Bool → TreeFault → Type 0
+IsSurveyEnd json tree w root failed Damaged = SaysFound json tree w root false
+IsSurveyEnd json tree w root failed (Survey fault) = IsUnseen json tree.shape w failed fault
+IsSurveyEnd json tree w root failed Write = failed ≡ true
+IsSurveyEnd json tree w root failed fault = ⊥
+
+-- ---- a place for the hash image in its file
+
+-- the superblock at that sector was read once, and the image scanned by its tree
+pub record SurveysPlaced (json : Bool) (data_dev hash_dev : Device) (end first : ℕ) (root : List ℕ) (old new : Option (List ℕ)) : Type 0 where
+  pub super : SuperRecord
+  pub read_dev : Device
+  pub data_dev' : Device
+  pub hash_dev' : Device
+  pub super_read : ReadsSuper (behind hash_dev first) first super
+  pub one : IsFullRead (behind hash_dev first) 1 read_dev
+  pub says : SaysFound json (superblock_tree super) (pass (before data_dev end) read_dev data_dev' hash_dev' old new) root true
+
+-- with which fault a command ends without a tree
+abbrev pub no_tree_fault : NoTree → TreeFault
+no_tree_fault (no_tree.Unread fault) = Survey (Image fault)
+no_tree_fault no_tree.Unaligned = Unaligned
+
+-- there is no superblock behind that sector, or no hash block begins there
+pub record IsSurveyWithout (hash_dev : Device) (first : ℕ) (fault : TreeFault) : Type 0 where
+  pub cause : NoTree
+  pub hash_dev' : Device
+  pub none : IsNoTree (behind hash_dev first) first hash_dev' cause
+  pub is : fault ≡ no_tree_fault cause
+
+pub record EndsPlacedSurvey (json : Bool) (data_dev hash_dev : Device) (end first : ℕ) (root : List ℕ) (old new : Option (List ℕ)) (failed : Bool) (fault : TreeFault) : Type 0 where
+  pub super : SuperRecord
+  pub read_dev : Device
+  pub data_dev' : Device
+  pub hash_dev' : Device
+  pub super_read : ReadsSuper (behind hash_dev first) first super
+  pub one : IsFullRead (behind hash_dev first) 1 read_dev
+  pub ends : IsSurveyEnd json (superblock_tree super) (pass (before data_dev end) read_dev data_dev' hash_dev' old new) root failed fault
+
+abbrev pub IsPlacedSurveyEnd : Bool → Device → Device → ℕ → ℕ → List ℕ → Option (List ℕ) → Option (List ℕ) → Bool → TreeFault → Type 0
+IsPlacedSurveyEnd json data_dev hash_dev end first root old new failed fault =
+    IsSurveyWithout hash_dev first fault ⊎ EndsPlacedSurvey json data_dev hash_dev end first root old new failed fault
+
+-- ---- of images that were opened
+
+abbrev pub survey_places : SurveyOrder → TwoPlaces
+survey_places p = record { paths = record { data_path = p.data.now; hash_path = p.hash.now }; first = p.hash_first }
+
+pub record PrintsGood {S D : Type 0} (json : Bool) (w : Calls S D) (places : TwoPlaces) (root : List ℕ) (old new : Option (List ℕ)) : Type 0 where
+  pub two : TwoImages D
+  pub opened : OpensTwo w places.paths false two
+  pub surveys : SurveysPlaced json (w.state two.data.device) (w.state two.hash.device) (data_end two places.first) places.first root old new
+
+pub record EndsTreeSurvey {S D : Type 0} (json : Bool) (w : Calls S D) (places : TwoPlaces) (root : List ℕ) (old new : Option (List ℕ)) (failed : Bool) (fault : TreeFault) : Type 0 where
+  pub two : TwoImages D
+  pub opened : OpensTwo w places.paths false two
+  pub ends : IsPlacedSurveyEnd json (w.state two.data.device) (w.state two.hash.device) (data_end two places.first) places.first root old new failed fault
+
+-- one of the two isn't opened
+abbrev pub IsImageUnopened : {S D : Type 0} → Calls S D → TwoPaths → TreeFault → Type 0
+IsImageUnopened w paths (Open file) = FailsToOpenTwo w paths false file
+IsImageUnopened w paths fault = ⊥
+
+-- that, or it ends so
+abbrev pub IsSurveyFilesEnd : {S D : Type 0} → Bool → Calls S D → TwoPlaces → List ℕ → Option (List ℕ) → Option (List ℕ) → Bool → TreeFault → Type 0
+IsSurveyFilesEnd json w places root old new failed fault = IsImageUnopened w places.paths fault ⊎ EndsTreeSurvey json w places root old new failed fault
+
+-- ---- as a call sees them, as in `Diffs`
+
+-- the two devices of an image, and what was printed
+abbrev pub gone_over : SurveyedDevices → SurveyedDevices → Option (List ℕ) → Option (List ℕ) → Pass
+gone_over image image' old new = pass image.data_dev image.hash_dev image'.data_dev image'.hash_dev old new
+
+-- the same, where lines are kept in memory
+abbrev pub listed_survey : SurveyedDevices → SurveyedDevices → KeptLines → KeptLines → Pass
+listed_survey image image' kept kept' = gone_over image image' (Some (lines_text kept.lines.items)) (Some (lines_text kept'.lines.items))
+
+abbrev pub FailsToListSurvey : VerityTree → SurveyedDevices → SurveyedDevices → SurveyFault → Type 0
+FailsToListSurvey tree image image' = IsKeptCause tree.shape image.data_dev image.hash_dev image'.data_dev image'.hash_dev
+
+-- all of the image is good, and that was printed
+abbrev pub FindsGood : {W : Type 0} → Bool → VerityTree → SurveyedDevices → SurveyedDevices → (W → Option (List ℕ)) → CountedRecord W → CountedRecord W → List ℕ → Type 0
+FindsGood json tree image image' contents writer writer' root = SaysFound json tree (gone_over image image' (contents writer.inner) (contents writer'.inner)) root true
+
+-- it isn't, or that isn't known or printed
+abbrev pub FailsSurvey : {W : Type 0} → Bool → VerityTree → SurveyedDevices → SurveyedDevices → (W → Option (List ℕ)) → CountedRecord W → CountedRecord W → List ℕ → TreeFault → Type 0
+FailsSurvey json tree image image' contents writer writer' root = IsSurveyEnd json tree (gone_over image image' (contents writer.inner) (contents writer'.inner)) root writer'.failed
+
+-- what lies before the data's end, and what lies behind a sector
+abbrev pub SurveysBehind : {D H W : Type 0} → (D → Device) → (H → Device) → D × H → (W → Option (List ℕ)) → CountedRecord W → CountedRecord W → Bounds → List ℕ → Bool → Type 0
+SurveysBehind data_state hash_state devices contents writer writer' bounds root json =
+    SurveysPlaced json (data_state devices.0) (hash_state devices.1) bounds.end bounds.first root (contents writer.inner) (contents writer'.inner)
+
+abbrev pub FailsToSurveyBehind : {D H W : Type 0} → (D → Device) → (H → Device) → D × H → (W → Option (List ℕ)) → CountedRecord W → CountedRecord W → Bounds → List ℕ → Bool → TreeFault → Type 0
+FailsToSurveyBehind data_state hash_state devices contents writer writer' bounds root json =
+    IsPlacedSurveyEnd json (data_state devices.0) (hash_state devices.1) bounds.end bounds.first root (contents writer.inner) (contents writer'.inner) writer'.failed
+
+-- two images
+abbrev pub SurveysImages : {S D W : Type 0} → Opener S D → (D → Device) → S → S → (W → Option (List ℕ)) → CountedRecord W → CountedRecord W → SurveyOrder → List ℕ → Type 0
+SurveysImages relations state images images' contents writer writer' order root =
+    PrintsGood order.json (calls relations state images images') (survey_places order) root (contents writer.inner) (contents writer'.inner)
+
+abbrev pub FailsToSurvey : {S D W : Type 0} → Opener S D → (D → Device) → S → S → (W → Option (List ℕ)) → CountedRecord W → CountedRecord W → SurveyOrder → List ℕ → TreeFault → Type 0
+FailsToSurvey relations state images images' contents writer writer' order root =
+    IsSurveyFilesEnd order.json (calls relations state images images') (survey_places order) root (contents writer.inner) (contents writer'.inner) writer'.failed

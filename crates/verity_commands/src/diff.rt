@@ -1,0 +1,92 @@
+//! The command `diff`: which data blocks of two images differ, by their hash trees.
+ghost use Rattle.std.specs.Prelude.{◌≡◌, true, false, OnOk, IfErr};
+ghost use Rattle.program_io.specs.Counted.{Writes};
+ghost use Rattle.verity_commands.specs.Diffs.{DiffsImages, FailsDiff, FailsToDiff, FindsSame, is_unchanged, difference_totals};
+
+use crate::diff_object::diff_object;
+use crate::paths::{HashPaths, TwoHashes, open_both};
+use crate::tree_fault::TreeFault;
+use block_device::BlockDev;
+use image_files::Images;
+use program_io::{Counted, WriteFault};
+use std::alloc::Global;
+use std::io::Write;
+use tree_difference::{Roots, Totals, compare_trees};
+
+/// `diff [--blocks N] [--json] HASH1 ROOT1 HASH2 ROOT2`: a line for each longest run of data blocks that differ, and the
+/// totals; or one JSON object of both.
+/// Where the two aren't the same, that is the fault `Differs`.
+pub fn diff_images<'a, I: Images, W: Write>(
+    alloc: Global,
+    images: &mut I,
+    paths: HashPaths<'a>,
+    roots: Roots,
+    most: Option<u64>,
+    json: bool,
+    writer: &mut Counted<W>,
+) -> Result<(), TreeFault<'a>>
+    ensures ok { OnOk result (DiffsImages I.relations I.Dev.state images.old images.new W.contents writer.old writer.new paths.entry roots most json) }
+    ensures err { IfErr result (FailsToDiff I.relations I.Dev.state images.old images.new W.contents writer.old writer.new paths.entry roots most json) }
+{
+    let mut two = open_both(images, paths)?;
+    diff(alloc, &mut two, roots, most, json, writer)
+}
+
+// Compares the trees of the two hash images.
+fn diff<'a, D: BlockDev, W: Write>(
+    alloc: Global,
+    two: &mut TwoHashes<D>,
+    roots: Roots,
+    most: Option<u64>,
+    json: bool,
+    writer: &mut Counted<W>,
+) -> Result<(), TreeFault<'a>>
+    ensures ok { OnOk result (FindsSame json D.state two.old two.new W.contents writer.old writer.new roots most) }
+    ensures err { IfErr result (FailsDiff json D.state two.old two.new W.contents writer.old writer.new roots most) }
+{
+    if json {
+        return diff_object(alloc, two, roots, most, writer);
+    }
+    diff_lines(alloc, two, roots, most, writer)
+}
+
+fn diff_lines<'a, D: BlockDev, W: Write>(
+    alloc: Global,
+    two: &mut TwoHashes<D>,
+    roots: Roots,
+    most: Option<u64>,
+    writer: &mut Counted<W>,
+) -> Result<(), TreeFault<'a>>
+    ensures ok { OnOk result (FindsSame false D.state two.old two.new W.contents writer.old writer.new roots most) }
+    ensures err { IfErr result (FailsDiff false D.state two.old two.new W.contents writer.old writer.new roots most) }
+{
+    let first = &mut two.first.device;
+    let second = &mut two.second.device;
+    let totals = compare_trees(alloc, first, second, roots, most, writer)?;
+    say_totals(writer, totals)?;
+    if !is_unchanged(totals) {
+        return Err(TreeFault::Differs);
+    }
+    Ok(())
+}
+
+/// Whether no block is changed, removed or added.
+pub(crate) fn is_unchanged(totals: Totals) -> bool
+    ensures { result ≡ is_unchanged totals }
+{
+    totals.changed == 0 && totals.removed == 0 && totals.added == 0
+}
+
+#[tactic(auto, unfolding(crate::specs::Diffs::difference_totals))]
+fn say_totals<W: Write>(writer: &mut Counted<W>, totals: Totals) -> Result<(), WriteFault>
+    ensures { Writes W.contents writer.old writer.new (difference_totals totals) result }
+{
+    let Totals {
+        same,
+        changed,
+        removed,
+        added,
+    } = totals;
+    writer.print(format_args!("same {same} changed {changed} "))?;
+    writer.print(format_args!("removed {removed} added {added}\n"))
+}

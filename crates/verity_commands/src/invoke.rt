@@ -1,0 +1,69 @@
+//! The commands on hash trees by their words.
+ghost use Rattle.std.specs.Prelude.{OnOk, IfErr};
+ghost use Rattle.verity_commands.specs.Invocations.{DiffsByWords, FailsDiffByWords, FailsSurveyByWords, SurveysByWords};
+
+use crate::diff::diff_images;
+use crate::paths::HashPaths;
+use crate::survey::{SurveyOrder, survey_images};
+use crate::tree_fault::TreeFault;
+use command_line::{DiffWords, VerifyWords};
+use device_adapters::Watchers;
+use image_files::Images;
+use program_io::Counted;
+use std::alloc::Global;
+use std::io::Write;
+use tree_difference::Roots;
+use tree_shape::Digest;
+
+const SECTOR: u64 = 512;
+
+/// `verify --all [--json] [--progress] [--hash-offset BYTES] DATA HASH ROOT`, with the root digest that the words name.
+pub fn invoke_survey<'a, I: Images, S: Watchers, W: Write>(
+    alloc: Global,
+    images: &mut I,
+    watchers: &S,
+    words: &VerifyWords<'a>,
+    root: &Digest,
+    writer: &mut Counted<W>,
+) -> Result<(), TreeFault<'a>>
+    ensures ok { OnOk result (SurveysByWords I.relations I.Dev.state images.old images.new W.contents writer.old writer.new words.now root.now) }
+    ensures err { IfErr result (FailsSurveyByWords I.relations I.Dev.state images.old images.new W.contents writer.old writer.new words.now root.now) }
+{
+    let order = SurveyOrder {
+        data: words.data_path,
+        hash: words.hash_path,
+        hash_first: words.hash_offset / SECTOR,
+        json: words.json,
+        progress: words.progress,
+    };
+    survey_images(alloc, images, watchers, order, root, writer)
+}
+
+/// `diff [--blocks N] [--json] HASH1 ROOT1 HASH2 ROOT2`
+pub fn invoke_diff<'a, I: Images, W: Write>(
+    alloc: Global,
+    images: &mut I,
+    words: DiffWords<'a>,
+    writer: &mut Counted<W>,
+) -> Result<(), TreeFault<'a>>
+    ensures ok { OnOk result (DiffsByWords I.relations I.Dev.state images.old images.new W.contents writer.old writer.new words.entry) }
+    ensures err { IfErr result (FailsDiffByWords I.relations I.Dev.state images.old images.new W.contents writer.old writer.new words.entry) }
+{
+    let DiffWords {
+        old_path,
+        old_root,
+        new_path,
+        new_root,
+        blocks,
+        json,
+    } = words;
+    let paths = HashPaths {
+        first: old_path,
+        second: new_path,
+    };
+    let roots = Roots {
+        first: old_root,
+        second: new_root,
+    };
+    diff_images(alloc, images, paths, roots, blocks, json, writer)
+}

@@ -1,0 +1,86 @@
+//! Why a command on hash trees ends early.
+ghost use Rattle.std.specs.Prelude.{◌≡◌};
+ghost use Rattle.verity_commands.specs.declared.tree_fault.TreeFault.TheVariants as tree_fault;
+ghost use Rattle.tree_survey.specs.declared.fault.SurveyFault.TheVariants as survey_fault;
+
+use image_commands::NoTree;
+use image_files::UnopenedFile;
+use program_io::WriteFault;
+use tree_difference::DifferenceFault;
+use tree_survey::SurveyFault;
+use verity_format::VerifyFault;
+
+/// Why a command on hash trees ends early.
+#[derive(Clone, Copy, Debug, PartialEq, Eq)]
+pub enum TreeFault<'a> {
+    /// A file isn't opened.
+    Open(UnopenedFile<'a>),
+    /// The trees aren't compared.
+    Trees(DifferenceFault),
+    /// They were compared and differ.
+    Differs,
+    /// The image isn't gone over to its end.
+    Survey(SurveyFault),
+    /// No hash block begins at the place of the superblock.
+    Unaligned,
+    /// A hash block isn't zero after its last used entry: the image that was formatted has more data blocks than the
+    /// superblock says.
+    UnusedEntries,
+    /// It was gone over, and not all of it is good.
+    Damaged,
+    /// A line can't be written.
+    Write,
+}
+
+impl<'a> From<UnopenedFile<'a>> for TreeFault<'a> {
+    ghost from_gives = { λ file given. given ≡ tree_fault.Open file };
+
+    fn from(file: UnopenedFile<'a>) -> Self {
+        TreeFault::Open(file)
+    }
+}
+
+impl From<DifferenceFault> for TreeFault<'_> {
+    ghost from_gives = { λ fault given. given ≡ tree_fault.Trees fault };
+
+    fn from(fault: DifferenceFault) -> Self {
+        TreeFault::Trees(fault)
+    }
+}
+
+impl From<SurveyFault> for TreeFault<'_> {
+    ghost from_gives = { λ fault given. given ≡ tree_fault.Survey fault };
+
+    fn from(fault: SurveyFault) -> Self {
+        TreeFault::Survey(fault)
+    }
+}
+
+impl From<NoTree> for TreeFault<'_> {
+    ghost use Rattle.verity_commands.specs.Surveys.{no_tree_fault};
+
+    ghost from_gives = { λ fault given. given ≡ no_tree_fault fault };
+
+    fn from(fault: NoTree) -> Self {
+        match fault {
+            NoTree::Unread(fault) => TreeFault::from(fault),
+            NoTree::Unaligned => TreeFault::Unaligned,
+        }
+    }
+}
+
+impl From<VerifyFault> for TreeFault<'_> {
+    ghost from_gives = { λ fault given. given ≡ tree_fault.Survey (survey_fault.Image fault) };
+
+    fn from(fault: VerifyFault) -> Self {
+        TreeFault::Survey(SurveyFault::Image(fault))
+    }
+}
+
+impl From<WriteFault> for TreeFault<'_> {
+    ghost from_gives = { λ _ given. given ≡ tree_fault.Write };
+
+    fn from(_fault: WriteFault) -> Self {
+        TreeFault::Write
+    }
+}
