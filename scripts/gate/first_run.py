@@ -87,6 +87,9 @@ def main():
     signal.signal(signal.SIGTERM, lambda *_: sys.exit(1))
     expect("first run", run(TOP, "dmstack", "session", "D=ramp:8"), 0, REPLIES, COMPILING + COMPILED)
     expect("second run", run(TOP, "dmstack", "session", "D=ramp:8"), 0, REPLIES, "")
+    version = rb"dmstack 1, compiled and not proved; to be proved with rattle logic [0-9a-f]{16}\n"
+    ran = run(TOP, "dmstack", "version")
+    expect("version", ran, 0, ran.stdout if re.fullmatch(version, ran.stdout) else b"(that it isn't proved)\n", "")
     expect("a word for prove", run(TOP, "prove", "all"), 2, b"", r"prove: [^\n]*\n")
     expect("an unknown word for check", run(TOP, "check", "--every"), 2, b"", r"check: [^\n]*\n")
     with tempfile.TemporaryDirectory(prefix="first-run-") as room:

@@ -19,9 +19,12 @@ for it in (signal.SIGINT, signal.SIGTERM):
     signal.signal(it, signal.SIG_DFL)
 
 sys.dont_write_bytecode = True
-from kit import TOP, begin, crate_of, module, program, with_hints
+from kit import TOP, begin, crate_of, crates, module, program, with_hints
 
 PROGRAM = "dmstack"
+# The source of the program's version, how its text begins, and how it begins in a program that is compiled alone.
+VERSION = "crates/manual_pages/src/version.rt"
+PROVED, COMPILED = 'b"dmstack 1, proved with ', 'b"dmstack 1, compiled and not proved; to be proved with '
 # As fast as -O3, and made in four fifths of its time.
 HOW = "-O2"
 # Of the disk, in MB; what is made takes half.
@@ -33,6 +36,22 @@ def tell(text):
     print(f"dmstack: {text}", file=sys.stderr, flush=True)
 
 
+def unproved(room):
+    """A copy of the sources in which the program's version says that it wasn't proved."""
+    top = os.path.join(room, "sources")
+    for crate in crates():
+        shutil.copytree(f"{crate.folder}/src", os.path.join(top, "crates", crate.name, "src"))
+    shutil.copy("crates.txt", top)
+    with open(os.path.join(top, VERSION), "r+", encoding="utf-8") as file:
+        text = file.read()
+        if text.count(PROVED) != 1:
+            raise OSError(errno.EINVAL, f"no text begins once with {PROVED}", VERSION)
+        file.seek(0)
+        file.write(text.replace(PROVED, COMPILED))
+        file.truncate()
+    return top
+
+
 def compiled(made, cpu):
     """Compiles the program in a folder beside the place that it is for, and returns why it could not."""
     folder = os.path.dirname(made)
@@ -41,7 +60,7 @@ def compiled(made, cpu):
         return f"{folder} has {free} MB free, and {ROOM} are needed"
     tell("compiling the program without its proofs, in about two minutes; ./prove proves it")
     with tempfile.TemporaryDirectory(prefix="making-", dir=folder) as room:
-        crate = crate_of(PROGRAM)
+        crate = crate_of(PROGRAM, unproved(room))
         kept, why = module(crate, room)
         if not kept:
             return why

@@ -5,9 +5,10 @@ ghost use Rattle.program_io.specs.Counted.{Writes};
 use program_io::{Counted, WriteFault};
 use std::io::Write;
 
-/// Prints the program's name and the logic of the prover that its sources are proved with.
+/// Prints the program's name and the logic of the prover that proved it. `scripts/lib/compile.py`, which runs no proofs, compiles
+/// another text in its place.
 pub fn print_version<W: Write>(writer: &mut Counted<W>) -> Result<(), WriteFault>
-    ensures { Writes W.contents writer.old writer.new (codes "dmstack 1, of sources that are proved with rattle logic dac8208d650f15bf\n") result }
+    ensures { Writes W.contents writer.old writer.new (codes "dmstack 1, proved with rattle logic dac8208d650f15bf\n") result }
 {
-    writer.put(b"dmstack 1, of sources that are proved with rattle logic dac8208d650f15bf\n")
+    writer.put(b"dmstack 1, proved with rattle logic dac8208d650f15bf\n")
 }
