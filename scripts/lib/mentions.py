@@ -31,7 +31,7 @@ def known_names():
     found = set()
     for it in (file for pattern in SOURCES for file in glob.glob(pattern, recursive=True)):
         found |= {*re.split(r"[/.]", it), os.path.basename(it)}
-        if os.path.isfile(it) and not it.endswith((".md", "/rules.txt")):
+        if os.path.isfile(it) and not it.endswith((".md", "/rules.txt", "/calls.txt")):
             with open(it, encoding="utf-8", errors="replace") as file:
                 found.update(TOKEN.findall(file.read()))
     return found | {*TOKEN.findall(text_of("crates.txt"))} | {*os.listdir(TOP)} | {*glob.glob("docs/*"), *map(os.path.basename, glob.glob("docs/*"))}
