@@ -34,17 +34,15 @@ PLACES = {
     "block_device": (8, NOT_YET),
     "command_line": (11, NOT_YET),
     "command_parser": (11, PARSER),
-    "fec_area": (6, NOT_YET),
     "hash_tree": (14, STATED),
     "image_commands": (15, NOT_YET),
     "image_files": (8, NOT_YET),
-    "image_pin": (11, NOT_YET),
+    "image_pin": (2, STATED),
     "partition_commands": (30, NOT_YET),
     "program_io": (4, VALUES),
-    "reed_solomon": (4, STATED),
     "repair_commands": (1, NOT_YET),
     "request_queue": (1, NOT_YET),
-    "rescue_map": (25, NOT_YET),
+    "rescue_map": (4, STATED),
     "runs": (9, VALUES),
     "scan_commands": (25, NOT_YET),
     "stack_commands": (3, NOT_YET),
@@ -71,6 +69,8 @@ TRUSTED = {
 # These answer an `OutOfMemory`.
 OWN = {
     ("dm_table", "try_clone"): (13, "`try_clone` of a name's owners, `Options::push` and `Bases::push`"),
+    ("rescue_map", "filled"): (1, "`Map::push`"),
+    ("rescue_map", "move_marks"): (1, "`Map::push`"),
     ("table_text", "read_known"): (1, "`Options::push`"),
     ("table_text", "read_bases"): (1, "`Bases::push`"),
 }
