@@ -49,7 +49,6 @@ PLACES = {
     "stack_files": (14, NOT_YET),
     "stack_lines": (2, CACHE),
     "stack_recovery": (4, NOT_YET),
-    "stack_rules": (4, STATED),
     "stack_session": (7, NOT_YET),
     "table_text": (3, STATED),
     "tree_difference": (3, NOT_YET),
@@ -71,6 +70,7 @@ OWN = {
     ("dm_table", "try_clone"): (13, "`try_clone` of a name's owners, `Options::push` and `Bases::push`"),
     ("rescue_map", "filled"): (1, "`Map::push`"),
     ("rescue_map", "move_marks"): (1, "`Map::push`"),
+    ("stack_rules", "new"): (1, "`Table::try_clone`"),
     ("table_text", "read_known"): (1, "`Options::push`"),
     ("table_text", "read_bases"): (1, "`Bases::push`"),
 }
