@@ -55,7 +55,7 @@ PLACES = {
     "tree_repair": (8, NOT_YET),
     "verified_cache": (5, CACHE),
     "verity_commands": (6, NOT_YET),
-    "verity_format": (7, NOT_YET),
+    "verity_format": (6, NOT_YET),
 }
 
 # Of functions that are trusted: their crate and name, how many places each has, and why.
