@@ -14,7 +14,7 @@ use crate::round::{restore_blocks, take_column};
 use allocation::{OutOfMemory, push, zeros};
 use block_device::{BlockDev, DeviceFault};
 use reed_solomon::restoring_products;
-use std::alloc::{AllocError, Global};
+use std::alloc::Global;
 use thiserror::Error;
 
 /// A lost block, and which others are lost with it.
@@ -52,16 +52,6 @@ impl From<DeviceFault> for RestoreFault {
 
     fn from(_fault: DeviceFault) -> RestoreFault {
         RestoreFault::Device
-    }
-}
-
-impl From<AllocError> for RestoreFault {
-    ghost use Rattle.fec_area.specs.declared.restoring.RestoreFault.TheVariants.{NoMemory};
-
-    ghost from_gives = { λ _ e. e ≡ NoMemory };
-
-    fn from(_error: AllocError) -> RestoreFault {
-        RestoreFault::NoMemory
     }
 }
 

@@ -14,7 +14,7 @@ use crate::round::sum_parity;
 use allocation::{OutOfMemory, zeros};
 use block_device::{BlockDev, DeviceFault};
 use reed_solomon::parity_products;
-use std::alloc::{AllocError, Global};
+use std::alloc::Global;
 use thiserror::Error;
 
 /// Why parity wasn't written, or not all of it.
@@ -41,16 +41,6 @@ impl From<DeviceFault> for ParityFault {
 
     fn from(_fault: DeviceFault) -> ParityFault {
         ParityFault::Device
-    }
-}
-
-impl From<AllocError> for ParityFault {
-    ghost use Rattle.fec_area.specs.declared.writing.ParityFault.TheVariants.{NoMemory};
-
-    ghost from_gives = { λ _ e. e ≡ NoMemory };
-
-    fn from(_error: AllocError) -> ParityFault {
-        ParityFault::NoMemory
     }
 }
 

@@ -1,5 +1,5 @@
 //! The names of a pin's lines.
-ghost use Rattle.std.specs.Prelude.{◌≡◌};
+ghost use Rattle.std.specs.Prelude.{◌≡◌, ◌≤◌, length};
 ghost use Rattle.image_pin.specs.Names.{name_of, name_text};
 
 /// What a line of a pin says.
@@ -15,7 +15,8 @@ pub enum PinName {
 impl PinName {
     /// The name as it stands in a pin.
     pub fn text(self) -> &'static str
-        ensures { result.now ≡ name_text self }
+        ensures value { result.now ≡ name_text self }
+        ensures short { length result.now ≤ 15 }
     {
         match self {
             PinName::Root => "root",

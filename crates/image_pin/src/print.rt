@@ -1,11 +1,14 @@
 //! Pins printed.
-ghost use Rattle.std.specs.Prelude.{◌≡◌, ◌++◌, Ok, IfOk, OnOk, decimal};
+ghost use Rattle.std.specs.Prelude.{◌≡◌, ◌≤◌, ◌++◌, Ok, IfErr, IfOk, OnErr, OnOk, decimal, length};
+ghost use Rattle.allocation.specs.Asked.{asked};
+ghost use Rattle.allocation.specs.Refusal.{IsOutOfMemory};
 ghost use Rattle.verity_format.specs.Line.{salt_word};
 ghost use Rattle.hex.specs.Hex.{IsBytes, encode_lower};
 ghost use Rattle.image_pin.specs.PinTexts.{pin_line, pin_of, pin_text};
 
 use crate::name::PinName;
 use crate::pin::Pin;
+use allocation::{OutOfMemory, append, copied, push};
 use itoa::Buffer;
 use std::alloc::{AllocError, Global};
 
@@ -13,14 +16,15 @@ use std::alloc::{AllocError, Global};
 ///
 /// # Errors
 ///
-/// Memory for the text was refused.
+/// An allocation of room for at most 512 bytes was refused.
 pub fn print_pin(alloc: Global, pin: &Pin) -> Result<Vec<u8>, AllocError>
     ensures text { IfOk result (λ text. text.items ≡ pin_text pin.now) }
     ensures reads_back { IfOk result (λ text. pin_of text.items ≡ Ok pin.now) }
+    ensures err { OnErr result (IsOutOfMemory 512) }
 {
-    let mut text = Vec::from_slice(alloc, b"dmstack-pin 1\n")?;
-    push_hex(alloc, &mut text, PinName::Root, pin.root.as_bytes())?;
-    push_salt(alloc, &mut text, pin.salt.bytes())?;
+    let mut text = copied(alloc, b"dmstack-pin 1\n")?;
+    push_hex(&mut text, PinName::Root, pin.root.as_bytes())?;
+    push_salt(&mut text, pin.salt.bytes())?;
     push_number(&mut text, PinName::DataBlockSize, u64::from(pin.data_block))?;
     push_number(&mut text, PinName::HashBlockSize, u64::from(pin.hash_block))?;
     push_number(&mut text, PinName::DataBlocks, pin.blocks)?;
@@ -28,43 +32,47 @@ pub fn print_pin(alloc: Global, pin: &Pin) -> Result<Vec<u8>, AllocError>
 }
 
 // A name, a space, a value and a newline.
-fn push_line(text: &mut Vec<u8>, name: PinName, value: &[u8]) -> Result<(), AllocError>
-    ensures { OnOk result (text.new.items ≡ text.old.items ++ pin_line name value.now) }
+fn push_line(text: &mut Vec<u8>, name: PinName, value: &[u8]) -> Result<(), OutOfMemory>
+    requires { length value.now ≤ 512 }
+    ensures ok { OnOk result (text.new.items ≡ text.old.items ++ pin_line name value.now) }
+    ensures err { IfErr result (λ e. asked e ≤ 512) }
 {
-    text.extend_from_slice(name.text().as_bytes())?;
-    text.push(b' ')?;
-    text.extend_from_slice(value)?;
-    text.push(b'\n')?;
+    append(text, name.text().as_bytes())?;
+    push(text, b' ')?;
+    append(text, value)?;
+    push(text, b'\n')?;
     Ok(())
 }
 
-// A name with hexadecimal digits.
-fn push_hex(
-    alloc: Global,
-    text: &mut Vec<u8>,
-    name: PinName,
-    bytes: &[u8],
-) -> Result<(), AllocError>
+// A name with the hexadecimal digits of at most 256 bytes.
+fn push_hex(text: &mut Vec<u8>, name: PinName, bytes: &[u8]) -> Result<(), OutOfMemory>
+    requires { length bytes.now ≤ 256 }
     ensures printed { OnOk result (text.new.items ≡ text.old.items ++ pin_line name (encode_lower bytes.now)) }
     ensures bytes { IsBytes bytes.now }
+    ensures err { IfErr result (λ e. asked e ≤ 512) }
 {
-    let digits = hex::encode(alloc, bytes)?;
-    push_line(text, name, digits.as_bytes())
+    let mut buffer = [0u8; 512];
+    let digits = &mut buffer[..2 * bytes.len()];
+    hex::encode_to_slice(bytes, digits).unwrap();
+    push_line(text, name, digits)
 }
 
-// The salt in hexadecimal digits, or `-` where there are no bytes.
-fn push_salt(alloc: Global, text: &mut Vec<u8>, salt: &[u8]) -> Result<(), AllocError>
+// The salt in hexadecimal digits, or `-` if it has no bytes.
+fn push_salt(text: &mut Vec<u8>, salt: &[u8]) -> Result<(), OutOfMemory>
+    requires { length salt.now ≤ 256 }
     ensures printed { OnOk result (text.new.items ≡ text.old.items ++ pin_line PinName.Salt (salt_word salt.now)) }
     ensures bytes { IsBytes salt.now }
+    ensures err { IfErr result (λ e. asked e ≤ 512) }
 {
     if salt.is_empty() {
         return push_line(text, PinName::Salt, b"-");
     }
-    push_hex(alloc, text, PinName::Salt, salt)
+    push_hex(text, PinName::Salt, salt)
 }
 
-fn push_number(text: &mut Vec<u8>, name: PinName, number: u64) -> Result<(), AllocError>
-    ensures { OnOk result (text.new.items ≡ text.old.items ++ pin_line name (decimal number)) }
+fn push_number(text: &mut Vec<u8>, name: PinName, number: u64) -> Result<(), OutOfMemory>
+    ensures ok { OnOk result (text.new.items ≡ text.old.items ++ pin_line name (decimal number)) }
+    ensures err { IfErr result (λ e. asked e ≤ 512) }
 {
     let mut digits = Buffer::new();
     push_line(text, name, digits.format(number).as_bytes())

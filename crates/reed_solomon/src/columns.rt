@@ -7,12 +7,12 @@ ghost use Rattle.reed_solomon.specs.Products.{AreAdded, product_at};
 
 use crate::products::Products;
 use crate::restoring::factors;
-use allocation::{append, push};
-use std::alloc::{AllocError, Global};
+use allocation::{OutOfMemory, append, push};
+use std::alloc::Global;
 
 /// The products by which the bytes of codewords sum up to those at the lost places: of place i by the factor for the
 /// k-th of n lost places at i * n + k.
-pub fn restoring_products(alloc: Global, lost: &[usize]) -> Result<Vec<Products>, AllocError>
+pub fn restoring_products(alloc: Global, lost: &[usize]) -> Result<Vec<Products>, OutOfMemory>
     requires in_word { EachIndex lost.now (λ k. slice_index lost.now k < 255) }
     requires few { length lost.now ≤ 255 }
     ensures ok { IfOk result (λ v. AreProducts lost.now v.items) }
@@ -29,7 +29,7 @@ pub fn restoring_products(alloc: Global, lost: &[usize]) -> Result<Vec<Products>
 }
 
 // The factors of all places for each lost place, one row of 255 after the other.
-fn factor_rows(alloc: Global, lost: &[usize]) -> Result<Vec<u8>, AllocError>
+fn factor_rows(alloc: Global, lost: &[usize]) -> Result<Vec<u8>, OutOfMemory>
     requires { EachIndex lost.now (λ k. slice_index lost.now k < 255) }
     ensures ok { IfOk result (λ v. AreRows lost.now v.items (length lost.now)) }
     ensures err { OnErr result (IsOutOfMemory 255) }
@@ -42,7 +42,7 @@ fn factor_rows(alloc: Global, lost: &[usize]) -> Result<Vec<u8>, AllocError>
 }
 
 /// As `restoring_products`, where the parity of codewords is lost.
-pub fn parity_products(alloc: Global, parity: usize) -> Result<Vec<Products>, AllocError>
+pub fn parity_products(alloc: Global, parity: usize) -> Result<Vec<Products>, OutOfMemory>
     requires { parity ≤ 24 }
     ensures ok { IfOk result (λ v. AreProducts (parity_places parity) v.items) }
     ensures err { OnErr result (IsOutOfMemory 255) }

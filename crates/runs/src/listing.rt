@@ -1,11 +1,12 @@
 //! Who is told of lines: a writer, or a list in memory.
-ghost use Rattle.std.specs.Prelude.{◌≡◌, ◌++◌, ◌∷◌, [], ℕ, Bool, List, Option, OnOk};
+ghost use Rattle.std.specs.Prelude.{◌≡◌, [], ℕ, Bool, List, Option};
 ghost use Rattle.runs.specs.Lines.{listing_line};
 ghost use Rattle.runs.specs.Listings.{Tells};
 
 use crate::line::{Line, say_line};
+use allocation::push;
 use program_io::{Counted, WriteFault};
-use std::alloc::{AllocError, Global};
+use std::alloc::Global;
 use std::io::Write;
 
 /// Who is told of lines, one after another.
@@ -31,7 +32,7 @@ impl<W: Write> Listing for Counted<W> {
     }
 }
 
-/// Lines that are kept in memory, and whether one couldn't be, since a growth was refused.
+/// Lines that are kept in memory, and whether one couldn't be, since an allocation was refused.
 #[derive(Drop)]
 pub struct KeptLines {
     pub lines: Vec<Line>,
@@ -60,7 +61,7 @@ impl Listing for KeptLines {
 
     #[tactic(auto, using(crate::proofs::KeptLemmas::lines_text_last))]
     fn tell(&mut self, line: Line) -> Result<(), WriteFault> {
-        match keep(&mut self.lines, line) {
+        match push(&mut self.lines, line) {
             Ok(()) => Ok(()),
             Err(_refused) => {
                 self.refused = true;
@@ -68,11 +69,4 @@ impl Listing for KeptLines {
             }
         }
     }
-}
-
-fn keep(lines: &mut Vec<Line>, line: Line) -> Result<(), AllocError>
-    ensures { OnOk result (lines.new.items ≡ lines.old.items ++ line ∷ []) }
-{
-    lines.push(line)?;
-    Ok(())
 }

@@ -9,6 +9,7 @@ ghost use Rattle.runs.specs.Objects.{hash_items, hash_json, hashes_json, run_ite
 use crate::kind::Kind;
 use crate::line::Line;
 use crate::run::Run;
+use allocation::push;
 use serde_json::{Value, json};
 use std::alloc::{AllocError, Global};
 
@@ -47,7 +48,7 @@ fn add_run(alloc: Global, values: &mut Vec<Value>, line: Line) -> Result<(), All
     match line {
         Line::Run(run) => {
             let value = run_value(alloc, run)?;
-            values.push(value)?;
+            push(values, value)?;
             Ok(())
         }
         Line::More => Ok(()),
@@ -61,7 +62,7 @@ fn add_hash(alloc: Global, values: &mut Vec<Value>, line: Line) -> Result<(), Al
     match line {
         Line::Hash { level, number } => {
             let value = hash_value(alloc, level, number)?;
-            values.push(value)?;
+            push(values, value)?;
             Ok(())
         }
         Line::Run(_) => Ok(()),

@@ -3,7 +3,6 @@ ghost use Rattle.std.specs.Prelude.{◌≡◌};
 ghost use Rattle.stack_rules.specs.declared.refusal.LoadFault.TheVariants as load_fault;
 
 use allocation::OutOfMemory;
-use std::alloc::AllocError;
 use thiserror::Error;
 
 /// Why leaves aren't taken, in the order of the checks.
@@ -144,14 +143,6 @@ pub enum LoadFault {
     /// An allocation was refused.
     #[error("NoMemory")]
     NoMemory,
-}
-
-impl From<AllocError> for LoadFault {
-    ghost from_gives = { λ _ fault. fault ≡ load_fault.NoMemory };
-
-    fn from(_error: AllocError) -> LoadFault {
-        LoadFault::NoMemory
-    }
 }
 
 impl From<OutOfMemory> for LoadFault {

@@ -37,7 +37,11 @@ printed_table show lines = flat_map (λ line. line_text show line ++ 10 ∷ []) 
 abbrev pub spaced_word : Word → List ℕ
 spaced_word word = 32 ∷ word
 
--- these words were printed behind a text, each after a space
+-- how many bytes these words print, each after a space
+abbrev pub printed_length : List Word → ℕ
+printed_length words = length (flat_map spaced_word words)
+
+-- these words were printed after a text, each after a space
 abbrev pub PrintsWords : Vec ℕ Global → List Word → Vec ℕ Global → Type 0
 PrintsWords old words new = new.items ≡ old.items ++ flat_map spaced_word words
 

@@ -1,13 +1,16 @@
 //! Tables printed as text.
-ghost use Rattle.std.specs.Prelude.{◌≡◌, ◌∷◌, ◌++◌, [], OnOk, IfOk, Ok, codes, decimal, flat_map, length};
+ghost use Rattle.std.specs.Prelude.{◌≡◌, ◌≤◌, ◌+◌, ◌∷◌, ◌++◌, [], OnErr, OnOk, IfErr, IfOk, Ok, codes, decimal, flat_map, length};
+ghost use Rattle.allocation.specs.Asked.{asked};
+ghost use Rattle.allocation.specs.Refusal.{IsOutOfMemory};
 ghost use Rattle.table_text.specs.Keys.{printed_lines};
 ghost use Rattle.dm_table.specs.Grammar.{IsLineOfGrammar};
 ghost use Rattle.dm_table.specs.TableText.{table_of};
-ghost use Rattle.table_text.specs.Print.{PrintsWords, base_words, line_text, striped_words, printed_table, target_words};
+ghost use Rattle.table_text.specs.Print.{PrintsWords, base_words, line_text, printed_length, striped_words, printed_table, target_words};
 
 use crate::print_crypt::print_crypt;
 use crate::print_unstriped::print_unstriped;
 use crate::print_verity::print_verity;
+use allocation::{OutOfMemory, append, push};
 use dm_table::{Base, Line, Table, Target};
 use itoa::Buffer;
 use std::alloc::{AllocError, Global};
@@ -17,15 +20,16 @@ use std::alloc::{AllocError, Global};
 ///
 /// # Errors
 ///
-/// Memory for the text was refused.
+/// An allocation of room for at most as many bytes as the text has was refused.
 pub fn print_table(alloc: Global, table: &Table, show_keys: bool) -> Result<Vec<u8>, AllocError>
     ensures text { IfOk result (λ text. text.items ≡ printed_table show_keys table.now) }
     ensures reads_back { IfOk result (λ text. table_of text.items ≡ Ok (printed_lines show_keys table.now)) }
+    ensures err { OnErr result (IsOutOfMemory (length (printed_table show_keys table.now))) }
 {
     let mut text = Vec::new(alloc);
     for line in table.lines() {
         push_line(&mut text, line, show_keys)?;
-        text.push(b'\n')?;
+        push(&mut text, b'\n')?;
     }
     Ok(text)
 }
@@ -34,18 +38,20 @@ pub fn print_table(alloc: Global, table: &Table, show_keys: bool) -> Result<Vec<
 ///
 /// # Errors
 ///
-/// Memory for the text was refused.
+/// An allocation of room for at most as many bytes as the text has was refused.
 pub fn print_line(alloc: Global, line: &Line, show_keys: bool) -> Result<Vec<u8>, AllocError>
     ensures text { IfOk result (λ text. text.items ≡ line_text show_keys line.now) }
     ensures reads_back { IsLineOfGrammar line.now → IfOk result (λ text. table_of text.items ≡ Ok (printed_lines show_keys (line.now ∷ []))) }
+    ensures err { OnErr result (IsOutOfMemory (length (line_text show_keys line.now))) }
 {
     let mut text = Vec::new(alloc);
     push_line(&mut text, line, show_keys)?;
     Ok(text)
 }
 
-fn push_line(text: &mut Vec<u8>, line: &Line, show_keys: bool) -> Result<(), AllocError>
-    ensures { OnOk result (text.new.items ≡ text.old.items ++ line_text show_keys line.now) }
+fn push_line(text: &mut Vec<u8>, line: &Line, show_keys: bool) -> Result<(), OutOfMemory>
+    ensures ok { OnOk result (text.new.items ≡ text.old.items ++ line_text show_keys line.now) }
+    ensures err { IfErr result (λ e. asked e ≤ length (line_text show_keys line.now)) }
 {
     push_number(text, line.start)?;
     push_spaced_number(text, line.length)?;
@@ -54,8 +60,9 @@ fn push_line(text: &mut Vec<u8>, line: &Line, show_keys: bool) -> Result<(), All
 }
 
 #[tactic(auto, unfolding(crate::specs::Print::target_words))]
-fn print_target(text: &mut Vec<u8>, target: &Target, show_keys: bool) -> Result<(), AllocError>
-    ensures { OnOk result (PrintsWords text.old (target_words show_keys target.now) text.new) }
+fn print_target(text: &mut Vec<u8>, target: &Target, show_keys: bool) -> Result<(), OutOfMemory>
+    ensures ok { OnOk result (PrintsWords text.old (target_words show_keys target.now) text.new) }
+    ensures err { IfErr result (λ e. asked e ≤ printed_length (target_words show_keys target.now)) }
 {
     match target {
         Target::Linear(base) => print_linear(text, base),
@@ -68,16 +75,18 @@ fn print_target(text: &mut Vec<u8>, target: &Target, show_keys: bool) -> Result<
     }
 }
 
-fn print_linear(text: &mut Vec<u8>, base: &Base) -> Result<(), AllocError>
-    ensures { OnOk result (PrintsWords text.old (codes "linear" ∷ base_words base.now) text.new) }
+fn print_linear(text: &mut Vec<u8>, base: &Base) -> Result<(), OutOfMemory>
+    ensures ok { OnOk result (PrintsWords text.old (codes "linear" ∷ base_words base.now) text.new) }
+    ensures err { IfErr result (λ e. asked e ≤ printed_length (codes "linear" ∷ base_words base.now)) }
 {
     push_spaced(text, b"linear")?;
     print_base(text, base)?;
     Ok(())
 }
 
-fn print_striped(text: &mut Vec<u8>, chunk: u64, bases: &[Base]) -> Result<(), AllocError>
-    ensures { OnOk result (PrintsWords text.old (striped_words chunk bases.now) text.new) }
+fn print_striped(text: &mut Vec<u8>, chunk: u64, bases: &[Base]) -> Result<(), OutOfMemory>
+    ensures ok { OnOk result (PrintsWords text.old (striped_words chunk bases.now) text.new) }
+    ensures err { IfErr result (λ e. asked e ≤ printed_length (striped_words chunk bases.now)) }
 {
     push_spaced(text, b"striped")?;
     push_spaced_number(text, bases.len() as u64)?;
@@ -86,8 +95,9 @@ fn print_striped(text: &mut Vec<u8>, chunk: u64, bases: &[Base]) -> Result<(), A
     Ok(())
 }
 
-fn print_bases(text: &mut Vec<u8>, bases: &[Base]) -> Result<(), AllocError>
-    ensures { OnOk result (PrintsWords text.old (flat_map base_words bases.now) text.new) }
+fn print_bases(text: &mut Vec<u8>, bases: &[Base]) -> Result<(), OutOfMemory>
+    ensures ok { OnOk result (PrintsWords text.old (flat_map base_words bases.now) text.new) }
+    ensures err { IfErr result (λ e. asked e ≤ printed_length (flat_map base_words bases.now)) }
 {
     for base in bases {
         print_base(text, base)?;
@@ -95,30 +105,38 @@ fn print_bases(text: &mut Vec<u8>, bases: &[Base]) -> Result<(), AllocError>
     Ok(())
 }
 
-pub(crate) fn print_base(text: &mut Vec<u8>, base: &Base) -> Result<(), AllocError>
-    ensures { OnOk result (PrintsWords text.old (base_words base.now) text.new) }
+pub(crate) fn print_base(text: &mut Vec<u8>, base: &Base) -> Result<(), OutOfMemory>
+    ensures ok { OnOk result (PrintsWords text.old (base_words base.now) text.new) }
+    ensures err { IfErr result (λ e. asked e ≤ printed_length (base_words base.now)) }
 {
     push_spaced(text, base.device.as_slice())?;
-    push_spaced_number(text, base.offset)
+    push_spaced_number(text, base.offset)?;
+    Ok(())
 }
 
-pub(crate) fn push_spaced(text: &mut Vec<u8>, word: &[u8]) -> Result<(), AllocError>
-    ensures { OnOk result (text.new.items ≡ text.old.items ++ 32 ∷ word.now) }
+pub(crate) fn push_spaced(text: &mut Vec<u8>, word: &[u8]) -> Result<(), OutOfMemory>
+    ensures ok { OnOk result (text.new.items ≡ text.old.items ++ 32 ∷ word.now) }
+    ensures err { IfErr result (λ e. asked e ≤ 1 + length word.now) }
 {
-    text.push(b' ')?;
-    text.extend_from_slice(word)
+    push(text, b' ')?;
+    append(text, word)?;
+    Ok(())
 }
 
-pub(crate) fn push_spaced_number(text: &mut Vec<u8>, number: u64) -> Result<(), AllocError>
-    ensures { OnOk result (text.new.items ≡ text.old.items ++ 32 ∷ decimal number) }
+pub(crate) fn push_spaced_number(text: &mut Vec<u8>, number: u64) -> Result<(), OutOfMemory>
+    ensures ok { OnOk result (text.new.items ≡ text.old.items ++ 32 ∷ decimal number) }
+    ensures err { IfErr result (λ e. asked e ≤ 1 + length (decimal number)) }
 {
-    text.push(b' ')?;
-    push_number(text, number)
+    push(text, b' ')?;
+    push_number(text, number)?;
+    Ok(())
 }
 
-fn push_number(text: &mut Vec<u8>, number: u64) -> Result<(), AllocError>
-    ensures { OnOk result (text.new.items ≡ text.old.items ++ decimal number) }
+fn push_number(text: &mut Vec<u8>, number: u64) -> Result<(), OutOfMemory>
+    ensures ok { OnOk result (text.new.items ≡ text.old.items ++ decimal number) }
+    ensures err { IfErr result (λ e. asked e ≤ length (decimal number)) }
 {
     let mut digits = Buffer::new();
-    text.extend_from_slice(digits.format(number).as_bytes())
+    append(text, digits.format(number).as_bytes())?;
+    Ok(())
 }

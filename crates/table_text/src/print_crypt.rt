@@ -1,22 +1,24 @@
 //! The arguments of a `crypt` line, printed.
-ghost use Rattle.std.specs.Prelude.{◌≡◌, ◌*◌, ◌≤◌, ◌∷◌, ◌++◌, OnOk, codes, length, replicate};
+ghost use Rattle.std.specs.Prelude.{◌≡◌, ℕ, ◌+◌, ◌*◌, ◌≤◌, ◌∷◌, ◌++◌, IfErr, OnOk, codes, length, replicate};
+ghost use Rattle.allocation.specs.Asked.{asked};
 ghost use Rattle.hex.specs.Hex.{encode_lower};
 ghost use Rattle.table_text.specs.ArgumentWords.{crypt_words, key_word};
-ghost use Rattle.table_text.specs.Print.{PrintsWords};
+ghost use Rattle.table_text.specs.Print.{PrintsWords, printed_length};
 
 use crate::print::{print_base, push_spaced, push_spaced_number};
 use crate::print_digits::push_digits;
 use crate::print_options::print_options;
+use allocation::OutOfMemory;
 use dm_table::{Crypt, Key};
-use std::alloc::AllocError;
 
 /// Prints the target of a `crypt` line; in place of the key, unless it is asked for, so many zeros.
 pub(crate) fn print_crypt(
     text: &mut Vec<u8>,
     crypt: &Crypt,
     show_keys: bool,
-) -> Result<(), AllocError>
-    ensures { OnOk result (PrintsWords text.old (codes "crypt" ∷ crypt_words show_keys crypt.now) text.new) }
+) -> Result<(), OutOfMemory>
+    ensures ok { OnOk result (PrintsWords text.old (codes "crypt" ∷ crypt_words show_keys crypt.now) text.new) }
+    ensures err { IfErr result (λ e. asked e ≤ printed_length (codes "crypt" ∷ crypt_words show_keys crypt.now)) }
 {
     push_spaced(text, b"crypt")?;
     push_spaced(text, b"aes-xts-plain64")?;
@@ -27,8 +29,9 @@ pub(crate) fn print_crypt(
     Ok(())
 }
 
-fn print_key(text: &mut Vec<u8>, key: &Key, show_keys: bool) -> Result<(), AllocError>
-    ensures { OnOk result (text.new.items ≡ text.old.items ++ 32 ∷ key_word show_keys key.now) }
+fn print_key(text: &mut Vec<u8>, key: &Key, show_keys: bool) -> Result<(), OutOfMemory>
+    ensures ok { OnOk result (text.new.items ≡ text.old.items ++ 32 ∷ key_word show_keys key.now) }
+    ensures err { IfErr result (λ e. asked e ≤ 1 + length (key_word show_keys key.now)) }
 {
     let bytes = key.bytes();
     if show_keys {
@@ -38,10 +41,12 @@ fn print_key(text: &mut Vec<u8>, key: &Key, show_keys: bool) -> Result<(), Alloc
     }
 }
 
-fn push_zeros(text: &mut Vec<u8>, count: usize) -> Result<(), AllocError>
+fn push_zeros(text: &mut Vec<u8>, count: usize) -> Result<(), OutOfMemory>
     requires { count ≤ 128 }
-    ensures { OnOk result (text.new.items ≡ text.old.items ++ 32 ∷ replicate count 48) }
+    ensures ok { OnOk result (text.new.items ≡ text.old.items ++ 32 ∷ replicate count 48) }
+    ensures err { IfErr result (λ e. asked e ≤ 1 + length {A = ℕ} (replicate count 48)) }
 {
     let zeros = [b'0'; 128];
-    push_spaced(text, &zeros[..count])
+    push_spaced(text, &zeros[..count])?;
+    Ok(())
 }

@@ -1,17 +1,20 @@
 //! Bytes as hexadecimal digits.
-ghost use Rattle.std.specs.Prelude.{◌≡◌, ◌≤◌, ◌∷◌, ◌++◌, OnOk, length};
+ghost use Rattle.std.specs.Prelude.{◌≡◌, ◌≤◌, ◌+◌, ◌∷◌, ◌++◌, IfErr, OnOk, length};
+ghost use Rattle.allocation.specs.Asked.{asked};
 ghost use Rattle.hex.specs.Hex.{encode_lower};
 
 use crate::print::push_spaced;
-use std::alloc::AllocError;
+use allocation::OutOfMemory;
 
 /// Appends a space and the digits of at most 256 bytes, in lower case.
-pub(crate) fn push_digits(text: &mut Vec<u8>, bytes: &[u8]) -> Result<(), AllocError>
+pub(crate) fn push_digits(text: &mut Vec<u8>, bytes: &[u8]) -> Result<(), OutOfMemory>
     requires { length bytes.now ≤ 256 }
-    ensures { OnOk result (text.new.items ≡ text.old.items ++ 32 ∷ encode_lower bytes.now) }
+    ensures ok { OnOk result (text.new.items ≡ text.old.items ++ 32 ∷ encode_lower bytes.now) }
+    ensures err { IfErr result (λ e. asked e ≤ 1 + length (encode_lower bytes.now)) }
 {
     let mut buffer = [0u8; 512];
     let digits = &mut buffer[..2 * bytes.len()];
     hex::encode_to_slice(bytes, digits).unwrap();
-    push_spaced(text, digits)
+    push_spaced(text, digits)?;
+    Ok(())
 }

@@ -1,17 +1,19 @@
 //! The arguments of a `verity` line, printed.
-ghost use Rattle.std.specs.Prelude.{◌≡◌, ◌≤◌, ◌∷◌, ◌++◌, OnOk, codes, length};
+ghost use Rattle.std.specs.Prelude.{◌≡◌, ◌≤◌, ◌+◌, ◌∷◌, ◌++◌, IfErr, OnOk, codes, length};
+ghost use Rattle.allocation.specs.Asked.{asked};
 ghost use Rattle.table_text.specs.ArgumentWords.{options_words, salt_word, verity_words};
 ghost use Rattle.dm_table.specs.Verity.{verity_options};
-ghost use Rattle.table_text.specs.Print.{PrintsWords};
+ghost use Rattle.table_text.specs.Print.{PrintsWords, printed_length};
 
 use crate::print::{push_spaced, push_spaced_number};
 use crate::print_digits::push_digits;
+use allocation::OutOfMemory;
 use dm_table::Verity;
-use std::alloc::AllocError;
 
 /// Prints the target of a `verity` line.
-pub(crate) fn print_verity(text: &mut Vec<u8>, verity: &Verity) -> Result<(), AllocError>
-    ensures { OnOk result (PrintsWords text.old (codes "verity" ∷ verity_words verity.now) text.new) }
+pub(crate) fn print_verity(text: &mut Vec<u8>, verity: &Verity) -> Result<(), OutOfMemory>
+    ensures ok { OnOk result (PrintsWords text.old (codes "verity" ∷ verity_words verity.now) text.new) }
+    ensures err { IfErr result (λ e. asked e ≤ printed_length (codes "verity" ∷ verity_words verity.now)) }
 {
     push_spaced(text, b"verity")?;
     push_spaced(text, b"1")?;
@@ -28,9 +30,10 @@ pub(crate) fn print_verity(text: &mut Vec<u8>, verity: &Verity) -> Result<(), Al
     Ok(())
 }
 
-fn print_salt(text: &mut Vec<u8>, salt: &[u8]) -> Result<(), AllocError>
+fn print_salt(text: &mut Vec<u8>, salt: &[u8]) -> Result<(), OutOfMemory>
     requires { length salt.now ≤ 256 }
-    ensures { OnOk result (text.new.items ≡ text.old.items ++ 32 ∷ salt_word salt.now) }
+    ensures ok { OnOk result (text.new.items ≡ text.old.items ++ 32 ∷ salt_word salt.now) }
+    ensures err { IfErr result (λ e. asked e ≤ 1 + length (salt_word salt.now)) }
 {
     if salt.is_empty() {
         push_spaced(text, b"-")
@@ -40,12 +43,14 @@ fn print_salt(text: &mut Vec<u8>, salt: &[u8]) -> Result<(), AllocError>
 }
 
 // The option and its count, where the line has it.
-fn print_options(text: &mut Vec<u8>, ignore_zero_blocks: bool) -> Result<(), AllocError>
-    ensures { OnOk result (PrintsWords text.old (options_words (verity_options ignore_zero_blocks)) text.new) }
+fn print_options(text: &mut Vec<u8>, ignore_zero_blocks: bool) -> Result<(), OutOfMemory>
+    ensures ok { OnOk result (PrintsWords text.old (options_words (verity_options ignore_zero_blocks)) text.new) }
+    ensures err { IfErr result (λ e. asked e ≤ printed_length (options_words (verity_options ignore_zero_blocks))) }
 {
     if !ignore_zero_blocks {
         return Ok(());
     }
     push_spaced_number(text, 1)?;
-    push_spaced(text, b"ignore_zero_blocks")
+    push_spaced(text, b"ignore_zero_blocks")?;
+    Ok(())
 }

@@ -1,5 +1,5 @@
 -- The line of a table that opens a verity image, and what such a text reads as.
-use Rattle.std.specs.Prelude.{◌≡◌, ℕ, ◌^◌, ◌<◌, false, true, IsTrue, List, [], ◌∷◌, length, Ok}
+use Rattle.std.specs.Prelude.{◌≡◌, ℕ, ◌+◌, ◌^◌, ◌<◌, false, true, IsTrue, List, [], ◌∷◌, length, Ok}
 use Rattle.hex.specs.Hex.{IsBytes}
 use Rattle.dm_table.specs.declared.table.Line.{Line}
 use Rattle.dm_table.specs.declared.table.Target.TheVariants.{Verity as verity_target}
@@ -31,6 +31,10 @@ verity_line s data_name hash_name root start = record {
 -- its text, without a newline
 abbrev pub verity_text : SuperRecord → List ℕ → List ℕ → List ℕ → ℕ → List ℕ
 verity_text s data_name hash_name root start = line_text true (verity_line s data_name hash_name root start)
+
+-- room for the names and the text: no allocation for the line asks for more
+abbrev pub line_room : SuperRecord → List ℕ → List ℕ → List ℕ → ℕ → ℕ
+line_room s data_name hash_name root start = length data_name + length hash_name + length (verity_text s data_name hash_name root start)
 
 -- of an image whose tree follows its superblock, at hash block 1
 abbrev pub table_text : SuperRecord → List ℕ → List ℕ → List ℕ → List ℕ

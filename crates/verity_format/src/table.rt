@@ -1,9 +1,12 @@
 //! The line of a table that opens a verity image.
-ghost use Rattle.std.specs.Prelude.{◌≡◌, IfOk};
-ghost use Rattle.verity_format.specs.Line.{table_text, verity_line, verity_text};
+ghost use Rattle.std.specs.Prelude.{◌≡◌, ◌≤◌, ◌+◌, IfErr, IfOk, OnErr, length};
+ghost use Rattle.allocation.specs.Asked.{asked};
+ghost use Rattle.allocation.specs.Refusal.{IsOutOfMemory};
+ghost use Rattle.verity_format.specs.Line.{line_room, table_text, verity_line, verity_text};
 
 use crate::Superblock;
 use crate::access::data_sectors;
+use allocation::OutOfMemory;
 use dm_table::{Line, Name, Target, Verity};
 use std::alloc::{AllocError, Global};
 use table_text::print_line;
@@ -13,7 +16,7 @@ use tree_shape::Digest;
 ///
 /// # Errors
 ///
-/// Memory for the text was refused.
+/// An allocation of room for at most as many bytes as the names and the line have was refused.
 pub fn table_line(
     alloc: Global,
     superblock: &Superblock,
@@ -21,7 +24,8 @@ pub fn table_line(
     hash_name: &[u8],
     root: &Digest,
 ) -> Result<Vec<u8>, AllocError>
-    ensures { IfOk result (λ line. line.items ≡ table_text superblock.now data_name.now hash_name.now root.now) }
+    ensures ok { IfOk result (λ line. line.items ≡ table_text superblock.now data_name.now hash_name.now root.now) }
+    ensures err { OnErr result (IsOutOfMemory (line_room superblock.now data_name.now hash_name.now root.now 1)) }
 {
     table_line_at(alloc, superblock, data_name, hash_name, root, 1)
 }
@@ -30,7 +34,7 @@ pub fn table_line(
 ///
 /// # Errors
 ///
-/// Memory for the text was refused.
+/// An allocation of room for at most as many bytes as the names and the line have was refused.
 pub fn table_line_at(
     alloc: Global,
     superblock: &Superblock,
@@ -39,7 +43,8 @@ pub fn table_line_at(
     root: &Digest,
     start: u64,
 ) -> Result<Vec<u8>, AllocError>
-    ensures { IfOk result (λ text. text.items ≡ verity_text superblock.now data_name.now hash_name.now root.now start) }
+    ensures ok { IfOk result (λ text. text.items ≡ verity_text superblock.now data_name.now hash_name.now root.now start) }
+    ensures err { OnErr result (IsOutOfMemory (line_room superblock.now data_name.now hash_name.now root.now start)) }
 {
     let line = verity_line(alloc, superblock, data_name, hash_name, root, start)?;
     print_line(alloc, &line, true)
@@ -52,8 +57,9 @@ fn verity_line(
     hash_name: &[u8],
     root: &Digest,
     start: u64,
-) -> Result<Line, AllocError>
-    ensures { IfOk result (λ line. line ≡ verity_line superblock.now data_name.now hash_name.now root.now start) }
+) -> Result<Line, OutOfMemory>
+    ensures ok { IfOk result (λ line. line ≡ verity_line superblock.now data_name.now hash_name.now root.now start) }
+    ensures err { IfErr result (λ e. asked e ≤ length data_name.now + length hash_name.now) }
 {
     let data = Name::new(alloc, data_name)?;
     let hash = Name::new(alloc, hash_name)?;

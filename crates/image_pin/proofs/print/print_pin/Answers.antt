@@ -17,10 +17,10 @@ returns-clause-text c =
     let t5 = c.push_number-3.new.text.items in
     let e1 : t1 ≡ t0 ++ pin_line Root (encode_lower pin.root) = c.in_ok-push_hex.ensures.printed ∙ ap (λ (v : List ℕ). t0 ++ pin_line Root (encode_lower v)) c.as_bytes.ensures.value in
     let e2 : t2 ≡ t1 ++ pin_line Salt (salt_word pin.salt) = c.in_ok-push_salt.ensures.printed ∙ ap (λ (v : List ℕ). t1 ++ pin_line Salt (salt_word v)) c.bytes.ensures.value in
-    let e3 : t3 ≡ t2 ++ pin_line DataBlockSize (decimal pin.data_block) = c.in_ok-push_number.ensures ∙ ap (λ (n : ℕ). t2 ++ pin_line DataBlockSize (decimal n)) c.from.ensures in
-    let e4 : t4 ≡ t3 ++ pin_line HashBlockSize (decimal pin.hash_block) = c.in_ok-push_number-2.ensures ∙ ap (λ (n : ℕ). t3 ++ pin_line HashBlockSize (decimal n)) c.from-2.ensures in
-    let e5 : t5 ≡ t4 ++ pin_line DataBlocks (decimal pin.blocks) = c.in_ok-push_number-3.ensures in
-    text-printed pin t0 t1 t2 t3 t4 t5 c.in_ok-text.ensures.items e1 e2 e3 e4 e5
+    let e3 : t3 ≡ t2 ++ pin_line DataBlockSize (decimal pin.data_block) = c.in_ok-push_number.ensures.ok ∙ ap (λ (n : ℕ). t2 ++ pin_line DataBlockSize (decimal n)) c.from.ensures in
+    let e4 : t4 ≡ t3 ++ pin_line HashBlockSize (decimal pin.hash_block) = c.in_ok-push_number-2.ensures.ok ∙ ap (λ (n : ℕ). t3 ++ pin_line HashBlockSize (decimal n)) c.from-2.ensures in
+    let e5 : t5 ≡ t4 ++ pin_line DataBlocks (decimal pin.blocks) = c.in_ok-push_number-3.ensures.ok in
+    text-printed pin t0 t1 t2 t3 t4 t5 c.in_ok-text.ensures.ok e1 e2 e3 e4 e5
 
 pub returns-clause-reads_back : goal.returns-clause-reads_back
 returns-clause-reads_back c =

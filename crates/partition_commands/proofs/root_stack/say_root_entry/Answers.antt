@@ -9,4 +9,4 @@ unfolding root_entry
 returns-clause-ok g c =
     let old = g.W.Write.contents c.args.writer.now.inner in
     let new = g.W.Write.contents c.say_entry.new.writer.inner in
-    subst (λ (line : List ℕ). Appends old new (entry_text (codes "root") line)) (c.deref.ensures.value ∙ c.in_ok-line.ensures) c.in_ok-say_entry.ensures.ok
+    subst (λ (line : List ℕ). Appends old new (entry_text (codes "root") line)) (c.deref.ensures.value ∙ c.in_ok-line.ensures.ok) c.in_ok-say_entry.ensures.ok

@@ -1,5 +1,5 @@
 use Rattle.std.proofs.Common.{rules, append_assoc}
 use Rattle.table_text.proofs.print.print_linear.Goals as goal
 
-pub returns : goal.returns
-returns c = search (rules, append_assoc)
+pub returns-clause-ok : goal.returns-clause-ok
+returns-clause-ok c = search (rules, append_assoc)
