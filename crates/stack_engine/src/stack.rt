@@ -14,8 +14,8 @@ ghost use Rattle.stack_engine.specs.Stacks.{StackRecord, IsSound};
 ghost use Rattle.stack_meaning.specs.Reading.{buffer_answer};
 ghost use Rattle.stack_engine.specs.Syncs.{FailsToSync, NeverFail};
 ghost use Rattle.stack_lines.specs.Budgets.{ReadsAtMost};
-ghost use Rattle.stack_engine.specs.Pieces.{AnyPiece, SteadyPiece, stack_over, AreSteadyBeneath, MeetsVerity, piece_budget, PieceStops};
-ghost use Rattle.stack_engine.specs.WritePieces.{ArePiece, AnyWrite, SteadyWrite, MeetsCrypt, UncutPiece, PieceWrote, PieceNeeded};
+ghost use Rattle.stack_engine.specs.Pieces.{AnyPiece, SteadyPiece, stack_over, AreSteadyBeneath, MeetsVerity, piece_budget, PieceGives, PieceStops, answer_bytes};
+ghost use Rattle.stack_engine.specs.WritePieces.{ArePiece, AnyWrite, SteadyWrite, MeetsCrypt, UncutPiece, PieceWrote, PieceNeeded, PieceHands};
 
 use crate::answer::Answer;
 use crate::backing::Backing;
@@ -109,6 +109,7 @@ impl<D: BlockDev> Stack<D> {
         ensures steady { AreSteadyBeneath self.old d.0 → SteadyPiece self.old d.0 first n result self.new }
         ensures stops { PieceStops self.old d.0 first n result self.new }
         ensures spent { ReadsAtMost (piece_budget self.old d.0 first n) self.old.leaves self.new.leaves }
+        ensures given { PieceGives D.state D.does self.old (d.0, first) n (answer_bytes result) self.new }
         ensures kept { ReadKeeps self.old d.0 first n self.new }
     {
         let mut bytes = match zero_sectors(self.backing.alloc, n) {
@@ -140,6 +141,7 @@ impl<D: BlockDev> Stack<D> {
         ensures memory { result ≡ Err IoFault.NoMemory → MeetsVerity self.old d.0 first (length out.old / 512) }
         ensures stops { PieceStops self.old d.0 first (length out.old / 512) result self.new }
         ensures spent { ReadsAtMost (piece_budget self.old d.0 first (length out.old / 512)) self.old.leaves self.new.leaves }
+        ensures given { PieceGives D.state D.does self.old (d.0, first) (length out.old / 512) (buffer_answer result out.new) self.new }
         ensures kept { ReadKeeps self.old d.0 first (length out.old / 512) self.new }
     {
         let mut dropped = Vec::new(self.backing.alloc);
@@ -169,6 +171,7 @@ impl<D: BlockDev> Stack<D> {
         ensures uncut { UncutPiece self.old d.0 first (length bytes.now / 512) self.new }
         ensures wrote { PieceWrote self.old d.0 first (length bytes.now / 512) self.new }
         ensures needed { PieceNeeded self.old d.0 first (length bytes.now / 512) self.new }
+        ensures handed { PieceHands D.state D.does self.old (d.0, first) bytes.now result self.new }
         ensures checked { AreChecked self.new }
         ensures piece { ArePiece bytes.now }
     {
