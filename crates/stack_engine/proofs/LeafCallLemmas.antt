@@ -1,5 +1,5 @@
 -- Calls on the devices of leaves, one after another.
-use Rattle.std.proofs.Common.{◌≡◌, ℕ, List, [], ◌∷◌, ◌++◌, refl, subst}
+use Rattle.std.proofs.Common.{ℕ, List, [], ◌∷◌, ◌++◌, refl, subst}
 use Rattle.block_device.specs.Call.{Call}
 use Rattle.stack_engine.specs.LeafCalls.{IsLeafCall, LeafCall, LeafCalls, MakesCalls}
 
