@@ -13,6 +13,8 @@ pub mod PaidLemmas
 pub mod KeepingLemmas
 pub mod BytesLemmas
 pub mod StackLemmas
+pub mod LeafCallLemmas
+pub mod SectorCallLemmas
 pub mod BlockPartLemmas
 pub mod WritablePlainLemmas
 pub mod UnitWriteLemmas

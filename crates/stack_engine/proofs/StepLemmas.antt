@@ -51,6 +51,19 @@ step-none sound plain touches = record { cached = record { capacity = refl; soun
 
 -- ---- from the lines down
 
+-- what is met by a run that is plain where another one is
+up-meets : {said said' : ℕ → Said} {first first' n n' : ℕ} → ((a b : List Device) (r : Result Unit IoFault) → IsPlain said first n a b r → IsPlain said' first' n' a b r) → MeetVerity said first n → MeetVerity said' first' n'
+up-meets plain some = (plain [] [] (Err io.NoMemory) (met some)).memory refl
+
+pub below-meets : (c : Configuration) (lower : Lower) (first n : ℕ) → MeetVerity (said_at c lower) first n → MeetVerity (source_said c (Below lower first)) 0 n
+below-meets c lower first n = up-meets (λ a b r. below_plain c lower first n)
+
+pub units-meets : (c : Configuration) (x : CryptPart) (first n : ℕ) → AreUnits c x n → first ≡ unit_first x.units x.first → MeetVerity (said_at c x.lower) first n → MeetVerity (source_said c (Units x)) 0 n
+units-meets c x first n units at some = up-meets (λ a b r. units-plain c x n units) (subst (λ (k : ℕ). MeetVerity (said_at c x.lower) k n) at some)
+
+pub part-meets : (c : Configuration) (x : CryptPart) (whole : WholeUnit) (n m : ℕ) → IsWholeOf x whole → LieInUnit c x n → 0 < n → m ≡ whole.sectors → MeetVerity (source_said c (Units whole.from)) 0 m → MeetVerity (source_said c (UnitPart x)) 0 n
+part-meets c x whole n m of lies some count met_some = up-meets (λ a b r. part-plain c x whole n of lies some) (subst (λ (k : ℕ). MeetVerity (source_said c (Units whole.from)) 0 k) count met_some)
+
 -- a run on another one
 step-up : {c : Configuration} {run up : SectorRun} {old new : BackingRecord} {result : Result Unit IoFault}
     → ((a b : List Device) (r : Result Unit IoFault) → IsPlain run.said run.first run.count a b r → IsPlain up.said up.first up.count a b r)
@@ -58,7 +71,7 @@ step-up : {c : Configuration} {run up : SectorRun} {old new : BackingRecord} {re
 step-up {run = run} {up = up} plain within spent p = record {
   cached = p.cached;
   plain = plain _ _ _ p.plain;
-  same = λ none. p.same (λ some. none ((plain [] [] (Err io.NoMemory) (met some)).memory refl));
+  same = λ none. p.same (λ some. none (up-meets plain some));
   touches = asks-up within p.touches;
   spent = spent;
 }
@@ -103,20 +116,22 @@ leaf-step {c = c} {leaf = leaf} {first = first} {n = n} {new = new} {result = re
 -- ---- run by run
 
 module _ {c : Configuration} {d first at all count : ℕ} {source : Source} {bytes : List ℕ} (loaded : IsLoaded c) (run : IsNextRun c d first at all bytes count source) where
+  -- what meets a `verity` line in the run meets one in the device's sectors
+  pub run-meets : (end : ℕ) → at / 512 + count ≤ end → MeetVerity (source_said c source) 0 count → MeetVerity (said_at c (mapped d)) first end
+  run-meets end fits some =
+      let none : IsPlain (said_at c (mapped d)) first (at / 512) [] [] (Ok tt) = plain-none (said_at c (mapped d)) first (at / 512) [] (Ok tt) (λ e. cc) tt in
+      (device_plain c d first (at / 512) count end source {mid = []} {new = []} {result = Err io.NoMemory} loaded fits run.served none (met some)).memory refl
+
   -- the runs of a device before one, and that one
   pub device-step : {n : ℕ} {old mid new : BackingRecord} {result : Result Unit IoFault} (end : ℕ) → at / 512 + count ≤ end → IsCutBehind c d first (at / 512) all → IsCutBehind c d first (at / 512 + count) end → n ≡ count
       → IsReadStep c (run_beneath c (mapped d) first (at / 512)) old mid (Ok tt) → IsReadStep c (run_of c source n) mid new result → IsReadStep c (run_beneath c (mapped d) first end) old new result
   device-step {old = old} {mid = mid} {new = new} {result = result} end fits cut behind same p q =
       let r = subst (λ (k : ℕ). IsReadStep c (run_of c source k) mid new result) same q in
-      let none : IsPlain (said_at c (mapped d)) first (at / 512) [] [] (Ok tt) = plain-none (said_at c (mapped d)) first (at / 512) [] (Ok tt) (λ e. cc) tt in
       let spent = spent-run c d first (at / 512) all loaded cut old.leaves mid.leaves p.spent count source new.leaves run.some run.inside run.served r.spent in
       record {
         cached = record { capacity = r.cached.capacity ∙ p.cached.capacity; sound = r.cached.sound };
         plain = device_plain c d first (at / 512) count end source loaded fits run.served p.plain r.plain;
-        same = λ apart.
-            let meets : MeetVerity (source_said c source) 0 count → MeetVerity (said_at c (mapped d)) first end =
-            λ some. (device_plain c d first (at / 512) count end source {mid = []} {new = []} {result = Err io.NoMemory} loaded fits run.served none (met some)).memory refl in
-            r.same (λ some. apart (meets some)) ∙ p.same (λ some. apart (some.0, omega (arith, some.1, fits), some.2));
+        same = λ apart. r.same (λ some. apart (run-meets end fits some)) ∙ p.same (λ some. apart (some.0, omega (arith, some.1, fits), some.2));
         touches = device-asked c d (first + at / 512) count source loaded run.some run.served p.touches r.touches;
         spent = spent-all c d first (at / 512 + count) end loaded behind old.leaves new.leaves spent fits;
       }

@@ -1,6 +1,7 @@
 -- What callers may cite.
 pub mod AnsweredLemmas
 pub mod BlockLemmas
+pub mod CallEndLemmas
 pub mod FormattedLemmas
 pub mod PieceLemmas
 pub mod SyncLemmas

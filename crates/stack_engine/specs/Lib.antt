@@ -3,6 +3,7 @@ pub mod KeptBlocks
 pub mod Premises
 pub mod Backings
 pub mod LeafCalls
+pub mod SectorCalls
 pub mod Keeping
 pub mod Uncut
 pub mod Pieces

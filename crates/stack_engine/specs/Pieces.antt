@@ -1,18 +1,23 @@
 -- Pieces of a read: at most 128 sectors, which one call answers.
-use Rattle.std.specs.Prelude.{◌≡◌, ℕ, ◌*◌, List, [], Result}
+use Rattle.std.specs.Prelude.{◌≡◌, ◌⊎◌, ℕ, ◌*◌, List, [], Result, Ok, Err}
+use Rattle.block_device.specs.Call.{Call, DeviceDoes}
 use Rattle.block_device.specs.Device.{Device}
 use Rattle.stack_rules.specs.Records.{Configuration}
 use Rattle.stack_rules.specs.Names.{mapped}
 use Rattle.stack_rules.specs.Descend.{read_cost}
 use Rattle.stack_meaning.specs.declared.fault.IoFault.{IoFault}
+use Rattle.stack_meaning.specs.declared.fault.IoFault.TheVariants as io
 use Rattle.stack_meaning.specs.Outcomes.{span}
 use Rattle.stack_meaning.specs.Meaning.{said_at, sector}
 use Rattle.stack_meaning.specs.May.{MayBe, MayFault}
 use Rattle.stack_meaning.specs.Leaves.{steady_images, AreSteady, AreRead}
 use Rattle.stack_meaning.specs.Reading.{Ends, Answers, MeetVerity}
 use Rattle.stack_meaning.specs.Stops.{ReadStops}
+use Rattle.stack_lines.specs.declared.source.Source.TheVariants.{Below}
 use Rattle.stack_lines.specs.Budgets.{budget}
 use Rattle.stack_lines.specs.Touches.{EndsAtFailure, TouchesOnly, leaves_of}
+use Rattle.stack_engine.specs.LeafCalls.{LeafCall, ServesCalls}
+use Rattle.stack_engine.specs.SectorCalls.{AreReadCalls}
 use Rattle.stack_engine.specs.Stacks.{StackRecord, AnswerRecord}
 use Rattle.verified_cache.specs.Cache.{CacheRecord}
 
@@ -39,6 +44,20 @@ piece_budget w d first n = budget w.config (mapped d) first n
 -- where no `verity` line is on their way: nothing behind the first fault is asked for
 abbrev pub PieceStops : {A : Type 0} → StackRecord → ℕ → ℕ → ℕ → Result A IoFault → StackRecord → Type 0
 PieceStops w d first n result w' = (MeetsVerity w d first n → ⊥) → ReadStops (said_at w.config (mapped d)) first n w.leaves w'.leaves result
+
+-- the bytes of an answer, or the fault
+abbrev pub answer_bytes : Result AnswerRecord IoFault → Result (List ℕ) IoFault
+answer_bytes (Ok got) = Ok got.bytes
+answer_bytes (Err fault) = Err fault
+
+-- The calls of a read: none where memory ran out before it, and else those that give the bytes.
+abbrev pub ReadPieceCalls : Configuration → ℕ → ℕ → ℕ → Result (List ℕ) IoFault → List LeafCall → Type 0
+ReadPieceCalls c d first n answer calls = ((answer ≡ Err io.NoMemory) × (calls ≡ [])) ⊎ AreReadCalls c (Below (mapped d) first) n calls answer
+
+-- Whatever the leaves answer, where no `verity` line is on the way of n sectors of mapped device at.0, from sector at.1 on: these
+-- calls of their devices were made, and no others.
+abbrev pub PieceGives : {D : Type 0} → (D → Device) → (D → Call → D → Type 0) → StackRecord → ℕ × ℕ → ℕ → Result (List ℕ) IoFault → StackRecord → Type 0
+PieceGives state does w at n answer w' = (MeetsVerity w at.0 at.1 n → ⊥) → ServesCalls state (DeviceDoes state does) (ReadPieceCalls w.config at.0 at.1 n answer) w.leaves w'.leaves
 
 -- How a piece is answered, n sectors of mapped device d from the first on, with the stack that the answer leaves:
 -- whatever the leaves answer

@@ -2,6 +2,7 @@
 -- They fill the buffer `out`, as it was before.
 use Rattle.std.specs.Prelude.{◌≡◌, ℕ, ◌*◌, ◌/◌, Bool, List, Vec, Result, length, map, take}
 use Rattle.std.specs.Global.{Global}
+use Rattle.block_device.specs.Call.{Call}
 use Rattle.block_device.specs.Device.{Device}
 use Rattle.dm_table.specs.declared.verity.Verity.{Verity}
 use Rattle.tree_shape.specs.Shape.{levels}
@@ -17,6 +18,7 @@ use Rattle.stack_meaning.specs.Meaning.{Said, said_at}
 use Rattle.stack_meaning.specs.Places.{Expected, place_of, run_expected}
 use Rattle.stack_meaning.specs.Reading.{Gets, IsPlain, MeetVerity, buffer_answer}
 use Rattle.stack_lines.specs.declared.source.Source.{Source}
+use Rattle.stack_lines.specs.declared.source.Source.TheVariants.{Below}
 use Rattle.stack_lines.specs.declared.tree.Extent.{Extent}
 use Rattle.stack_lines.specs.declared.tree.Tree.{Tree}
 use Rattle.stack_lines.specs.Budgets.{ReadsAtMost, budget, source_budget}
@@ -31,6 +33,7 @@ use Rattle.stack_engine.specs.declared.path.WantedBlock.{WantedBlock}
 use Rattle.stack_engine.specs.Backings.{BackingRecord, backing_of, leaves_in}
 use Rattle.stack_engine.specs.Bytes.{GetsBytes}
 use Rattle.stack_engine.specs.Premises.{CanRead}
+use Rattle.stack_engine.specs.SectorCalls.{Gives}
 
 -- the buffer can be filled from the source, where those chains were found before
 abbrev pub CanFill : {D : Type 0} → (D → Device) → Configuration → Backing D → List FoundRecord → Source → List ℕ → Type 0
@@ -68,6 +71,16 @@ StepFrom state c source out old new result = IsReadStep c (run_of c source (leng
 
 abbrev pub StepAt : {D : Type 0} → (D → Device) → Configuration → Lower → ℕ → List ℕ → Backing D → Backing D → Result Unit IoFault → Type 0
 StepAt state c lower first out old new result = IsReadStep c (run_beneath c lower first (length out / 512)) (backing_of state old) (backing_of state new) result
+
+-- ---- whatever the devices answer
+
+-- The calls on the devices that read n sectors of a source, where no `verity` line is on their way. The answer is what they gave.
+abbrev pub GivesFrom : {D : Type 0} → (D → Call → D → Type 0) → Configuration → Source → ℕ → Backing D → Backing D → Result (List ℕ) IoFault → Type 0
+GivesFrom does c source n old new answer = (MeetVerity (source_said c source) 0 n → ⊥) → Gives does c source n old.devices.items new.devices.items answer
+
+-- the same of a leaf or a device
+abbrev pub GivesAt : {D : Type 0} → (D → Call → D → Type 0) → Configuration → Lower → ℕ → ℕ → Backing D → Backing D → Result (List ℕ) IoFault → Type 0
+GivesAt does c lower first n old new answer = (MeetVerity (said_at c lower) first n → ⊥) → Gives does c (Below lower first) n old.devices.items new.devices.items answer
 
 -- ---- of a leaf or a device
 

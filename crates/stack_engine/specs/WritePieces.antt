@@ -1,5 +1,7 @@
 -- Pieces of a write: at most 128 sectors, which one call puts.
-use Rattle.std.specs.Prelude.{◌≡◌, ◌≤◌, ℕ, ◌+◌, ◌*◌, ◌/◌, List, [], ◌++◌, length, Result, Ok, Err}
+use Rattle.std.specs.Prelude.{◌≡◌, ◌≤◌, ◌⊎◌, ℕ, ◌+◌, ◌*◌, ◌/◌, List, [], ◌++◌, length, Result, Ok, Err}
+use Rattle.block_device.specs.Call.{Call, DeviceDoes}
+use Rattle.block_device.specs.Device.{Device}
 use Rattle.stack_rules.specs.Names.{mapped}
 use Rattle.stack_rules.specs.Records.{Configuration}
 use Rattle.stack_rules.specs.Descend.{write_cost}
@@ -14,6 +16,9 @@ use Rattle.stack_lines.specs.Writing.{AreSectors, SomeEncrypt, MayEnd, IsPut, de
 use Rattle.stack_lines.specs.Touches.{EndsAtFailure, leaves_of}
 use Rattle.stack_lines.specs.Forgetting.{Forgets}
 use Rattle.stack_lines.specs.WriteBudgets.{Counter, of_reads, of_writes, CountsAtMost, write_budget}
+use Rattle.stack_lines.specs.declared.source.Source.TheVariants.{Below}
+use Rattle.stack_engine.specs.LeafCalls.{LeafCall, ServesCalls}
+use Rattle.stack_engine.specs.SectorCalls.{AreWriteCalls}
 use Rattle.stack_engine.specs.Stacks.{StackRecord}
 use Rattle.stack_engine.specs.Uncut.{CutsNone}
 
@@ -66,6 +71,15 @@ pub record SteadyWrite (w : StackRecord) (d first : ℕ) (bytes : List ℕ) (res
   pub exact : IsPut (put_on w.config (mapped d) first (sectors_in bytes) (steady_images w.leaves)) (steady_images w'.leaves) result
   pub others : DifferWithin (piece_reached w.config d first (length bytes / 512)) (steady_images w.leaves) (steady_images w'.leaves)
   pub behind : StopsBehindPut (destination_of w.config (mapped d)) first (sectors_in bytes) w.leaves w'.leaves result
+
+-- The calls of a write: none where memory ran out before it, and else those that hand the bytes over.
+abbrev pub WritePieceCalls : Configuration → ℕ → ℕ → List ℕ → Result Unit IoFault → List LeafCall → Type 0
+WritePieceCalls c d first bytes result calls = ((result ≡ Err io.NoMemory) × (calls ≡ [])) ⊎ AreWriteCalls c (Below (mapped d) first) bytes calls result
+
+-- Whatever the leaves answer, of bytes for mapped device at.0, from its sector at.1 on: these calls of the leaves' devices were
+-- made, and no others.
+abbrev pub PieceHands : {D : Type 0} → (D → Device) → (D → Call → D → Type 0) → StackRecord → ℕ × ℕ → List ℕ → Result Unit IoFault → StackRecord → Type 0
+PieceHands state does w at bytes result w' = ServesCalls state (DeviceDoes state does) (WritePieceCalls w.config at.0 at.1 bytes result) w.leaves w'.leaves
 
 -- both, of a piece
 pub record EachWrite (w : StackRecord) (d first : ℕ) (bytes : List ℕ) (result : Result Unit IoFault) (w' : StackRecord) : Type 0 where

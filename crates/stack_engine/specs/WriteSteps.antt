@@ -1,6 +1,7 @@
 -- What the steps of a write say of the bytes that they put: to a source, from its first sector on; to a leaf or a device, from
 -- sector `first` on.
 use Rattle.std.specs.Prelude.{ℕ, ◌/◌, Bool, List, Result, length}
+use Rattle.block_device.specs.Call.{Call}
 use Rattle.block_device.specs.Device.{Device}
 use Rattle.stack_rules.specs.declared.lower.Lower.{Lower}
 use Rattle.stack_rules.specs.Records.{Configuration}
@@ -15,6 +16,7 @@ use Rattle.stack_lines.specs.Writing.{sectors_in, destination_of, WritesSectors,
 use Rattle.stack_engine.specs.declared.backing.Backing.{Backing}
 use Rattle.stack_engine.specs.Backings.{BackingRecord, backing_of, leaves_in}
 use Rattle.stack_engine.specs.Premises.{CanWrite}
+use Rattle.stack_engine.specs.SectorCalls.{Hands}
 use Rattle.stack_engine.specs.Uncut.{CutsNone, SourceCutsNone}
 
 -- those bytes can be put
@@ -60,3 +62,9 @@ PutAt state c lower first bytes old new result = WritesSectors (destination_of c
 
 abbrev pub WriteStepAt : {D : Type 0} → (D → Device) → Configuration → Lower → ℕ → List ℕ → Backing D → Backing D → Type 0
 WriteStepAt state c lower first bytes old new = IsWriteStep c (write_beneath c lower first (length bytes / 512)) (backing_of state old) (backing_of state new)
+
+-- ---- whatever the devices answer
+
+-- the calls on the devices that hand these bytes over to a source
+abbrev pub HandsOver : {D : Type 0} → (D → Call → D → Type 0) → Configuration → Source → List ℕ → Backing D → Backing D → Result Unit IoFault → Type 0
+HandsOver does c source bytes old new result = Hands does c source bytes old.devices.items new.devices.items result

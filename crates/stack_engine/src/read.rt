@@ -15,7 +15,7 @@ ghost use Rattle.stack_engine.specs.Stacks.{IsSound};
 ghost use Rattle.stack_engine.specs.Premises.{FitsIn};
 ghost use Rattle.stack_engine.specs.LeafCalls.{IsLeafCall};
 ghost use Rattle.stack_engine.specs.Backings.{leaves_in, IsBacking, Asks, StaysSound, did};
-ghost use Rattle.stack_engine.specs.ReadSteps.{CanFill, ReadsLeaf, StepFrom, StepAt, GotAt, GetsBy, extent_wanted, data_wanted, way_wanted, ChainBy, WalkedBy, ReadsWay};
+ghost use Rattle.stack_engine.specs.ReadSteps.{CanFill, ReadsLeaf, StepFrom, StepAt, GivesFrom, GivesAt, GotAt, GetsBy, extent_wanted, data_wanted, way_wanted, ChainBy, WalkedBy, ReadsWay};
 ghost use Rattle.stack_engine.specs.Keeping.{ReadsAs, ReadsSourceAs};
 
 use crate::backing::Backing;
@@ -48,6 +48,7 @@ fn read_leaf<D: BlockDev>(
     requires fits { FitsIn config.now (Below (Lower.Leaf leaf) first) out.old }
     ensures reads { ReadsLeaf config.now leaf first (length out.old / 512) (map D.state devices.old) (map D.state devices.new) result out.new }
     ensures call { IsLeafCall (DeviceDoes D.state D.does) leaf devices.old (Read first out.new (is_ok result)) devices.new }
+    ensures err { IfErr result (λ fault. fault ≡ IoFault.Device (leaf + 1)) }
 {
     match devices[leaf as usize].read(first, out) {
         Ok(()) => Ok(()),
@@ -70,6 +71,7 @@ fn read_lower<D: BlockDev>(
         (did D.state backing.old found.old.items backing.new found.new.items)
         (buffer_answer result out.new) }
     ensures step { StepAt D.state config.now from.0 from.1 out.old backing.old backing.new result }
+    ensures given { GivesAt (DeviceDoes D.state D.does) config.now from.0 from.1 (length out.old / 512) backing.old backing.new (buffer_answer result out.new) }
 {
     let first = from.1;
     match from.0 {
@@ -93,6 +95,7 @@ fn read_run<D: BlockDev>(
         (did D.state backing.old found.old.items backing.new found.new.items)
         (buffer_answer result out.new) }
     ensures step { StepFrom D.state config.now source.entry out.old backing.old backing.new result }
+    ensures given { GivesFrom (DeviceDoes D.state D.does) config.now source.entry (length out.old / 512) backing.old backing.new (buffer_answer result out.new) }
 {
     match source {
         Source::Below { lower, first } => {
@@ -125,6 +128,7 @@ pub(crate) fn read_units<D: BlockDev>(
         (did D.state backing.old found.old.items backing.new found.new.items)
         (buffer_answer result out.new) }
     ensures step { StepFrom D.state config.now (Source.Units part.entry) out.old backing.old backing.new result }
+    ensures given { GivesFrom (DeviceDoes D.state D.does) config.now (Source.Units part.entry) (length out.old / 512) backing.old backing.new (buffer_answer result out.new) }
 {
     let unit = unit_at(&part);
     let from = (part.lower, unit.first);
@@ -152,6 +156,7 @@ fn read_unit_part<D: BlockDev>(
         (did D.state backing.old found.old.items backing.new found.new.items)
         (buffer_answer result out.new) }
     ensures step { StepFrom D.state config.now (Source.UnitPart part.entry) out.old backing.old backing.new result }
+    ensures given { GivesFrom (DeviceDoes D.state D.does) config.now (Source.UnitPart part.entry) (length out.old / 512) backing.old backing.new (buffer_answer result out.new) }
 {
     let whole = whole_unit(&part);
     let mut room = [0u8; MOST];
@@ -547,6 +552,7 @@ pub(crate) fn read_device<D: BlockDev>(
         (did D.state backing.old found.old.items backing.new found.new.items)
         (buffer_answer result out.new) }
     ensures step { StepAt D.state config.now (mapped from.0.0) from.1 out.old backing.old backing.new result }
+    ensures given { GivesAt (DeviceDoes D.state D.does) config.now (mapped from.0.0) from.1 (length out.old / 512) backing.old backing.new (buffer_answer result out.new) }
 {
     let mut at = 0;
     while at < out.len() {

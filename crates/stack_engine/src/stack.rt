@@ -14,8 +14,8 @@ ghost use Rattle.stack_engine.specs.Stacks.{StackRecord, IsSound};
 ghost use Rattle.stack_meaning.specs.Reading.{buffer_answer};
 ghost use Rattle.stack_engine.specs.Syncs.{FailsToSync, NeverFail};
 ghost use Rattle.stack_lines.specs.Budgets.{ReadsAtMost};
-ghost use Rattle.stack_engine.specs.Pieces.{AnyPiece, SteadyPiece, stack_over, AreSteadyBeneath, MeetsVerity, piece_budget, PieceStops};
-ghost use Rattle.stack_engine.specs.WritePieces.{ArePiece, AnyWrite, SteadyWrite, MeetsCrypt, UncutPiece, PieceWrote, PieceNeeded};
+ghost use Rattle.stack_engine.specs.Pieces.{AnyPiece, SteadyPiece, stack_over, AreSteadyBeneath, MeetsVerity, piece_budget, PieceGives, PieceStops, answer_bytes};
+ghost use Rattle.stack_engine.specs.WritePieces.{ArePiece, AnyWrite, SteadyWrite, MeetsCrypt, UncutPiece, PieceWrote, PieceNeeded, PieceHands};
 
 use crate::answer::Answer;
 use crate::backing::Backing;
@@ -99,8 +99,9 @@ impl<D: BlockDev> Stack<D> {
 
     /// The `n` sectors of a device from `first` on, and the chains of the verity lines on their way. They lie
     /// inside the device, and are 1 to 128. `exact` in `steady` is what the stack means; `any` holds whatever the
-    /// leaves answer. Where no `verity` line is on the way, nothing behind the first fault is asked for (`stops`). At most
-    /// what the units and the data blocks that it touches cost is read, each of them once (`spent`).
+    /// leaves answer. Where no `verity` line is on the way, nothing behind the first fault is asked for (`stops`), and the
+    /// bytes are those that its calls of the leaves' devices gave, decrypted (`given`). At most what the units and the data
+    /// blocks that it touches cost is read, each of them once (`spent`).
     pub fn read_piece(&mut self, d: DevId, first: u64, n: u32) -> Result<Answer, IoFault>
         requires some { 1 ≤ n }
         requires most { n ≤ 128 }
@@ -109,6 +110,7 @@ impl<D: BlockDev> Stack<D> {
         ensures steady { AreSteadyBeneath self.old d.0 → SteadyPiece self.old d.0 first n result self.new }
         ensures stops { PieceStops self.old d.0 first n result self.new }
         ensures spent { ReadsAtMost (piece_budget self.old d.0 first n) self.old.leaves self.new.leaves }
+        ensures given { PieceGives D.state D.does self.old (d.0, first) n (answer_bytes result) self.new }
         ensures kept { ReadKeeps self.old d.0 first n self.new }
     {
         let mut bytes = match zero_sectors(self.backing.alloc, n) {
@@ -140,6 +142,7 @@ impl<D: BlockDev> Stack<D> {
         ensures memory { result ≡ Err IoFault.NoMemory → MeetsVerity self.old d.0 first (length out.old / 512) }
         ensures stops { PieceStops self.old d.0 first (length out.old / 512) result self.new }
         ensures spent { ReadsAtMost (piece_budget self.old d.0 first (length out.old / 512)) self.old.leaves self.new.leaves }
+        ensures given { PieceGives D.state D.does self.old (d.0, first) (length out.old / 512) (buffer_answer result out.new) self.new }
         ensures kept { ReadKeeps self.old d.0 first (length out.old / 512) self.new }
     {
         let mut dropped = Vec::new(self.backing.alloc);
@@ -158,7 +161,8 @@ impl<D: BlockDev> Stack<D> {
     /// inside the device, which may be written. `exact` in `steady` is what the stack means; `any` holds whatever the
     /// leaves answer. It takes memory only where a `crypt` line is on the way, once and before the first access.
     /// Where it cuts no unit of a `crypt` line, nothing is read (`uncut`). Each unit that it touches is written once
-    /// (`wrote`), and read once where it is cut (`needed`).
+    /// (`wrote`), and read once where it is cut (`needed`). Its calls of the leaves' devices hand over exactly the bytes,
+    /// encrypted by the `crypt` lines on the way, in order, and none comes after the first that fails (`handed`).
     pub fn write_piece(&mut self, d: DevId, first: u64, bytes: &[u8]) -> Result<(), IoFault>
         requires piece { ArePiece bytes.now }
         requires inside { first + length bytes.now / 512 ≤ size self.old.config (mapped d.0) }
@@ -169,6 +173,7 @@ impl<D: BlockDev> Stack<D> {
         ensures uncut { UncutPiece self.old d.0 first (length bytes.now / 512) self.new }
         ensures wrote { PieceWrote self.old d.0 first (length bytes.now / 512) self.new }
         ensures needed { PieceNeeded self.old d.0 first (length bytes.now / 512) self.new }
+        ensures handed { PieceHands D.state D.does self.old (d.0, first) bytes.now result self.new }
         ensures checked { AreChecked self.new }
         ensures piece { ArePiece bytes.now }
     {

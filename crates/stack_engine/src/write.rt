@@ -1,5 +1,5 @@
 //! Writes through the lines of a stack, down to its leaves.
-ghost use Rattle.std.specs.Prelude.{◌≡◌, ◌≤◌, ◌-◌, ◌/◌, ◌⊎◌, ◌++◌, [], IsTrue, is_ok, map, take, drop};
+ghost use Rattle.std.specs.Prelude.{◌≡◌, ◌≤◌, ◌+◌, ◌-◌, ◌/◌, ◌⊎◌, ◌++◌, [], IfErr, IsTrue, is_ok, map, take, drop};
 ghost use Rattle.block_device.specs.Call.{DeviceDoes, Write};
 ghost use Rattle.stack_rules.specs.Names.{mapped, may_write};
 ghost use Rattle.stack_lines.specs.declared.source.Source.TheVariants.{Below};
@@ -9,7 +9,7 @@ ghost use Rattle.stack_lines.specs.Writing.{AreHeld, sectors_in, destination_of,
 ghost use Rattle.stack_engine.specs.Stacks.{IsSound};
 ghost use Rattle.stack_engine.specs.Premises.{FitsIn};
 ghost use Rattle.stack_engine.specs.LeafCalls.{IsLeafCall};
-ghost use Rattle.stack_engine.specs.WriteSteps.{CanPut, PutTo, WriteStepTo, PutAt, WriteStepAt};
+ghost use Rattle.stack_engine.specs.WriteSteps.{CanPut, PutTo, WriteStepTo, PutAt, WriteStepAt, HandsOver};
 
 use crate::backing::Backing;
 use crate::path::Chains;
@@ -34,6 +34,7 @@ fn write_sectors<D: BlockDev>(
     ensures writes { WritesSectors (destination_of config.now (Lower.Leaf leaf)) first (sectors_in bytes.now)
         (map D.state devices.old) (map D.state devices.new) result }
     ensures call { IsLeafCall (DeviceDoes D.state D.does) leaf devices.old (Write first bytes.now (is_ok result)) devices.new }
+    ensures err { IfErr result (λ fault. fault ≡ IoFault.Device (leaf + 1)) }
 {
     match devices[leaf as usize].write(first, bytes) {
         Ok(()) => Ok(()),
@@ -53,6 +54,7 @@ fn write_leaf<D: BlockDev>(
     ensures writes { PutAt D.state config.now (Lower.Leaf leaf) first bytes.now backing.old backing.new result }
     ensures step { WriteStepAt D.state config.now (Lower.Leaf leaf) first bytes.now backing.old backing.new }
     ensures call { IsLeafCall (DeviceDoes D.state D.does) leaf backing.old.devices.items (Write first bytes.now (is_ok result)) backing.new.devices.items }
+    ensures err { IfErr result (λ fault. fault ≡ IoFault.Device (leaf + 1)) }
 {
     backing.cache.forget_leaf(config, leaf);
     write_sectors(config, backing.devices.as_mut_slice(), leaf, first, bytes)
@@ -91,6 +93,7 @@ fn write_lower<D: BlockDev>(
     requires bytes { AreHeld (said_at config.now lower) first plain.now buffer.old }
     ensures writes { PutAt D.state config.now lower first (plain.now ++ buffer.old) backing.old backing.new result }
     ensures step { WriteStepAt D.state config.now lower first (plain.now ++ buffer.old) backing.old backing.new }
+    ensures handed { HandsOver (DeviceDoes D.state D.does) config.now (Below lower first) (plain.now ++ buffer.old) backing.old backing.new result }
 {
     match lower {
         Lower::Leaf(leaf) => write_leaf(config, backing, leaf, first, held(plain, buffer)),
@@ -111,6 +114,7 @@ fn write_run<D: BlockDev>(
     requires bytes { AreHeld (source_said config.now source) 0 plain.now buffer.old }
     ensures writes { PutTo D.state config.now source.entry (plain.now ++ buffer.old) backing.old backing.new result }
     ensures step { WriteStepTo D.state config.now source.entry (plain.now ++ buffer.old) backing.old backing.new }
+    ensures handed { HandsOver (DeviceDoes D.state D.does) config.now source.entry (plain.now ++ buffer.old) backing.old backing.new result }
 {
     match source {
         Source::Below { lower, first } => write_lower(config, backing, lower, first, plain, buffer),
@@ -134,6 +138,7 @@ fn write_units<D: BlockDev>(
     requires { CanPut D.state config.now backing.old (Source.Units part) units.old }
     ensures writes { PutTo D.state config.now (Source.Units part.entry) units.old backing.old backing.new result }
     ensures step { WriteStepTo D.state config.now (Source.Units part.entry) units.old backing.old backing.new }
+    ensures handed { HandsOver (DeviceDoes D.state D.does) config.now (Source.Units part.entry) units.old backing.old backing.new result }
 {
     let unit = unit_at(&part);
     let sectors = part.units.size.sectors();
@@ -178,6 +183,7 @@ fn write_unit_part<D: BlockDev>(
     requires { CanPut D.state config.now backing.old (Source.UnitPart part) bytes.now }
     ensures writes { PutTo D.state config.now (Source.UnitPart part.entry) bytes.now backing.old backing.new result }
     ensures step { WriteStepTo D.state config.now (Source.UnitPart part.entry) bytes.now backing.old backing.new }
+    ensures handed { HandsOver (DeviceDoes D.state D.does) config.now (Source.UnitPart part.entry) bytes.now backing.old backing.new result }
 {
     let whole = whole_unit(&part);
     let mut room = [0u8; MOST];
@@ -206,6 +212,7 @@ pub(crate) fn write_device<D: BlockDev>(
     requires bytes { AreHeld (said_at config.now (mapped d.0)) first plain.now buffer.old }
     ensures writes { PutAt D.state config.now (mapped d.0) first (plain.now ++ buffer.old) backing.old backing.new result }
     ensures step { WriteStepAt D.state config.now (mapped d.0) first (plain.now ++ buffer.old) backing.old backing.new }
+    ensures handed { HandsOver (DeviceDoes D.state D.does) config.now (Below (mapped d.0) first) (plain.now ++ buffer.old) backing.old backing.new result }
 {
     let room = buffer.len();
     let len = held(plain, buffer).len();

@@ -5,7 +5,12 @@ use Rattle.std.proofs.lemmas.Slice.Eq.{bytes_eq-Decides}
 use Rattle.std.proofs.lemmas.Bool.{eqb-true}
 use Rattle.std.proofs.lemmas.Slice.{take-put_mid}
 use Rattle.std.proofs.lemmas.List.{with_items_is}
-use Rattle.std.specs.Prelude.{option_map}
+use Rattle.std.specs.Prelude.{option_map, is_ok}
+use Rattle.block_device.specs.Call.{DeviceDoes, Read}
+use Rattle.stack_engine.specs.LeafCalls.{IsLeafCall}
+use Rattle.stack_engine.specs.SectorCalls.{Gives, none_read, zeros_read, fails_read}
+use Rattle.stack_engine.proofs.LeafCallLemmas.{makes-none}
+use Rattle.stack_engine.proofs.SectorCallLemmas.{leaf-given, run-given, run-ended, units-given, units-ungiven, part-given, part-ungiven}
 use Rattle.std.specs.Vec.{with_items}
 use borrow.Rule.Slice.PartMut.{put_mid, same_len_mid}
 use Rattle.tree_shape.specs.Digests.{digest, digest_in}
@@ -19,14 +24,14 @@ use Rattle.stack_rules.specs.declared.lower.Lower.{Lower}
 use Rattle.stack_meaning.specs.declared.fault.Fault.TheVariants.{ErrorTarget, Mismatch}
 use Rattle.stack_meaning.specs.declared.fault.IoFault.TheVariants.{Stack, NoMemory}
 use Rattle.stack_lines.specs.declared.source.Source.{Source}
-use Rattle.stack_lines.specs.declared.source.Source.TheVariants.{Units, UnitPart, Block}
+use Rattle.stack_lines.specs.declared.source.Source.TheVariants.{Below, Units, UnitPart, Block, Zeros}
 use Rattle.stack_meaning.specs.Found.{FoundRecord, found_entry}
 use Rattle.stack_lines.specs.declared.tree.Extent.{Extent}
 use Rattle.stack_meaning.specs.Blocks.{hash_sectors, hash_start, next_digest}
 use Rattle.stack_lines.specs.Walks.{block_in, checked_expected, GetsChain, IsWalked}
 use Rattle.stack_meaning.specs.declared.fault.IoFault.{IoFault}
 use Rattle.stack_meaning.specs.Places.{place_of, run_expected, LeafRead}
-use Rattle.stack_meaning.specs.Reading.{Gets, buffer_answer}
+use Rattle.stack_meaning.specs.Reading.{Gets, MeetVerity, buffer_answer}
 use Rattle.stack_engine.proofs.RunBytesLemmas.{room_sectors, next-run, run-can}
 use Rattle.stack_engine.proofs.StackLemmas.{stack-later}
 use Rattle.stack_meaning.proofs.lemmas.LoadedLemmas.{size-small}
@@ -38,7 +43,7 @@ use Rattle.stack_engine.proofs.CachedLemmas.{cached-hit, cached-small, keeps-not
 use Rattle.stack_lines.proofs.lemmas.StandingLemmas.{named-inside, knows-all}
 use Rattle.stack_engine.proofs.BlockPartLemmas.{kept_length, contains_at, part-room, part_found, part_walked, part_err, part_full, block-at, block-meets}
 use Rattle.stack_lines.specs.declared.source.CryptPart.{CryptPart}
-use Rattle.stack_lines.specs.Sources.{AreUnits}
+use Rattle.stack_lines.specs.Sources.{AreUnits, source_said}
 use Rattle.stack_engine.proofs.lemmas.BlockLemmas.{distinct-push, length-content}
 use Rattle.stack_engine.proofs.lemmas.WalkLemmas.{checked_ok, checked_err, data_zeros, data_read, walk_full}
 use Rattle.stack_meaning.proofs.lemmas.LeafLemmas.{all-whole}
@@ -63,7 +68,7 @@ use Rattle.stack_lines.proofs.lemmas.AskLemmas.{asks-none, asks-then, asks-as, a
 use Rattle.stack_engine.proofs.TouchedLemmas.{extent-touched, same-within, hash-touched, hash-within-device, data-touched}
 use Rattle.stack_engine.specs.Backings.{did, backing_of}
 use Rattle.stack_engine.specs.ReadSteps.{run_beneath, IsReadStep}
-use Rattle.stack_engine.proofs.StepLemmas.{met, step-met, step-none, below-step, units-step, part-step, zeros-step, fails-step, leaf-step, device-begin, device-step-ok, device-step-err}
+use Rattle.stack_engine.proofs.StepLemmas.{met, below-meets, units-meets, part-meets, run-meets, step-met, step-none, below-step, units-step, part-step, zeros-step, fails-step, leaf-step, device-begin, device-step-ok, device-step-err}
 use Rattle.stack_engine.proofs.read.+read.Goals as goal
 
 pub read_device-overflow_add-first : goal.read_device-overflow_add-first
@@ -102,6 +107,10 @@ read_device-loop-at-preserved g t c =
       whole = omega (arith, inv.whole);
       within = omega (arith, length-take end (put_mid at (end - at) out c.read_run.new.out), ap length front, length-append (take at out) c.read_run.new.out, length-take at out, c.read_run.auto.out, run.len, inv.within);
       so_far = same_reads config (mapped c.args.from.0.0) c.args.from.1 run.next (sym front) (device_ok config c.args.from.0.0 c.args.from.1 (at / 512) count source c.args.chains loaded run.some run.served inv.so_far more);
+      given = λ none.
+          let does = DeviceDoes g.D.BlockDev.state g.D.BlockDev.does in
+          let here = subst (λ (k : ℕ). (MeetVerity (source_said config source) 0 k → ⊥) → Gives does config source k c.loop-at.backing.devices.items c.read_run.new.backing.devices.items (Ok c.read_run.new.out)) run.sectors c.in-Ok.ensures.given in
+          run-given c.args.from.0.0 c.args.from.1 (at / 512) count (end / 512) source (take at out) c.read_run.new.out _ run.served run.next (sym front) (inv.given none) (here (λ some. none (run-meets loaded run _ run.inside some)));
       step = device-step-ok loaded run inv.cut run.sectors inv.step c.in-Ok.ensures.step;
       cut = subst (λ (k : ℕ). IsCutBehind config c.args.from.0.0 c.args.from.1 k (length c.args.out.now / 512)) run.next run.behind;
     }
@@ -1160,6 +1169,7 @@ read_device-loop-at-init g t c =
       whole = refl;
       within = omega arith;
       so_far = finds-begin c.args.chains c.requires.kept;
+      given = λ none. makes-none (none_read (mapped c.args.from.0.0) c.args.from.1);
       step = device-begin c.args.from.0.0 c.args.from.1 c.requires.stack.cached;
       cut = inl refl;
     }
@@ -1175,3 +1185,119 @@ pub read_device-returns-clause-step : goal.read_device-returns-clause-step
 read_device-returns-clause-step g t c =
     let all : c.loop-at.at / 512 ≡ length c.args.out.now / 512 = omega (arith, c.loop-at.invariant.within, c.loop-at-test.false, c.loop-at.auto.out) in
     subst (λ (n : ℕ). IsReadStep c.args.config.now (run_beneath c.args.config.now (mapped c.args.from.0.0) c.args.from.1 n) (backing_of g.D.BlockDev.state c.args.backing.now) (backing_of g.D.BlockDev.state c.loop-at.backing) (Ok tt)) all c.loop-at.invariant.step
+
+-- ---- which calls were made
+
+pub read_lower-returns-in-Leaf-clause-given : goal.read_lower-returns-in-Leaf-clause-given
+read_lower-returns-in-Leaf-clause-given g t c =
+    λ none.
+    let config = c.args.config.now in
+    let does = DeviceDoes g.D.BlockDev.state g.D.BlockDev.does in
+    let first = c.args.from.1 in
+    let n : ℕ = length c.args.out.now / 512 in
+    let devices = c.args.backing.now.devices in
+    let answer : Result (List ℕ) IoFault = buffer_answer c.read_leaf.result c.read_leaf.new.out in
+    let stands : (with_items devices c.read_leaf.new.devices).items ≡ c.read_leaf.new.devices =
+    with_items_is devices c.read_leaf.new.devices (c.read_leaf.auto.devices ∙ ap (λ l. length l) c.as_mut_slice.ensures.value ∙ sym devices.ok.0) in
+    let made = subst (λ ds. IsLeafCall does c.in-Leaf.leaf ds (Read first c.read_leaf.new.out (is_ok c.read_leaf.result)) c.read_leaf.new.devices) c.as_mut_slice.ensures.value c.read_leaf.ensures.call in
+    subst (λ ds. Gives does config (Below c.args.from.0 first) n devices.items ds answer) (sym stands)
+    (subst (λ (x : Lower). Gives does config (Below x first) n devices.items c.read_leaf.new.devices answer) (sym c.in-Leaf.is)
+    (leaf-given c.in-Leaf.leaf first n c.read_leaf.new.out c.read_leaf.result (ap (λ (k : ℕ). k / 512) c.read_leaf.auto.out) c.read_leaf.ensures.err made))
+
+pub read_lower-returns-in-Device-clause-given : goal.read_lower-returns-in-Device-clause-given
+read_lower-returns-in-Device-clause-given g t c = rw c.in-Device.is c.read_device.ensures.given
+
+pub read_run-returns-in-Below-clause-given : goal.read_run-returns-in-Below-clause-given
+read_run-returns-in-Below-clause-given g t c =
+    rw c.in-Below.is (λ none. c.read_lower.ensures.given (λ some. none (below-meets c.args.config.now c.in-Below.lower c.in-Below.first (length c.args.out.now / 512) some)))
+
+pub read_run-returns-in-Units-clause-given : goal.read_run-returns-in-Units-clause-given
+read_run-returns-in-Units-clause-given g t c = rw c.in-Units.is c.read_units.ensures.given
+
+pub read_run-returns-in-UnitPart-clause-given : goal.read_run-returns-in-UnitPart-clause-given
+read_run-returns-in-UnitPart-clause-given g t c = rw c.in-UnitPart.is c.read_unit_part.ensures.given
+
+pub read_run-returns-in-Zeros-clause-given : goal.read_run-returns-in-Zeros-clause-given
+read_run-returns-in-Zeros-clause-given g t c =
+    λ none.
+    let does = DeviceDoes g.D.BlockDev.state g.D.BlockDev.does in
+    let old = c.args.backing.now.devices.items in
+    let n : ℕ = length c.args.out.now / 512 in
+    let whole : length c.args.out.now ≡ 512 * n = omega (arith, c.requires.fits.sectors.whole) in
+    subst (λ (s : Source). Gives does c.args.config.now s n old old (Ok c.fill_zeros.new.out)) (sym c.in-Zeros.is)
+    (subst (λ (b : List ℕ). Gives does c.args.config.now Zeros n old old (Ok b)) (sym (c.fill_zeros.ensures ∙ ap (λ (k : ℕ). replicate k 0) whole)) (makes-none (zeros_read n)))
+
+pub read_run-returns-in-Fails-clause-given : goal.read_run-returns-in-Fails-clause-given
+read_run-returns-in-Fails-clause-given g t c = rw c.in-Fails.is (λ none. makes-none (fails_read (length c.args.out.now / 512)))
+
+pub read_run-returns-in-Block-clause-given : goal.read_run-returns-in-Block-clause-given
+read_run-returns-in-Block-clause-given g t c =
+    rw c.in-Block.is (λ none. absurd (none (block-meets c.args.config.now c.in-Block.part (length c.args.out.now / 512) (omega (arith, c.requires.fits.sectors.some, c.requires.fits.sectors.whole)))))
+
+pub read_run-returns-in-Blocks-clause-given : goal.read_run-returns-in-Blocks-clause-given
+read_run-returns-in-Blocks-clause-given g t c =
+    rw c.in-Blocks.is (λ none. absurd (none (blocks-meet c.args.config.now c.in-Blocks.part (length c.args.out.now / 512) (omega (arith, c.requires.fits.sectors.some, c.requires.fits.sectors.whole)))))
+
+pub read_units-returns-in-Ok-clause-given : goal.read_units-returns-in-Ok-clause-given
+read_units-returns-in-Ok-clause-given g t c =
+    λ none.
+    let x = c.args.part in
+    let n : ℕ = length c.args.out.now / 512 in
+    let unit = c.unit_at-unit in
+    units-given x unit.result.first n c.read_lower.new.out _ unit.ensures.first (c.decrypt.ensures ∙ ap (λ (k : ℕ). decrypted_units x.units x.key.now k c.read_lower.new.out) unit.ensures.index)
+    (c.in-Ok.ensures.given (λ some. none (units-meets c.args.config.now x unit.result.first n c.requires.fits.holds unit.ensures.first some)))
+
+pub read_units-returns-in-Err-clause-given : goal.read_units-returns-in-Err-clause-given
+read_units-returns-in-Err-clause-given g t c =
+    λ none.
+    let x = c.args.part in
+    let n : ℕ = length c.args.out.now / 512 in
+    let unit = c.unit_at-unit in
+    units-ungiven x unit.result.first n c.in-Err.fault unit.ensures.first (c.in-Err.ensures.given (λ some. none (units-meets c.args.config.now x unit.result.first n c.requires.fits.holds unit.ensures.first some)))
+
+pub read_unit_part-returns-in-Ok-clause-given : goal.read_unit_part-returns-in-Ok-clause-given
+read_unit_part-returns-in-Ok-clause-given g t c =
+    λ none.
+    let x = c.args.part in
+    let n : ℕ = length c.args.out.now / 512 in
+    let whole = c.whole_unit-whole in
+    let of = whole.ensures.whole in
+    let count = room_sectors c.as_mut_slice-all.result.now whole.result.sectors (ap (λ (l : List ℕ). length l) c.as_mut_slice-all.ensures.value) whole.ensures.few in
+    let len : length c.args.out.now ≡ 512 * n = omega (arith, c.requires.fits.sectors.whole) in
+    let is : c.take_sectors.new.out ≡ take (512 * n) (drop (512 * (x.first % per_unit x.units)) c.read_units.new.out) =
+    c.take_sectors.ensures ∙ ap (λ (k : ℕ). take k (drop (512 * whole.result.within) c.read_units.new.out)) len ∙ ap (λ (k : ℕ). take (512 * n) (drop (512 * k) c.read_units.new.out)) of.within in
+    part-given x whole.result _ n c.read_units.new.out c.take_sectors.new.out of count is
+    (c.in-Ok.ensures.given (λ some. none (part-meets c.args.config.now x whole.result n _ of c.requires.fits.holds (omega (arith, c.requires.fits.sectors.some, c.requires.fits.sectors.whole)) count some)))
+
+pub read_unit_part-returns-in-Err-clause-given : goal.read_unit_part-returns-in-Err-clause-given
+read_unit_part-returns-in-Err-clause-given g t c =
+    λ none.
+    let x = c.args.part in
+    let n : ℕ = length c.args.out.now / 512 in
+    let whole = c.whole_unit-whole in
+    let count = room_sectors c.as_mut_slice-all.result.now whole.result.sectors (ap (λ (l : List ℕ). length l) c.as_mut_slice-all.ensures.value) whole.ensures.few in
+    part-ungiven x whole.result _ n c.in-Err.fault whole.ensures.whole count
+    (c.in-Err.ensures.given (λ some. none (part-meets c.args.config.now x whole.result n _ whole.ensures.whole c.requires.fits.holds (omega (arith, c.requires.fits.sectors.some, c.requires.fits.sectors.whole)) count some)))
+
+pub read_device-returns-in-Err-clause-given : goal.read_device-returns-in-Err-clause-given
+read_device-returns-in-Err-clause-given g t c =
+    λ none.
+    let config = c.args.config.now in
+    let does = DeviceDoes g.D.BlockDev.state g.D.BlockDev.does in
+    let next = c.run_to_read-run in
+    let inv = c.loop-at.invariant in
+    let source = next.result.source in
+    let run = next-run c.args.from.1 c.loop-at.at (length c.args.out.now / 512) c.loop-at.out inv.whole c.loop-at-test.true (omega (arith, c.loop-at.auto.out)) next.ensures.served next.ensures.some next.ensures.most next.ensures.ends in
+    let here = subst (λ (k : ℕ). (MeetVerity (source_said config source) 0 k → ⊥) → Gives does config source k c.loop-at.backing.devices.items c.read_run.new.backing.devices.items (Err c.in-Err.fault)) run.sectors c.in-Err.ensures.given in
+    run-ended c.args.from.0.0 c.args.from.1 (c.loop-at.at / 512) next.result.count (length c.args.out.now / 512) source (take c.loop-at.at c.loop-at.out) c.in-Err.fault run.served run.inside (inv.given none)
+    (here (λ some. none (run-meets c.requires.stack.sound.loaded run _ run.inside some)))
+
+pub read_device-returns-clause-given : goal.read_device-returns-clause-given
+read_device-returns-clause-given g t c =
+    λ none.
+    let inv = c.loop-at.invariant in
+    let does = DeviceDoes g.D.BlockDev.state g.D.BlockDev.does in
+    let at = c.loop-at.at in
+    let all : at / 512 ≡ length c.args.out.now / 512 = omega (arith, inv.within, c.loop-at-test.false, c.loop-at.auto.out) in
+    let Is : ℕ → List ℕ → Type 0 = λ k b. Gives does c.args.config.now (Below (mapped c.args.from.0.0) c.args.from.1) k c.args.backing.now.devices.items c.loop-at.backing.devices.items (Ok b) in
+    subst (λ (k : ℕ). Is k c.loop-at.out) all (subst (Is (at / 512)) (take_all at c.loop-at.out (omega (arith, c.loop-at-test.false))) (inv.given none))

@@ -34,11 +34,16 @@ use Rattle.stack_meaning.specs.Places.{LeafRead}
 use Rattle.stack_meaning.specs.Reading.{IsPlain}
 use Rattle.stack_lines.specs.Sources.{ReadsSource}
 use Rattle.stack_meaning.proofs.lemmas.LeafLemmas.{all-whole}
-use Rattle.stack_engine.proofs.UnitChangeLemmas.{part-ended, part-written}
+use Rattle.stack_engine.proofs.UnitChangeLemmas.{part-ended, part-written, none-meets}
 use Rattle.stack_engine.proofs.UnitWriteLemmas.{lower-written, units-none, units-more, units-ended}
 use Rattle.stack_engine.proofs.RunBytesLemmas.{room_length, room_sectors, front_whole, with_run, with_rest, run_served, ends_before, ends_after, ends_behind, IsNextRun, next-run, run-fits}
 use Rattle.stack_engine.proofs.UnitStepLemmas.{step-at, step-width, step-written}
 use Rattle.stack_engine.proofs.HeldLemmas.{rest-later, one-none, none-of_units, none-of_part, IsCut, cut-bytes, cut-rest, cut-held}
+use Rattle.block_device.specs.Call.{DeviceDoes}
+use Rattle.stack_meaning.specs.Reading.{MeetVerity}
+use Rattle.stack_engine.specs.SectorCalls.{Hands, none_written, zeros_written, fails_written}
+use Rattle.stack_engine.proofs.LeafCallLemmas.{makes-none}
+use Rattle.stack_engine.proofs.SectorCallLemmas.{leaf-handed, more-handed, ended-handed, step-handed, run-handed, units-handed, part-handed, part-lost}
 use Rattle.stack_engine.specs.Backings.{backing_of}
 use Rattle.stack_engine.specs.WriteSteps.{write_to, write_beneath, IsWriteStep}
 use Rattle.stack_engine.proofs.WriteStepLemmas.{write_some, write-step-none, device-write-step, device-write-err, unit-write-step, unit-write-err, part-read-step, part-write-step}
@@ -57,6 +62,7 @@ write_device-loop-at-init g t c =
       rest = refl;
       so_far = subst (λ (l : List (List ℕ)). WritesSectors to c.args.first l leaves leaves (Ok tt)) (sym sectors_in-none) (write_none to c.args.first leaves (put-none c.args.config.now (mapped c.args.d.0) c.args.first));
       ends = inl (inl refl);
+      handed = makes-none (none_written (mapped c.args.d.0) c.args.first);
       step = write-step-none c.requires.can.stack.cached;
       cut = inl refl;
     }
@@ -132,6 +138,7 @@ write_device-loop-at-preserved g t c =
       rest = cut-rest cut c.write_run.new.buffer c.write_run.auto.buffer;
       so_far = subst (λ (b : List ℕ). WritesSectors (destination_of config (mapped d)) first (sectors_in b) old new (Ok tt)) (with_run bytes at count run.fits) all;
       ends = ends_after bytes at count run.fits config d first rest inv.whole run.some (omega (arith, c.requires.can.fits.sectors.whole, ap (λ (l : List ℕ). length l) c.held-len.ensures)) next.ensures.longest;
+      handed = more-handed (mapped d) first at (at + count * 512) bytes (omega arith) inv.handed (run-handed d first at count source bytes _ run.fits run.served same c.in-Ok.ensures.handed);
       step = device-write-step loaded run inv.cut (ap (λ (l : List ℕ). length l / 512) same ∙ run.sectors) inv.step c.in-Ok.ensures.step;
       cut = subst (λ (k : ℕ). IsCutBehind config d first k (length bytes / 512)) run.next run.behind;
     }
@@ -413,6 +420,7 @@ write_units-loop-at-init g t c =
       within = omega arith;
       rest = refl;
       so_far = subst (λ (l : List (List ℕ)). WritesSectors to 0 l leaves leaves (Ok tt)) (sym sectors_in-none) (write_none to 0 leaves (λ images. units-none c.args.config.now c.args.part images));
+      handed = makes-none (none_written c.args.part.lower (unit_first c.args.part.units c.args.part.first));
       step = write-step-none c.requires.stack.cached;
     }
 
@@ -444,6 +452,8 @@ write_units-loop-at-preserved g t c =
           (c.write_lower-in-loop-at.auto.buffer ∙ step-width step now now_long ∙ (omega (arith, step.end_is)))
           ∙ ap (λ (k : ℕ). drop k now) step.end_is ∙ rest-later now c.encrypt.new.units at size inv.rest ∙ ap (λ (k : ℕ). drop k c.encrypt.new.units) (sym step.end_is);
       so_far = subst (λ (k : ℕ). WritesSectors (source_destination config (Units p)) 0 (sectors_in (take k bytes)) old (map state c.write_lower-in-loop-at.new.backing.devices.items) (Ok tt)) (sym (step.end_is ∙ step.next)) all;
+      handed = more-handed p.lower (unit_first p.units p.first) at c.min-end.result c.encrypt.new.units (omega (arith, step.end_is)) inv.handed
+          (step-handed p.lower unit.result.first (unit_first p.units p.first) at c.min-end.result now c.encrypt.new.units unit.ensures.first (omega (arith, c.loop-at-test.true)) inv.rest c.in-Ok.ensures.handed);
       step = unit-write-step step c.requires.stack.sound.loaded c.requires.fits.holds now now_long unit.ensures.first inv.step c.in-Ok.ensures.step c.in-Ok.ensures.writes.unread;
     }
 
@@ -616,3 +626,111 @@ write_unit_part-returns-clause-step g t c =
     let count = room_sectors c.as_mut_slice-all.result.now whole.result.sectors (ap (λ (l : List ℕ). length l) c.as_mut_slice-all.ensures.value) whole.ensures.few in
     let same : length c.put_sectors.new.unit / 512 ≡ whole.result.sectors = ap (λ (j : ℕ). j / 512) (c.put_sectors.auto.unit ∙ c.read_units.auto.out) ∙ count in
     part-write-step c.args.config.now c.args.part whole.result c.args.bytes.now c.requires.stack.sound.loaded whole.ensures.whole c.requires.fits c.requires.allowed count c.in-Ok.ensures.reads.reads.got.moved c.in-Ok.ensures.step same c.write_units.ensures.step
+
+-- ---- which calls were made
+
+pub write_lower-returns-in-Leaf-clause-handed : goal.write_lower-returns-in-Leaf-clause-handed
+write_lower-returns-in-Leaf-clause-handed g t c =
+    let config = c.args.config.now in
+    let does = DeviceDoes g.D.BlockDev.state g.D.BlockDev.does in
+    let old = c.args.backing.now.devices.items in
+    let new = c.write_leaf.new.backing.devices.items in
+    let one : Hands does config (Below (Leaf c.in-Leaf.leaf) c.args.first) c.held.result.now old new c.write_leaf.result = leaf-handed c.in-Leaf.leaf c.args.first c.held.result.now c.write_leaf.result c.write_leaf.ensures.err c.write_leaf.ensures.call in
+    subst (λ (x : Lower). Hands does config (Below x c.args.first) (c.args.plain.now ++ c.args.buffer.now) old new c.write_leaf.result) (sym c.in-Leaf.is)
+    (subst (λ (b : List ℕ). Hands does config (Below (Leaf c.in-Leaf.leaf) c.args.first) b old new c.write_leaf.result) c.held.ensures one)
+
+pub write_lower-returns-in-Device-clause-handed : goal.write_lower-returns-in-Device-clause-handed
+write_lower-returns-in-Device-clause-handed g t c = rw c.in-Device.is c.write_device.ensures.handed
+
+pub write_run-returns-in-Below-clause-handed : goal.write_run-returns-in-Below-clause-handed
+write_run-returns-in-Below-clause-handed g t c = rw c.in-Below.is c.write_lower.ensures.handed
+
+pub write_run-returns-in-Units-clause-handed : goal.write_run-returns-in-Units-clause-handed
+write_run-returns-in-Units-clause-handed g t c =
+    let run = c.in-Units in
+    let none = none-of_units c.args.config.now run.part c.args.source c.args.plain.now c.args.buffer.now c.requires.can.fits c.requires.bytes run.is in
+    rw (run.is, none) c.write_units.ensures.handed
+
+pub write_run-returns-in-UnitPart-clause-handed : goal.write_run-returns-in-UnitPart-clause-handed
+write_run-returns-in-UnitPart-clause-handed g t c =
+    let run = c.in-UnitPart in
+    let none = none-of_part c.args.config.now run.part c.args.source c.args.plain.now c.args.buffer.now c.requires.can.fits c.requires.bytes run.is in
+    rw (run.is, none) c.write_unit_part.ensures.handed
+
+pub write_run-returns-in-Zeros-clause-handed : goal.write_run-returns-in-Zeros-clause-handed
+write_run-returns-in-Zeros-clause-handed g t c = rw c.in-Zeros.is (makes-none (zeros_written (c.args.plain.now ++ c.args.buffer.now)))
+
+pub write_run-returns-in-Fails-clause-handed : goal.write_run-returns-in-Fails-clause-handed
+write_run-returns-in-Fails-clause-handed g t c = rw c.in-Fails.is (makes-none (fails_written (c.args.plain.now ++ c.args.buffer.now)))
+
+pub write_units-returns-then-lower_cuts-clause-handed : goal.write_units-returns-then-lower_cuts-clause-handed
+write_units-returns-then-lower_cuts-clause-handed g t c =
+    let p = c.args.part in
+    let unit = c.unit_at-unit in
+    units-handed p unit.result.first c.args.units.now c.encrypt.new.units unit.ensures.first (encrypted-is p.units p.key.now unit.result.index (p.first / per_unit p.units) c.args.units.now c.encrypt.new.units c.encrypt.ensures unit.ensures.index) c.write_lower.ensures.handed
+
+pub write_units-returns-in-Err-clause-handed : goal.write_units-returns-in-Err-clause-handed
+write_units-returns-in-Err-clause-handed g t c =
+    let p = c.args.part in
+    let unit = c.unit_at-unit in
+    let inv = c.loop-at.invariant in
+    let at = c.loop-at.at in
+    let first : ℕ = unit_first p.units p.first in
+    let end = c.min-end.result in
+    units-handed p first c.args.units.now c.encrypt.new.units refl (encrypted-is p.units p.key.now unit.result.index (p.first / per_unit p.units) c.args.units.now c.encrypt.new.units c.encrypt.ensures unit.ensures.index)
+    (ended-handed p.lower first at end c.encrypt.new.units c.in-Err.fault inv.handed
+    (step-handed p.lower unit.result.first first at end c.loop-at.units c.encrypt.new.units unit.ensures.first (omega (arith, c.loop-at-test.true)) inv.rest c.in-Err.ensures.handed))
+
+pub write_units-returns-clause-handed : goal.write_units-returns-clause-handed
+write_units-returns-clause-handed g t c =
+    let p = c.args.part in
+    let unit = c.unit_at-unit in
+    let first : ℕ = unit_first p.units p.first in
+    let whole : take c.loop-at.at c.encrypt.new.units ≡ c.encrypt.new.units = take_all c.loop-at.at c.encrypt.new.units (omega (arith, c.loop-at-test.false)) in
+    units-handed p first c.args.units.now c.encrypt.new.units refl (encrypted-is p.units p.key.now unit.result.index (p.first / per_unit p.units) c.args.units.now c.encrypt.new.units c.encrypt.ensures unit.ensures.index)
+    (subst (λ (b : List ℕ). Hands (DeviceDoes g.D.BlockDev.state g.D.BlockDev.does) c.args.config.now (Below p.lower first) b c.args.backing.now.devices.items c.loop-at.backing.devices.items (Ok tt)) whole c.loop-at.invariant.handed)
+
+pub write_unit_part-returns-in-Err-clause-handed : goal.write_unit_part-returns-in-Err-clause-handed
+write_unit_part-returns-in-Err-clause-handed g t c =
+    let config = c.args.config.now in
+    let bytes = c.args.bytes.now in
+    let n : ℕ = length bytes / 512 in
+    let whole = c.whole_unit-whole in
+    let count = room_sectors c.as_mut_slice-all.result.now whole.result.sectors (ap (λ (l : List ℕ). length l) c.as_mut_slice-all.ensures.value) whole.ensures.few in
+    let none = none-meets config c.args.part whole.result bytes n c.requires.stack.sound.loaded whole.ensures.whole c.requires.fits.holds (omega (arith, c.requires.fits.sectors.some, c.requires.fits.sectors.whole)) (omega (arith, c.requires.fits.sectors.whole)) c.requires.allowed in
+    part-lost c.args.part whole.result _ bytes c.in-Err.fault whole.ensures.whole count (c.in-Err.ensures.given (subst (λ (k : ℕ). MeetVerity (source_said config (Units whole.result.from)) 0 k → ⊥) (sym count) none))
+
+pub write_unit_part-returns-clause-handed : goal.write_unit_part-returns-clause-handed
+write_unit_part-returns-clause-handed g t c =
+    let config = c.args.config.now in
+    let bytes = c.args.bytes.now in
+    let n : ℕ = length bytes / 512 in
+    let whole = c.whole_unit-whole in
+    let count = room_sectors c.as_mut_slice-all.result.now whole.result.sectors (ap (λ (l : List ℕ). length l) c.as_mut_slice-all.ensures.value) whole.ensures.few in
+    let none = none-meets config c.args.part whole.result bytes n c.requires.stack.sound.loaded whole.ensures.whole c.requires.fits.holds (omega (arith, c.requires.fits.sectors.some, c.requires.fits.sectors.whole)) (omega (arith, c.requires.fits.sectors.whole)) c.requires.allowed in
+    part-handed c.args.part whole.result _ bytes c.read_units.new.out c.put_sectors.new.unit whole.ensures.whole count c.put_sectors.ensures (c.in-Ok.ensures.given (subst (λ (k : ℕ). MeetVerity (source_said config (Units whole.result.from)) 0 k → ⊥) (sym count) none)) c.write_units.ensures.handed
+
+pub write_device-returns-in-Err-clause-handed : goal.write_device-returns-in-Err-clause-handed
+write_device-returns-in-Err-clause-handed g t c =
+    let config = c.args.config.now in
+    let plain = c.args.plain.now in
+    let buffer = c.args.buffer.now in
+    let bytes = plain ++ buffer in
+    let d = c.args.d.0 in
+    let first = c.args.first in
+    let at = c.loop-at.at in
+    let next = c.run_at-run in
+    let inv = c.loop-at.invariant in
+    let count = next.result.count in
+    let run = subst (λ (b : List ℕ). IsNextRun config d first at (length bytes / 512) b count next.result.source) c.held-len.ensures
+    (next-run first at (length bytes / 512) c.held-len.result.now inv.whole c.loop-at-test.true (ap (λ (l : List ℕ). length l / 512) c.held-len.ensures) next.ensures.served next.ensures.some next.ensures.most next.ensures.longest) in
+    let cut : IsCut plain buffer c.loop-at.buffer c.between-part.result.now at (at + count * 512) c.min-from.result c.min-to.result =
+    record { part_is = c.between-part.ensures; from_is = c.min-from.ensures; to_is = c.min-to.ensures; same_len = c.loop-at.auto.buffer; same_rest = inv.rest; order = omega arith } in
+    let same = cut-bytes cut (one-none (said_at config (mapped d)) first plain buffer c.requires.bytes) in
+    ended-handed (mapped d) first at (at + count * 512) bytes c.in-Err.fault inv.handed (run-handed d first at count next.result.source bytes _ run.fits run.served same c.in-Err.ensures.handed)
+
+pub write_device-returns-clause-handed : goal.write_device-returns-clause-handed
+write_device-returns-clause-handed g t c =
+    let bytes = c.args.plain.now ++ c.args.buffer.now in
+    let whole : take c.loop-at.at bytes ≡ bytes = take_all c.loop-at.at bytes (omega (arith, c.loop-at-test.false, ap (λ (l : List ℕ). length l) c.held-len.ensures)) in
+    subst (λ (b : List ℕ). Hands (DeviceDoes g.D.BlockDev.state g.D.BlockDev.does) c.args.config.now (Below (mapped c.args.d.0) c.args.first) b c.args.backing.now.devices.items c.loop-at.backing.devices.items (Ok tt)) whole c.loop-at.invariant.handed

@@ -1,4 +1,6 @@
-use Rattle.std.proofs.Common.{◌/◌, ℕ, List, length, map, Result, ap, subst}
+use Rattle.std.proofs.Common.{inr, refl, ◌/◌, ℕ, List, length, map, Result, ap, subst}
+use Rattle.stack_engine.specs.Pieces.{PieceGives}
+use Rattle.stack_engine.proofs.LeafCallLemmas.{makes-as}
 use Rattle.stack_meaning.specs.declared.fault.IoFault.{IoFault}
 use Rattle.stack_meaning.specs.Leaves.{AreSteady}
 use Rattle.stack_rules.specs.Names.{mapped}
@@ -54,3 +56,15 @@ returns-clause-kept g c =
     let after : StackRecord = stack_with c.self.inside.config (map g.D.BlockDev.state c.read_device.new.backing.devices.items) c.read_device.new.backing.cache.blocks in
     subst (λ (w : StackRecord). ReadKeeps w c.args.d.0 c.args.first n after) c.self.view_is
     (record { same = λ none. ap (λ (k : StackCache). k.blocks.blocks) (c.read_device.ensures.step.same none); checked = cached-checked c.self.inside.config c.read_device.ensures.step.cached.sound })
+
+pub returns-clause-given : goal.returns-clause-given
+returns-clause-given g c =
+    let state = g.D.BlockDev.state in
+    let does = g.D.BlockDev.does in
+    let n : ℕ = length c.args.out.now / 512 in
+    let answer : Result (List ℕ) IoFault = buffer_answer c.read_device.result c.read_device.new.out in
+    let devices = c.self.inside.backing.devices.items in
+    let new = c.read_device.new.backing.devices.items in
+    let after : StackRecord = stack_with c.self.inside.config (map state new) c.read_device.new.backing.cache.blocks in
+    subst (λ (w : StackRecord). PieceGives state does w (c.args.d.0, c.args.first) n answer after) c.self.view_is
+    (λ none. record { before = devices; after = new; was = refl; is = refl; made = makes-as (λ calls a. inr a) (c.read_device.ensures.given none) })

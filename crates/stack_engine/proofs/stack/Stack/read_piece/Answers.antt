@@ -1,7 +1,12 @@
-use Rattle.std.proofs.Common.{◌≡◌, ◌/◌, ℕ, List, [], length, map, Result, Ok, refl, sym, ap, ◌∙◌, subst, arith}
+use Rattle.std.proofs.Common.{inl, inr, ◌≡◌, ◌/◌, ℕ, List, [], length, map, Result, Ok, refl, sym, ap, ◌∙◌, subst, arith}
 use Rattle.std.specs.Prelude.{IfErr}
 use Rattle.std.proofs.lemmas.List.{with_items_is}
+use Rattle.block_device.specs.Call.{DeviceDoes}
 use Rattle.stack_rules.specs.Names.{mapped}
+use Rattle.stack_lines.specs.declared.source.Source.TheVariants.{Below}
+use Rattle.stack_engine.specs.SectorCalls.{Gives}
+use Rattle.stack_engine.specs.Pieces.{PieceGives, answer_bytes}
+use Rattle.stack_engine.proofs.LeafCallLemmas.{makes-none, makes-as}
 use Rattle.stack_meaning.specs.declared.fault.IoFault.{IoFault}
 use Rattle.stack_meaning.specs.Found.{FoundRecord}
 use Rattle.stack_meaning.specs.Meaning.{Said, said_at}
@@ -121,3 +126,31 @@ returns-clause-kept g c =
 
 pub returns-in-Err-clause-kept : goal.returns-in-Err-clause-kept
 returns-in-Err-clause-kept g c = record { same = λ none. refl; checked = subst AreChecked c.self.view_is (cached-checked c.self.inside.config c.self.invariant.cached) }
+
+-- which calls were made
+
+pub returns-clause-given : goal.returns-clause-given
+returns-clause-given g c =
+    let state = g.D.BlockDev.state in
+    let does = g.D.BlockDev.does in
+    let config = c.self.inside.config in
+    let devices = c.self.inside.backing.devices.items in
+    let new = c.read_device.new.backing.devices.items in
+    let after : StackRecord = stack_with config (map state new) c.read_device.new.backing.cache.blocks in
+    let made = subst (λ (n : ℕ). (MeetVerity (said_at config (mapped c.args.d.0)) c.args.first n → ⊥) → Gives (DeviceDoes state does) config (Below (mapped c.args.d.0) c.args.first) n devices new (buffer_answer c.read_device.result c.read_device.new.out)) (count g c) c.read_device.ensures.given in
+    let held : length c.read_device.new.out ≡ c.in-Ok.bytes.len = c.read_device.auto.out ∙ ap (λ (l : List ℕ). length l) c.as_mut_slice.ensures.value ∙ sym c.in-Ok.bytes.ok.0 in
+    let Same : Result AnswerRecord IoFault → Type 0 = λ r. buffer_answer c.read_device.result c.read_device.new.out ≡ answer_bytes r in
+    let same : Same c.match-read_device.result = elim c.match-read_device.branch [
+      | in-Err-read_device w ↦ subst Same (sym w.result-is) (ap (λ (r : Result Unit IoFault). buffer_answer r c.read_device.new.out) w.in-Err-read_device.is)
+      | in-Ok-read_device w ↦ subst Same (sym w.result-is) (ap (λ (r : Result Unit IoFault). buffer_answer r c.read_device.new.out) w.in-Ok-read_device.is ∙ ap Ok (sym (with_items_is c.in-Ok.bytes c.read_device.new.out held)))
+    ] in
+    subst (λ (answer : Result (List ℕ) IoFault). PieceGives state does c.args.self.now (c.args.d.0, c.args.first) c.args.n answer after) same
+    (subst (λ (w : StackRecord). PieceGives state does w (c.args.d.0, c.args.first) c.args.n (buffer_answer c.read_device.result c.read_device.new.out) after) c.self.view_is
+    (λ none. record { before = devices; after = new; was = refl; is = refl; made = makes-as (λ calls a. inr a) (made none) }))
+
+pub returns-in-Err-clause-given : goal.returns-in-Err-clause-given
+returns-in-Err-clause-given g c =
+    λ none.
+    let devices = c.self.inside.backing.devices.items in
+    let same = ap (λ (w : StackRecord). w.leaves) c.self.view_is in
+    record { before = devices; after = devices; was = same; is = same; made = makes-none (inl (refl, refl)) }

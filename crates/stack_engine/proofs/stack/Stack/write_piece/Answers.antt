@@ -1,6 +1,11 @@
-use Rattle.std.proofs.Common.{◌≡◌, ℕ, ◌-◌, ◌/◌, List, ◌++◌, length, take, drop, map, refl, ap, ◌∙◌, subst, arith}
+use Rattle.std.proofs.Common.{◌≡◌, inl, inr, ℕ, ◌-◌, ◌/◌, List, ◌++◌, length, take, drop, map, refl, ap, ◌∙◌, subst, arith}
 use Rattle.std.proofs.lemmas.List.{take_all, length-drop}
+use Rattle.block_device.specs.Call.{DeviceDoes}
 use Rattle.stack_rules.specs.Names.{mapped}
+use Rattle.stack_lines.specs.declared.source.Source.TheVariants.{Below}
+use Rattle.stack_engine.specs.SectorCalls.{Hands}
+use Rattle.stack_engine.specs.WritePieces.{PieceHands}
+use Rattle.stack_engine.proofs.LeafCallLemmas.{makes-none, makes-as}
 use Rattle.stack_engine.specs.Stacks.{StackRecord}
 use Rattle.stack_engine.specs.Pieces.{stack_with}
 use Rattle.stack_meaning.specs.Changes.{NoneRead}
@@ -99,3 +104,23 @@ returns-clause-checked g c = cached-checked c.self.inside.config c.write_device.
 
 pub returns-in-Err-clause-checked : goal.returns-in-Err-clause-checked
 returns-in-Err-clause-checked g c = subst AreChecked c.self.view_is (cached-checked c.self.inside.config c.self.invariant.cached)
+
+-- which calls were made
+
+pub returns-clause-handed : goal.returns-clause-handed
+returns-clause-handed g c =
+    let state = g.D.BlockDev.state in
+    let does = g.D.BlockDev.does in
+    let devices = c.self.inside.backing.devices.items in
+    let new = c.write_device.new.backing.devices.items in
+    let after = stack_with c.self.inside.config (map state new) c.write_device.new.backing.cache.blocks in
+    let made = subst (λ (b : List ℕ). Hands (DeviceDoes state does) c.self.inside.config (Below (mapped c.args.d.0) c.args.first) b devices new c.write_device.result) (bytes_of g c) c.write_device.ensures.handed in
+    subst (λ (w : StackRecord). PieceHands state does w (c.args.d.0, c.args.first) c.args.bytes.now c.write_device.result after) c.self.view_is
+    (record { before = devices; after = new; was = refl; is = refl; made = makes-as (λ calls a. inr a) made })
+
+pub returns-in-Err-clause-handed : goal.returns-in-Err-clause-handed
+returns-in-Err-clause-handed g c =
+    let state = g.D.BlockDev.state in
+    let devices = c.self.inside.backing.devices.items in
+    let same = ap (λ (w : StackRecord). w.leaves) c.self.view_is in
+    record { before = devices; after = devices; was = same; is = same; made = makes-none (inl (refl, refl)) }

@@ -1,0 +1,48 @@
+-- The calls of a read or a write end at the first one that fails.
+use Rattle.std.proofs.Common.{ℕ, List, [], ◌∷◌, ◌++◌, Result, Ok, Err, refl}
+use Rattle.stack_rules.specs.Records.{Configuration}
+use Rattle.stack_meaning.specs.declared.fault.IoFault.{IoFault}
+use Rattle.stack_lines.specs.declared.source.Source.{Source}
+use Rattle.stack_engine.specs.LeafCalls.{LeafCall, AllLeafCallsSucceeded, NoneAfterFailure, EndAtFailure}
+use Rattle.stack_engine.specs.SectorCalls.{AreReadCalls, AreWriteCalls, leaf_read, leaf_unread, none_read, more_read, ended_read, line_read, units_read, units_unread, part_read, part_unread, zeros_read, fails_read, leaf_written, leaf_unwritten, none_written, more_written, ended_written, line_written, units_written, part_written, part_lost, zeros_written, fails_written}
+
+all-append : (calls later : List LeafCall) → AllLeafCallsSucceeded calls → AllLeafCallsSucceeded later → AllLeafCallsSucceeded (calls ++ later)
+all-append [] later h k = k
+all-append (x ∷ calls) later h k = (h.0, all-append calls later h.1 k)
+
+end-append : (calls later : List LeafCall) → AllLeafCallsSucceeded calls → NoneAfterFailure later → NoneAfterFailure (calls ++ later)
+end-append [] later h k = k
+end-append (x ∷ []) [] h k = tt
+end-append (x ∷ []) (y ∷ later) h k = (h.0, k)
+end-append (x ∷ (y ∷ calls)) later h k = (h.0, end-append (y ∷ calls) later h.1 k)
+
+ended-append : {A B : Type 0} (result : Result A B) (calls later : List LeafCall) → AllLeafCallsSucceeded calls → EndAtFailure result later → EndAtFailure result (calls ++ later)
+ended-append (Ok x) calls later h k = all-append calls later h k
+ended-append (Err fault) calls later h k = end-append calls later h k
+
+pub reads-ended : {c : Configuration} {source : Source} {n : ℕ} {calls : List LeafCall} {answer : Result (List ℕ) IoFault} → AreReadCalls c source n calls answer → EndAtFailure answer calls
+reads-ended (leaf_read i s bytes) = (refl, tt)
+reads-ended (leaf_unread i s bytes) = tt
+reads-ended (none_read x s) = tt
+reads-ended (more_read {calls = calls} {later = later} a b) = all-append calls later (reads-ended a) (reads-ended b)
+reads-ended (ended_read {calls = calls} {later = later} left a b) = end-append calls later (reads-ended a) (reads-ended b)
+reads-ended (line_read served a) = reads-ended a
+reads-ended (units_read a) = reads-ended a
+reads-ended (units_unread a) = reads-ended a
+reads-ended (part_read n a) = reads-ended a
+reads-ended (part_unread n a) = reads-ended a
+reads-ended (zeros_read n) = tt
+reads-ended (fails_read n) = tt
+
+pub writes-ended : {c : Configuration} {source : Source} {bytes : List ℕ} {calls : List LeafCall} {result : Result Unit IoFault} → AreWriteCalls c source bytes calls result → EndAtFailure result calls
+writes-ended (leaf_written i s bytes) = (refl, tt)
+writes-ended (leaf_unwritten i s bytes) = tt
+writes-ended (none_written x s) = tt
+writes-ended (more_written {calls = calls} {later = later} a b) = all-append calls later (writes-ended a) (writes-ended b)
+writes-ended (ended_written {calls = calls} {later = later} left a b) = end-append calls later (writes-ended a) (writes-ended b)
+writes-ended (line_written served a) = writes-ended a
+writes-ended (units_written a) = writes-ended a
+writes-ended {result = result} (part_written {calls = calls} {later = later} a b) = ended-append result calls later (reads-ended a) (writes-ended b)
+writes-ended (part_lost bytes a) = reads-ended a
+writes-ended (zeros_written bytes) = tt
+writes-ended (fails_written bytes) = tt
