@@ -44,13 +44,12 @@ PLACES = {
     "reed_solomon": (4, STATED),
     "repair_commands": (1, NOT_YET),
     "request_queue": (1, NOT_YET),
-    "rescue_map": (25, NOT_YET),
+    "rescue_map": (4, STATED),
     "runs": (14, NOT_YET),
     "scan_commands": (25, NOT_YET),
     "stack_commands": (3, NOT_YET),
     "stack_files": (14, NOT_YET),
     "stack_lines": (2, CACHE),
-    "stack_recovery": (4, NOT_YET),
     "stack_rules": (4, STATED),
     "stack_session": (7, NOT_YET),
     "table_text": (32, NOT_YET),
@@ -69,6 +68,9 @@ TRUSTED = {
 # Of functions that call this repository's own methods by a library's name: how many such calls each has, and of which methods.
 # These answer an `OutOfMemory`.
 OWN = {
+    ("rescue_map", "filled"): (1, "`Map::push`"),
+    ("rescue_map", "move_marks"): (1, "`Map::push`"),
+    ("stack_recovery", "note"): (1, "`Map::push`"),
     ("dm_table", "try_clone"): (13, "`try_clone` of a name's owners, `Options::push` and `Bases::push`"),
     ("table_text", "read_known"): (1, "`Options::push`"),
     ("table_text", "read_bases"): (1, "`Bases::push`"),

@@ -14,16 +14,16 @@ pub after-nil : (rest : Result (List Run) MapFault) → rest ≡ after [] rest
 after-nil (Ok more) = refl
 after-nil (Err e) = refl
 
--- the exit of a `?`, whose fault may be what the text says
-pub exit_fault : (r : Result (List Run) MapFault) (f : MapFault) (answer : Result (List Run) MapFault) → IsErrAnd r (λ e. e ≡ f) → answer ≡ Err f → IsMapAnswer r answer
-exit_fault (Ok x) f answer h e = absurd h
-exit_fault (Err g) f answer h e = subst (λ (x : MapFault). IsMapAnswer (Err x) answer) (sym h) (told f e)
+-- the exit of a `?`, whose fault is what the text says
+pub exit_fault : (r : Result (List Run) MapFault) (f : MapFault) (answer : Result (List Run) MapFault) → IsErrAnd r (λ e. e ≡ f) → (f ≡ fault.NoMemory → ⊥) → answer ≡ Err f → IsMapAnswer r answer
+exit_fault (Ok x) f answer h other e = absurd h
+exit_fault (Err g) f answer h other e = subst (λ (x : MapFault). IsMapAnswer (Err x) answer) (sym h) (told f other e)
   where
-    told : (x : MapFault) → answer ≡ Err x → IsMapAnswer (Err x) answer
-    told fault.NoMemory e = tt
-    told fault.Status e = e
-    told fault.Block e = e
-    told fault.PartSector e = e
-    told fault.Gap e = e
-    told fault.Overlap e = e
-    told fault.Size e = e
+    told : (x : MapFault) → (x ≡ fault.NoMemory → ⊥) → answer ≡ Err x → IsMapAnswer (Err x) answer
+    told fault.NoMemory other e = absurd (other refl)
+    told fault.Status other e = e
+    told fault.Block other e = e
+    told fault.PartSector other e = e
+    told fault.Gap other e = e
+    told fault.Overlap other e = e
+    told fault.Size other e = e

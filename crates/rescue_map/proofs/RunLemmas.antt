@@ -1,5 +1,6 @@
 -- Runs of a map, and the marks of their sectors.
-use Rattle.std.proofs.Common.{◌≡◌, ℕ, zero, suc, ◌+◌, ◌≤◌, ◌<◌, ◌^◌, Bool, true, false, cond, List, [], ◌∷◌, ◌++◌, length, take, drop, get_or, set, replicate, refl, sym, ap, subst, ◌∙◌, append-nil, append_assoc, take-append-drop, arith}
+use Rattle.std.proofs.Common.{◌≡◌, ℕ, zero, suc, ◌+◌, ◌≤◌, ◌<◌, ◌^◌, Bool, true, false, List, [], ◌∷◌, ◌++◌, length, take, drop, get_or, set, replicate, Result, Ok, Err, refl, sym, ap, subst, ◌∙◌, append-nil, append_assoc, take-append-drop, arith}
+use Rattle.std.specs.Prelude.{OnErr, OnOk}
 use Rattle.std.proofs.Math.Bool.{beq}
 use Rattle.std.proofs.lemmas.List.{length-append, length-replicate, length-set, replicate-append-replicate, take_all, take_more, take_more_set}
 use Rattle.std.proofs.lemmas.List.Concat.{flat_map-append}
@@ -53,9 +54,10 @@ are_runs-grown runs k n d e p some room =
     }
 
 -- a run was put behind, or none
-pub are_runs-either : (runs new : List Run) (r : Run) (ok : Bool) → new ≡ cond ok (runs ++ r ∷ []) runs → AreRuns runs → 1 ≤ r.count → length (marks runs) + r.count ≤ 2 ^ 54 → AreRuns new
-are_runs-either runs new r true e p some room = subst AreRuns (sym e) (are_runs-push runs r p some room)
-are_runs-either runs new r false e p some room = subst AreRuns (sym e) p
+pub are_runs-either : {A E : Type 0} (runs new : List Run) (r : Run) (result : Result A E) → OnOk result (new ≡ runs ++ r ∷ []) → OnErr result (new ≡ runs) → AreRuns runs → 1 ≤ r.count
+    → length (marks runs) + r.count ≤ 2 ^ 54 → AreRuns new
+are_runs-either runs new r (Ok x) put same p some room = subst AreRuns (sym put) (are_runs-push runs r p some room)
+are_runs-either runs new r (Err e) put same p some room = subst AreRuns (sym same) p
 
 -- an element, whatever stands for a missing one
 pub get_or_same : (runs : List Run) (k : ℕ) (a b : Run) → k < length runs → get_or runs k a ≡ get_or runs k b

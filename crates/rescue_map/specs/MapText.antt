@@ -1,6 +1,7 @@
 -- Map files: what they say of a device, or their first fault; and the text that is written.
 use Rattle.std.specs.Prelude.{◌≡◌, ℕ, ◌+◌, ◌*◌, Bool, true, not, nat_le, ◌==◌, Option, Some, None, List, [], ◌∷◌, ◌++◌, codes, decimal, filter, map, Result, Ok, Err, if◌then◌else◌}
 use Rattle.std.specs.List.{join_with_byte}
+use Rattle.allocation.specs.Refusal.{IsOutOfMemory}
 use Rattle.dm_table.specs.Reading.{◌>>=◌}
 use Rattle.dm_table.specs.TableText.{is_skipped}
 use Rattle.dm_table.specs.Words.{Word, text_lines, words}
@@ -68,8 +69,8 @@ blocks_text tried runs = (status_text tried ++ 10 ∷ []) ++ map_runs_text tried
 unfoldable pub map_text : MapKind → Option ℕ → List Run → List ℕ
 map_text kind tried runs = mark_text kind ++ blocks_text tried runs
 
--- the result is what the text says, unless memory ran out
+-- the result is what the text says, unless an allocation of room for one run was refused
 abbrev pub IsMapAnswer : Result (List Run) MapFault → Result (List Run) MapFault → Type 0
 IsMapAnswer (Ok runs) answer = answer ≡ Ok runs
-IsMapAnswer (Err fault.NoMemory) answer = Unit {0}
+IsMapAnswer (Err fault.NoMemory) answer = IsOutOfMemory 1
 IsMapAnswer (Err other) answer = answer ≡ Err other

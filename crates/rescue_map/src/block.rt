@@ -1,5 +1,6 @@
 //! The lines of a map file.
-ghost use Rattle.std.specs.Prelude.{◌≡◌, ◌-◌, ◌≤◌, IfOk};
+ghost use Rattle.std.specs.Prelude.{◌≡◌, ◌≢◌, ◌-◌, ◌≤◌, IfErr, IfOk};
+ghost use Rattle.rescue_map.specs.declared.fault.MapFault.TheVariants as map_fault;
 ghost use Rattle.dm_table.specs.Words.{words};
 ghost use Rattle.rescue_map.specs.Blocks.{map_block, is_whole_status, is_status, is_unfinished, is_whole_block, run_at, status_of};
 
@@ -65,7 +66,8 @@ pub(crate) fn is_status(line: &[u8]) -> bool
 
 /// The block of a line.
 pub(crate) fn read_block(line: &[u8]) -> Result<Block, MapFault>
-    ensures { result ≡ map_block (words line.now) }
+    ensures value { result ≡ map_block (words line.now) }
+    ensures err { IfErr result (λ fault. fault ≡ map_fault.Block) }
 {
     let mut words = Words::new(line);
     let pos = words.next_word().ok_or(MapFault::Block)?;
@@ -91,8 +93,8 @@ fn is_whole(block: Block) -> bool
 pub(crate) fn run_at(at: u64, sectors: u64, block: Block) -> Result<Run, MapFault>
     requires { at ≤ sectors }
     ensures value { result ≡ run_at at sectors block }
-    ensures some { IfOk result (λ run. 1 ≤ run.count) }
-    ensures room { IfOk result (λ run. run.count ≤ sectors - at) }
+    ensures room { IfOk result (λ run. (1 ≤ run.count) × (run.count ≤ sectors - at)) }
+    ensures err { IfErr result (λ fault. fault ≢ map_fault.NoMemory) }
 {
     if !is_whole(block) {
         return Err(MapFault::PartSector);

@@ -2,13 +2,13 @@
 ghost use Rattle.std.specs.Prelude.{◌≡◌};
 ghost use Rattle.rescue_map.specs.declared.fault.MapFault.TheVariants as map_fault;
 
-use std::alloc::AllocError;
+use allocation::OutOfMemory;
 use thiserror::Error;
 
 /// Why a text isn't the map of a device of so many sectors: the first fault in reading order.
 #[derive(Clone, Copy, Debug, PartialEq, Eq, Error)]
 pub enum MapFault {
-    /// Memory ran out.
+    /// An allocation was refused.
     #[error("NoMemory")]
     NoMemory,
     /// The first line that says something isn't a status line, or there is none.
@@ -31,10 +31,10 @@ pub enum MapFault {
     Size,
 }
 
-impl From<AllocError> for MapFault {
+impl From<OutOfMemory> for MapFault {
     ghost from_gives = { λ _ given. given ≡ map_fault.NoMemory };
 
-    fn from(_error: AllocError) -> MapFault {
+    fn from(_error: OutOfMemory) -> MapFault {
         MapFault::NoMemory
     }
 }

@@ -1,8 +1,10 @@
 //! Which sectors of a device were recovered.
-ghost use Rattle.std.specs.Prelude.{◌≡◌, ◌+◌, ◌^◌, ◌≤◌, [], ◌∷◌, ◌++◌, length, replicate, IfOk, MatchResult};
+ghost use Rattle.std.specs.Prelude.{◌≡◌, ◌+◌, ◌^◌, ◌≤◌, [], ◌∷◌, ◌++◌, length, replicate, MatchResult};
+ghost use Rattle.allocation.specs.Asked.{asked};
 ghost use Rattle.rescue_map.specs.Maps.{AreRuns, marks};
 
-use std::alloc::{AllocError, Global};
+use allocation::{OutOfMemory, push};
+use std::alloc::Global;
 use std::marker::Model;
 
 /// So many sectors, and whether they were recovered.
@@ -43,10 +45,12 @@ impl Map {
     ///
     /// # Errors
     ///
-    /// Memory was refused.
-    pub fn filled(alloc: Global, count: u64, had: bool) -> Result<Map, AllocError>
+    /// `OutOfMemory` if an allocation of room for one run was refused.
+    pub fn filled(alloc: Global, count: u64, had: bool) -> Result<Map, OutOfMemory>
         requires { count ≤ 2 ^ 54 }
-        ensures { IfOk result (λ map. marks map ≡ replicate count had) }
+        ensures { MatchResult result
+            (λ map. marks map ≡ replicate count had)
+            (λ e. asked e ≡ 1) }
     {
         let mut map = Map::new(alloc);
         if count > 0 {
@@ -64,31 +68,35 @@ impl Map {
     }
 
     // Appends a run, whatever the last one is.
-    pub(crate) fn add(&mut self, run: Run) -> Result<(), AllocError>
+    pub(crate) fn add(&mut self, run: Run) -> Result<(), OutOfMemory>
         requires some { 1 ≤ run.count }
         requires room { length (marks self.old) + run.count ≤ 2 ^ 54 }
         ensures { MatchResult result
             (λ _. self.new ≡ self.old ++ run ∷ [])
-            (λ _. self.new ≡ self.old) }
+            (λ e. (self.new ≡ self.old) × (asked e ≡ 1)) }
     {
-        self.runs.push(run)?;
+        push(&mut self.runs, run)?;
         Ok(())
     }
 
-    /// Appends sectors. It fails only if an allocation does.
-    pub fn push(&mut self, run: Run) -> Result<(), AllocError>
+    /// Appends sectors.
+    ///
+    /// # Errors
+    ///
+    /// `OutOfMemory` if an allocation of room for one run was refused; the map is unchanged.
+    pub fn push(&mut self, run: Run) -> Result<(), OutOfMemory>
         requires some { 1 ≤ run.count }
         requires room { length (marks self.old) + run.count ≤ 2 ^ 54 }
         ensures { MatchResult result
             (λ _. marks self.new ≡ marks self.old ++ replicate run.count run.had)
-            (λ _. self.new ≡ self.old) }
+            (λ e. (self.new ≡ self.old) × (asked e ≡ 1)) }
     {
         let end = self.runs.len();
         if end > 0 && self.runs[end - 1].had == run.had {
             self.runs[end - 1].count += run.count;
             return Ok(());
         }
-        self.runs.push(run)?;
+        push(&mut self.runs, run)?;
         Ok(())
     }
 }

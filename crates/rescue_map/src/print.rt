@@ -1,11 +1,14 @@
 //! Map files printed.
-ghost use Rattle.std.specs.Prelude.{◌≡◌, ◌+◌, ◌++◌, ◌≤◌, ◌^◌, [], ◌∷◌, IfOk, Ok, OnOk, decimal, length};
+ghost use Rattle.std.specs.Prelude.{◌≡◌, ◌+◌, ◌++◌, ◌≤◌, ◌^◌, [], ◌∷◌, IfErr, IfOk, Ok, OnErr, OnOk, decimal, length};
+ghost use Rattle.allocation.specs.Asked.{asked};
+ghost use Rattle.allocation.specs.Refusal.{IsOutOfMemory};
 ghost use Rattle.rescue_map.specs.Kinds.{kind_of, mark_text};
 ghost use Rattle.rescue_map.specs.Maps.{marks};
 ghost use Rattle.rescue_map.specs.MapText.{is_tried, map_of, map_text, map_run_text, status_text, status_word};
 
 use crate::kind::MapKind;
 use crate::map::{Map, Run};
+use allocation::{OutOfMemory, append, copied, push};
 use itoa::Buffer;
 use std::alloc::{AllocError, Global};
 
@@ -14,7 +17,7 @@ use std::alloc::{AllocError, Global};
 ///
 /// # Errors
 ///
-/// Memory for the text was refused.
+/// An allocation of room for at most 40 bytes was refused.
 pub fn print_map(
     alloc: Global,
     kind: MapKind,
@@ -24,9 +27,10 @@ pub fn print_map(
     ensures text { IfOk result (λ text. text.items ≡ map_text kind tried map.now) }
     ensures kind { IfOk result (λ text. kind_of text.items ≡ kind) }
     ensures reads_back { IfOk result (λ text. map_of (length (marks map.now)) text.items ≡ Ok map.now) }
+    ensures err { OnErr result (IsOutOfMemory 40) }
 {
-    let mut text = Vec::from_slice(alloc, mark_line(kind))?;
-    text.extend_from_slice(status_line(tried))?;
+    let mut text = copied(alloc, mark_line(kind))?;
+    append(&mut text, status_line(tried))?;
     let mut at = 0;
     for run in map.runs() {
         print_run(&mut text, tried, at, *run)?;
@@ -36,7 +40,8 @@ pub fn print_map(
 }
 
 fn mark_line(kind: MapKind) -> &'static [u8]
-    ensures { result.now ≡ mark_text kind }
+    ensures value { result.now ≡ mark_text kind }
+    ensures short { length result.now ≤ 40 }
 {
     match kind {
         MapKind::Copy => b"",
@@ -45,7 +50,8 @@ fn mark_line(kind: MapKind) -> &'static [u8]
 }
 
 fn status_line(tried: Option<u64>) -> &'static [u8]
-    ensures { result.now ≡ status_text tried ++ 10 ∷ [] }
+    ensures value { result.now ≡ status_text tried ++ 10 ∷ [] }
+    ensures short { length result.now ≤ 40 }
 {
     match tried {
         None => b"0 +\n",
@@ -53,24 +59,27 @@ fn status_line(tried: Option<u64>) -> &'static [u8]
     }
 }
 
-fn print_run(text: &mut Vec<u8>, tried: Option<u64>, at: u64, run: Run) -> Result<(), AllocError>
+fn print_run(text: &mut Vec<u8>, tried: Option<u64>, at: u64, run: Run) -> Result<(), OutOfMemory>
     requires { at + run.count ≤ 2 ^ 54 }
-    ensures { OnOk result (text.new.items ≡ text.old.items ++ map_run_text tried at run) }
+    ensures ok { OnOk result (text.new.items ≡ text.old.items ++ map_run_text tried at run) }
+    ensures err { IfErr result (λ e. asked e ≤ 40) }
 {
     push_number(text, at * 512)?;
-    text.push(b' ')?;
+    push(text, b' ')?;
     push_number(text, run.count * 512)?;
-    text.push(b' ')?;
-    text.extend_from_slice(status_word(run.had, is_tried(tried, at + run.count)))?;
-    text.push(b'\n')?;
+    push(text, b' ')?;
+    append(text, status_word(run.had, is_tried(tried, at + run.count)))?;
+    push(text, b'\n')?;
     Ok(())
 }
 
-fn push_number(text: &mut Vec<u8>, number: u64) -> Result<(), AllocError>
-    ensures { OnOk result (text.new.items ≡ text.old.items ++ decimal number) }
+fn push_number(text: &mut Vec<u8>, number: u64) -> Result<(), OutOfMemory>
+    ensures ok { OnOk result (text.new.items ≡ text.old.items ++ decimal number) }
+    ensures err { IfErr result (λ e. asked e ≤ 40) }
 {
     let mut digits = Buffer::new();
-    text.extend_from_slice(digits.format(number).as_bytes())
+    append(text, digits.format(number).as_bytes())?;
+    Ok(())
 }
 
 fn is_tried(tried: Option<u64>, end: u64) -> bool
@@ -83,7 +92,8 @@ fn is_tried(tried: Option<u64>, end: u64) -> bool
 }
 
 fn status_word(had: bool, tried: bool) -> &'static [u8]
-    ensures { result.now ≡ status_word had tried }
+    ensures value { result.now ≡ status_word had tried }
+    ensures short { length result.now ≤ 40 }
 {
     if had {
         return b"+";

@@ -1,10 +1,13 @@
 //! A map with a part of another one.
-ghost use Rattle.std.specs.Prelude.{◌≡◌, ◌+◌, ◌^◌, ◌≤◌, ◌++◌, length, take, drop, IfOk, OnOk};
+ghost use Rattle.std.specs.Prelude.{◌≡◌, ◌+◌, ◌^◌, ◌≤◌, ◌++◌, length, take, drop, IfOk, MatchResult, OnErr, OnOk};
+ghost use Rattle.allocation.specs.Asked.{asked};
+ghost use Rattle.allocation.specs.Refusal.{IsOutOfMemory};
 ghost use Rattle.rescue_map.specs.Aheads.{marks_ahead};
 ghost use Rattle.rescue_map.specs.Maps.{marks, spliced_marks};
 
 use crate::ahead::Ahead;
 use crate::map::{Map, Run};
+use allocation::OutOfMemory;
 use std::alloc::{AllocError, Global};
 
 /// So many sectors from one on.
@@ -18,7 +21,7 @@ pub struct Span {
 ///
 /// # Errors
 ///
-/// Memory was refused.
+/// An allocation of room for one run was refused.
 pub fn splice(
     alloc: Global,
     around: &Map,
@@ -31,6 +34,7 @@ pub fn splice(
     requires inside { span.first + span.count ≤ sectors }
     ensures marks { IfOk result (λ map. marks map ≡ spliced_marks span (marks around.now) (marks within.now)) }
     ensures sectors { IfOk result (λ map. length (marks map) ≡ sectors) }
+    ensures err { OnErr result (IsOutOfMemory 1) }
 {
     // How many sectors a map can have is learned from a call.
     let _runs = around.runs();
@@ -46,10 +50,12 @@ pub fn splice(
 }
 
 // The next sectors, so many of them.
-fn move_marks(map: &mut Map, ahead: &mut Ahead<'_>, count: u64) -> Result<(), AllocError>
+fn move_marks(map: &mut Map, ahead: &mut Ahead<'_>, count: u64) -> Result<(), OutOfMemory>
     requires enough { count ≤ length (marks_ahead ahead.old) }
     requires room { length (marks map.old) + count ≤ 2 ^ 54 }
-    ensures moved { OnOk result (marks map.new ≡ marks map.old ++ take count (marks_ahead ahead.old)) }
+    ensures moved { MatchResult result
+        (λ _. marks map.new ≡ marks map.old ++ take count (marks_ahead ahead.old))
+        (λ e. asked e ≡ 1) }
     ensures rest { OnOk result (marks_ahead ahead.new ≡ drop count (marks_ahead ahead.old)) }
 {
     let mut left = count;

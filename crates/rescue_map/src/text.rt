@@ -1,5 +1,5 @@
 //! Map files read.
-ghost use Rattle.std.specs.Prelude.{◌≡◌, ◌≤◌, ◌^◌, ℕ, Err, length, IfOk, MatchResult};
+ghost use Rattle.std.specs.Prelude.{◌≡◌, ◌≤◌, ◌^◌, ℕ, Err, length, IfErr, IfOk, MatchResult};
 ghost use Rattle.rescue_map.specs.declared.fault.MapFault.TheVariants as map_fault;
 ghost use Rattle.rescue_map.specs.Maps.{marks};
 ghost use Rattle.rescue_map.specs.MapText.{IsMapAnswer, map_of, runs_behind, map_runs_from, said};
@@ -14,7 +14,7 @@ use std::alloc::Global;
 ///
 /// # Errors
 ///
-/// The first fault in reading order, or `NoMemory`.
+/// The first fault in reading order, or `NoMemory` if an allocation of room for one run was refused.
 pub fn parse_map(alloc: Global, text: &[u8], sectors: u64) -> Result<Map, MapFault>
     requires { sectors ≤ 2 ^ 54 }
     ensures answer { IsMapAnswer result (map_of sectors text.now) }
@@ -37,9 +37,10 @@ pub fn parse_map(alloc: Global, text: &[u8], sectors: u64) -> Result<Map, MapFau
 
 // Takes the status line.
 fn take_status(lines: &mut Lines<'_>) -> Result<(), MapFault>
-    ensures { MatchResult result
+    ensures runs { MatchResult result
         (λ _. (n : ℕ) → runs_behind n (said lines.old) ≡ map_runs_from n 0 (said lines.new))
         (λ fault. (n : ℕ) → runs_behind n (said lines.old) ≡ Err fault) }
+    ensures err { IfErr result (λ fault. fault ≡ map_fault.Status) }
 {
     match next_said(lines) {
         Some(line) if is_status(line) => Ok(()),

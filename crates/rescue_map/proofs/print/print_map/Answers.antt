@@ -11,7 +11,7 @@ use Rattle.rescue_map.proofs.print.print_map.Goals as goal
 pub loop-run-init : goal.loop-run-init
 unfolding map_text
 loop-run-init c =
-    (c.in_ok-extend_from_slice.ensures.items ∙ ap₂ (λ (a b : List ℕ). a ++ b) (c.in_ok-text.ensures.items ∙ c.mark_line.ensures) (c.status_line.ensures ∙ sym (append-nil (status_text c.args.tried ++ 10 ∷ []))), refl)
+    (c.in_ok-append.ensures.ok ∙ ap₂ (λ (a b : List ℕ). a ++ b) (c.in_ok-text.ensures.ok ∙ c.mark_line.ensures.value) (c.status_line.ensures.value ∙ sym (append-nil (status_text c.args.tried ++ 10 ∷ []))), refl)
 
 pub print_run-requires : goal.print_run-requires
 print_run-requires c =
@@ -33,7 +33,7 @@ loop-run-preserved c =
     let i : ℕ = c.loop-run.run-index in
     let run : Run = get_or runs i (record { count = 0; had = false }) in
     let front : List Run = take i runs in (
-      c.in_ok-print_run.ensures
+      c.in_ok-print_run.ensures.ok
           ∙ ap (λ (t : List ℕ). t ++ map_run_text c.args.tried c.loop-run.at run) c.loop-run.invariant.0
           ∙ ap (λ (n : ℕ). map_text c.args.kind c.args.tried front ++ map_run_text c.args.tried n run) c.loop-run.invariant.1
           ∙ map_text-push c.args.kind c.args.tried front run

@@ -2,6 +2,6 @@ use Rattle.std.proofs.Common.{rules, append_assoc}
 use Rattle.rescue_map.specs.MapText.{run_words}
 use Rattle.rescue_map.proofs.print.print_run.Goals as goal
 
-pub returns : goal.returns
+pub returns-clause-ok : goal.returns-clause-ok
 unfolding run_words
-returns c = search (rules, append_assoc)
+returns-clause-ok c = search (rules, append_assoc)

@@ -19,7 +19,7 @@ pub invariant_of-self-inside-2 : goal.invariant_of-self-inside-2
 invariant_of-self-inside-2 c =
     let runs : List Run = c.self.inside.runs.items in
     let room : length (marks runs) + c.args.run.count ≤ 2 ^ 54 = subst (λ (r : List Run). length (marks r) + c.args.run.count ≤ 2 ^ 54) (sym c.self.view_is) c.requires.room in
-    (are_runs-either runs c.push.new.self.items c.args.run _ c.push.ensures.items c.self.inside.whole c.requires.some room, tt)
+    (are_runs-either runs c.push.new.v.items c.args.run c.push.result c.push.ensures.ok c.push.ensures.same c.self.inside.whole c.requires.some room, tt)
 
 pub returns-then-index-run : goal.returns-then-index-run
 returns-then-index-run c =
