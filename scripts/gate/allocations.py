@@ -53,7 +53,6 @@ PLACES = {
     "stack_rules": (4, STATED),
     "stack_session": (7, NOT_YET),
     "table_text": (32, NOT_YET),
-    "tree_repair": (8, NOT_YET),
     "verified_cache": (5, CACHE),
     "verity_commands": (6, NOT_YET),
     "verity_format": (7, NOT_YET),
