@@ -49,7 +49,7 @@ PLACES = {
     "runs": (14, NOT_YET),
     "scan_commands": (25, MAPS),
     "stack_commands": (3, NOT_YET),
-    "stack_files": (14, NOT_YET),
+    "stack_files": (3, NOT_YET),
     "stack_lines": (2, CACHE),
     "stack_rules": (4, STATED),
     "stack_session": (7, NOT_YET),
