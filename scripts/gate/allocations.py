@@ -48,7 +48,7 @@ PLACES = {
     "rescue_map": (4, STATED),
     "runs": (14, NOT_YET),
     "scan_commands": (25, MAPS),
-    "stack_commands": (3, NOT_YET),
+    "stack_commands": (3, VALUES),
     "stack_files": (3, NOT_YET),
     "stack_lines": (2, CACHE),
     "stack_rules": (4, STATED),
