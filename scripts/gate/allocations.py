@@ -43,7 +43,6 @@ PLACES = {
     "partition_commands": (30, NOT_YET),
     "program_io": (4, VALUES),
     "reed_solomon": (4, STATED),
-    "repair_commands": (1, NOT_YET),
     "request_queue": (1, NOT_YET),
     "rescue_map": (4, STATED),
     "runs": (14, NOT_YET),
