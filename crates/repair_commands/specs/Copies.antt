@@ -1,6 +1,7 @@
 -- The copies in which blocks are sought, as they are opened.
 use Rattle.std.specs.Prelude.{◌≡◌, ◌⊎◌, ℕ, Bool, true, false, List, [], ◌∷◌, Option, Vec, map}
 use Rattle.std.specs.Global.{Global}
+use Rattle.allocation.specs.Refusal.{IsOutOfMemory}
 use Rattle.block_device.specs.declared.file_id.FileId.{FileId}
 use Rattle.block_device.specs.Device.{Device}
 use Rattle.command_line.specs.declared.image_copies.ImageCopy.{ImageCopy}
@@ -22,10 +23,10 @@ pub record OpensImageCopy {S D : Type 0} (w : Calls S D) (files : List FileUse) 
   pub id : Option FileId
   pub opened : OpensApart w files path false (record { device = device; id = id })
 
--- it isn't opened, or memory ran out behind that
+-- it isn't opened, or it was, and room for one device more was refused
 abbrev pub IsCopyUnopened : {S D : Type 0} → Calls S D → List FileUse → List ℕ → TreeFault → Type 0
 IsCopyUnopened w files path (Open file) = RefusesApart w files path false file
-IsCopyUnopened {S} {D} w files path (Survey (Image NoMemory)) = (device : D) × OpensImageCopy w files path device
+IsCopyUnopened {S} {D} w files path (Survey (Image NoMemory)) = ((device : D) × OpensImageCopy w files path device) × IsOutOfMemory 1
 IsCopyUnopened w files path fault = ⊥
 
 -- each was opened, in their order

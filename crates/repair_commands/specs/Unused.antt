@@ -1,9 +1,11 @@
 -- What `repair` reads of an image before anything is written: what the last hash block of each level holds after its last used
 -- entry.
 use Rattle.std.specs.Prelude.{◌≡◌, ℕ, ◌*◌, ◌/◌, ◌≤◌, Bool, true, IsTrue, List}
+use Rattle.allocation.specs.Refusal.{IsOutOfMemory}
 use Rattle.block_device.specs.Device.{Device}
 use Rattle.verity_commands.specs.declared.tree_fault.TreeFault.{TreeFault}
 use Rattle.verity_commands.specs.declared.tree_fault.TreeFault.TheVariants.{Survey, UnusedEntries}
+use Rattle.tree_path.specs.Path.{largest_block}
 use Rattle.tree_path.specs.Steps.{HasReadAtMost}
 use Rattle.tree_shape.specs.Shape.{levels}
 use Rattle.tree_survey.specs.declared.fault.SurveyFault.TheVariants.{Image}
@@ -36,7 +38,7 @@ pub record HoldsUnused (root : List ℕ) (hash_dev : Device) : Type 0 where
 
 -- why an image is refused, or couldn't be looked at: so, or there is no superblock, or memory ran out
 abbrev pub IsUnusedCause : List ℕ → Device → Device → TreeFault → Type 0
-IsUnusedCause root hash_dev hash_dev' (Survey (Image NoMemory)) = hash_dev'.failures ≡ hash_dev.failures
+IsUnusedCause root hash_dev hash_dev' (Survey (Image NoMemory)) = (hash_dev'.failures ≡ hash_dev.failures) × IsOutOfMemory largest_block
 IsUnusedCause root hash_dev hash_dev' (Survey (Image fault)) = IsReadCause hash_dev hash_dev' fault
 IsUnusedCause root hash_dev hash_dev' UnusedEntries = HoldsUnused root hash_dev
 IsUnusedCause root hash_dev hash_dev' fault = ⊥

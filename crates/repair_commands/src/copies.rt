@@ -1,7 +1,9 @@
 //! The copies in which blocks are sought.
-ghost use Rattle.std.specs.Prelude.{◌≡◌, IfErr, IfOk};
+ghost use Rattle.std.specs.Prelude.{◌≡◌, ◌++◌, ◌∷◌, [], IfErr, IfOk, OnErr, OnOk};
+ghost use Rattle.allocation.specs.Refusal.{IsOutOfMemory};
 ghost use Rattle.repair_commands.specs.Copies.{EachIsOpen, RefusesOne, path_in};
 
+use allocation::{OutOfMemory, push};
 use command_line::ImageCopy;
 use image_files::{FileUse, Images, open_apart};
 use std::alloc::Global;
@@ -24,11 +26,18 @@ pub(crate) fn open_copies<'a, I: Images>(
     let mut devices = Vec::new(alloc);
     'copies: for copy in copies {
         let image = open_apart(images, files, path_in(hashes, *copy), false)?;
-        let Ok(()) = devices.push(image.device) else {
+        let Ok(()) = add(&mut devices, image.device) else {
             return Err(TreeFault::Survey(SurveyFault::Image(VerifyFault::NoMemory)));
         };
     }
     Ok(devices)
+}
+
+fn add<D: Drop>(devices: &mut Vec<D>, device: D) -> Result<(), OutOfMemory>
+    ensures ok { OnOk result (devices.new.items ≡ devices.old.items ++ device ∷ []) }
+    ensures err { OnErr result (IsOutOfMemory 1) }
+{
+    push(devices, device)
 }
 
 fn path_in<'a>(hashes: bool, copy: ImageCopy<'a>) -> &'a str

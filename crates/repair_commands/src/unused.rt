@@ -16,7 +16,7 @@ use verity_format::{VerifyFault, read_superblock, tree_sectors};
 /// # Errors
 ///
 /// `UnusedEntries` if a good one holds something else: the superblock has fewer data blocks than the image that was formatted.
-/// The superblock's fault if there is none. `NoMemory` if memory ran out.
+/// The superblock's fault if there is none. `NoMemory` if an allocation of at most 4,096 elements was refused.
 pub(crate) fn check_unused<'a, H: BlockDev>(
     alloc: Global,
     hash_dev: &mut H,

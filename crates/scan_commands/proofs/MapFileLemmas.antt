@@ -1,11 +1,7 @@
 -- Map files that are read.
-use Rattle.std.proofs.Common.{◌≡◌, ◌⊎◌, ℕ, true, List, Result, Err, refl, inl, inr}
+use Rattle.std.proofs.Common.{◌≡◌, ℕ, true, List, refl, inr}
 use Rattle.block_device.specs.declared.open_fault.OpenFault.{OpenFault}
 use Rattle.block_device.specs.declared.open_fault.OpenFault.TheVariants as open_fault
-use Rattle.rescue_map.specs.declared.fault.MapFault.{MapFault}
-use Rattle.rescue_map.specs.declared.fault.MapFault.TheVariants as map_fault
-use Rattle.rescue_map.specs.declared.map.Run.{Run}
-use Rattle.rescue_map.specs.MapText.{IsMapAnswer}
 use Rattle.scan_commands.specs.declared.rescue_fault.PassFault.{PassFault}
 use Rattle.scan_commands.specs.declared.rescue_fault.PassFault.TheVariants as rescue
 use Rattle.image_files.specs.declared.images.FileText.{FileText}
@@ -21,18 +17,9 @@ missing-is open_fault.NoMemory e = cc
 missing-is open_fault.SameFile e = cc
 missing-is open_fault.InUse e = cc
 
-pub told-fault : (f : MapFault) (answer : Result (List Run) MapFault) → IsMapAnswer (Err f) answer → (f ≡ map_fault.NoMemory) ⊎ (answer ≡ Err f)
-told-fault map_fault.NoMemory answer e = inl refl
-told-fault map_fault.Status answer e = inr e
-told-fault map_fault.Block answer e = inr e
-told-fault map_fault.PartSector answer e = inr e
-told-fault map_fault.Gap answer e = inr e
-told-fault map_fault.Overlap answer e = inr e
-told-fault map_fault.Size answer e = inr e
-
 -- the file has a text, which isn't read
 pub unread-told : {S D : Type 0} (w : Calls S D) (path : List ℕ) (sectors : ℕ) (text : FileText) (fault : PassFault) → TellsMap w path text → IsTextUnread text.bytes.items sectors fault → IsMapUnread w path sectors fault
-unread-told w path sectors text rescue.NoMemory told unread = inr (text, told)
+unread-told w path sectors text rescue.NoMemory told unread = (inr (text, told), unread)
 unread-told w path sectors text (rescue.NoMap fault) told unread = (text, told, unread)
 unread-told w path sectors text (rescue.Unread fault) told unread = absurd unread
 unread-told w path sectors text rescue.TooLong told unread = absurd unread

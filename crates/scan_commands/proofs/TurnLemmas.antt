@@ -1,9 +1,12 @@
 -- A turn over a device.
-use Rattle.std.proofs.Common.{◌≡◌, ◌⊎◌, ℕ, suc, ◌+◌, ◌-◌, ◌<◌, ◌^◌, Bool, IsTrue, List, [], ◌∷◌, length, map, Result, Ok, Err, IfErr, IsErrAnd, refl, sym, ap, ◌∙◌, subst}
+use Rattle.std.proofs.Common.{◌≡◌, ◌⊎◌, ℕ, suc, ◌+◌, ◌-◌, ◌<◌, ◌^◌, Bool, IsTrue, List, [], ◌∷◌, length, map, Result, Ok, Err, IfErr, IsErrAnd, arith, inl, inr, true, refl, sym, ap, ◌∙◌, subst}
+use Rattle.allocation.specs.Refusal.{IsOutOfMemory}
 use Rattle.block_device.specs.Device.{Device, HasFailed, IsSameDevice}
 use Rattle.rescue_map.specs.declared.map.Run.{Run}
 use Rattle.rescue_map.specs.Maps.{marks, map_totals}
 use Rattle.stack_rules.specs.Names.{mapped, size}
+use Rattle.stack_rules.proofs.lemmas.PassingLemmas.{out_of_memory-more}
+use Rattle.stack_meaning.specs.Memory.{largest_allocation}
 use Rattle.stack_engine.specs.Stacks.{StackRecord}
 use Rattle.stack_recovery.specs.declared.rescued.Rescued.{Rescued}
 use Rattle.scan_commands.specs.declared.rescue_fault.PassFault.{PassFault}
@@ -11,11 +14,11 @@ use Rattle.scan_commands.specs.declared.rescue_fault.PassFault.TheVariants.{NoMa
 use Rattle.scan_commands.specs.MapFiles.{MapPathRecord, recovery_ending}
 use Rattle.image_files.specs.declared.texts.ReplaceFault.{ReplaceFault}
 use Rattle.rescue_map.specs.declared.totals.Totals.{Totals}
-use Rattle.scan_commands.specs.Turns.{IsTurnsEnd, IsMapUnwritten, IsUnfailed, Kept, Progressed, RescuesInTurns, StopsIn, IsTurn, Turns, kept as kept_by, progressed}
+use Rattle.scan_commands.specs.Turns.{IsTurnsEnd, IsMapUnwritten, IsUnfailed, Kept, Progressed, RescuesInTurns, StopsIn, IsTurn, Turns, kept as kept_by, largest_print_allocation, progressed}
 use Rattle.stack_recovery.specs.declared.fault.RecoveryFault.{RecoveryFault}
 use Rattle.stack_recovery.specs.declared.fault.RecoveryFault.TheVariants as recovery
-use Rattle.stack_recovery.specs.Recoveries.{IsRescueEnd, Rescues, Sides, is_had}
-use Rattle.stack_recovery.specs.Surveys.{AnswersFinding, Finding, IsSurveyOver, PieceRead, SectorState, again, had, kept, lost, states_of}
+use Rattle.stack_recovery.specs.Recoveries.{FindsNoMemory, IsMapRefused, IsRescueEnd, Rescues, RunsShort, Sides, is_had}
+use Rattle.stack_recovery.specs.Surveys.{AnswersFinding, Finding, IsSurveyOver, PieceRead, SectorState, again, all_states, had, kept, lost, states_of}
 
 length-map : (states : List SectorState) → length (map is_had states) ≡ length states
 length-map [] = refl
@@ -51,14 +54,22 @@ err-from (Err e) P fault is holds = subst P (sym is) holds
 
 -- ---- a turn that ends early
 
+-- by a read, or by room for the map that is made
+refused-short : (makes_map : Bool) (before : List Bool) (d : ℕ) (old new : Sides) → RunsShort makes_map before d old new → IsOutOfMemory largest_allocation
+refused-short makes_map before d old new short = refused short.refused
+  where
+    refused : FindsNoMemory d (length (all_states short.begun.reads)) short.begun.left new.stack ⊎ IsMapRefused makes_map → IsOutOfMemory largest_allocation
+    refused (inl read) = read.answered.any.may
+    refused (inr map) = out_of_memory-more 1 largest_allocation (omega arith) map.1
+
 pub stops-rescue : {S : Type 0} (k : Kept S) (now : Progressed S) (before : List Bool) (new : Sides) (fault : RecoveryFault)
     → IsRescueEnd before k.d now.sides new fault → StopsIn k now now.images new (recovery_ending fault)
-stops-rescue k now before new recovery.NoMemory e = (refl, e.unfailed)
+stops-rescue k now before new recovery.NoMemory e = (refl, e.unfailed, refused-short true before k.d now.sides new e)
 stops-rescue k now before new recovery.Output e = (refl, e.1.0, e.1.1)
 
 pub stops-unwritten : {S : Type 0} (k : Kept S) (now : Progressed S) (text : List ℕ) (images : S) (new : Sides) (fault : PassFault)
     → IsUnfailed now.sides new → IsMapUnwritten k.replaces k.file.path now.images text images fault → StopsIn k now images new fault
-stops-unwritten k now text images new NoMemory u e = (e, u)
+stops-unwritten k now text images new NoMemory u e = (e.0, u, out_of_memory-more largest_print_allocation largest_allocation (omega arith) e.1)
 stops-unwritten k now text images new (Unread cause) u e = absurd e
 stops-unwritten k now text images new TooLong u e = absurd e
 stops-unwritten k now text images new (NoMap cause) u e = absurd e

@@ -1,17 +1,17 @@
 -- The map file of a device.
 use Rattle.std.specs.Prelude.{◌≡◌, ◌⊎◌, ℕ, ◌<◌, Bool, true, false, List, length, replicate, Option, option_map, Ok, Err, if◌then◌else◌}
+use Rattle.allocation.specs.Refusal.{IsOutOfMemory}
 use Rattle.block_device.specs.Device.{Device}
 use Rattle.block_device.specs.declared.open_fault.OpenFault.{OpenFault}
 use Rattle.block_device.specs.declared.open_fault.OpenFault.TheVariants.{NotFound}
 use Rattle.image_files.specs.declared.images.FileText.{FileText}
 use Rattle.image_files.specs.Opener.{Calls, Opener, calls}
-use Rattle.rescue_map.specs.declared.fault.MapFault.TheVariants as map_fault
 use Rattle.rescue_map.specs.declared.kind.MapKind.{MapKind}
 use Rattle.rescue_map.specs.declared.kind.MapKind.TheVariants.{Copy, Scan}
 use Rattle.rescue_map.specs.declared.map.Run.{Run}
 use Rattle.rescue_map.specs.Kinds.{kind_of}
 use Rattle.rescue_map.specs.Maps.{marks}
-use Rattle.rescue_map.specs.MapText.{map_of}
+use Rattle.rescue_map.specs.MapText.{IsMapAnswer, map_of}
 use Rattle.scan_commands.specs.declared.rescue_fault.PassFault.{PassFault}
 use Rattle.scan_commands.specs.declared.map_file.MapPath.{MapPath}
 use Rattle.scan_commands.specs.declared.rescue_fault.PassFault.TheVariants.{NoMap, NoMemory, Output, TooLong, Unread}
@@ -75,18 +75,18 @@ pub record IsMapNew {S D : Type 0} (w : Calls S D) (path : List ℕ) (sectors : 
 abbrev pub IsMapRead : {S D : Type 0} → Calls S D → MapPathRecord → ℕ → List Run → Type 0
 IsMapRead w file sectors runs = IsMapTold w file sectors runs ⊎ IsMapNew w file.path sectors runs
 
--- the text has that fault, or memory ran out
+-- the text has that fault, or room for one run of the map was refused
 abbrev pub IsTextUnread : List ℕ → ℕ → PassFault → Type 0
-IsTextUnread text sectors (NoMap fault) = (fault ≡ map_fault.NoMemory) ⊎ (map_of sectors text ≡ Err fault)
-IsTextUnread text sectors NoMemory = Unit {0}
+IsTextUnread text sectors (NoMap fault) = IsMapAnswer (Err fault) (map_of sectors text)
+IsTextUnread text sectors NoMemory = IsOutOfMemory 1
 IsTextUnread text sectors fault = ⊥
 
--- why there is no map: the file can't be read, has more than 16 MiB, or its text has that fault, unless memory ran out
+-- why there is no map: the file can't be read, has more than 16 MiB, its text has that fault, or room for one run was refused
 abbrev pub IsMapUnread : {S D : Type 0} → Calls S D → List ℕ → ℕ → PassFault → Type 0
 IsMapUnread w path sectors (Unread file) = (file.path.now ≡ path) × (is_missing file.fault ≡ false) × w.relations.tells w.old path most_map (Err file.fault) w.new
 IsMapUnread w path sectors TooLong = (text : FileText) × TellsMap w path text × (16777216 < length text.bytes.items)
 IsMapUnread w path sectors (NoMap fault) = (text : FileText) × TellsMap w path text × IsTextUnread text.bytes.items sectors (NoMap fault)
-IsMapUnread w path sectors NoMemory = w.relations.tells w.old path most_map (Err NotFound) w.new ⊎ ((text : FileText) × TellsMap w path text)
+IsMapUnread w path sectors NoMemory = (w.relations.tells w.old path most_map (Err NotFound) w.new ⊎ ((text : FileText) × TellsMap w path text)) × IsOutOfMemory 1
 IsMapUnread w path sectors fault = ⊥
 
 -- the ends of a recovery

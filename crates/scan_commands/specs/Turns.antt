@@ -1,6 +1,7 @@
 -- A device that is read in turns, after each of which its map file is replaced.
 use Rattle.std.specs.Prelude.{◌≡◌, ℕ, ◌+◌, ◌/◌, ◌≤◌, ◌==◌, max, Bool, true, IsTrue, List, replicate, Option, Some, None, Result, Ok, Err, if◌then◌else◌}
 use Rattle.std.specs.List.{list_all}
+use Rattle.allocation.specs.Refusal.{IsOutOfMemory}
 use Rattle.block_device.specs.Device.{Device, HasFailed, synced}
 use Rattle.rescue_map.specs.declared.map.Run.{Run}
 use Rattle.rescue_map.specs.declared.splicing.Span.{Span}
@@ -9,6 +10,7 @@ use Rattle.rescue_map.specs.MapText.{map_text}
 use Rattle.rescue_map.specs.declared.totals.Totals.{Totals}
 use Rattle.stack_recovery.specs.declared.rescued.Rescued.{Rescued}
 use Rattle.stack_rules.specs.Names.{mapped, size}
+use Rattle.stack_meaning.specs.Memory.{largest_allocation}
 use Rattle.stack_recovery.specs.Listings.{Listed}
 use Rattle.stack_recovery.specs.Recoveries.{Parties, Rescues, Sides, seen_sides, sides}
 use Rattle.image_files.specs.declared.texts.ReplaceFault.{ReplaceFault}
@@ -95,9 +97,13 @@ pub record RescuesInTurns {S : Type 0} (k : Kept S) (first : Progressed S) (imag
   pub turns : Turns k first (progressed images sides runs k.sectors)
   pub counted : totals ≡ map_totals runs
 
--- a map file isn't replaced: by that fault, or memory ran out before the opener was called
+-- the most elements for which one allocation makes room where a map is printed
+abbrev pub largest_print_allocation : ℕ
+largest_print_allocation = 40
+
+-- a map file isn't replaced: by that fault, or an allocation for its text was refused before the opener was called
 abbrev pub IsMapUnwritten : {S : Type 0} → Replaces S → List ℕ → S → List ℕ → S → PassFault → Type 0
-IsMapUnwritten replaces path old text new NoMemory = new ≡ old
+IsMapUnwritten replaces path old text new NoMemory = (new ≡ old) × IsOutOfMemory largest_print_allocation
 IsMapUnwritten replaces path old text new (Unwritten fault) = replaces old path text (Err fault) new
 IsMapUnwritten replaces path old text new other = ⊥
 
@@ -105,9 +111,10 @@ IsMapUnwritten replaces path old text new other = ⊥
 abbrev pub IsUnfailed : Sides → Sides → Type 0
 IsUnfailed old new = new.out.failures ≡ old.out.failures
 
--- why the turn after some ended early: the map file is that of the turns before
+-- Why the turn after some ended early: the map file is that of the turns before. If memory ran out, an allocation of at most so
+-- many elements was refused, for a read, for a map or for its text.
 abbrev pub StopsIn : {S : Type 0} → Kept S → Progressed S → S → Sides → PassFault → Type 0
-StopsIn k now images new NoMemory = (images ≡ now.images) × IsUnfailed now.sides new
+StopsIn k now images new NoMemory = (images ≡ now.images) × IsUnfailed now.sides new × IsOutOfMemory largest_allocation
 StopsIn k now images new Output = (images ≡ now.images) × HasFailed now.sides.out new.out × (IsTrue now.sides.out.never_fails → ⊥)
 StopsIn k now images new (Unwritten fault) = (text : List ℕ) × k.replaces now.images k.file.path text (Err fault) images × IsUnfailed now.sides new
 StopsIn k now images new other = ⊥

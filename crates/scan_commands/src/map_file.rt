@@ -1,5 +1,6 @@
 //! The map file of a device.
 ghost use Rattle.std.specs.Prelude.{◌≡◌, ◌^◌, ◌≤◌, false, length, option_map, replicate, IfOk, IfErr};
+ghost use Rattle.allocation.specs.Refusal.{IsOutOfMemory};
 ghost use Rattle.image_files.specs.Opener.{calls};
 ghost use Rattle.rescue_map.specs.Maps.{marks};
 ghost use Rattle.scan_commands.specs.MapFiles.{IsMapOfText, IsMapUnread, IsTextUnread, ReadsMap, continues, is_missing, map_at, map_path_of};
@@ -41,7 +42,7 @@ pub struct MapFile<'a> {
 /// # Errors
 ///
 /// `Unread` if the file can't be read, `TooLong` if it has more than 16 MiB, `NoMap` if it isn't a map of the device, or
-/// `NoMemory`.
+/// `NoMemory` if room for one run of the map was refused.
 pub fn read_map<'a, I: Images>(
     alloc: Global,
     images: &mut I,
@@ -111,10 +112,7 @@ fn is_missing(fault: OpenFault) -> bool
 fn new_map<'a>(alloc: Global, sectors: u64) -> Result<Map, PassFault<'a>>
     requires { sectors ≤ 2 ^ 54 }
     ensures ok { IfOk result (λ map. marks map ≡ replicate sectors false) }
-    ensures err { IfErr result (λ fault. fault ≡ pass_fault.NoMemory) }
+    ensures err { IfErr result (λ fault. (fault ≡ pass_fault.NoMemory) × IsOutOfMemory 1) }
 {
-    match Map::filled(alloc, sectors, false) {
-        Ok(map) => Ok(map),
-        Err(_) => Err(PassFault::NoMemory),
-    }
+    Ok(Map::filled(alloc, sectors, false)?)
 }

@@ -3,6 +3,7 @@ ghost use Rattle.std.specs.Prelude.{◌≡◌};
 ghost use Rattle.scan_commands.specs.MapFiles.{recovery_ending};
 ghost use Rattle.scan_commands.specs.declared.rescue_fault.PassFault.TheVariants as pass_fault;
 
+use allocation::OutOfMemory;
 use block_device::DeviceFault;
 use image_files::{ReplaceFault, UnopenedFile};
 use rescue_map::MapFault;
@@ -12,7 +13,7 @@ use std::alloc::AllocError;
 /// Why a pass over a device ends early.
 #[derive(Clone, Copy, Debug, PartialEq, Eq)]
 pub enum PassFault<'a> {
-    /// Memory ran out.
+    /// An allocation was refused.
     NoMemory,
     /// The map file can't be read.
     Unread(UnopenedFile<'a>),
@@ -24,6 +25,14 @@ pub enum PassFault<'a> {
     Output,
     /// The map file can't be replaced.
     Unwritten(ReplaceFault),
+}
+
+impl From<OutOfMemory> for PassFault<'_> {
+    ghost from_gives = { λ _ given. given ≡ pass_fault.NoMemory };
+
+    fn from(_error: OutOfMemory) -> Self {
+        PassFault::NoMemory
+    }
 }
 
 impl From<AllocError> for PassFault<'_> {

@@ -1,5 +1,6 @@
 //! A mapped device is read in turns, after each of which its map file is replaced.
-ghost use Rattle.std.specs.Prelude.{◌≡◌, ◌+◌, ◌≤◌, ◌<◌, length, IsTrue, IfOk, IfErr, OnOk};
+ghost use Rattle.std.specs.Prelude.{◌≡◌, ◌+◌, ◌≤◌, ◌<◌, length, IsTrue, IfOk, IfErr, OnErr, OnOk};
+ghost use Rattle.allocation.specs.Refusal.{IsOutOfMemory};
 ghost use Rattle.rescue_map.specs.Maps.{marks};
 ghost use Rattle.rescue_map.specs.MapText.{map_text};
 ghost use Rattle.stack_rules.specs.Names.{mapped, size};
@@ -34,7 +35,8 @@ fn turn_len(sectors: u64) -> u64
 fn asked(alloc: Global, map: &Map, span: Span, sectors: u64) -> Result<Map, AllocError>
     requires map { length (marks map.now) ≡ sectors }
     requires inside { span.first + span.count ≤ sectors }
-    ensures { IfOk result (λ runs. marks runs ≡ asked_marks span sectors map.now) }
+    ensures ok { IfOk result (λ runs. marks runs ≡ asked_marks span sectors map.now) }
+    ensures err { OnErr result (IsOutOfMemory 1) }
 {
     // How many sectors a map can have is learned from a call.
     let _runs = map.runs();
@@ -111,8 +113,8 @@ fn take_turn<'a, I: Images, D: BlockDev, O: SyncDev, L: Listing, P: Progress>(
 ///
 /// # Errors
 ///
-/// `NoMemory`, `Output` if the other device fails, or `Unwritten` if the map file can't be replaced. The map file is then that
-/// of the turns before.
+/// `NoMemory` if an allocation of at most 65,536 bytes was refused, `Output` if the other device fails, or `Unwritten` if the map
+/// file can't be replaced. The map file is then that of the turns before.
 pub fn rescue_in_turns<'a, I: Images, D: BlockDev, O: SyncDev, L: Listing, P: Progress>(
     alloc: Global,
     images: &mut I,

@@ -1,5 +1,6 @@
 -- The configuration that a stack text makes of leaves.
 use Rattle.std.specs.Prelude.{◌≡◌, ◌⊎◌, ℕ, List, [], Option, Some, None, Result, Ok, Err}
+use Rattle.allocation.specs.Refusal.{IsOutOfMemory}
 use Rattle.dm_table.specs.declared.stack.Entry.{Entry}
 use Rattle.dm_table.specs.declared.fault.TextFault.{TextFault}
 use Rattle.dm_table.specs.StackText.{stack_of}
@@ -7,6 +8,7 @@ use Rattle.stack_rules.specs.declared.refusal.ConfigFault.{ConfigFault}
 use Rattle.stack_rules.specs.declared.refusal.Refusal.{Refusal}
 use Rattle.stack_rules.specs.Records.{Configuration, LeafRecord}
 use Rattle.stack_rules.specs.Leaves.{first_leaf_fault}
+use Rattle.stack_rules.specs.Passing.{largest_load_allocation}
 use Rattle.stack_rules.specs.Rules.{first_refusal, after_load}
 use Rattle.stack_files.specs.declared.stack_fault.StackFault.{StackFault}
 use Rattle.stack_files.specs.declared.stack_fault.StackFault.TheVariants.{Leaves, Load, NoMemory, Text}
@@ -33,6 +35,10 @@ with_leaves leaves (Some fault) entries = Err (Leaves fault)
 unfoldable pub configuration_of : List LeafRecord → List ℕ → Result Configuration StackFault
 configuration_of leaves text = with_leaves leaves (first_leaf_fault leaves) (stack_of text)
 
--- the first fault, or memory ran out
+-- an allocation of at most so many elements was refused, for the text or for the load
+abbrev pub IsRefusal : StackFault → Type 0
+IsRefusal fault = (fault ≡ NoMemory) × IsOutOfMemory largest_load_allocation
+
+-- the first fault, or an allocation was refused
 abbrev pub FailsToConfigure : List LeafRecord → List ℕ → StackFault → Type 0
-FailsToConfigure leaves text = λ fault. (configuration_of leaves text ≡ Err fault) ⊎ (fault ≡ NoMemory)
+FailsToConfigure leaves text = λ fault. (configuration_of leaves text ≡ Err fault) ⊎ IsRefusal fault

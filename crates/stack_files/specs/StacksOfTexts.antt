@@ -9,8 +9,7 @@ use Rattle.stack_files.specs.declared.stack_file.OpenStack.{OpenStack}
 use Rattle.stack_files.specs.OpenStacks.{FailsToOpen, OpensStack, StackWords, stack_words}
 use Rattle.stack_files.specs.declared.stack_file.StackFile.{StackFile}
 use Rattle.stack_files.specs.declared.stack_fault.StackFault.{StackFault}
-use Rattle.stack_files.specs.declared.stack_fault.StackFault.TheVariants.{NoMemory}
-use Rattle.stack_files.specs.Configuration.{configuration_of}
+use Rattle.stack_files.specs.Configuration.{IsRefusal, configuration_of}
 use Rattle.stack_files.specs.Endings.{IsOpeningEnd}
 
 -- the stack of the configuration that the text makes of the open leaves, over their devices, with a cache of so many hash
@@ -20,9 +19,9 @@ pub record IsStackOf {D : Type 0} (state : D → Device) (over : OpenStack D) (c
   pub makes : configuration_of over.leaves.items over.text.bytes.items ≡ Ok config
   pub is : stack ≡ stack_over config (map state over.devices.items) cache
 
--- the text makes none, or memory runs out
+-- the text makes none, or an allocation was refused
 abbrev pub FailsToLoad : {D : Type 0} → OpenStack D → StackFault → Type 0
-FailsToLoad over fault = (configuration_of over.leaves.items over.text.bytes.items ≡ Err fault) ⊎ (fault ≡ NoMemory)
+FailsToLoad over fault = (configuration_of over.leaves.items over.text.bytes.items ≡ Err fault) ⊎ IsRefusal fault
 
 -- ---- of a stack file
 

@@ -6,11 +6,12 @@ ghost use Rattle.stack_files.specs.Openings.{FailsToBack, FailsToBindAll};
 
 use crate::opening_fault::OpeningFault;
 use crate::part::device_part;
+use allocation::{OutOfMemory, copied, push};
 use block_device::{BlockDev, MemoryDev};
 use command_line::{Backing, Binding};
 use image_files::{FileUse, Images, open_apart, open_part};
 use stack_config::Leaf;
-use std::alloc::{AllocError, Global};
+use std::alloc::Global;
 
 /// Leaves, and their devices in the same order.
 #[derive(Drop)]
@@ -31,20 +32,19 @@ impl<D: BlockDev + Drop> OpenLeaves<D> {
     }
 
     // Adds a device under a name.
-    fn bind(&mut self, alloc: Global, name: &str, device: D) -> Result<(), AllocError>
+    fn bind(&mut self, alloc: Global, name: &str, device: D) -> Result<(), OutOfMemory>
         requires { ServeLeaves self.old.leaves.items (map D.state self.old.devices.items) }
         ensures served { OnOk result (ServeLeaves self.new.leaves.items (map D.state self.new.devices.items)) }
         ensures names { OnOk result (names_in self.new.leaves.items ≡ names_in self.old.leaves.items ++ name.now ∷ []) }
         ensures devices { OnOk result (self.new.devices.items ≡ self.old.devices.items ++ device ∷ []) }
     {
         let leaf = Leaf {
-            name: Vec::from_slice(alloc, name.as_bytes())?,
+            name: copied(alloc, name.as_bytes())?,
             sectors: device.sectors(),
             writable: device.writable(),
         };
-        self.leaves.push(leaf)?;
-        self.devices.push(device)?;
-        Ok(())
+        push(&mut self.leaves, leaf)?;
+        push(&mut self.devices, device)
     }
 }
 
@@ -63,11 +63,8 @@ fn open_backing<'a, I: Images>(
         Backing::File { path, writable } => {
             let image = open_apart(images, files.as_slice(), path, writable)?;
             let id = image.id;
-            files.push(FileUse {
-                id,
-                writable,
-                part: None,
-            })?;
+            let part = None;
+            push(files, FileUse { id, writable, part })?;
             Ok(image.device)
         }
         Backing::Part {
@@ -79,7 +76,7 @@ fn open_backing<'a, I: Images>(
             let image = open_part(images, files.as_slice(), path, writable, part)?;
             let id = image.id;
             let part = Some(part);
-            files.push(FileUse { id, writable, part })?;
+            push(files, FileUse { id, writable, part })?;
             Ok(image.device)
         }
         Backing::Zeros(sectors) => Ok(I::of_memory(MemoryDev::zeros(alloc, sectors, true)?)),
@@ -98,7 +95,7 @@ pub fn open_all<'a, I: Images>(
     ensures err { IfErr result (FailsToBindAll I.relations I.Dev.state images.old images.new files.now bindings.now) }
 {
     let mut open_leaves = OpenLeaves::new(alloc);
-    let mut open_files = Vec::from_slice(alloc, files)?;
+    let mut open_files = copied(alloc, files)?;
     'bindings: for binding in bindings {
         let device = open_backing(alloc, images, &mut open_files, binding.backing)?;
         open_leaves.bind(alloc, binding.name, device)?;

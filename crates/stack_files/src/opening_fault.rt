@@ -3,8 +3,9 @@ ghost use Rattle.std.specs.Prelude.{◌≡◌};
 ghost use Rattle.stack_files.specs.declared.opening_fault.OpeningFault.TheVariants as opening_fault;
 ghost use Rattle.stack_files.specs.Openings.{part_ending};
 
+use allocation::OutOfMemory;
 use image_files::{UnopenedFile, UnopenedPart};
-use std::alloc::{AllocError, AllocFailed};
+use std::alloc::AllocError;
 
 /// Why what a command names isn't opened.
 #[derive(Clone, Copy, Debug, PartialEq, Eq)]
@@ -27,10 +28,10 @@ impl From<AllocError> for OpeningFault<'_> {
     }
 }
 
-impl<T: Drop> From<AllocFailed<T>> for OpeningFault<'_> {
+impl From<OutOfMemory> for OpeningFault<'_> {
     ghost from_gives = { λ _ fault. fault ≡ opening_fault.NoMemory };
 
-    fn from(_refused: AllocFailed<T>) -> Self {
+    fn from(_error: OutOfMemory) -> Self {
         OpeningFault::NoMemory
     }
 }

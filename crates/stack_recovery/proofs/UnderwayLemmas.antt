@@ -1,6 +1,5 @@
 -- A device that is gone over, while sectors are left.
 use Rattle.std.proofs.Common.{◌≡◌, ◌≢◌, ◌⊎◌, ℕ, ◌+◌, ◌-◌, ◌≤◌, ◌^◌, Bool, true, false, IsTrue, List, [], ◌∷◌, ◌++◌, length, replicate, Option, Some, None, is_some, Ok, Err, inl, inr, refl, sym, ap, ◌∙◌, subst, arith}
-use Rattle.std.proofs.lemmas.Bool.{false≢true}
 use Rattle.std.proofs.lemmas.List.{append-nil, length-append, length-replicate}
 use Rattle.block_device.specs.Device.{Device, IsWritten, sectors_of, spliced}
 use Rattle.stack_rules.specs.Names.{mapped, size}
@@ -21,7 +20,7 @@ use Rattle.stack_recovery.specs.Alike.{AreAlike}
 use Rattle.stack_recovery.specs.Copies.{IsCopied}
 use Rattle.stack_recovery.specs.Listings.{Listed, Tells}
 use Rattle.stack_recovery.specs.Losses.{StopsInPiece}
-use Rattle.stack_recovery.specs.Recoveries.{EndsEarly, FindsNoMemory, GoesOver, IsBegunOver, AreMarksNoted, IsRecoveryEnd, NotesMore, Recovers, RunsShort, Sides, sides}
+use Rattle.stack_recovery.specs.Recoveries.{EndsEarly, FindsNoMemory, GoesOver, IsBegunOver, AreMarksNoted, IsMapRefused, IsRecoveryEnd, NotesMore, Recovers, RunsShort, Sides, sides}
 use Rattle.stack_recovery.specs.Surveys.{AreMarked, IsPieceSurveyed, IsSurveyOver, PieceRead, SectorState, again, all_states, had, kept, lost, states_of}
 use Rattle.stack_recovery.specs.Texts.{lost_text}
 use Rattle.stack_recovery.proofs.AheadLemmas.{length-noted, marks-none, noted-more}
@@ -70,20 +69,20 @@ module _ (before : List Bool) (d : ℕ) (old now : Sides) (at : ℕ) (tally : Ta
   }
 
   -- memory ran out
-  pub runs-short : (makes_map : Bool) (stack : StackRecord) → now.out.failures ≡ old.out.failures → (makes_map ≡ false → FindsNoMemory d at now.stack stack)
+  pub runs-short : (makes_map : Bool) (stack : StackRecord) → now.out.failures ≡ old.out.failures → FindsNoMemory d at now.stack stack ⊎ IsMapRefused makes_map
       → RunsShort makes_map before d old (sides stack now.out now.printed)
   unfolding begun
-  runs-short makes_map stack unfailed read = record {
+  runs-short makes_map stack unfailed refused = record {
     begun = begun stack now.out;
     copied = u.copied;
     unfailed = unfailed;
-    read = λ none. subst (λ (k : ℕ). FindsNoMemory d k now.stack stack) u.here (read none);
+    refused = subst (λ (k : ℕ). FindsNoMemory d k now.stack stack ⊎ IsMapRefused makes_map) u.here refused;
   }
 
   memory-read : (makes_map : Bool) (stack : StackRecord) (fault : IoFault) → is_some noted ≡ makes_map → (fault ≡ NoMemory → FindsNoMemory d at now.stack stack)
-      → (fault ≡ NoMemory) ⊎ (is_some noted ≡ true) → makes_map ≡ false → FindsNoMemory d at now.stack stack
-  memory-read makes_map stack fault same read (inl is) none = read is
-  memory-read makes_map stack fault same read (inr some) none = absurd (false≢true (sym none ∙ sym same ∙ some))
+      → (fault ≡ NoMemory) ⊎ IsMapRefused (is_some noted) → FindsNoMemory d at now.stack stack ⊎ IsMapRefused makes_map
+  memory-read makes_map stack fault same read (inl is) = inl (read is)
+  memory-read makes_map stack fault same read (inr map) = inr (sym same ∙ map.0, map.1)
 
   -- it ended in a piece that wasn't read
   pub ends-in-piece : {L : Type 0} (told : L → Listed) (makes_map : Bool) (stack : StackRecord) (fault : IoFault) (a b : L) (error : RecoveryFault) → now.printed ≡ told a → now.out.failures ≡ old.out.failures → is_some noted ≡ makes_map
@@ -221,7 +220,7 @@ short-none n d makes_map old new p = record {
   begun = begun-none n d old new p.begun;
   copied = p.copied;
   unfailed = p.unfailed;
-  read = p.read;
+  refused = p.refused;
 }
 
 pub ends-none : (n d : ℕ) (old new : Sides) (fault : RecoveryFault) → EndsEarly false (replicate n false) d old new fault → IsRecoveryEnd d old new fault

@@ -9,7 +9,7 @@ use Rattle.runs.specs.Tallies.{closed_by, opened_by}
 use Rattle.stack_recovery.specs.LostRuns.{LostRun, is_same_fault}
 use Rattle.stack_recovery.specs.declared.tally.Tally.{Tally}
 use Rattle.stack_recovery.specs.Listings.{Listed, Tells}
-use Rattle.stack_recovery.specs.Recoveries.{NotesMore}
+use Rattle.stack_recovery.specs.Recoveries.{IsMapRefused, NotesMore}
 use Rattle.stack_recovery.specs.Texts.{lost_text}
 
 -- what is noted, where they are lost or not
@@ -27,7 +27,7 @@ abbrev pub ListsLost : {L : Type 0} → (L → Listed) → LostRun → Tally →
 ListsLost told run tally old new true = Tells (told old) (told new) (lost_text (closed_by is_same_fault tally.last run))
 ListsLost told run tally old new false = new ≡ old
 
--- why the recovery ends there: the read found no memory, or the map that is made
+-- why the recovery ends there: the read found no memory, or room in the map that is made was refused
 abbrev pub StopsInPiece : {L : Type 0} → IoFault → Bool → L → L → RecoveryFault → Type 0
-StopsInPiece fault makes_map old new NoMemory = ((fault ≡ io.NoMemory) ⊎ (makes_map ≡ true)) × (new ≡ old)
+StopsInPiece fault makes_map old new NoMemory = ((fault ≡ io.NoMemory) ⊎ IsMapRefused makes_map) × (new ≡ old)
 StopsInPiece fault makes_map old new Output = ⊥

@@ -1,5 +1,6 @@
 -- What going over a mapped device does.
-use Rattle.std.specs.Prelude.{◌≡◌, ℕ, ◌-◌, Bool, true, false, IsTrue, List, [], ◌++◌, length, map, Option, Some, None, Err}
+use Rattle.std.specs.Prelude.{◌≡◌, ◌⊎◌, ℕ, ◌-◌, Bool, true, false, IsTrue, List, [], ◌++◌, length, map, Option, Some, None, Err}
+use Rattle.allocation.specs.Refusal.{IsOutOfMemory}
 use Rattle.block_device.specs.Device.{Device, HasFailed}
 use Rattle.stack_rules.specs.Names.{mapped, size}
 use Rattle.stack_rules.specs.declared.lower.DevId.{DevId}
@@ -57,13 +58,16 @@ pub record FindsNoMemory (d at : ℕ) (w w' : StackRecord) : Type 0 where
   pub answered : EachBytes w d at count (Err io.NoMemory) w'
   pub met : MeetVerity (said_at w.config (mapped d)) at count
 
--- Memory ran out: what was had so far is copied, and the device to which it is copied didn't fail. Where no map is made, a
--- read found none.
+-- a map is made, and room for one run of it was refused
+abbrev pub IsMapRefused : Bool → Type 0
+IsMapRefused makes_map = (makes_map ≡ true) × IsOutOfMemory 1
+
+-- Memory ran out for a read or for the map: what was had so far is copied, and the device to which it is copied didn't fail.
 pub record RunsShort (makes_map : Bool) (marks : List Bool) (d : ℕ) (old new : Sides) : Type 0 where
   pub begun : IsBegunOver marks d old new
   pub copied : IsCopied begun.reads old.out new.out
   pub unfailed : new.out.failures ≡ old.out.failures
-  pub read : makes_map ≡ false → FindsNoMemory d (length (all_states begun.reads)) begun.left new.stack
+  pub refused : FindsNoMemory d (length (all_states begun.reads)) begun.left new.stack ⊎ IsMapRefused makes_map
 
 -- why it ended early: never because a line can't be written
 abbrev pub EndsEarly : Bool → List Bool → ℕ → Sides → Sides → RecoveryFault → Type 0

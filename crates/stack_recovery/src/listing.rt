@@ -1,11 +1,12 @@
 //! Who is told of lost runs: a writer, or a list in memory.
-ghost use Rattle.std.specs.Prelude.{◌≡◌, ◌++◌, ◌∷◌, [], false, OnOk};
+ghost use Rattle.std.specs.Prelude.{◌≡◌, [], false};
 ghost use Rattle.stack_recovery.specs.Listings.{Listed, Tells};
 ghost use Rattle.stack_recovery.specs.Texts.{lost_run_text};
 
 use crate::lost_run::{LostRun, say_run};
+use allocation::push;
 use program_io::Counted;
-use std::alloc::{AllocError, Global};
+use std::alloc::Global;
 use std::io::Write;
 
 /// Who is told of lost runs, one after another. After a run that couldn't be told no further one is: a recovery goes on.
@@ -59,15 +60,8 @@ impl Listing for KeptRuns {
 
     #[tactic(auto, using(crate::proofs::WritingLemmas::runs_text_last))]
     fn tell(&mut self, run: LostRun) {
-        if !self.refused && keep(&mut self.runs, run).is_err() {
+        if !self.refused && push(&mut self.runs, run).is_err() {
             self.refused = true;
         }
     }
-}
-
-fn keep(runs: &mut Vec<LostRun>, run: LostRun) -> Result<(), AllocError>
-    ensures { OnOk result (runs.new.items ≡ runs.old.items ++ run ∷ []) }
-{
-    runs.push(run)?;
-    Ok(())
 }

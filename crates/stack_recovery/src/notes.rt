@@ -1,6 +1,7 @@
 //! The map that is made while a device is gone over.
 ghost use Rattle.std.specs.Prelude.{◌≡◌, ◌+◌, ◌≤◌, ◌^◌, length, replicate, true, IfErr, OnErr, OnOk};
 ghost use Rattle.std.specs.Option.{ForSome, is_some};
+ghost use Rattle.allocation.specs.Refusal.{IsOutOfMemory};
 ghost use Rattle.rescue_map.specs.Maps.{marks};
 ghost use Rattle.stack_recovery.specs.Recoveries.{NotesMore};
 ghost use Rattle.stack_recovery.specs.declared.fault.RecoveryFault.TheVariants as recovery_fault;
@@ -13,14 +14,11 @@ pub(crate) fn note(noted: &mut Option<Map>, count: u64, had: bool) -> Result<(),
     requires some { 1 ≤ count }
     requires room { ForSome noted.old (λ map. length (marks map) + count ≤ 2 ^ 54) }
     ensures ok { OnOk result (NotesMore noted.old noted.new (replicate count had)) }
-    ensures err { IfErr result (λ fault. fault ≡ recovery_fault.NoMemory) }
+    ensures err { IfErr result (λ fault. (fault ≡ recovery_fault.NoMemory) × IsOutOfMemory 1) }
     ensures made { OnErr result (is_some noted.old ≡ true) }
 {
     match noted {
         None => Ok(()),
-        Some(map) => match map.push(Run { count, had }) {
-            Ok(()) => Ok(()),
-            Err(_) => Err(RecoveryFault::NoMemory),
-        },
+        Some(map) => Ok(map.push(Run { count, had })?),
     }
 }

@@ -4,7 +4,6 @@ ghost use Rattle.tree_difference.specs.declared.fault.DifferenceFault.TheVariant
 
 use allocation::OutOfMemory;
 use program_io::WriteFault;
-use std::alloc::AllocError;
 use verity_format::VerifyFault;
 
 /// One of two trees.
@@ -41,14 +40,6 @@ impl From<OutOfMemory> for DifferenceFault {
     ghost from_gives = { λ _ fault. fault ≡ difference_fault.NoMemory };
 
     fn from(_error: OutOfMemory) -> DifferenceFault {
-        DifferenceFault::NoMemory
-    }
-}
-
-impl From<AllocError> for DifferenceFault {
-    ghost from_gives = { λ _ fault. fault ≡ difference_fault.NoMemory };
-
-    fn from(_error: AllocError) -> DifferenceFault {
         DifferenceFault::NoMemory
     }
 }

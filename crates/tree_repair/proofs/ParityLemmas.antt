@@ -1,9 +1,17 @@
 -- Blocks brought back by parity are visits of the image.
-use Rattle.std.proofs.Common.{◌≡◌, ◌≤◌, ◌<◌, ◌+◌, ◌*◌, ◌/◌, ◌^◌, ℕ, zero, suc, refl, sym, ap, ◌∙◌, subst, arith, true, false, Bool, List, Option, Some, None, Result, Ok, Err, IsTrue, inr}
-use Rattle.std.specs.Prelude.{IfNone, IfOk, IfSome, IsErrAnd, OnErr}
+use Rattle.std.proofs.Common.{◌≡◌, ◌≢◌, ◌≤◌, ◌<◌, ◌+◌, ◌*◌, ◌/◌, ◌^◌, ℕ, zero, suc, refl, sym, ap, ◌∙◌, subst, arith, true, false, Bool, List, Option, Some, None, Result, Ok, Err, IsTrue, inr}
+use Rattle.std.specs.Prelude.{IfErr, IfNone, IfOk, IfSome, IsErrAnd, OnErr}
+use Rattle.std.proofs.lemmas.Bool.{false≢true}
 use Rattle.block_device.specs.Device.{Device, IsInside}
 use Rattle.fec_area.specs.declared.layout.Layout.{Layout}
 use Rattle.fec_area.specs.Layouts.{IsOfData, IsOfHash, IsOffHash}
+use Rattle.fec_area.specs.Restoring.{IsOtherCause, IsRestoreCause}
+use Rattle.fec_area.specs.declared.restoring.RestoreFault.{RestoreFault}
+use Rattle.fec_area.specs.declared.restoring.RestoreFault.TheVariants as restore
+use Rattle.verity_format.specs.declared.verifying.VerifyFault.TheVariants.{NoMemory}
+use Rattle.tree_repair.specs.declared.fault.RepairFault.{RepairFault}
+use Rattle.tree_repair.specs.declared.fault.RepairFault.TheVariants.{Image}
+use Rattle.tree_repair.specs.declared.losses.Losses.{Losses}
 use Rattle.tree_shape.specs.Shape.{ShapeRecord, IsShape, ancestor, position, area_end}
 use Rattle.tree_path.specs.Path.{PathRecord, digest_on}
 use Rattle.verity_format.proofs.lemmas.DeviceLemmas.{only_read-none}
@@ -11,9 +19,9 @@ use Rattle.verity_format.proofs.lemmas.SizeLemmas.{IsBlock, block-inside, block-
 use Rattle.tree_survey.specs.Surveys.{IsWay}
 use Rattle.tree_repair.specs.declared.mending.Mended.TheVariants as mended
 use Rattle.tree_repair.specs.Mending.{IsBlockReplaced}
-use Rattle.tree_repair.specs.Parity.{FailsToPlace, IsGoodNow, IsPlace, IsPlaced, IsPutOr, end_at}
-use Rattle.tree_repair.specs.Runs.{IsVisited, Job, sector_at, size_at, visit}
-use Rattle.tree_repair.specs.Worlds.{repair_world}
+use Rattle.tree_repair.specs.Parity.{FailsToPlace, IsBack, IsGoodNow, IsNotBack, IsOfBlocks, IsPlace, IsPlaced, IsPutOr, end_at}
+use Rattle.tree_repair.specs.Runs.{IsRefusal, IsVisited, Job, sector_at, size_at, visit}
+use Rattle.tree_repair.specs.Worlds.{RepairWorld, repair_world}
 use Rattle.tree_repair.specs.Sources.{IsThere, wanted}
 use Rattle.tree_repair.specs.Tries.{IsCoveredOr}
 use Rattle.tree_repair.proofs.SourceLemmas.{each-none}
@@ -22,6 +30,39 @@ use Rattle.tree_repair.proofs.SourceLemmas.{each-none}
 pub if_ok-from : {T E : Type 0} (r : Result T E) (P : E → Type 0) (Q : T → Type 0) → IsErrAnd r P → IfOk r Q
 if_ok-from (Ok x) P Q is = absurd is
 if_ok-from (Err e) P Q is = tt
+
+-- what holds of a fault holds of the result that hands it on
+pub err-from : {T : Type 0} (r : Result T RepairFault) (P : RepairFault → Type 0) (fault : RepairFault) → IsErrAnd r (λ e. e ≡ fault) → P fault → IfErr r P
+err-from (Ok x) P fault is holds = tt
+err-from (Err e) P fault is holds = subst P (sym is) holds
+
+-- ---- a block that isn't restored
+
+-- what the two ends of a failed restoration are: it stays lost, or the allocation was refused
+abbrev pub StaysLost : RestoreFault → Result Bool RepairFault → Type 0
+StaysLost fault r = IfOk r (λ back. (back ≡ false) × (fault ≢ restore.NoMemory))
+
+abbrev pub EndsRefused : RestoreFault → Result Bool RepairFault → Type 0
+EndsRefused fault r = IfErr r (λ given. (given ≡ Image NoMemory) × (fault ≡ restore.NoMemory))
+
+pub unback : (l : Losses) (w : RepairWorld) (p : Device) (index : ℕ) (bytes : List ℕ) (fault : RestoreFault) (r : Result Bool RepairFault) → StaysLost fault r → IfOk r (IsBack l w p index bytes)
+unback l w p index bytes fault (Ok back) lost = λ yes. absurd (false≢true (sym lost.0 ∙ yes))
+unback l w p index bytes fault (Err given) lost = tt
+
+of-blocks : (d h p : Device) (fault : RestoreFault) → fault ≢ restore.NoMemory → IsOtherCause d h p fault → IsOfBlocks d h p fault
+of-blocks d h p (restore.TooManyLost count) other sure = tt
+of-blocks d h p (restore.TooSmall needed) other sure = tt
+of-blocks d h p restore.Device other sure = λ never. sure never refl
+of-blocks d h p restore.NoMemory other sure = absurd (other refl)
+
+pub lacks-lost : (l : Losses) (index : ℕ) (w w' : RepairWorld) (p p' : Device) (fault : RestoreFault) (r : Result Bool RepairFault) → StaysLost fault r → IsOtherCause w.data_dev w.hash_dev p fault
+    → IsRestoreCause l.layout l.lost.items index w.data_dev w.hash_dev p w'.data_dev w'.hash_dev p' fault → IfOk r (IsNotBack l index w w' p p')
+lacks-lost l index w w' p p' fault (Ok back) lost sure cause = λ no. (fault, (of-blocks w.data_dev w.hash_dev p fault lost.1 sure, cause))
+lacks-lost l index w w' p p' fault (Err given) lost sure cause = tt
+
+pub refusal-from : (l : Layout) (lost : List ℕ) (index : ℕ) (d h p d' h' p' : Device) (fault : RestoreFault) (r : Result Bool RepairFault) → EndsRefused fault r → IsRestoreCause l lost index d h p d' h' p' fault → IfErr r IsRefusal
+refusal-from l lost index d h p d' h' p' fault (Ok back) is cause = tt
+refusal-from l lost index d h p d' h' p' fault (Err given) is cause = (is.0, (subst (λ (f : RestoreFault). IsRestoreCause l lost index d h p d' h' p' f) is.1 cause).1)
 
 -- ---- which covered block a block is
 

@@ -21,7 +21,7 @@ use Rattle.tree_repair.specs.declared.fault.RepairFault.TheVariants.{Image, Writ
 use Rattle.tree_repair.specs.declared.mending.Mended.{Mended}
 use Rattle.tree_repair.specs.declared.mending.Mended.TheVariants as mended
 use Rattle.tree_repair.specs.Mending.{IsBlockFound, IsMended, IsAllowedPut, Look}
-use Rattle.tree_repair.specs.Runs.{CanRun, HasRun, IsDone, IsEndCause, IsVisited, Job, OtherStays, VisitsAll, Visit, visit_line, look_at, other, own}
+use Rattle.tree_repair.specs.Runs.{CanRun, HasRun, IsDone, IsEndCause, IsRefusal, IsVisited, Job, OtherStays, VisitsAll, Visit, visit_line, look_at, other, own}
 use Rattle.tree_repair.specs.Worlds.{IsWorldRead, RepairWorld, repair_world}
 use Rattle.tree_repair.proofs.SourceLemmas.{each-none, each-then}
 
@@ -100,6 +100,10 @@ memory-within n few memory = (memory.0, omega (arith, memory.1, few), memory.2)
 -- a reading behind which an allocation was refused
 pub ends-read : {j : Job} {a b : RepairWorld} {old new : Option (List ℕ)} → IsWorldRead a b → IsOutOfMemory largest_allocation → HasRun j a b old new (Some (Image NoMemory))
 ends-read read memory = record { visits = []; runs = read; done = λ end. absurd (true≢false end); printed = λ end. absurd (true≢false end); cause = (All-nil IsDone, memory) }
+
+-- the same, if what was refused is this fault's cause
+pub ends-refused : {j : Job} {a b : RepairWorld} {old new : Option (List ℕ)} (fault : RepairFault) → IsRefusal fault → IsWorldRead a b → HasRun j a b old new (Some fault)
+ends-refused {j} {a} {b} {old} {new} fault refused read = subst (λ (f : RepairFault). HasRun j a b old new (Some f)) (sym refused.0) (ends-read read refused.1)
 
 -- one block
 pub runs-one : (j : Job) (v : Visit) (a b : RepairWorld) → IsVisited j v a b → VisitsAll j (v ∷ []) a b

@@ -192,6 +192,10 @@ IsEndCause visits (Image NoMemory) = All IsDone visits × IsOutOfMemory largest_
 IsEndCause visits (Image fault) = ⊥
 IsEndCause visits Write = All IsDone visits
 
+-- the fault of a refused allocation
+abbrev pub IsRefusal : RepairFault → Type 0
+IsRefusal fault = (fault ≡ Image NoMemory) × IsOutOfMemory largest_allocation
+
 -- A run, and the fault that ended it, if one did. If none, no write failed, and a line was printed for each block that was
 -- mended; else the fault has its cause.
 pub record HasRun (j : Job) (w w' : RepairWorld) (old new : Option (List ℕ)) (fault : Option RepairFault) : Type 0 where

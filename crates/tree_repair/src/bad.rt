@@ -58,12 +58,12 @@ impl BadBlocks {
     {
         match found_of(mended, write) {
             None => Ok(()),
-            Some(found) => self.push(BadBlock { place, found }),
+            Some(found) => self.add(BadBlock { place, found }),
         }
     }
 
     // Notes a block that isn't good.
-    fn push(&mut self, block: BadBlock) -> Result<(), OutOfMemory>
+    fn add(&mut self, block: BadBlock) -> Result<(), OutOfMemory>
         ensures asked { self.new.asked ≡ self.old.asked }
         ensures noted { OnOk result (IsTrue self.old.asked → self.new.blocks.items ≡ self.old.blocks.items ++ (block ∷ [])) }
         ensures few { OnOk result (length self.new.blocks.items ≤ length self.old.blocks.items + 1) }

@@ -1,12 +1,13 @@
 //! Why an image isn't repaired to its end.
-ghost use Rattle.std.specs.Prelude.{◌≡◌};
+ghost use Rattle.std.specs.Prelude.{◌≡◌, ◌≢◌, false, IfErr, IfOk};
+ghost use Rattle.fec_area.specs.declared.restoring.RestoreFault.TheVariants as restore_fault;
 ghost use Rattle.tree_repair.specs.declared.fault.RepairFault.TheVariants as repair_fault;
 ghost use Rattle.verity_format.specs.declared.verifying.VerifyFault.TheVariants as verify_fault;
 
 use allocation::OutOfMemory;
 use block_device::DeviceFault;
+use fec_area::RestoreFault;
 use program_io::WriteFault;
-use std::alloc::AllocError;
 use verity_format::VerifyFault;
 
 /// Why an image isn't repaired to its end.
@@ -34,14 +35,6 @@ impl From<DeviceFault> for RepairFault {
     }
 }
 
-impl From<AllocError> for RepairFault {
-    ghost from_gives = { λ _ given. given ≡ repair_fault.Image verify_fault.NoMemory };
-
-    fn from(_error: AllocError) -> RepairFault {
-        RepairFault::Image(VerifyFault::NoMemory)
-    }
-}
-
 impl From<OutOfMemory> for RepairFault {
     ghost from_gives = { λ _ given. given ≡ repair_fault.Image verify_fault.NoMemory };
 
@@ -55,5 +48,18 @@ impl From<WriteFault> for RepairFault {
 
     fn from(_fault: WriteFault) -> RepairFault {
         RepairFault::Write
+    }
+}
+
+/// A block that isn't restored by parity stays lost; only a refused allocation ends the repair.
+pub(crate) fn unrestored(fault: RestoreFault) -> Result<bool, RepairFault>
+    ensures ok { IfOk result (λ back. (back ≡ false) × (fault ≢ restore_fault.NoMemory)) }
+    ensures err { IfErr result (λ given. (given ≡ repair_fault.Image verify_fault.NoMemory) × (fault ≡ restore_fault.NoMemory)) }
+{
+    match fault {
+        RestoreFault::NoMemory => Err(RepairFault::Image(VerifyFault::NoMemory)),
+        RestoreFault::TooManyLost { count: _ } => Ok(false),
+        RestoreFault::TooSmall { needed: _ } => Ok(false),
+        RestoreFault::Device => Ok(false),
     }
 }

@@ -1,8 +1,7 @@
 //! Blocks restored by parity.
-ghost use Rattle.std.specs.Prelude.{◌≡◌, ◌<◌, ◌+◌, ◌++◌, ◌&&◌, ◌||◌, false, IfOk, IsTrue, OnErr, OnOk, length, IfErr};
+ghost use Rattle.std.specs.Prelude.{◌≡◌, ◌<◌, ◌+◌, ◌++◌, ◌&&◌, ◌||◌, false, IfOk, IsTrue, OnOk, length, IfErr};
 ghost use Rattle.allocation.specs.Asked.{WasRefused};
-ghost use Rattle.allocation.specs.Refusal.{IsOutOfMemory};
-ghost use Rattle.fec_area.specs.Layouts.{IsLaidOn, IsLayout, covered_blocks, largest_allocation};
+ghost use Rattle.fec_area.specs.Layouts.{IsLaidOn, IsLayout, covered_blocks};
 ghost use Rattle.tree_shape.specs.Digests.{digest};
 ghost use Rattle.tree_shape.specs.Shape.{levels};
 ghost use Rattle.verity_format.specs.Blocks.{IsOnlyRead};
@@ -10,13 +9,13 @@ ghost use Rattle.tree_repair.specs.Jobs.{job};
 ghost use Rattle.tree_repair.specs.ParityBounds.{TellsCame, along_bill, round_bill};
 ghost use Rattle.tree_repair.specs.Passes.{AreBack};
 ghost use Rattle.tree_repair.specs.Parity.{IsBack, IsPlace};
-ghost use Rattle.tree_repair.specs.Runs.{CanRun, IsWriterCause, Ran};
+ghost use Rattle.tree_repair.specs.Runs.{CanRun, IsRefusal, IsWriterCause, Ran};
 ghost use Rattle.tree_repair.specs.Tries.{AreCovered, IsCoveredOr, IsOfTree, is_hash_back, listed_number};
 ghost use Rattle.tree_repair.specs.Worlds.{IsWorldRead};
 ghost use Rattle.tree_repair.specs.Searching.{AreGoodFor, AsksWithin, IsInTree, IsReached, LacksBlock, MakesMissing, MakesWithin, SeeksBlock, SeeksEach, SeeksWithin, TellsMissing, TellsPlace, TriesMissing, TriesWithin, missing_size};
 
 use crate::bad::BadBlock;
-use crate::fault::RepairFault;
+use crate::fault::{RepairFault, unrestored};
 use crate::image::DamagedImage;
 use crate::keeping::are_both;
 use crate::losses::Losses;
@@ -25,9 +24,9 @@ use crate::putting::{Missing, put_restored};
 use crate::verified_path::VerifiedPath;
 use allocation::{OutOfMemory, push, zeros};
 use block_device::BlockDev;
-use fec_area::{Layout, LostBlock, RestoreFault, restore_block};
+use fec_area::{Layout, LostBlock, restore_block};
 use program_io::Counted;
-use std::alloc::{AllocError, Global};
+use std::alloc::Global;
 use std::io::Write;
 use verity_format::is_same;
 
@@ -234,7 +233,7 @@ fn make_again<D: BlockDev, H: BlockDev, C: BlockDev, P: BlockDev>(
     image: &mut DamagedImage<D, H, C>,
     parity: &mut P,
     bytes: &mut [u8],
-) -> Result<bool, AllocError>
+) -> Result<bool, RepairFault>
     requires laid { IsLaidOn losses.now.layout image.old.data_dev image.old.hash_dev }
     requires way { IsReached missing.now }
     requires size { length bytes.old ≡ missing_size missing.now }
@@ -243,7 +242,7 @@ fn make_again<D: BlockDev, H: BlockDev, C: BlockDev, P: BlockDev>(
     ensures good { IfOk result (λ made. IsTrue made → AreGoodFor missing.now bytes.new) }
     ensures vain { MakesMissing P.state missing.now losses.now image.old image.new parity.old parity.new result }
     ensures within { MakesWithin P.state missing.now losses.now image.old image.new parity.old parity.new result }
-    ensures err { OnErr result (IsOutOfMemory largest_allocation) }
+    ensures err { IfErr result IsRefusal }
 {
     let repair = missing.repair;
     let place = missing.place;
@@ -267,7 +266,7 @@ fn restore<D: BlockDev, H: BlockDev, C: BlockDev, P: BlockDev>(
     image: &mut DamagedImage<D, H, C>,
     parity: &mut P,
     bytes: &mut [u8],
-) -> Result<bool, AllocError>
+) -> Result<bool, RepairFault>
     requires laid { IsLaidOn losses.now.layout image.old.data_dev image.old.hash_dev }
     requires index { index < covered_blocks losses.now.layout }
     requires size { length bytes.old ≡ losses.now.layout.block }
@@ -276,7 +275,7 @@ fn restore<D: BlockDev, H: BlockDev, C: BlockDev, P: BlockDev>(
     ensures bytes { IfOk result (IsBack losses.now image.old (P.state parity.old) index bytes.new) }
     ensures none { IfOk result (LacksBlock P.state losses.now index image.old image.new parity.old parity.new) }
     ensures within { AsksWithin P.state (round_bill losses.now.layout) image.old image.new parity.old parity.new }
-    ensures err { OnErr result (IsOutOfMemory largest_allocation) }
+    ensures err { IfErr result IsRefusal }
 {
     let sought = LostBlock {
         layout: &losses.layout,
@@ -292,9 +291,6 @@ fn restore<D: BlockDev, H: BlockDev, C: BlockDev, P: BlockDev>(
         bytes,
     ) {
         Ok(()) => Ok(true),
-        Err(RestoreFault::NoMemory) => Err(AllocError),
-        Err(RestoreFault::TooManyLost { count: _ }) => Ok(false),
-        Err(RestoreFault::TooSmall { needed: _ }) => Ok(false),
-        Err(RestoreFault::Device) => Ok(false),
+        Err(fault) => unrestored(fault),
     }
 }

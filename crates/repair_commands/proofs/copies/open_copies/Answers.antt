@@ -12,7 +12,7 @@ use Rattle.repair_commands.proofs.copies.open_copies.Goals as goal
 pub copies-preserved : goal.copies-preserved
 copies-preserved g c =
     opens-next g.I.Images.relations g.I.Dev.BlockDev.state c.args.files.now (path_in c.args.hashes) c.args.images.now c.copies.images c.open_apart.new.images c.args.copies.now c.copies.copy-index _
-    c.copies.devices.items c.push.new.self.items c.in_ok-image.image.device c.copies-test.true c.copies.invariant (record { id = c.in_ok-image.image.id; opened = rw c.path_in.ensures at c.in_ok-image.ensures.ok }) c.in-Ok.ensures.items
+    c.copies.devices.items c.add.new.devices.items c.in_ok-image.image.device c.copies-test.true c.copies.invariant (record { id = c.in_ok-image.image.id; opened = rw c.path_in.ensures at c.in_ok-image.ensures.ok }) c.in-Ok.ensures.ok
 
 pub returns-clause-ok : goal.returns-clause-ok
 returns-clause-ok g c =
@@ -28,4 +28,4 @@ returns-in_err-image-clause-err g c =
 pub returns-in_default-clause-err : goal.returns-in_default-clause-err
 returns-in_default-clause-err g c =
     refuses-at g.I.Images.relations g.I.Dev.BlockDev.state c.args.files.now (path_in c.args.hashes) c.args.images.now c.copies.images c.open_apart.new.images c.args.copies.now c.copies.copy-index _
-    c.copies.devices.items (Survey (Image NoMemory)) c.copies-test.true c.copies.invariant (c.in_ok-image.image.device, record { id = c.in_ok-image.image.id; opened = rw c.path_in.ensures at c.in_ok-image.ensures.ok })
+    c.copies.devices.items (Survey (Image NoMemory)) c.copies-test.true c.copies.invariant ((c.in_ok-image.image.device, record { id = c.in_ok-image.image.id; opened = rw c.path_in.ensures at c.in_ok-image.ensures.ok }), c.in_default.ensures.err)

@@ -30,7 +30,7 @@ pub returns-in_default-clause-read : goal.returns-in_default-clause-read
 returns-in_default-clause-read g c = subst (IsOnlyRead (g.H.BlockDev.state c.args.hash_dev.now)) (sym c.in_default.ensures.err) c.read_superblock.ensures.read
 
 pub returns-in_default-clause-err : goal.returns-in_default-clause-err
-returns-in_default-clause-err g c = ap (λ (d : Device). d.failures) c.in_default.ensures.err ∙ c.in_ok-superblock.ensures.full.failures
+returns-in_default-clause-err g c = (ap (λ (d : Device). d.failures) c.in_default.ensures.err ∙ c.in_ok-superblock.ensures.full.failures, c.in_default.ensures.memory)
 
 pub returns-in-Zero-clause-read : goal.returns-in-Zero-clause-read
 returns-in-Zero-clause-read g c = only_read-then c.read_superblock.ensures.read c.in-Ok.ensures.ok.over.read

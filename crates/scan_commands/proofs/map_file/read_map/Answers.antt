@@ -34,7 +34,7 @@ pub returns-then-is_missing-clause-err : goal.returns-then-is_missing-clause-err
 returns-then-is_missing-clause-err g c =
     let missing = missing-is c.in-Err.fault (sym c.is_missing.ensures ∙ c.if-is_missing.true) in
     let told = subst (λ (f : OpenFault). g.I.Images.relations.tells c.args.images.now c.args.file.path.now most_map (Err f) c.read_text.new.self) missing c.in-Err.ensures.told in
-    IfErr-weaker c.new_map.result _ _ (λ fault is. subst (λ (f : PassFault). IsMapUnread (calls g.I.Images.relations g.I.Dev.BlockDev.state c.args.images.now c.read_text.new.self) c.args.file.path.now c.args.sectors f) (sym is) (inl told)) c.new_map.ensures.err
+    IfErr-weaker c.new_map.result _ _ (λ fault is. subst (λ (f : PassFault). IsMapUnread (calls g.I.Images.relations g.I.Dev.BlockDev.state c.args.images.now c.read_text.new.self) c.args.file.path.now c.args.sectors f) (sym is.0) (inl told, is.1)) c.new_map.ensures.err
 
 pub returns-else-is_missing : goal.returns-else-is_missing
 returns-else-is_missing g c = record { ok = tt; sectors = tt; err = (refl, sym c.is_missing.ensures ∙ c.if-is_missing.false, c.in-Err.ensures.told) }

@@ -1,6 +1,8 @@
 use Rattle.std.proofs.Common.{◌≡◌, ◌+◌, ◌≤◌, refl, sym, ap, ◌∙◌, arith}
 use Rattle.stack_rules.specs.Names.{mapped, size}
 use Rattle.stack_rules.specs.Records.{Configuration}
+use Rattle.stack_rules.proofs.lemmas.PassingLemmas.{out_of_memory-more}
+use Rattle.stack_meaning.specs.Memory.{largest_allocation}
 use Rattle.scan_commands.specs.declared.rescue_fault.PassFault.TheVariants.{NoMemory}
 use Rattle.stack_recovery.specs.Recoveries.{sides}
 use Rattle.scan_commands.specs.MapFiles.{map_path_of}
@@ -27,7 +29,7 @@ returns-in_err-wanted-clause-err g c =
     let u = c.turns.invariant in
     err-from c.from_residual.result _ NoMemory c.from_residual.ensures.1
     (ends-as g.I.Images.relations.replaces (map_path_of c.args.kept.file) c.args.d.0 c.sectors-sectors.result _ _ _ c.turns.images
-    (sides c.turns.stack (g.O.BlockDev.state c.turns.out) (g.L.Listing.told c.turns.listing)) NoMemory u.all u.turns (refl, refl))
+    (sides c.turns.stack (g.O.BlockDev.state c.turns.out) (g.L.Listing.told c.turns.listing)) NoMemory u.all u.turns (refl, refl, out_of_memory-more 1 largest_allocation (omega arith) c.in_err-wanted.ensures.err))
 
 pub returns-in_err-map-clause-err : goal.returns-in_err-map-clause-err
 returns-in_err-map-clause-err g c =
@@ -52,7 +54,7 @@ turns-preserved g c =
             inside = more;
           };
           runs = c.in_ok-wanted.wanted;
-          asked = c.in_ok-wanted.ensures;
+          asked = c.in_ok-wanted.ensures.ok;
           none = sym c.is_had.ensures ∙ w.if-is_had.true;
           same = refl;
         });

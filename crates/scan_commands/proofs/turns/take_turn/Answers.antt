@@ -1,7 +1,9 @@
-use Rattle.std.proofs.Common.{◌∙◌, ℕ, Bool, List, Option, Ok, refl, ap, subst}
+use Rattle.std.proofs.Common.{arith, ◌∙◌, ℕ, Bool, List, Option, Ok, refl, ap, subst}
 use Rattle.std.proofs.lemmas.Bool.{false≢true}
 use Rattle.block_device.specs.Device.{Device}
 use Rattle.rescue_map.specs.MapText.{map_text}
+use Rattle.stack_rules.proofs.lemmas.PassingLemmas.{out_of_memory-more}
+use Rattle.stack_meaning.specs.Memory.{largest_allocation}
 use Rattle.stack_recovery.specs.Recoveries.{Rescues, Sides, sides}
 use Rattle.scan_commands.specs.declared.rescue_fault.PassFault.TheVariants.{NoMemory, Output}
 use Rattle.scan_commands.specs.MapFiles.{map_path_of, recovery_ending}
@@ -24,7 +26,7 @@ returns-in_err-sync-clause-err g c =
 pub returns-in_err-map-clause-err : goal.returns-in_err-map-clause-err
 returns-in_err-map-clause-err g c =
     err-from c.from_residual-in_err-map.result _ NoMemory c.from_residual-in_err-map.ensures.1
-    (refl, ap (λ (o : Device). o.failures) c.in_ok-sync.ensures.ok ∙ c.in_ok-rescued.ensures.ok.unfailed)
+    (refl, ap (λ (o : Device). o.failures) c.in_ok-sync.ensures.ok ∙ c.in_ok-rescued.ensures.ok.unfailed, out_of_memory-more 1 largest_allocation (omega arith) c.in_err-map.ensures.err)
 
 pub returns-in_err-write_map-clause-err : goal.returns-in_err-write_map-clause-err
 returns-in_err-write_map-clause-err g c =

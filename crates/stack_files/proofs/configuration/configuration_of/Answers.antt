@@ -19,7 +19,7 @@ pub returns-in_err-load-clause-err : goal.returns-in_err-load-clause-err
 returns-in_err-load-clause-err c =
     err-load c.from_residual-in_err-load.result c.args.leaves.items c.args.text.now c.in_ok-entries.entries c.in_ok-config.config c.in_err-load.field-0.0
     c.from_residual-in_err-load.ensures.1 c.in_ok-config.ensures.ok c.in_ok-config.ensures.leaves c.in_ok-entries.ensures
-    (λ refusal is. (c.in_err-load.ensures.refused refusal (ap (λ e. Err e) is)).first)
+    (λ refusal is. (c.in_err-load.ensures.refused refusal (ap (λ e. Err e) is)).first) (λ is. c.in_err-load.ensures.memory (ap (λ e. Err e) is))
 
 pub returns-clause-ok : goal.returns-clause-ok
 returns-clause-ok c =

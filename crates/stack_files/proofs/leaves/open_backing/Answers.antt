@@ -22,7 +22,7 @@ returns-in_ok-push-in-File-clause-ok g c =
       image = c.in_ok-image-in-File.image;
       opened = rw c.as_slice.ensures.value at c.in_ok-image-in-File.ensures.ok;
       is = refl;
-      more = c.in_ok-push-in-File.ensures.items;
+      more = c.in_ok-push-in-File.ensures.ok;
     })
 
 pub returns-in_err-image-in-Part-clause-err : goal.returns-in_err-image-in-Part-clause-err
@@ -51,5 +51,5 @@ returns-in_ok-push-in-Part-clause-ok g c =
       image = c.in_ok-image-in-Part.image;
       opened = rw (c.as_slice-in-Part.ensures.value, c.device_part-part.ensures) at c.in_ok-image-in-Part.ensures.ok;
       is = refl;
-      more = rw c.device_part-part.ensures at c.in_ok-push-in-Part.ensures.items;
+      more = rw c.device_part-part.ensures at c.in_ok-push-in-Part.ensures.ok;
     })

@@ -1,4 +1,4 @@
-use Rattle.std.proofs.Common.{◌≡◌, ◌⊎◌, ◌+◌, ◌-◌, ◌≤◌, ◌<◌, ◌*◌, ◌/◌, ◌^◌, ℕ, Bool, true, false, List, Ok, Err, arith, refl, sym, ◌∙◌, ap, ap₂, subst, length, take, Option, None, is_some}
+use Rattle.std.proofs.Common.{◌≡◌, ◌⊎◌, ◌+◌, ◌-◌, ◌≤◌, ◌<◌, ◌*◌, ◌/◌, ◌^◌, ℕ, Bool, true, false, List, Ok, Err, arith, refl, sym, ◌∙◌, ap, ap₂, subst, length, take, Option, None, is_some, inr}
 use Rattle.std.proofs.lemmas.Bool.{false≢true}
 use Rattle.std.proofs.lemmas.List.{length-take-le}
 use Rattle.stack_rules.specs.Names.{mapped, size}
@@ -52,8 +52,8 @@ returns-in_err-note-clause-err g c =
     let new : Sides = sides c.pieces.stack (g.O.BlockDev.state c.pieces.out) (g.L.Listing.told c.pieces.listing) in
     let makes_map : Bool = is_some c.args.noted.now in
     err-from c.from_residual.result _ _ c.from_residual.ensures.1
-    (subst (EndsEarly makes_map (marks_ahead c.args.ahead) c.args.d.0 old new) (sym c.in_err-note.ensures.err)
-    (runs-short _ _ _ _ _ _ _ u.so_far makes_map c.pieces.stack u.unfailed (λ none. absurd (false≢true (sym none ∙ sym u.noted ∙ c.in_err-note.ensures.made)))))
+    (subst (EndsEarly makes_map (marks_ahead c.args.ahead) c.args.d.0 old new) (sym c.in_err-note.ensures.err.0)
+    (runs-short _ _ _ _ _ _ _ u.so_far makes_map c.pieces.stack u.unfailed (inr (sym u.noted ∙ c.in_err-note.ensures.made, c.in_err-note.ensures.err.1))))
 
 pub overflow_add-at : goal.overflow_add-at
 overflow_add-at g c =
@@ -123,8 +123,8 @@ returns-in_err-note-in-Ok-clause-err g c =
     let new : Sides = sides c.read_bytes.new.self (g.O.BlockDev.state c.pieces.out) (g.L.Listing.told c.pieces.listing) in
     let makes_map : Bool = is_some c.args.noted.now in
     err-from c.from_residual-in_err-note-in-Ok.result _ _ c.from_residual-in_err-note-in-Ok.ensures.1
-    (subst (EndsEarly makes_map (marks_ahead c.args.ahead) c.args.d.0 old new) (sym c.in_err-note-in-Ok.ensures.err)
-    (runs-short _ _ _ _ _ _ _ u.so_far makes_map c.read_bytes.new.self u.unfailed (λ none. absurd (false≢true (sym none ∙ sym u.noted ∙ c.in_err-note-in-Ok.ensures.made)))))
+    (subst (EndsEarly makes_map (marks_ahead c.args.ahead) c.args.d.0 old new) (sym c.in_err-note-in-Ok.ensures.err.0)
+    (runs-short _ _ _ _ _ _ _ u.so_far makes_map c.read_bytes.new.self u.unfailed (inr (sym u.noted ∙ c.in_err-note-in-Ok.ensures.made, c.in_err-note-in-Ok.ensures.err.1))))
 
 pub write-requires-clause-range : goal.write-requires-clause-range
 write-requires-clause-range g c =

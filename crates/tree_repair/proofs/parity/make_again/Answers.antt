@@ -4,12 +4,13 @@ use Rattle.std.proofs.lemmas.Bool.{false≢true}
 use Rattle.tree_shape.specs.Digests.{digest}
 use Rattle.verity_format.proofs.lemmas.DeviceLemmas.{only_read-none}
 use Rattle.tree_repair.specs.Jobs.{job}
+use Rattle.tree_repair.specs.Runs.{IsRefusal}
 use Rattle.tree_repair.specs.Tries.{trial}
 use Rattle.tree_repair.proofs.TryLemmas.{made-or}
 use Rattle.tree_repair.proofs.RunLemmas.{world-none}
 use Rattle.tree_repair.specs.ParityBounds.{round_bill}
 use Rattle.tree_repair.proofs.ParityBillLemmas.{asked-none}
-use Rattle.tree_repair.proofs.ParityLemmas.{if_ok-from}
+use Rattle.tree_repair.proofs.ParityLemmas.{err-from, if_ok-from}
 use Rattle.tree_repair.proofs.parity.make_again.Goals as goal
 
 pub returns-in-None-clause-read : goal.returns-in-None-clause-read
@@ -47,3 +48,6 @@ returns-then-not-back-clause-within g c = (c.restore.ensures.within, λ yes. abs
 
 pub returns-clause-within : goal.returns-clause-within
 returns-clause-within g c = (c.restore.ensures.within, λ yes. c.in-Some.ensures.size)
+
+pub returns-in_err-back-clause-err : goal.returns-in_err-back-clause-err
+returns-in_err-back-clause-err g c = err-from c.from_residual.result IsRefusal c.in_err-back.field-0.0 c.from_residual.ensures.1 c.in_err-back.ensures.err

@@ -1,14 +1,16 @@
 use Rattle.std.proofs.Common.{IsTrue, subst, sym, map}
-use Rattle.std.proofs.lemmas.Bool.{false≢true}
 use Rattle.fec_area.specs.Restoring.{IsMadeAgain}
 use Rattle.fec_area.specs.Layouts.{IsLaidOn}
+use Rattle.std.proofs.lemmas.Bool.{false≢true}
+use Rattle.tree_repair.specs.Parity.{IsNotBack}
 use Rattle.tree_repair.specs.Worlds.{RepairWorld, repair_world}
-use Rattle.std.specs.Prelude.{is_ok}
+use Rattle.std.specs.Prelude.{IfOk, is_ok}
 use Rattle.tree_repair.specs.ParityBounds.{IsAskedWithin, round_bill}
 use Rattle.tree_repair.proofs.ParityBillLemmas.{asked-round}
-use Rattle.tree_repair.proofs.LosingLemmas.{made-alike}
+use Rattle.tree_repair.proofs.LosingLemmas.{cause-alike, made-alike}
+use Rattle.tree_repair.proofs.ParityLemmas.{lacks-lost, refusal-from, unback}
 use Rattle.tree_repair.proofs.parity.restore.Goals as goal
-use Rattle.tree_repair.proofs.parity.restore.Goals.{in-Ok, in-Err-NoMemory, in-Err-TooManyLost, in-Err-TooSmall, in-Err-Device}
+use Rattle.tree_repair.proofs.parity.restore.Goals.{in-Ok, in-Err}
 
 pub restore_block-requires-clause-laid : goal.restore_block-requires-clause-laid
 restore_block-requires-clause-laid g c = subst (λ (w : RepairWorld). IsLaidOn c.args.losses.now.layout w.data_dev w.hash_dev) (sym c.image.view_is) c.requires.laid
@@ -34,8 +36,28 @@ returns-clause-bytes g c =
       | in-Ok w ↦ rw w.result-is (λ yes.
           subst (λ (x : RepairWorld). IsTrue x.data_dev.steady → IsTrue x.hash_dev.steady → IsTrue p.steady → IsMadeAgain l.layout x.data_dev.image x.hash_dev.image p.image l.lost.items c.args.index bytes) c.image.view_is
           (λ one two three. made-alike l.layout c.args.index c.beside.result.now l.lost.items bytes _ _ _ c.beside.ensures (w.in-Ok.ensures.bytes one two three)))
-      | in-Err-NoMemory w ↦ rw w.result-is tt
-      | in-Err-TooManyLost w ↦ rw w.result-is (λ yes. absurd (false≢true yes))
-      | in-Err-TooSmall w ↦ rw w.result-is (λ yes. absurd (false≢true yes))
-      | in-Err-Device w ↦ rw w.result-is (λ yes. absurd (false≢true yes))
+      | in-Err w ↦ rw w.result-is (unback l c.args.image.now p c.args.index bytes w.in-Err.fault w.unrestored.result w.unrestored.ensures.ok)
+    ]
+
+pub returns-clause-none : goal.returns-clause-none
+returns-clause-none g c =
+    let l = c.args.losses.now in
+    let i = c.image.inside in
+    let a = repair_world (g.D.BlockDev.state i.data) (g.H.BlockDev.state i.hash) (map g.C.BlockDev.state i.data_copies.items) (map g.C.BlockDev.state i.hash_copies.items) in
+    let b = repair_world (g.D.BlockDev.state c.restore_block.new.data_dev) (g.H.BlockDev.state c.restore_block.new.hash_dev) a.data_copies a.hash_copies in
+    let p = g.P.BlockDev.state c.args.parity.now in
+    let p' = g.P.BlockDev.state c.restore_block.new.parity_dev in
+    elim c.match-restore_block.branch [
+      | in-Ok w ↦ rw w.result-is (λ no. absurd (false≢true (sym no)))
+      | in-Err w ↦ rw w.result-is
+          (subst (λ (x : RepairWorld). IfOk w.unrestored.result (IsNotBack l c.args.index x b p p')) c.image.view_is
+          (lacks-lost l c.args.index a b p p' w.in-Err.fault w.unrestored.result w.unrestored.ensures.ok w.in-Err.ensures.sure
+          (cause-alike l.layout c.args.index c.beside.result.now l.lost.items _ _ _ _ _ _ w.in-Err.fault c.beside.ensures w.in-Err.ensures.err)))
+    ]
+
+pub returns-clause-err : goal.returns-clause-err
+returns-clause-err g c =
+    elim c.match-restore_block.branch [
+      | in-Ok w ↦ rw w.result-is tt
+      | in-Err w ↦ rw w.result-is (refusal-from c.args.losses.now.layout c.beside.result.now c.args.index _ _ _ _ _ _ w.in-Err.fault w.unrestored.result w.unrestored.ensures.err w.in-Err.ensures.err)
     ]

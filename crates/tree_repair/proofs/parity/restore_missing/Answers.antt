@@ -4,7 +4,7 @@ use Rattle.verity_format.proofs.lemmas.DeviceLemmas.{only_read-none}
 use Rattle.tree_repair.specs.Jobs.{job}
 use Rattle.tree_repair.proofs.TryLemmas.{tried-placed}
 use Rattle.tree_repair.proofs.ParityLemmas.{size-block}
-use Rattle.tree_repair.proofs.RunLemmas.{can-read, ended-from, ends-read, has-behind, has-read, refused-within, world-none}
+use Rattle.tree_repair.proofs.RunLemmas.{can-read, ended-from, ends-read, ends-refused, has-behind, has-read, refused-within, world-none}
 use Rattle.tree_repair.specs.ParityBounds.{along_bill}
 use Rattle.tree_repair.specs.Runs.{size_at}
 use Rattle.tree_repair.proofs.ParityBillLemmas.{asked-along, asked-none, asked-round_alone}
@@ -31,7 +31,7 @@ pub returns-in_err-back-clause-parity : goal.returns-in_err-back-clause-parity
 returns-in_err-back-clause-parity g c = c.make_again.ensures.parity
 
 pub returns-in_err-back-clause-run : goal.returns-in_err-back-clause-run
-returns-in_err-back-clause-run g c = ended-from c.from_residual-in_err-back.result c.from_residual-in_err-back.ensures.1 (ends-read c.make_again.ensures.read c.in_err-back.ensures.err)
+returns-in_err-back-clause-run g c = ended-from c.from_residual-in_err-back.result c.from_residual-in_err-back.ensures.1 (ends-refused _ c.in_err-back.ensures.err c.make_again.ensures.read)
 
 pub returns-then-not-back-clause-parity : goal.returns-then-not-back-clause-parity
 returns-then-not-back-clause-parity g c = c.make_again.ensures.parity
@@ -91,7 +91,7 @@ pub returns-in_err-read-clause-came : goal.returns-in_err-read-clause-came
 returns-in_err-read-clause-came g c = tells-from c.args.missing.now.place.height c.from_residual-in_err-read.result c.from_residual-in_err-read.ensures.1 (ends-read (world-none c.args.image.now) (refused-within c.block_size-size.result (omega (arith, c.block_size-size.ensures, (size-block c.args.missing.now.repair.now.shape c.args.missing.now.place.height c.requires.can.valid).most)) c.in_err-read.ensures.err.1))
 
 pub returns-in_err-back-clause-came : goal.returns-in_err-back-clause-came
-returns-in_err-back-clause-came g c = tells-from c.args.missing.now.place.height c.from_residual-in_err-back.result c.from_residual-in_err-back.ensures.1 (ends-read c.make_again.ensures.read c.in_err-back.ensures.err)
+returns-in_err-back-clause-came g c = tells-from c.args.missing.now.place.height c.from_residual-in_err-back.result c.from_residual-in_err-back.ensures.1 (ends-refused _ c.in_err-back.ensures.err c.make_again.ensures.read)
 
 pub returns-then-not-back-clause-came : goal.returns-then-not-back-clause-came
 returns-then-not-back-clause-came g c = tells-none c.args.missing.now.place.height (has-read c.make_again.ensures.read)
