@@ -1,10 +1,10 @@
 #!/usr/bin/env bash
-# partition_images.sh: makes the files of the rows partition_stacks, partition_roots and hash_offsets anew.
+# partition_images.sh: makes the files of the rows partition_stacks, partition_roots, partition_copies and hash_offsets anew.
 #
-# Small disks with a GUID partition table, as sgdisk and sfdisk make them, one with a verity image in two partitions, as
+# Small disks with a GUID partition table, as sgdisk, sfdisk and fdisk make them, one with a verity image in two partitions, as
 # systemd-repart lays it out: the UUID of the data partition is the first half of the root digest, that of the verity
-# partition the second one. And verity images in one file, as veritysetup makes them. Needs sgdisk, sfdisk, veritysetup and
-# xxd. A file NAME.hex has the lines of `xxd NAME` that aren't zeros; `xxd -r` gives NAME back, but for zeros at its end.
+# partition the second one. And verity images in one file, as veritysetup makes them. Needs sgdisk, sfdisk, fdisk, veritysetup
+# and xxd. A file NAME.hex has the lines of `xxd NAME` that aren't zeros; `xxd -r` gives NAME back, but for zeros at its end.
 set -eu
 top=$(dirname "$(dirname "$(dirname "$(readlink -f "$0")")")")
 room=$(mktemp -d)
@@ -60,6 +60,27 @@ start=108, size=4, type=0FC63DAF-8483-4772-8E79-3D69D8477DE4, uuid=00000000-0000
 start=112, size=4, type=0FC63DAF-8483-4772-8E79-3D69D8477DE4, uuid=00000000-0000-0000-0000-000000000008, name="x;y"
 TABLE
 keep partition_stacks labels.img
+
+# A disk whose copies differ: the backup is that of a disk with another label. One with a hybrid master boot record. The rows of
+# partition_copies cut the first one short, and take its master boot record away.
+disk() {
+    truncate -s $((128 * 512)) "$1"
+    sgdisk -a 1 -o -U "$identifier" -n 1:40:49 -u 1:00000000-0000-0000-0000-000000000001 -c 1:"$2" \
+        -n 2:50:90 -u 2:00000000-0000-0000-0000-000000000002 -c 2:rest "$1" > /dev/null
+}
+disk one.img home
+disk other.img other
+dd if=other.img of=one.img bs=512 skip=95 seek=95 conv=notrunc status=none
+keep partition_copies one.img
+disk hybrid.img home
+sgdisk -h 1 hybrid.img > /dev/null
+keep partition_copies hybrid.img
+
+# Sectors of 4,096 bytes, and a label that looks like an option.
+truncate -s $((64 * 4096)) large.img
+printf '%s\n' g x i "$identifier" r n 1 6 10 n 2 20 20 x n 1 home u 1 00000000-0000-0000-0000-000000000001 \
+    n 2 -force u 2 00000000-0000-0000-0000-000000000002 r w | fdisk -b 4096 large.img > /dev/null
+keep partition_copies large.img
 
 # The tree after the data in one file: as many data blocks as lie before, and one less.
 for blocks in 6 5; do

@@ -174,13 +174,13 @@ def difference_facts(kinds, most):
 def run_partitions(options, words, files, _given, _features):
     path, size, root = read_partitions(options, words)
     image = bytes(files.image(path, False))
-    partitions, copies = table_of(image, size)
+    table = table_of(image, size)
     if root is not None:
-        lines = root_lines(image, partitions, size, root)
+        lines = root_lines(image, table.partitions, table.size, root)
     elif b"stack" in options:
-        lines = stack_lines(partitions, size)
+        lines = stack_lines(image, table.partitions, table.size)
     elif b"json" in options:
-        lines = [Json(table_facts(partitions, copies))]
+        lines = [Json(table_facts(table.partitions, table.copies))]
     else:
-        lines = lines_of(partitions, copies)
+        lines = lines_of(table.partitions, table.copies)
     return lines, DONE

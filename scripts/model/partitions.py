@@ -8,7 +8,7 @@ from uuid import UUID
 from files import Stop
 from stack import SECTOR
 from tables import is_mapped_name
-from verity import read_superblock, table_line
+from verity import check_sizes, read_superblock, table_line
 
 MOST_OF_ENTRIES = 1 << 20
 # Types of the Discoverable Partitions Specification, by systemd's names.
@@ -26,6 +26,24 @@ KINDS = {
 
 class Wrong(Exception):
     """What is wrong of one copy of a table."""
+
+
+@dataclass
+class Copy:
+    """A valid copy: its partitions, what the other copy must say too, AlternateLBA, and whether its reserved bytes are zeros."""
+
+    partitions: list
+    common: tuple
+    alternate: int
+    is_clear: bool
+
+
+@dataclass
+class Table:
+    partitions: list
+    copies: str
+    size: int
+    warnings: list
 
 
 @dataclass
@@ -53,13 +71,13 @@ def label_of(octets):
 def copy_of(image, size, sector, sectors):
     """The partitions of the copy whose header is in that sector."""
     header = image[sector * size:(sector + 1) * size]
-    (signature, revision, length, checksum, _, own, _, first, last, _, at, count, entry, entries_sum) = struct.unpack(
+    (signature, revision, length, checksum, zero, own, alternate, first, last, disk, at, count, entry, entries_sum) = struct.unpack(
         "<8sIIIIQQQQ16sQIII", header[:92])
     checks = [
         ("Signature", signature == b"EFI PART"), ("Revision", revision == 0x10000),
         ("HeaderSize", 92 <= length <= size),
         ("HeaderChecksum", zlib.crc32(header[:16] + bytes(4) + header[20:length]) == checksum),
-        ("HeaderSector", own == sector), ("UsableSectors", first <= last < sectors),
+        ("HeaderSector", own == sector), ("UsableSectors", first <= last < max(sectors, alternate)),
         ("EntrySize", entry >= 128 and entry & (entry - 1) == 0),
         ("EntryCount", 0 < count and count * entry <= MOST_OF_ENTRIES),
     ]
@@ -72,7 +90,8 @@ def copy_of(image, size, sector, sectors):
     array = image[at * size:at * size + count * entry]
     if zlib.crc32(array) != entries_sum:
         raise Wrong("EntriesChecksum")
-    return checked([array[place:place + 128] for place in range(0, len(array), entry)], first, last)
+    partitions = checked([array[place:place + 128] for place in range(0, len(array), entry)], first, last)
+    return Copy(partitions, (first, last, disk, count, entry, array), alternate, zero == 0 and not any(header[92:]))
 
 
 def checked(entries, first, last):
@@ -92,23 +111,69 @@ def checked(entries, first, last):
     return found
 
 
-def table_of(image, size):
-    """The partitions, and which copies are good as it is said."""
+def master_record(image):
+    """What is unusual of the master boot record: the protective one has one record of type 0xEE, from sector 1 on."""
+    records = [image[at:at + 16] for at in range(446, 510, 16)]
+    used = [it for it in records if it[4] != 0]
+    if image[510:512] != b"\x55\xaa" or not used:
+        return ["no protective MBR"]
+    protective = [it for it in records if it[4] == 0xEE and it[8:12] == b"\1\0\0\0"]
+    is_alone = len(protective) == 1 and sum(it == bytes(16) for it in records) == 3
+    return [] if is_alone else ["the MBR isn't protective"]
+
+
+def warnings_of(image, copies, places, sectors):
+    """What is unusual of a table, by the master boot record and the headers of the copies that are valid."""
+    found = master_record(image)
+    primary, backup = copies
+    if isinstance(primary, Copy) and isinstance(backup, Copy) and primary.common != backup.common:
+        found.append("copies differ")
+    for name, copy, other in (("primary", primary, places[1]), ("backup", backup, places[0])):
+        if not isinstance(copy, Copy):
+            continue
+        if copy.alternate >= sectors:
+            found.append(name + " copy: the disk is cut short")
+        elif copy.alternate != other:
+            found.append(name + " copy: another AlternateLBA")
+        if not copy.is_clear:
+            found.append(name + " copy: reserved bytes aren't zeros")
+    return found
+
+
+def table_with(image, size):
+    """The table with sectors of that size."""
     sectors = len(image) // SECTOR // (size // SECTOR)
     if sectors < 2:
         raise Stop(b"refused 12 NoTable TooSmall")
-    found = []
-    for sector in (1, sectors - 1):
+    found, places = [], (1, sectors - 1)
+    for sector in places:
         try:
             found.append(copy_of(image, size, sector, sectors))
         except Wrong as wrong:
             found.append(str(wrong))
     primary, backup = found
-    if isinstance(primary, list):
-        return primary, "both" if isinstance(backup, list) else "primary, backup " + backup
-    if isinstance(backup, list):
-        return backup, "backup, primary " + primary
+    warnings = warnings_of(image, found, places, sectors)
+    if isinstance(primary, Copy) and isinstance(backup, Copy):
+        copies = "both" if primary.common == backup.common else "differ"
+        return Table(primary.partitions, copies, size, warnings)
+    if isinstance(primary, Copy):
+        return Table(primary.partitions, "primary, backup " + backup, size, warnings)
+    if isinstance(backup, Copy):
+        return Table(backup.partitions, "backup, primary " + primary, size, warnings)
     raise Stop(b"refused 12 NoTable primary %s backup %s" % (primary.encode(), backup.encode()))
+
+
+def table_of(image, size):
+    """The table with sectors of that size; if that is 512 and there is none, the one with sectors of 4,096 bytes."""
+    try:
+        return table_with(image, size)
+    except Stop:
+        if size == 4096:
+            raise
+    try:
+        return table_with(image, 4096)
+    except Stop:
+        return table_with(image, size)
 
 
 def lines_of(partitions, copies):
@@ -132,6 +197,8 @@ def table_facts(partitions, copies):
 
 def name_of(partitions, one):
     label = one.label.encode()
+    if label.startswith(b"-"):
+        label = b""
     others = [it for it in partitions if it is not one]
     is_taken = any(label in (it.label.encode(), b"p%d" % it.number) for it in others)
     return label if is_mapped_name(label) and not is_taken else b"p%d" % one.number
@@ -142,7 +209,15 @@ def linear(name, one, size):
     return b"%s,,,ro,0 %d linear DISK %d;" % (name, one.count * unit, one.first * unit)
 
 
-def stack_lines(partitions, size):
+def check_end(image, one, size):
+    """A partition that ends past the end of the disk, as on one that was cut short."""
+    if (one.last + 1) * (size // SECTOR) > len(image) // SECTOR:
+        raise Stop(b"refused 17 OutsideDevice")
+
+
+def stack_lines(image, partitions, size):
+    for it in partitions:
+        check_end(image, it, size)
     return [linear(name_of(partitions, it), it, size) for it in partitions]
 
 
@@ -158,6 +233,10 @@ def root_lines(image, partitions, size, root):
     """The stack of the two partitions whose own UUIDs are the halves of the root digest."""
     data = the_one(partitions, root[:16], ((13, b"NoDataPartition"), (14, b"TwoDataPartitions")))
     tree = the_one(partitions, root[16:], ((15, b"NoVerityPartition"), (16, b"TwoVerityPartitions")))
-    superblock = read_superblock(image[tree.first * size:(tree.last + 1) * size])
+    check_end(image, data, size)
+    check_end(image, tree, size)
+    octets = [image[it.first * size:(it.last + 1) * size] for it in (data, tree)]
+    superblock = read_superblock(octets[1])
+    check_sizes(superblock.tree(), *octets)
     line = table_line(superblock, root, b"/dev/mapper/data", b"/dev/mapper/hash")
     return [linear(b"data", data, size), linear(b"hash", tree, size), b"root,,,ro,%s;" % line]

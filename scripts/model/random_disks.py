@@ -8,7 +8,7 @@ from partitions import KINDS
 from random_parts import Run
 from random_trees import Planted, Trees
 
-LABELS = ["", "a", "system", "p1", "p2", "p9", "a b", "x/y", "\u00e9", "\U0001f600", "tab\there", "n" * 36, "\x7f"]
+LABELS = ["", "a", "system", "p1", "p2", "p9", "a b", "x/y", "\u00e9", "\U0001f600", "tab\there", "n" * 36, "\x7f", "-", "-x"]
 OTHER = "01234567-89ab-cdef-0123-456789abcdef"
 
 
@@ -66,6 +66,8 @@ class Disks(Trees):
         self.spoil_entries(array, entry, sectors)
         taken = -(-len(array) // size)
         for own, other, at in ((1, sectors - 1, 2), (sectors - 1, 1, sectors - 1 - taken)):
+            if own != 1:
+                self.spoil_copy(array, entry)
             image[at * size:at * size + len(array)] = array
             header = self.header(own, other, at, (count, entry, zlib.crc32(array)), sectors, taken)
             image[own * size:own * size + 92] = header
@@ -73,6 +75,10 @@ class Disks(Trees):
 
     def header(self, own, other, at, entries, sectors, taken):
         fields = [b"EFI PART", 0x10000, 92, 0, 0, own, other, 2 + taken, sectors - 2 - taken, bytes(16), at, *entries]
+        if self.chance(0.06):
+            place, values = self.pick([(4, [1]), (6, [0, 2, own, sectors - 2, sectors, 2**64 - 1]), (9, [b"another disk's !"]),
+                                       (7, [3 + taken]), (8, [sectors - 3 - taken])])
+            fields[place] = self.pick(values)
         if self.chance(0.06):
             place, values = self.pick([(0, [b"EFI PARt"]), (1, [0, 0x10001]), (2, [91, 93, 512, 513]), (5, [0, 2]),
                                        (7, [0, sectors]), (8, [sectors, 0, 2**64 - 1]), (10, [0, 1, own, sectors, 2**64 - 1]),
@@ -91,15 +97,22 @@ class Disks(Trees):
         last = first + self.pick([-1, 0, 3, 2**63])
         array[at:at + 48] = UUID(OTHER).bytes_le * 2 + struct.pack("<QQ", first, max(0, last))
 
+    def spoil_copy(self, array, entry):
+        """The entries of the backup, which may differ from those of the primary copy under a right checksum."""
+        if self.chance(0.08):
+            array[self.random.randrange(len(array) // entry) * entry + self.pick([48, 56, 57, 127])] ^= 1
+
     def spoil_disk(self, image, size, sectors):
         for _ in range(self.pick([0, 0, 0, 0, 1, 2])):
             sector = self.pick([1, 2, sectors - 1, sectors - 2])
             image[sector * size + self.random.randrange(92)] ^= 1 << self.random.randrange(8)
         if self.chance(0.05):
             del image[self.pick([0, 512, 1023, 1024, size * 2, len(image) - 1, len(image) - size]):]
+        elif self.chance(0.1):
+            del image[self.random.randrange(len(image)):]
 
     def disk_run(self, size, root):
-        words = [b"--sector-size", b"%d" % size] if size != 512 or self.chance(0.2) else []
+        words = [b"--sector-size", b"%d" % size] if self.chance(0.5 if size != 512 else 0.2) else []
         if self.chance(0.05):
             words = [b"--sector-size=%d" % self.pick([512, 4096, 1024, 0])]
         form = self.random.randrange(4)

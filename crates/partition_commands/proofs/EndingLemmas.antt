@@ -5,7 +5,7 @@ use Rattle.block_device.specs.Device.{Device}
 use Rattle.partition_table.specs.declared.sector_size.SectorSize.{SectorSize}
 use Rattle.partition_commands.specs.declared.fault.PartitionsFault.{PartitionsFault}
 use Rattle.partition_commands.specs.declared.fault.PartitionsFault.TheVariants.{NoMemory, Open, Refused, Write}
-use Rattle.partition_commands.specs.Commands.{IsRootTextEnd, IsSayFault, IsLabelEnd}
+use Rattle.partition_commands.specs.Commands.{IsEntriesEnd, IsRootTextEnd, IsSayFault}
 
 -- what holds of a fault holds of the result that hands it on
 pub err-from : {T E : Type 0} (r : Result T E) (P : E → Type 0) (fault : E) → IsErrAnd r (λ e. e ≡ fault) → P fault → IfErr r P
@@ -19,8 +19,8 @@ say-root size root failed device Write ends = ends
 say-root size root failed device (Open file) ends = absurd ends
 say-root size root failed device (Refused refusal) ends = absurd ends
 
-pub say-table : (old new : Device) (size : SectorSize) (failed : Bool) (fault : PartitionsFault) → IsSayFault failed fault → IsLabelEnd old new size failed fault
-say-table old new size failed NoMemory ends = tt
-say-table old new size failed Write ends = ends
-say-table old new size failed (Open file) ends = absurd ends
-say-table old new size failed (Refused refusal) ends = absurd ends
+pub say-entries : (old new : Device) (size : SectorSize) (failed : Bool) (fault : PartitionsFault) → IsSayFault failed fault → IsEntriesEnd old new size failed fault
+say-entries old new size failed NoMemory ends = tt
+say-entries old new size failed Write ends = ends
+say-entries old new size failed (Open file) ends = absurd ends
+say-entries old new size failed (Refused refusal) ends = absurd ends

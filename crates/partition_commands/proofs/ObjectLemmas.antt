@@ -6,7 +6,7 @@ use Rattle.serde_json.specs.Written.{has_float, items_have_float}
 use Rattle.partition_table.specs.declared.partition.Partition.{Partition}
 use Rattle.partition_table.specs.declared.read_fault.ReadFault.{ReadFault}
 use Rattle.partition_table.specs.declared.table.Source.{Source}
-use Rattle.partition_table.specs.declared.table.Source.TheVariants.{Both, Primary, Backup}
+use Rattle.partition_table.specs.declared.table.Source.TheVariants.{Both, Differ, Primary, Backup}
 use Rattle.partition_table.specs.FaultNames.{read_partition}
 use Rattle.partition_commands.specs.Objects.{fault_json, number_json, other_copy, partitions_json, table_json}
 
@@ -23,6 +23,7 @@ plain_fault fault = or_from _ _ (plain_number (read_partition fault)) refl
 
 plain_copy : (source : Source) → has_float (other_copy source) ≡ false
 plain_copy Both = refl
+plain_copy Differ = refl
 plain_copy (Primary fault) = plain_fault fault
 plain_copy (Backup fault) = plain_fault fault
 

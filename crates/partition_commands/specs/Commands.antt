@@ -10,11 +10,11 @@ use Rattle.image_files.specs.declared.images.OpenImage.{OpenImage}
 use Rattle.image_files.specs.declared.opening.UnopenedFile.{UnopenedFile}
 use Rattle.image_files.specs.Opened.{Opens, Refuses}
 use Rattle.image_files.specs.Opener.{Calls, Opener, calls}
-use Rattle.partition_table.specs.declared.partition.Partition.{Partition}
 use Rattle.partition_table.specs.declared.sector_size.SectorSize.{SectorSize}
 use Rattle.partition_table.specs.declared.table.NoTable.{NoTable}
-use Rattle.partition_table.specs.declared.table.Source.{Source}
-use Rattle.partition_table.specs.Tables.{IsNoTable, IsTable}
+use Rattle.partition_table.specs.declared.table.PartitionTable.{PartitionTable}
+use Rattle.partition_table.specs.Tables.{IsNoSizedTable, IsSizedTable}
+use Rattle.verity_format.specs.declared.verifying.VerifyFault.TheVariants.{TooSmall}
 use Rattle.verity_format.specs.Superblock.{SuperRecord}
 use Rattle.verity_format.specs.Verifying.{IsReadCause, IsReadFrom}
 use Rattle.partition_commands.specs.declared.fault.PartitionsFault.{PartitionsFault}
@@ -22,31 +22,57 @@ use Rattle.partition_commands.specs.declared.fault.PartitionsFault.TheVariants.{
 use Rattle.partition_commands.specs.declared.refusal.PartitionRefusal.{PartitionRefusal}
 use Rattle.partition_commands.specs.declared.refusal.PartitionRefusal.TheVariants.{OutsideDevice, Superblock, Table}
 use Rattle.partition_commands.specs.declared.root.ImagePartitions.{ImagePartitions}
-use Rattle.partition_commands.specs.Parts.{part_of}
-use Rattle.partition_commands.specs.RootStacks.{root_stack_text}
+use Rattle.partition_commands.specs.Parts.{are_within, is_within, part_of}
+use Rattle.partition_commands.specs.RootStacks.{is_unfit, root_stack_text}
 use Rattle.partition_commands.specs.Roots.{image_partitions}
-use Rattle.partition_commands.specs.Stacks.{stack_text}
+use Rattle.partition_commands.specs.Stacks.{entries_text}
 
 -- a text of the table that was found on the device was written
-pub record PrintsPartitions (old new : Device) (size : SectorSize) (text : List Partition → Source → List ℕ) (written now_written : Option (List ℕ)) : Type 0 where
-  pub partitions : List Partition
-  pub source : Source
-  pub found : IsTable old new size partitions source
-  pub printed : Appends written now_written (text partitions source)
+pub record PrintsPartitions (old new : Device) (size : SectorSize) (text : PartitionTable → List ℕ) (written now_written : Option (List ℕ)) : Type 0 where
+  pub table : PartitionTable
+  pub found : IsSizedTable old new size table
+  pub printed : Appends written now_written (text table)
+
+-- the stack text of a table whose partitions all end on the device
+pub record PrintsEntries (old new : Device) (size : SectorSize) (written now_written : Option (List ℕ)) : Type 0 where
+  pub table : PartitionTable
+  pub found : IsSizedTable old new size table
+  pub within : are_within new table.size table.partitions.items ≡ true
+  pub printed : Appends written now_written (entries_text table)
 
 -- the same of the image under the path, which is only read
-pub record PrintsOfImage {S D : Type 0} (w : Calls S D) (path : List ℕ) (size : SectorSize) (text : List Partition → Source → List ℕ) (old new : Option (List ℕ)) : Type 0 where
+pub record PrintsOfImage {S D : Type 0} (w : Calls S D) (path : List ℕ) (size : SectorSize) (text : PartitionTable → List ℕ) (old new : Option (List ℕ)) : Type 0 where
   pub image : OpenImage D
   pub device' : D
   pub opened : Opens w path false image
   pub prints : PrintsPartitions (w.state image.device) (w.state device') size text old new
 
+pub record PrintsEntriesOfImage {S D : Type 0} (w : Calls S D) (path : List ℕ) (size : SectorSize) (old new : Option (List ℕ)) : Type 0 where
+  pub image : OpenImage D
+  pub device' : D
+  pub opened : Opens w path false image
+  pub prints : PrintsEntries (w.state image.device) (w.state device') size old new
+
 -- there is no table, memory ran out, or a line can't be written
 abbrev pub IsLabelEnd : Device → Device → SectorSize → Bool → PartitionsFault → Type 0
 IsLabelEnd old new size failed NoMemory = Unit {0}
 IsLabelEnd old new size failed Write = failed ≡ true
-IsLabelEnd old new size failed (Refused (Table fault)) = IsNoTable old new size fault
+IsLabelEnd old new size failed (Refused (Table fault)) = IsNoSizedTable old new size fault
 IsLabelEnd old new size failed fault = ⊥
+
+-- a table was found, and a partition ends past the end of the device
+pub record EndsOutside (old new : Device) (size : SectorSize) : Type 0 where
+  pub table : PartitionTable
+  pub found : IsSizedTable old new size table
+  pub outside : are_within new table.size table.partitions.items ≡ false
+
+-- the same of a stack text: there is no table, a partition ends past the end, memory ran out, or an entry can't be written
+abbrev pub IsEntriesEnd : Device → Device → SectorSize → Bool → PartitionsFault → Type 0
+IsEntriesEnd old new size failed NoMemory = Unit {0}
+IsEntriesEnd old new size failed Write = failed ≡ true
+IsEntriesEnd old new size failed (Refused (Table fault)) = IsNoSizedTable old new size fault
+IsEntriesEnd old new size failed (Refused OutsideDevice) = EndsOutside old new size
+IsEntriesEnd old new size failed fault = ⊥
 
 -- memory ran out, or a text can't be written
 abbrev pub IsSayFault : Bool → PartitionsFault → Type 0
@@ -69,18 +95,24 @@ pub record EndsOfImage {S D : Type 0} (w : Calls S D) (path : List ℕ) (ends : 
 abbrev pub IsOpenedEnd : {S D : Type 0} → Calls S D → List ℕ → (Device → Device → PartitionsFault → Type 0) → PartitionsFault → Type 0
 IsOpenedEnd w path ends fault = IsImageUnopened (Refuses w path false) fault ⊎ EndsOfImage w path ends fault
 
+-- the superblock was read in the verity partition; both partitions end on the device, and have the sectors of its data
+-- blocks and of its tree
+pub record IsFitting (device : Device) (size : SectorSize) (both : ImagePartitions) (super : SuperRecord) : Type 0 where
+  pub sector : List ℕ
+  pub within : is_within device (part_of size both.data) ≡ true
+  pub read : IsReadFrom (windowed device (part_of size both.verity)) sector super
+  pub fits : is_unfit size both super ≡ false
+
 -- the two partitions of the root were found on the device, and the superblock in the verity partition
 pub record PrintsRoot (device : Device) (size : SectorSize) (root : List ℕ) (old new : Option (List ℕ)) : Type 0 where
-  pub partitions : List Partition
-  pub source : Source
+  pub table : PartitionTable
   pub read_device : Device
-  pub found : IsTable device read_device size partitions source
+  pub found : IsSizedTable device read_device size table
   pub both : ImagePartitions
-  pub both_is : image_partitions partitions root ≡ Ok both
+  pub both_is : image_partitions table.partitions.items root ≡ Ok both
   pub super : SuperRecord
-  pub sector : List ℕ
-  pub read : IsReadFrom (windowed read_device (part_of size both.verity)) sector super
-  pub printed : Appends old new (root_stack_text size both super root)
+  pub fitting : IsFitting read_device table.size both super
+  pub printed : Appends old new (root_stack_text table.size both super root)
 
 pub record PrintsRootOfImage {S D : Type 0} (w : Calls S D) (path : List ℕ) (size : SectorSize) (root : List ℕ) (old new : Option (List ℕ)) : Type 0 where
   pub image : OpenImage D
@@ -89,11 +121,10 @@ pub record PrintsRootOfImage {S D : Type 0} (w : Calls S D) (path : List ℕ) (s
 
 -- a table was found, but not the two partitions
 pub record LacksPartitions (device : Device) (size : SectorSize) (root : List ℕ) (refusal : PartitionRefusal) : Type 0 where
-  pub partitions : List Partition
-  pub source : Source
+  pub table : PartitionTable
   pub read_device : Device
-  pub found : IsTable device read_device size partitions source
-  pub refused : image_partitions partitions root ≡ Err refusal
+  pub found : IsSizedTable device read_device size table
+  pub refused : image_partitions table.partitions.items root ≡ Err refusal
 
 -- why there is no superblock in a part of a device
 abbrev pub IsPartSuperEnd : Device → Device → Part → PartitionRefusal → Type 0
@@ -101,21 +132,34 @@ IsPartSuperEnd old new part OutsideDevice = LiesInside old part → ⊥
 IsPartSuperEnd old new part (Superblock fault) = IsReadCause (windowed old part) (windowed new part) fault
 IsPartSuperEnd old new part refusal = ⊥
 
--- both were found, but no superblock
+-- the superblock was read, and a partition has fewer sectors than its data blocks or its tree
+pub record IsUnfitting (device : Device) (size : SectorSize) (both : ImagePartitions) : Type 0 where
+  pub super : SuperRecord
+  pub sector : List ℕ
+  pub read : IsReadFrom (windowed device (part_of size both.verity)) sector super
+  pub unfit : is_unfit size both super ≡ true
+
+-- why the two partitions don't hold an image: that of the data ends past the end of the device, there is no superblock in
+-- that of the tree, or one of both is too small
+abbrev pub IsPairEnd : Device → Device → SectorSize → ImagePartitions → PartitionRefusal → Type 0
+IsPairEnd old new size both refusal =
+    ((refusal ≡ OutsideDevice) × (is_within old (part_of size both.data) ≡ false))
+    ⊎ (IsPartSuperEnd old new (part_of size both.verity) refusal ⊎ ((refusal ≡ Superblock TooSmall) × IsUnfitting old size both))
+
+-- both were found, but don't hold an image
 pub record LacksSuperblock (device device' : Device) (size : SectorSize) (root : List ℕ) (refusal : PartitionRefusal) : Type 0 where
-  pub partitions : List Partition
-  pub source : Source
+  pub table : PartitionTable
   pub read_device : Device
-  pub found : IsTable device read_device size partitions source
+  pub found : IsSizedTable device read_device size table
   pub both : ImagePartitions
-  pub both_is : image_partitions partitions root ≡ Ok both
-  pub ends : IsPartSuperEnd read_device device' (part_of size both.verity) refusal
+  pub both_is : image_partitions table.partitions.items root ≡ Ok both
+  pub ends : IsPairEnd read_device device' table.size both refusal
 
 -- there is no table
 pub record LacksTable (device : Device) (size : SectorSize) (refusal : PartitionRefusal) : Type 0 where
   pub fault : NoTable
   pub read_device : Device
-  pub none : IsNoTable device read_device size fault
+  pub none : IsNoSizedTable device read_device size fault
   pub is : refusal ≡ Table fault
 
 -- one of these, memory ran out, or the text can't be written
@@ -137,23 +181,26 @@ IsRootOfImageEnd w path size root failed fault = IsImageUnopened (Refuses w path
 -- ---- as a call sees them: what a proof sees of an opener, a device or a writer, and these before and after
 
 -- a text of the table of a device, or of an image, and the stack text
-abbrev pub Prints : {D W : Type 0} → (D → Device) → D → D → (W → Option (List ℕ)) → CountedRecord W → CountedRecord W → SectorSize → (List Partition → Source → List ℕ) → Type 0
+abbrev pub Prints : {D W : Type 0} → (D → Device) → D → D → (W → Option (List ℕ)) → CountedRecord W → CountedRecord W → SectorSize → (PartitionTable → List ℕ) → Type 0
 Prints state device device' contents writer writer' size text =
     PrintsPartitions (state device) (state device') size text (contents writer.inner) (contents writer'.inner)
 
-abbrev pub PrintsStack : {D W : Type 0} → (D → Device) → D → D → (W → Option (List ℕ)) → CountedRecord W → CountedRecord W → SectorSize → Type 0
-PrintsStack state device device' contents writer writer' size =
-    PrintsPartitions (state device) (state device') size (λ partitions source. stack_text size partitions) (contents writer.inner) (contents writer'.inner)
+abbrev pub PrintsEntriesOf : {D W : Type 0} → (D → Device) → D → D → (W → Option (List ℕ)) → CountedRecord W → CountedRecord W → SectorSize → Type 0
+PrintsEntriesOf state device device' contents writer writer' size =
+    PrintsEntries (state device) (state device') size (contents writer.inner) (contents writer'.inner)
 
-abbrev pub PrintsImage : {S D W : Type 0} → Opener S D → (D → Device) → S → S → (W → Option (List ℕ)) → CountedRecord W → CountedRecord W → List ℕ → SectorSize → (List Partition → Source → List ℕ) → Type 0
+abbrev pub PrintsImage : {S D W : Type 0} → Opener S D → (D → Device) → S → S → (W → Option (List ℕ)) → CountedRecord W → CountedRecord W → List ℕ → SectorSize → (PartitionTable → List ℕ) → Type 0
 PrintsImage relations state images images' contents writer writer' path size text = PrintsOfImage (calls relations state images images') path size text (contents writer.inner) (contents writer'.inner)
 
 abbrev pub PrintsStackOf : {S D W : Type 0} → Opener S D → (D → Device) → S → S → (W → Option (List ℕ)) → CountedRecord W → CountedRecord W → List ℕ → SectorSize → Type 0
 PrintsStackOf relations state images images' contents writer writer' path size =
-    PrintsOfImage (calls relations state images images') path size (λ partitions source. stack_text size partitions) (contents writer.inner) (contents writer'.inner)
+    PrintsEntriesOfImage (calls relations state images images') path size (contents writer.inner) (contents writer'.inner)
 
 abbrev pub FailsToPrint : {S D W : Type 0} → Opener S D → (D → Device) → S → S → CountedRecord W → List ℕ → SectorSize → PartitionsFault → Type 0
 FailsToPrint relations state images images' writer' path size = IsOpenedEnd (calls relations state images images') path (λ old new. IsLabelEnd old new size writer'.failed)
+
+abbrev pub FailsToStack : {S D W : Type 0} → Opener S D → (D → Device) → S → S → CountedRecord W → List ℕ → SectorSize → PartitionsFault → Type 0
+FailsToStack relations state images images' writer' path size = IsOpenedEnd (calls relations state images images') path (λ old new. IsEntriesEnd old new size writer'.failed)
 
 -- the stack text of a root
 abbrev pub SaysRoot : {D W : Type 0} → (D → Device) → D → (W → Option (List ℕ)) → CountedRecord W → CountedRecord W → SectorSize → List ℕ → Type 0

@@ -9,25 +9,24 @@ use Rattle.image_files.specs.Opener.{Calls, Opener, calls}
 use Rattle.partition_table.specs.declared.sector_size.SectorSize.{SectorSize}
 use Rattle.partition_table.specs.declared.sector_size.SectorSize.TheVariants.{Bytes4096, Bytes512}
 use Rattle.partition_commands.specs.declared.fault.PartitionsFault.{PartitionsFault}
-use Rattle.partition_commands.specs.Commands.{IsOpenedEnd, IsRootOfImageEnd, IsLabelEnd, PrintsOfImage, PrintsRootOfImage}
-use Rattle.partition_commands.specs.Lines.{table_list}
-use Rattle.partition_commands.specs.Objects.{table_line}
-use Rattle.partition_commands.specs.Stacks.{stack_text}
+use Rattle.partition_commands.specs.Commands.{IsEntriesEnd, IsOpenedEnd, IsRootOfImageEnd, IsLabelEnd, PrintsEntriesOfImage, PrintsOfImage, PrintsRootOfImage}
+use Rattle.partition_commands.specs.Lines.{listed_text}
+use Rattle.partition_commands.specs.Objects.{object_text}
 
--- sectors of 4,096 bytes, or of 512
+-- the size of sectors with which a table is looked for first: 4,096 bytes, or 512
 abbrev pub size_of : ℕ → SectorSize
 size_of bytes = if bytes == 4096 then Bytes4096 else Bytes512
 
 abbrev pub PrintsForm : {S D : Type 0} → Calls S D → List ℕ → SectorSize → FormRecord → Option (List ℕ) → Option (List ℕ) → Type 0
-PrintsForm w path size lines old new = PrintsOfImage w path size table_list old new
-PrintsForm w path size object old new = PrintsOfImage w path size table_line old new
-PrintsForm w path size stack old new = PrintsOfImage w path size (λ partitions source. stack_text size partitions) old new
+PrintsForm w path size lines old new = PrintsOfImage w path size listed_text old new
+PrintsForm w path size object old new = PrintsOfImage w path size object_text old new
+PrintsForm w path size stack old new = PrintsEntriesOfImage w path size old new
 PrintsForm w path size (root found) old new = PrintsRootOfImage w path size found old new
 
 abbrev pub IsFormEnd : {S D : Type 0} → Calls S D → List ℕ → SectorSize → FormRecord → Bool → PartitionsFault → Type 0
 IsFormEnd w path size lines failed fault = IsOpenedEnd w path (λ old new. IsLabelEnd old new size failed) fault
 IsFormEnd w path size object failed fault = IsOpenedEnd w path (λ old new. IsLabelEnd old new size failed) fault
-IsFormEnd w path size stack failed fault = IsOpenedEnd w path (λ old new. IsLabelEnd old new size failed) fault
+IsFormEnd w path size stack failed fault = IsOpenedEnd w path (λ old new. IsEntriesEnd old new size failed) fault
 IsFormEnd w path size (root found) failed fault = IsRootOfImageEnd w path size found failed fault
 
 abbrev pub ListsPartitions : {S D : Type 0} → Calls S D → PartitionsRecord → Option (List ℕ) → Option (List ℕ) → Type 0

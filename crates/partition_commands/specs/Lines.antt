@@ -8,7 +8,7 @@ use Rattle.partition_table.specs.declared.partition.Partition.{Partition}
 use Rattle.partition_table.specs.declared.read_fault.ReadFault.{ReadFault}
 use Rattle.partition_table.specs.declared.table.PartitionTable.{PartitionTable}
 use Rattle.partition_table.specs.declared.table.Source.{Source}
-use Rattle.partition_table.specs.declared.table.Source.TheVariants.{Both, Primary, Backup}
+use Rattle.partition_table.specs.declared.table.Source.TheVariants.{Both, Differ, Primary, Backup}
 use Rattle.partition_table.specs.FaultNames.{read_name, read_partition}
 use Rattle.partition_table.specs.Partitions.{partition_sectors}
 use Rattle.partition_commands.specs.Kinds.{partition_type_name}
@@ -43,9 +43,10 @@ number_word None = codes ""
 unfoldable pub fault_line : List ℕ → ReadFault → List ℕ
 fault_line good fault = good ++ (read_name fault ++ (number_word (read_partition fault) ++ codes "\n"))
 
--- which copies of the table are good
+-- which copies of the table are good, or that both are and differ
 abbrev pub source_line : Source → List ℕ
 source_line Both = codes "copies both\n"
+source_line Differ = codes "copies differ\n"
 source_line (Primary fault) = fault_line (codes "copies primary, backup ") fault
 source_line (Backup fault) = fault_line (codes "copies backup, primary ") fault
 
@@ -57,6 +58,9 @@ partition_lines partitions = flat_map partition_line partitions
 abbrev pub table_list : List Partition → Source → List ℕ
 table_list partitions source = source_line source ++ partition_lines partitions
 
+abbrev pub listed_text : PartitionTable → List ℕ
+listed_text table = table_list table.partitions.items table.source
+
 -- ---- as a call sees them
 
 -- that text was written
@@ -65,4 +69,4 @@ SaysText contents writer writer' text = Appends (contents writer.inner) (content
 
 -- which copies of the table are good, and its partitions
 abbrev pub SaysTable : {W : Type 0} → (W → Option (List ℕ)) → CountedRecord W → CountedRecord W → PartitionTable → Type 0
-SaysTable contents writer writer' table = SaysText contents writer writer' (table_list table.partitions.items table.source)
+SaysTable contents writer writer' table = SaysText contents writer writer' (listed_text table)

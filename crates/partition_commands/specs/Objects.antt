@@ -6,8 +6,9 @@ use Rattle.serde_json.specs.View.{items_of}
 use Rattle.program_io.specs.JsonLines.{json_line}
 use Rattle.partition_table.specs.declared.partition.Partition.{Partition}
 use Rattle.partition_table.specs.declared.read_fault.ReadFault.{ReadFault}
+use Rattle.partition_table.specs.declared.table.PartitionTable.{PartitionTable}
 use Rattle.partition_table.specs.declared.table.Source.{Source}
-use Rattle.partition_table.specs.declared.table.Source.TheVariants.{Both, Primary, Backup}
+use Rattle.partition_table.specs.declared.table.Source.TheVariants.{Both, Differ, Primary, Backup}
 use Rattle.partition_table.specs.FaultNames.{read_name, read_partition}
 use Rattle.partition_table.specs.Partitions.{partition_sectors}
 use Rattle.partition_commands.specs.Kinds.{partition_type_name}
@@ -40,12 +41,14 @@ fault_json fault = object (member (codes "name") (string (read_name fault)) (mem
 -- which copies are good
 abbrev pub good_copies : Source → List ℕ
 good_copies Both = codes "both"
+good_copies Differ = codes "differ"
 good_copies (Primary fault) = codes "primary"
 good_copies (Backup fault) = codes "backup"
 
 -- what is wrong of the other
 abbrev pub other_copy : Source → Data
 other_copy Both = null
+other_copy Differ = null
 other_copy (Primary fault) = fault_json fault
 other_copy (Backup fault) = fault_json fault
 
@@ -60,3 +63,6 @@ table_json partitions source =
 
 abbrev pub table_line : List Partition → Source → List ℕ
 table_line partitions source = json_line (table_json partitions source)
+
+abbrev pub object_text : PartitionTable → List ℕ
+object_text table = table_line table.partitions.items table.source

@@ -3,25 +3,23 @@ use Rattle.std.specs.Prelude.{◌≡◌, ℕ, Bool, true, List, Option}
 use Rattle.std.specs.Io.KnownBytes.{Appends}
 use Rattle.block_device.specs.Device.{Device}
 use Rattle.program_io.specs.Counted.{CountedRecord}
-use Rattle.partition_table.specs.declared.partition.Partition.{Partition}
 use Rattle.partition_table.specs.declared.sector_size.SectorSize.{SectorSize}
-use Rattle.partition_table.specs.declared.table.Source.{Source}
-use Rattle.partition_table.specs.Tables.{IsNoTable, IsTable}
+use Rattle.partition_table.specs.declared.table.PartitionTable.{PartitionTable}
+use Rattle.partition_table.specs.Tables.{IsNoSizedTable, IsSizedTable}
 use Rattle.partition_commands.specs.declared.fault.PrintFault.{PrintFault}
 use Rattle.partition_commands.specs.declared.fault.PrintFault.TheVariants.{NoMemory, Table, Write}
-use Rattle.partition_commands.specs.Lines.{table_list}
+use Rattle.partition_commands.specs.Lines.{listed_text}
 
 -- the text of the table that was found on the device was written
 pub record PrintsTable (old new : Device) (size : SectorSize) (written now_written : Option (List ℕ)) : Type 0 where
-  pub partitions : List Partition
-  pub source : Source
-  pub found : IsTable old new size partitions source
-  pub printed : Appends written now_written (table_list partitions source)
+  pub table : PartitionTable
+  pub found : IsSizedTable old new size table
+  pub printed : Appends written now_written (listed_text table)
 
 -- there is no table, memory ran out, or a line can't be written
 abbrev pub IsPrintEnd : Device → Device → SectorSize → Bool → PrintFault → Type 0
 IsPrintEnd old new size failed NoMemory = Unit {0}
-IsPrintEnd old new size failed (Table fault) = IsNoTable old new size fault
+IsPrintEnd old new size failed (Table fault) = IsNoSizedTable old new size fault
 IsPrintEnd old new size failed Write = failed ≡ true
 
 -- a partition's line isn't written: memory ran out, or the writer failed

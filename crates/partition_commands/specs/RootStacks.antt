@@ -1,9 +1,10 @@
 -- The stack text that opens a verity image of two partitions.
-use Rattle.std.specs.Prelude.{ℕ, List, ◌++◌, codes, Option}
+use Rattle.std.specs.Prelude.{ℕ, List, ◌++◌, ◌||◌, nat_lt, Bool, codes, Option}
 use Rattle.program_io.specs.Counted.{CountedRecord}
 use Rattle.partition_table.specs.declared.sector_size.SectorSize.{SectorSize}
 use Rattle.verity_format.specs.Line.{table_text}
-use Rattle.verity_format.specs.Superblock.{SuperRecord}
+use Rattle.verity_format.specs.Image.{data_sectors, tree_sectors}
+use Rattle.verity_format.specs.Superblock.{SuperRecord, shape_of}
 use Rattle.partition_commands.specs.declared.root.ImagePartitions.{ImagePartitions}
 use Rattle.partition_commands.specs.Lines.{SaysText}
 use Rattle.partition_commands.specs.Parts.{part_of}
@@ -17,6 +18,11 @@ root_entry s root = entry_text (codes "root") (table_text s (codes "/dev/mapper/
 unfoldable pub root_stack_text : SectorSize → ImagePartitions → SuperRecord → List ℕ → List ℕ
 root_stack_text size both s root =
     entry_text (codes "data") (linear_line (part_of size both.data)) ++ (entry_text (codes "hash") (linear_line (part_of size both.verity)) ++ root_entry s root)
+
+-- the data partition has fewer sectors than the data blocks, or the verity partition than the superblock and the tree:
+-- the loader would refuse the line `root` as one beyond its devices
+abbrev pub is_unfit : SectorSize → ImagePartitions → SuperRecord → Bool
+is_unfit size both s = nat_lt (part_of size both.data).count (data_sectors (shape_of s)) || nat_lt (part_of size both.verity).count (tree_sectors (shape_of s))
 
 -- ---- as a call sees it
 

@@ -5,6 +5,7 @@ use Rattle.program_io.specs.Counted.{CountedRecord}
 use Rattle.device_adapters.specs.declared.part.Part.{Part}
 use Rattle.partition_table.specs.declared.partition.Partition.{Partition}
 use Rattle.partition_table.specs.declared.sector_size.SectorSize.{SectorSize}
+use Rattle.partition_table.specs.declared.table.PartitionTable.{PartitionTable}
 use Rattle.partition_commands.specs.Lines.{SaysText}
 use Rattle.partition_commands.specs.Names.{partition_name}
 use Rattle.partition_commands.specs.Parts.{part_of}
@@ -23,6 +24,9 @@ partition_entry size partitions p = entry_text (partition_name partitions p) (li
 
 abbrev pub stack_text : SectorSize → List Partition → List ℕ
 stack_text size partitions = flat_map (partition_entry size partitions) partitions
+
+abbrev pub entries_text : PartitionTable → List ℕ
+entries_text table = stack_text table.size table.partitions.items
 
 -- ---- as a call sees it
 

@@ -1,16 +1,19 @@
 //! The commands `partitions`, `partitions --json` and `partitions --stack`, of an image.
 ghost use Rattle.std.specs.Prelude.{IfErr, OnOk};
-ghost use Rattle.partition_commands.specs.Commands.{FailsToPrint, IsSayFault, IsLabelEnd, Prints, PrintsImage, PrintsStack, PrintsStackOf};
-ghost use Rattle.partition_commands.specs.Lines.{SaysText, table_list};
-ghost use Rattle.partition_commands.specs.Objects.{table_line};
+ghost use Rattle.partition_commands.specs.Commands.{FailsToPrint, FailsToStack, IsEntriesEnd, IsSayFault, IsLabelEnd, Prints, PrintsEntriesOf, PrintsImage, PrintsStackOf};
+ghost use Rattle.partition_commands.specs.Lines.{SaysText, listed_text};
+ghost use Rattle.partition_commands.specs.Objects.{object_text};
 ghost use Rattle.partition_commands.specs.Stacks.{SaysEntry, stack_text};
 
 use crate::entries::say_linear_entry;
 use crate::object::table_line;
-use crate::{PartitionsFault, PrintFault, part_of, partition_name, print_partitions};
+use crate::parts::are_within;
+use crate::{
+    PartitionRefusal, PartitionsFault, PrintFault, part_of, partition_name, print_partitions,
+};
 use block_device::BlockDev;
 use image_files::{Images, open_image};
-use partition_table::{Partition, SectorSize, read_table};
+use partition_table::{Partition, SectorSize, find_table};
 use program_io::Counted;
 use std::alloc::Global;
 use std::io::Write;
@@ -23,7 +26,7 @@ pub fn partitions_of_image<'a, I: Images, W: Write>(
     size: SectorSize,
     writer: &mut Counted<W>,
 ) -> Result<(), PartitionsFault<'a>>
-    ensures ok { OnOk result (PrintsImage I.relations I.Dev.state images.old images.new W.contents writer.old writer.new path.now size table_list) }
+    ensures ok { OnOk result (PrintsImage I.relations I.Dev.state images.old images.new W.contents writer.old writer.new path.now size listed_text) }
     ensures err { IfErr result (FailsToPrint I.relations I.Dev.state images.old images.new writer.new path.now size) }
 {
     let mut image = open_image(images, path, false)?;
@@ -37,7 +40,7 @@ fn list_partitions<'a, D: BlockDev, W: Write>(
     size: SectorSize,
     writer: &mut Counted<W>,
 ) -> Result<(), PartitionsFault<'a>>
-    ensures ok { OnOk result (Prints D.state device.old device.new W.contents writer.old writer.new size table_list) }
+    ensures ok { OnOk result (Prints D.state device.old device.new W.contents writer.old writer.new size listed_text) }
     ensures err { IfErr result (IsLabelEnd (D.state device.old) (D.state device.new) size writer.new.failed) }
 {
     match print_partitions(alloc, device, size, writer) {
@@ -56,7 +59,7 @@ pub fn object_of_image<'a, I: Images, W: Write>(
     size: SectorSize,
     writer: &mut Counted<W>,
 ) -> Result<(), PartitionsFault<'a>>
-    ensures ok { OnOk result (PrintsImage I.relations I.Dev.state images.old images.new W.contents writer.old writer.new path.now size table_line) }
+    ensures ok { OnOk result (PrintsImage I.relations I.Dev.state images.old images.new W.contents writer.old writer.new path.now size object_text) }
     ensures err { IfErr result (FailsToPrint I.relations I.Dev.state images.old images.new writer.new path.now size) }
 {
     let mut image = open_image(images, path, false)?;
@@ -70,10 +73,10 @@ fn list_object<'a, D: BlockDev, W: Write>(
     size: SectorSize,
     writer: &mut Counted<W>,
 ) -> Result<(), PartitionsFault<'a>>
-    ensures ok { OnOk result (Prints D.state device.old device.new W.contents writer.old writer.new size table_line) }
+    ensures ok { OnOk result (Prints D.state device.old device.new W.contents writer.old writer.new size object_text) }
     ensures err { IfErr result (IsLabelEnd (D.state device.old) (D.state device.new) size writer.new.failed) }
 {
-    let table = read_table(alloc, device, size)?;
+    let table = find_table(alloc, device, size)?;
     let line = table_line(alloc, &table)?;
     writer.put(line.as_bytes())?;
     Ok(())
@@ -88,7 +91,7 @@ pub fn stack_of_image<'a, I: Images, W: Write>(
     writer: &mut Counted<W>,
 ) -> Result<(), PartitionsFault<'a>>
     ensures ok { OnOk result (PrintsStackOf I.relations I.Dev.state images.old images.new W.contents writer.old writer.new path.now size) }
-    ensures err { IfErr result (FailsToPrint I.relations I.Dev.state images.old images.new writer.new path.now size) }
+    ensures err { IfErr result (FailsToStack I.relations I.Dev.state images.old images.new writer.new path.now size) }
 {
     let mut image = open_image(images, path, false)?;
     list_entries(alloc, &mut image.device, size, writer)
@@ -101,11 +104,14 @@ fn list_entries<'a, D: BlockDev, W: Write>(
     size: SectorSize,
     writer: &mut Counted<W>,
 ) -> Result<(), PartitionsFault<'a>>
-    ensures ok { OnOk result (PrintsStack D.state device.old device.new W.contents writer.old writer.new size) }
-    ensures err { IfErr result (IsLabelEnd (D.state device.old) (D.state device.new) size writer.new.failed) }
+    ensures ok { OnOk result (PrintsEntriesOf D.state device.old device.new W.contents writer.old writer.new size) }
+    ensures err { IfErr result (IsEntriesEnd (D.state device.old) (D.state device.new) size writer.new.failed) }
 {
-    let table = read_table(alloc, device, size)?;
-    say_entries(alloc, writer, size, &table.partitions)
+    let table = find_table(alloc, device, size)?;
+    if !are_within(device, table.size, &table.partitions) {
+        return Err(PartitionsFault::Refused(PartitionRefusal::OutsideDevice));
+    }
+    say_entries(alloc, writer, table.size, &table.partitions)
 }
 
 // An entry for each partition.

@@ -121,6 +121,7 @@ pub(crate) fn say_source<W: Write>(
 {
     match source {
         Source::Both => writer.put(b"copies both\n"),
+        Source::Differ => writer.put(b"copies differ\n"),
         Source::Primary(fault) => say_fault(writer, b"copies primary, backup ", fault),
         Source::Backup(fault) => say_fault(writer, b"copies backup, primary ", fault),
     }

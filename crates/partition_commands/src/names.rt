@@ -3,14 +3,15 @@ ghost use Rattle.std.specs.Prelude.{◌≡◌, ◌&&◌, ◌||◌, ◌==◌, not
 ghost use Rattle.std.specs.Str.{bytes_eq};
 ghost use Rattle.dm_table.specs.Names.{is_mapped_name};
 ghost use Rattle.partition_commands.specs.Labels.{label_text};
-ghost use Rattle.partition_commands.specs.Names.{is_taken, is_taken_by, numbered_name, partition_name};
+ghost use Rattle.partition_commands.specs.Names.{is_option_like, is_taken, is_taken_by, numbered_name, partition_name};
 
 use crate::label_text;
 use dm_table::is_mapped_name;
 use partition_table::Partition;
 use std::alloc::{AllocError, Global};
 
-/// The label, where it is a name of a mapped device and no other partition's, and else `p` and the number.
+/// Returns the label if it is a name of a mapped device, doesn't begin with `-` and isn't another partition's, and else
+/// `p` and the number.
 #[tactic(auto, unfolding(crate::specs::Names::partition_name))]
 pub fn partition_name(
     alloc: Global,
@@ -21,11 +22,20 @@ pub fn partition_name(
 {
     let label = label_text(alloc, &partition.label)?;
     if is_mapped_name(label.as_bytes())
+        && !is_option_like(label.as_bytes())
         && !is_taken(alloc, partitions, partition.number, label.as_str())?
     {
         return Ok(label);
     }
     numbered_name(alloc, partition.number)
+}
+
+// Whether a name could be read as an option.
+#[tactic(auto, unfolding(crate::specs::Names::is_option_like))]
+fn is_option_like(name: &[u8]) -> bool
+    ensures { result ≡ is_option_like name.now }
+{
+    name.starts_with(b"-")
 }
 
 // Whether another partition has that label, or that name by its number.

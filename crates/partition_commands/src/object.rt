@@ -3,7 +3,7 @@ ghost use Rattle.std.specs.Prelude.{◌≡◌, map, string_bytes, IfOk};
 ghost use Rattle.uuid.specs.Text.{hyphenated_text, lower};
 ghost use Rattle.serde_json.specs.Data.{array, string};
 ghost use Rattle.serde_json.specs.View.{items_of, view};
-ghost use Rattle.partition_commands.specs.Objects.{fault_json, good_copies, number_json, other_copy, partition_json, partitions_json, table_json, table_line};
+ghost use Rattle.partition_commands.specs.Objects.{fault_json, good_copies, number_json, other_copy, partition_json, partitions_json, table_json, object_text};
 
 use crate::{kind_name, label_text};
 use partition_table::{Partition, PartitionTable, ReadFault, Source};
@@ -15,7 +15,7 @@ use uuid::Uuid;
 /// The line of the object: which copies are good, what is wrong of the other, and the partitions.
 #[tactic(auto, using(crate::proofs::ObjectLemmas::plain_table))]
 pub(crate) fn table_line(alloc: Global, table: &PartitionTable) -> Result<String, AllocError>
-    ensures { IfOk result (λ line. string_bytes line ≡ table_line table.now.partitions.items table.now.source) }
+    ensures { IfOk result (λ line. string_bytes line ≡ object_text table.now) }
 {
     let value = table_value(alloc, table.partitions.as_slice(), table.source)?;
     line_of(alloc, &value)
@@ -38,6 +38,7 @@ fn good_copies(source: Source) -> &'static str
 {
     match source {
         Source::Both => "both",
+        Source::Differ => "differ",
         Source::Primary(_) => "primary",
         Source::Backup(_) => "backup",
     }
@@ -48,7 +49,7 @@ fn other_copy(alloc: Global, source: Source) -> Result<Value, AllocError>
     ensures { IfOk result (λ value. view value ≡ other_copy source) }
 {
     match source {
-        Source::Both => Ok(Value::Null),
+        Source::Both | Source::Differ => Ok(Value::Null),
         Source::Primary(fault) => fault_value(alloc, fault),
         Source::Backup(fault) => fault_value(alloc, fault),
     }

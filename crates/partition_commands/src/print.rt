@@ -1,14 +1,14 @@
 //! The command `partitions`: the partitions of an image.
 ghost use Rattle.std.specs.Prelude.{IfErr, OnOk};
 ghost use Rattle.partition_table.specs.Reads.{IsReadAtMost};
-ghost use Rattle.partition_table.specs.Tables.{table_reads};
+ghost use Rattle.partition_table.specs.Tables.{found_reads};
 ghost use Rattle.partition_commands.specs.Lines.{SaysTable, SaysText, partition_lines};
 ghost use Rattle.partition_commands.specs.Prints.{IsPrintEnd, IsSayEnd, PrintsTableOf};
 
 use crate::PrintFault;
 use crate::line::{say_partition, say_source};
 use block_device::BlockDev;
-use partition_table::{Partition, PartitionTable, SectorSize, read_table};
+use partition_table::{Partition, PartitionTable, SectorSize, find_table};
 use program_io::Counted;
 use std::alloc::Global;
 use std::io::Write;
@@ -20,11 +20,11 @@ pub fn print_partitions<D: BlockDev, W: Write>(
     size: SectorSize,
     writer: &mut Counted<W>,
 ) -> Result<(), PrintFault>
-    ensures read { IsReadAtMost (D.state device.old) table_reads (D.state device.new) }
+    ensures read { IsReadAtMost (D.state device.old) found_reads (D.state device.new) }
     ensures ok { OnOk result (PrintsTableOf D.state device.old device.new W.contents writer.old writer.new size) }
     ensures err { IfErr result (IsPrintEnd (D.state device.old) (D.state device.new) size writer.new.failed) }
 {
-    let table = read_table(alloc, device, size)?;
+    let table = find_table(alloc, device, size)?;
     say_table(alloc, writer, &table)
 }
 

@@ -1,23 +1,26 @@
 //! The command `partitions --root`: the stack that opens a verity image of two partitions.
-ghost use Rattle.std.specs.Prelude.{ℕ, List, IfErr, IfOk, OnOk};
+ghost use Rattle.std.specs.Prelude.{◌≡◌, ℕ, List, IfErr, IfOk, OnOk};
 ghost use Rattle.device_adapters.specs.Windows.{windowed};
 ghost use Rattle.verity_format.specs.Verifying.{IsReadFrom};
-ghost use Rattle.partition_commands.specs.Commands.{FailsToFindRoot, IsRootTextEnd, IsSayFault, IsPartSuperEnd, PrintsRootOf, SaysRoot};
+ghost use Rattle.partition_commands.specs.Commands.{FailsToFindRoot, IsFitting, IsPairEnd, IsRootTextEnd, IsSayFault, IsPartSuperEnd, PrintsRootOf, SaysRoot};
 ghost use Rattle.partition_commands.specs.Lines.{SaysText};
-ghost use Rattle.partition_commands.specs.RootStacks.{SaysRootStack, root_entry};
+ghost use Rattle.partition_commands.specs.RootStacks.{SaysRootStack, is_unfit, root_entry};
 
 use crate::entries::{say_entry, say_linear_entry};
+use crate::parts::is_within;
 use crate::{ImagePartitions, PartitionRefusal, PartitionsFault, part_of};
 use block_device::BlockDev;
 use device_adapters::{Part, Window};
 use image_files::{Images, open_image};
-use partition_table::{SectorSize, read_table};
+use partition_table::{SectorSize, find_table};
 use program_io::Counted;
 use std::alloc::Global;
 use std::io::Write;
 use std::marker::Brand;
 use tree_shape::Digest;
-use verity_format::{Superblock, read_superblock, table_line};
+use verity_format::{
+    Superblock, VerifyFault, data_sectors, read_superblock, table_line, tree_sectors,
+};
 
 /// `partitions --root ROOT IMAGE`: the text of a stack with the devices `data` and `hash` over the two partitions of the
 /// root, and `root`, the data blocks checked.
@@ -48,10 +51,39 @@ fn print_root_stack<'a, D: BlockDev + Drop, W: Write>(
     ensures err { IfErr result (IsRootTextEnd size root.now writer.new.failed (D.state device)) }
 {
     let mut device = device;
-    let table = read_table(alloc, &mut device, size)?;
+    let table = find_table(alloc, &mut device, size)?;
     let both = ImagePartitions::find(&table.partitions, root)?;
+    let superblock = superblock_of(device, table.size, &both)?;
+    say_root_stack(alloc, writer, table.size, &both, &superblock, root)
+}
+
+// The superblock of two partitions that hold an image by it, so that the loader takes the lines over them.
+fn superblock_of<D: BlockDev + Drop>(
+    device: D,
+    size: SectorSize,
+    both: &ImagePartitions,
+) -> Result<Superblock, PartitionRefusal>
+    ensures ok { IfOk result (IsFitting (D.state device) size both.now) }
+    ensures err { IfErr result (λ refusal. (after : D) × IsPairEnd (D.state device) (D.state after) size both.now refusal) }
+{
+    let data = part_of(size, &both.data);
+    if !is_within(&device, data) {
+        return Err(PartitionRefusal::OutsideDevice);
+    }
     let superblock = superblock_in(device, part_of(size, &both.verity))?;
-    say_root_stack(alloc, writer, size, &both, &superblock, root)
+    if is_unfit(size, both, &superblock) {
+        return Err(PartitionRefusal::Superblock(VerifyFault::TooSmall));
+    }
+    Ok(superblock)
+}
+
+// Whether a partition is too small for the data blocks or the tree of a superblock.
+fn is_unfit(size: SectorSize, both: &ImagePartitions, superblock: &Superblock) -> bool
+    ensures { result ≡ is_unfit size both.now superblock.now }
+{
+    let shape = superblock.tree().shape;
+    part_of(size, &both.data).count < data_sectors(&shape)
+        || part_of(size, &both.verity).count < tree_sectors(&shape)
 }
 
 // The superblock at the beginning of a part of a device.

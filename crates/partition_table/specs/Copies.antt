@@ -1,9 +1,10 @@
 -- A copy of a table on a device: its header in one sector, and its entries where the header says.
-use Rattle.std.specs.Prelude.{◌≡◌, ℕ, List, take, Option, Some, None}
+use Rattle.std.specs.Prelude.{◌≡◌, ◌==◌, ◌&&◌, ℕ, Bool, List, take, Option, Some, None}
+use Rattle.std.specs.Str.{bytes_eq}
 use Rattle.allocation.specs.Refusal.{IsOutOfMemory}
 use Rattle.block_device.specs.Device.{Device, HasFailed}
+use Rattle.partition_table.specs.declared.copy.TableCopy.{TableCopy}
 use Rattle.partition_table.specs.declared.header.Header.{Header}
-use Rattle.partition_table.specs.declared.partition.Partition.{Partition}
 use Rattle.partition_table.specs.declared.read_fault.ReadFault.{ReadFault}
 use Rattle.partition_table.specs.declared.read_fault.ReadFault.TheVariants.{Device as DeviceFailed, NoMemory, Table}
 use Rattle.partition_table.specs.declared.sector_size.Disk.{Disk}
@@ -25,13 +26,26 @@ array_of header array = take (array_bytes (table_header header)) array
 abbrev pub copy_fault : Disk → ℕ → List ℕ → List ℕ → Option TableFault
 copy_fault disk sector header array = or_fault (header_fault disk sector header) (array_fault (table_header header) (array_of header array))
 
--- a copy that was read is good, and these are its partitions
-pub record IsGoodCopy (device : Device) (disk : Disk) (sector : ℕ) (partitions : List Partition) : Type 0 where
+-- a copy that was read is good, and this is what it has
+pub record IsGoodCopy (device : Device) (disk : Disk) (sector : ℕ) (copy : TableCopy) : Type 0 where
   pub header : List ℕ
   pub array : List ℕ
   pub read : IsCopyRead device disk sector header array
   pub good : copy_fault disk sector header array ≡ None
-  pub value : partitions ≡ partitions_in (table_header header) (array_of header array)
+  pub fields : copy.header ≡ table_header header
+  pub entries : copy.array.items ≡ array_of header array
+  pub partitions : copy.partitions.items ≡ partitions_in (table_header header) (array_of header array)
+
+-- two headers have the same usable sectors, entries of the same number and size, and one disk's identifier; UEFI has all
+-- fields but the sectors of the headers and of the entries, and the checksum of these, be the same
+abbrev pub are_like : Header → Header → Bool
+are_like h g =
+    h.first_usable == g.first_usable && (h.last_usable == g.last_usable
+    && (h.entry_count == g.entry_count && (h.entry_size == g.entry_size && bytes_eq h.disk_id g.disk_id)))
+
+-- two copies say the same (UEFI 2.10, 5.3.2): so do the headers, and the entries are equal
+abbrev pub are_equal : TableCopy → TableCopy → Bool
+are_equal p q = are_like p.header q.header && bytes_eq p.array.items q.array.items
 
 -- a copy that was read has this fault
 pub record IsBadCopy (device : Device) (disk : Disk) (sector : ℕ) (fault : TableFault) : Type 0 where

@@ -1,7 +1,7 @@
 //! A copy of a table, read from a device.
-ghost use Rattle.std.specs.Prelude.{◌≡◌, ◌⊎◌, ◌+◌, ◌*◌, ◌≤◌, ◌<◌, length, take, Option, Some, None, IfErr, IfOk, OnOk};
+ghost use Rattle.std.specs.Prelude.{◌≡◌, ◌&&◌, ◌⊎◌, ◌+◌, ◌*◌, ◌≤◌, ◌<◌, length, take, Option, Some, None, IfErr, IfOk, OnOk};
 ghost use Rattle.block_device.specs.Device.{Device};
-ghost use Rattle.partition_table.specs.Copies.{IsArrayCause, IsCopyCause, IsGoodCopy, IsHeaderRead};
+ghost use Rattle.partition_table.specs.Copies.{IsArrayCause, IsCopyCause, IsGoodCopy, IsHeaderRead, are_equal, are_like};
 ghost use Rattle.partition_table.specs.Disks.{IsDiskOn, unit_of};
 ghost use Rattle.partition_table.specs.Headers.{array_bytes, array_sectors, header_fault, table_header};
 ghost use Rattle.partition_table.specs.Partitions.{array_fault, partitions_in};
@@ -16,8 +16,45 @@ use allocation::zeros;
 use block_device::BlockDev;
 use std::alloc::Global;
 
-// So many sectors of the disk, from the first on.
-fn read_sectors<D: BlockDev>(
+/// A good copy of a table.
+#[derive(Drop)]
+pub(crate) struct TableCopy {
+    pub(crate) header: Header,
+    /// The bytes of the entries.
+    pub(crate) array: Vec<u8>,
+    pub(crate) partitions: Vec<Partition>,
+}
+
+impl TableCopy {
+    /// Its partitions.
+    pub(crate) fn into_partitions(self) -> Vec<Partition>
+        ensures { result ≡ self.partitions }
+    {
+        let TableCopy { partitions, .. } = self;
+        partitions
+    }
+
+    /// Whether both copies say the same.
+    pub(crate) fn equals(&self, other: &TableCopy) -> bool
+        ensures { result ≡ are_equal self.now other.now }
+    {
+        are_like(&self.header, &other.header) && self.array.as_slice() == other.array.as_slice()
+    }
+}
+
+// Whether the fields that both copies have in common are the same.
+fn are_like(one: &Header, other: &Header) -> bool
+    ensures { result ≡ are_like one.now other.now }
+{
+    one.first_usable == other.first_usable
+        && one.last_usable == other.last_usable
+        && one.entry_count == other.entry_count
+        && one.entry_size == other.entry_size
+        && one.disk_id.as_slice() == other.disk_id.as_slice()
+}
+
+/// So many sectors of the disk, from the first on.
+pub(crate) fn read_sectors<D: BlockDev>(
     alloc: Global,
     device: &mut D,
     disk: Disk,
@@ -78,21 +115,29 @@ fn good_partitions(
     }
 }
 
-/// The partitions of the copy whose header is in that sector.
+/// The copy whose header is in that sector.
 pub(crate) fn read_copy<D: BlockDev>(
     alloc: Global,
     device: &mut D,
     disk: Disk,
     sector: u64,
-) -> Result<Vec<Partition>, ReadFault>
+) -> Result<TableCopy, ReadFault>
     requires on { IsDiskOn (D.state device.old) disk }
     requires inside { sector < disk.sectors }
     ensures read { IsReadAtMost (D.state device.old) copy_reads (D.state device.new) }
-    ensures ok { IfOk result (λ v. IsGoodCopy (D.state device.old) disk sector v.items) }
+    ensures ok { IfOk result (IsGoodCopy (D.state device.old) disk sector) }
     ensures err { IfErr result (IsCopyCause (D.state device.old) (D.state device.new) disk sector) }
 {
     let header = read_header(alloc, device, disk, sector)?;
     let count = header.array_sectors(disk);
-    let array = read_sectors(alloc, device, disk, header.entries_sector, count)?;
-    good_partitions(alloc, &header, &array[..header.array_bytes() as usize])
+    let mut array = read_sectors(alloc, device, disk, header.entries_sector, count)?;
+    array.truncate(header.array_bytes() as usize);
+    match good_partitions(alloc, &header, &array) {
+        Ok(partitions) => Ok(TableCopy {
+            header,
+            array,
+            partitions,
+        }),
+        Err(fault) => Err(fault),
+    }
 }

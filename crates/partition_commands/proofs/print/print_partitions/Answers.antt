@@ -5,8 +5,7 @@ pub returns-clause-ok : goal.returns-clause-ok
 returns-clause-ok g c =
     on_ok-as c.say_table.result
     (λ printed. record {
-      partitions = c.in_ok-table.table.partitions.items;
-      source = c.in_ok-table.table.source;
+      table = c.in_ok-table.table;
       found = c.in_ok-table.ensures.ok;
       printed = printed;
     })

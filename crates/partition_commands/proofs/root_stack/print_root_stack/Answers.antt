@@ -10,15 +10,14 @@ use Rattle.partition_commands.proofs.root_stack.print_root_stack.Goals as goal
 pub returns-in_err-table-clause-err : goal.returns-in_err-table-clause-err
 returns-in_err-table-clause-err g c =
     err-from c.from_residual.result _ (Refused (Table c.in_err-table.field-0.0)) c.from_residual.ensures.1
-    (inl (record { fault = c.in_err-table.field-0.0; read_device = g.D.BlockDev.state c.read_table.new.device; none = c.in_err-table.ensures.err; is = refl }))
+    (inl (record { fault = c.in_err-table.field-0.0; read_device = g.D.BlockDev.state c.find_table.new.device; none = c.in_err-table.ensures.err; is = refl }))
 
 pub returns-in_err-both-clause-err : goal.returns-in_err-both-clause-err
 returns-in_err-both-clause-err g c =
     err-from c.from_residual-in_err-both.result _ (Refused c.in_err-both.field-0.0) c.from_residual-in_err-both.ensures.1
     (inr (inl (record {
-      partitions = c.in_ok-table.table.partitions.items;
-      source = c.in_ok-table.table.source;
-      read_device = g.D.BlockDev.state c.read_table.new.device;
+      table = c.in_ok-table.table;
+      read_device = g.D.BlockDev.state c.find_table.new.device;
       found = c.in_ok-table.ensures.ok;
       refused = ap (λ (ps : List Partition). image_partitions ps c.args.root.now) (sym c.deref.ensures.value) ∙ sym c.in_err-both.ensures;
     })))
@@ -29,13 +28,12 @@ returns-in_err-superblock-clause-err g c =
     (inr (inr (
       g.D.BlockDev.state c.in_err-superblock.ensures.err.0,
       record {
-        partitions = c.in_ok-table.table.partitions.items;
-        source = c.in_ok-table.table.source;
-        read_device = g.D.BlockDev.state c.read_table.new.device;
+        table = c.in_ok-table.table;
+        read_device = g.D.BlockDev.state c.find_table.new.device;
         found = c.in_ok-table.ensures.ok;
         both = c.in_ok-both.both;
         both_is = ap (λ (ps : List Partition). image_partitions ps c.args.root.now) (sym c.deref.ensures.value) ∙ sym c.in_ok-both.ensures;
-        ends = rw c.part_of.ensures at c.in_err-superblock.ensures.err.1;
+        ends = c.in_err-superblock.ensures.err.1;
       },
     )))
 
@@ -43,15 +41,13 @@ pub returns-clause-ok : goal.returns-clause-ok
 returns-clause-ok g c =
     on_ok_weaker c.say_root_stack.result
     (λ printed. record {
-      partitions = c.in_ok-table.table.partitions.items;
-      source = c.in_ok-table.table.source;
-      read_device = g.D.BlockDev.state c.read_table.new.device;
+      table = c.in_ok-table.table;
+      read_device = g.D.BlockDev.state c.find_table.new.device;
       found = c.in_ok-table.ensures.ok;
       both = c.in_ok-both.both;
       both_is = ap (λ (ps : List Partition). image_partitions ps c.args.root.now) (sym c.deref.ensures.value) ∙ sym c.in_ok-both.ensures;
       super = c.in_ok-superblock.superblock;
-      sector = c.in_ok-superblock.ensures.ok.0;
-      read = rw c.part_of.ensures at c.in_ok-superblock.ensures.ok.1;
+      fitting = c.in_ok-superblock.ensures.ok;
       printed = printed;
     })
     c.say_root_stack.ensures.ok

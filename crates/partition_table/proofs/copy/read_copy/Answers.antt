@@ -16,8 +16,13 @@ returns-in_err-array-clause-read g c =
     let on = on_disk _ c.args.disk c.args.sector c.in_ok-header.header c.in_ok-header.ensures.ok in
     only_read-then 8 _ _ c.in_ok-header.ensures.read c.read_sectors.ensures.read (rw c.array_sectors-count.ensures (omega (arith, on.few)))
 
-pub returns-clause-read : goal.returns-clause-read
-returns-clause-read g c =
+pub returns-in-Ok-clause-read : goal.returns-in-Ok-clause-read
+returns-in-Ok-clause-read g c =
+    let on = on_disk _ c.args.disk c.args.sector c.in_ok-header.header c.in_ok-header.ensures.ok in
+    only_read-then 8 _ _ c.in_ok-header.ensures.read c.read_sectors.ensures.read (rw c.array_sectors-count.ensures (omega (arith, on.few)))
+
+pub returns-in-Err-clause-read : goal.returns-in-Err-clause-read
+returns-in-Err-clause-read g c =
     let on = on_disk _ c.args.disk c.args.sector c.in_ok-header.header c.in_ok-header.ensures.ok in
     only_read-then 8 _ _ c.in_ok-header.ensures.read c.read_sectors.ensures.read (rw c.array_sectors-count.ensures (omega (arith, on.few)))
 

@@ -1,0 +1,4 @@
+use Rattle.partition_table.proofs.header.is_rest_clear.Goals as goal
+
+pub returns : goal.returns
+returns c = c.are_zeros.ensures
