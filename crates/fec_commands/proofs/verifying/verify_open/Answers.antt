@@ -65,7 +65,7 @@ returns-in_err-compare-clause-err g c =
     let cause = c.in_err-compare.field-0.0 in
     let size : ℕ = c.in_ok-laid.laid.tree.shape.hash_block in
     let ahead : c.tree_start-ahead.result ≡ tree_start c.sector_at-first.result size 0 =
-    c.tree_start-ahead.ensures ∙ ap (λ (n : ℕ). tree_start c.sector_at-first.result n 0) c.hash_block-size.ensures in
+    c.tree_start-ahead.ensures ∙ ap (λ (n : ℕ). tree_start c.sector_at-first.result n 0) c.hash_block-size.ensures.value in
     err-from c.from_residual-in_err-compare.result _ (Verity (Image cause)) c.from_residual-in_err-compare.ensures.1
     (inr (inr (record {
       root = root;
