@@ -128,7 +128,8 @@ class Trial:
         levels, differ = entered(first, second)
         if reads is not None:
             sectors = first.tree.hash_block // 512
-            wanted = [1 + (len(it.tree.levels) - levels + len(differ)) * sectors for it in (first, second)]
+            heights = [len(it.tree.levels) for it in (first, second)]
+            wanted = [1 + ((height > 0) + height - levels + len(differ)) * sectors for height in heights]
             self.equal("reads", reads, "reads %d %d" % tuple(wanted))
         self.change(first, second, levels, differ, lines, status, most)
 
@@ -144,7 +145,7 @@ class Trial:
         at = (tree.first(level) + index) * tree.hash_block + self.dice.randrange(tree.hash_block)
         images[which][at] ^= 1 << self.dice.randrange(8)
         got, code, _ = self.ask(images, (first.root, second.root), most)
-        is_read = (level, index) in differ or (level >= levels and index == 0)
+        is_read = (level, index) in differ or (level >= levels and index == 0) or level == len(tree.levels) - 1
         if is_read:
             self.equal("changed block", (got[-1:], code), ([f"fault hash {('first', 'second')[which]} {level} {index}"], 3))
         else:

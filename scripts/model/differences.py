@@ -70,6 +70,9 @@ def changed_blocks(first, second):
     both = min(first.tree.blocks, second.tree.blocks)
     height = min(len(first.tree.levels), len(second.tree.levels))
     for it in (first, second):
+        if it.tree.levels:
+            it.check(len(it.tree.levels) - 1, 0)
+    for it in (first, second):
         for level in range(len(it.tree.levels) - 1, height - 1, -1):
             it.check(level, 0)
 

@@ -65,7 +65,7 @@ def run_format(options, words, files, _given, _features):
         uuid = uuid or UUID(bytes=files.random(16), version=4).bytes
     uuid = None if is_bare else uuid
     part = bytearray(image[first * SECTOR:])
-    root, count = format_images(data, part, (*sizes, blocks, salt), uuid, b"grow" in options)
+    root, count = format_images(data, part, (*sizes, blocks, salt), uuid, b"grow" in options, first)
     if part:
         del image[first * SECTOR:]
         image.extend(bytes(max(0, first * SECTOR - len(image))))
@@ -94,7 +94,7 @@ def run_verify(options, words, files, _given, _features):
     image = image[first * SECTOR:]
     if b"all" in options:
         return surveyed(data, image, tree, salt, root, b"json" in options)
-    verdict = verify_images(data, image, tree, salt, root)
+    verdict = verify_images(data, image, tree, salt, root, first)
     if verdict != "matches":
         return [verdict.encode()], FAULT
     if b"fec" in options:

@@ -143,8 +143,9 @@ def check_data(data, data_block, hash_block, blocks):
     return blocks
 
 
-def format_images(data, image, options, uuid, is_grown=False):
-    """Writes a tree to `image`, a bytearray, behind a superblock unless `uuid` is None; gives the root and the blocks."""
+def format_images(data, image, options, uuid, is_grown=False, first=0):
+    """Writes a tree to `image`, a bytearray, behind a superblock unless `uuid` is None; gives the root and the blocks. The image
+    begins at sector `first` of its file."""
     data_block, hash_block, blocks, salt = options
     blocks = check_data(data, data_block, hash_block, blocks)
     begin = 0 if uuid is None else 1
@@ -153,7 +154,7 @@ def format_images(data, image, options, uuid, is_grown=False):
     if is_grown:
         image.extend(bytes(max(0, needed * 512 - len(image))))
     if needed > len(image) // 512:
-        raise ImageFault("HashTooSmall", FORMAT_FAULTS, " needed %d" % needed)
+        raise ImageFault("HashTooSmall", FORMAT_FAULTS, " needed %d" % (first + needed))
     placed, root = grown(tree, salt, data_blocks(data, tree))
     if uuid is not None:
         superblock = Superblock(uuid, data_block, hash_block, blocks, salt)
@@ -180,14 +181,15 @@ def check_sizes(tree, data, image):
         raise ImageFault("TooSmall", SUPERBLOCK_FAULTS)
 
 
-def verify_images(data, image, tree, salt, root):
-    """What stands: `matches`, `root differs` or the least hash block that differs."""
+def verify_images(data, image, tree, salt, root, first=0):
+    """What stands: `matches`, `root differs` or the least hash block that differs, counted from the beginning of the file, at whose
+    sector `first` the image begins."""
     check_sizes(tree, data, image)
     placed, found = grown(tree, salt, data_blocks(data, tree))
     size = tree.hash_block
     for place in sorted(placed):
         if image[place * size:(place + 1) * size] != placed[place]:
-            return "area differs at block %d" % place
+            return "area differs at block %d" % (first // (size // 512) + place)
     return "matches" if found == root else "root differs"
 
 

@@ -14,7 +14,7 @@ use Rattle.image_commands.specs.declared.comparing.ImagePair.{ImagePair}
 use Rattle.image_commands.specs.declared.fault.ImageFault.{ImageFault}
 use Rattle.image_commands.specs.Comparing.{IsComparedEnd}
 use Rattle.image_commands.specs.Endings.{IsQuiet}
-use Rattle.image_commands.specs.Places.{before, behind}
+use Rattle.image_commands.specs.Places.{before, behind, tree_start}
 use Rattle.verity_commands.specs.declared.verity_fault.VerityFault.TheVariants.{Image}
 use Rattle.verity_commands.specs.Endings.{IsVerityQuiet}
 use Rattle.verity_commands.specs.Places.{IsRootEnd, TellsRoot}
@@ -84,7 +84,7 @@ pub record EndsComparing (p : Parts) (root : List ℕ) (old new : Option (List �
   pub data_dev' : Device
   pub hash_dev' : Device
   pub measures : Measures p read_dev laid
-  pub ends : IsComparedEnd laid.tree p.data_dev read_dev data_dev' hash_dev' root failed cause
+  pub ends : IsComparedEnd laid.tree (tree_start p.first laid.tree.shape.hash_block 0) p.data_dev read_dev data_dev' hash_dev' root failed cause
   pub is : fault ≡ Verity (Image cause)
   pub quiet : IsQuiet cause old new
 

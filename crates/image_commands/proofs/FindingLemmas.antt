@@ -10,7 +10,7 @@ use Rattle.image_commands.specs.declared.finding.NoTree.TheVariants.{Unread, Una
 use Rattle.image_commands.specs.Comparing.{IsComparedEnd}
 use Rattle.image_commands.specs.Finding.{IsNoTree, no_tree_fault}
 use Rattle.image_commands.specs.PlacedImages.{IsPlacedSuperEnd}
-use Rattle.image_commands.specs.Places.{behind}
+use Rattle.image_commands.specs.Places.{behind, tree_start}
 use Rattle.image_commands.specs.TreeImages.{IsTreeComparisonEnd}
 
 pub no-tree-end : (device device' : Device) (first : ℕ) (failed : Bool) (fault : NoTree) → IsNoTree (behind device first) first device' fault → IsPlacedSuperEnd device first failed (no_tree_fault fault)
@@ -19,9 +19,9 @@ no-tree-end device device' first failed Misplaced cause = inr (cause, refl)
 
 -- of a tree without a superblock
 pub compared-alone : (s : SuperRecord) (d h d' h' : Device) (first : ℕ) (root : List ℕ) (failed : Bool) (fault : ImageFault)
-    → IsComparedEnd (tree_alone s) d (behind h first) d' h' root failed fault → IsTreeComparisonEnd s d h first root failed fault
+    → IsComparedEnd (tree_alone s) (tree_start first s.hash_block 0) d (behind h first) d' h' root failed fault → IsTreeComparisonEnd s d h first root failed fault
 compared-alone s d h d' h' first root failed (Verify fault) end = (d', (h', end))
-compared-alone s d h d' h' first root failed (Differs verdict) (apart, found) = (apart, (d', (h', found)))
+compared-alone s d h d' h' first root failed (Differs verdict) differs = (d', (h', differs))
 compared-alone s d h d' h' first root failed (Format fault) end = absurd end
 compared-alone s d h d' h' first root failed NoMemory end = end
 compared-alone s d h d' h' first root failed (Open file) end = end

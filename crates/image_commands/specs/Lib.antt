@@ -4,6 +4,7 @@ pub mod Finding
 pub mod Clearing
 pub mod Refusals
 pub mod Formats
+pub mod Offsets
 pub mod Comparing
 pub mod Openings
 pub mod PlacedFormats

@@ -9,14 +9,12 @@ use Rattle.image_pin.specs.declared.mismatch.Mismatch.{Mismatch}
 use Rattle.image_pin.specs.declared.pin.Pin.{Pin}
 use Rattle.image_pin.specs.Mismatches.{pin_mismatch}
 use Rattle.verity_format.specs.declared.formatting.FormatOptions.{FormatOptions}
-use Rattle.verity_format.specs.declared.verifying.Verdict.{Verdict}
-use Rattle.verity_format.specs.declared.verifying.Verdict.TheVariants.{AreaDiffers}
 use Rattle.verity_format.specs.declared.verifying.VerifyFault.{VerifyFault}
 use Rattle.verity_format.specs.declared.verifying.VerifyFault.TheVariants as verify
 use Rattle.verity_format.specs.Blocks.{IsOnlyRead}
 use Rattle.verity_format.specs.Superblock.{Carries, SuperRecord, super_fault}
 use Rattle.image_commands.specs.declared.fault.ImageFault.{ImageFault}
-use Rattle.image_commands.specs.declared.fault.ImageFault.TheVariants.{Differs, Unaligned, Unpinned, Verify}
+use Rattle.image_commands.specs.declared.fault.ImageFault.TheVariants.{Unaligned, Unpinned, Verify}
 use Rattle.image_commands.specs.declared.paths.TwoImages.{TwoImages}
 use Rattle.image_commands.specs.declared.watching.WatchedPlaces.{WatchedPlaces}
 use Rattle.image_commands.specs.Endings.{IsUnopened}
@@ -33,15 +31,6 @@ pinned_options pin = record { uuid = no_uuid; data_block = pin.data_block; hash_
 -- the sector at which the tree behind a superblock begins
 abbrev pub tree_behind : ℕ → ℕ → ℕ
 tree_behind first size = min (first + size / 512) (2 ^ 64 - 1)
-
--- of a difference the block is counted from the superblock's
-abbrev pub counted_verdict : Verdict → Verdict
-counted_verdict (AreaDiffers block) = AreaDiffers (min (block + 1) (2 ^ 64 - 1))
-counted_verdict verdict = verdict
-
-abbrev pub counted_behind : ImageFault → ImageFault
-counted_behind (Differs verdict) = Differs (counted_verdict verdict)
-counted_behind fault = fault
 
 -- what may have been read as that sector: of a steady device, the one that stands there
 abbrev pub IsSectorAt : Device → ℕ → List ℕ → Type 0
@@ -91,11 +80,9 @@ pub record MatchesPin (data_dev hash_dev : Device) (end first : ℕ) (pin : Pin)
 -- the superblock isn't the pin's, or the two weren't compared, differ, or the line can't be written
 pub record IsPinnedComparisonEnd (data_dev hash_dev : Device) (end first : ℕ) (pin : Pin) (failed : Bool) (fault : ImageFault) : Type 0 where
   pub read_dev : Device
-  pub cause : ImageFault
   pub pinned : IsPinnedAt hash_dev first pin
   pub read : IsOnlyRead hash_dev read_dev
-  pub ends : IsTreeComparisonEnd (tree_with (pinned_options pin) (before data_dev end)) (before data_dev end) read_dev (tree_behind first pin.hash_block) pin.root failed cause
-  pub is : fault ≡ counted_behind cause
+  pub ends : IsTreeComparisonEnd (tree_with (pinned_options pin) (before data_dev end)) (before data_dev end) read_dev (tree_behind first pin.hash_block) pin.root failed fault
 
 abbrev pub IsPinEnd : Device → Device → ℕ → ℕ → Pin → Bool → ImageFault → Type 0
 IsPinEnd data_dev hash_dev end first pin failed fault =

@@ -17,6 +17,7 @@ use Rattle.image_commands.specs.declared.watching.WatchedPlaces.{WatchedPlaces}
 use Rattle.image_commands.specs.Drawing.{AreGiven, Drawing, Gives, IsUndrawn, drawing}
 use Rattle.image_commands.specs.Endings.{IsUnopened}
 use Rattle.image_commands.specs.Formats.{IsFormatEnd, IsMade}
+use Rattle.image_commands.specs.Offsets.{format_fault_from}
 use Rattle.image_commands.specs.Places.{FailsToOpenPlaced, OpensPlaced, TwoPlaces, before, behind, data_end, is_aligned, overlaps, two_places}
 
 -- the two devices before and behind a formatting, the sector where the data end, and the one where the hash image begins
@@ -92,7 +93,7 @@ pub record EndsUndrawnPlaced {S D T G : Type 0} (w : Calls S D) (d : Drawing T G
   pub undrawn : IsUndrawn d options
   pub is : fault ≡ Random
 
--- a formatting of the two images ends early
+-- a formatting of the two images ends early; the sectors that are needed count from the beginning of HASH
 pub record EndsPlaced {S D T G : Type 0} (w : Calls S D) (d : Drawing T G) (options : ImageOptions) (places : TwoPlaces) (fault : ImageFault) : Type 0 where
   pub given : FormatOptions
   pub two : TwoImages D
@@ -101,7 +102,7 @@ pub record EndsPlaced {S D T G : Type 0} (w : Calls S D) (d : Drawing T G) (opti
   pub opened : OpensPlaced w places two
   pub are_given : AreGiven d options given
   pub ends : IsPlacedEnd given (placing_of w two places.first hash_dev') cause
-  pub is : fault ≡ Format cause
+  pub is : fault ≡ Format (format_fault_from places.first cause)
 
 -- one of these
 abbrev pub IsMakingPlacedEnd : {S D T G : Type 0} → Calls S D → Drawing T G → ImageOptions → TwoPlaces → ImageFault → Type 0

@@ -23,7 +23,7 @@ use Rattle.image_commands.specs.Comparing.{IsComparedEnd}
 use Rattle.image_commands.specs.Endings.{IsUnopened, IsVerifyEnd}
 use Rattle.image_commands.specs.Finding.{IsTreeUnaligned, ReadsSuper}
 use Rattle.image_commands.specs.Openings.{FailsToOpenTwo, OpensTwo}
-use Rattle.image_commands.specs.Places.{TwoPlaces, before, behind, data_end, is_aligned, two_places}
+use Rattle.image_commands.specs.Places.{TwoPlaces, before, behind, data_end, is_aligned, tree_start, two_places}
 use Rattle.image_commands.specs.SuperblockJson.{dump_text}
 use Rattle.image_commands.specs.TableLines.{placed_line}
 
@@ -81,7 +81,7 @@ pub record EndsMatching (data_dev hash_dev : Device) (end first : ℕ) (root : L
   pub hash_dev' : Device
   pub super_read : ReadsSuper (behind hash_dev first) first super
   pub one : IsFullRead (behind hash_dev first) 1 read_dev
-  pub ends : IsComparedEnd (superblock_tree super) (before data_dev end) read_dev data_dev' hash_dev' root failed fault
+  pub ends : IsComparedEnd (superblock_tree super) (tree_start first super.hash_block 0) (before data_dev end) read_dev data_dev' hash_dev' root failed fault
 
 abbrev pub IsMatchingEnd : Device → Device → ℕ → ℕ → List ℕ → Bool → ImageFault → Type 0
 IsMatchingEnd data_dev hash_dev end first root failed fault = IsPlacedSuperEnd hash_dev first failed fault ⊎ EndsMatching data_dev hash_dev end first root failed fault

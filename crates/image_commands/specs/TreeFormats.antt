@@ -25,6 +25,7 @@ use Rattle.image_commands.specs.declared.watching.WatchedPlaces.{WatchedPlaces}
 use Rattle.image_commands.specs.ClearedTrees.{IsClearedEnd, IsMadeCleared, sectors_alone}
 use Rattle.image_commands.specs.Drawing.{AreGiven, Drawing, Gives, drawing}
 use Rattle.image_commands.specs.Endings.{IsLineUnwritten}
+use Rattle.image_commands.specs.Offsets.{format_fault_from}
 use Rattle.image_commands.specs.PlacedFormats.{EndsOverlapping, EndsUnaligned, EndsUndrawnPlaced, EndsUnopenedPlaced}
 use Rattle.image_commands.specs.Places.{OpensPlaced, TwoPlaces, before, behind, data_end, is_aligned, overlaps, two_places}
 use Rattle.image_commands.specs.SuperblockTexts.{blocks_text, root_text, salt_text}
@@ -122,7 +123,7 @@ pub record MakesTree {S D T G : Type 0} (w : Calls S D) (d : Drawing T G) (optio
 abbrev pub PrintsTree : {S D T G : Type 0} → Calls S D → Drawing T G → ImageOptions → TwoPlaces → Option (List ℕ) → Option (List ℕ) → Type 0
 PrintsTree w d options places old new = (made : MadeImage) × MakesTree w d options places made × Appends old new (tree_text made)
 
--- a tree of the two images isn't made
+-- a tree of the two images isn't made; the sectors that are needed count from the beginning of HASH
 pub record EndsTree {S D T G : Type 0} (w : Calls S D) (d : Drawing T G) (options : ImageOptions) (places : TwoPlaces) (fault : ImageFault) : Type 0 where
   pub given : FormatOptions
   pub two : TwoImages D
@@ -131,7 +132,7 @@ pub record EndsTree {S D T G : Type 0} (w : Calls S D) (d : Drawing T G) (option
   pub opened : OpensPlaced w places two
   pub are_given : AreGiven d (unnamed options) given
   pub ends : IsTreeEnd (tree_with given (data_of w two places.first)) (data_of w two places.first) (w.state two.hash.device) places.first (w.state hash_dev') cause
-  pub is : fault ≡ Format cause
+  pub is : fault ≡ Format (format_fault_from places.first cause)
 
 -- one of these, or the text of what was made can't be written
 abbrev pub IsFormatTreeEnd : {S D T G : Type 0} → Calls S D → Drawing T G → ImageOptions → TwoPlaces → Bool → ImageFault → Type 0

@@ -1,5 +1,5 @@
 -- What `verify` and `table` say of a tree without a superblock, and how they end early.
-use Rattle.std.specs.Prelude.{◌≡◌, ◌≢◌, ◌⊎◌, ℕ, Bool, false, true, List, codes, Option, None}
+use Rattle.std.specs.Prelude.{◌≡◌, ◌⊎◌, ℕ, Bool, false, true, List, codes, Option, None}
 use Rattle.std.specs.Borrow.{Bor}
 use Rattle.std.specs.Io.KnownBytes.{Appends}
 use Rattle.program_io.specs.Counted.{CountedRecord}
@@ -9,7 +9,7 @@ use Rattle.verity_format.specs.declared.formatting.FormatOptions.{FormatOptions}
 use Rattle.verity_format.specs.declared.verifying.Verdict.TheVariants.{Matches}
 use Rattle.verity_format.specs.Options.{superblock_with}
 use Rattle.verity_format.specs.Superblock.{SuperRecord, shape_of}
-use Rattle.verity_format.specs.Trees.{shape_alone}
+use Rattle.verity_format.specs.Trees.{shape_alone, tree_alone}
 use Rattle.verity_format.specs.Verifying.{IsTreeFound, IsTreeVerifyCause}
 use Rattle.image_files.specs.Opener.{Calls, Opener, calls}
 use Rattle.image_commands.specs.declared.fault.ImageFault.{ImageFault}
@@ -19,9 +19,10 @@ use Rattle.image_commands.specs.declared.places.Bounds.{Bounds}
 use Rattle.image_commands.specs.declared.table.LineWords.{LineWords}
 use Rattle.image_commands.specs.declared.tree_verify.ExpectedTree.{ExpectedTree}
 use Rattle.image_commands.specs.declared.watching.WatchedPlaces.{WatchedPlaces}
+use Rattle.image_commands.specs.Comparing.{IsCountedDifference}
 use Rattle.image_commands.specs.Endings.{IsCommonEnd, IsLineUnwritten, IsUnopened}
 use Rattle.image_commands.specs.Openings.{FailsToOpenTwo, OpensTwo}
-use Rattle.image_commands.specs.Places.{TwoPlaces, before, behind, is_aligned, two_places}
+use Rattle.image_commands.specs.Places.{TwoPlaces, before, behind, is_aligned, tree_start, two_places}
 use Rattle.image_commands.specs.TableLines.{tree_line}
 use Rattle.image_commands.specs.TreeFormats.{data_of, tree_with}
 use Rattle.image_commands.specs.TreePlaces.{HasNoShape}
@@ -39,7 +40,7 @@ IsTreeComparisonEnd s data_dev hash_dev first root failed (Format fault) = HasNo
 IsTreeComparisonEnd s data_dev hash_dev first root failed (Verify fault) =
     (data_dev' : Device) × ((hash_dev' : Device) × IsTreeVerifyCause (shape_alone s) data_dev (behind hash_dev first) data_dev' hash_dev' fault)
 IsTreeComparisonEnd s data_dev hash_dev first root failed (Differs verdict) =
-    (verdict ≢ Matches) × ((data_dev' : Device) × ((hash_dev' : Device) × IsTreeFound (shape_alone s) s.salt data_dev (behind hash_dev first) data_dev' hash_dev' root verdict))
+    (data_dev' : Device) × ((hash_dev' : Device) × IsCountedDifference (tree_alone s) (tree_start first s.hash_block 0) data_dev (behind hash_dev first) data_dev' hash_dev' root verdict)
 IsTreeComparisonEnd s data_dev hash_dev first root failed fault = IsLineUnwritten failed fault
 
 -- `verify --no-superblock`

@@ -5,6 +5,7 @@ ghost use Rattle.image_commands.specs.Comparing.{FailsToCompare, FindsMatches, O
 ghost use Rattle.image_commands.specs.Places.{before, behind};
 
 use crate::fault::ImageFault;
+use crate::offsets::verdict_from;
 use crate::places::Bounds;
 use block_device::BlockDev;
 use device_adapters::Window;
@@ -37,18 +38,20 @@ pub fn place_parts<D: BlockDev, H: BlockDev>(
     }
 }
 
-/// Compares the tree over the data device with the one on the hash device, and prints `matches`. A difference is the fault `Differs`.
+/// Compares the tree over the data device with the one on the hash device, and prints `matches`. A difference is the fault `Differs`,
+/// whose block counts from the beginning of a file that has so many hash blocks ahead of the hash device.
 #[tactic(auto, using(crate::proofs::lemmas::EndingLemmas::quiet))]
 pub fn compare<'a, D: BlockDev, H: BlockDev, W: Write>(
     alloc: Global,
     two: &mut ImagePair<D, H>,
     tree: &VerityTree,
+    ahead: u64,
     root: &Digest,
     writer: &mut Counted<W>,
 ) -> Result<(), ImageFault<'a>>
     ensures read { OnlyReadsImages D.state H.state two.old two.new }
     ensures ok { OnOk result (FindsMatches D.state H.state two.old two.new W.contents writer.old writer.new tree.now root.now) }
-    ensures err { IfErr result (FailsToCompare D.state H.state two.old two.new writer.new tree.now root.now) }
+    ensures err { IfErr result (FailsToCompare D.state H.state two.old two.new writer.new tree.now ahead root.now) }
     ensures quiet { IfErr result (λ fault. IsQuiet fault (W.contents writer.old.inner) (W.contents writer.new.inner)) }
 {
     match verify_tree(alloc, &mut two.data, &mut two.hash, tree, root)? {
@@ -56,6 +59,6 @@ pub fn compare<'a, D: BlockDev, H: BlockDev, W: Write>(
             writer.put(b"matches\n")?;
             Ok(())
         }
-        verdict => Err(ImageFault::Differs(verdict)),
+        verdict => Err(ImageFault::Differs(verdict_from(ahead, verdict))),
     }
 }

@@ -1,7 +1,7 @@
 //! The command `verify --pin`: compares a tree with a data image by a pin.
 ghost use Rattle.std.specs.Prelude.{◌≡◌, IfErr, IfOk, OnOk};
 ghost use Rattle.image_commands.specs.Endings.{IsQuiet};
-ghost use Rattle.image_commands.specs.Pinned.{FailsToVerifyPinned, IsPinnedAt, IsReadAt, IsSuperEnd, IsUnpinnedAt, VerifiesPinned, counted_behind, pinned_options, tree_behind};
+ghost use Rattle.image_commands.specs.Pinned.{FailsToVerifyPinned, IsPinnedAt, IsReadAt, IsSuperEnd, IsUnpinnedAt, VerifiesPinned, pinned_options, tree_behind};
 ghost use Rattle.verity_format.specs.Blocks.{IsOnlyRead};
 
 use crate::fault::ImageFault;
@@ -16,7 +16,7 @@ use image_pin::{Pin, check_superblock};
 use program_io::Counted;
 use std::alloc::Global;
 use std::io::Write;
-use verity_format::{FormatOptions, Verdict, VerifyFault, decode};
+use verity_format::{FormatOptions, VerifyFault, decode};
 
 /// `verify --pin FILE [--hash-offset BYTES] DATA HASH`: `matches` where the superblock at that sector of HASH says what the pin
 /// says, and the tree of the pin over the data stands behind it, under the pin's root. What the superblock says isn't used
@@ -53,10 +53,7 @@ pub fn verify_pinned<'a, I: Images, S: Watchers, W: Write>(
         end,
         first: tree_behind(first, pin.hash_block),
     };
-    match compare_at(alloc, devices, bounds, options, &pin.root, writer) {
-        Ok(()) => Ok(()),
-        Err(fault) => Err(counted_behind(fault)),
-    }
+    compare_at(alloc, devices, bounds, options, &pin.root, writer)
 }
 
 // Whether a superblock stands at that sector that says what the pin says.
@@ -112,16 +109,4 @@ fn tree_behind(first: u64, size: u32) -> u64
     ensures { result ≡ tree_behind first size }
 {
     first.saturating_add(u64::from(size / 512))
-}
-
-// The fault, of a difference with its block counted from the superblock's.
-fn counted_behind(fault: ImageFault<'_>) -> ImageFault<'_>
-    ensures { result ≡ counted_behind fault.entry }
-{
-    match fault {
-        ImageFault::Differs(Verdict::AreaDiffers(block)) => {
-            ImageFault::Differs(Verdict::AreaDiffers(block.saturating_add(1)))
-        }
-        fault => fault,
-    }
 }

@@ -142,5 +142,7 @@ fn compare_behind<'a, D: BlockDev + Drop, H: BlockDev + Drop, W: Write>(
     let (data_dev, hash_dev) = devices;
     let mut two = place_parts(data_dev, hash_dev, bounds);
     let superblock = find_tree(&mut two.hash, bounds.first)?;
-    compare(alloc, &mut two, &superblock.tree(), root, writer)
+    let size = superblock.hash_block();
+    let ahead = tree_start(bounds.first, size, 0);
+    compare(alloc, &mut two, &superblock.tree(), ahead, root, writer)
 }

@@ -6,6 +6,7 @@ ghost use Rattle.image_commands.specs.PlacedFormats.{FailsToMakeAt, IsUnmadeAt, 
 
 use crate::fault::ImageFault;
 use crate::format::{MadeImage, given_or_drawn, make};
+use crate::offsets::format_fault_from;
 use crate::places::{Bounds, data_end, is_aligned, open_placed, overlaps};
 use crate::random::Generators;
 use crate::watching::{WatchedPlaces, bytes_of_blocks, watch};
@@ -44,9 +45,13 @@ pub fn make_placed<'a, I: Images, G: Generators + Watchers>(
     let all = bytes_of_blocks(&options, bytes_before(&two.data.device, end));
     let (data_dev, hash_dev) = watch(two, generators, progress, all);
     let (hash_dev, made) = make_behind(alloc, data_dev, hash_dev, Bounds { end, first }, options);
-    let made = made?;
-    images.close(hash, hash_dev);
-    Ok(made)
+    match made {
+        Ok(made) => {
+            images.close(hash, hash_dev);
+            Ok(made)
+        }
+        Err(fault) => Err(ImageFault::Format(format_fault_from(first, fault))),
+    }
 }
 
 // Formats what lies behind a sector of the hash device over what lies before one of the data device, and gives the hash

@@ -42,7 +42,7 @@ pub fn is_aligned(first: u64, size: u32) -> bool
 }
 
 /// The hash block of the file at which a tree begins, `ahead` blocks after that sector.
-pub(crate) fn tree_start(first: u64, size: u32, ahead: u64) -> u64
+pub fn tree_start(first: u64, size: u32, ahead: u64) -> u64
     requires { first + ahead < 2 ^ 64 }
     ensures { result ≡ tree_start first size ahead }
 {

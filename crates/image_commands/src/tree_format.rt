@@ -8,6 +8,7 @@ ghost use Rattle.image_commands.specs.TreeFormats.{FailsToMakeShape, FailsToPlac
 use crate::cleared_tree::make_cleared;
 use crate::fault::ImageFault;
 use crate::format::{MadeImage, given_or_drawn};
+use crate::offsets::format_fault_from;
 use crate::places::{Bounds, data_end, is_aligned, open_placed, overlaps};
 use crate::random::Generators;
 use crate::superblock_text::{say_blocks, say_root, say_salt};
@@ -55,9 +56,13 @@ pub fn format_tree<'a, I: Images, G: Generators + Watchers, W: Write>(
     let all = bytes_of_blocks(&options, bytes_before(&two.data.device, end));
     let (data_dev, hash_dev) = watch(two, generators, progress, all);
     let (hash_dev, made) = make_at(alloc, data_dev, hash_dev, Bounds { end, first }, options);
-    let made = made?;
-    images.close(hash, hash_dev);
-    Ok(say_tree(writer, &made)?)
+    match made {
+        Ok(made) => {
+            images.close(hash, hash_dev);
+            Ok(say_tree(writer, &made)?)
+        }
+        Err(fault) => Err(ImageFault::Format(format_fault_from(first, fault))),
+    }
 }
 
 // Makes the tree at that sector of the hash device over what lies before one of the data device, and gives the hash device

@@ -6,7 +6,7 @@ ghost use Rattle.image_commands.specs.TreeImages.{FailsAtTree, FailsToVerifyTree
 use crate::comparing::{compare, place_parts};
 use crate::fault::ImageFault;
 use crate::paths::{ImagePaths, open_two};
-use crate::places::{Bounds, ImagePlaces, data_end, is_aligned};
+use crate::places::{Bounds, ImagePlaces, data_end, is_aligned, tree_start};
 use crate::tree_place::tree_of;
 use crate::watching::{WatchedPlaces, bytes_of_blocks, watch};
 use block_device::BlockDev;
@@ -26,8 +26,8 @@ pub struct ExpectedTree {
 }
 
 /// `verify --no-superblock [--hash-offset BYTES] [OPTIONS] DATA HASH ROOT`: `matches` where the tree of those options over
-/// the data stands at that sector of HASH, under that root; a difference is the fault `Differs`, whose block is counted
-/// from the tree's first one. Where both are one file, the data are what lies before.
+/// the data stands at that sector of HASH, under that root; a difference is the fault `Differs`, whose block counts from the
+/// beginning of HASH. Where both are one file, the data are what lies before.
 #[tactic(auto, using(crate::proofs::lemmas::EndingLemmas::quiet))]
 pub fn verify_tree<'a, I: Images, S: Watchers, W: Write>(
     alloc: Global,
@@ -82,6 +82,8 @@ pub(crate) fn compare_at<'a, D: BlockDev + Drop, H: BlockDev + Drop, W: Write>(
 {
     let (data_dev, hash_dev) = devices;
     let mut two = place_parts(data_dev, hash_dev, bounds);
+    let size = options.hash_block;
     let params = tree_of(options, two.data.sectors())?;
-    compare(alloc, &mut two, &params.tree_alone(), root, writer)
+    let ahead = tree_start(bounds.first, size, 0);
+    compare(alloc, &mut two, &params.tree_alone(), ahead, root, writer)
 }

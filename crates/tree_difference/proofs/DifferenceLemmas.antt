@@ -28,6 +28,7 @@ use Rattle.tree_difference.specs.declared.walk.Walk.{Walk}
 use Rattle.tree_difference.specs.Causes.{IsBadBlock, IsWalkCause}
 use Rattle.tree_difference.specs.Comparisons.{AreStatesSeen, Compares, ReadsDiffering, DifferenceWorld, hash_images, difference_world}
 use Rattle.tree_difference.specs.Differences.{CanCompare, HaveTrees, IsAligned, IsComparisonCause, IsDifference, IsDifferenceCause, IsWalkOf, sectors_before, trees_in, trees_of}
+use Rattle.tree_difference.specs.RootBlocks.{root_sectors}
 use Rattle.tree_difference.specs.Superblocks.{IsOneImageCause, IsImageRead, unlike}
 use Rattle.tree_difference.specs.Trees.{Trees, AreComparable, IsStoredAs, common_levels}
 use Rattle.tree_difference.specs.Walks.{AreSameTrees, IsOn, WalkSides, walk_sides}
@@ -212,12 +213,12 @@ module _ (a b : SuperRecord) (roots : Roots) (w : Walk) (d d' e e' d'' e'' : Dev
 
 -- ---- what was read beside the pairs
 
-pub aligned-read : (w w' : Walk) (d0 d d' e e' : Device) (s : ShapeRecord) (t : Trees) → IsFullRead d0 1 d → w.first.shape ≡ s → w.levels ≡ common_levels t → IsAligned (walk_sides w w' d e d' e') → IsFullRead d0 (sectors_before s t) d'
+pub aligned-read : (w w' : Walk) (d0 d d' e e' : Device) (s : ShapeRecord) (t : Trees) → IsFullRead d0 (1 + root_sectors s) d → w.first.shape ≡ s → w.levels ≡ common_levels t → IsAligned (walk_sides w w' d e d' e') → IsFullRead d0 (sectors_before s t) d'
 aligned-read w w' d0 d d' e e' s t p shape few h =
-    full_read-then 1 ((levels s - common_levels t) * (s.hash_block / 512)) (sectors_before s t) p
+    full_read-then (1 + root_sectors s) ((levels s - common_levels t) * (s.hash_block / 512)) (sectors_before s t) p
     (subst (λ (n : ℕ). IsFullRead d ((levels s - n) * (s.hash_block / 512)) d') few (subst (λ (x : ShapeRecord). IsFullRead d ((levels x - w.levels) * (x.hash_block / 512)) d') shape h.first.full)) (omega arith)
 
-pub aligned-read-second : (w w' : Walk) (e0 d d' e e' : Device) (s : ShapeRecord) (t : Trees) → IsFullRead e0 1 e → w.second.shape ≡ s → w.levels ≡ common_levels t → IsAligned (walk_sides w w' d e d' e') → IsFullRead e0 (sectors_before s t) e'
+pub aligned-read-second : (w w' : Walk) (e0 d d' e e' : Device) (s : ShapeRecord) (t : Trees) → IsFullRead e0 (1 + root_sectors s) e → w.second.shape ≡ s → w.levels ≡ common_levels t → IsAligned (walk_sides w w' d e d' e') → IsFullRead e0 (sectors_before s t) e'
 aligned-read-second w w' e0 d d' e e' s t p shape few h =
-    full_read-then 1 ((levels s - common_levels t) * (s.hash_block / 512)) (sectors_before s t) p
+    full_read-then (1 + root_sectors s) ((levels s - common_levels t) * (s.hash_block / 512)) (sectors_before s t) p
     (subst (λ (n : ℕ). IsFullRead e ((levels s - n) * (s.hash_block / 512)) e') few (subst (λ (x : ShapeRecord). IsFullRead e ((levels x - w.levels) * (x.hash_block / 512)) e') shape h.second.full)) (omega arith)

@@ -23,6 +23,7 @@ use Rattle.tree_difference.specs.declared.walk.Walk.{Walk}
 use Rattle.tree_difference.specs.Causes.{IsBadBlock, IsWalkCause}
 use Rattle.tree_difference.specs.Comparisons.{Compares, ReadsDiffering, DifferenceWorld, difference_world}
 use Rattle.tree_difference.specs.Rests.{last_runs}
+use Rattle.tree_difference.specs.RootBlocks.{IsRootRead, root_sectors}
 use Rattle.tree_difference.specs.Superblocks.{IsTreeCut, IsImageRead, unlike}
 use Rattle.tree_difference.specs.Trees.{Trees, AreComparable, common_blocks, common_levels}
 use Rattle.tree_difference.specs.Walks.{HaveBlock, IsOn, WalkSides, walk_sides}
@@ -83,18 +84,20 @@ abbrev pub IsComparisonCause : Walk → Device → Device → Device → Device 
 IsComparisonCause w first second first' second' failed Write = failed ≡ true
 IsComparisonCause w first second first' second' failed fault = IsWalkCause w first second first' second' fault
 
--- how many sectors of an image are read beside the pairs of hash blocks that differ: the superblock's, and those of the
--- first hash block of each level that the other tree doesn't have
+-- how many sectors of an image are read beside the pairs of hash blocks that differ: the superblock's, those of the root hash
+-- block, which is checked first, and those of the first hash block of each level that the other tree doesn't have
 abbrev pub sectors_before : ShapeRecord → Trees → ℕ
-sectors_before s t = 1 + (levels s - common_levels t) * (s.hash_block / 512)
+sectors_before s t = 1 + root_sectors s + (levels s - common_levels t) * (s.hash_block / 512)
 
--- both superblocks were read, and the trees compared
+-- both superblocks and both root hash blocks were read, and the trees compared
 pub record IsDifference (w : DifferenceWorld) (roots : Roots) (most : Option ℕ) (totals : Totals) : Type 0 where
   pub a : SuperRecord
   pub b : SuperRecord
   pub first_image : IsImageRead w.first a
   pub second_image : IsImageRead w.second b
   pub alike : unlike a b ≡ None
+  pub first_root : IsRootRead (shape_of a) a.salt roots.first w.first
+  pub second_root : IsRootRead (shape_of b) b.salt roots.second w.second
   pub compares : Compares (trees_of a b roots) w most totals
   pub reads : ReadsDiffering (trees_of a b roots) w (sectors_before (shape_of a) (trees_of a b roots)) (sectors_before (shape_of b) (trees_of a b roots))
 

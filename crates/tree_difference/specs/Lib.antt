@@ -3,6 +3,7 @@ pub mod Superblocks
 pub mod Rests
 pub mod Walks
 pub mod Causes
+pub mod RootBlocks
 pub mod Comparisons
 pub mod Differences
 pub mod Laws

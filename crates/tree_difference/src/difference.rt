@@ -9,6 +9,7 @@ ghost use Rattle.tree_difference.specs.Differences.{Aligns, CanCompare, EndsDiff
 
 use crate::fault::{DifferenceFault, Which};
 use crate::reading::read_down;
+use crate::root_block::check_root_block;
 use crate::superblocks::{check_alike, superblock_of};
 use crate::walk::Walk;
 use allocation::OutOfMemory;
@@ -38,8 +39,9 @@ pub struct Totals {
 }
 
 /// Compares the trees of two hash images from their roots down, and tells a line for each longest run of data blocks
-/// that differ, in rising order: at most so many lines, and then `more`. A subtree is gone into only where its digests
-/// differ, and each hash block is checked against the digest above it.
+/// that differ, in rising order: at most so many lines, and then `more`. Both root hash blocks are read and checked, also if the
+/// root hashes are equal. Of the rest a subtree is entered only if its digests differ, and each hash block that is read is checked
+/// against the digest in its parent.
 pub fn compare_trees<D: BlockDev, E: BlockDev, L: Listing>(
     alloc: Global,
     first: &mut D,
@@ -57,6 +59,8 @@ pub fn compare_trees<D: BlockDev, E: BlockDev, L: Listing>(
         Some(field) => return Err(DifferenceFault::Unlike(field)),
         None => {}
     }
+    check_root_block(alloc, first, Which::First, &one, roots.first)?;
+    check_root_block(alloc, second, Which::Second, &two, roots.second)?;
     let mut walk = begin(alloc, &one, &two, roots)?;
     align(&mut walk, first, second)?;
     compare(&mut walk, first, second, most, listing)

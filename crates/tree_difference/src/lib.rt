@@ -5,6 +5,7 @@ mod difference;
 mod fault;
 pub mod laws;
 mod reading;
+mod root_block;
 mod superblocks;
 mod walk;
 

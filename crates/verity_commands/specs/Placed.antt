@@ -34,7 +34,7 @@ use Rattle.verity_commands.specs.declared.verity_fault.VerityFault.{VerityFault}
 use Rattle.verity_commands.specs.declared.verity_fault.VerityFault.TheVariants.{Usage}
 use Rattle.verity_commands.specs.Endings.{IsImageEnd, IsVerityQuiet, IsUnsaid}
 use Rattle.verity_commands.specs.Growing.{FormatsGrowing, IsGrowingEnd, PreparesFirst}
-use Rattle.verity_commands.specs.Places.{IsRootEnd, TellsRoot, image_places, start_of}
+use Rattle.verity_commands.specs.Places.{IsRootEnd, TellsRoot, image_places}
 use Rattle.verity_format.specs.declared.formatting.FormatFault.TheVariants.{HashTooSmall}
 
 -- the words are none of the command's, and nothing is opened
@@ -78,16 +78,16 @@ IsEntryEnd w t failed fault = IsRootEnd w t.root fault ⊎ EndsEntry w t failed 
 
 -- ---- each by its words
 
--- HASH has too few sectors for what is formatted
+-- HASH has too few sectors for what is formatted, which needs so many from the beginning of HASH on
 abbrev pub IsTooSmall : {S D T G : Type 0} → ImageOptions → TwoPlaces → Calls S D → Drawing T G → ℕ → Type 0
 IsTooSmall options places w drawing needed = IsMakingPlacedEnd w drawing options places (Format (HashTooSmall needed))
 
 -- what was made once HASH had the sectors that are needed
 abbrev pub MakesGrown : {S D T G : Type 0} → TwoPlaces → MadeImage → Calls S D → Drawing T G → ImageOptions → Type 0
-MakesGrown places image w drawing options = FormatsGrowing w drawing (start_of places) (IsTooSmall options places) (λ w' d'. MakesPlaced w' d' options places image)
+MakesGrown places image w drawing options = FormatsGrowing w drawing places.paths.hash_path (IsTooSmall options places) (λ w' d'. MakesPlaced w' d' options places image)
 
 abbrev pub IsGrownEnd : {S D T G : Type 0} → TwoPlaces → ImageFault → Calls S D → Drawing T G → ImageOptions → Type 0
-IsGrownEnd places fault w drawing options = IsGrowingEnd w drawing (start_of places) (IsTooSmall options places) (λ w' d' f. IsMakingPlacedEnd w' d' options places f) fault
+IsGrownEnd places fault w drawing options = IsGrowingEnd w drawing places.paths.hash_path (IsTooSmall options places) (λ w' d' f. IsMakingPlacedEnd w' d' options places f) fault
 
 -- with `--grow`, and without
 abbrev pub MakesImage : {S D T G : Type 0} → Bool → Calls S D → Drawing T G → ImageOptions → TwoPlaces → MadeImage → Type 0

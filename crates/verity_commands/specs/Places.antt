@@ -7,7 +7,6 @@ use Rattle.image_commands.specs.declared.fault.ImageFault.{ImageFault}
 use Rattle.image_commands.specs.Places.{TwoPlaces}
 use Rattle.image_commands.specs.RootFiles.{IsRootFileEnd, ReadsRoot}
 use Rattle.image_files.specs.Opener.{Calls, Opener, calls}
-use Rattle.verity_commands.specs.Growing.{HashStart}
 
 -- it is the word's, and nothing is opened; or that of the file
 abbrev pub TellsRoot : {S D : Type 0} → Calls S D → RootRecord → List ℕ → Type 0
@@ -22,10 +21,6 @@ IsRootEnd w (root_file path) fault = IsRootFileEnd w path fault
 -- the paths of data and hash images, and the sector at which the hash image begins
 abbrev pub image_places : List ℕ → List ℕ → ℕ → TwoPlaces
 image_places image hash offset = record { paths = record { data_path = image; hash_path = hash }; first = offset / 512 }
-
--- the hash image's path and first sector
-abbrev pub start_of : TwoPlaces → HashStart
-start_of places = record { path = places.paths.hash_path; first = places.first }
 
 -- ---- as a call sees them
 

@@ -27,7 +27,7 @@ use Rattle.verity_format.specs.declared.formatting.FormatOptions.{FormatOptions}
 use Rattle.verity_commands.specs.declared.verity_fault.VerityFault.{VerityFault}
 use Rattle.verity_commands.specs.Endings.{IsImageEnd, IsVerityQuiet, IsUnsaid}
 use Rattle.verity_commands.specs.Growing.{FormatsGrowing, IsGrowingEnd, PreparesFirst}
-use Rattle.verity_commands.specs.Places.{IsRootEnd, TellsRoot, image_places, start_of}
+use Rattle.verity_commands.specs.Places.{IsRootEnd, TellsRoot, image_places}
 use Rattle.verity_format.specs.declared.formatting.FormatFault.TheVariants.{HashTooSmall}
 
 -- the values of the options, whose salt is given
@@ -36,16 +36,16 @@ pub record SaysTree (texts : OptionTexts) (given : FormatOptions) : Type 0 where
   pub said : AreSaid texts options
   pub is : given_options options ≡ Some given
 
--- HASH has too few sectors for the tree
+-- HASH has too few sectors for the tree, which needs so many from the beginning of HASH on
 abbrev pub IsTooSmallForTree : {S D T G : Type 0} → ImageOptions → TwoPlaces → Calls S D → Drawing T G → ℕ → Type 0
 IsTooSmallForTree options places w drawing needed = (failed : Bool) × IsTreeFormatEnd w drawing options places failed (Format (HashTooSmall needed))
 
 -- what was made and printed once HASH had the sectors that are needed
 abbrev pub GrowsTree : {S D T G : Type 0} → TwoPlaces → Option (List ℕ) → Option (List ℕ) → Calls S D → Drawing T G → ImageOptions → Type 0
-GrowsTree places old new w drawing options = FormatsGrowing w drawing (start_of places) (IsTooSmallForTree options places) (λ w' d'. PrintsTree w' d' options places old new)
+GrowsTree places old new w drawing options = FormatsGrowing w drawing places.paths.hash_path (IsTooSmallForTree options places) (λ w' d'. PrintsTree w' d' options places old new)
 
 abbrev pub IsGrownTreeEnd : {S D T G : Type 0} → TwoPlaces → Bool → ImageFault → Calls S D → Drawing T G → ImageOptions → Type 0
-IsGrownTreeEnd places failed fault w drawing options = IsGrowingEnd w drawing (start_of places) (IsTooSmallForTree options places) (λ w' d' f. IsTreeFormatEnd w' d' options places failed f) fault
+IsGrownTreeEnd places failed fault w drawing options = IsGrowingEnd w drawing places.paths.hash_path (IsTooSmallForTree options places) (λ w' d' f. IsTreeFormatEnd w' d' options places failed f) fault
 
 -- with `--grow`, and without
 abbrev pub MakesTreeAt : {S D T G : Type 0} → Bool → Calls S D → Drawing T G → ImageOptions → TwoPlaces → Option (List ℕ) → Option (List ℕ) → Type 0

@@ -1,11 +1,11 @@
 //! `format --grow`: makes HASH, or makes it longer, where it has too few sectors.
-ghost use Rattle.std.specs.Prelude.{◌≡◌, ◌+◌, true, Err, IfErr, IfOk, IfSome, OnOk};
+ghost use Rattle.std.specs.Prelude.{◌≡◌, true, Err, IfErr, IfOk, IfSome, OnOk};
 ghost use Rattle.image_commands.specs.declared.fault.ImageFault.TheVariants as image_fault;
 ghost use Rattle.image_commands.specs.Drawing.{drawing};
 ghost use Rattle.image_commands.specs.Endings.{IsQuiet};
 ghost use Rattle.image_files.specs.Opener.{calls};
 ghost use Rattle.verity_format.specs.declared.formatting.FormatFault.TheVariants as format_fault;
-ghost use Rattle.verity_commands.specs.Growing.{GrowsFile, IsRoomFor, IsUngrown};
+ghost use Rattle.verity_commands.specs.Growing.{GrowsFile, IsUngrown};
 ghost use Rattle.verity_commands.specs.Placed.{FailsGrownImage, MakesGrownImage};
 ghost use Rattle.verity_commands.specs.Trees.{FailsGrownTree, MakesGrownTree};
 
@@ -13,7 +13,7 @@ use block_device::BlockDev;
 use command_line::ImageOptions;
 use device_adapters::Watchers;
 use image_commands::{
-    Generators, ImageFault, ImagePlaces, MadeImage, WatchedPlaces, format_tree, make_placed,
+    Generators, ImageFault, MadeImage, WatchedPlaces, format_tree, make_placed,
 };
 use image_files::{Images, UnopenedFile};
 use program_io::Counted;
@@ -36,7 +36,7 @@ fn make_room<'a, I: Images>(
     }
 }
 
-// How many sectors are needed, where a formatting ended since there were too few.
+// How many sectors the file has to have, if a formatting ended since it has fewer.
 fn needed_by<T>(tried: &Result<T, ImageFault<'_>>) -> Option<u64>
     ensures { IfSome result (λ needed. tried.now ≡ Err (image_fault.Format (format_fault.HashTooSmall needed))) }
 {
@@ -44,13 +44,6 @@ fn needed_by<T>(tried: &Result<T, ImageFault<'_>>) -> Option<u64>
         Err(ImageFault::Format(FormatFault::HashTooSmall { needed })) => Some(*needed),
         _ => None,
     }
-}
-
-// How many sectors the file has to have then, whose hash image begins at that one.
-fn room_for<T>(tried: &Result<T, ImageFault<'_>>, first: u64) -> Option<u64>
-    ensures { IfSome result (IsRoomFor tried.now first) }
-{
-    first.checked_add(needed_by(tried)?)
 }
 
 /// Makes the hash image once its file has the sectors that are needed.
@@ -64,14 +57,10 @@ pub fn make_growing<'a, I: Images, G: Generators + Watchers>(
     ensures ok { IfOk result (MakesGrownImage I.relations I.Dev.state images.old images.new (drawing G.gives G.Generator.stream generators.old generators.new) options.now watched.now) }
     ensures err { IfErr result (FailsGrownImage I.relations I.Dev.state images.old images.new (drawing G.gives G.Generator.stream generators.old generators.new) options.now watched.now) }
 {
-    let ImagePlaces {
-        data: _,
-        hash,
-        hash_first,
-    } = watched.places;
+    let hash = watched.places.hash;
     make_room(images, hash, 0)?;
     let tried = make_placed(alloc, images, generators, *options, *watched);
-    let Some(sectors) = room_for(&tried, hash_first) else {
+    let Some(sectors) = needed_by(&tried) else {
         return tried;
     };
     make_room(images, hash, sectors)?;
@@ -91,14 +80,10 @@ pub fn format_tree_growing<'a, I: Images, G: Generators + Watchers, W: Write>(
     ensures err { IfErr result (FailsGrownTree I.relations I.Dev.state images.old images.new (drawing G.gives G.Generator.stream generators.old generators.new) writer.new options.now watched.now) }
     ensures quiet { IfErr result (λ fault. IsQuiet fault (W.contents writer.old.inner) (W.contents writer.new.inner)) }
 {
-    let ImagePlaces {
-        data: _,
-        hash,
-        hash_first,
-    } = watched.places;
+    let hash = watched.places.hash;
     make_room(images, hash, 0)?;
     let tried = format_tree(alloc, images, generators, *options, *watched, writer);
-    let Some(sectors) = room_for(&tried, hash_first) else {
+    let Some(sectors) = needed_by(&tried) else {
         return tried;
     };
     make_room(images, hash, sectors)?;

@@ -1,10 +1,12 @@
-use Rattle.std.proofs.Common.{inl, inr, refl, subst, sym}
+use Rattle.std.proofs.Common.{◌≡◌, ◌∙◌, ℕ, ap, inl, inr, refl, subst, sym}
+use Rattle.std.proofs.Math.Path.{subst₂}
 use Rattle.std.proofs.lemmas.Result.{IfErr-weaker, on_ok_weaker}
 use Rattle.block_device.specs.Device.{Device}
 use Rattle.device_adapters.specs.Windows.{windowed}
 use Rattle.command_line.specs.words.FecVerify.{FecVerifyRecord, fec_verify_record}
 use Rattle.fec_area.specs.Layouts.{IsLaidOn}
 use Rattle.image_commands.specs.Comparing.{IsComparedEnd}
+use Rattle.image_commands.specs.Places.{tree_start}
 use Rattle.verity_commands.specs.declared.verity_fault.VerityFault.TheVariants.{Image}
 use Rattle.verity_format.specs.declared.verifying.Verdict.TheVariants.{Matches}
 use Rattle.verity_format.specs.Verifying.{IsTreeFound}
@@ -61,6 +63,9 @@ returns-in_err-compare-clause-err g c =
     let new = g.W.Write.contents c.compare.new.writer.inner in
     let failed = c.compare.new.writer.failed in
     let cause = c.in_err-compare.field-0.0 in
+    let size : ℕ = c.in_ok-laid.laid.tree.shape.hash_block in
+    let ahead : c.tree_start-ahead.result ≡ tree_start c.sector_at-first.result size 0 =
+    c.tree_start-ahead.ensures ∙ ap (λ (n : ℕ). tree_start c.sector_at-first.result n 0) c.hash_block-size.ensures.value in
     err-from c.from_residual-in_err-compare.result _ (Verity (Image cause)) c.from_residual-in_err-compare.ensures.1
     (inr (inr (record {
       root = root;
@@ -72,7 +77,7 @@ returns-in_err-compare-clause-err g c =
         data_dev' = data_new;
         hash_dev' = hash_new;
         measures = c.in_ok-laid.ensures.ok;
-        ends = subst (λ (d : Device). IsComparedEnd c.in_ok-laid.laid.tree d read_dev data_new hash_new root failed cause) c.new-data.ensures.state c.in_err-compare.ensures.err;
+        ends = subst₂ (λ (a : ℕ) (d : Device). IsComparedEnd c.in_ok-laid.laid.tree a d read_dev data_new hash_new root failed cause) ahead c.new-data.ensures.state c.in_err-compare.ensures.err;
         is = refl;
         quiet = c.in_err-compare.ensures.quiet;
       }));

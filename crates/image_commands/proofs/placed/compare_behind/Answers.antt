@@ -1,5 +1,5 @@
-use Rattle.std.proofs.Common.{inl, inr, subst}
-use Rattle.std.proofs.Math.Path.{subst₂}
+use Rattle.std.proofs.Common.{◌≡◌, ◌∙◌, ℕ, ap, inl, inr, subst}
+use Rattle.std.proofs.Math.Path.{subst₂, subst₃}
 use Rattle.std.proofs.lemmas.Result.{IfErr-weaker, on_ok_weaker}
 use Rattle.block_device.specs.Device.{Device}
 use Rattle.device_adapters.specs.Windows.{windowed}
@@ -9,6 +9,7 @@ use Rattle.verity_format.specs.Blocks.{IsFullRead}
 use Rattle.verity_format.specs.Verifying.{IsTreeFound}
 use Rattle.image_commands.specs.Comparing.{IsComparedEnd}
 use Rattle.image_commands.specs.Finding.{IsNoTree, ReadsSuper, no_tree_fault}
+use Rattle.image_commands.specs.Places.{tree_start}
 use Rattle.image_commands.proofs.FindingLemmas.{no-tree-end}
 use Rattle.image_commands.proofs.OpeningLemmas.{err-from}
 use Rattle.image_commands.proofs.placed.compare_behind.Goals as goal
@@ -53,6 +54,7 @@ returns-clause-err g c =
     let read_dev = windowed (g.H.BlockDev.state read.inner) read.part in
     let data_new = windowed (g.D.BlockDev.state c.compare.new.two.data.inner) c.compare.new.two.data.part in
     let hash_new = windowed (g.H.BlockDev.state c.compare.new.two.hash.inner) c.compare.new.two.hash.part in
+    let ahead : c.tree_start-ahead.result ≡ tree_start first super.hash_block 0 = c.tree_start-ahead.ensures ∙ ap (λ (n : ℕ). tree_start first n 0) c.hash_block-size.ensures in
     IfErr-weaker c.compare.result _ _
     (λ fault ends. inr (record {
       super = super;
@@ -61,6 +63,6 @@ returns-clause-err g c =
       hash_dev' = hash_new;
       super_read = subst (λ (v : Device). ReadsSuper v first super) c.place_parts-two.ensures.hash c.in_ok-superblock.ensures.ok;
       one = subst (λ (v : Device). IsFullRead v 1 read_dev) c.place_parts-two.ensures.hash c.in_ok-superblock.ensures.full;
-      ends = subst₂ (λ (t : VerityTree) (v : Device). IsComparedEnd t v read_dev data_new hash_new root c.compare.new.writer.failed fault) c.tree.ensures.value c.place_parts-two.ensures.data ends;
+      ends = subst₃ (λ (t : VerityTree) (a : ℕ) (v : Device). IsComparedEnd t a v read_dev data_new hash_new root c.compare.new.writer.failed fault) c.tree.ensures.value ahead c.place_parts-two.ensures.data ends;
     }))
     c.compare.ensures.err

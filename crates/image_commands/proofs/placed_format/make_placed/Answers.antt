@@ -14,17 +14,16 @@ returns-in_err-options-clause-err g c =
     err-from c.from_residual-in_err-options.result _ c.in_err-options.field-0.0 c.from_residual-in_err-options.ensures.1
     (inr (inr (inl (record { two = c.in_ok-two.two; opened = c.in_ok-two.ensures.ok; undrawn = c.in_err-options.ensures.err.1; is = c.in_err-options.ensures.err.0 }))))
 
-pub returns-in_err-made-clause-err : goal.returns-in_err-made-clause-err
-returns-in_err-made-clause-err g c =
-    let cause = c.in_err-made.field-0.0 in
+pub returns-in-Err-clause-err : goal.returns-in-Err-clause-err
+returns-in-Err-clause-err g c =
+    let cause = c.in-Err.fault in
     let watched = c.watch-data_dev in
     let state = g.I.Dev.BlockDev.state in
     let after : Device = state c.make_behind-hash_dev.result.0 in
     let placing : Device → Device → ℕ → Placing = λ data_dev hash_dev end. record { data_dev = data_dev; hash_dev = hash_dev; hash_dev' = after; end = end; first = c.args.watched.places.hash_first } in
     let was : Placing = placing (state watched.result.0.inner) (state watched.result.1) c.data_end-end.result in
-    let ends : IsPlacedEnd c.in_ok-options.options was cause = subst (λ (r : Result MadeImage FormatFault). IfErr r (IsPlacedEnd c.in_ok-options.options was)) c.in_err-made.was c.make_behind-hash_dev.ensures.err in
-    err-from c.from_residual-in_err-made.result _ (Format cause) c.from_residual-in_err-made.ensures.1
-    (inr (inr (inr (inl (record {
+    let ends : IsPlacedEnd c.in_ok-options.options was cause = subst (λ (r : Result MadeImage FormatFault). IfErr r (IsPlacedEnd c.in_ok-options.options was)) c.in-Err.is c.make_behind-hash_dev.ensures.err in
+    inr (inr (inr (inl (record {
       given = c.in_ok-options.options;
       two = c.in_ok-two.two;
       hash_dev' = c.make_behind-hash_dev.result.0;
@@ -32,18 +31,18 @@ returns-in_err-made-clause-err g c =
       opened = c.in_ok-two.ensures.ok;
       are_given = c.in_ok-options.ensures.ok;
       ends = subst₃ (λ (d h : Device) (end : ℕ). IsPlacedEnd c.in_ok-options.options (placing d h end) cause) (ap state watched.ensures.data) (ap state watched.ensures.hash) c.data_end-end.ensures ends;
-      is = refl;
-    })))))
+      is = ap Format c.format_fault_from.ensures;
+    }))))
 
-pub returns-clause-ok : goal.returns-clause-ok
-returns-clause-ok g c =
-    let image = c.in_ok-made.made in
+pub returns-in-Ok-clause-ok : goal.returns-in-Ok-clause-ok
+returns-in-Ok-clause-ok g c =
+    let image = c.in-Ok.made in
     let watched = c.watch-data_dev in
     let state = g.I.Dev.BlockDev.state in
     let after : Device = state c.make_behind-hash_dev.result.0 in
     let placing : Device → Device → ℕ → Placing = λ data_dev hash_dev end. record { data_dev = data_dev; hash_dev = hash_dev; hash_dev' = after; end = end; first = c.args.watched.places.hash_first } in
     let was : Placing = placing (state watched.result.0.inner) (state watched.result.1) c.data_end-end.result in
-    let made : IsMadePlaced c.in_ok-options.options was image = subst (λ (r : Result MadeImage FormatFault). IfOk r (IsMadePlaced c.in_ok-options.options was)) c.in_ok-made.was c.make_behind-hash_dev.ensures.ok in record {
+    let made : IsMadePlaced c.in_ok-options.options was image = subst (λ (r : Result MadeImage FormatFault). IfOk r (IsMadePlaced c.in_ok-options.options was)) c.in-Ok.is c.make_behind-hash_dev.ensures.ok in record {
       given = c.in_ok-options.options;
       two = c.in_ok-two.two;
       hash_dev' = c.make_behind-hash_dev.result.0;

@@ -16,18 +16,17 @@ returns-in_err-options-clause-err g c =
     err-from c.from_residual-in_err-options.result _ c.in_err-options.field-0.0 c.from_residual-in_err-options.ensures.1
     (inr (inr (inl (record { two = c.in_ok-two.two; opened = c.in_ok-two.ensures.ok; undrawn = undrawn-as c.in_err-options.ensures.err.1 c.unnamed.ensures; is = c.in_err-options.ensures.err.0 }))))
 
-pub returns-in_err-made-clause-err : goal.returns-in_err-made-clause-err
-returns-in_err-made-clause-err g c =
-    let cause = c.in_err-made.field-0.0 in
+pub returns-in-Err-clause-err : goal.returns-in-Err-clause-err
+returns-in-Err-clause-err g c =
+    let cause = c.in-Err.fault in
     let given = c.in_ok-options.options in
     let watched = c.watch-data_dev in
     let state = g.I.Dev.BlockDev.state in
     let hash_dev' : Device = state c.make_at-hash_dev.result.0 in
     let Ends : Device → Device → ℕ → FormatFault → Type 0 = λ whole hash_dev end. IsTreeEnd (tree_with given (before whole end)) (before whole end) hash_dev c.args.watched.places.hash_first hash_dev' in
     let Was : FormatFault → Type 0 = Ends (state watched.result.0.inner) (state watched.result.1) c.data_end-end.result in
-    let ends : Was cause = subst (λ (r : Result MadeImage FormatFault). IfErr r Was) c.in_err-made.was c.make_at-hash_dev.ensures.err in
-    err-from c.from_residual-in_err-made.result _ (Format cause) c.from_residual-in_err-made.ensures.1
-    (inr (inr (inr (inl (record {
+    let ends : Was cause = subst (λ (r : Result MadeImage FormatFault). IfErr r Was) c.in-Err.is c.make_at-hash_dev.ensures.err in
+    inr (inr (inr (inl (record {
       given = given;
       two = c.in_ok-two.two;
       hash_dev' = c.make_at-hash_dev.result.0;
@@ -35,20 +34,20 @@ returns-in_err-made-clause-err g c =
       opened = c.in_ok-two.ensures.ok;
       are_given = given-as c.in_ok-options.ensures.ok c.unnamed.ensures;
       ends = subst₃ (λ (d h : Device) (end : ℕ). Ends d h end cause) (ap state watched.ensures.data) (ap state watched.ensures.hash) c.data_end-end.ensures ends;
-      is = refl;
-    })))))
+      is = ap Format c.format_fault_from.ensures;
+    }))))
 
-pub returns-in_err-say_tree-clause-err : goal.returns-in_err-say_tree-clause-err
-returns-in_err-say_tree-clause-err g c =
-    let made = c.in_ok-made.made in
+pub returns-in_err-say_tree-in-Ok-clause-err : goal.returns-in_err-say_tree-in-Ok-clause-err
+returns-in_err-say_tree-in-Ok-clause-err g c =
+    let made = c.in-Ok.made in
     let given = c.in_ok-options.options in
     let watched = c.watch-data_dev in
     let state = g.I.Dev.BlockDev.state in
     let hash_dev' : Device = state c.make_at-hash_dev.result.0 in
     let Made : Device → Device → ℕ → MadeImage → Type 0 = λ whole hash_dev end. IsTreeMade (tree_with given (before whole end)) (before whole end) hash_dev c.args.watched.places.hash_first hash_dev' in
     let Was : MadeImage → Type 0 = Made (state watched.result.0.inner) (state watched.result.1) c.data_end-end.result in
-    let tree : Was made = subst (λ (r : Result MadeImage FormatFault). IfOk r Was) c.in_ok-made.was c.make_at-hash_dev.ensures.ok in
-    err-from c.from_residual-in_err-say_tree.result _ Write c.from_residual-in_err-say_tree.ensures.1
+    let tree : Was made = subst (λ (r : Result MadeImage FormatFault). IfOk r Was) c.in-Ok.is c.make_at-hash_dev.ensures.ok in
+    err-from c.from_residual-in_err-say_tree-in-Ok.result _ Write c.from_residual-in_err-say_tree-in-Ok.ensures.1
     (inr (inr (inr (inr (inl (
       made,
       record {
@@ -63,19 +62,19 @@ returns-in_err-say_tree-clause-err g c =
         tree = subst₃ (λ (d h : Device) (end : ℕ). Made d h end made) (ap state watched.ensures.data) (ap state watched.ensures.hash) c.data_end-end.ensures tree;
         closed = c.close.ensures;
       },
-      c.in_err-say_tree.ensures.failed,
+      c.in_err-say_tree-in-Ok.ensures.failed,
     ))))))
 
-pub returns-clause-ok : goal.returns-clause-ok
-returns-clause-ok g c =
-    let made = c.in_ok-made.made in
+pub returns-in_ok-say_tree-in-Ok-clause-ok : goal.returns-in_ok-say_tree-in-Ok-clause-ok
+returns-in_ok-say_tree-in-Ok-clause-ok g c =
+    let made = c.in-Ok.made in
     let given = c.in_ok-options.options in
     let watched = c.watch-data_dev in
     let state = g.I.Dev.BlockDev.state in
     let hash_dev' : Device = state c.make_at-hash_dev.result.0 in
     let Made : Device → Device → ℕ → MadeImage → Type 0 = λ whole hash_dev end. IsTreeMade (tree_with given (before whole end)) (before whole end) hash_dev c.args.watched.places.hash_first hash_dev' in
     let Was : MadeImage → Type 0 = Made (state watched.result.0.inner) (state watched.result.1) c.data_end-end.result in
-    let tree : Was made = subst (λ (r : Result MadeImage FormatFault). IfOk r Was) c.in_ok-made.was c.make_at-hash_dev.ensures.ok in (
+    let tree : Was made = subst (λ (r : Result MadeImage FormatFault). IfOk r Was) c.in-Ok.is c.make_at-hash_dev.ensures.ok in (
       made,
       record {
         given = given;
@@ -89,7 +88,7 @@ returns-clause-ok g c =
         tree = subst₃ (λ (d h : Device) (end : ℕ). Made d h end made) (ap state watched.ensures.data) (ap state watched.ensures.hash) c.data_end-end.ensures tree;
         closed = c.close.ensures;
       },
-      c.in_ok-say_tree.ensures.ok,
+      c.in_ok-say_tree-in-Ok.ensures.ok,
     )
 
 pub returns-then-overlaps-clause-err : goal.returns-then-overlaps-clause-err

@@ -1,0 +1,44 @@
+-- The root hash blocks of two trees, which are read before the trees are compared.
+use Rattle.std.specs.Prelude.{◌≡◌, ℕ, ◌-◌, ◌*◌, ◌/◌, ◌<◌, IsTrue, List}
+use Rattle.allocation.specs.Refusal.{IsOutOfMemory}
+use Rattle.block_device.specs.Device.{Device, HasFailed}
+use Rattle.tree_shape.specs.Digests.{digest}
+use Rattle.tree_shape.specs.Shape.{ShapeRecord, levels}
+use Rattle.verity_format.specs.declared.verifying.VerifyFault.TheVariants.{Device as DeviceFailed}
+use Rattle.verity_format.specs.Blocks.{IsFullRead}
+use Rattle.verity_format.specs.Superblock.{SuperRecord, shape_of}
+use Rattle.tree_path.specs.Path.{largest_block, stored_block}
+use Rattle.tree_difference.specs.declared.fault.DifferenceFault.{DifferenceFault}
+use Rattle.tree_difference.specs.declared.fault.DifferenceFault.TheVariants.{Image, Hash, NoMemory}
+use Rattle.tree_difference.specs.declared.fault.Which.{Which}
+use Rattle.tree_difference.specs.Causes.{IsBadBlock}
+
+-- the level of a tree's root hash block
+abbrev pub root_level : ShapeRecord → ℕ
+root_level s = levels s - 1
+
+-- how many sectors that block has: none if the tree has no level
+abbrev pub root_sectors : ShapeRecord → ℕ
+root_sectors s = (levels s - root_level s) * (s.hash_block / 512)
+
+-- The root hash block was read, and has the root hash; over a steady device it is the one that is stored. A tree of one data block
+-- has no hash block, and nothing of it is checked: its root hash is the digest of that block.
+pub record IsRootRead (s : ShapeRecord) (salt root : List ℕ) (device : Device) : Type 0 where
+  pub block : List ℕ
+  pub good : 0 < levels s → digest salt block ≡ root
+  pub stored : IsTrue device.steady → 0 < levels s → block ≡ stored_block s device.image (root_level s) 0
+
+-- the root hash block has another digest, the device failed, or an allocation was refused before a read
+abbrev pub IsRootCause : SuperRecord → List ℕ → Device → Device → Which → DifferenceFault → Type 0
+IsRootCause s root device device' which (Hash tree level number) = (tree ≡ which) × IsBadBlock (shape_of s) s.salt root device level number
+IsRootCause s root device device' which (Image tree DeviceFailed) = (tree ≡ which) × HasFailed device device'
+IsRootCause s root device device' which NoMemory = (device' ≡ device) × IsOutOfMemory largest_block
+IsRootCause s root device device' which fault = ⊥
+
+-- ---- as a call sees them: what a proof sees of the device, before and after
+
+abbrev pub ChecksRoot : {H : Type 0} → (H → Device) → H → H → SuperRecord → List ℕ → Type 0
+ChecksRoot state h h' s root = IsRootRead (shape_of s) s.salt root (state h) × IsFullRead (state h) (root_sectors (shape_of s)) (state h')
+
+abbrev pub FailsToCheckRoot : {H : Type 0} → (H → Device) → H → H → Which → SuperRecord → List ℕ → DifferenceFault → Type 0
+FailsToCheckRoot state h h' which s root = IsRootCause s root (state h) (state h') which

@@ -1,0 +1,37 @@
+//! The root hash block of a tree.
+ghost use Rattle.std.specs.Prelude.{◌≤◌, OnOk, IfErr};
+ghost use Rattle.verity_format.specs.Blocks.{IsOnlyRead};
+ghost use Rattle.verity_format.specs.Image.{tree_sectors};
+ghost use Rattle.verity_format.specs.Superblock.{shape_of};
+ghost use Rattle.tree_difference.specs.RootBlocks.{ChecksRoot, FailsToCheckRoot};
+
+use crate::fault::{DifferenceFault, Which};
+use crate::reading::read_down;
+use block_device::BlockDev;
+use std::alloc::Global;
+use tree_path::TreePath;
+use tree_shape::Digest;
+use verity_format::Superblock;
+
+/// Reads the root hash block of a tree, and checks that it has the root hash. A tree of one data block has no hash block, and
+/// nothing is read.
+///
+/// # Errors
+///
+/// `Hash` if the block has another digest, `Image` if the device failed, `NoMemory` if an allocation was refused.
+pub(crate) fn check_root_block<H: BlockDev>(
+    alloc: Global,
+    device: &mut H,
+    which: Which,
+    superblock: &Superblock,
+    root: Digest,
+) -> Result<(), DifferenceFault>
+    requires { tree_sectors (shape_of superblock.now) ≤ (H.state device.old).size }
+    ensures read { IsOnlyRead (H.state device.old) (H.state device.new) }
+    ensures ok { OnOk result (ChecksRoot H.state device.old device.new superblock.now root) }
+    ensures err { IfErr result (FailsToCheckRoot H.state device.old device.new which superblock.now root) }
+{
+    let mut path = TreePath::new(alloc, superblock.shape(), superblock.salt(), root)?;
+    let top = path.levels();
+    read_down(&mut path, device, which, 0, top, top.saturating_sub(1))
+}
