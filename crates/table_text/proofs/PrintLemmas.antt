@@ -57,7 +57,7 @@ pub exit_part : {A : Type 0} (front part back : List Word) (r : Result A OutOfMe
     → IsErrAnd r (λ x. x ≡ e) → asked e ≤ printed_length part → IfErr r (λ x. asked x ≤ printed_length (front ++ (part ++ back)))
 exit_part front part back r e h low =
     exit_memory r (printed_length (front ++ (part ++ back))) e h
-        (omega (arith, low, ap (length {A = ℕ}) (spaced-append part back), length-append (flat_map spaced_word part) (flat_map spaced_word back), length-rest front (part ++ back)))
+    (omega (arith, low, ap (length {A = ℕ}) (spaced-append part back), length-append (flat_map spaced_word part) (flat_map spaced_word back), length-rest front (part ++ back)))
 
 -- or the last ones of them
 pub exit_rest : {A : Type 0} (front back : List Word) (r : Result A OutOfMemory) (e : OutOfMemory)

@@ -12,9 +12,7 @@ ghost use Rattle.verity_commands.specs.Trees.{FailsGrownTree, MakesGrownTree};
 use block_device::BlockDev;
 use command_line::ImageOptions;
 use device_adapters::Watchers;
-use image_commands::{
-    Generators, ImageFault, MadeImage, WatchedPlaces, format_tree, make_placed,
-};
+use image_commands::{Generators, ImageFault, MadeImage, WatchedPlaces, format_tree, make_placed};
 use image_files::{Images, UnopenedFile};
 use program_io::Counted;
 use std::alloc::Global;
