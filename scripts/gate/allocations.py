@@ -52,7 +52,7 @@ PLACES = {
     "table_text": (3, STATED),
     "verified_cache": (5, CACHE),
     "verity_commands": (6, NOT_YET),
-    "verity_format": (6, NOT_YET),
+    "verity_format": (6, STATED),
 }
 
 # Of functions that are trusted: their crate and name, how many places each has, and why.
