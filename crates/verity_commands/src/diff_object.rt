@@ -76,8 +76,11 @@ fn difference_line(alloc: Global, lines: &[Line], totals: Totals) -> Result<Stri
     ensures ok { IfOk result (λ line. string_bytes line ≡ json_line (difference_json lines.now totals)) }
     ensures err { IfErr result (λ fault. fault ≡ difference_fault.NoMemory) }
 {
-    let value = difference_value(alloc, lines, totals)?;
-    Ok(line_of(alloc, &value)?)
+    let value = match difference_value(alloc, lines, totals) {
+        Ok(value) => value,
+        Err(_) => return Err(DifferenceFault::NoMemory),
+    };
+    line_of(alloc, &value).map_err(|_| DifferenceFault::NoMemory)
 }
 
 // The members in the order of their keys.

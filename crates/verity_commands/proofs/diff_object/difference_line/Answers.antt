@@ -4,4 +4,4 @@ use Rattle.verity_commands.proofs.ObjectLemmas.{plain_difference}
 use Rattle.verity_commands.proofs.diff_object.difference_line.Goals as goal
 
 pub line_of-requires : goal.line_of-requires
-line_of-requires c = ap has_float c.in_ok-value.ensures ∙ plain_difference c.args.lines.now c.args.totals
+line_of-requires c = ap has_float c.in-Ok.ensures ∙ plain_difference c.args.lines.now c.args.totals
