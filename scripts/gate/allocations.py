@@ -48,7 +48,6 @@ PLACES = {
     "stack_commands": (3, VALUES),
     "stack_files": (3, NOT_YET),
     "stack_lines": (2, CACHE),
-    "stack_session": (7, NOT_YET),
     "table_text": (3, STATED),
     "verified_cache": (5, CACHE),
     "verity_commands": (6, NOT_YET),

@@ -1,13 +1,15 @@
 -- The first lines of an input, where a session stops within them or behind them.
-use Rattle.std.proofs.Common.{◌≡◌, ℕ, List, [], ◌∷◌, ◌++◌, refl, ap, sym, ◌∙◌, append_assoc, append-nil, subst, Option}
+use Rattle.std.proofs.Common.{◌≡◌, ◌≤◌, ℕ, inr, List, [], ◌∷◌, ◌++◌, refl, ap, sym, ◌∙◌, append_assoc, append-nil, subst, Option}
 use Rattle.std.specs.Prelude.{flat_map, Result, Ok, Err, OnErr, IsErrOf}
 use Rattle.std.proofs.KnownBytes.{Appends-nil, Appends-trans}
 use Rattle.std.proofs.lemmas.Grind.{flat_map-append}
 use Rattle.std.proofs.lemmas.List.Elements.{All-append, All-nil, All-push}
+use Rattle.allocation.specs.Refusal.{IsOutOfMemory}
 use Rattle.program_io.specs.Counted.{Grows}
+use Rattle.stack_rules.proofs.lemmas.PassingLemmas.{out_of_memory-more}
 use Rattle.stack_session.specs.declared.fault.SessionFault.{SessionFault}
 use Rattle.stack_session.specs.declared.fault.SessionFault.TheVariants.{WriteFault, NoMemory}
-use Rattle.stack_session.specs.Session.{Replying, ended, IsOneLine, IsSessionStopped, ServesFront, ServesWhole}
+use Rattle.stack_session.specs.Session.{Replying, ended, IsOneLine, IsSessionStopped, IsStoppedIn, ServesFront, ServesWhole}
 use Rattle.stack_session.proofs.SessionLemmas.{Feeding, ServesLines-append}
 
 -- no line was served
@@ -110,6 +112,11 @@ stopped-none replies first input w fault kind = record {
   write_fault = λ e. let same : fault ≡ NoMemory = cc in let clash : WriteFault ≡ NoMemory = cc in cc;
   no_memory = λ e. grows-none replies first input w;
 }
+
+-- the room for it was refused
+pub stopped-keep : {T : Type 0} (n : ℕ) (result : Result T SessionFault) → n ≤ 16777216 → OnErr result (result ≡ Err NoMemory) → OnErr result (IsOutOfMemory n) → IsStoppedIn result
+stopped-keep n (Ok value) few kind memory = tt
+stopped-keep n (Err fault) few kind memory = inr (kind, out_of_memory-more n 16777216 few memory)
 
 -- the replies to the whole lines can't be handed on
 pub stopped-whole : {S T : Type 0} {replies : Replying S} {first now : S} {input rest : List ℕ} {old mid : Option (List ℕ)} (new : Option (List ℕ))

@@ -1,5 +1,5 @@
 -- Sectors that a line asks to be read or written, as the queue's requests.
-use Rattle.std.specs.Prelude.{ℕ, ◌*◌, ◌≤◌, replicate}
+use Rattle.std.specs.Prelude.{ℕ, ◌+◌, ◌*◌, ◌≤◌, length, replicate}
 use Rattle.request_queue.specs.Requests.{RequestRecord, a_read, a_write}
 use Rattle.stack_session.specs.declared.access.Access.{Access}
 use Rattle.stack_session.specs.declared.access.Access.TheVariants.{Read, Write}
@@ -13,6 +13,11 @@ access_record (Write filling) = a_write filling.name.now filling.first (replicat
 abbrev pub first_of : RequestRecord → ℕ
 first_of (a_read name first count) = first
 first_of (a_write name first bytes) = first
+
+-- how many bytes it holds: one allocation for it takes no more
+abbrev pub request_room : RequestRecord → ℕ
+request_room (a_read name first count) = length name
+request_room (a_write name first bytes) = length name + length bytes
 
 -- a write has at most 2,049 sectors
 abbrev pub IsSmall : Access → Type 0

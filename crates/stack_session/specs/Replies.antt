@@ -1,9 +1,11 @@
 -- What a queue replies to the lines of a session, and how they leave it.
 use Rattle.std.specs.Prelude.{◌≡◌, ◌⊎◌, ℕ, false, List, [], length, Result, Ok, Err, Option}
 use Rattle.std.specs.Option.{option_map_or}
+use Rattle.allocation.specs.Refusal.{IsOutOfMemory}
 use Rattle.block_device.specs.Device.{Device, capped}
 use Rattle.dm_table.specs.declared.stack.Entry.{Entry}
 use Rattle.dm_table.specs.declared.fault.TextFault.{TextFault}
+use Rattle.dm_table.specs.Names.{most_name}
 use Rattle.dm_table.specs.Words.{Word}
 use Rattle.dm_table.specs.StackText.{stack_of}
 use Rattle.table_text.specs.Print.{printed_table}
@@ -26,7 +28,7 @@ use Rattle.request_queue.specs.WholeRuns.{RunAnswers}
 use Rattle.request_queue.specs.World.{World, Event, Step}
 use Rattle.request_queue.specs.World as event
 use Rattle.io_fault_text.specs.Texts.{no_memory}
-use Rattle.stack_session.specs.Accesses.{access_record, first_of}
+use Rattle.stack_session.specs.Accesses.{access_record, first_of, request_room}
 use Rattle.stack_session.specs.Commands.{CommandRecord, nothing, load, run, submit, step, remove, cost, table, moved, usage, line_command}
 use Rattle.stack_session.specs.Session.{WritesReply}
 use Rattle.stack_session.specs.Texts.{usage_text, fault_text, submit_text, load_reply_text, remove_text, submission_text, run_reply_text, step_text, cost_text, moved_text}
@@ -42,9 +44,9 @@ Stepping = World → Event → World → Type 0
 abbrev pub Says : List ℕ → World → List ℕ → World → Type 0
 Says text w reply w' = (reply ≡ text) × (w' ≡ w)
 
--- memory ran out, and nothing happened
-abbrev pub RepliesNoMemory : World → List ℕ → World → Type 0
-RepliesNoMemory w reply w' = Says no_memory w reply w'
+-- an allocation of at most so much was refused, and nothing happened
+abbrev pub RepliesNoMemory : ℕ → World → List ℕ → World → Type 0
+RepliesNoMemory most w reply w' = Says no_memory w reply w' × IsOutOfMemory most
 
 -- to a text that is to be loaded
 abbrev pub RepliesToText : Stepping → World → Result (List Entry) TextFault → List ℕ → World → Type 0
@@ -76,15 +78,15 @@ leaves_moved_text leaves = moved_text (capped (reads_of leaves)) (capped (writes
 abbrev pub RepliesTo : Stepping → World → CommandRecord → List ℕ → World → Type 0
 RepliesTo steps w nothing reply w' = Says [] w reply w'
 RepliesTo steps w usage reply w' = Says usage_text w reply w'
-RepliesTo steps w (load text) reply w' = RepliesToText steps w (stack_of text) reply w' ⊎ RepliesNoMemory w reply w'
+RepliesTo steps w (load text) reply w' = RepliesToText steps w (stack_of text) reply w' ⊎ RepliesNoMemory most_name w reply w'
 RepliesTo steps w (run r) reply w' =
-    ((result : Result (Result Reply IoFault) SubmitFault) × steps w (event.run r result) w' × (reply ≡ run_reply_text (first_of r) result)) ⊎ RepliesNoMemory w reply w'
-RepliesTo steps w (submit r) reply w' = ((result : Result ℕ SubmitFault) × steps w (event.submit r result) w' × (reply ≡ submission_text result)) ⊎ RepliesNoMemory w reply w'
+    ((result : Result (Result Reply IoFault) SubmitFault) × steps w (event.run r result) w' × (reply ≡ run_reply_text (first_of r) result)) ⊎ RepliesNoMemory (request_room r) w reply w'
+RepliesTo steps w (submit r) reply w' = ((result : Result ℕ SubmitFault) × steps w (event.submit r result) w' × (reply ≡ submission_text result)) ⊎ RepliesNoMemory (request_room r) w reply w'
 RepliesTo steps w (step ticket) reply w' =
     (result : Result Progress NoSuchTicket) × steps w (event.step ticket result) w' × (reply ≡ step_text (first_sector w ticket) result)
 RepliesTo steps w (remove name) reply w' = (result : Result Unit (Held RemoveFault)) × steps w (event.remove_device name result) w' × (reply ≡ remove_text result)
 RepliesTo steps w (cost name) reply w' = Says (device_text w.stack.config name (cost_of w.stack.config)) w reply w'
-RepliesTo steps w (table name) reply w' = Says (device_text w.stack.config name (device_table w.stack.config)) w reply w' ⊎ RepliesNoMemory w reply w'
+RepliesTo steps w (table name) reply w' = Says (device_text w.stack.config name (device_table w.stack.config)) w reply w' ⊎ RepliesNoMemory (length (device_text w.stack.config name (device_table w.stack.config))) w reply w'
 RepliesTo steps w moved reply w' = Says (leaves_moved_text w.stack.leaves) w reply w'
 
 -- a line may get this reply

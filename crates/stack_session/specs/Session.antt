@@ -1,8 +1,9 @@
 -- A whole session: the lines of an input, and the replies to them, one after another. How one line is
 -- replied to is a parameter, `replies`: from the first state, the line may get the reply and leave the second.
 use Rattle.std.specs.Global.{Global}
-use Rattle.std.specs.Prelude.{◌≡◌, ◌≢◌, ◌≤◌, ◌<◌, ◌+◌, ◌⊎◌, true, false, ℕ, List, [], ◌∷◌, ◌++◌, length, take, All, flat_map, Option, Result, Err, OnOk, IsErrOf, Vec}
+use Rattle.std.specs.Prelude.{◌≡◌, ◌≢◌, ◌≤◌, ◌<◌, ◌+◌, ◌⊎◌, true, false, ℕ, List, [], ◌∷◌, ◌++◌, length, take, All, flat_map, Option, Result, Err, OnOk, OnErr, IsErrOf, Vec}
 use Rattle.std.specs.Io.KnownBytes.{Consumes, IsAtEnd}
+use Rattle.allocation.specs.Refusal.{IsOutOfMemory}
 use Rattle.block_device.specs.Device.{capped}
 use Rattle.stack_session.specs.declared.fault.SessionFault.{SessionFault}
 use Rattle.stack_session.specs.declared.fault.SessionFault.TheVariants.{TooLong, ReadFault, WriteFault, NoMemory}
@@ -142,6 +143,8 @@ pub record IsEnding {R W : Type 0} (reader reader' : CountedRecord R) (writer' :
   pub write_fault : IsErrOf result WriteFault → writer'.failed ≡ true
   -- the reader is never called more often
   pub calls : reader'.calls ≤ reader.calls + (LIMIT + 1)
+  -- an allocation of no more than the most bytes of input was refused
+  pub memory : IsErrOf result NoMemory → IsOutOfMemory LIMIT
   -- unless the writer failed or memory ran out, each reply was handed on
   pub flushed : result ≢ Err WriteFault → result ≢ Err NoMemory → writer'.pending ≡ false
 
@@ -149,6 +152,14 @@ pub record IsEnding {R W : Type 0} (reader reader' : CountedRecord R) (writer' :
 pub record IsRemembered {T W : Type 0} (old new : CountedRecord W) (result : Result T SessionFault) : Type 0 where
   pub kept : OnOk result (new.failed ≡ old.failed)
   pub failed : IsErrOf result WriteFault → new.failed ≡ true
+
+-- the writer failed, or an allocation of no more than the most bytes of input was refused
+abbrev pub IsStoppedIn : {T : Type 0} → Result T SessionFault → Type 0
+IsStoppedIn result = OnErr result ((result ≡ Err WriteFault) ⊎ ((result ≡ Err NoMemory) × IsOutOfMemory LIMIT))
+
+-- if it ended by NoMemory, such an allocation was refused
+abbrev pub IsRefusedIn : {T : Type 0} → Result T SessionFault → Type 0
+IsRefusedIn result = IsErrOf result NoMemory → IsOutOfMemory LIMIT
 
 -- the lines of what was kept and of more bytes were served, as far as the server's calls went
 abbrev pub StopsLine : {S T A : Type 0} → Replying S → S → S → (T → Option (List ℕ)) → CountedRecord T → CountedRecord T → Vec ℕ Global → List ℕ → Result A SessionFault → Type 0

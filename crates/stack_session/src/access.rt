@@ -1,10 +1,13 @@
 //! Sectors that a line requests to read or write.
-ghost use Rattle.std.specs.Prelude.{◌≡◌, ◌*◌, ◌≤◌, IfOk, replicate};
+ghost use Rattle.std.specs.Prelude.{◌≡◌, ◌*◌, ◌≤◌, IfErr, IfOk, OnErr, replicate};
+ghost use Rattle.allocation.specs.Asked.{WasRefused};
+ghost use Rattle.allocation.specs.Refusal.{IsOutOfMemory};
 ghost use Rattle.request_queue.specs.Requests.{request_record};
-ghost use Rattle.stack_session.specs.Accesses.{IsSmall, access_record, first_of};
+ghost use Rattle.stack_session.specs.Accesses.{IsSmall, access_record, first_of, request_room};
 
+use allocation::{OutOfMemory, copied, filled};
 use request_queue::Request;
-use std::alloc::{AllocError, Global};
+use std::alloc::Global;
 
 const SECTOR: usize = 512;
 
@@ -40,18 +43,23 @@ impl<'a> Access<'a> {
     }
 
     /// The request for the sectors, with the bytes of a write.
-    pub fn request(self, alloc: Global) -> Result<Request, AllocError>
+    ///
+    /// # Errors
+    ///
+    /// `OutOfMemory` if an allocation of no more bytes than the request holds was refused.
+    pub fn request(self, alloc: Global) -> Result<Request, OutOfMemory>
         requires { IsSmall self }
-        ensures { IfOk result (λ request. request_record request ≡ access_record self.entry) }
+        ensures ok { IfOk result (λ request. request_record request ≡ access_record self.entry) }
+        ensures err { OnErr result (IsOutOfMemory (request_room (access_record self.entry))) }
     {
         match self {
             Access::Read { name, first, count } => Ok(Request::Read {
-                device: Vec::from_slice(alloc, name)?,
+                device: copied(alloc, name)?,
                 first,
                 count,
             }),
             Access::Write(filling) => Ok(Request::Write {
-                device: Vec::from_slice(alloc, filling.name)?,
+                device: copied(alloc, filling.name)?,
                 first: filling.first,
                 bytes: filled_sectors(alloc, filling.count, filling.byte)?,
             }),
@@ -60,9 +68,10 @@ impl<'a> Access<'a> {
 }
 
 // So many sectors of which every byte is the same.
-fn filled_sectors(alloc: Global, count: u64, byte: u8) -> Result<Vec<u8>, AllocError>
+fn filled_sectors(alloc: Global, count: u64, byte: u8) -> Result<Vec<u8>, OutOfMemory>
     requires { count ≤ 2049 }
-    ensures { IfOk result (λ bytes. bytes.items ≡ replicate (512 * count) byte) }
+    ensures ok { IfOk result (λ bytes. bytes.items ≡ replicate (512 * count) byte) }
+    ensures err { IfErr result (WasRefused (512 * count)) }
 {
-    vec![in alloc; byte; count as usize * SECTOR]
+    filled(alloc, count as usize * SECTOR, byte)
 }

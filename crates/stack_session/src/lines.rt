@@ -1,8 +1,10 @@
 //! A session over any server of lines: reads the input, cuts it into lines, and has each line served.
-ghost use Rattle.std.specs.Prelude.{false, ◌≡◌, ◌≢◌, ℕ, ◌+◌, ◌≤◌, ◌<◌, List, [], ◌∷◌, ◌++◌, length, take, IfOk, OnOk, OnErr, MatchOption, ◌⊎◌};
-ghost use Rattle.stack_session.specs.Session.{AddsText, HandsOnText, IsEnding, IsOneLine, IsRemembered, IsSessionOf, KeepsAtMost, OnTooLong, ServesFront, ServesWhole, IsWithinLine, StopsWriting, WritesReply, StopsLine};
+ghost use Rattle.std.specs.Prelude.{false, ◌≡◌, ◌≢◌, ℕ, ◌+◌, ◌≤◌, ◌<◌, List, [], ◌∷◌, ◌++◌, length, take, IfOk, OnOk, OnErr, MatchOption};
+ghost use Rattle.allocation.specs.Refusal.{IsOutOfMemory};
+ghost use Rattle.stack_session.specs.Session.{AddsText, HandsOnText, IsEnding, IsOneLine, IsRefusedIn, IsRemembered, IsSessionOf, IsStoppedIn, KeepsAtMost, OnTooLong, ServesFront, ServesWhole, IsWithinLine, StopsWriting, WritesReply, StopsLine};
 
 use crate::fault::SessionFault;
+use allocation::append;
 use program_io::{Counted, WriteFault};
 use std::alloc::Global;
 use std::io;
@@ -42,10 +44,11 @@ fn first_line(bytes: &[u8]) -> Option<(&[u8], &[u8])>
 fn keep(rest: &mut Vec<u8>, start: &[u8]) -> Result<(), SessionFault>
     ensures ok { OnOk result (rest.new.items ≡ rest.old.items ++ start.now) }
     ensures kind { OnErr result (result ≡ Err SessionFault.NoMemory) }
+    ensures err { OnErr result (IsOutOfMemory (length start.now)) }
 {
-    match rest.extend_from_slice(start) {
+    match append(rest, start) {
         Ok(()) => Ok(()),
-        Err(_) => Err(SessionFault::NoMemory),
+        Err(_refused) => Err(SessionFault::NoMemory),
     }
 }
 
@@ -63,7 +66,7 @@ fn end_line<S: LineServer, W: Write>(
         (λ reply. S.replies server.old (rest.old.items ++ end.now) reply server.new)) }
     ensures stopped { StopsLine S.replies server.old server.new W.contents writer.old writer.new rest.old end.now result }
     ensures writer { IsRemembered writer.old writer.new result }
-    ensures kinds { OnErr result ((result ≡ Err SessionFault.WriteFault) ⊎ (result ≡ Err SessionFault.NoMemory)) }
+    ensures kinds { IsStoppedIn result }
 {
     if rest.is_empty() {
         server.serve_line(alloc, end, writer)?;
@@ -89,7 +92,7 @@ fn feed<S: LineServer, W: Write>(
         × AddsText W.contents writer.old writer.new (ServesWhole S.replies server.old (rest.old.items ++ piece.now) server.new rest.new.items)) }
     ensures stopped { StopsLine S.replies server.old server.new W.contents writer.old writer.new rest.old piece.now result }
     ensures writer { IsRemembered writer.old writer.new result }
-    ensures kinds { OnErr result ((result ≡ Err SessionFault.WriteFault) ⊎ (result ≡ Err SessionFault.NoMemory)) }
+    ensures kinds { IsStoppedIn result }
 {
     let mut left = piece;
     'lines: while let Some((line, after)) = first_line(left) {
@@ -116,7 +119,7 @@ fn absorb<S: LineServer, W: Write>(
     ensures too_long { OnTooLong result ((left < length piece.now)
         × HandsOnText W.contents writer.old writer.new (ServesWhole S.replies server.old (rest.old.items ++ take left piece.now) server.new rest.new.items)) }
     ensures stopped { StopsWriting W.contents writer.old writer.new (ServesFront S.replies server.old (rest.old.items ++ take left piece.now) server.new) result }
-    ensures writer { IsRemembered writer.old writer.new result × (result ≢ Err SessionFault.ReadFault) }
+    ensures writer { IsRemembered writer.old writer.new result × (result ≢ Err SessionFault.ReadFault) × IsRefusedIn result }
 {
     if piece.len() > left {
         feed(alloc, server, rest, &piece[..left], writer)?;
@@ -130,6 +133,10 @@ fn absorb<S: LineServer, W: Write>(
 /// Serves the lines of the input, of which the last may lack its newline.
 ///
 /// Replies are flushed before the reader is called again, and at the end.
+///
+/// # Errors
+///
+/// The reader or the writer failed, the input is too long, or an allocation of at most 16 MiB was refused (`NoMemory`).
 pub fn serve_lines<S: LineServer, R: Read, W: Write>(
     alloc: Global,
     server: &mut S,

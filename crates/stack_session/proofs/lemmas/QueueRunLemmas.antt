@@ -24,16 +24,16 @@ module _ (part : PartRelation) where
   command-led w nothing reply w' r = no-turn w w' r.1
   command-led w usage reply w' r = no-turn w w' r.1
   command-led w (load text) reply w' (inl r) = text-led w (stack_of text) reply w' r
-  command-led w (load text) reply w' (inr none) = no-turn w w' none.1
+  command-led w (load text) reply w' (inr none) = no-turn w w' none.0.1
   command-led w (run r) reply w' (inl s) = led-one part w (event.run r s.0) w' s.1
-  command-led w (run r) reply w' (inr none) = no-turn w w' none.1
+  command-led w (run r) reply w' (inr none) = no-turn w w' none.0.1
   command-led w (submit r) reply w' (inl s) = led-one part w (event.submit r s.0) w' s.1
-  command-led w (submit r) reply w' (inr none) = no-turn w w' none.1
+  command-led w (submit r) reply w' (inr none) = no-turn w w' none.0.1
   command-led w (step ticket) reply w' s = led-one part w (event.step ticket s.0) w' s.1
   command-led w (remove name) reply w' s = led-one part w (event.remove_device name s.0) w' s.1
   command-led w (cost name) reply w' r = no-turn w w' r.1
   command-led w (table name) reply w' (inl r) = no-turn w w' r.1
-  command-led w (table name) reply w' (inr none) = no-turn w w' none.1
+  command-led w (table name) reply w' (inr none) = no-turn w w' none.0.1
   command-led w moved reply w' r = no-turn w w' r.1
 
   -- lines that are served one after another are a run of the queue

@@ -1,6 +1,6 @@
 use Rattle.std.proofs.Common.{◌+◌, refl, ap, ◌∙◌, ◌∷◌, arith, length, length-append}
 use Rattle.std.proofs.lemmas.Result.{err_from_is_err_and}
-use Rattle.stack_session.proofs.FrontLemmas.{feeding_stops, feeding_full}
+use Rattle.stack_session.proofs.FrontLemmas.{feeding_stops, feeding_full, stopped-keep}
 use Rattle.stack_session.proofs.SessionLemmas.{feeding_starts, feeding_line, feeding_ends}
 use Rattle.stack_session.proofs.lines.feed.Goals as goal
 
@@ -33,3 +33,6 @@ pub returns-in_err-end_line-clause-stopped : goal.returns-in_err-end_line-clause
 returns-in_err-end_line-clause-stopped g c =
     let p = err_from_is_err_and c.from_residual.result c.from_residual.ensures.1 in
     rw (p.1, p.2) (feeding_stops c.args.rest.now.items c.in-Some.line.now c.in-Some.after.now c.in_err-end_line.field-0.0 c.in-Some.ensures.1 refl c.lines.invariant.feeding c.in_err-end_line.ensures.stopped)
+
+pub returns-clause-kinds : goal.returns-clause-kinds
+returns-clause-kinds g c = stopped-keep (length c.lines.left.now) c.keep.result (omega (arith, c.lines.invariant.room, c.requires.room)) c.keep.ensures.kind c.keep.ensures.err
