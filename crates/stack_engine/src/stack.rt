@@ -99,9 +99,9 @@ impl<D: BlockDev> Stack<D> {
 
     /// The `n` sectors of a device from `first` on, and the chains of the verity lines on their way. They lie
     /// inside the device, and are 1 to 128. `exact` in `steady` is what the stack means; `any` holds whatever the
-    /// leaves answer. Where no `verity` line is on the way, nothing behind the first fault is asked for (`stops`), and the
-    /// bytes are those that its calls of the leaves' devices gave, decrypted (`given`). At most what the units and the data
-    /// blocks that it touches cost is read, each of them once (`spent`).
+    /// leaves answer. Where no `verity` line is on the way, a leaf that only sectors after a fault reach isn't accessed
+    /// (`stops`), and the bytes are those that its calls of the leaves' devices gave, decrypted (`given`). It moves at most
+    /// what reading each unit and data block that it touches once takes (`spent`).
     pub fn read_piece(&mut self, d: DevId, first: u64, n: u32) -> Result<Answer, IoFault>
         requires some { 1 ≤ n }
         requires most { n ≤ 128 }
@@ -157,12 +157,12 @@ impl<D: BlockDev> Stack<D> {
     }
 
     /// Writes whole sectors of a device, 1 to 128, from `first` on, in rising order up to the first fault: `stops` in
-    /// `any` says that nothing behind it was asked for, `behind` in `steady` that what stands before it is put. They lie
+    /// `any` says that nothing after it was accessed, `behind` in `steady` what is written before it. They lie
     /// inside the device, which may be written. `exact` in `steady` is what the stack means; `any` holds whatever the
     /// leaves answer. It takes memory only where a `crypt` line is on the way, once and before the first access.
-    /// Where it cuts no unit of a `crypt` line, nothing is read (`uncut`). Each unit that it touches is written once
-    /// (`wrote`), and read once where it is cut (`needed`). Its calls of the leaves' devices hand over exactly the bytes,
-    /// encrypted by the `crypt` lines on the way, in order, and none comes after the first that fails (`handed`).
+    /// Where it cuts no unit of a `crypt` line, nothing is read (`uncut`). It moves at most what writing each unit
+    /// once takes (`wrote`), and reading once those that are cut (`needed`). Its calls of the leaves' devices hand over
+    /// exactly the bytes, encrypted by the `crypt` lines on the way, in order, none after the first that fails (`handed`).
     pub fn write_piece(&mut self, d: DevId, first: u64, bytes: &[u8]) -> Result<(), IoFault>
         requires piece { ArePiece bytes.now }
         requires inside { first + length bytes.now / 512 ≤ size self.old.config (mapped d.0) }
