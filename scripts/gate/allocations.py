@@ -33,7 +33,6 @@ VALUES = "JSON values and their texts grow within `serde_json`, which makes no e
 # Of each crate how many places it has, and why.
 PLACES = {
     "block_device": (8, NOT_YET),
-    "command_line": (11, NOT_YET),
     "command_parser": (11, PARSER),
     "hash_tree": (14, STATED),
     "image_commands": (15, NOT_YET),

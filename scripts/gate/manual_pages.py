@@ -1,6 +1,6 @@
 #!/usr/bin/env python3
 """Makes the pages that `dmstack manual` prints from the manual page, man/dmstack.1, and the table of README.md, and the list of
-commands with their usage and options from the manual page and the table that clap gets.
+commands with their usage from the manual page.
 
 manual_pages.py writes both, pages.rt and commands.rt of crates/manual_pages/src; manual_pages.py --check compares them.
 A page has a command's words, what it does, its options, its statuses, and the document that says more.
@@ -14,7 +14,6 @@ from pathlib import Path
 TOP = Path(__file__).resolve().parents[2]
 PAGES = TOP / "crates/manual_pages/src/pages.rt"
 COMMANDS = TOP / "crates/manual_pages/src/commands.rt"
-ROWS = TOP / "crates/command_parser/src/rows.rt"
 WIDTH = 78
 ON_STACKS = ("", "load", "read", "write", "session", "nbd", "scan", "copy", "cat", "store")
 HEAD = """//! The texts of the pages, which scripts/gate/manual_pages.py makes from man/dmstack.1.
@@ -22,9 +21,9 @@ HEAD = """//! The texts of the pages, which scripts/gate/manual_pages.py makes f
 use crate::page::Page;
 
 """
-HEAD_OF_COMMANDS = """//! The commands, which scripts/gate/manual_pages.py makes from man/dmstack.1 and the table of `command_parser`.
+HEAD_OF_COMMANDS = """//! The commands, which scripts/gate/manual_pages.py makes from man/dmstack.1.
 
-use crate::usage_error::Command;
+use crate::command::Command;
 
 """
 
@@ -121,36 +120,18 @@ def static_of(name, what, pages):
     return text + "];\n"
 
 
-def options_of(rows):
-    """The options of each command of clap's table, by each of their names."""
-    names = {}
-    for row, name, others in re.findall(r'^const (\w+): OptionRow = OptionRow \{\n\s*name: "([^"]+)",\n\s*others: &\[([^\]]*)\]', rows, re.M):
-        names[row] = [name, *re.findall(r'"([^"]+)"', others)]
-    commands = re.findall(r'CommandRow \{\s*name: "([^"]+)",\s*options: &\[([^\]]*)\]', rows)
-    return {command: [f"--{name}" for row in re.findall(r"\w+", options) for name in names[row]] for command, options in commands}
-
-
-def list_text(options):
-    """The names as rt fmt lays them out."""
-    line = f"        options: &[{', '.join(options)}],\n"
-    if len(line) <= 101:
-        return line
-    return "        options: &[\n" + "".join(f"            {it},\n" for it in options) + "        ],\n"
-
-
-def commands_of(pages, options):
-    """The list of the commands, without the program's own page."""
-    pages = [it for it in pages if it[0]]
+def commands_of(pages):
+    """The list of the commands, in the order of the pages, without the program's own page."""
+    pages = sorted((it for it in pages if it[0]), key=lambda it: it[0] not in ON_STACKS)
     text = HEAD_OF_COMMANDS + f"/// All commands.\npub static COMMANDS: [Command; {len(pages)}] = [\n"
     for name, usage, _lines in pages:
-        names = list_text([f'"{it}"' for it in options[name]])
-        text += f'    Command {{\n        name: "{name}",\n        usage: "{usage}",\n{names}    }},\n'
+        text += f'    Command {{\n        name: "{name}",\n        usage: "{usage}",\n    }},\n'
     return text + "];\n"
 
 
 def main():
     pages = [*pages_of((TOP / "man/dmstack.1").read_text(), (TOP / "README.md").read_text())]
-    made = {PAGES: source_of(pages), COMMANDS: commands_of(pages, options_of(ROWS.read_text()))}
+    made = {PAGES: source_of(pages), COMMANDS: commands_of(pages)}
     if sys.argv[1:] == ["--check"]:
         wrong = [it.name for it, text in made.items() if it.read_text() != text]
         print(f"manual_pages: {len(pages)} pages, {'and ' + ' and '.join(wrong) + ' not as they are made: run scripts/gate/manual_pages.py' if wrong else 'as the manual page has them'}")

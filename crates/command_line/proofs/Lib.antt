@@ -1,4 +1,4 @@
-pub mod BindingLemmas
 pub mod CommandWordLemmas
 pub mod ImageCopyLemmas
+pub mod SaltLemmas
 pub mod lemmas

@@ -1,2 +1,1 @@
--- What callers may cite.
-pub mod UsageLemmas
+pub mod CutLemmas

@@ -1,7 +1,9 @@
--- The parity of an image, as words say it.
-use Rattle.std.specs.Prelude.{◌&&◌, nat_le, List, None, Option, Some, ℕ, option_map}
+-- The parity of an image, as arguments say it.
+use Rattle.std.specs.Prelude.{◌&&◌, not, nat_le, is_some, List, None, Option, Some, Ok, ℕ, codes, if◌then◌else◌}
 use Rattle.dm_table.specs.Numbers.{number, number_if}
+use Rattle.command_line.specs.Misuses.{Reading, misused, wanted, when}
 use Rattle.command_line.specs.declared.fec_file.FecFile.{FecFile}
+use Rattle.command_line.specs.declared.misuse.Cause.TheVariants.{Roots, WithoutFec}
 
 -- the path of its file, and how many bytes of parity a codeword has
 pub record FecRecord : Type 0 where
@@ -9,20 +11,20 @@ pub record FecRecord : Type 0 where
   pub roots : ℕ
 
 -- 2 unless the word says another number up to 24
-unfoldable pub roots_of : Option (List ℕ) → Option ℕ
-roots_of None = Some 2
-roots_of (Some word) = number_if (λ n. nat_le 2 n && nat_le n 24) (number word)
+unfoldable pub roots_of : Option (List ℕ) → Reading ℕ
+roots_of None = Ok 2
+roots_of (Some word) = wanted (codes "--fec-roots") Roots (number_if (λ n. nat_le 2 n && nat_le n 24) (number word))
 
 -- by the values of `--fec` and `--fec-roots`
-unfoldable pub fec_file_of : Option (List ℕ) → Option (List ℕ) → Option FecRecord
-fec_file_of None roots = None
-fec_file_of (Some path) roots = option_map (λ n. record { path = path; roots = n }) (roots_of roots)
+unfoldable pub fec_file_of : Option (List ℕ) → Option (List ℕ) → Reading FecRecord
+fec_file_of None roots = misused (codes "--fec-roots") WithoutFec
+fec_file_of (Some path) roots = when (roots_of roots) (λ n. Ok (record { path = path; roots = n }))
 
--- the same where neither option may stand, and then there is no parity
-unfoldable pub fec_choice_of : Option (List ℕ) → Option (List ℕ) → Option (Option FecRecord)
-fec_choice_of None None = Some None
-fec_choice_of None (Some roots) = None
-fec_choice_of (Some path) roots = option_map (λ fec. Some fec) (fec_file_of (Some path) roots)
+-- the same, or no parity if neither option is given
+unfoldable pub fec_choice_of : Option (List ℕ) → Option (List ℕ) → Reading (Option FecRecord)
+fec_choice_of path roots =
+    if not (is_some path) && not (is_some roots) then Ok None
+    else when (fec_file_of path roots) (λ fec. Ok (Some fec))
 
 -- what the program's own value says
 abbrev pub fec_record : FecFile → FecRecord

@@ -1,6 +1,8 @@
 -- The copies of an image, as words say them.
-use Rattle.std.specs.Prelude.{◌≡◌, List, [], ◌∷◌, map, None, Option, Some, ℕ, option_map, if◌then◌else◌}
+use Rattle.std.specs.Prelude.{◌≡◌, List, [], ◌∷◌, codes, map, None, Option, Some, ℕ, option_map, if◌then◌else◌}
 use Rattle.std.specs.Str.{bytes_eq}
+use Rattle.command_line.specs.Misuses.{Reading, wanted}
+use Rattle.command_line.specs.declared.misuse.Cause.TheVariants.{Missing}
 use Rattle.command_line.specs.declared.image_copies.ImageCopy.{ImageCopy}
 
 -- the paths of its data and of its hashes
@@ -21,6 +23,10 @@ copies_in_pairs (data_path ∷ hash_path ∷ words) = option_map (λ more. recor
 -- of an image with these paths: a word for each copy where data and hashes have the same path, else two
 unfoldable pub copies_of : List ℕ → List ℕ → List (List ℕ) → Option (List ImageCopyRecord)
 copies_of data_path hash_path words = if bytes_eq data_path hash_path then Some (map one_file words) else copies_in_pairs words
+
+-- the hash file of the last copy may be missing
+abbrev pub said_copies : Option (List ImageCopyRecord) → Reading (List ImageCopyRecord)
+said_copies copies = wanted (codes "HASHCOPY") Missing copies
 
 -- what the program's own value says
 abbrev pub image_copy_record : ImageCopy → ImageCopyRecord

@@ -1,5 +1,5 @@
 -- The commands of a command line.
-use Rattle.std.specs.Prelude.{ℕ, List, [], ◌∷◌, codes, Option, None, Some, is_some, option_map, ◌||◌, if◌then◌else◌}
+use Rattle.std.specs.Prelude.{ℕ, List, codes, Option, is_some, if◌then◌else◌}
 use Rattle.std.specs.Str.{bytes_eq}
 use Rattle.command_line.specs.FormatOptions.{OptionTexts, text_of}
 use Rattle.command_line.specs.words.Cat.{CatRecord, cat_record, cat_said}
@@ -14,7 +14,10 @@ use Rattle.command_line.specs.words.Scan.{ScanRecord, scan_record, scan_said}
 use Rattle.command_line.specs.words.Session.{SessionRecord, session_record, session_said}
 use Rattle.command_line.specs.words.Store.{StoreRecord, store_record, store_said}
 use Rattle.command_line.specs.words.Write.{WriteRecord, write_record, write_said}
+use Rattle.command_line.specs.Misuses.{Reading, misused, refuse_if, said_as, when}
 use Rattle.command_line.specs.OptionGroups.{has_fec_value}
+use Rattle.command_line.specs.Positional.{no_more}
+use Rattle.command_line.specs.declared.misuse.Cause.TheVariants.{Unknown, WithFec, WithPin}
 use Rattle.command_line.specs.words.FecFormat.{FecFormatRecord, fec_format_record, fec_format_said}
 use Rattle.command_line.specs.words.FecVerify.{FecVerifyRecord, fec_verify_record, fec_verify_said}
 use Rattle.command_line.specs.words.PinFormat.{PinFormatRecord, pin_format_record, pin_format_said}
@@ -65,75 +68,75 @@ pub data InvocationRecord : Type 0 where
   version : InvocationRecord
 
 -- the commands on trees without a superblock
-abbrev pub tree_said : List ℕ → OptionTexts → List (List ℕ) → Option InvocationRecord
+abbrev pub tree_said : List ℕ → OptionTexts → List (List ℕ) → Reading InvocationRecord
 tree_said name texts words =
-    if bytes_eq name (codes "format") then option_map format_tree (tree_format_said texts words)
-    else if bytes_eq name (codes "verify") then option_map verify_tree (tree_verify_said texts words)
-    else if bytes_eq name (codes "table") then option_map table_tree (tree_table_said texts words)
-    else None
+    if bytes_eq name (codes "format") then said_as format_tree (tree_format_said texts words)
+    else if bytes_eq name (codes "verify") then said_as verify_tree (tree_verify_said texts words)
+    else if bytes_eq name (codes "table") then said_as table_tree (tree_table_said texts words)
+    else misused (codes "--no-superblock") Unknown
 
 -- the commands on images with parity, which have a superblock
-abbrev pub fec_said : List ℕ → OptionTexts → List (List ℕ) → Option InvocationRecord
+abbrev pub fec_said : List ℕ → OptionTexts → List (List ℕ) → Reading InvocationRecord
 fec_said name texts words =
-    if texts.no_superblock then None
-    else if bytes_eq name (codes "format") then option_map format_fec (fec_format_said texts words)
-    else if bytes_eq name (codes "verify") then option_map verify_fec (fec_verify_said texts words)
-    else None
+    when (refuse_if texts.no_superblock (codes "--no-superblock") WithFec) (λ a.
+    if bytes_eq name (codes "format") then said_as format_fec (fec_format_said texts words)
+    else if bytes_eq name (codes "verify") then said_as verify_fec (fec_verify_said texts words)
+    else misused (codes "--fec") Unknown)
 
 -- the commands on images with a pin, which have a superblock; parity isn't pinned
-abbrev pub pin_said : List ℕ → OptionTexts → List (List ℕ) → Option InvocationRecord
+abbrev pub pin_said : List ℕ → OptionTexts → List (List ℕ) → Reading InvocationRecord
 pin_said name texts words =
-    if texts.no_superblock || has_fec_value texts then None
-    else if bytes_eq name (codes "format") then option_map format_pin (pin_format_said texts words)
-    else if bytes_eq name (codes "verify") then option_map verify_pin (pin_verify_said texts words)
-    else None
+    when (refuse_if texts.no_superblock (codes "--no-superblock") WithPin) (λ a.
+    when (refuse_if (has_fec_value texts) (codes "--pin") WithFec) (λ b.
+    if bytes_eq name (codes "format") then said_as format_pin (pin_format_said texts words)
+    else if bytes_eq name (codes "verify") then said_as verify_pin (pin_verify_said texts words)
+    else misused (codes "--pin") Unknown))
 
--- no word stands behind `version`
-abbrev pub version_said : List (List ℕ) → Option InvocationRecord
-version_said [] = Some version
-version_said (word ∷ words) = None
+-- no argument is after `version`
+abbrev pub version_said : List (List ℕ) → Reading InvocationRecord
+version_said words = said_as (λ none. version) (no_more words)
 
 -- the commands on images, or on nothing
-abbrev pub image_said : List ℕ → OptionTexts → List (List ℕ) → Option InvocationRecord
+abbrev pub image_said : List ℕ → OptionTexts → List (List ℕ) → Reading InvocationRecord
 image_said name texts words =
-    if bytes_eq name (codes "format") then option_map format (format_said texts words)
-    else if bytes_eq name (codes "verify") then option_map verify (verify_said texts words)
-    else if bytes_eq name (codes "dump") then option_map dump (dump_said texts words)
-    else if bytes_eq name (codes "table") then option_map table (table_said texts words)
-    else if bytes_eq name (codes "partitions") then option_map partitions (partitions_said texts words)
-    else if bytes_eq name (codes "diff") then option_map diff (diff_said texts words)
-    else if bytes_eq name (codes "manual") then option_map manual (manual_said words)
+    if bytes_eq name (codes "format") then said_as format (format_said texts words)
+    else if bytes_eq name (codes "verify") then said_as verify (verify_said texts words)
+    else if bytes_eq name (codes "dump") then said_as dump (dump_said texts words)
+    else if bytes_eq name (codes "table") then said_as table (table_said texts words)
+    else if bytes_eq name (codes "partitions") then said_as partitions (partitions_said texts words)
+    else if bytes_eq name (codes "diff") then said_as diff (diff_said texts words)
+    else if bytes_eq name (codes "manual") then said_as manual (manual_said words)
     else if bytes_eq name (codes "version") then version_said words
-    else None
+    else misused (codes "COMMAND") Unknown
 
 -- the commands on a device of a stack
-abbrev pub device_said : List ℕ → OptionTexts → List (List ℕ) → Option InvocationRecord
+abbrev pub device_said : List ℕ → OptionTexts → List (List ℕ) → Reading InvocationRecord
 device_said name texts words =
-    if bytes_eq name (codes "scan") then option_map scan (scan_said texts words)
-    else if bytes_eq name (codes "copy") then option_map copy (copy_said texts words)
-    else if bytes_eq name (codes "cat") then option_map cat (cat_said texts words)
-    else if bytes_eq name (codes "store") then option_map store (store_said texts words)
+    if bytes_eq name (codes "scan") then said_as scan (scan_said texts words)
+    else if bytes_eq name (codes "copy") then said_as copy (copy_said texts words)
+    else if bytes_eq name (codes "cat") then said_as cat (cat_said texts words)
+    else if bytes_eq name (codes "store") then said_as store (store_said texts words)
     else image_said name texts words
 
 -- `nbd`, with `--all` or without it
-abbrev pub served_said : OptionTexts → List (List ℕ) → Option InvocationRecord
-served_said texts words = if texts.all then option_map exports (exports_said texts words) else option_map nbd (nbd_said texts words)
+abbrev pub served_said : OptionTexts → List (List ℕ) → Reading InvocationRecord
+served_said texts words = if texts.all then said_as exports (exports_said texts words) else said_as nbd (nbd_said texts words)
 
 -- by a command's name, the values of its options, and its positional arguments
-abbrev pub command_said : List ℕ → OptionTexts → List (List ℕ) → Option InvocationRecord
+abbrev pub command_said : List ℕ → OptionTexts → List (List ℕ) → Reading InvocationRecord
 command_said name texts words =
-    if bytes_eq name (codes "load") then option_map load (load_said texts words)
-    else if bytes_eq name (codes "read") then option_map read (read_said texts words)
-    else if bytes_eq name (codes "write") then option_map write (write_said texts words)
-    else if bytes_eq name (codes "session") then option_map session (session_said texts words)
+    if bytes_eq name (codes "load") then said_as load (load_said texts words)
+    else if bytes_eq name (codes "read") then said_as read (read_said texts words)
+    else if bytes_eq name (codes "write") then said_as write (write_said texts words)
+    else if bytes_eq name (codes "session") then said_as session (session_said texts words)
     else if bytes_eq name (codes "nbd") then served_said texts words
     else device_said name texts words
 
 -- by the same, with `--pin`, `--fec` or `--no-superblock`, or without them
-abbrev pub invocation_said : List ℕ → OptionTexts → List (List ℕ) → Option InvocationRecord
+abbrev pub invocation_said : List ℕ → OptionTexts → List (List ℕ) → Reading InvocationRecord
 invocation_said name texts words =
     if is_some texts.pin then pin_said name texts words
-    else if bytes_eq name (codes "repair") then option_map repair (repair_said texts words)
+    else if bytes_eq name (codes "repair") then said_as repair (repair_said texts words)
     else if has_fec_value texts then fec_said name texts words
     else if texts.no_superblock then tree_said name texts words else command_said name texts words
 

@@ -1,10 +1,13 @@
 pub mod Cuts
+pub mod Misuses
 pub mod Bindings
 pub mod BindingWords
 pub mod FecFiles
 pub mod FormatOptions
 pub mod OptionGroups
 pub mod Values
+pub mod Positional
+pub mod ImageValues
 pub mod ImageCopies
 pub mod PartBindings
 pub mod words

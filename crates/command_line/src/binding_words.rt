@@ -6,18 +6,20 @@ ghost use Rattle.command_line.specs.FormatOptions.{texts_of};
 
 use crate::bindings::{Binding, binding_of};
 use crate::fault::WordsFault;
+use crate::misuse::{Cause, Misuse};
+use allocation::push;
 use std::alloc::Global;
 
 /// The bindings, if all words are bindings.
-pub fn bindings_of<'a>(alloc: Global, words: &[&'a str]) -> Result<Vec<Binding<'a>>, WordsFault>
+pub fn bindings_of<'a>(alloc: Global, words: &[&'a str]) -> Result<Vec<Binding<'a>>, WordsFault<'a>>
     ensures ok { IfOk result (λ v. AreBindings (bindings_of (texts_of words.now)) v.items) }
     ensures err { IfErr result (RefusesWords (bindings_of (texts_of words.now))) }
 {
     let mut bindings = Vec::new(alloc);
     'words: for word in words {
         match binding_of(word) {
-            Some(binding) => bindings.push(binding)?,
-            None => return Err(WordsFault::Usage),
+            Some(binding) => push(&mut bindings, binding)?,
+            None => return Err(WordsFault::Usage(Misuse::new(word, Cause::Binding))),
         }
     }
     Ok(bindings)

@@ -1,13 +1,13 @@
 //! What a command line invokes.
-ghost use Rattle.std.specs.Prelude.{◌≡◌, ◌&&◌, not, drop};
-ghost use Rattle.std.specs.List.{list_any};
-ghost use Rattle.command_line.specs.FormatOptions.{option_texts, texts_of};
-ghost use Rattle.command_line.specs.CommandWords.{has_late_option, invoked_by, is_option};
+ghost use Rattle.std.specs.Prelude.{◌≡◌, drop, find, option_copied};
+ghost use Rattle.command_line.specs.FormatOptions.{option_texts, text_of, texts_of};
+ghost use Rattle.command_line.specs.CommandWords.{invoked_by, is_option, late_option};
 ghost use Rattle.command_line.specs.Invocations.{command_said, device_said, fec_said, image_said, invocation_said, pin_said, served_said, tree_said};
 ghost use Rattle.command_line.specs.Reading.{ReadsCommand};
 
 use crate::fault::WordsFault;
 use crate::invocation::Invocation;
+use crate::misuse::{Cause, Misuse, refuse_if};
 use crate::option_words::{OptionWords, has_fec_value};
 use crate::words::cat::cat_of;
 use crate::words::copy::copy_of;
@@ -45,13 +45,12 @@ pub fn invocation_of<'a>(
     options: &OptionWords<'a>,
     words: &[&'a str],
     behind_dashes: bool,
-) -> Result<Invocation<'a>, WordsFault>
+) -> Result<Invocation<'a>, WordsFault<'a>>
     ensures { ReadsCommand (invoked_by name.now options.now words.now behind_dashes) result }
 {
-    if is_late(words, behind_dashes) {
-        Err(WordsFault::Usage)
-    } else {
-        said_by(alloc, name, options, words)
+    match late_option(words, behind_dashes) {
+        Some(word) => Err(WordsFault::Usage(Misuse::new(word, Cause::LateOption))),
+        None => said_by(alloc, name, options, words),
     }
 }
 
@@ -61,7 +60,7 @@ fn said_by<'a>(
     name: &[u8],
     options: &OptionWords<'a>,
     words: &[&'a str],
-) -> Result<Invocation<'a>, WordsFault>
+) -> Result<Invocation<'a>, WordsFault<'a>>
     ensures { ReadsCommand (invocation_said name.now (option_texts options.now) (texts_of words.now)) result }
 {
     if options.pin.is_some() {
@@ -82,17 +81,17 @@ fn pinned_of<'a>(
     name: &[u8],
     options: &OptionWords<'a>,
     words: &[&'a str],
-) -> Result<Invocation<'a>, WordsFault>
+) -> Result<Invocation<'a>, WordsFault<'a>>
     ensures { ReadsCommand (pin_said name.now (option_texts options.now) (texts_of words.now)) result }
 {
-    if options.no_superblock || has_fec_value(options) {
-        Err(WordsFault::Usage)
-    } else if name == b"format".as_slice() {
+    refuse_if(options.no_superblock, "--no-superblock", Cause::WithPin)?;
+    refuse_if(has_fec_value(options), "--pin", Cause::WithFec)?;
+    if name == b"format".as_slice() {
         pin_format_of(options, words)
     } else if name == b"verify".as_slice() {
         pin_verify_of(options, words)
     } else {
-        Err(WordsFault::Usage)
+        Err(WordsFault::Usage(Misuse::new("--pin", Cause::Unknown)))
     }
 }
 
@@ -101,17 +100,16 @@ fn fec_of<'a>(
     name: &[u8],
     options: &OptionWords<'a>,
     words: &[&'a str],
-) -> Result<Invocation<'a>, WordsFault>
+) -> Result<Invocation<'a>, WordsFault<'a>>
     ensures { ReadsCommand (fec_said name.now (option_texts options.now) (texts_of words.now)) result }
 {
-    if options.no_superblock {
-        Err(WordsFault::Usage)
-    } else if name == b"format".as_slice() {
+    refuse_if(options.no_superblock, "--no-superblock", Cause::WithFec)?;
+    if name == b"format".as_slice() {
         fec_format_of(options, words)
     } else if name == b"verify".as_slice() {
         fec_verify_of(options, words)
     } else {
-        Err(WordsFault::Usage)
+        Err(WordsFault::Usage(Misuse::new("--fec", Cause::Unknown)))
     }
 }
 
@@ -120,7 +118,7 @@ fn tree_of<'a>(
     name: &[u8],
     options: &OptionWords<'a>,
     words: &[&'a str],
-) -> Result<Invocation<'a>, WordsFault>
+) -> Result<Invocation<'a>, WordsFault<'a>>
     ensures { ReadsCommand (tree_said name.now (option_texts options.now) (texts_of words.now)) result }
 {
     if name == b"format".as_slice() {
@@ -130,7 +128,7 @@ fn tree_of<'a>(
     } else if name == b"table".as_slice() {
         tree_table_of(options, words)
     } else {
-        Err(WordsFault::Usage)
+        Err(WordsFault::Usage(Misuse::new("--no-superblock", Cause::Unknown)))
     }
 }
 
@@ -140,7 +138,7 @@ fn command_of<'a>(
     name: &[u8],
     options: &OptionWords<'a>,
     words: &[&'a str],
-) -> Result<Invocation<'a>, WordsFault>
+) -> Result<Invocation<'a>, WordsFault<'a>>
     ensures { ReadsCommand (command_said name.now (option_texts options.now) (texts_of words.now)) result }
 {
     if name == b"load".as_slice() {
@@ -163,7 +161,7 @@ fn served_of<'a>(
     alloc: Global,
     options: &OptionWords<'a>,
     words: &[&'a str],
-) -> Result<Invocation<'a>, WordsFault>
+) -> Result<Invocation<'a>, WordsFault<'a>>
     ensures { ReadsCommand (served_said (option_texts options.now) (texts_of words.now)) result }
 {
     if options.all {
@@ -179,7 +177,7 @@ fn device_of<'a>(
     name: &[u8],
     options: &OptionWords<'a>,
     words: &[&'a str],
-) -> Result<Invocation<'a>, WordsFault>
+) -> Result<Invocation<'a>, WordsFault<'a>>
     ensures { ReadsCommand (device_said name.now (option_texts options.now) (texts_of words.now)) result }
 {
     if name == b"scan".as_slice() {
@@ -200,7 +198,7 @@ fn image_of<'a>(
     name: &[u8],
     options: &OptionWords<'a>,
     words: &[&'a str],
-) -> Result<Invocation<'a>, WordsFault>
+) -> Result<Invocation<'a>, WordsFault<'a>>
     ensures { ReadsCommand (image_said name.now (option_texts options.now) (texts_of words.now)) result }
 {
     if name == b"format".as_slice() {
@@ -220,29 +218,33 @@ fn image_of<'a>(
     } else if name == b"version".as_slice() {
         version_of(words)
     } else {
-        Err(WordsFault::Usage)
+        Err(WordsFault::Usage(Misuse::new("COMMAND", Cause::Unknown)))
     }
 }
 
-// Whether a word has the form of an option, as `-x`; `-` alone has not.
-fn is_option(word: &str) -> bool
+/// Whether a word has the form of an option, as `-x`; `-` alone has not.
+pub fn is_option(word: &str) -> bool
     ensures { result ≡ is_option word.now }
 {
     let bytes = word.as_bytes();
     bytes.len() > 1 && bytes[0] == b'-'
 }
 
-// Whether a word behind the first one has the form of an option, and no `--` stands in front of them.
+// The first option after a positional argument, unless `--` is before them.
 #[tactic(auto, using(crate::proofs::CommandWordLemmas::late_texts))]
-fn is_late(words: &[&str], behind_dashes: bool) -> bool
-    ensures { result ≡ (not behind_dashes && has_late_option (texts_of words.now)) }
+fn late_option<'a>(words: &[&'a str], behind_dashes: bool) -> Option<&'a str>
+    ensures { text_of result ≡ late_option (texts_of words.now) behind_dashes }
 {
-    !behind_dashes && has_late_option(words)
+    if behind_dashes {
+        None
+    } else {
+        first_option(words).copied()
+    }
 }
 
-// Whether a word behind the first one has the form of an option.
-fn has_late_option(words: &[&str]) -> bool
-    ensures { result ≡ list_any (λ word. is_option word.now) (drop 1 words.now) }
+// The first word after the first one that has the form of an option.
+fn first_option<'a, 'b>(words: &'b [&'a str]) -> Option<&'b &'a str>
+    ensures { option_copied result ≡ find (λ word. is_option word.now) (drop 1 words.now) }
 {
-    words.iter().skip(1).any(|word| is_option(word))
+    words.iter().skip(1).find(|word| is_option(word))
 }

@@ -1,33 +1,34 @@
-//! Why words are no command.
+//! Why arguments are no command.
 ghost use Rattle.std.specs.Prelude.{◌≡◌};
 ghost use Rattle.command_line.specs.declared.fault.WordsFault.TheVariants as words_fault;
 
-use std::alloc::{AllocError, AllocFailed};
+use crate::misuse::Misuse;
+use allocation::OutOfMemory;
 use thiserror::Error;
 
-/// Why words are no command.
+/// Why arguments are no command.
 #[derive(Clone, Copy, Debug, PartialEq, Eq, Error)]
-pub enum WordsFault {
-    /// The words are no command.
+pub enum WordsFault<'a> {
+    /// An argument is misused.
     #[error("Usage")]
-    Usage,
-    /// Memory ran out.
+    Usage(Misuse<'a>),
+    /// An allocation was refused.
     #[error("NoMemory")]
     NoMemory,
 }
 
-impl From<AllocError> for WordsFault {
-    ghost from_gives = { λ _ fault. fault ≡ words_fault.NoMemory };
+impl<'a> From<Misuse<'a>> for WordsFault<'a> {
+    ghost from_gives = { λ misuse fault. fault ≡ words_fault.Usage misuse };
 
-    fn from(_error: AllocError) -> Self {
-        WordsFault::NoMemory
+    fn from(misuse: Misuse<'a>) -> Self {
+        WordsFault::Usage(misuse)
     }
 }
 
-impl<T: Drop> From<AllocFailed<T>> for WordsFault {
+impl From<OutOfMemory> for WordsFault<'_> {
     ghost from_gives = { λ _ fault. fault ≡ words_fault.NoMemory };
 
-    fn from(_refused: AllocFailed<T>) -> Self {
+    fn from(_error: OutOfMemory) -> Self {
         WordsFault::NoMemory
     }
 }

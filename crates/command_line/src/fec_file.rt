@@ -1,8 +1,10 @@
 //! The parity of an image, by the options `--fec` and `--fec-roots`.
-ghost use Rattle.std.specs.Prelude.{◌≡◌, option_map};
+ghost use Rattle.std.specs.Prelude.{option_map};
 ghost use Rattle.command_line.specs.FormatOptions.{text_of};
 ghost use Rattle.command_line.specs.FecFiles.{fec_choice_of, fec_file_of, fec_record, roots_of};
+ghost use Rattle.command_line.specs.Misuses.{ReadsValue};
 
+use crate::misuse::{Cause, Misuse};
 use table_text::number;
 
 const ROOTS: u32 = 2;
@@ -18,42 +20,44 @@ pub struct FecFile<'a> {
 
 /// The parity that `--fec FILE` and `--fec-roots N` say.
 #[tactic(auto, unfolding(crate::specs::FecFiles::fec_file_of))]
-pub fn fec_file_of<'a>(path: Option<&'a str>, roots: Option<&str>) -> Option<FecFile<'a>>
-    ensures { option_map fec_record result ≡ fec_file_of (text_of path.entry) (text_of roots.entry) }
+pub fn fec_file_of<'a>(
+    path: Option<&'a str>,
+    roots: Option<&'a str>,
+) -> Result<FecFile<'a>, Misuse<'a>>
+    ensures { ReadsValue fec_record (fec_file_of (text_of path.entry) (text_of roots.entry)) result }
 {
     let Some(path) = path else {
-        return None;
+        return Err(Misuse::new("--fec-roots", Cause::WithoutFec));
     };
     let roots = roots_of(roots)?;
-    Some(FecFile { path, roots })
+    Ok(FecFile { path, roots })
 }
 
-/// The same where neither option may stand: then there is no parity.
+/// The same, or no parity if neither option is given.
 #[tactic(auto, unfolding(crate::specs::FecFiles::fec_choice_of))]
-pub fn fec_choice_of<'a>(path: Option<&'a str>, roots: Option<&str>) -> Option<Option<FecFile<'a>>>
-    ensures { option_map (option_map fec_record) result ≡ fec_choice_of (text_of path.entry) (text_of roots.entry) }
+pub fn fec_choice_of<'a>(
+    path: Option<&'a str>,
+    roots: Option<&'a str>,
+) -> Result<Option<FecFile<'a>>, Misuse<'a>>
+    ensures { ReadsValue (option_map fec_record) (fec_choice_of (text_of path.entry) (text_of roots.entry)) result }
 {
-    let Some(path) = path else {
-        return match roots {
-            None => Some(None),
-            Some(_) => None,
-        };
-    };
-    let fec = fec_file_of(Some(path), roots)?;
-    Some(Some(fec))
+    if path.is_none() && roots.is_none() {
+        return Ok(None);
+    }
+    let fec = fec_file_of(path, roots)?;
+    Ok(Some(fec))
 }
 
 // How many bytes of parity a codeword has: 2 unless the word says another number up to 24.
 #[tactic(auto, unfolding(crate::specs::FecFiles::roots_of))]
-fn roots_of(word: Option<&str>) -> Option<u32>
-    ensures { result ≡ roots_of (text_of word.entry) }
+fn roots_of<'a>(word: Option<&'a str>) -> Result<u32, Misuse<'a>>
+    ensures { ReadsValue (λ n. n) (roots_of (text_of word.entry)) result }
 {
     let Some(word) = word else {
-        return Some(ROOTS);
+        return Ok(ROOTS);
     };
-    let roots = number(word.as_bytes())?;
-    if roots >= 2 && roots <= MOST_ROOTS {
-        return Some(roots as u32);
+    match number(word.as_bytes()) {
+        Some(roots) if roots >= 2 && roots <= MOST_ROOTS => Ok(roots as u32),
+        _ => Err(Misuse::new("--fec-roots", Cause::Roots)),
     }
-    None
 }

@@ -1,11 +1,14 @@
 //! The copies of an image.
 ghost use Rattle.std.specs.Prelude.{◌≡◌, map, IfOk, IfErr};
+ghost use Rattle.allocation.specs.Asked.{asked};
 ghost use Rattle.command_line.specs.CommandWords.{RefusesWords};
 ghost use Rattle.command_line.specs.FormatOptions.{texts_of};
-ghost use Rattle.command_line.specs.ImageCopies.{AreCopies, copies_in_pairs, copies_of, image_copy_record, one_file};
+ghost use Rattle.command_line.specs.ImageCopies.{AreCopies, copies_in_pairs, copies_of, image_copy_record, one_file, said_copies};
 
 use crate::fault::WordsFault;
-use std::alloc::{AllocError, Global};
+use crate::misuse::{Cause, Misuse};
+use allocation::{OutOfMemory, push};
+use std::alloc::Global;
 
 /// The paths of a copy's data and of its hashes, which are the same where it has both in one file.
 #[derive(Clone, Copy)]
@@ -21,9 +24,9 @@ pub fn copies_of<'a>(
     data_path: &str,
     hash_path: &str,
     words: &[&'a str],
-) -> Result<Vec<ImageCopy<'a>>, WordsFault>
+) -> Result<Vec<ImageCopy<'a>>, WordsFault<'a>>
     ensures ok { IfOk result (λ v. AreCopies (copies_of data_path.now hash_path.now (texts_of words.now)) v.items) }
-    ensures err { IfErr result (RefusesWords (copies_of data_path.now hash_path.now (texts_of words.now))) }
+    ensures err { IfErr result (RefusesWords (said_copies (copies_of data_path.now hash_path.now (texts_of words.now)))) }
 {
     if data_path.as_bytes() == hash_path.as_bytes() {
         let copies = copies_in_one_file(alloc, words)?;
@@ -35,34 +38,40 @@ pub fn copies_of<'a>(
 fn copies_in_one_file<'a>(
     alloc: Global,
     words: &[&'a str],
-) -> Result<Vec<ImageCopy<'a>>, AllocError>
-    ensures { IfOk result (λ copies. map image_copy_record copies.items ≡ map one_file (texts_of words.now)) }
+) -> Result<Vec<ImageCopy<'a>>, OutOfMemory>
+    ensures ok { IfOk result (λ copies. map image_copy_record copies.items ≡ map one_file (texts_of words.now)) }
+    ensures err { IfErr result (λ e. asked e ≡ 1) }
 {
     let mut copies = Vec::new(alloc);
     'words: for word in words {
-        copies.push(ImageCopy {
+        let copy = ImageCopy {
             data_path: word,
             hash_path: word,
-        })?;
+        };
+        push(&mut copies, copy)?;
     }
     Ok(copies)
 }
 
-fn copies_in_pairs<'a>(alloc: Global, words: &[&'a str]) -> Result<Vec<ImageCopy<'a>>, WordsFault>
+fn copies_in_pairs<'a>(
+    alloc: Global,
+    words: &[&'a str],
+) -> Result<Vec<ImageCopy<'a>>, WordsFault<'a>>
     ensures ok { IfOk result (λ v. AreCopies (copies_in_pairs (texts_of words.now)) v.items) }
-    ensures err { IfErr result (RefusesWords (copies_in_pairs (texts_of words.now))) }
+    ensures err { IfErr result (RefusesWords (said_copies (copies_in_pairs (texts_of words.now)))) }
 {
     let mut copies = Vec::new(alloc);
     let mut rest = words;
     'pairs: while let [data_path, hash_path, more @ ..] = rest {
-        copies.push(ImageCopy {
+        let copy = ImageCopy {
             data_path,
             hash_path,
-        })?;
+        };
+        push(&mut copies, copy)?;
         rest = more;
     }
     if rest.is_empty() {
         return Ok(copies);
     }
-    Err(WordsFault::Usage)
+    Err(WordsFault::Usage(Misuse::new("HASHCOPY", Cause::Missing)))
 }

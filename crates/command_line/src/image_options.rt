@@ -1,18 +1,30 @@
 //! What the options that say what an image is say.
-ghost use Rattle.std.specs.Prelude.{◌≡◌, IfErr, IfOk, Some, option_map};
+ghost use Rattle.std.specs.Prelude.{◌≡◌, ◌/◌, IfErr, IfOk, Some, codes, length, option_map};
+ghost use Rattle.std.specs.Result.{result_ok};
+ghost use Rattle.hex.specs.Hex.{decode_of};
 ghost use Rattle.uuid.specs.Text.{parsed};
+ghost use Rattle.allocation.specs.Asked.{asked};
 ghost use Rattle.dm_table.specs.Numbers.{number};
-ghost use Rattle.command_line.specs.CommandWords.{IsUsage};
+ghost use Rattle.command_line.specs.CommandWords.{RefusesWords};
+ghost use Rattle.command_line.specs.declared.misuse.Cause.TheVariants as cause;
 ghost use Rattle.command_line.specs.FormatOptions.{AreSaid, block_size_of, option_texts, salt_of, text_of};
+ghost use Rattle.command_line.specs.ImageValues.{options_read, short_salt};
+ghost use Rattle.command_line.specs.Misuses.{ReadsValue, wanted, wanted_if};
 
 use crate::fault::WordsFault;
+use crate::misuse::{Cause, Misuse};
 use crate::option_words::OptionWords;
+use allocation::{OutOfMemory, zeros};
 use std::alloc::Global;
 use table_text::number;
 use tree_shape::{Algorithm, Salt};
 use uuid::Uuid;
 
 const BLOCK_SIZE: u32 = 4096;
+
+const BLOCK_SIZES_END: u64 = 1 << 32;
+
+const MOST_SALT_DIGITS: usize = 512;
 
 /// What `format` is to make. Where there is no salt or identifier, one is drawn; where there is no number of
 /// blocks, all whole blocks are taken.
@@ -26,12 +38,16 @@ pub struct ImageOptions {
 }
 
 /// `[--data-block N] [--hash-block N] [--blocks N] [--salt HEX] [--uuid U]`
-pub fn options_of(alloc: Global, words: &OptionWords<'_>) -> Result<ImageOptions, WordsFault>
+#[tactic(auto, unfolding(crate::specs::ImageValues::options_read))]
+pub fn options_of<'a>(
+    alloc: Global,
+    words: &OptionWords<'a>,
+) -> Result<ImageOptions, WordsFault<'a>>
     ensures ok { IfOk result (λ options. AreSaid (option_texts words.now) options) }
-    ensures err { IfErr result (λ fault. IsUsage fault (Unit {0})) }
+    ensures err { IfErr result (RefusesWords (options_read (option_texts words.now))) }
 {
-    let data_block = block_size_of(words.data_block)?;
-    let hash_block = block_size_of(words.hash_block)?;
+    let data_block = block_size_of("--data-block", words.data_block)?;
+    let hash_block = block_size_of("--hash-block", words.hash_block)?;
     let blocks = count_of(words.blocks)?;
     let salt = salt_of(alloc, words.salt)?;
     let uuid = uuid_of(words.uuid)?;
@@ -45,36 +61,36 @@ pub fn options_of(alloc: Global, words: &OptionWords<'_>) -> Result<ImageOptions
 }
 
 // A block size of 4,096 bytes unless the word says another.
-fn block_size_of(word: Option<&str>) -> Result<u32, WordsFault>
+fn block_size_of<'a>(option: &'a str, word: Option<&'a str>) -> Result<u32, Misuse<'a>>
     ensures ok { IfOk result (λ size. block_size_of (text_of word.entry) ≡ Some size) }
-    ensures err { IfErr result (λ fault. IsUsage fault (Unit {0})) }
+    ensures is { ReadsValue (λ n. n) (wanted option.now cause.BlockSize (block_size_of (text_of word.entry))) result }
 {
-    match count_of(word)? {
-        None => Ok(BLOCK_SIZE),
-        Some(size) => match u32::try_from(size) {
-            Ok(size) => Ok(size),
-            Err(_) => Err(WordsFault::Usage),
-        },
+    let Some(word) = word else {
+        return Ok(BLOCK_SIZE);
+    };
+    match number(word.as_bytes()) {
+        Some(size) if size < BLOCK_SIZES_END => Ok(size as u32),
+        _ => Err(Misuse::new(option, Cause::BlockSize)),
     }
 }
 
-fn count_of(word: Option<&str>) -> Result<Option<u64>, WordsFault>
+fn count_of<'a>(word: Option<&'a str>) -> Result<Option<u64>, Misuse<'a>>
     ensures ok { IfOk result (λ count. option_map number (text_of word.entry) ≡ option_map Some count) }
-    ensures err { IfErr result (λ fault. IsUsage fault (Unit {0})) }
+    ensures is { ReadsValue (λ n. n) (wanted_if (codes "--blocks") cause.Number (option_map number (text_of word.entry))) result }
 {
     let Some(word) = word else {
         return Ok(None);
     };
     match number(word.as_bytes()) {
         Some(count) => Ok(Some(count)),
-        None => Err(WordsFault::Usage),
+        None => Err(Misuse::new("--blocks", Cause::Number)),
     }
 }
 
 // `-` for an empty salt, or 2 to 512 hexadecimal digits.
-fn salt_of(alloc: Global, word: Option<&str>) -> Result<Option<Salt>, WordsFault>
+fn salt_of<'a>(alloc: Global, word: Option<&'a str>) -> Result<Option<Salt>, WordsFault<'a>>
     ensures ok { IfOk result (λ salt. option_map salt_of (text_of word.entry) ≡ option_map Some salt) }
-    ensures err { IfErr result (λ fault. IsUsage fault (Unit {0})) }
+    ensures err { IfErr result (RefusesWords (wanted_if (codes "--salt") cause.Salt (option_map short_salt (text_of word.entry)))) }
 {
     let Some(word) = word else {
         return Ok(None);
@@ -82,29 +98,52 @@ fn salt_of(alloc: Global, word: Option<&str>) -> Result<Option<Salt>, WordsFault
     if word == "-" {
         return Ok(Salt::new(Algorithm::Sha256, &[]));
     }
+    let wrong = WordsFault::Usage(Misuse::new("--salt", Cause::Salt));
     if word.is_empty() {
-        return Err(WordsFault::Usage);
+        return Err(wrong);
     }
-    let bytes = match hex::decode(alloc, word) {
-        Ok(bytes) => bytes,
-        Err(hex::FromHexError::OutOfMemory) => return Err(WordsFault::NoMemory),
-        Err(_) => return Err(WordsFault::Usage),
+    if word.len() > MOST_SALT_DIGITS {
+        return Err(wrong);
+    }
+    let Some(bytes) = bytes_of(alloc, word)? else {
+        return Err(wrong);
     };
     match Salt::new(Algorithm::Sha256, bytes.as_slice()) {
         Some(salt) => Ok(Some(salt)),
-        None => Err(WordsFault::Usage),
+        None => Err(wrong),
     }
 }
 
-fn uuid_of(word: Option<&str>) -> Result<Option<[u8; 16]>, WordsFault>
+// The bytes of hexadecimal digits.
+fn bytes_of(alloc: Global, word: &str) -> Result<Option<Vec<u8>>, OutOfMemory>
+    ensures ok { IfOk result (λ bytes. option_map (λ v. v.items) bytes ≡ result_ok (decode_of word.now)) }
+    ensures err { IfErr result (λ e. asked e ≡ length word.now / 2) }
+{
+    let mut bytes = zeros(alloc, word.len() / 2)?;
+    match hex::decode_to_slice(word, bytes.as_mut_slice()) {
+        Ok(()) => Ok(Some(bytes)),
+        Err(_) => Ok(None),
+    }
+}
+
+fn uuid_of<'a>(word: Option<&'a str>) -> Result<Option<[u8; 16]>, Misuse<'a>>
     ensures ok { IfOk result (λ uuid. option_map parsed (text_of word.entry) ≡ option_map Some uuid) }
-    ensures err { IfErr result (λ fault. IsUsage fault (Unit {0})) }
+    ensures is { ReadsValue (λ uuid. uuid) (wanted_if (codes "--uuid") cause.Identifier (option_map parsed (text_of word.entry))) result }
 {
     let Some(word) = word else {
         return Ok(None);
     };
+    match identifier_of(word) {
+        Some(uuid) => Ok(Some(uuid)),
+        None => Err(Misuse::new("--uuid", Cause::Identifier)),
+    }
+}
+
+fn identifier_of(word: &str) -> Option<[u8; 16]>
+    ensures { result ≡ parsed word.now }
+{
     match Uuid::try_parse(word) {
-        Ok(uuid) => Ok(Some(uuid.into_bytes())),
-        Err(_) => Err(WordsFault::Usage),
+        Ok(uuid) => Some(uuid.into_bytes()),
+        Err(_) => None,
     }
 }

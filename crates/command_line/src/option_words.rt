@@ -1,7 +1,10 @@
 //! The options of a command line, as words.
 ghost use Rattle.std.specs.Prelude.{◌≡◌};
 ghost use Rattle.command_line.specs.FormatOptions.{option_texts};
-ghost use Rattle.command_line.specs.OptionGroups.{has_fec_value, has_tree_value};
+ghost use Rattle.command_line.specs.OptionGroups.{has_fec_value, in_superblock};
+ghost use Rattle.command_line.specs.Misuses.{ReadsValue};
+
+use crate::misuse::{Cause, Misuse, refuse_if};
 
 /// The values of the options, as they stand in the words, and which of those without a value stand there.
 #[derive(Clone, Copy)]
@@ -41,13 +44,21 @@ pub fn has_fec_value(options: &OptionWords<'_>) -> bool
     options.fec.is_some() || options.fec_roots.is_some()
 }
 
-/// Whether an option of the tree is there whose value a superblock has too.
-#[tactic(auto, unfolding(crate::specs::OptionGroups::has_tree_value))]
-pub fn has_tree_value(options: &OptionWords<'_>) -> bool
-    ensures { result ≡ has_tree_value (option_texts options.now) }
+/// Refuses the options of the tree whose values the superblock holds.
+#[tactic(auto, unfolding(crate::specs::OptionGroups::in_superblock))]
+pub fn in_superblock<'a>(options: &OptionWords<'a>) -> Result<(), Misuse<'a>>
+    ensures { ReadsValue (λ none. none) (in_superblock (option_texts options.now)) result }
 {
-    options.data_block.is_some()
-        || options.hash_block.is_some()
-        || options.blocks.is_some()
-        || options.salt.is_some()
+    refuse_if(
+        options.data_block.is_some(),
+        "--data-block",
+        Cause::InSuperblock,
+    )?;
+    refuse_if(
+        options.hash_block.is_some(),
+        "--hash-block",
+        Cause::InSuperblock,
+    )?;
+    refuse_if(options.blocks.is_some(), "--blocks", Cause::InSuperblock)?;
+    refuse_if(options.salt.is_some(), "--salt", Cause::InSuperblock)
 }

@@ -1,9 +1,11 @@
 //! What the values of options say.
-ghost use Rattle.std.specs.Prelude.{◌≡◌, option_map};
-ghost use Rattle.command_line.specs.FormatOptions.{text_of, texts_of};
-ghost use Rattle.command_line.specs.Values.{cache_said, count_said, device_names, first_said, form_of, form_record, map_said, name_said, offset_of, pin_of, root_alone, root_first, root_first_record, root_of, root_record, runs_said, sector_size_of, two_roots};
+ghost use Rattle.std.specs.Prelude.{◌≡◌};
+ghost use Rattle.command_line.specs.FormatOptions.{text_of};
+ghost use Rattle.command_line.specs.Misuses.{ReadsValue};
+ghost use Rattle.command_line.specs.Values.{cache_said, count_said, first_said, form_of, form_record, map_said, name_said, offset_of, path_said, pin_of, root_of, root_said, runs_said, sector_size_of};
 
-use dm_table::{is_device, is_mapped_name};
+use crate::misuse::{Cause, Misuse};
+use dm_table::is_mapped_name;
 use table_text::number;
 use tree_shape::Digest;
 
@@ -34,127 +36,134 @@ pub enum PartitionForm {
 
 /// How many hash blocks are cached: 64 unless the word says another number up to 65,536.
 #[tactic(auto, unfolding(crate::specs::Values::cache_said))]
-pub fn cache_of(word: Option<&str>) -> Option<u32>
-    ensures { result ≡ cache_said (text_of word.entry) }
+pub fn cache_of<'a>(word: Option<&'a str>) -> Result<u32, Misuse<'a>>
+    ensures { ReadsValue (λ n. n) (cache_said (text_of word.entry)) result }
 {
     let Some(word) = word else {
-        return Some(CACHED_BLOCKS);
+        return Ok(CACHED_BLOCKS);
     };
-    let blocks = number(word.as_bytes())?;
-    if blocks > MOST_CACHED_BLOCKS {
-        return None;
+    match number(word.as_bytes()) {
+        Some(blocks) if blocks <= MOST_CACHED_BLOCKS => Ok(blocks as u32),
+        _ => Err(Misuse::new("--cache", Cause::CacheBlocks)),
     }
-    Some(blocks as u32)
 }
 
 /// The first sector: 0 unless the word says another.
 #[tactic(auto, unfolding(crate::specs::Values::first_said))]
-pub fn first_of(word: Option<&str>) -> Option<u64>
-    ensures { result ≡ first_said (text_of word.entry) }
+pub fn first_of<'a>(word: Option<&'a str>) -> Result<u64, Misuse<'a>>
+    ensures { ReadsValue (λ n. n) (first_said (text_of word.entry)) result }
 {
-    match word {
-        None => Some(0),
-        Some(word) => number(word.as_bytes()),
+    let Some(word) = word else {
+        return Ok(0);
+    };
+    match number(word.as_bytes()) {
+        Some(first) => Ok(first),
+        None => Err(Misuse::new("--first", Cause::Number)),
     }
 }
 
-/// How many sectors, where a word says it.
+/// How many sectors, if a word says it.
 #[tactic(auto, unfolding(crate::specs::Values::count_said))]
-pub fn count_of(word: Option<&str>) -> Option<Option<u64>>
-    ensures { result ≡ count_said (text_of word.entry) }
+pub fn count_of<'a>(word: Option<&'a str>) -> Result<Option<u64>, Misuse<'a>>
+    ensures { ReadsValue (λ n. n) (count_said (text_of word.entry)) result }
 {
     let Some(word) = word else {
-        return Some(None);
+        return Ok(None);
     };
-    let count = number(word.as_bytes())?;
-    Some(Some(count))
+    match number(word.as_bytes()) {
+        Some(count) => Ok(Some(count)),
+        None => Err(Misuse::new("--count", Cause::Number)),
+    }
 }
 
-/// How many runs at most are printed, where a word says it: at least one.
+/// How many runs at most are printed, if a word says it: at least one.
 #[tactic(auto, unfolding(crate::specs::Values::runs_said))]
-pub fn runs_of(word: Option<&str>) -> Option<Option<u64>>
-    ensures { result ≡ runs_said (text_of word.entry) }
+pub fn runs_of<'a>(word: Option<&'a str>) -> Result<Option<u64>, Misuse<'a>>
+    ensures { ReadsValue (λ n. n) (runs_said (text_of word.entry)) result }
 {
     let Some(word) = word else {
-        return Some(None);
+        return Ok(None);
     };
-    let count = number(word.as_bytes())?;
-    if count < 1 {
-        return None;
+    match number(word.as_bytes()) {
+        Some(count) if count >= 1 => Ok(Some(count)),
+        _ => Err(Misuse::new("--blocks", Cause::RunCount)),
     }
-    Some(Some(count))
 }
 
 /// Where the hash area begins: at byte 0, or at a multiple of 512.
 #[tactic(auto, unfolding(crate::specs::Values::offset_of))]
-pub fn offset_of(word: Option<&str>) -> Option<u64>
-    ensures { result ≡ offset_of (text_of word.entry) }
+pub fn offset_of<'a>(word: Option<&'a str>) -> Result<u64, Misuse<'a>>
+    ensures { ReadsValue (λ n. n) (offset_of (text_of word.entry)) result }
 {
     let Some(word) = word else {
-        return Some(0);
+        return Ok(0);
     };
-    let offset = number(word.as_bytes())?;
-    if offset % SECTOR != 0 {
-        return None;
+    match number(word.as_bytes()) {
+        Some(offset) if offset % SECTOR == 0 => Ok(offset),
+        _ => Err(Misuse::new("--hash-offset", Cause::Offset)),
     }
-    Some(offset)
 }
 
-/// The bytes of a sector: 512, or 4,096 where the word says so.
+/// The bytes of a sector: 512, or 4,096 if the word says so.
 #[tactic(auto, unfolding(crate::specs::Values::sector_size_of))]
-pub fn sector_size_of(word: Option<&str>) -> Option<u32>
-    ensures { result ≡ sector_size_of (text_of word.entry) }
+pub fn sector_size_of<'a>(word: Option<&'a str>) -> Result<u32, Misuse<'a>>
+    ensures { ReadsValue (λ n. n) (sector_size_of (text_of word.entry)) result }
 {
     let Some(word) = word else {
-        return Some(SECTOR as u32);
+        return Ok(SECTOR as u32);
     };
-    let size = number(word.as_bytes())?;
-    if size == SECTOR || size == LARGE_SECTOR {
-        return Some(size as u32);
+    match number(word.as_bytes()) {
+        Some(size) if size == SECTOR || size == LARGE_SECTOR => Ok(size as u32),
+        _ => Err(Misuse::new("--sector-size", Cause::SectorSize)),
     }
-    None
 }
 
-/// The name of a mapped device, where a word says it.
+/// The name of a mapped device, if a word says it.
 #[tactic(auto, unfolding(crate::specs::Values::name_said))]
-pub fn name_of<'a>(word: Option<&'a str>) -> Option<Option<&'a str>>
-    ensures { option_map text_of result ≡ name_said (text_of word.entry) }
+pub fn name_of<'a>(word: Option<&'a str>) -> Result<Option<&'a str>, Misuse<'a>>
+    ensures { ReadsValue text_of (name_said (text_of word.entry)) result }
 {
     let Some(word) = word else {
-        return Some(None);
+        return Ok(None);
     };
     if is_mapped_name(word.as_bytes()) {
-        return Some(Some(word));
+        return Ok(Some(word));
     }
-    None
+    Err(Misuse::new("--name", Cause::MappedName))
 }
 
-/// The path of a map file, where a word says it: no word of no bytes, and not `-`, the standard input.
+/// The path of a map file, if a word says it.
 #[tactic(auto, unfolding(crate::specs::Values::map_said))]
-pub fn map_of<'a>(word: Option<&'a str>) -> Option<Option<&'a str>>
-    ensures { option_map text_of result ≡ map_said (text_of word.entry) }
+pub fn map_of<'a>(word: Option<&'a str>) -> Result<Option<&'a str>, Misuse<'a>>
+    ensures { ReadsValue text_of (map_said (text_of word.entry)) result }
 {
     let Some(word) = word else {
-        return Some(None);
+        return Ok(None);
     };
-    if word.is_empty() || word.as_bytes() == b"-".as_slice() {
-        return None;
-    }
-    Some(Some(word))
+    let path = path_of("--map", word)?;
+    Ok(Some(path))
 }
 
-/// The path of a pin's file: not empty, and not `-`.
+/// The path of a pin's file.
 #[tactic(auto, unfolding(crate::specs::Values::pin_of))]
-pub fn pin_of<'a>(word: Option<&'a str>) -> Option<&'a str>
-    ensures { text_of result ≡ pin_of (text_of word.entry) }
+pub fn pin_of<'a>(word: Option<&'a str>) -> Result<&'a str, Misuse<'a>>
+    ensures { ReadsValue (λ path. path.now) (pin_of (text_of word.entry)) result }
 {
-    let Some(word) = word else {
-        return None;
-    };
-    if word.is_empty() || word.as_bytes() == b"-".as_slice() {
-        return None;
+    match word {
+        Some(word) => path_of("--pin", word),
+        None => Err(Misuse::new("--pin", Cause::Missing)),
     }
-    Some(word)
+}
+
+// The path of a file: not empty, and not `-`, the standard input.
+#[tactic(auto, unfolding(crate::specs::Values::path_said))]
+fn path_of<'a>(option: &'a str, word: &'a str) -> Result<&'a str, Misuse<'a>>
+    ensures { ReadsValue (λ path. path.now) (path_said option.now word.now) result }
+{
+    if word.is_empty() || word.as_bytes() == b"-".as_slice() {
+        return Err(Misuse::new(option, Cause::FilePath));
+    }
+    Ok(word)
 }
 
 /// A root digest of 64 hexadecimal digits.
@@ -168,72 +177,35 @@ pub fn root_of(word: &str) -> Option<Digest>
     }
 }
 
-/// Two root digests.
-#[tactic(auto, unfolding(crate::specs::Values::two_roots))]
-pub fn two_roots(first: &str, second: &str) -> Option<(Digest, Digest)>
-    ensures { result ≡ two_roots first.now second.now }
+/// The root hash of an argument of that name.
+pub fn root_said<'a>(name: &'a str, word: &str) -> Result<Digest, Misuse<'a>>
+    ensures { ReadsValue (λ bytes. bytes) (root_said name.now word.now) result }
 {
-    let first = root_of(first)?;
-    let second = root_of(second)?;
-    Some((first, second))
-}
-
-/// The root, which is the first word unless a file holds it, and the words behind it.
-#[tactic(auto, unfolding(crate::specs::Values::root_first))]
-pub fn root_first<'a, 'b>(
-    file: Option<&'a str>,
-    words: &'b [&'a str],
-) -> Option<(RootWord<'a>, &'b [&'a str])>
-    ensures { option_map root_first_record result ≡ root_first (text_of file.entry) (texts_of words.now) }
-{
-    if let Some(path) = file {
-        return Some((RootWord::File(path), words));
+    match root_of(word) {
+        Some(root) => Ok(root),
+        None => Err(Misuse::new(name, Cause::RootHash)),
     }
-    let [root, rest @ ..] = words else {
-        return None;
-    };
-    let root = root_of(root)?;
-    Some((RootWord::Digest(root), rest))
 }
 
-/// The root, and no word behind it.
-#[tactic(auto, unfolding(crate::specs::Values::root_alone))]
-pub fn root_alone<'a>(file: Option<&'a str>, words: &[&'a str]) -> Option<RootWord<'a>>
-    ensures { option_map root_record result ≡ root_alone (text_of file.entry) (texts_of words.now) }
-{
-    let Some((root, rest)) = root_first(file, words) else {
-        return None;
-    };
-    if rest.is_empty() { Some(root) } else { None }
-}
-
-/// The device arguments of data and hashes.
-#[tactic(auto, unfolding(crate::specs::Values::device_names))]
-pub fn device_names<'a>(words: &[&'a str]) -> Option<(&'a str, &'a str)>
-    ensures { option_map (λ names. (names.0.now, names.1.now)) result ≡ device_names (texts_of words.now) }
-{
-    let [data_name, hash_name] = words else {
-        return None;
-    };
-    if is_device(data_name.as_bytes()) && is_device(hash_name.as_bytes()) {
-        return Some((data_name, hash_name));
-    }
-    None
-}
-
-/// How partitions are printed, by `--root ROOT`, `--stack` and `--json`, of which at most one stands there.
+/// How partitions are printed, by `--root ROOT`, `--stack` and `--json`, of which at most one is given.
 #[tactic(auto, unfolding(crate::specs::Values::form_of))]
-pub fn form_of(root: Option<&str>, stack: bool, json: bool) -> Option<PartitionForm>
-    ensures { option_map form_record result ≡ form_of (text_of root.entry) stack json }
+pub fn form_of<'a>(
+    root: Option<&'a str>,
+    stack: bool,
+    json: bool,
+) -> Result<PartitionForm, Misuse<'a>>
+    ensures { ReadsValue form_record (form_of (text_of root.entry) stack json) result }
 {
     match (root, stack, json) {
-        (None, false, false) => Some(PartitionForm::Lines),
-        (None, false, true) => Some(PartitionForm::Object),
-        (None, true, false) => Some(PartitionForm::Stack),
+        (None, false, false) => Ok(PartitionForm::Lines),
+        (None, false, true) => Ok(PartitionForm::Object),
+        (None, true, false) => Ok(PartitionForm::Stack),
+        (None, true, true) => Err(Misuse::new("--json", Cause::WithStack)),
+        (Some(_), true, _) => Err(Misuse::new("--stack", Cause::WithRoot)),
+        (Some(_), false, true) => Err(Misuse::new("--json", Cause::WithRoot)),
         (Some(word), false, false) => {
-            let root = root_of(word)?;
-            Some(PartitionForm::Root(root))
+            let root = root_said("--root", word)?;
+            Ok(PartitionForm::Root(root))
         }
-        _ => None,
     }
 }

@@ -1,2 +1,4 @@
 pub mod CommandLemmas
 pub mod GrammarLemmas
+mod OptionLemmas
+mod UnreadLemmas

@@ -1,3 +1,5 @@
 pub mod Commands
 pub mod Grammar
+pub mod OptionNames
+pub mod Unread
 pub mod CommandLines

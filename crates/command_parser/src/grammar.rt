@@ -1,29 +1,32 @@
 //! What clap is told of the command line.
-ghost use Rattle.std.specs.Prelude.{false, true, ◌≡◌, map, string_bytes, IfOk, IfErr};
+ghost use Rattle.std.specs.Prelude.{false, ◌≡◌, map, string_bytes, IfOk, IfErr};
 ghost use Rattle.clap.specs.Simple.{app_of, subcommand_of, subcommand_rows_of};
-ghost use Rattle.clap.specs.Takes.{takes};
 ghost use Rattle.clap.specs.Walk.{rule_of};
 ghost use Rattle.clap.specs.declared.builder.command.Command.TheViews.{out-Command as fields_of};
-ghost use Rattle.command_line.specs.CommandWords.{IsUsage};
+ghost use Rattle.command_line.specs.CommandWords.{IsMisuse};
+ghost use Rattle.command_parser.specs.CommandLines.{IsUnread};
 ghost use Rattle.command_parser.specs.Grammar.{command_app, command_text, grammar, option_rule, option_text, positional, program, with_commands, with_options};
 
 use crate::rows::{COMMANDS, CommandRow, OptionRow};
+use crate::unread::unread_argument;
 use clap::error::ErrorKind;
 use clap::{Arg, ArgAction, ArgMatches, Command};
 use command_line::WordsFault;
 use std::alloc::{AllocError, Global};
 
 /// The command that the words name, with its options and its positional words.
-pub fn matches_of<'a>(alloc: Global, words: &'a [String]) -> Result<ArgMatches<'a>, WordsFault>
+pub fn matches_of<'a>(alloc: Global, words: &'a [String]) -> Result<ArgMatches<'a>, WordsFault<'a>>
     ensures ok { IfOk result (λ found. subcommand_rows_of found ≡ subcommand_of grammar (map string_bytes words.now)) }
-    ensures err { IfErr result (λ fault. IsUsage fault (takes grammar (map string_bytes words.now) ≡ true → ⊥)) }
+    ensures err { IfErr result (IsMisuse (IsUnread (map string_bytes words.now))) }
 {
-    let command = all_commands(alloc)?;
+    let Ok(command) = all_commands(alloc) else {
+        return Err(WordsFault::NoMemory);
+    };
     match command.try_get_matches_from(words) {
         Ok(matches) => Ok(matches),
         Err(error) => match error.kind() {
             ErrorKind::OutOfMemory => Err(WordsFault::NoMemory),
-            _ => Err(WordsFault::Usage),
+            _ => Err(WordsFault::Usage(unread_argument(words))),
         },
     }
 }

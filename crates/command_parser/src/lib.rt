@@ -2,8 +2,10 @@
 #![tactic(auto)]
 
 mod grammar;
+mod option_names;
 mod option_words;
 mod parser;
 mod rows;
+mod unread;
 
-pub use parser::{CommandLine, parse};
+pub use parser::{CommandLine, misuse_of, parse};

@@ -32,5 +32,5 @@ at-fault {T} {E} r P fault is holds = subst (λ (x : Result T E). IfErr x P) is 
 
 -- words that say no value, and memory that ran out while they were read
 pub unsaid : (fault : WordsFault) → IsUnsaid (words_ending fault)
-unsaid words.Usage = tt
+unsaid (words.Usage misuse) = tt
 unsaid words.NoMemory = tt

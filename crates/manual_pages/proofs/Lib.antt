@@ -1,1 +1,1 @@
-mod OptionLemmas
+mod NameLemmas

@@ -1,1 +1,5 @@
+pub mod Causes
+pub mod Pages
+pub mod Versions
+pub mod Help
 pub mod UsageErrors

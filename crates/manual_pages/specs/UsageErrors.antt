@@ -1,45 +1,59 @@
 -- What is printed of arguments that are no command.
-use Rattle.std.specs.Prelude.{ℕ, ◌==◌, ◌&&◌, ◌++◌, not, Bool, List, [], ◌∷◌, codes, find, take_while, IfSome, ◌≡◌, String, string_bytes, Option, Some, None}
-use Rattle.std.specs.List.{before_first, list_any, starts_with}
+use Rattle.std.specs.Prelude.{ℕ, ◌≡◌, ◌==◌, ◌++◌, List, [], ◌∷◌, codes, length, String, string_bytes, Option, Some, None, option_map, if◌then◌else◌}
 use Rattle.std.specs.Str.{bytes_eq}
 use Rattle.io_fault_text.specs.Paths.{shown_path}
-use Rattle.manual_pages.specs.declared.usage_error.Command.{Command}
-
--- the command has that option
-abbrev pub has_option : Command → List ℕ → Bool
-has_option command option = list_any (λ one. bytes_eq one.now option) command.options.now
-
--- the argument has the form of an option, up to its first `=` (61), that the command hasn't
-abbrev pub is_unknown : Command → List ℕ → Bool
-is_unknown command word = starts_with ◌==◌ word (codes "--") && not (has_option command (before_first (λ b. b == 61) word))
-
--- the argument isn't `--` alone, after which there is no option
-abbrev pub is_ahead : List ℕ → Bool
-is_ahead word = not (bytes_eq word (codes "--"))
-
--- the first of the arguments before `--` that is such an option
-abbrev pub unknown_option : {Z : Type 0} → Command → List (String Z) → Option (String Z)
-unknown_option command words = find (λ word. is_unknown command (string_bytes word)) (take_while (λ word. is_ahead (string_bytes word)) words)
+use Rattle.command_line.specs.declared.misuse.Cause.{Cause}
+use Rattle.command_line.specs.declared.misuse.Cause.TheVariants.{Unknown}
+use Rattle.command_line.specs.declared.misuse.Misuse.{Misuse}
+use Rattle.manual_pages.specs.Causes.{cause_text}
+use Rattle.manual_pages.specs.Help.{asks_version, help_page}
+use Rattle.manual_pages.specs.Pages.{command_name, command_named, page_name}
+use Rattle.manual_pages.specs.Versions.{version_text}
+use Rattle.manual_pages.specs.declared.command.Command.{Command}
+use Rattle.manual_pages.specs.declared.page.Page.{Page}
 
 -- a command hasn't that option
 unfoldable pub option_text : List ℕ → List ℕ → List ℕ
 option_text name option = codes "dmstack: " ++ (name ++ (codes " has no option " ++ (shown_path option ++ codes "\n")))
 
--- the arguments aren't those of a command
-unfoldable pub no_option_text : List ℕ → List ℕ
-no_option_text name = codes "dmstack: these aren't the words of " ++ (name ++ codes "\n")
+-- of a command
+unfoldable pub named_text : List ℕ → List ℕ
+named_text name = codes "dmstack: " ++ (name ++ codes ": ")
+
+-- why an argument is wrong
+unfoldable pub reason_text : List ℕ → List ℕ
+reason_text cause = codes ": " ++ (cause ++ codes "\n")
+
+-- the argument of a command that is misused, and why
+abbrev pub argument_text : List ℕ → List ℕ → Cause → List ℕ
+argument_text name argument cause = named_text name ++ (shown_path argument ++ reason_text (cause_text cause))
+
+abbrev pub misuse_text : List ℕ → List ℕ → Cause → List ℕ
+misuse_text name argument Unknown = option_text name argument
+misuse_text name argument cause = argument_text name argument cause
+
+-- no argument is named
+unfoldable pub no_misuse_text : List ℕ → List ℕ
+no_misuse_text name = codes "dmstack: these aren't the arguments of " ++ (name ++ codes "\n")
+
+-- the misuse, if it names an argument
+abbrev pub named_misuse : Option Misuse → Option Misuse
+named_misuse None = None
+named_misuse (Some misuse) = if length misuse.argument.now == 0 then None else Some misuse
+
+abbrev pub misuse_or_none : List ℕ → Option Misuse → List ℕ
+misuse_or_none name (Some misuse) = misuse_text name misuse.argument.now misuse.cause
+misuse_or_none name None = no_misuse_text name
 
 -- how a command is called, and which page says more
 unfoldable pub usage_text : List ℕ → List ℕ → List ℕ
 usage_text name usage = codes "usage: " ++ (usage ++ (codes "\n`dmstack manual " ++ (name ++ codes "` says more\n")))
 
--- of the arguments of a command, with the option that it hasn't, if there is one
-abbrev pub option_error : {Z : Type 0} → Command → Option (String Z) → List ℕ
-option_error command (Some word) = option_text command.name.now (string_bytes word)
-option_error command None = no_option_text command.name.now
+abbrev pub command_error : Command → Option Misuse → List ℕ
+command_error command misuse = misuse_or_none command.name.now (named_misuse misuse) ++ usage_text command.name.now command.usage.now
 
-abbrev pub command_error : {Z : Type 0} → Command → List (String Z) → List ℕ
-command_error command words = option_error command (unknown_option command words) ++ usage_text command.name.now command.usage.now
+unfoldable pub no_arguments_text : List ℕ
+no_arguments_text = codes "dmstack: a command is wanted; `dmstack manual` names them\n"
 
 unfoldable pub no_command_text : List ℕ
 no_command_text = codes "dmstack: there is no command "
@@ -52,23 +66,48 @@ page_text = codes "; `dmstack manual` names them\n"
 abbrev pub name_error : List ℕ → List ℕ
 name_error name = no_command_text ++ (shown_path name ++ page_text)
 
--- of a name and the arguments after it, with the command of that name
-abbrev pub named_error : {Z : Type 0} → List ℕ → List (String Z) → Option Command → List ℕ
-named_error name words (Some command) = command_error command words
-named_error name words None = name_error name
+-- of a name, with the command of that name
+abbrev pub named_error : List ℕ → Option Misuse → Option Command → List ℕ
+named_error name misuse (Some command) = command_error command misuse
+named_error name misuse None = name_error name
 
--- of all arguments, with the command that the first one names, if there is one
-abbrev pub usage_error : {Z : Type 0} → Option Command → List (String Z) → List ℕ
-usage_error command [] = codes "dmstack: a command is wanted; `dmstack manual` names them\n"
-usage_error command (name ∷ words) = named_error (string_bytes name) words command
+-- of all arguments, with the command that the first one names
+abbrev pub arguments_error : {Z : Type 0} → List (String Z) → Option Misuse → Option Command → List ℕ
+arguments_error [] misuse command = no_arguments_text
+arguments_error (name ∷ words) misuse command = named_error (string_bytes name) misuse command
 
--- the command has the name that is the first argument
-abbrev pub IsFirst : {Z : Type 0} → Option Command → List (String Z) → Type 0
-IsFirst command [] = Unit
-IsFirst command (name ∷ words) = IfSome command (λ found. found.name.now ≡ string_bytes name)
+-- the command whose page is wanted
+abbrev pub page_wanted : {Z : Type 0} → List (String Z) → Option (List ℕ)
+page_wanted (name ∷ command ∷ []) = if bytes_eq (string_bytes name) (codes "manual") then Some (string_bytes command) else None
+page_wanted words = None
 
--- what is printed of all arguments is the error of a command that has the first one's name, or of a name without a command
-pub record IsUsageError {Z : Type 0} (prints : List ℕ → Type 0) (words : List (String Z)) : Type 0 where
+-- if no argument is misused, there is no page of that name
+abbrev pub page_error : {Z : Type 0} → Option (List ℕ) → List (String Z) → Option Misuse → Option Command → List ℕ
+page_error (Some name) words None command = name_error name
+page_error (Some name) words (Some misuse) command = arguments_error words (Some misuse) command
+page_error None words misuse command = arguments_error words misuse command
+
+abbrev pub usage_error : {Z : Type 0} → List (String Z) → Option Misuse → Option Command → List ℕ
+usage_error words misuse command = page_error (page_wanted words) words misuse command
+
+-- the page, or else the error
+abbrev pub page_or_error : {Z : Type 0} → List (String Z) → Option Misuse → Option Command → Option Page → List ℕ
+page_or_error words misuse command (Some page) = page.text.now
+page_or_error words misuse command None = usage_error words misuse command
+
+-- what is printed: the version or the page that is asked for, or else the error
+abbrev pub explanation : {Z : Type 0} → List (String Z) → Option Misuse → Option Command → Option Page → List ℕ
+explanation words misuse command page = if asks_version words then version_text else page_or_error words misuse command page
+
+-- the command that the first argument names
+abbrev pub first_name : {Z : Type 0} → List (String Z) → Option (List ℕ)
+first_name [] = None
+first_name (name ∷ words) = command_named (string_bytes name)
+
+-- what is printed of arguments that are no command, with the command that they name and the page that they ask for
+pub record IsExplanation {Z : Type 0} (prints : List ℕ → Type 0) (words : List (String Z)) (misuse : Option Misuse) : Type 0 where
   pub command : Option Command
-  pub first : IsFirst command words
-  pub printed : prints (usage_error command words)
+  pub named : option_map command_name command ≡ first_name words
+  pub page : Option Page
+  pub asked : option_map page_name page ≡ help_page words
+  pub printed : prints (explanation words misuse command page)

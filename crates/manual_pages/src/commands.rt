@@ -1,151 +1,79 @@
-//! The commands, which scripts/gate/manual_pages.py makes from man/dmstack.1 and the table of `command_parser`.
+//! The commands, which scripts/gate/manual_pages.py makes from man/dmstack.1.
 
-use crate::usage_error::Command;
+use crate::command::Command;
 
 /// All commands.
 pub static COMMANDS: [Command; 18] = [
     Command {
         name: "load",
         usage: "dmstack load [--json] STACK BINDING...",
-        options: &["--json"],
     },
     Command {
         name: "read",
         usage: "dmstack read [--cache N] STACK NAME FIRST COUNT BINDING...",
-        options: &["--cache"],
     },
     Command {
         name: "write",
         usage: "dmstack write [--cache N] STACK NAME FIRST SOURCE BINDING...",
-        options: &["--cache"],
     },
     Command {
         name: "session",
         usage: "dmstack session [--cache N] BINDING...",
-        options: &["--cache"],
     },
     Command {
         name: "nbd",
         usage: "dmstack nbd [--cache N] [--all] STACK NAME BINDING...",
-        options: &["--cache", "--all"],
     },
     Command {
         name: "scan",
         usage: "dmstack scan [--cache N] [--map FILE] [--progress] [--json] STACK NAME BINDING...",
-        options: &["--cache", "--map", "--progress", "--json"],
     },
     Command {
         name: "copy",
         usage: "dmstack copy [--cache N] [--differing] [--map FILE] [--progress] STACK NAME OUT BINDING...",
-        options: &["--cache", "--differing", "--map", "--progress"],
-    },
-    Command {
-        name: "format",
-        usage: "dmstack format [--data-block N] [--hash-block N] [--blocks N] [--salt HEX] [--uuid U] [--hash-offset BYTES] [--no-superblock] [--grow] [--progress] [--fec FILE] [--fec-roots N] [--pin FILE] DATA HASH",
-        options: &[
-            "--data-block",
-            "--data-block-size",
-            "--hash-block",
-            "--hash-block-size",
-            "--blocks",
-            "--data-blocks",
-            "--salt",
-            "--uuid",
-            "--hash-offset",
-            "--no-superblock",
-            "--grow",
-            "--progress",
-            "--fec",
-            "--fec-device",
-            "--fec-roots",
-            "--pin",
-        ],
-    },
-    Command {
-        name: "verify",
-        usage: "dmstack verify [--data-block N] [--hash-block N] [--blocks N] [--salt HEX] [--hash-offset BYTES] [--root-hash-file FILE] [--no-superblock] [--all] [--json] [--progress] [--fec FILE] [--fec-roots N] [--pin FILE] DATA HASH ROOT",
-        options: &[
-            "--data-block",
-            "--data-block-size",
-            "--hash-block",
-            "--hash-block-size",
-            "--blocks",
-            "--data-blocks",
-            "--salt",
-            "--hash-offset",
-            "--root-hash-file",
-            "--no-superblock",
-            "--all",
-            "--json",
-            "--progress",
-            "--fec",
-            "--fec-device",
-            "--fec-roots",
-            "--pin",
-        ],
-    },
-    Command {
-        name: "dump",
-        usage: "dmstack dump [--hash-offset BYTES] [--json] HASH",
-        options: &["--hash-offset", "--json"],
-    },
-    Command {
-        name: "table",
-        usage: "dmstack table [--data-block N] [--hash-block N] [--blocks N] [--salt HEX] [--hash-offset BYTES] [--name NAME] [--root-hash-file FILE] [--no-superblock] HASH ROOT DATANAME HASHNAME",
-        options: &[
-            "--data-block",
-            "--data-block-size",
-            "--hash-block",
-            "--hash-block-size",
-            "--blocks",
-            "--data-blocks",
-            "--salt",
-            "--hash-offset",
-            "--root-hash-file",
-            "--name",
-            "--no-superblock",
-        ],
-    },
-    Command {
-        name: "repair",
-        usage: "dmstack repair [--hash-offset BYTES] [--root-hash-file FILE] [--check] [--fec FILE] [--fec-roots N] DATA HASH ROOT [DATACOPY HASHCOPY]...",
-        options: &[
-            "--hash-offset",
-            "--root-hash-file",
-            "--check",
-            "--fec",
-            "--fec-device",
-            "--fec-roots",
-        ],
     },
     Command {
         name: "cat",
         usage: "dmstack cat [--cache N] [--first N] [--count N] [--progress] STACK NAME BINDING...",
-        options: &["--cache", "--first", "--count", "--progress"],
     },
     Command {
         name: "store",
         usage: "dmstack store [--cache N] [--first N] [--progress] STACK NAME SOURCE BINDING...",
-        options: &["--cache", "--first", "--progress"],
+    },
+    Command {
+        name: "format",
+        usage: "dmstack format [--data-block N] [--hash-block N] [--blocks N] [--salt HEX] [--uuid U] [--hash-offset BYTES] [--no-superblock] [--grow] [--progress] [--fec FILE] [--fec-roots N] [--pin FILE] DATA HASH",
+    },
+    Command {
+        name: "verify",
+        usage: "dmstack verify [--data-block N] [--hash-block N] [--blocks N] [--salt HEX] [--hash-offset BYTES] [--root-hash-file FILE] [--no-superblock] [--all] [--json] [--progress] [--fec FILE] [--fec-roots N] [--pin FILE] DATA HASH ROOT",
+    },
+    Command {
+        name: "dump",
+        usage: "dmstack dump [--hash-offset BYTES] [--json] HASH",
+    },
+    Command {
+        name: "table",
+        usage: "dmstack table [--data-block N] [--hash-block N] [--blocks N] [--salt HEX] [--hash-offset BYTES] [--name NAME] [--root-hash-file FILE] [--no-superblock] HASH ROOT DATANAME HASHNAME",
+    },
+    Command {
+        name: "repair",
+        usage: "dmstack repair [--hash-offset BYTES] [--root-hash-file FILE] [--check] [--fec FILE] [--fec-roots N] DATA HASH ROOT [DATACOPY HASHCOPY]...",
     },
     Command {
         name: "partitions",
         usage: "dmstack partitions [--sector-size 512|4096] [--json] [--stack] [--root ROOT] IMAGE",
-        options: &["--sector-size", "--stack", "--root", "--json"],
     },
     Command {
         name: "diff",
         usage: "dmstack diff [--blocks N] [--json] HASH1 ROOT1 HASH2 ROOT2",
-        options: &["--blocks", "--json"],
     },
     Command {
         name: "manual",
         usage: "dmstack manual [COMMAND]",
-        options: &[],
     },
     Command {
         name: "version",
         usage: "dmstack version",
-        options: &[],
     },
 ];

@@ -1,5 +1,9 @@
 //! A page of the manual.
+ghost use Rattle.std.specs.Prelude.{◌≡◌, [], ◌∷◌, find, map, option_copied, option_map, unwrap_or};
+ghost use Rattle.std.specs.Str.{bytes_eq};
+ghost use Rattle.command_line.specs.FormatOptions.{text_of};
 ghost use Rattle.program_io.specs.Counted.{Writes};
+ghost use Rattle.manual_pages.specs.Pages.{image_names, name_in, page_name, page_named, stack_names};
 
 use crate::pages::{IMAGE_PAGES, STACK_PAGES};
 use program_io::{Counted, WriteFault};
@@ -12,31 +16,40 @@ pub struct Page {
     pub text: &'static str,
 }
 
-/// The page of that command, or of the program where none is named.
-pub fn page_of(command: Option<&str>) -> Option<Page> {
+/// The page of that command, or of the program if none is named.
+pub fn page_of(command: Option<&str>) -> Option<Page>
+    ensures { option_map page_name result ≡ page_named (unwrap_or (text_of command.entry) []) }
+{
     let wanted = command.unwrap_or("").as_bytes();
     match stack_page(wanted) {
-        Some(page) => Some(page),
-        None => image_page(wanted),
+        Some(page) => Some(*page),
+        None => image_page(wanted).copied(),
     }
 }
 
-fn stack_page(wanted: &[u8]) -> Option<Page> {
-    for page in STACK_PAGES.iter() {
-        if page.name.as_bytes() == wanted {
-            return Some(*page);
-        }
-    }
-    None
+fn stack_page(wanted: &[u8]) -> Option<&'static Page>
+    ensures { option_map page_name (option_copied result) ≡ name_in ([] ∷ stack_names) wanted.now }
+{
+    page_in(&STACK_PAGES, wanted)
 }
 
-fn image_page(wanted: &[u8]) -> Option<Page> {
-    for page in IMAGE_PAGES.iter() {
-        if page.name.as_bytes() == wanted {
-            return Some(*page);
-        }
-    }
-    None
+fn image_page(wanted: &[u8]) -> Option<&'static Page>
+    ensures { option_map page_name (option_copied result) ≡ name_in image_names wanted.now }
+{
+    page_in(&IMAGE_PAGES, wanted)
+}
+
+// The page of that name among these.
+fn page_in<'a>(pages: &'a [Page], wanted: &[u8]) -> Option<&'a Page>
+    ensures { option_map page_name (option_copied result) ≡ name_in (map page_name pages.now) wanted.now }
+{
+    find_page(pages, wanted)
+}
+
+fn find_page<'a>(pages: &'a [Page], wanted: &[u8]) -> Option<&'a Page>
+    ensures { option_copied result ≡ find (λ page. bytes_eq page.name.now wanted.now) pages.now }
+{
+    pages.iter().find(|page| page.name.as_bytes() == wanted)
 }
 
 /// Prints a page.

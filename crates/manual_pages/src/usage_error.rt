@@ -1,69 +1,112 @@
 //! What is printed of arguments that are no command.
-ghost use Rattle.std.specs.Prelude.{◌≡◌, ◌==◌, IfSome, option_copied, position};
-ghost use Rattle.std.specs.List.{before_first};
+ghost use Rattle.std.specs.Prelude.{◌≡◌, option_map};
+ghost use Rattle.command_line.specs.FormatOptions.{text_of};
 ghost use Rattle.program_io.specs.Counted.{Writes};
-ghost use Rattle.manual_pages.specs.UsageErrors.{IsFirst, IsUsageError, command_error, has_option, is_ahead, is_unknown, name_error, no_command_text, no_option_text, option_text, page_text, unknown_option, usage_error, usage_text};
+ghost use Rattle.manual_pages.specs.Pages.{command_name};
+ghost use Rattle.manual_pages.specs.UsageErrors.{IsExplanation, argument_text, arguments_error, command_error, explanation, first_name, misuse_text, name_error, named_misuse, named_text, no_arguments_text, no_command_text, no_misuse_text, option_text, page_text, page_wanted, reason_text, usage_error, usage_text};
 
-use crate::commands::COMMANDS;
+use crate::cause::cause_text;
+use crate::command::{Command, command_named};
+use crate::help::{asks_version, help_page};
+use crate::page::{Page, print_page};
+use crate::version::print_version;
+use command_line::{Cause, Misuse};
 use io_fault_text::say_path;
 use program_io::{Counted, WriteFault};
 use std::io::Write;
 
-/// A command: its name, how it is called, and its options, by each of their names.
-#[derive(Clone, Copy)]
-pub struct Command {
-    pub name: &'static str,
-    pub usage: &'static str,
-    pub options: &'static [&'static str],
-}
-
-/// Prints which argument is wrong, how its command is called, and which page says more: three lines at most. An argument is
-/// printed as a path is.
-pub fn say_wrong_words<W: Write>(
+/// Prints which argument is wrong and why, how its command is called, and which page says more: three lines at most. An argument
+/// is printed as a path is. If the arguments ask for help or for the version, it prints that page or the version instead.
+pub fn print_usage_error<W: Write>(
     errors: &mut Counted<W>,
     words: &[String],
+    misuse: Option<Misuse<'_>>,
 ) -> Result<(), WriteFault>
-    ensures { IsUsageError (λ text. Writes W.contents errors.old errors.new text result) words.now }
+    ensures { IsExplanation (λ text. Writes W.contents errors.old errors.new text result) words.now misuse.entry }
 {
-    say_for(first_command(words), errors, words)
+    let command = first_command(words);
+    let page = help_page(words);
+    explain(errors, words, misuse, command, page)
 }
 
 // The command that the first argument names.
 fn first_command(words: &[String]) -> Option<Command>
-    ensures { IsFirst result words.now }
+    ensures { option_map command_name result ≡ first_name words.now }
 {
     match words {
-        [name, ..] => command_named(name.as_bytes()),
+        [name, ..] => command_named(name.as_bytes()).copied(),
         [] => None,
     }
 }
 
-fn command_named(name: &[u8]) -> Option<Command>
-    ensures { IfSome result (λ found. found.name.now ≡ name.now) }
+fn explain<W: Write>(
+    errors: &mut Counted<W>,
+    words: &[String],
+    misuse: Option<Misuse<'_>>,
+    command: Option<Command>,
+    page: Option<Page>,
+) -> Result<(), WriteFault>
+    ensures { Writes W.contents errors.old errors.new (explanation words.now misuse.entry command page) result }
 {
-    for command in COMMANDS.iter() {
-        if command.name.as_bytes() == name {
-            return Some(*command);
-        }
+    if asks_version(words) {
+        return print_version(errors);
+    }
+    match page {
+        Some(page) => print_page(errors, page),
+        None => say_error(errors, words, misuse, command),
+    }
+}
+
+fn say_error<W: Write>(
+    errors: &mut Counted<W>,
+    words: &[String],
+    misuse: Option<Misuse<'_>>,
+    command: Option<Command>,
+) -> Result<(), WriteFault>
+    ensures { Writes W.contents errors.old errors.new (usage_error words.now misuse.entry command) result }
+{
+    match (page_wanted(words), misuse) {
+        (Some(name), None) => say_no_command(errors, name),
+        (Some(_), Some(misuse)) => say_arguments(errors, words, Some(misuse), command),
+        (None, misuse) => say_arguments(errors, words, misuse, command),
+    }
+}
+
+// The command whose page `manual` is to print.
+fn page_wanted(words: &[String]) -> Option<&str>
+    ensures { text_of result ≡ page_wanted words.now }
+{
+    let [name, command] = words else {
+        return None;
+    };
+    if name.as_bytes() == b"manual".as_slice() {
+        return Some(command.as_str());
     }
     None
 }
 
-// What is printed with the command that the first argument names.
-fn say_for<W: Write>(
-    command: Option<Command>,
+fn say_arguments<W: Write>(
     errors: &mut Counted<W>,
     words: &[String],
+    misuse: Option<Misuse<'_>>,
+    command: Option<Command>,
 ) -> Result<(), WriteFault>
-    ensures { Writes W.contents errors.old errors.new (usage_error command words.now) result }
+    ensures { Writes W.contents errors.old errors.new (arguments_error words.now misuse.entry command) result }
 {
-    let [name, rest @ ..] = words else {
-        return errors.put(b"dmstack: a command is wanted; `dmstack manual` names them\n");
+    let [name, ..] = words else {
+        return say_no_arguments(errors);
     };
     match command {
-        Some(command) => say_of_command(errors, command, rest),
+        Some(command) => say_of_command(errors, command, misuse),
         None => say_no_command(errors, name.as_str()),
     }
+}
+
+#[tactic(auto, unfolding(crate::specs::UsageErrors::no_arguments_text))]
+fn say_no_arguments<W: Write>(errors: &mut Counted<W>) -> Result<(), WriteFault>
+    ensures { Writes W.contents errors.old errors.new no_arguments_text result }
+{
+    errors.put(b"dmstack: a command is wanted; `dmstack manual` names them\n")
 }
 
 fn say_no_command<W: Write>(errors: &mut Counted<W>, name: &str) -> Result<(), WriteFault>
@@ -88,21 +131,45 @@ fn say_page<W: Write>(errors: &mut Counted<W>) -> Result<(), WriteFault>
     errors.put(b"; `dmstack manual` names them\n")
 }
 
-// The option that its command hasn't, or that the arguments aren't those of the command; then how it is called.
+// The argument that is wrong and why, then how the command is called.
 fn say_of_command<W: Write>(
     errors: &mut Counted<W>,
     command: Command,
-    words: &[String],
+    misuse: Option<Misuse<'_>>,
 ) -> Result<(), WriteFault>
-    ensures { Writes W.contents errors.old errors.new (command_error command words.now) result }
+    ensures { Writes W.contents errors.old errors.new (command_error command misuse.entry) result }
 {
-    match unknown_option(command, words) {
-        Some(word) => say_option(errors, command.name, word.as_str())?,
-        None => say_no_option(errors, command.name)?,
+    match named_misuse(misuse) {
+        Some(misuse) => say_misuse(errors, command.name, misuse)?,
+        None => say_no_misuse(errors, command.name)?,
     }
     say_usage(errors, command.name, command.usage)
 }
 
+// The misuse, if it names an argument.
+fn named_misuse<'a>(misuse: Option<Misuse<'a>>) -> Option<Misuse<'a>>
+    ensures { result ≡ named_misuse misuse.entry }
+{
+    match misuse {
+        Some(misuse) if !misuse.argument.is_empty() => Some(misuse),
+        _ => None,
+    }
+}
+
+fn say_misuse<W: Write>(
+    errors: &mut Counted<W>,
+    name: &str,
+    misuse: Misuse<'_>,
+) -> Result<(), WriteFault>
+    ensures { Writes W.contents errors.old errors.new (misuse_text name.now misuse.entry.argument.now misuse.entry.cause) result }
+{
+    match misuse.cause {
+        Cause::Unknown => say_option(errors, name, misuse.argument),
+        cause => say_argument(errors, name, misuse.argument, cause),
+    }
+}
+
+// An option that the command doesn't have.
 #[tactic(auto, unfolding(crate::specs::UsageErrors::option_text))]
 fn say_option<W: Write>(errors: &mut Counted<W>, name: &str, option: &str) -> Result<(), WriteFault>
     ensures { Writes W.contents errors.old errors.new (option_text name.now option.now) result }
@@ -112,11 +179,39 @@ fn say_option<W: Write>(errors: &mut Counted<W>, name: &str, option: &str) -> Re
     errors.put(b"\n")
 }
 
-#[tactic(auto, unfolding(crate::specs::UsageErrors::no_option_text))]
-fn say_no_option<W: Write>(errors: &mut Counted<W>, name: &str) -> Result<(), WriteFault>
-    ensures { Writes W.contents errors.old errors.new (no_option_text name.now) result }
+fn say_argument<W: Write>(
+    errors: &mut Counted<W>,
+    name: &str,
+    argument: &str,
+    cause: Cause,
+) -> Result<(), WriteFault>
+    ensures { Writes W.contents errors.old errors.new (argument_text name.now argument.now cause) result }
 {
-    errors.print(format_args!("dmstack: these aren't the words of {name}\n"))
+    say_command(errors, name)?;
+    say_path(errors, argument)?;
+    say_cause(errors, cause_text(cause))
+}
+
+#[tactic(auto, unfolding(crate::specs::UsageErrors::named_text))]
+fn say_command<W: Write>(errors: &mut Counted<W>, name: &str) -> Result<(), WriteFault>
+    ensures { Writes W.contents errors.old errors.new (named_text name.now) result }
+{
+    errors.print(format_args!("dmstack: {name}: "))
+}
+
+#[tactic(auto, unfolding(crate::specs::UsageErrors::reason_text))]
+fn say_cause<W: Write>(errors: &mut Counted<W>, cause: &str) -> Result<(), WriteFault>
+    ensures { Writes W.contents errors.old errors.new (reason_text cause.now) result }
+{
+    errors.print(format_args!(": {cause}\n"))
+}
+
+// That the arguments aren't those of the command.
+#[tactic(auto, unfolding(crate::specs::UsageErrors::no_misuse_text))]
+fn say_no_misuse<W: Write>(errors: &mut Counted<W>, name: &str) -> Result<(), WriteFault>
+    ensures { Writes W.contents errors.old errors.new (no_misuse_text name.now) result }
+{
+    errors.print(format_args!("dmstack: these aren't the arguments of {name}\n"))
 }
 
 #[tactic(auto, unfolding(crate::specs::UsageErrors::usage_text))]
@@ -124,49 +219,4 @@ fn say_usage<W: Write>(errors: &mut Counted<W>, name: &str, usage: &str) -> Resu
     ensures { Writes W.contents errors.old errors.new (usage_text name.now usage.now) result }
 {
     errors.print(format_args!("usage: {usage}\n`dmstack manual {name}` says more\n"))
-}
-
-// The first of the arguments before `--` that has the form of an option, and that the command hasn't.
-fn unknown_option(command: Command, words: &[String]) -> Option<&String>
-    ensures { option_copied result ≡ unknown_option command words.now }
-{
-    words
-        .iter()
-        .take_while(|word| is_ahead(word.as_str()))
-        .find(|word| is_unknown(command, word.as_bytes()))
-}
-
-// Whether the argument isn't `--` alone.
-fn is_ahead(word: &str) -> bool
-    ensures { result ≡ is_ahead word.now }
-{
-    word.as_bytes() != b"--".as_slice()
-}
-
-// Whether the argument has the form of an option that the command hasn't.
-fn is_unknown(command: Command, word: &[u8]) -> bool
-    ensures { result ≡ is_unknown command word.now }
-{
-    word.starts_with(b"--") && !has_option(command, before_equals(word))
-}
-
-// The argument up to its first `=`.
-fn before_equals(word: &[u8]) -> &[u8]
-    ensures { result.now ≡ before_first (λ b. b == 61) word.now }
-{
-    let end = first_equals(word).unwrap_or(word.len());
-    &word[..end]
-}
-
-fn first_equals(word: &[u8]) -> Option<usize>
-    ensures { result ≡ position (λ b. b == 61) word.now }
-{
-    word.iter().position(|b| *b == b'=')
-}
-
-// Whether the command has that option.
-fn has_option(command: Command, option: &[u8]) -> bool
-    ensures { result ≡ has_option command option.now }
-{
-    command.options.iter().any(|one| one.as_bytes() == option)
 }

@@ -7,5 +7,5 @@ use Rattle.stack_commands.specs.Uses.{IsUsageEnd}
 
 -- what a fault of the words says is what it says as a command's
 pub IsUsageEnd-words : (Cause : Type 0) (fault : WordsFault) → IsUsage fault Cause → IsUsageEnd (command_words_ending fault) Cause
-IsUsageEnd-words Cause Usage is = is
+IsUsageEnd-words Cause (Usage misuse) is = is
 IsUsageEnd-words Cause NoMemory is = tt

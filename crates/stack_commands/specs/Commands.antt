@@ -3,11 +3,12 @@ use Rattle.std.specs.Prelude.{◌≡◌, ◌⊎◌, ◌||◌, ℕ, Bool, true, f
 use Rattle.std.specs.Io.KnownBytes.{Appends}
 use Rattle.std.specs.Str.{bytes_eq}
 use Rattle.stack_commands.specs.declared.fault.CommandFault.{CommandFault}
-use Rattle.stack_commands.specs.declared.fault.CommandFault.TheVariants.{Recovering, Usage, Verity}
+use Rattle.stack_commands.specs.declared.fault.CommandFault.TheVariants.{Fec, Recovering, Usage, Verity}
 use Rattle.scan_commands.specs.declared.recovering_fault.RecoveringFault.TheVariants.{Pass}
 use Rattle.scan_commands.specs.declared.rescue_fault.PassFault.{PassFault}
 use Rattle.scan_commands.specs.declared.rescue_fault.PassFault.TheVariants as pass
 use Rattle.stack_commands.specs.Endings.{IsEnd, IsSilent, ending_text}
+use Rattle.fec_commands.specs.declared.fault.FecFault.TheVariants as fec_fault
 use Rattle.verity_commands.specs.declared.verity_fault.VerityFault.TheVariants as verity_fault
 use Rattle.program_io.specs.Streams.{Streams}
 use Rattle.command_line.specs.Invocations.{InvocationRecord}
@@ -40,6 +41,7 @@ output_is_data (name ∷ words) = writes_data name
 abbrev pub is_usage : CommandFault → Bool
 is_usage Usage = true
 is_usage (Verity verity_fault.Usage) = true
+is_usage (Fec (fec_fault.Verity verity_fault.Usage)) = true
 is_usage fault = false
 
 -- OUT failed, the image to which `copy` writes

@@ -1,7 +1,7 @@
 -- What the functions of the commands that print do with what they are lent (`Desk`): it is said of the opener and the writer
 -- before the call, and of what stands behind the two references after it.
 use Rattle.std.specs.Prelude.{◌≡◌, ◌⊎◌, ℕ, Bool, true, List, Option, ⊤}
-use Rattle.std.specs.Borrow.{MutBor}
+use Rattle.std.specs.Borrow.{Bor, MutBor}
 use Rattle.std.specs.Io.KnownBytes.{Appends}
 use Rattle.block_device.specs.Device.{Device}
 use Rattle.program_io.specs.Counted.{CountedRecord}
@@ -18,6 +18,7 @@ use Rattle.command_line.specs.declared.words.scan.ScanWords.{ScanWords}
 use Rattle.command_line.specs.declared.words.verify.VerifyWords.{VerifyWords}
 use Rattle.command_line.specs.declared.words.write.WriteWords.{WriteWords}
 use Rattle.command_line.specs.FecFiles.{fec_record}
+use Rattle.command_line.specs.FormatOptions.{text_of}
 use Rattle.command_line.specs.words.Cat.{cat_record}
 use Rattle.command_line.specs.words.Copy.{copy_record}
 use Rattle.command_line.specs.words.Load.{load_record}
@@ -40,7 +41,7 @@ use Rattle.stack_rules.specs.Records.{Configuration}
 use Rattle.stack_commands.specs.declared.desk.Desk.{Desk}
 use Rattle.stack_commands.specs.declared.fault.CommandFault.{CommandFault}
 use Rattle.stack_commands.specs.Endings.{IsEnd, IsSilent}
-use Rattle.stack_commands.specs.Invocations.{CatsSectors, CopiesSectors, IsCatCommandEnd, IsCopyWordsEnd, IsLoadWordsEnd, IsPageEnd, IsReadWordsEnd, IsScanWordsEnd, IsWriteWordsEnd, ListsDevices, ReadsDevice, ScansSectors, WritesDevice}
+use Rattle.stack_commands.specs.Invocations.{CatsSectors, CopiesSectors, IsCatCommandEnd, IsCopyWordsEnd, IsLoadWordsEnd, IsPageEnd, IsReadWordsEnd, IsScanWordsEnd, IsWriteWordsEnd, ListsDevices, PrintsPage, ReadsDevice, ScansSectors, WritesDevice}
 use Rattle.stack_commands.specs.Repairing.{IsParityWordsEnd, IsRepairWordsEnd, RepairsImage}
 use Rattle.stack_commands.specs.StackCommands.{IsListEnd, IsReadEnd, IsWriteEnd, PrintsDevices, PrintsReply, PrintsWritten}
 use Rattle.stack_commands.specs.Uses.{IsTreesEnd}
@@ -168,12 +169,12 @@ module _ {T : Type 0} (contents : T → Option (List ℕ)) (old new : CountedRec
   abbrev pub PrintsConfiguration : Configuration → Bool → Type 0
   PrintsConfiguration config json = Appends (contents old.inner) (contents new.inner) (load_text json config)
 
-  -- some text
-  abbrev pub ShowsText : Type 0
-  ShowsText = (text : List ℕ) × Appends (contents old.inner) (contents new.inner) text
+  -- the page of a command, or of the program
+  abbrev pub ShowsPage : Option (Bor (List ℕ)) → Type 0
+  ShowsPage command = PrintsPage (text_of command) (contents old.inner) (contents new.inner)
 
-  abbrev pub EndsPage : CommandFault → Type 0
-  EndsPage = IsPageEnd (contents old.inner) (contents new.inner) new.failed
+  abbrev pub EndsPage : Option (Bor (List ℕ)) → CommandFault → Type 0
+  EndsPage command = IsPageEnd (text_of command) (contents old.inner) (contents new.inner) new.failed
 
   -- why a command ended early, with its status, or the status 1 where that can't be written
   abbrev pub IsToldBy : CommandFault → ℕ → Type 0

@@ -17,7 +17,7 @@ use Rattle.stack_commands.specs.FaultTexts.{io_status, recovering_status, recove
 
 -- how a command ends where the words are none
 abbrev pub command_words_ending : WordsFault → CommandFault
-command_words_ending words.Usage = Usage
+command_words_ending (words.Usage misuse) = Usage
 command_words_ending words.NoMemory = NoMemory
 
 -- what is printed of it; the own faults of a session and of the service of a client print nothing

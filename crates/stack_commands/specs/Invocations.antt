@@ -1,6 +1,6 @@
 -- What each command prints where it succeeds, and how it ends early.
 use Rattle.std.specs.Io.KnownBytes.{Appends}
-use Rattle.std.specs.Prelude.{◌≡◌, ◌⊎◌, ◌≢◌, ℕ, Bool, true, false, codes, List, None, Ok, Option, Some}
+use Rattle.std.specs.Prelude.{◌≡◌, ◌⊎◌, ◌≢◌, ℕ, Bool, true, false, codes, List, [], None, Ok, Option, Some, unwrap_or}
 use Rattle.command_line.specs.FormatOptions.{OptionTexts}
 use Rattle.command_line.specs.Invocations.{InvocationRecord, cat, copy, diff, dump, exports, format, format_fec, format_pin, format_tree, load, manual, nbd, partitions, read, repair, scan, session, store, table, table_tree, verify, verify_fec, verify_pin, verify_tree, version, write}
 use Rattle.command_line.specs.words.Cat.{CatRecord}
@@ -17,6 +17,9 @@ use Rattle.program_io.specs.Streams.{Streams}
 use Rattle.image_files.specs.Opener.{Calls}
 use Rattle.fec_commands.specs.declared.fault.FecFault.{FecFault}
 use Rattle.fec_commands.specs.Commands.{FormatsFec, IsFormatFecEnd, IsVerifyFecEnd, VerifiesFec}
+use Rattle.manual_pages.specs.Pages.{page_name, page_named}
+use Rattle.manual_pages.specs.Versions.{version_text}
+use Rattle.manual_pages.specs.declared.page.Page.{Page}
 use Rattle.partition_commands.specs.declared.fault.PartitionsFault.{PartitionsFault}
 use Rattle.partition_commands.specs.Invocations.{IsListingEnd, ListsPartitions}
 use Rattle.verity_commands.specs.Invocations.{DiffsTrees, IsDiffWordsEnd}
@@ -145,13 +148,17 @@ IsExportsWordsEnd w e old new failed fault = IsExportsEnd w (on e.stack e.bindin
 
 -- ---- pages of the manual
 
--- nothing is opened, and some text printed
-abbrev pub ShowsPage : {S D T G : Type 0} → Uses S D T G → Type 0
-ShowsPage u = ((text : List ℕ) × Appends u.old.output u.new.output text) × (u.images.new ≡ u.images.old)
+-- the name of the page of that command, or of the program if none is named
+abbrev pub page_wanted : Option (List ℕ) → Option (List ℕ)
+page_wanted command = page_named (unwrap_or command [])
+
+-- the page of that name is printed
+abbrev pub PrintsPage : Option (List ℕ) → Option (List ℕ) → Option (List ℕ) → Type 0
+PrintsPage command old new = (page : Page) × ((page_wanted command ≡ Some (page_name page)) × Appends old new page.text.now)
 
 -- there is no such page, or it can't be written
-abbrev pub IsPageEnd : Option (List ℕ) → Option (List ℕ) → Bool → CommandFault → Type 0
-IsPageEnd old new failed fault = ((fault ≡ Usage) × (new ≡ old)) ⊎ IsReplyUnwritten failed fault
+abbrev pub IsPageEnd : Option (List ℕ) → Option (List ℕ) → Option (List ℕ) → Bool → CommandFault → Type 0
+IsPageEnd command old new failed fault = ((page_wanted command ≡ None) × ((fault ≡ Usage) × (new ≡ old))) ⊎ IsReplyUnwritten failed fault
 
 -- ---- all of them
 
@@ -181,8 +188,8 @@ Succeeds texts (format_fec f) u = FormatsFec texts u.images u.drawing f u.old.ou
 Succeeds texts (verify_fec v) u = VerifiesFec u.images v u.old.output u.new.output
 Succeeds texts (format_pin f) u = FormatsByPin texts u.images u.drawing f u.old.output u.new.output
 Succeeds texts (verify_pin v) u = VerifiesPin u.images v u.old.output u.new.output
-Succeeds texts (manual command) u = ShowsPage u
-Succeeds texts version u = ShowsPage u
+Succeeds texts (manual command) u = PrintsPage command u.old.output u.new.output × (u.images.new ≡ u.images.old)
+Succeeds texts version u = Appends u.old.output u.new.output version_text × (u.images.new ≡ u.images.old)
 
 -- how each ends early, where the last but one says whether the writer failed
 abbrev pub FailsCommand : {S D T G : Type 0} → OptionTexts → InvocationRecord → Uses S D T G → Bool → CommandFault → Type 0
@@ -210,5 +217,5 @@ FailsCommand texts (format_fec f) u failed fault = IsFecEnd (IsFormatFecEnd text
 FailsCommand texts (verify_fec v) u failed fault = IsFecEnd (IsVerifyFecEnd u.images v u.old.output u.new.output failed) fault
 FailsCommand texts (format_pin f) u failed fault = IsVerityEnd (IsPinFormatEnd texts u.images u.drawing f u.old.output u.new.output failed) fault
 FailsCommand texts (verify_pin v) u failed fault = IsVerityEnd (IsPinVerifyEnd u.images v u.old.output u.new.output failed) fault
-FailsCommand texts (manual command) u failed fault = IsPageEnd u.old.output u.new.output failed fault × (u.images.new ≡ u.images.old)
-FailsCommand texts version u failed fault = IsPageEnd u.old.output u.new.output failed fault × (u.images.new ≡ u.images.old)
+FailsCommand texts (manual command) u failed fault = IsPageEnd command u.old.output u.new.output failed fault × (u.images.new ≡ u.images.old)
+FailsCommand texts version u failed fault = IsReplyUnwritten failed fault × (u.images.new ≡ u.images.old)

@@ -65,12 +65,12 @@ impl From<OutOfMemory> for CommandFault<'_> {
     }
 }
 
-impl From<WordsFault> for CommandFault<'_> {
+impl From<WordsFault<'_>> for CommandFault<'_> {
     ghost from_gives = { λ fault given. given ≡ command_words_ending fault };
 
-    fn from(fault: WordsFault) -> Self {
+    fn from(fault: WordsFault<'_>) -> Self {
         match fault {
-            WordsFault::Usage => CommandFault::Usage,
+            WordsFault::Usage(_) => CommandFault::Usage,
             WordsFault::NoMemory => CommandFault::NoMemory,
         }
     }

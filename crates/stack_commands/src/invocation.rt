@@ -1,7 +1,7 @@
 //! Runs the command that a command line invokes.
 ghost use Rattle.std.specs.Prelude.{false, ◌≡◌, OnOk, IfErr};
 ghost use Rattle.image_commands.specs.Drawing.{drawing};
-ghost use Rattle.stack_commands.specs.Desks.{EndsPage, ShowsText};
+ghost use Rattle.stack_commands.specs.Desks.{EndsPage, ShowsPage};
 ghost use Rattle.stack_commands.specs.Lines.{DoesLine, EndsLine};
 
 use crate::copy::invoke_copy;
@@ -105,8 +105,8 @@ fn show_page<'a, W: Write>(
     command: Option<&'a str>,
     writer: &mut Counted<W>,
 ) -> Result<(), CommandFault<'a>>
-    ensures ok { OnOk result (ShowsText W.contents writer.old writer.new) }
-    ensures err { IfErr result (EndsPage W.contents writer.old writer.new) }
+    ensures ok { OnOk result (ShowsPage W.contents writer.old writer.new command.entry) }
+    ensures err { IfErr result (EndsPage W.contents writer.old writer.new command.entry) }
 {
     match page_of(command) {
         Some(page) => Ok(print_page(writer, page)?),

@@ -11,11 +11,12 @@ ghost use Rattle.stack_commands.specs.Uses.{uses};
 use crate::ending::end;
 use crate::fault::CommandFault;
 use crate::invocation::invoke;
-use command_parser::parse;
+use command_parser::{misuse_of, parse};
 use device_adapters::{Progress, Watchers};
+use fec_commands::FecFault;
 use image_commands::Generators;
 use image_files::Images;
-use manual_pages::say_wrong_words;
+use manual_pages::print_usage_error;
 use program_io::{Counted, WriteFault};
 use scan_commands::{PassFault, RecoveringFault};
 use std::alloc::Global;
@@ -49,7 +50,7 @@ pub fn command<I: Images, G: Generators + Progress + Watchers, S: Read, W: Write
     match run(alloc, images, generators, words, reader, writer) {
         Ok(()) => DONE,
         Err(fault) => {
-            explain(errors, words, fault);
+            explain(alloc, errors, words, fault);
             if output_is_data(words) {
                 end(errors, fault)
             } else {
@@ -82,12 +83,18 @@ fn report_end<W: Write, E: Write>(
     }
 }
 
-// Says of words that are no command which of them is wrong.
-fn explain<E: Write>(errors: &mut Counted<E>, words: &[String], fault: CommandFault<'_>)
+// Prints which argument keeps the arguments from being a command.
+fn explain<E: Write>(
+    alloc: Global,
+    errors: &mut Counted<E>,
+    words: &[String],
+    fault: CommandFault<'_>,
+)
     ensures { is_usage fault.entry ≡ false → E.contents errors.new.inner ≡ E.contents errors.old.inner }
 {
     if is_usage(fault) {
-        let _said = say_wrong_words(errors, words);
+        let misuse = misuse_of(alloc, words);
+        let _said = print_usage_error(errors, words, misuse);
     }
 }
 
@@ -117,6 +124,7 @@ fn is_usage(fault: CommandFault<'_>) -> bool
     match fault {
         CommandFault::Usage => true,
         CommandFault::Verity(fault) => fault == VerityFault::Usage,
+        CommandFault::Fec(FecFault::Verity(fault)) => fault == VerityFault::Usage,
         _ => false,
     }
 }

@@ -22,7 +22,7 @@ err-from (Err e) P fault is holds = subst P (sym is) holds
 
 -- words of which one says no value
 pub unsaid : (fault : WordsFault) → IsUnsaid (words_ending fault)
-unsaid Usage = tt
+unsaid (Usage misuse) = tt
 unsaid NoMemory = tt
 
 -- what holds of a result's fault, where that is known

@@ -10,7 +10,7 @@ use Rattle.verity_commands.specs.declared.verity_fault.VerityFault.TheVariants.{
 
 -- where the words are none
 abbrev pub words_ending : WordsFault → VerityFault
-words_ending words.Usage = Usage
+words_ending (words.Usage misuse) = Usage
 words_ending words.NoMemory = Image image.NoMemory
 
 -- a word of the options says no value, or memory ran out

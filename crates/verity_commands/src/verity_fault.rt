@@ -15,12 +15,12 @@ pub enum VerityFault<'a> {
     Image(ImageFault<'a>),
 }
 
-impl From<WordsFault> for VerityFault<'_> {
+impl From<WordsFault<'_>> for VerityFault<'_> {
     ghost from_gives = { λ fault given. given ≡ words_ending fault };
 
-    fn from(fault: WordsFault) -> Self {
+    fn from(fault: WordsFault<'_>) -> Self {
         match fault {
-            WordsFault::Usage => VerityFault::Usage,
+            WordsFault::Usage(_) => VerityFault::Usage,
             WordsFault::NoMemory => VerityFault::Image(ImageFault::NoMemory),
         }
     }

@@ -1,9 +1,11 @@
 -- What `cat [--cache N] [--progress] [--first N] [--count N] STACK NAME BINDING...` says.
-use Rattle.std.specs.Prelude.{Bool, List, None, Option, Some, map, ℕ, ◌∷◌}
+use Rattle.std.specs.Prelude.{codes, Bool, List, Option, Ok, map, ℕ}
 use Rattle.command_line.specs.Bindings.{BindingRecord, binding_record}
 use Rattle.command_line.specs.BindingWords.{bindings_of}
 use Rattle.command_line.specs.FormatOptions.{OptionTexts}
-use Rattle.command_line.specs.Values.{cache_said, count_said, first_said, when}
+use Rattle.command_line.specs.Misuses.{Reading, when}
+use Rattle.command_line.specs.Positional.{positional}
+use Rattle.command_line.specs.Values.{cache_said, count_said, first_said}
 use Rattle.command_line.specs.declared.words.cat.CatWords.{CatWords}
 
 pub record CatRecord : Type 0 where
@@ -15,21 +17,22 @@ pub record CatRecord : Type 0 where
   pub bindings : List BindingRecord
   pub progress : Bool
 
-unfoldable pub cat_said : OptionTexts → List (List ℕ) → Option CatRecord
-cat_said texts (stack ∷ name ∷ words) =
+unfoldable pub cat_said : OptionTexts → List (List ℕ) → Reading CatRecord
+cat_said texts words =
+    when (positional (codes "STACK") words) (λ stack.
+    when (positional (codes "NAME") stack.1) (λ name.
     when (cache_said texts.cache) (λ cache.
     when (first_said texts.first) (λ first.
     when (count_said texts.count) (λ count.
-    when (bindings_of words) (λ bindings. Some (record {
+    when (bindings_of name.1) (λ bindings. Ok (record {
       cache = cache;
       first = first;
       count = count;
-      stack = stack;
-      name = name;
+      stack = stack.0;
+      name = name.0;
       bindings = bindings;
       progress = texts.progress;
-    })))))
-cat_said texts words = None
+    })))))))
 
 -- what the program's own value says
 abbrev pub cat_record : CatWords → CatRecord

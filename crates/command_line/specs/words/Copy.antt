@@ -1,9 +1,11 @@
 -- What `copy [--cache N] [--differing] [--map FILE] [--progress] STACK NAME OUT BINDING...` says.
-use Rattle.std.specs.Prelude.{Bool, List, None, Option, Some, map, ℕ, ◌∷◌}
+use Rattle.std.specs.Prelude.{codes, Bool, List, Option, Ok, map, ℕ}
 use Rattle.command_line.specs.Bindings.{BindingRecord, binding_record}
 use Rattle.command_line.specs.BindingWords.{bindings_of}
 use Rattle.command_line.specs.FormatOptions.{OptionTexts, text_of}
-use Rattle.command_line.specs.Values.{cache_said, map_said, when}
+use Rattle.command_line.specs.Misuses.{Reading, when}
+use Rattle.command_line.specs.Positional.{positional}
+use Rattle.command_line.specs.Values.{cache_said, map_said}
 use Rattle.command_line.specs.declared.words.copy.CopyWords.{CopyWords}
 
 pub record CopyRecord : Type 0 where
@@ -16,21 +18,23 @@ pub record CopyRecord : Type 0 where
   pub map : Option (List ℕ)
   pub progress : Bool
 
-unfoldable pub copy_said : OptionTexts → List (List ℕ) → Option CopyRecord
-copy_said texts (stack ∷ name ∷ out ∷ words) =
+unfoldable pub copy_said : OptionTexts → List (List ℕ) → Reading CopyRecord
+copy_said texts words =
+    when (positional (codes "STACK") words) (λ stack.
+    when (positional (codes "NAME") stack.1) (λ name.
+    when (positional (codes "OUT") name.1) (λ out.
     when (cache_said texts.cache) (λ cache.
     when (map_said texts.map) (λ path.
-    when (bindings_of words) (λ bindings. Some (record {
+    when (bindings_of out.1) (λ bindings. Ok (record {
       cache = cache;
       differing = texts.differing;
-      stack = stack;
-      name = name;
-      out = out;
+      stack = stack.0;
+      name = name.0;
+      out = out.0;
       bindings = bindings;
       map = path;
       progress = texts.progress;
-    }))))
-copy_said texts words = None
+    })))))))
 
 -- what the program's own value says
 abbrev pub copy_record : CopyWords → CopyRecord

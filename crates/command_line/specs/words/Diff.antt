@@ -1,8 +1,9 @@
 -- What `diff [--blocks N] [--json] HASH1 ROOT1 HASH2 ROOT2` says.
-use Rattle.std.specs.Prelude.{Bool, List, None, Option, Some, [], ℕ, ◌∷◌}
-use Rattle.std.specs.Borrow.{Bor}
+use Rattle.std.specs.Prelude.{codes, Bool, List, Option, Ok, ℕ}
 use Rattle.command_line.specs.FormatOptions.{OptionTexts}
-use Rattle.command_line.specs.Values.{runs_said, two_roots, when}
+use Rattle.command_line.specs.Misuses.{Reading, when}
+use Rattle.command_line.specs.Positional.{no_more, positional}
+use Rattle.command_line.specs.Values.{root_said, runs_said}
 use Rattle.command_line.specs.declared.words.diff.DiffWords.{DiffWords}
 
 pub record DiffRecord : Type 0 where
@@ -13,24 +14,24 @@ pub record DiffRecord : Type 0 where
   pub blocks : Option ℕ
   pub json : Bool
 
--- the path and the root of one tree, and those of the other
-unfoldable pub two_trees : List (List ℕ) → Option (List ℕ × List ℕ × List ℕ × List ℕ)
-two_trees (old_path ∷ old_word ∷ new_path ∷ new_word ∷ []) =
-    when (two_roots old_word new_word) (λ roots. Some (old_path, roots.0, new_path, roots.1))
-two_trees words = None
-
-unfoldable pub diff_said : OptionTexts → List (List ℕ) → Option DiffRecord
+unfoldable pub diff_said : OptionTexts → List (List ℕ) → Reading DiffRecord
 diff_said texts words =
-    when (two_trees words) (λ trees.
+    when (positional (codes "HASH1") words) (λ old_path.
+    when (positional (codes "ROOT1") old_path.1) (λ old_word.
+    when (positional (codes "HASH2") old_word.1) (λ new_path.
+    when (positional (codes "ROOT2") new_path.1) (λ new_word.
+    when (no_more new_word.1) (λ none.
+    when (root_said (codes "ROOT1") old_word.0) (λ old_root.
+    when (root_said (codes "ROOT2") new_word.0) (λ new_root.
     when (runs_said texts.blocks) (λ blocks.
-    Some (record {
-      old_path = trees.0;
-      old_root = trees.1;
-      new_path = trees.2;
-      new_root = trees.3;
+    Ok (record {
+      old_path = old_path.0;
+      old_root = old_root;
+      new_path = new_path.0;
+      new_root = new_root;
       blocks = blocks;
       json = texts.json;
-    })))
+    })))))))))
 
 -- what the program's own value says
 abbrev pub diff_record : DiffWords → DiffRecord
@@ -42,6 +43,3 @@ diff_record w = record {
   blocks = w.blocks;
   json = w.json;
 }
-
-abbrev pub trees_record : Bor (List ℕ) × List ℕ × Bor (List ℕ) × List ℕ → List ℕ × List ℕ × List ℕ × List ℕ
-trees_record trees = (trees.0.now, trees.1, trees.2.now, trees.3)

@@ -1,7 +1,9 @@
 -- What `format [OPTIONS] DATA HASH` says.
-use Rattle.std.specs.Prelude.{Bool, List, None, Option, Some, [], ℕ, ◌∷◌}
+use Rattle.std.specs.Prelude.{codes, Bool, List, Ok, ℕ}
 use Rattle.command_line.specs.FormatOptions.{OptionTexts}
-use Rattle.command_line.specs.Values.{offset_of, when}
+use Rattle.command_line.specs.Misuses.{Reading, when}
+use Rattle.command_line.specs.Positional.{no_more, positional}
+use Rattle.command_line.specs.Values.{offset_of}
 use Rattle.command_line.specs.declared.words.format.FormatWords.{FormatWords}
 
 pub record FormatRecord : Type 0 where
@@ -11,17 +13,19 @@ pub record FormatRecord : Type 0 where
   pub grow : Bool
   pub progress : Bool
 
-unfoldable pub format_said : OptionTexts → List (List ℕ) → Option FormatRecord
-format_said texts (data_path ∷ hash_path ∷ []) =
+unfoldable pub format_said : OptionTexts → List (List ℕ) → Reading FormatRecord
+format_said texts words =
+    when (positional (codes "DATA") words) (λ data_path.
+    when (positional (codes "HASH") data_path.1) (λ hash_path.
+    when (no_more hash_path.1) (λ none.
     when (offset_of texts.hash_offset) (λ hash_offset.
-    Some (record {
-      data_path = data_path;
-      hash_path = hash_path;
+    Ok (record {
+      data_path = data_path.0;
+      hash_path = hash_path.0;
       hash_offset = hash_offset;
       grow = texts.grow;
       progress = texts.progress;
-    }))
-format_said texts words = None
+    })))))
 
 -- what the program's own value says
 abbrev pub format_record : FormatWords → FormatRecord

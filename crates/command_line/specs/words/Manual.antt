@@ -1,8 +1,9 @@
 -- What `manual [COMMAND]` says.
-use Rattle.std.specs.Prelude.{List, None, Option, Some, [], ℕ, ◌∷◌}
+use Rattle.std.specs.Prelude.{List, None, Option, Some, Ok, [], ℕ, ◌∷◌}
+use Rattle.command_line.specs.Misuses.{Reading, when}
+use Rattle.command_line.specs.Positional.{no_more}
 
--- a command's name, where one is said
-unfoldable pub manual_said : List (List ℕ) → Option (Option (List ℕ))
-manual_said [] = Some None
-manual_said (command ∷ []) = Some (Some command)
-manual_said words = None
+-- a command's name, if one is given
+unfoldable pub manual_said : List (List ℕ) → Reading (Option (List ℕ))
+manual_said [] = Ok None
+manual_said (command ∷ words) = when (no_more words) (λ none. Ok (Some command))

@@ -1,7 +1,9 @@
 -- What `partitions [--sector-size 512|4096] [--json | --stack | --root ROOT] IMAGE` says.
-use Rattle.std.specs.Prelude.{List, None, Option, Some, [], ℕ, ◌∷◌}
+use Rattle.std.specs.Prelude.{codes, List, Ok, ℕ}
 use Rattle.command_line.specs.FormatOptions.{OptionTexts}
-use Rattle.command_line.specs.Values.{FormRecord, form_of, form_record, sector_size_of, when}
+use Rattle.command_line.specs.Misuses.{Reading, when}
+use Rattle.command_line.specs.Positional.{no_more, positional}
+use Rattle.command_line.specs.Values.{FormRecord, form_of, form_record, sector_size_of}
 use Rattle.command_line.specs.declared.words.partitions.PartitionsWords.{PartitionsWords}
 
 pub record PartitionsRecord : Type 0 where
@@ -9,16 +11,17 @@ pub record PartitionsRecord : Type 0 where
   pub sector_size : ℕ
   pub form : FormRecord
 
-unfoldable pub partitions_said : OptionTexts → List (List ℕ) → Option PartitionsRecord
-partitions_said texts (image ∷ []) =
+unfoldable pub partitions_said : OptionTexts → List (List ℕ) → Reading PartitionsRecord
+partitions_said texts words =
+    when (positional (codes "IMAGE") words) (λ image.
+    when (no_more image.1) (λ none.
     when (sector_size_of texts.sector_size) (λ sector_size.
     when (form_of texts.root texts.stack texts.json) (λ form.
-    Some (record {
-      image = image;
+    Ok (record {
+      image = image.0;
       sector_size = sector_size;
       form = form;
-    })))
-partitions_said texts words = None
+    })))))
 
 -- what the program's own value says
 abbrev pub partitions_record : PartitionsWords → PartitionsRecord

@@ -1,10 +1,11 @@
 -- What `read [--cache N] STACK NAME FIRST COUNT BINDING...` says.
-use Rattle.std.specs.Prelude.{List, None, Option, Some, map, ℕ, ◌∷◌}
-use Rattle.dm_table.specs.Numbers.{number}
+use Rattle.std.specs.Prelude.{codes, List, Ok, map, ℕ}
 use Rattle.command_line.specs.Bindings.{BindingRecord, binding_record}
 use Rattle.command_line.specs.BindingWords.{bindings_of}
 use Rattle.command_line.specs.FormatOptions.{OptionTexts}
-use Rattle.command_line.specs.Values.{cache_said, when}
+use Rattle.command_line.specs.Misuses.{Reading, when}
+use Rattle.command_line.specs.Positional.{number_at, positional}
+use Rattle.command_line.specs.Values.{cache_said}
 use Rattle.command_line.specs.declared.words.read.ReadWords.{ReadWords}
 
 pub record ReadRecord : Type 0 where
@@ -15,20 +16,21 @@ pub record ReadRecord : Type 0 where
   pub count : ℕ
   pub bindings : List BindingRecord
 
-unfoldable pub read_said : OptionTexts → List (List ℕ) → Option ReadRecord
-read_said texts (stack ∷ name ∷ first_word ∷ count_word ∷ words) =
+unfoldable pub read_said : OptionTexts → List (List ℕ) → Reading ReadRecord
+read_said texts words =
+    when (positional (codes "STACK") words) (λ stack.
+    when (positional (codes "NAME") stack.1) (λ name.
+    when (number_at (codes "FIRST") name.1) (λ first.
+    when (number_at (codes "COUNT") first.1) (λ count.
     when (cache_said texts.cache) (λ cache.
-    when (number first_word) (λ first.
-    when (number count_word) (λ count.
-    when (bindings_of words) (λ bindings. Some (record {
+    when (bindings_of count.1) (λ bindings. Ok (record {
       cache = cache;
-      stack = stack;
-      name = name;
-      first = first;
-      count = count;
+      stack = stack.0;
+      name = name.0;
+      first = first.0;
+      count = count.0;
       bindings = bindings;
-    })))))
-read_said texts words = None
+    })))))))
 
 -- what the program's own value says
 abbrev pub read_record : ReadWords → ReadRecord

@@ -1,9 +1,11 @@
 -- What `repair [--check] [--fec FILE [--fec-roots N]] [--hash-offset BYTES] [--root-hash-file FILE] DATA HASH [ROOT] [COPY..]` says.
-use Rattle.std.specs.Prelude.{Bool, List, None, Option, Some, map, option_map, ℕ, ◌∷◌}
+use Rattle.std.specs.Prelude.{codes, Bool, List, Option, Ok, map, option_map, ℕ}
 use Rattle.command_line.specs.FecFiles.{FecRecord, fec_choice_of, fec_record}
 use Rattle.command_line.specs.FormatOptions.{OptionTexts}
-use Rattle.command_line.specs.ImageCopies.{ImageCopyRecord, copies_of, image_copy_record}
-use Rattle.command_line.specs.Values.{RootRecord, offset_of, root_first, root_record, when}
+use Rattle.command_line.specs.ImageCopies.{ImageCopyRecord, copies_of, image_copy_record, said_copies}
+use Rattle.command_line.specs.Misuses.{Reading, when}
+use Rattle.command_line.specs.Positional.{positional, root_first}
+use Rattle.command_line.specs.Values.{RootRecord, offset_of, root_record}
 use Rattle.command_line.specs.declared.words.repair.RepairWords.{RepairWords}
 
 pub record RepairRecord : Type 0 where
@@ -15,23 +17,24 @@ pub record RepairRecord : Type 0 where
   pub fec : Option FecRecord
   pub copies : List ImageCopyRecord
 
--- behind the root, which is a word unless a file holds it, stand the copies
-unfoldable pub repair_said : OptionTexts → List (List ℕ) → Option RepairRecord
-repair_said texts (data_path ∷ hash_path ∷ words) =
+-- after the root, which is an argument unless a file holds it, are the copies
+unfoldable pub repair_said : OptionTexts → List (List ℕ) → Reading RepairRecord
+repair_said texts words =
+    when (positional (codes "DATA") words) (λ data_path.
+    when (positional (codes "HASH") data_path.1) (λ hash_path.
     when (offset_of texts.hash_offset) (λ hash_offset.
     when (fec_choice_of texts.fec texts.fec_roots) (λ fec.
-    when (root_first texts.root_hash_file words) (λ found.
-    when (copies_of data_path hash_path found.1) (λ copies.
-    Some (record {
-      data_path = data_path;
-      hash_path = hash_path;
+    when (root_first texts.root_hash_file hash_path.1) (λ found.
+    when (said_copies (copies_of data_path.0 hash_path.0 found.1)) (λ copies.
+    Ok (record {
+      data_path = data_path.0;
+      hash_path = hash_path.0;
       root = found.0;
       hash_offset = hash_offset;
       check = texts.check;
       fec = fec;
       copies = copies;
-    })))))
-repair_said texts words = None
+    })))))))
 
 -- what the program's own value says
 abbrev pub repair_record : RepairWords → RepairRecord

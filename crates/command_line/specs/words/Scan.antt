@@ -1,9 +1,11 @@
 -- What `scan [--cache N] [--map FILE] [--progress] [--json] STACK NAME BINDING...` says.
-use Rattle.std.specs.Prelude.{Bool, List, None, Option, Some, map, ℕ, ◌∷◌}
+use Rattle.std.specs.Prelude.{codes, Bool, List, Option, Ok, map, ℕ}
 use Rattle.command_line.specs.Bindings.{BindingRecord, binding_record}
 use Rattle.command_line.specs.BindingWords.{bindings_of}
 use Rattle.command_line.specs.FormatOptions.{OptionTexts, text_of}
-use Rattle.command_line.specs.Values.{cache_said, map_said, when}
+use Rattle.command_line.specs.Misuses.{Reading, when}
+use Rattle.command_line.specs.Positional.{positional}
+use Rattle.command_line.specs.Values.{cache_said, map_said}
 use Rattle.command_line.specs.declared.words.scan.ScanWords.{ScanWords}
 
 pub record ScanRecord : Type 0 where
@@ -15,20 +17,21 @@ pub record ScanRecord : Type 0 where
   pub progress : Bool
   pub json : Bool
 
-unfoldable pub scan_said : OptionTexts → List (List ℕ) → Option ScanRecord
-scan_said texts (stack ∷ name ∷ words) =
+unfoldable pub scan_said : OptionTexts → List (List ℕ) → Reading ScanRecord
+scan_said texts words =
+    when (positional (codes "STACK") words) (λ stack.
+    when (positional (codes "NAME") stack.1) (λ name.
     when (cache_said texts.cache) (λ cache.
     when (map_said texts.map) (λ path.
-    when (bindings_of words) (λ bindings. Some (record {
+    when (bindings_of name.1) (λ bindings. Ok (record {
       cache = cache;
-      stack = stack;
-      name = name;
+      stack = stack.0;
+      name = name.0;
       bindings = bindings;
       map = path;
       progress = texts.progress;
       json = texts.json;
-    }))))
-scan_said texts words = None
+    }))))))
 
 -- what the program's own value says
 abbrev pub scan_record : ScanWords → ScanRecord

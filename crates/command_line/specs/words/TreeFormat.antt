@@ -1,7 +1,10 @@
 -- What `format --no-superblock [OPTIONS] DATA HASH` says.
-use Rattle.std.specs.Prelude.{Bool, List, None, Option, Some, [], ℕ, ◌∷◌, is_some, if◌then◌else◌}
+use Rattle.std.specs.Prelude.{is_some, codes, Bool, List, Ok, ℕ}
 use Rattle.command_line.specs.FormatOptions.{OptionTexts}
-use Rattle.command_line.specs.Values.{offset_of, when}
+use Rattle.command_line.specs.Misuses.{Reading, refuse_if, when}
+use Rattle.command_line.specs.Positional.{no_more, positional}
+use Rattle.command_line.specs.Values.{offset_of}
+use Rattle.command_line.specs.declared.misuse.Cause.TheVariants.{WithNoSuperblock}
 use Rattle.command_line.specs.declared.words.tree_format.TreeFormatWords.{TreeFormatWords}
 
 pub record TreeFormatRecord : Type 0 where
@@ -12,18 +15,20 @@ pub record TreeFormatRecord : Type 0 where
   pub progress : Bool
 
 -- without an identifier, which stands in a superblock alone
-unfoldable pub tree_format_said : OptionTexts → List (List ℕ) → Option TreeFormatRecord
-tree_format_said texts (data_path ∷ hash_path ∷ []) =
-    if is_some texts.uuid then None else
+unfoldable pub tree_format_said : OptionTexts → List (List ℕ) → Reading TreeFormatRecord
+tree_format_said texts words =
+    when (positional (codes "DATA") words) (λ data_path.
+    when (positional (codes "HASH") data_path.1) (λ hash_path.
+    when (no_more hash_path.1) (λ none.
+    when (refuse_if (is_some texts.uuid) (codes "--uuid") WithNoSuperblock) (λ a.
     when (offset_of texts.hash_offset) (λ hash_offset.
-    Some (record {
-      data_path = data_path;
-      hash_path = hash_path;
+    Ok (record {
+      data_path = data_path.0;
+      hash_path = hash_path.0;
       hash_offset = hash_offset;
       grow = texts.grow;
       progress = texts.progress;
-    }))
-tree_format_said texts words = None
+    }))))))
 
 -- what the program's own value says
 abbrev pub tree_format_record : TreeFormatWords → TreeFormatRecord

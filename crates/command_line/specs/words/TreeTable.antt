@@ -1,7 +1,10 @@
 -- What `table --no-superblock --blocks N --salt HEX [OPTIONS] HASH [ROOT] DATANAME HASHNAME` says.
-use Rattle.std.specs.Prelude.{List, None, Option, Some, ℕ, ◌∷◌, ◌||◌, not, is_some, if◌then◌else◌}
+use Rattle.std.specs.Prelude.{not, is_some, codes, List, Option, Ok, ℕ}
 use Rattle.command_line.specs.FormatOptions.{OptionTexts, text_of}
-use Rattle.command_line.specs.Values.{RootRecord, device_names, name_said, offset_of, root_first, root_record, when}
+use Rattle.command_line.specs.Misuses.{Reading, refuse_if, when}
+use Rattle.command_line.specs.Positional.{device_names, positional, root_first}
+use Rattle.command_line.specs.Values.{RootRecord, name_said, offset_of, root_record}
+use Rattle.command_line.specs.declared.misuse.Cause.TheVariants.{Missing}
 use Rattle.command_line.specs.declared.words.tree_table.TreeTableWords.{TreeTableWords}
 
 pub record TreeTableRecord : Type 0 where
@@ -13,22 +16,23 @@ pub record TreeTableRecord : Type 0 where
   pub name : Option (List ℕ)
 
 -- with the number of data blocks and the salt, which no superblock says
-unfoldable pub tree_table_said : OptionTexts → List (List ℕ) → Option TreeTableRecord
-tree_table_said texts (hash_path ∷ words) =
-    if not (is_some texts.blocks) || not (is_some texts.salt) then None else
+unfoldable pub tree_table_said : OptionTexts → List (List ℕ) → Reading TreeTableRecord
+tree_table_said texts words =
+    when (positional (codes "HASH") words) (λ hash_path.
+    when (refuse_if (not (is_some texts.blocks)) (codes "--blocks") Missing) (λ a.
+    when (refuse_if (not (is_some texts.salt)) (codes "--salt") Missing) (λ b.
     when (offset_of texts.hash_offset) (λ hash_offset.
     when (name_said texts.name) (λ name.
-    when (root_first texts.root_hash_file words) (λ found.
+    when (root_first texts.root_hash_file hash_path.1) (λ found.
     when (device_names found.1) (λ names.
-    Some (record {
-      hash_path = hash_path;
+    Ok (record {
+      hash_path = hash_path.0;
       root = found.0;
       data_name = names.0;
       hash_name = names.1;
       hash_offset = hash_offset;
       name = name;
-    })))))
-tree_table_said texts words = None
+    }))))))))
 
 -- what the program's own value says
 abbrev pub tree_table_record : TreeTableWords → TreeTableRecord

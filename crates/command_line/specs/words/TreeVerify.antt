@@ -1,7 +1,10 @@
 -- What `verify --no-superblock --salt HEX [OPTIONS] DATA HASH [ROOT]` says.
-use Rattle.std.specs.Prelude.{Bool, List, None, Option, Some, ℕ, ◌∷◌, ◌||◌, not, is_some, if◌then◌else◌}
+use Rattle.std.specs.Prelude.{not, is_some, codes, Bool, List, Ok, ℕ}
 use Rattle.command_line.specs.FormatOptions.{OptionTexts}
-use Rattle.command_line.specs.Values.{RootRecord, offset_of, root_alone, root_record, when}
+use Rattle.command_line.specs.Misuses.{Reading, refuse_if, when}
+use Rattle.command_line.specs.Positional.{positional, root_alone}
+use Rattle.command_line.specs.Values.{RootRecord, offset_of, root_record}
+use Rattle.command_line.specs.declared.misuse.Cause.TheVariants.{Missing, WithNoSuperblock}
 use Rattle.command_line.specs.declared.words.tree_verify.TreeVerifyWords.{TreeVerifyWords}
 
 pub record TreeVerifyRecord : Type 0 where
@@ -12,19 +15,22 @@ pub record TreeVerifyRecord : Type 0 where
   pub progress : Bool
 
 -- with the salt, which no superblock says
-unfoldable pub tree_verify_said : OptionTexts → List (List ℕ) → Option TreeVerifyRecord
-tree_verify_said texts (data_path ∷ hash_path ∷ words) =
-    if texts.all || texts.json || not (is_some texts.salt) then None else
+unfoldable pub tree_verify_said : OptionTexts → List (List ℕ) → Reading TreeVerifyRecord
+tree_verify_said texts words =
+    when (positional (codes "DATA") words) (λ data_path.
+    when (positional (codes "HASH") data_path.1) (λ hash_path.
+    when (refuse_if texts.all (codes "--all") WithNoSuperblock) (λ a.
+    when (refuse_if texts.json (codes "--json") WithNoSuperblock) (λ b.
+    when (refuse_if (not (is_some texts.salt)) (codes "--salt") Missing) (λ c.
     when (offset_of texts.hash_offset) (λ hash_offset.
-    when (root_alone texts.root_hash_file words) (λ root.
-    Some (record {
-      data_path = data_path;
-      hash_path = hash_path;
+    when (root_alone texts.root_hash_file hash_path.1) (λ root.
+    Ok (record {
+      data_path = data_path.0;
+      hash_path = hash_path.0;
       root = root;
       hash_offset = hash_offset;
       progress = texts.progress;
-    })))
-tree_verify_said texts words = None
+    }))))))))
 
 -- what the program's own value says
 abbrev pub tree_verify_record : TreeVerifyWords → TreeVerifyRecord

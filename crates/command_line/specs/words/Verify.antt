@@ -1,8 +1,11 @@
 -- What `verify [--all [--json]] [--hash-offset BYTES] [--root-hash-file FILE] [--progress] DATA HASH [ROOT]` says.
-use Rattle.std.specs.Prelude.{Bool, List, None, Option, Some, ℕ, ◌∷◌, ◌||◌, ◌&&◌, not, if◌then◌else◌}
+use Rattle.std.specs.Prelude.{◌&&◌, not, codes, Bool, List, Ok, ℕ}
 use Rattle.command_line.specs.FormatOptions.{OptionTexts}
-use Rattle.command_line.specs.OptionGroups.{has_tree_value}
-use Rattle.command_line.specs.Values.{RootRecord, offset_of, root_alone, root_record, when}
+use Rattle.command_line.specs.Misuses.{Reading, refuse_if, when}
+use Rattle.command_line.specs.Positional.{positional, root_alone}
+use Rattle.command_line.specs.Values.{RootRecord, offset_of, root_record}
+use Rattle.command_line.specs.OptionGroups.{in_superblock}
+use Rattle.command_line.specs.declared.misuse.Cause.TheVariants.{WithoutAll}
 use Rattle.command_line.specs.declared.words.verify.VerifyWords.{VerifyWords}
 
 pub record VerifyRecord : Type 0 where
@@ -14,21 +17,23 @@ pub record VerifyRecord : Type 0 where
   pub json : Bool
   pub progress : Bool
 
-unfoldable pub verify_said : OptionTexts → List (List ℕ) → Option VerifyRecord
-verify_said texts (data_path ∷ hash_path ∷ words) =
-    if has_tree_value texts || (texts.json && not texts.all) then None else
+unfoldable pub verify_said : OptionTexts → List (List ℕ) → Reading VerifyRecord
+verify_said texts words =
+    when (positional (codes "DATA") words) (λ data_path.
+    when (positional (codes "HASH") data_path.1) (λ hash_path.
+    when (in_superblock texts) (λ a.
+    when (refuse_if (texts.json && not texts.all) (codes "--json") WithoutAll) (λ b.
     when (offset_of texts.hash_offset) (λ hash_offset.
-    when (root_alone texts.root_hash_file words) (λ root.
-    Some (record {
-      data_path = data_path;
-      hash_path = hash_path;
+    when (root_alone texts.root_hash_file hash_path.1) (λ root.
+    Ok (record {
+      data_path = data_path.0;
+      hash_path = hash_path.0;
       root = root;
       hash_offset = hash_offset;
       all = texts.all;
       json = texts.json;
       progress = texts.progress;
-    })))
-verify_said texts words = None
+    })))))))
 
 -- what the program's own value says
 abbrev pub verify_record : VerifyWords → VerifyRecord

@@ -1,10 +1,11 @@
 -- What `write [--cache N] STACK NAME FIRST SOURCE BINDING...` says.
-use Rattle.std.specs.Prelude.{List, None, Option, Some, map, ℕ, ◌∷◌}
-use Rattle.dm_table.specs.Numbers.{number}
+use Rattle.std.specs.Prelude.{codes, List, Ok, map, ℕ}
 use Rattle.command_line.specs.Bindings.{BindingRecord, binding_record}
 use Rattle.command_line.specs.BindingWords.{bindings_of}
 use Rattle.command_line.specs.FormatOptions.{OptionTexts}
-use Rattle.command_line.specs.Values.{cache_said, when}
+use Rattle.command_line.specs.Misuses.{Reading, when}
+use Rattle.command_line.specs.Positional.{number_at, positional}
+use Rattle.command_line.specs.Values.{cache_said}
 use Rattle.command_line.specs.declared.words.write.WriteWords.{WriteWords}
 
 pub record WriteRecord : Type 0 where
@@ -15,19 +16,21 @@ pub record WriteRecord : Type 0 where
   pub source : List ℕ
   pub bindings : List BindingRecord
 
-unfoldable pub write_said : OptionTexts → List (List ℕ) → Option WriteRecord
-write_said texts (stack ∷ name ∷ first_word ∷ source ∷ words) =
+unfoldable pub write_said : OptionTexts → List (List ℕ) → Reading WriteRecord
+write_said texts words =
+    when (positional (codes "STACK") words) (λ stack.
+    when (positional (codes "NAME") stack.1) (λ name.
+    when (number_at (codes "FIRST") name.1) (λ first.
+    when (positional (codes "SOURCE") first.1) (λ source.
     when (cache_said texts.cache) (λ cache.
-    when (number first_word) (λ first.
-    when (bindings_of words) (λ bindings. Some (record {
+    when (bindings_of source.1) (λ bindings. Ok (record {
       cache = cache;
-      stack = stack;
-      name = name;
-      first = first;
-      source = source;
+      stack = stack.0;
+      name = name.0;
+      first = first.0;
+      source = source.0;
       bindings = bindings;
-    }))))
-write_said texts words = None
+    })))))))
 
 -- what the program's own value says
 abbrev pub write_record : WriteWords → WriteRecord

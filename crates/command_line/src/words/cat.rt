@@ -9,6 +9,7 @@ use crate::bindings::Binding;
 use crate::fault::WordsFault;
 use crate::invocation::Invocation;
 use crate::option_words::OptionWords;
+use crate::positional::positional;
 use crate::values::{cache_of, count_of, first_of};
 use std::alloc::Global;
 
@@ -30,31 +31,22 @@ pub fn cat_of<'a>(
     alloc: Global,
     options: &OptionWords<'a>,
     words: &[&'a str],
-) -> Result<Invocation<'a>, WordsFault>
+) -> Result<Invocation<'a>, WordsFault<'a>>
     ensures { ReadsAs cat (cat_said (option_texts options.now) (texts_of words.now)) result }
 {
-    let [stack, name, rest @ ..] = words else {
-        return Err(WordsFault::Usage);
-    };
-    let Some(cache) = cache_of(options.cache) else {
-        return Err(WordsFault::Usage);
-    };
-    let Some(first) = first_of(options.first) else {
-        return Err(WordsFault::Usage);
-    };
-    let Some(count) = count_of(options.count) else {
-        return Err(WordsFault::Usage);
-    };
-    match bindings_of(alloc, rest) {
-        Ok(bindings) => Ok(Invocation::Cat(CatWords {
-            cache,
-            first,
-            count,
-            stack,
-            name,
-            bindings,
-            progress: options.progress,
-        })),
-        Err(fault) => Err(fault),
-    }
+    let (stack, words) = positional("STACK", words)?;
+    let (name, words) = positional("NAME", words)?;
+    let cache = cache_of(options.cache)?;
+    let first = first_of(options.first)?;
+    let count = count_of(options.count)?;
+    let bindings = bindings_of(alloc, words)?;
+    Ok(Invocation::Cat(CatWords {
+        cache,
+        first,
+        count,
+        stack,
+        name,
+        bindings,
+        progress: options.progress,
+    }))
 }

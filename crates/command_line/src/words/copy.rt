@@ -9,6 +9,7 @@ use crate::bindings::Binding;
 use crate::fault::WordsFault;
 use crate::invocation::Invocation;
 use crate::option_words::OptionWords;
+use crate::positional::positional;
 use crate::values::{cache_of, map_of};
 use std::alloc::Global;
 
@@ -32,29 +33,23 @@ pub fn copy_of<'a>(
     alloc: Global,
     options: &OptionWords<'a>,
     words: &[&'a str],
-) -> Result<Invocation<'a>, WordsFault>
+) -> Result<Invocation<'a>, WordsFault<'a>>
     ensures { ReadsAs copy (copy_said (option_texts options.now) (texts_of words.now)) result }
 {
-    let [stack, name, out, rest @ ..] = words else {
-        return Err(WordsFault::Usage);
-    };
-    let Some(cache) = cache_of(options.cache) else {
-        return Err(WordsFault::Usage);
-    };
-    let Some(map) = map_of(options.map) else {
-        return Err(WordsFault::Usage);
-    };
-    match bindings_of(alloc, rest) {
-        Ok(bindings) => Ok(Invocation::Copy(CopyWords {
-            cache,
-            differing: options.differing,
-            stack,
-            name,
-            out,
-            bindings,
-            map,
-            progress: options.progress,
-        })),
-        Err(fault) => Err(fault),
-    }
+    let (stack, words) = positional("STACK", words)?;
+    let (name, words) = positional("NAME", words)?;
+    let (out, words) = positional("OUT", words)?;
+    let cache = cache_of(options.cache)?;
+    let map = map_of(options.map)?;
+    let bindings = bindings_of(alloc, words)?;
+    Ok(Invocation::Copy(CopyWords {
+        cache,
+        differing: options.differing,
+        stack,
+        name,
+        out,
+        bindings,
+        map,
+        progress: options.progress,
+    }))
 }

@@ -1,14 +1,14 @@
 //! `diff [--blocks N] [--json] HASH1 ROOT1 HASH2 ROOT2`
-ghost use Rattle.std.specs.Prelude.{◌≡◌, option_map};
 ghost use Rattle.command_line.specs.Invocations.{diff};
 ghost use Rattle.command_line.specs.Reading.{ReadsAs};
 ghost use Rattle.command_line.specs.FormatOptions.{option_texts, texts_of};
-ghost use Rattle.command_line.specs.words.Diff.{diff_said, trees_record, two_trees};
+ghost use Rattle.command_line.specs.words.Diff.{diff_said};
 
 use crate::fault::WordsFault;
 use crate::invocation::Invocation;
 use crate::option_words::OptionWords;
-use crate::values::{runs_of, two_roots};
+use crate::positional::{no_more, positional};
+use crate::values::{root_said, runs_of};
 use tree_shape::Digest;
 
 /// Two hash trees are compared.
@@ -27,15 +27,17 @@ pub struct DiffWords<'a> {
 pub fn diff_of<'a>(
     options: &OptionWords<'a>,
     words: &[&'a str],
-) -> Result<Invocation<'a>, WordsFault>
+) -> Result<Invocation<'a>, WordsFault<'a>>
     ensures { ReadsAs diff (diff_said (option_texts options.now) (texts_of words.now)) result }
 {
-    let Some((old_path, old_root, new_path, new_root)) = two_trees(words) else {
-        return Err(WordsFault::Usage);
-    };
-    let Some(blocks) = runs_of(options.blocks) else {
-        return Err(WordsFault::Usage);
-    };
+    let (old_path, words) = positional("HASH1", words)?;
+    let (old_word, words) = positional("ROOT1", words)?;
+    let (new_path, words) = positional("HASH2", words)?;
+    let (new_word, words) = positional("ROOT2", words)?;
+    no_more(words)?;
+    let old_root = root_said("ROOT1", old_word)?;
+    let new_root = root_said("ROOT2", new_word)?;
+    let blocks = runs_of(options.blocks)?;
     Ok(Invocation::Diff(DiffWords {
         old_path,
         old_root,
@@ -44,16 +46,4 @@ pub fn diff_of<'a>(
         blocks,
         json: options.json,
     }))
-}
-
-// The path and the root of one tree, and those of the other.
-#[tactic(auto, unfolding(crate::specs::words::Diff::two_trees))]
-fn two_trees<'a>(words: &[&'a str]) -> Option<(&'a str, Digest, &'a str, Digest)>
-    ensures { option_map trees_record result ≡ two_trees (texts_of words.now) }
-{
-    let [old_path, old_word, new_path, new_word] = words else {
-        return None;
-    };
-    let (old_root, new_root) = two_roots(old_word, new_word)?;
-    Some((old_path, old_root, new_path, new_root))
 }

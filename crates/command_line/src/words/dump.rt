@@ -7,6 +7,7 @@ ghost use Rattle.command_line.specs.words.Dump.{dump_said};
 use crate::fault::WordsFault;
 use crate::invocation::Invocation;
 use crate::option_words::OptionWords;
+use crate::positional::{no_more, positional};
 use crate::values::offset_of;
 
 /// A superblock is printed.
@@ -22,15 +23,12 @@ pub struct DumpWords<'a> {
 pub fn dump_of<'a>(
     options: &OptionWords<'a>,
     words: &[&'a str],
-) -> Result<Invocation<'a>, WordsFault>
+) -> Result<Invocation<'a>, WordsFault<'a>>
     ensures { ReadsAs dump (dump_said (option_texts options.now) (texts_of words.now)) result }
 {
-    let [hash_path] = words else {
-        return Err(WordsFault::Usage);
-    };
-    let Some(hash_offset) = offset_of(options.hash_offset) else {
-        return Err(WordsFault::Usage);
-    };
+    let (hash_path, words) = positional("HASH", words)?;
+    no_more(words)?;
+    let hash_offset = offset_of(options.hash_offset)?;
     Ok(Invocation::Dump(DumpWords {
         hash_path,
         hash_offset,

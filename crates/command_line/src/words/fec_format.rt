@@ -22,14 +22,10 @@ pub struct FecFormatWords<'a> {
 pub fn fec_format_of<'a>(
     options: &OptionWords<'a>,
     words: &[&'a str],
-) -> Result<Invocation<'a>, WordsFault>
+) -> Result<Invocation<'a>, WordsFault<'a>>
     ensures { ReadsAs format_fec (fec_format_said (option_texts options.now) (texts_of words.now)) result }
 {
-    let Some(fec) = fec_file_of(options.fec, options.fec_roots) else {
-        return Err(WordsFault::Usage);
-    };
-    match format_words(options, words) {
-        Some(format) => Ok(Invocation::FormatFec(FecFormatWords { format, fec })),
-        None => Err(WordsFault::Usage),
-    }
+    let fec = fec_file_of(options.fec, options.fec_roots)?;
+    let format = format_words(options, words)?;
+    Ok(Invocation::FormatFec(FecFormatWords { format, fec }))
 }

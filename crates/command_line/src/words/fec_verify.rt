@@ -7,6 +7,7 @@ ghost use Rattle.command_line.specs.words.FecVerify.{fec_verify_said};
 use crate::fault::WordsFault;
 use crate::fec_file::{FecFile, fec_file_of};
 use crate::invocation::Invocation;
+use crate::misuse::{Cause, refuse_if};
 use crate::option_words::OptionWords;
 use crate::words::verify::{VerifyWords, verify_words};
 
@@ -22,17 +23,13 @@ pub struct FecVerifyWords<'a> {
 pub fn fec_verify_of<'a>(
     options: &OptionWords<'a>,
     words: &[&'a str],
-) -> Result<Invocation<'a>, WordsFault>
+) -> Result<Invocation<'a>, WordsFault<'a>>
     ensures { ReadsAs verify_fec (fec_verify_said (option_texts options.now) (texts_of words.now)) result }
 {
-    if options.all {
-        return Err(WordsFault::Usage);
-    }
-    let Some(fec) = fec_file_of(options.fec, options.fec_roots) else {
-        return Err(WordsFault::Usage);
-    };
+    refuse_if(options.all, "--all", Cause::WithFec)?;
+    let fec = fec_file_of(options.fec, options.fec_roots)?;
     match verify_words(options, words) {
-        Some(verify) => Ok(Invocation::VerifyFec(FecVerifyWords { verify, fec })),
-        None => Err(WordsFault::Usage),
+        Ok(verify) => Ok(Invocation::VerifyFec(FecVerifyWords { verify, fec })),
+        Err(misuse) => Err(WordsFault::Usage(misuse)),
     }
 }

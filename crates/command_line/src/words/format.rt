@@ -1,5 +1,5 @@
 //! `format [OPTIONS] DATA HASH`
-ghost use Rattle.std.specs.Prelude.{◌≡◌, option_map};
+ghost use Rattle.command_line.specs.Misuses.{ReadsValue};
 ghost use Rattle.command_line.specs.Invocations.{format};
 ghost use Rattle.command_line.specs.Reading.{ReadsAs};
 ghost use Rattle.command_line.specs.FormatOptions.{option_texts, texts_of};
@@ -7,7 +7,9 @@ ghost use Rattle.command_line.specs.words.Format.{format_record, format_said};
 
 use crate::fault::WordsFault;
 use crate::invocation::Invocation;
+use crate::misuse::Misuse;
 use crate::option_words::OptionWords;
+use crate::positional::{no_more, positional};
 use crate::values::offset_of;
 
 /// A verity image is made, of what `options_of` reads.
@@ -24,27 +26,26 @@ pub struct FormatWords<'a> {
 pub fn format_of<'a>(
     options: &OptionWords<'a>,
     words: &[&'a str],
-) -> Result<Invocation<'a>, WordsFault>
+) -> Result<Invocation<'a>, WordsFault<'a>>
     ensures { ReadsAs format (format_said (option_texts options.now) (texts_of words.now)) result }
 {
-    match format_words(options, words) {
-        Some(format) => Ok(Invocation::Format(format)),
-        None => Err(WordsFault::Usage),
-    }
+    let format = format_words(options, words)?;
+    Ok(Invocation::Format(format))
 }
 
 /// The same, as words alone.
 #[tactic(auto, unfolding(crate::specs::words::Format::format_said))]
-pub fn format_words<'a>(options: &OptionWords<'a>, words: &[&'a str]) -> Option<FormatWords<'a>>
-    ensures { option_map format_record result ≡ format_said (option_texts options.now) (texts_of words.now) }
+pub fn format_words<'a>(
+    options: &OptionWords<'a>,
+    words: &[&'a str],
+) -> Result<FormatWords<'a>, Misuse<'a>>
+    ensures { ReadsValue format_record (format_said (option_texts options.now) (texts_of words.now)) result }
 {
-    let [data_path, hash_path] = words else {
-        return None;
-    };
-    let Some(hash_offset) = offset_of(options.hash_offset) else {
-        return None;
-    };
-    Some(FormatWords {
+    let (data_path, words) = positional("DATA", words)?;
+    let (hash_path, words) = positional("HASH", words)?;
+    no_more(words)?;
+    let hash_offset = offset_of(options.hash_offset)?;
+    Ok(FormatWords {
         data_path,
         hash_path,
         hash_offset,

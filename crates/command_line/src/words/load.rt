@@ -9,6 +9,7 @@ use crate::bindings::Binding;
 use crate::fault::WordsFault;
 use crate::invocation::Invocation;
 use crate::option_words::OptionWords;
+use crate::positional::positional;
 use std::alloc::Global;
 
 /// The devices of a stack are printed.
@@ -25,18 +26,14 @@ pub fn load_of<'a>(
     alloc: Global,
     options: &OptionWords<'a>,
     words: &[&'a str],
-) -> Result<Invocation<'a>, WordsFault>
+) -> Result<Invocation<'a>, WordsFault<'a>>
     ensures { ReadsAs load (load_said (option_texts options.now) (texts_of words.now)) result }
 {
-    let [stack, rest @ ..] = words else {
-        return Err(WordsFault::Usage);
-    };
-    match bindings_of(alloc, rest) {
-        Ok(bindings) => Ok(Invocation::Load(LoadWords {
-            stack,
-            bindings,
-            json: options.json,
-        })),
-        Err(fault) => Err(fault),
-    }
+    let (stack, words) = positional("STACK", words)?;
+    let bindings = bindings_of(alloc, words)?;
+    Ok(Invocation::Load(LoadWords {
+        stack,
+        bindings,
+        json: options.json,
+    }))
 }

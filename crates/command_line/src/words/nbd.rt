@@ -8,7 +8,9 @@ use crate::binding_words::bindings_of;
 use crate::bindings::Binding;
 use crate::fault::WordsFault;
 use crate::invocation::{Invocation, ServedDevice};
+use crate::misuse::{Cause, refuse_if};
 use crate::option_words::OptionWords;
+use crate::positional::positional;
 use crate::values::cache_of;
 use crate::words::store::is_input;
 use std::alloc::Global;
@@ -26,23 +28,16 @@ pub fn nbd_of<'a>(
     alloc: Global,
     options: &OptionWords<'a>,
     words: &[&'a str],
-) -> Result<Invocation<'a>, WordsFault>
+) -> Result<Invocation<'a>, WordsFault<'a>>
     ensures { ReadsAs nbd (nbd_said (option_texts options.now) (texts_of words.now)) result }
 {
-    let [stack, name, rest @ ..] = words else {
-        return Err(WordsFault::Usage);
-    };
-    if is_input(stack) {
-        return Err(WordsFault::Usage);
-    }
-    let Some(cache) = cache_of(options.cache) else {
-        return Err(WordsFault::Usage);
-    };
-    match bindings_of(alloc, rest) {
-        Ok(bindings) => Ok(Invocation::Nbd(NbdWords {
-            device: ServedDevice { cache, stack, name },
-            bindings,
-        })),
-        Err(fault) => Err(fault),
-    }
+    let (stack, words) = positional("STACK", words)?;
+    let (name, words) = positional("NAME", words)?;
+    refuse_if(is_input(stack), "STACK", Cause::StandardInput)?;
+    let cache = cache_of(options.cache)?;
+    let bindings = bindings_of(alloc, words)?;
+    Ok(Invocation::Nbd(NbdWords {
+        device: ServedDevice { cache, stack, name },
+        bindings,
+    }))
 }

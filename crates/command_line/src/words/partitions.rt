@@ -7,6 +7,7 @@ ghost use Rattle.command_line.specs.words.Partitions.{partitions_said};
 use crate::fault::WordsFault;
 use crate::invocation::Invocation;
 use crate::option_words::OptionWords;
+use crate::positional::{no_more, positional};
 use crate::values::{PartitionForm, form_of, sector_size_of};
 
 /// The partitions of an image are printed.
@@ -22,18 +23,13 @@ pub struct PartitionsWords<'a> {
 pub fn partitions_of<'a>(
     options: &OptionWords<'a>,
     words: &[&'a str],
-) -> Result<Invocation<'a>, WordsFault>
+) -> Result<Invocation<'a>, WordsFault<'a>>
     ensures { ReadsAs partitions (partitions_said (option_texts options.now) (texts_of words.now)) result }
 {
-    let [image] = words else {
-        return Err(WordsFault::Usage);
-    };
-    let Some(sector_size) = sector_size_of(options.sector_size) else {
-        return Err(WordsFault::Usage);
-    };
-    let Some(form) = form_of(options.root, options.stack, options.json) else {
-        return Err(WordsFault::Usage);
-    };
+    let (image, words) = positional("IMAGE", words)?;
+    no_more(words)?;
+    let sector_size = sector_size_of(options.sector_size)?;
+    let form = form_of(options.root, options.stack, options.json)?;
     Ok(Invocation::Partitions(PartitionsWords {
         image,
         sector_size,

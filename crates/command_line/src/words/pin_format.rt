@@ -22,14 +22,10 @@ pub struct PinFormatWords<'a> {
 pub fn pin_format_of<'a>(
     options: &OptionWords<'a>,
     words: &[&'a str],
-) -> Result<Invocation<'a>, WordsFault>
+) -> Result<Invocation<'a>, WordsFault<'a>>
     ensures { ReadsAs format_pin (pin_format_said (option_texts options.now) (texts_of words.now)) result }
 {
-    let Some(pin) = pin_of(options.pin) else {
-        return Err(WordsFault::Usage);
-    };
-    match format_words(options, words) {
-        Some(format) => Ok(Invocation::FormatPin(PinFormatWords { format, pin })),
-        None => Err(WordsFault::Usage),
-    }
+    let pin = pin_of(options.pin)?;
+    let format = format_words(options, words)?;
+    Ok(Invocation::FormatPin(PinFormatWords { format, pin }))
 }

@@ -6,7 +6,9 @@ ghost use Rattle.command_line.specs.words.PinVerify.{pin_verify_said};
 
 use crate::fault::WordsFault;
 use crate::invocation::Invocation;
-use crate::option_words::{OptionWords, has_tree_value};
+use crate::misuse::{Cause, refuse_if};
+use crate::option_words::{OptionWords, in_superblock};
+use crate::positional::{no_more, positional};
 use crate::values::{offset_of, pin_of};
 
 /// A verity image is checked against a pin.
@@ -24,21 +26,22 @@ pub struct PinVerifyWords<'a> {
 pub fn pin_verify_of<'a>(
     options: &OptionWords<'a>,
     words: &[&'a str],
-) -> Result<Invocation<'a>, WordsFault>
+) -> Result<Invocation<'a>, WordsFault<'a>>
     ensures { ReadsAs verify_pin (pin_verify_said (option_texts options.now) (texts_of words.now)) result }
 {
-    let [data_path, hash_path] = words else {
-        return Err(WordsFault::Usage);
-    };
-    if has_tree_value(options) || options.all || options.json || options.root_hash_file.is_some() {
-        return Err(WordsFault::Usage);
-    }
-    let Some(pin) = pin_of(options.pin) else {
-        return Err(WordsFault::Usage);
-    };
-    let Some(hash_offset) = offset_of(options.hash_offset) else {
-        return Err(WordsFault::Usage);
-    };
+    let (data_path, words) = positional("DATA", words)?;
+    let (hash_path, words) = positional("HASH", words)?;
+    no_more(words)?;
+    in_superblock(options)?;
+    refuse_if(options.all, "--all", Cause::WithPin)?;
+    refuse_if(options.json, "--json", Cause::WithPin)?;
+    refuse_if(
+        options.root_hash_file.is_some(),
+        "--root-hash-file",
+        Cause::WithPin,
+    )?;
+    let pin = pin_of(options.pin)?;
+    let hash_offset = offset_of(options.hash_offset)?;
     Ok(Invocation::VerifyPin(PinVerifyWords {
         data_path,
         hash_path,

@@ -9,9 +9,9 @@ use crate::bindings::Binding;
 use crate::fault::WordsFault;
 use crate::invocation::{Invocation, Sectors};
 use crate::option_words::OptionWords;
+use crate::positional::{number_at, positional};
 use crate::values::cache_of;
 use std::alloc::Global;
-use table_text::number;
 
 /// Sectors of a device are printed.
 #[derive(Drop)]
@@ -28,28 +28,19 @@ pub fn read_of<'a>(
     alloc: Global,
     options: &OptionWords<'a>,
     words: &[&'a str],
-) -> Result<Invocation<'a>, WordsFault>
+) -> Result<Invocation<'a>, WordsFault<'a>>
     ensures { ReadsAs read (read_said (option_texts options.now) (texts_of words.now)) result }
 {
-    let [stack, name, first, count, rest @ ..] = words else {
-        return Err(WordsFault::Usage);
-    };
-    let Some(cache) = cache_of(options.cache) else {
-        return Err(WordsFault::Usage);
-    };
-    let Some(first) = number(first.as_bytes()) else {
-        return Err(WordsFault::Usage);
-    };
-    let Some(count) = number(count.as_bytes()) else {
-        return Err(WordsFault::Usage);
-    };
-    match bindings_of(alloc, rest) {
-        Ok(bindings) => Ok(Invocation::Read(ReadWords {
-            cache,
-            stack,
-            sectors: Sectors { name, first, count },
-            bindings,
-        })),
-        Err(fault) => Err(fault),
-    }
+    let (stack, words) = positional("STACK", words)?;
+    let (name, words) = positional("NAME", words)?;
+    let (first, words) = number_at("FIRST", words)?;
+    let (count, words) = number_at("COUNT", words)?;
+    let cache = cache_of(options.cache)?;
+    let bindings = bindings_of(alloc, words)?;
+    Ok(Invocation::Read(ReadWords {
+        cache,
+        stack,
+        sectors: Sectors { name, first, count },
+        bindings,
+    }))
 }

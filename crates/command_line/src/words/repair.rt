@@ -9,7 +9,8 @@ use crate::fec_file::{FecFile, fec_choice_of};
 use crate::image_copies::{ImageCopy, copies_of};
 use crate::invocation::Invocation;
 use crate::option_words::OptionWords;
-use crate::values::{RootWord, offset_of, root_first};
+use crate::positional::{positional, root_first};
+use crate::values::{RootWord, offset_of};
 use std::alloc::Global;
 
 /// A verity image is repaired from copies of it and by parity, or only looked at where `check` is said.
@@ -30,31 +31,26 @@ pub fn repair_of<'a>(
     alloc: Global,
     options: &OptionWords<'a>,
     words: &[&'a str],
-) -> Result<Invocation<'a>, WordsFault>
+) -> Result<Invocation<'a>, WordsFault<'a>>
     ensures { ReadsAs repair (repair_said (option_texts options.now) (texts_of words.now)) result }
 {
-    let [data_path, hash_path, behind @ ..] = words else {
-        return Err(WordsFault::Usage);
-    };
-    let Some(hash_offset) = offset_of(options.hash_offset) else {
-        return Err(WordsFault::Usage);
-    };
-    let Some(fec) = fec_choice_of(options.fec, options.fec_roots) else {
-        return Err(WordsFault::Usage);
-    };
-    let Some((root, rest)) = root_first(options.root_hash_file, behind) else {
-        return Err(WordsFault::Usage);
-    };
-    match copies_of(alloc, data_path, hash_path, rest) {
-        Ok(copies) => Ok(Invocation::Repair(RepairWords {
-            data_path,
-            hash_path,
-            root,
-            hash_offset,
-            check: options.check,
-            fec,
-            copies,
-        })),
-        Err(fault) => Err(fault),
+    let (data_path, words) = positional("DATA", words)?;
+    let (hash_path, words) = positional("HASH", words)?;
+    let hash_offset = offset_of(options.hash_offset)?;
+    let fec = fec_choice_of(options.fec, options.fec_roots)?;
+    match root_first(options.root_hash_file, words) {
+        Ok((root, rest)) => {
+            let copies = copies_of(alloc, data_path, hash_path, rest)?;
+            Ok(Invocation::Repair(RepairWords {
+                data_path,
+                hash_path,
+                root,
+                hash_offset,
+                check: options.check,
+                fec,
+                copies,
+            }))
+        }
+        Err(misuse) => Err(WordsFault::Usage(misuse)),
     }
 }

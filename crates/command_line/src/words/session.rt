@@ -25,14 +25,10 @@ pub fn session_of<'a>(
     alloc: Global,
     options: &OptionWords<'a>,
     words: &[&'a str],
-) -> Result<Invocation<'a>, WordsFault>
+) -> Result<Invocation<'a>, WordsFault<'a>>
     ensures { ReadsAs session (session_said (option_texts options.now) (texts_of words.now)) result }
 {
-    let Some(cache) = cache_of(options.cache) else {
-        return Err(WordsFault::Usage);
-    };
-    match bindings_of(alloc, words) {
-        Ok(bindings) => Ok(Invocation::Session(SessionWords { cache, bindings })),
-        Err(fault) => Err(fault),
-    }
+    let cache = cache_of(options.cache)?;
+    let bindings = bindings_of(alloc, words)?;
+    Ok(Invocation::Session(SessionWords { cache, bindings }))
 }

@@ -10,7 +10,9 @@ use crate::binding_words::bindings_of;
 use crate::bindings::Binding;
 use crate::fault::WordsFault;
 use crate::invocation::Invocation;
+use crate::misuse::{Cause, refuse_if};
 use crate::option_words::OptionWords;
+use crate::positional::positional;
 use crate::values::{cache_of, first_of};
 use std::alloc::Global;
 
@@ -39,31 +41,27 @@ pub fn store_of<'a>(
     alloc: Global,
     options: &OptionWords<'a>,
     words: &[&'a str],
-) -> Result<Invocation<'a>, WordsFault>
+) -> Result<Invocation<'a>, WordsFault<'a>>
     ensures { ReadsAs store (store_said (option_texts options.now) (texts_of words.now)) result }
 {
-    let [stack, name, source, rest @ ..] = words else {
-        return Err(WordsFault::Usage);
-    };
-    if is_input(stack) && is_input(source) {
-        return Err(WordsFault::Usage);
-    }
-    let Some(cache) = cache_of(options.cache) else {
-        return Err(WordsFault::Usage);
-    };
-    let Some(first) = first_of(options.first) else {
-        return Err(WordsFault::Usage);
-    };
-    match bindings_of(alloc, rest) {
-        Ok(bindings) => Ok(Invocation::Store(StoreWords {
-            cache,
-            first,
-            stack,
-            name,
-            source,
-            bindings,
-            progress: options.progress,
-        })),
-        Err(fault) => Err(fault),
-    }
+    let (stack, words) = positional("STACK", words)?;
+    let (name, words) = positional("NAME", words)?;
+    let (source, words) = positional("SOURCE", words)?;
+    refuse_if(
+        is_input(stack) && is_input(source),
+        "SOURCE",
+        Cause::StandardInput,
+    )?;
+    let cache = cache_of(options.cache)?;
+    let first = first_of(options.first)?;
+    let bindings = bindings_of(alloc, words)?;
+    Ok(Invocation::Store(StoreWords {
+        cache,
+        first,
+        stack,
+        name,
+        source,
+        bindings,
+        progress: options.progress,
+    }))
 }

@@ -6,8 +6,9 @@ ghost use Rattle.command_line.specs.words.Table.{table_said};
 
 use crate::fault::WordsFault;
 use crate::invocation::Invocation;
-use crate::option_words::{OptionWords, has_tree_value};
-use crate::values::{RootWord, device_names, name_of, offset_of, root_first};
+use crate::option_words::{OptionWords, in_superblock};
+use crate::positional::{device_names, positional, root_first};
+use crate::values::{RootWord, name_of, offset_of};
 
 /// The table line of a verity image is printed, or a whole entry with a name.
 #[derive(Drop)]
@@ -25,33 +26,25 @@ pub struct TableWords<'a> {
 pub fn table_of<'a>(
     options: &OptionWords<'a>,
     words: &[&'a str],
-) -> Result<Invocation<'a>, WordsFault>
+) -> Result<Invocation<'a>, WordsFault<'a>>
     ensures { ReadsAs table (table_said (option_texts options.now) (texts_of words.now)) result }
 {
-    let [hash_path, rest @ ..] = words else {
-        return Err(WordsFault::Usage);
-    };
-    if has_tree_value(options) {
-        return Err(WordsFault::Usage);
+    let (hash_path, words) = positional("HASH", words)?;
+    in_superblock(options)?;
+    let hash_offset = offset_of(options.hash_offset)?;
+    let name = name_of(options.name)?;
+    match root_first(options.root_hash_file, words) {
+        Ok((root, behind)) => {
+            let (data_name, hash_name) = device_names(behind)?;
+            Ok(Invocation::Table(TableWords {
+                hash_path,
+                root,
+                data_name,
+                hash_name,
+                hash_offset,
+                name,
+            }))
+        }
+        Err(misuse) => Err(WordsFault::Usage(misuse)),
     }
-    let Some(hash_offset) = offset_of(options.hash_offset) else {
-        return Err(WordsFault::Usage);
-    };
-    let Some(name) = name_of(options.name) else {
-        return Err(WordsFault::Usage);
-    };
-    let Some((root, behind)) = root_first(options.root_hash_file, rest) else {
-        return Err(WordsFault::Usage);
-    };
-    let Some((data_name, hash_name)) = device_names(behind) else {
-        return Err(WordsFault::Usage);
-    };
-    Ok(Invocation::Table(TableWords {
-        hash_path,
-        root,
-        data_name,
-        hash_name,
-        hash_offset,
-        name,
-    }))
 }

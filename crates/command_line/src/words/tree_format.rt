@@ -6,7 +6,9 @@ ghost use Rattle.command_line.specs.words.TreeFormat.{tree_format_said};
 
 use crate::fault::WordsFault;
 use crate::invocation::Invocation;
+use crate::misuse::{Cause, refuse_if};
 use crate::option_words::OptionWords;
+use crate::positional::{no_more, positional};
 use crate::values::offset_of;
 
 /// A tree is made alone, of what `options_of` reads.
@@ -24,18 +26,14 @@ pub struct TreeFormatWords<'a> {
 pub fn tree_format_of<'a>(
     options: &OptionWords<'a>,
     words: &[&'a str],
-) -> Result<Invocation<'a>, WordsFault>
+) -> Result<Invocation<'a>, WordsFault<'a>>
     ensures { ReadsAs format_tree (tree_format_said (option_texts options.now) (texts_of words.now)) result }
 {
-    let [data_path, hash_path] = words else {
-        return Err(WordsFault::Usage);
-    };
-    if options.uuid.is_some() {
-        return Err(WordsFault::Usage);
-    }
-    let Some(hash_offset) = offset_of(options.hash_offset) else {
-        return Err(WordsFault::Usage);
-    };
+    let (data_path, words) = positional("DATA", words)?;
+    let (hash_path, words) = positional("HASH", words)?;
+    no_more(words)?;
+    refuse_if(options.uuid.is_some(), "--uuid", Cause::WithNoSuperblock)?;
+    let hash_offset = offset_of(options.hash_offset)?;
     Ok(Invocation::FormatTree(TreeFormatWords {
         data_path,
         hash_path,

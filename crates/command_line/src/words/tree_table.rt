@@ -6,8 +6,10 @@ ghost use Rattle.command_line.specs.words.TreeTable.{tree_table_said};
 
 use crate::fault::WordsFault;
 use crate::invocation::Invocation;
+use crate::misuse::{Cause, refuse_if};
 use crate::option_words::OptionWords;
-use crate::values::{RootWord, device_names, name_of, offset_of, root_first};
+use crate::positional::{device_names, positional, root_first};
+use crate::values::{RootWord, name_of, offset_of};
 
 /// The table line of a tree without a superblock is printed, or a whole entry with a name; `options_of` reads what it is.
 #[derive(Drop)]
@@ -25,33 +27,26 @@ pub struct TreeTableWords<'a> {
 pub fn tree_table_of<'a>(
     options: &OptionWords<'a>,
     words: &[&'a str],
-) -> Result<Invocation<'a>, WordsFault>
+) -> Result<Invocation<'a>, WordsFault<'a>>
     ensures { ReadsAs table_tree (tree_table_said (option_texts options.now) (texts_of words.now)) result }
 {
-    let [hash_path, rest @ ..] = words else {
-        return Err(WordsFault::Usage);
-    };
-    if options.blocks.is_none() || options.salt.is_none() {
-        return Err(WordsFault::Usage);
+    let (hash_path, words) = positional("HASH", words)?;
+    refuse_if(options.blocks.is_none(), "--blocks", Cause::Missing)?;
+    refuse_if(options.salt.is_none(), "--salt", Cause::Missing)?;
+    let hash_offset = offset_of(options.hash_offset)?;
+    let name = name_of(options.name)?;
+    match root_first(options.root_hash_file, words) {
+        Ok((root, behind)) => {
+            let (data_name, hash_name) = device_names(behind)?;
+            Ok(Invocation::TableTree(TreeTableWords {
+                hash_path,
+                root,
+                data_name,
+                hash_name,
+                hash_offset,
+                name,
+            }))
+        }
+        Err(misuse) => Err(WordsFault::Usage(misuse)),
     }
-    let Some(hash_offset) = offset_of(options.hash_offset) else {
-        return Err(WordsFault::Usage);
-    };
-    let Some(name) = name_of(options.name) else {
-        return Err(WordsFault::Usage);
-    };
-    let Some((root, behind)) = root_first(options.root_hash_file, rest) else {
-        return Err(WordsFault::Usage);
-    };
-    let Some((data_name, hash_name)) = device_names(behind) else {
-        return Err(WordsFault::Usage);
-    };
-    Ok(Invocation::TableTree(TreeTableWords {
-        hash_path,
-        root,
-        data_name,
-        hash_name,
-        hash_offset,
-        name,
-    }))
 }

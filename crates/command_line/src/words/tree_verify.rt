@@ -6,8 +6,10 @@ ghost use Rattle.command_line.specs.words.TreeVerify.{tree_verify_said};
 
 use crate::fault::WordsFault;
 use crate::invocation::Invocation;
+use crate::misuse::{Cause, refuse_if};
 use crate::option_words::OptionWords;
-use crate::values::{RootWord, offset_of, root_alone};
+use crate::positional::{positional, root_alone};
+use crate::values::{RootWord, offset_of};
 
 /// A tree without a superblock is checked, which is what `options_of` reads.
 #[derive(Drop)]
@@ -24,26 +26,23 @@ pub struct TreeVerifyWords<'a> {
 pub fn tree_verify_of<'a>(
     options: &OptionWords<'a>,
     words: &[&'a str],
-) -> Result<Invocation<'a>, WordsFault>
+) -> Result<Invocation<'a>, WordsFault<'a>>
     ensures { ReadsAs verify_tree (tree_verify_said (option_texts options.now) (texts_of words.now)) result }
 {
-    let [data_path, hash_path, rest @ ..] = words else {
-        return Err(WordsFault::Usage);
-    };
-    if options.all || options.json || options.salt.is_none() {
-        return Err(WordsFault::Usage);
+    let (data_path, words) = positional("DATA", words)?;
+    let (hash_path, words) = positional("HASH", words)?;
+    refuse_if(options.all, "--all", Cause::WithNoSuperblock)?;
+    refuse_if(options.json, "--json", Cause::WithNoSuperblock)?;
+    refuse_if(options.salt.is_none(), "--salt", Cause::Missing)?;
+    let hash_offset = offset_of(options.hash_offset)?;
+    match root_alone(options.root_hash_file, words) {
+        Ok(root) => Ok(Invocation::VerifyTree(TreeVerifyWords {
+            data_path,
+            hash_path,
+            root,
+            hash_offset,
+            progress: options.progress,
+        })),
+        Err(misuse) => Err(WordsFault::Usage(misuse)),
     }
-    let Some(hash_offset) = offset_of(options.hash_offset) else {
-        return Err(WordsFault::Usage);
-    };
-    let Some(root) = root_alone(options.root_hash_file, rest) else {
-        return Err(WordsFault::Usage);
-    };
-    Ok(Invocation::VerifyTree(TreeVerifyWords {
-        data_path,
-        hash_path,
-        root,
-        hash_offset,
-        progress: options.progress,
-    }))
 }

@@ -1,5 +1,5 @@
 //! `verify [--all [--json]] [--hash-offset BYTES] [--root-hash-file FILE] [--progress] DATA HASH [ROOT]`
-ghost use Rattle.std.specs.Prelude.{◌≡◌, option_map};
+ghost use Rattle.command_line.specs.Misuses.{ReadsValue};
 ghost use Rattle.command_line.specs.Invocations.{verify};
 ghost use Rattle.command_line.specs.Reading.{ReadsAs};
 ghost use Rattle.command_line.specs.FormatOptions.{option_texts, texts_of};
@@ -7,8 +7,10 @@ ghost use Rattle.command_line.specs.words.Verify.{verify_record, verify_said};
 
 use crate::fault::WordsFault;
 use crate::invocation::Invocation;
-use crate::option_words::{OptionWords, has_tree_value};
-use crate::values::{RootWord, offset_of, root_alone};
+use crate::misuse::{Cause, Misuse, refuse_if};
+use crate::option_words::{OptionWords, in_superblock};
+use crate::positional::{positional, root_alone};
+use crate::values::{RootWord, offset_of};
 
 /// A verity image is checked.
 #[derive(Drop)]
@@ -26,39 +28,38 @@ pub struct VerifyWords<'a> {
 pub fn verify_of<'a>(
     options: &OptionWords<'a>,
     words: &[&'a str],
-) -> Result<Invocation<'a>, WordsFault>
+) -> Result<Invocation<'a>, WordsFault<'a>>
     ensures { ReadsAs verify (verify_said (option_texts options.now) (texts_of words.now)) result }
 {
     match verify_words(options, words) {
-        Some(verify) => Ok(Invocation::Verify(verify)),
-        None => Err(WordsFault::Usage),
+        Ok(verify) => Ok(Invocation::Verify(verify)),
+        Err(misuse) => Err(WordsFault::Usage(misuse)),
     }
 }
 
 /// The same, as words alone.
 #[tactic(auto, unfolding(crate::specs::words::Verify::verify_said))]
-pub fn verify_words<'a>(options: &OptionWords<'a>, words: &[&'a str]) -> Option<VerifyWords<'a>>
-    ensures { option_map verify_record result ≡ verify_said (option_texts options.now) (texts_of words.now) }
+pub fn verify_words<'a>(
+    options: &OptionWords<'a>,
+    words: &[&'a str],
+) -> Result<VerifyWords<'a>, Misuse<'a>>
+    ensures { ReadsValue verify_record (verify_said (option_texts options.now) (texts_of words.now)) result }
 {
-    let [data_path, hash_path, rest @ ..] = words else {
-        return None;
-    };
-    if has_tree_value(options) || options.json && !options.all {
-        return None;
+    let (data_path, words) = positional("DATA", words)?;
+    let (hash_path, words) = positional("HASH", words)?;
+    in_superblock(options)?;
+    refuse_if(options.json && !options.all, "--json", Cause::WithoutAll)?;
+    let hash_offset = offset_of(options.hash_offset)?;
+    match root_alone(options.root_hash_file, words) {
+        Ok(root) => Ok(VerifyWords {
+            data_path,
+            hash_path,
+            root,
+            hash_offset,
+            all: options.all,
+            json: options.json,
+            progress: options.progress,
+        }),
+        Err(misuse) => Err(misuse),
     }
-    let Some(hash_offset) = offset_of(options.hash_offset) else {
-        return None;
-    };
-    let Some(root) = root_alone(options.root_hash_file, rest) else {
-        return None;
-    };
-    Some(VerifyWords {
-        data_path,
-        hash_path,
-        root,
-        hash_offset,
-        all: options.all,
-        json: options.json,
-        progress: options.progress,
-    })
 }

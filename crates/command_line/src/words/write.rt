@@ -9,9 +9,9 @@ use crate::bindings::Binding;
 use crate::fault::WordsFault;
 use crate::invocation::{Invocation, Transfer};
 use crate::option_words::OptionWords;
+use crate::positional::{number_at, positional};
 use crate::values::cache_of;
 use std::alloc::Global;
-use table_text::number;
 
 /// The bytes of a file are written to a device by one request.
 #[derive(Drop)]
@@ -28,29 +28,23 @@ pub fn write_of<'a>(
     alloc: Global,
     options: &OptionWords<'a>,
     words: &[&'a str],
-) -> Result<Invocation<'a>, WordsFault>
+) -> Result<Invocation<'a>, WordsFault<'a>>
     ensures { ReadsAs write (write_said (option_texts options.now) (texts_of words.now)) result }
 {
-    let [stack, name, first, source, rest @ ..] = words else {
-        return Err(WordsFault::Usage);
-    };
-    let Some(cache) = cache_of(options.cache) else {
-        return Err(WordsFault::Usage);
-    };
-    let Some(first) = number(first.as_bytes()) else {
-        return Err(WordsFault::Usage);
-    };
-    match bindings_of(alloc, rest) {
-        Ok(bindings) => Ok(Invocation::Write(WriteWords {
-            cache,
-            stack,
-            transfer: Transfer {
-                name,
-                first,
-                source,
-            },
-            bindings,
-        })),
-        Err(fault) => Err(fault),
-    }
+    let (stack, words) = positional("STACK", words)?;
+    let (name, words) = positional("NAME", words)?;
+    let (first, words) = number_at("FIRST", words)?;
+    let (source, words) = positional("SOURCE", words)?;
+    let cache = cache_of(options.cache)?;
+    let bindings = bindings_of(alloc, words)?;
+    Ok(Invocation::Write(WriteWords {
+        cache,
+        stack,
+        transfer: Transfer {
+            name,
+            first,
+            source,
+        },
+        bindings,
+    }))
 }

@@ -1,34 +1,29 @@
 use Rattle.std.proofs.Common.{◌≡◌, Some, None, arith, refl, ap, sym, ◌∙◌}
-use Rattle.std.proofs.lemmas.Str.Pattern.{split_once_first}
 use Rattle.command_line.specs.Cuts.{cut_first}
 use Rattle.command_line.specs.PartBindings.{access_of, said_part}
-use Rattle.command_line.proofs.BindingLemmas.{cut-some, cut-none}
+use Rattle.command_line.proofs.lemmas.CutLemmas.{cut_first-split}
 use Rattle.command_line.proofs.part_bindings.kind_part.Goals as goal
 
 pub returns-in_err-access : goal.returns-in_err-access
 returns-in_err-access c =
-    let lacks = split_once_first 64 c.args.kind.now None c.in_err-access.ensures.cases (omega arith) in
-    let none : cut_first 64 c.args.kind.now ≡ None = cut-none 64 c.args.kind.now lacks in
+    let none : cut_first 64 c.args.kind.now ≡ None = cut_first-split 64 c.args.kind.now None c.in_err-access.ensures.cases (omega arith) in
     rw (c.from_residual.ensures, none) refl
 
 pub returns-in_err-writable : goal.returns-in_err-writable
 returns-in_err-writable c =
-    let parts = split_once_first 64 c.args.kind.now (Some (c.in_ok-access.access, c.in_ok-access.place)) c.in_ok-access.ensures.cases (omega arith) in
-    let is : cut_first 64 c.args.kind.now ≡ Some (c.in_ok-access.access.now, c.in_ok-access.place.now) = cut-some 64 c.args.kind.now c.in_ok-access.access.now c.in_ok-access.place.now parts.0 parts.1 parts.2 in
+    let is : cut_first 64 c.args.kind.now ≡ Some (c.in_ok-access.access.now, c.in_ok-access.place.now) = cut_first-split 64 c.args.kind.now (Some (c.in_ok-access.access, c.in_ok-access.place)) c.in_ok-access.ensures.cases (omega arith) in
     let none : access_of c.in_ok-access.access.now ≡ None = ap access_of (sym c.as_bytes.ensures.value) ∙ sym c.in_err-writable.ensures in
     rw (c.from_residual-in_err-writable.ensures, is, none) refl
 
 pub returns-in_err-part : goal.returns-in_err-part
 returns-in_err-part c =
-    let parts = split_once_first 64 c.args.kind.now (Some (c.in_ok-access.access, c.in_ok-access.place)) c.in_ok-access.ensures.cases (omega arith) in
-    let is : cut_first 64 c.args.kind.now ≡ Some (c.in_ok-access.access.now, c.in_ok-access.place.now) = cut-some 64 c.args.kind.now c.in_ok-access.access.now c.in_ok-access.place.now parts.0 parts.1 parts.2 in
+    let is : cut_first 64 c.args.kind.now ≡ Some (c.in_ok-access.access.now, c.in_ok-access.place.now) = cut_first-split 64 c.args.kind.now (Some (c.in_ok-access.access, c.in_ok-access.place)) c.in_ok-access.ensures.cases (omega arith) in
     let some : access_of c.in_ok-access.access.now ≡ Some c.in_ok-writable.writable = ap access_of (sym c.as_bytes.ensures.value) ∙ sym c.in_ok-writable.ensures in
     let none : said_part c.in_ok-access.place.now ≡ None = sym c.in_err-part.ensures in
     rw (c.from_residual-in_err-part.ensures, is, some, none) refl
 
 pub returns : goal.returns
 returns c =
-    let parts = split_once_first 64 c.args.kind.now (Some (c.in_ok-access.access, c.in_ok-access.place)) c.in_ok-access.ensures.cases (omega arith) in
-    let is : cut_first 64 c.args.kind.now ≡ Some (c.in_ok-access.access.now, c.in_ok-access.place.now) = cut-some 64 c.args.kind.now c.in_ok-access.access.now c.in_ok-access.place.now parts.0 parts.1 parts.2 in
+    let is : cut_first 64 c.args.kind.now ≡ Some (c.in_ok-access.access.now, c.in_ok-access.place.now) = cut_first-split 64 c.args.kind.now (Some (c.in_ok-access.access, c.in_ok-access.place)) c.in_ok-access.ensures.cases (omega arith) in
     let some : access_of c.in_ok-access.access.now ≡ Some c.in_ok-writable.writable = ap access_of (sym c.as_bytes.ensures.value) ∙ sym c.in_ok-writable.ensures in
     rw (is, some, sym c.in_ok-part.ensures) refl

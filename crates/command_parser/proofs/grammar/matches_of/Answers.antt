@@ -4,7 +4,7 @@ use Rattle.clap.specs.Simple.{App, is_simple, subcommand_of}
 use Rattle.command_parser.proofs.GrammarLemmas.{is_simple-grammar}
 use Rattle.command_parser.proofs.grammar.matches_of.Goals as goal
 
-pub returns-in-Ok-clause-ok : goal.returns-in-Ok-clause-ok
-returns-in-Ok-clause-ok c =
-    (c.in-Ok.ensures.matches (ap is_simple c.in_ok-command.ensures ∙ is_simple-grammar)).1
-    ∙ ap (λ (a : App). subcommand_of a (map string_bytes c.args.words.now)) c.in_ok-command.ensures
+pub returns-in-Ok-try_get_matches_from-clause-ok : goal.returns-in-Ok-try_get_matches_from-clause-ok
+returns-in-Ok-try_get_matches_from-clause-ok c =
+    (c.in-Ok-try_get_matches_from.ensures.matches (ap is_simple c.in-Ok.ensures ∙ is_simple-grammar)).1
+    ∙ ap (λ (a : App). subcommand_of a (map string_bytes c.args.words.now)) c.in-Ok.ensures

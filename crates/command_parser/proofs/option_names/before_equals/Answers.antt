@@ -1,7 +1,7 @@
 use Rattle.std.proofs.Common.{◌∙◌, ◌==◌, ap, length, take}
 use Rattle.std.specs.Prelude.{unwrap_or}
-use Rattle.manual_pages.proofs.OptionLemmas.{take-position}
-use Rattle.manual_pages.proofs.usage_error.before_equals.Goals as goal
+use Rattle.command_parser.proofs.OptionLemmas.{take-position}
+use Rattle.command_parser.proofs.option_names.before_equals.Goals as goal
 
 pub returns : goal.returns
 returns c =

@@ -1,0 +1,106 @@
+//! The positional arguments, one after the other.
+ghost use Rattle.command_line.specs.FormatOptions.{text_of, texts_of};
+ghost use Rattle.command_line.specs.Misuses.{ReadsValue};
+ghost use Rattle.command_line.specs.Positional.{device_at, device_names, next_number, next_word, no_more, number_at, positional, root_alone, root_first};
+ghost use Rattle.command_line.specs.Values.{root_first_record, root_record};
+
+use crate::misuse::{Cause, Misuse};
+use crate::values::{RootWord, root_said};
+use dm_table::is_device;
+use table_text::number;
+
+/// The next positional argument, whose name in the usage is `name`, and those after it.
+#[tactic(auto, unfolding(crate::specs::Positional::positional))]
+pub fn positional<'a, 'b>(
+    name: &'a str,
+    words: &'b [&'a str],
+) -> Result<(&'a str, &'b [&'a str]), Misuse<'a>>
+    ensures { ReadsValue next_word (positional name.now (texts_of words.now)) result }
+{
+    let [word, rest @ ..] = words else {
+        return Err(Misuse::new(name, Cause::Missing));
+    };
+    Ok((word, rest))
+}
+
+/// Refuses a further positional argument.
+#[tactic(auto, unfolding(crate::specs::Positional::no_more))]
+pub fn no_more<'a>(words: &[&'a str]) -> Result<(), Misuse<'a>>
+    ensures { ReadsValue (λ none. none) (no_more (texts_of words.now)) result }
+{
+    match words {
+        [word, ..] => Err(Misuse::new(word, Cause::Surplus)),
+        [] => Ok(()),
+    }
+}
+
+/// The next positional argument, which is a number, and those after it.
+#[tactic(auto, unfolding(crate::specs::Positional::number_at))]
+pub fn number_at<'a, 'b>(
+    name: &'a str,
+    words: &'b [&'a str],
+) -> Result<(u64, &'b [&'a str]), Misuse<'a>>
+    ensures { ReadsValue next_number (number_at name.now (texts_of words.now)) result }
+{
+    let (word, rest) = positional(name, words)?;
+    match number(word.as_bytes()) {
+        Some(value) => Ok((value, rest)),
+        None => Err(Misuse::new(name, Cause::Number)),
+    }
+}
+
+/// The next positional argument, which is the device argument of a table line, and those after it.
+#[tactic(auto, unfolding(crate::specs::Positional::device_at))]
+pub fn device_at<'a, 'b>(
+    name: &'a str,
+    words: &'b [&'a str],
+) -> Result<(&'a str, &'b [&'a str]), Misuse<'a>>
+    ensures { ReadsValue next_word (device_at name.now (texts_of words.now)) result }
+{
+    let (word, rest) = positional(name, words)?;
+    if is_device(word.as_bytes()) {
+        return Ok((word, rest));
+    }
+    Err(Misuse::new(name, Cause::DeviceName))
+}
+
+/// The root, which is the next positional argument unless a file holds it, and the arguments after it.
+#[tactic(auto, unfolding(crate::specs::Positional::root_first))]
+pub fn root_first<'a, 'b>(
+    file: Option<&'a str>,
+    words: &'b [&'a str],
+) -> Result<(RootWord<'a>, &'b [&'a str]), Misuse<'a>>
+    ensures { ReadsValue root_first_record (root_first (text_of file.entry) (texts_of words.now)) result }
+{
+    if let Some(path) = file {
+        return Ok((RootWord::File(path), words));
+    }
+    let (word, rest) = positional("ROOT", words)?;
+    let root = root_said("ROOT", word)?;
+    Ok((RootWord::Digest(root), rest))
+}
+
+/// The root, and no argument after it.
+#[tactic(auto, unfolding(crate::specs::Positional::root_alone))]
+pub fn root_alone<'a>(file: Option<&'a str>, words: &[&'a str]) -> Result<RootWord<'a>, Misuse<'a>>
+    ensures { ReadsValue root_record (root_alone (text_of file.entry) (texts_of words.now)) result }
+{
+    match root_first(file, words) {
+        Ok((root, rest)) => {
+            no_more(rest)?;
+            Ok(root)
+        }
+        Err(misuse) => Err(misuse),
+    }
+}
+
+/// The device arguments of data and hashes, and no argument after them.
+#[tactic(auto, unfolding(crate::specs::Positional::device_names))]
+pub fn device_names<'a>(words: &[&'a str]) -> Result<(&'a str, &'a str), Misuse<'a>>
+    ensures { ReadsValue (λ names. (names.0.now, names.1.now)) (device_names (texts_of words.now)) result }
+{
+    let (data_name, words) = device_at("DATANAME", words)?;
+    let (hash_name, words) = device_at("HASHNAME", words)?;
+    no_more(words)?;
+    Ok((data_name, hash_name))
+}

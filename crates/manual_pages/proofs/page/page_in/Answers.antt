@@ -1,0 +1,7 @@
+use Rattle.std.proofs.Common.{refl}
+use Rattle.manual_pages.specs.Pages.{page_name}
+use Rattle.manual_pages.proofs.NameLemmas.{name_in-found}
+use Rattle.manual_pages.proofs.page.page_in.Goals as goal
+
+pub returns : goal.returns
+returns c = name_in-found page_name c.args.wanted.now _ c.args.pages.now _ c.find_page.ensures (λ x. refl)

@@ -1,0 +1,38 @@
+-- What is printed of each cause of a usage error.
+use Rattle.std.specs.Prelude.{ℕ, List, codes}
+use Rattle.command_line.specs.declared.misuse.Cause.{Cause}
+use Rattle.command_line.specs.declared.misuse.Cause.TheVariants as cause
+
+unfoldable pub cause_text : Cause → List ℕ
+cause_text cause.Missing = codes "missing"
+cause_text cause.Surplus = codes "one argument too many"
+cause_text cause.LateOption = codes "options go before the positional arguments"
+cause_text cause.Unknown = codes "no such option"
+cause_text cause.Unread = codes "not understood"
+cause_text cause.NoValue = codes "its value is missing"
+cause_text cause.UnwantedValue = codes "takes no value"
+cause_text cause.Repeated = codes "given twice"
+cause_text cause.Number = codes "not a decimal number below 2^64"
+cause_text cause.CacheBlocks = codes "not a number from 0 to 65536"
+cause_text cause.RunCount = codes "not a number of at least 1"
+cause_text cause.BlockSize = codes "not a number below 2^32"
+cause_text cause.Offset = codes "not a multiple of 512"
+cause_text cause.SectorSize = codes "neither 512 nor 4096"
+cause_text cause.Salt = codes "neither - nor 2 to 512 hexadecimal digits"
+cause_text cause.Identifier = codes "not a UUID"
+cause_text cause.RootHash = codes "not 64 hexadecimal digits"
+cause_text cause.Roots = codes "not a number from 2 to 24"
+cause_text cause.MappedName = codes "not the name of a mapped device"
+cause_text cause.DeviceName = codes "not the device of a table line"
+cause_text cause.FilePath = codes "not the path of a file"
+cause_text cause.Binding = codes "not a binding, as NAME=ro:FILE"
+cause_text cause.StandardInput = codes "standard input is already in use"
+cause_text cause.InSuperblock = codes "only with --no-superblock"
+cause_text cause.WithNoSuperblock = codes "not with --no-superblock"
+cause_text cause.WithFec = codes "not with --fec or --fec-roots"
+cause_text cause.WithPin = codes "not with --pin"
+cause_text cause.WithStack = codes "not with --stack"
+cause_text cause.WithRoot = codes "not with --root"
+cause_text cause.NameWithAll = codes "no device name goes with --all"
+cause_text cause.WithoutAll = codes "only with --all"
+cause_text cause.WithoutFec = codes "only with --fec"
