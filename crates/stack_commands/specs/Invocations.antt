@@ -17,7 +17,7 @@ use Rattle.program_io.specs.Streams.{Streams}
 use Rattle.image_files.specs.Opener.{Calls}
 use Rattle.fec_commands.specs.declared.fault.FecFault.{FecFault}
 use Rattle.fec_commands.specs.Commands.{FormatsFec, IsFormatFecEnd, IsVerifyFecEnd, VerifiesFec}
-use Rattle.manual_pages.specs.Pages.{page_name, page_named}
+use Rattle.manual_pages.specs.Pages.{page_name, page_named, page_of}
 use Rattle.manual_pages.specs.Versions.{version_text}
 use Rattle.manual_pages.specs.declared.page.Page.{Page}
 use Rattle.partition_commands.specs.declared.fault.PartitionsFault.{PartitionsFault}
@@ -153,8 +153,11 @@ abbrev pub page_wanted : Option (List ℕ) → Option (List ℕ)
 page_wanted command = page_named (unwrap_or command [])
 
 -- the page of that name is printed
-abbrev pub PrintsPage : Option (List ℕ) → Option (List ℕ) → Option (List ℕ) → Type 0
-PrintsPage command old new = (page : Page) × ((page_wanted command ≡ Some (page_name page)) × Appends old new page.text.now)
+pub record PrintsPage (command : Option (List ℕ)) (old new : Option (List ℕ)) : Type 0 where
+  pub page : Page
+  pub named : page_wanted command ≡ Some (page_name page)
+  pub found : page_of (unwrap_or command []) ≡ Some page
+  pub printed : Appends old new page.text.now
 
 -- there is no such page, or it can't be written
 abbrev pub IsPageEnd : Option (List ℕ) → Option (List ℕ) → Option (List ℕ) → Bool → CommandFault → Type 0

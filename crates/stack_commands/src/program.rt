@@ -3,7 +3,7 @@ ghost use Rattle.std.specs.Prelude.{false, true, ◌≡◌, ◌⊎◌, ℕ, List
 ghost use Rattle.program_io.specs.Streams.{streams};
 ghost use Rattle.image_commands.specs.Drawing.{drawing};
 ghost use Rattle.image_files.specs.Opener.{calls};
-ghost use Rattle.stack_commands.specs.Commands.{EndsCommand, IsCommandDone, IsRepeated, is_output_failed, is_usage, output_is_data, told_to, writes_data};
+ghost use Rattle.stack_commands.specs.Commands.{EndsCommand, ExplainsUsage, IsCommandDone, IsRepeated, is_output_failed, is_usage, output_is_data, told_to, writes_data};
 ghost use Rattle.stack_commands.specs.Desks.{IsToldBy};
 ghost use Rattle.stack_commands.specs.Lines.{DoesWords, EndsWords};
 ghost use Rattle.stack_commands.specs.Uses.{uses};
@@ -45,7 +45,7 @@ pub fn command<I: Images, G: Generators + Progress + Watchers, S: Read, W: Write
     requires reader { reader.old.failed ≡ false }
     requires writer { writer.old.failed ≡ false }
     ensures { ((result ≡ 0) × IsCommandDone (map string_bytes words.now) (uses (calls I.relations I.Dev.state images.old images.new) (drawing G.gives G.Generator.stream generators.old generators.new) (streams (S.remaining reader.old.inner) (W.contents writer.old.inner)) (streams (S.remaining reader.new.inner) (W.contents writer.new.inner))))
-        ⊎ EndsCommand (map string_bytes words.now) (uses (calls I.relations I.Dev.state images.old images.new) (drawing G.gives G.Generator.stream generators.old generators.new) (streams (S.remaining reader.old.inner) (W.contents writer.old.inner)) (streams (S.remaining reader.new.inner) (W.contents writer.new.inner))) (told_to writer.new.failed (E.contents errors.old.inner) (E.contents errors.new.inner) errors.new.failed) result }
+        ⊎ EndsCommand (uses (calls I.relations I.Dev.state images.old images.new) (drawing G.gives G.Generator.stream generators.old generators.new) (streams (S.remaining reader.old.inner) (W.contents writer.old.inner)) (streams (S.remaining reader.new.inner) (W.contents writer.new.inner))) (told_to (map string_bytes words.now) writer.new.failed (E.contents errors.old.inner) (E.contents errors.new.inner) errors.new.failed) result }
 {
     match run(alloc, images, generators, words, reader, writer) {
         Ok(()) => DONE,
@@ -70,6 +70,7 @@ fn report_end<W: Write, E: Write>(
 ) -> u8
     ensures told { IsToldBy W.contents writer.old writer.new fault.entry result }
     ensures failed { writer.old.failed ≡ true → writer.new.failed ≡ true }
+    ensures errors_failed { errors.old.failed ≡ true → errors.new.failed ≡ true }
     ensures errors { IsRepeated writer.new.failed fault.entry (E.contents errors.old.inner) (E.contents errors.new.inner) errors.new.failed }
 {
     let status = end(writer, fault);
@@ -90,17 +91,24 @@ fn explain<E: Write>(
     words: &[String],
     fault: CommandFault<'_>,
 )
-    ensures { is_usage fault.entry ≡ false → E.contents errors.new.inner ≡ E.contents errors.old.inner }
+    ensures usage { is_usage fault.entry ≡ true → ExplainsUsage (map string_bytes words.now) (E.contents errors.old.inner) (E.contents errors.new.inner) errors.new.failed }
+    ensures other { is_usage fault.entry ≡ false → errors.new ≡ errors.old }
 {
     if is_usage(fault) {
-        let misuse = misuse_of(alloc, words);
-        let _said = print_usage_error(errors, words, misuse);
+        print_misuse(alloc, errors, words);
     }
+}
+
+fn print_misuse<E: Write>(alloc: Global, errors: &mut Counted<E>, words: &[String])
+    ensures { ExplainsUsage (map string_bytes words.now) (E.contents errors.old.inner) (E.contents errors.new.inner) errors.new.failed }
+{
+    let misuse = misuse_of(alloc, words);
+    let _said = print_usage_error(errors, words, misuse);
 }
 
 // Says on standard error that OUT of `copy` failed, since the printed line doesn't name the device.
 fn tell_output<E: Write>(errors: &mut Counted<E>, fault: CommandFault<'_>)
-    ensures { is_output_failed fault.entry ≡ false → E.contents errors.new.inner ≡ E.contents errors.old.inner }
+    ensures { is_output_failed fault.entry ≡ false → errors.new ≡ errors.old }
 {
     if is_output_failed(fault) {
         let _said = errors.put(b"dmstack: OUT failed\n");

@@ -1,5 +1,6 @@
-use Rattle.std.proofs.Common.{inl, inr, refl, sym, ◌∙◌}
-use Rattle.stack_commands.proofs.EndingLemmas.{told-elsewhere, told-here}
+use Rattle.std.proofs.Common.{inl, inr, refl, sym, ap, ◌∙◌}
+use Rattle.program_io.specs.Counted.{CountedRecord}
+use Rattle.stack_commands.proofs.EndingLemmas.{explained-kept, told-elsewhere, told-here, usage-no_output}
 use Rattle.stack_commands.proofs.program.command.Goals as goal
 
 pub returns-in-Ok : goal.returns-in-Ok
@@ -12,7 +13,9 @@ returns-then-output_is_data g c = inr (record {
   unwritten = c.run.new.writer.failed;
   fails = c.in-Err.ensures.err;
   kept = λ is. is;
-  told_so = told-elsewhere _ c.in-Err.fault _ _ _ _ (sym c.output_is_data.ensures ∙ c.if-output_is_data.true) c.explain.ensures c.end.ensures.told;
+  told_so = told-elsewhere _ c.in-Err.fault _ _ _ _ (sym c.output_is_data.ensures ∙ c.if-output_is_data.true)
+      (λ usage. explained-kept g.E.Write.contents _ _ _ _ _ refl c.end.ensures.failed (c.explain.ensures.usage usage))
+      (λ other. ap (λ (errors : CountedRecord g.E). g.E.Write.contents errors.inner) (c.explain.ensures.other other)) c.end.ensures.told;
 })
 
 pub returns-else-output_is_data : goal.returns-else-output_is_data
@@ -24,7 +27,8 @@ returns-else-output_is_data g c = inr (record {
   kept = c.report_end.ensures.failed;
   told_so = told-here _ c.in-Err.fault _ _ _ _ (sym c.output_is_data.ensures ∙ c.if-output_is_data.false) c.report_end.ensures.told (record {
     before = _;
-    unsaid = λ command output. c.tell_output.ensures output ∙ c.explain.ensures command;
+    explained = λ usage. explained-kept g.E.Write.contents _ _ _ _ _ (c.tell_output.ensures (usage-no_output c.in-Err.fault usage)) c.report_end.ensures.errors_failed (c.explain.ensures.usage usage);
+    unsaid = λ command output. ap (λ (errors : CountedRecord g.E). g.E.Write.contents errors.inner) (c.tell_output.ensures output ∙ c.explain.ensures.other command);
     repeated = c.report_end.ensures.errors;
   });
 })
