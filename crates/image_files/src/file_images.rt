@@ -77,11 +77,21 @@ impl<'a, R: AllocGlobal> FileImages<'a, R> {
 }
 
 impl<R: Files<File = File> + AllocGlobal + Input> Images for FileImages<'_, R> {
+    ghost use Rattle.image_files.specs.Drafts.{Replaces, Tries};
     ghost use Rattle.image_files.specs.FileRelations.{file_relations};
+    ghost use Rattle.image_files.specs.SystemFiles.{system_relations};
+    ghost use Rattle.image_files.specs.declared.system_calls.SystemCalls.{SystemCalls};
 
     type Dev = Window<AnyDev>;
 
-    ghost relations = { file_relations (record { state = ⟦<Window<AnyDev> as BlockDev>⟧.state; id = λ window. any_id window.inner; opened = λ window. any_opened window.inner; locked = λ images. images.locks.files.items }) };
+    ghost relations = { file_relations (record {
+      state = ⟦<Window<AnyDev> as BlockDev>⟧.state;
+      id = λ window. any_id window.inner;
+      opened = λ window. any_opened window.inner;
+      locked = λ images. images.locks.files.items;
+      replaced = λ path bytes outcome. (before after : SystemCalls R) × Replaces system_relations before path bytes outcome after;
+      tried = λ path outcome. (before after : SystemCalls R) × Tries system_relations before path outcome after;
+    }) };
 
     fn open(&mut self, path: &str, writable: bool) -> Result<OpenImage<Window<AnyDev>>, OpenFault> {
         let file = open_file(self.rt, &mut self.locks, path, writable)?;
