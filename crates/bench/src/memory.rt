@@ -82,7 +82,7 @@ fn area_of<R: Print + AllocGlobal>(rt: &R, shape: &Shape) -> Result<(Vec<u8>, Di
         Ok(made) => Ok(made),
         Err(_) => {
             println!(rt; "area: no memory")?;
-            Ok(area(rt.alloc(), shape, &salt, &digests)?)
+            Ok(area(rt.alloc(), shape, &salt, &digests).map_err(AllocError::from)?)
         }
     }
 }

@@ -5,6 +5,7 @@ ghost use Rattle.block_device.specs.declared.open_fault.OpenFault.TheVariants as
 ghost use Rattle.image_files.specs.FileLocks.{is_locked, with_lock};
 
 use crate::one_file::is_one_file;
+use allocation::push;
 use block_device::{FileDev, FileId, FileLock, OpenFault};
 use std::alloc::Global;
 
@@ -44,11 +45,11 @@ impl FileLocks {
             return Ok(());
         }
         if let Some(lock) = lock_of(device)? {
-            if self.locks.push(lock).is_err() {
+            if push(&mut self.locks, lock).is_err() {
                 return Err(OpenFault::NoMemory);
             }
         }
-        match self.files.push(id) {
+        match push(&mut self.files, id) {
             Ok(()) => Ok(()),
             Err(_) => Err(OpenFault::NoMemory),
         }
