@@ -2,7 +2,6 @@
 ghost use Rattle.std.specs.Prelude.{◌≡◌, ◌≤◌, ◌/◌, ◌*◌, ◌+◌, ◌%◌, ◌++◌, take, drop, length, replicate, true, refl, is_ok, IfErr, IfOk, IsOk, IsTrue, OnErr, OnOk};
 ghost use Rattle.std.specs.List.{concat};
 ghost use Rattle.allocation.specs.Asked.{asked};
-ghost use Rattle.allocation.specs.Refusal.{IsOutOfMemory};
 ghost use Rattle.block_device.specs.Call.{DeviceDoes, Write};
 ghost use Rattle.block_device.specs.Calls.{DeviceFails, DevicePuts, DeviceWrites};
 ghost use Rattle.block_device.specs.Counters.{capped-fits};
@@ -11,7 +10,7 @@ ghost use Rattle.block_device.specs.Whole.{whole_bytes};
 
 use crate::{BlockDev, DeviceFault, SyncDev};
 use allocation::{OutOfMemory, append, with_capacity, zeros};
-use std::alloc::{AllocError, Global};
+use std::alloc::Global;
 
 /// Bytes in memory as sectors, of which a trailing part of a sector isn't seen. It is steady and never
 /// fails.
@@ -45,10 +44,10 @@ impl MemoryDev {
     ///
     /// # Errors
     ///
-    /// An allocation of room for at most its bytes was refused.
-    pub fn ramp(alloc: Global, sectors: u32, writable: bool) -> Result<MemoryDev, AllocError>
+    /// `OutOfMemory` if the allocator refused room for at most its bytes.
+    pub fn ramp(alloc: Global, sectors: u32, writable: bool) -> Result<MemoryDev, OutOfMemory>
         ensures ok { IfOk result (λ m. ⟦<MemoryDev as BlockDev>⟧.state m ≡ in_memory (ramp_image sectors) writable) }
-        ensures err { OnErr result (IsOutOfMemory (sectors * 512)) }
+        ensures err { IfErr result (λ e. asked e ≤ sectors * 512) }
     {
         let bytes = ramp_bytes(alloc, sectors)?;
         Ok(MemoryDev::new(bytes, writable))
@@ -58,10 +57,10 @@ impl MemoryDev {
     ///
     /// # Errors
     ///
-    /// An allocation of room for its bytes was refused.
-    pub fn zeros(alloc: Global, sectors: u32, writable: bool) -> Result<MemoryDev, AllocError>
+    /// `OutOfMemory` if the allocator refused room for its bytes.
+    pub fn zeros(alloc: Global, sectors: u32, writable: bool) -> Result<MemoryDev, OutOfMemory>
         ensures ok { IfOk result (λ m. ⟦<MemoryDev as BlockDev>⟧.state m ≡ in_memory (zeros_image sectors) writable) }
-        ensures err { OnErr result (IsOutOfMemory (sectors * 512)) }
+        ensures err { IfErr result (λ e. asked e ≤ sectors * 512) }
     {
         let bytes = zeros(alloc, sectors as usize * 512)?;
         Ok(MemoryDev::new(bytes, writable))

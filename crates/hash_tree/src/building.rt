@@ -143,7 +143,11 @@ impl LevelBuilder {
     /// # Errors
     ///
     /// `OutOfMemory` if the allocator refused room for at most eight hash blocks, or did so before.
-    pub fn push_many(&mut self, digests: &[Digest], out: &mut Vec<Placed>) -> Result<(), OutOfMemory>
+    pub fn push_many(
+        &mut self,
+        digests: &[Digest],
+        out: &mut Vec<Placed>,
+    ) -> Result<(), OutOfMemory>
         requires { self.old.failed ≡ false → length digests.now ≤ self.old.left }
         ensures ok { OnOk result (Pushes self.old digests.now self.new out.old.items out.new.items) }
         ensures err { OnErr result (FailsToPush self.old self.new) }

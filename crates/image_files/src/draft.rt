@@ -44,8 +44,9 @@ fn create_draft<C: FileCalls>(
 {
     let target = calls.resolve(path)?;
     for number in 0..MOST_NAMES {
-        let Ok(name) = name_beside(alloc, target.as_str(), number) else {
-            return Err(ReplaceFault::NoMemory);
+        let name = match name_beside(alloc, target.as_str(), number) {
+            Ok(name) => name,
+            Err(_) => return Err(ReplaceFault::NoMemory),
         };
         match calls.create(name.as_str(), target.as_str()) {
             Ok(file) => return Ok(Draft { target, name, file }),

@@ -1,8 +1,7 @@
 //! Locks on the files that are open for writing.
-ghost use Rattle.std.specs.Prelude.{◌≡◌, ◌⊎◌, [], IfErr, OnErr, OnOk};
+ghost use Rattle.std.specs.Prelude.{◌≡◌, [], IfErr, OnErr, OnOk};
 ghost use Rattle.block_device.specs.FileId.{file_id};
-ghost use Rattle.block_device.specs.declared.open_fault.OpenFault.TheVariants as fault;
-ghost use Rattle.image_files.specs.FileLocks.{is_locked, with_lock};
+ghost use Rattle.image_files.specs.FileLocks.{IsLockRefused, IsNoLock, is_locked, with_lock};
 
 use crate::one_file::is_one_file;
 use allocation::push;
@@ -32,11 +31,12 @@ impl FileLocks {
     ///
     /// # Errors
     ///
-    /// `InUse` if another process holds a lock on the file, or `NoMemory`.
+    /// `InUse` if another process holds a lock on the file; `NoMemory` if the system has no memory for a lock, or an allocation was
+    /// refused.
     pub fn lock(&mut self, device: &FileDev) -> Result<(), OpenFault>
         ensures ok { OnOk result (self.new.files.items ≡ with_lock (file_id device.now) self.old.files.items) }
         ensures same { OnErr result (self.new.files.items ≡ self.old.files.items) }
-        ensures err { IfErr result (λ e. (e ≡ fault.InUse) ⊎ (e ≡ fault.NoMemory)) }
+        ensures err { IfErr result (IsNoLock device.now) }
     {
         let Some(id) = device.id() else {
             return Ok(());
@@ -66,7 +66,7 @@ impl FileLocks {
 
 // The lock of a device's file, if its file system has locks.
 fn lock_of(device: &FileDev) -> Result<Option<FileLock>, OpenFault>
-    ensures { IfErr result (λ e. (e ≡ fault.InUse) ⊎ (e ≡ fault.NoMemory)) }
+    ensures { IfErr result (IsLockRefused device.now) }
 {
     match device.try_lock() {
         Ok(lock) => Ok(Some(lock)),
