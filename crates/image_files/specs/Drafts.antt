@@ -78,7 +78,7 @@ pub record IsReplaced {S F : Type 0} (r : FileRelations S F) (old : S) (path byt
 
 -- why no file was created beside a target: an allocation for its name was refused, or the file system created none
 abbrev pub IsUncreated : List ℕ → ReplaceFault → Type 0
-IsUncreated target NoMemory = IsOutOfMemory (length target + 20)
+IsUncreated target NoMemory = IsOutOfMemory (length target + 40)
 IsUncreated target Write = Unit {0}
 IsUncreated target Sync = ⊥
 IsUncreated target Rename = ⊥

@@ -6,6 +6,7 @@ ghost use Rattle.image_files.specs.Drafts.{IsDraft, IsFilled, IsPlaced, IsUndraf
 use crate::calls::{CallFault, CreateFault, FileCalls};
 use crate::texts::ReplaceFault;
 use allocation::{OutOfMemory, joined, push_text};
+use itoa::Buffer;
 use std::alloc::Global;
 
 /// So many names are tried at most: those that are taken were left by runs that were cut off.
@@ -22,14 +23,14 @@ pub struct Draft<F> {
 // The name of that number under which a text is written beside the target.
 fn name_beside(alloc: Global, target: &str, number: u32) -> Result<String, OutOfMemory>
     ensures ok { IfOk result (λ name. string_bytes name ≡ beside target.now number) }
-    ensures err { IfErr result (λ e. asked e ≤ length target.now + 20) }
+    ensures err { IfErr result (λ e. asked e ≤ length target.now + 40) }
 {
     if number == 0 {
         return joined(alloc, target, ".dmstack-new");
     }
-    let digits = allocation::number(alloc, u64::from(number))?;
+    let mut digits = Buffer::new();
     let mut name = joined(alloc, target, ".dmstack-new-")?;
-    push_text(&mut name, digits.as_str())?;
+    push_text(&mut name, digits.format(number))?;
     Ok(name)
 }
 
