@@ -76,7 +76,7 @@ binding_room binding = length binding.name + 1 + backing_room binding.backing
 abbrev pub bindings_room : List FileUse → List BindingRecord → ℕ
 bindings_room files bindings = length files + sum_by binding_room bindings
 
--- nothing was opened, or what is behind the name
+-- nothing was opened, or what the name is bound to
 abbrev pub IsAtBacking : {S D : Type 0} → Calls S D → List FileUse → BackingRecord → Type 0
 IsAtBacking {S} {D} w files backing = IsIdle w ⊎ ((device : D) × (files' : List FileUse) × OpensBacking w files backing device files')
 
