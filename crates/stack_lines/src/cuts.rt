@@ -58,7 +58,8 @@ fn run_cuts(config: &Config, source: Source<'_>, count: u64, steps: Steps) -> bo
     ensures puts { IsTrue result → PutsInSteps (source_put config.now source.entry) 0 count steps }
     ensures units { result ≡ false → SomeEncrypt (source_said config.now source.entry) 0 count }
 {
-    if count <= steps.size - steps.skip {
+    let left = steps.size - steps.skip;
+    if count <= left {
         return true;
     }
     match source {
@@ -66,7 +67,8 @@ fn run_cuts(config: &Config, source: Source<'_>, count: u64, steps: Steps) -> bo
         Source::Units(part) => units_cut(config, part, count, steps),
         Source::UnitPart(_) => false,
         Source::Zeros | Source::Fails => true,
-        Source::Block(_) | Source::Blocks(_) => false,
+        Source::Block(_) => false,
+        Source::Blocks(_) => false,
     }
 }
 

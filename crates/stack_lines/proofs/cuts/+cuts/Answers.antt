@@ -86,11 +86,11 @@ run_cuts-returns-in-Below-clause-units t c no =
 
 pub run_cuts-returns-in-Units-clause-units : goal.run_cuts-returns-in-Units-clause-units
 run_cuts-returns-in-Units-clause-units t c no =
-    subst (λ (s : Source). SomeEncrypt (source_said c.args.config.now s) 0 c.args.count) (sym c.in-Units.is) (units-some c.args.config.now c.in-Units.part c.args.count (omega (arith, c.if-count-steps.false)))
+    subst (λ (s : Source). SomeEncrypt (source_said c.args.config.now s) 0 c.args.count) (sym c.in-Units.is) (units-some c.args.config.now c.in-Units.part c.args.count (omega (arith, c.if-count-left.false)))
 
 pub run_cuts-returns-in-UnitPart-clause-units : goal.run_cuts-returns-in-UnitPart-clause-units
 run_cuts-returns-in-UnitPart-clause-units t c no =
-    subst (λ (s : Source). SomeEncrypt (source_said c.args.config.now s) 0 c.args.count) (sym c.in-UnitPart.is) (unit_part-some c.args.config.now c.in-UnitPart.field-0 c.args.count (omega (arith, c.if-count-steps.false)))
+    subst (λ (s : Source). SomeEncrypt (source_said c.args.config.now s) 0 c.args.count) (sym c.in-UnitPart.is) (unit_part-some c.args.config.now c.in-UnitPart.field-0 c.args.count (omega (arith, c.if-count-left.false)))
 
 pub run_cuts-returns-in-Block-clause-units : goal.run_cuts-returns-in-Block-clause-units
 run_cuts-returns-in-Block-clause-units t c no = absurd (subst (SourceMayWrite c.args.config.now) c.in-Block.is c.requires.sectors.allowed)
