@@ -1297,8 +1297,7 @@ pub read_device-returns-clause-given : goal.read_device-returns-clause-given
 read_device-returns-clause-given g t c =
     λ none.
     let inv = c.loop-at.invariant in
-    let does = DeviceDoes g.D.BlockDev.state g.D.BlockDev.does in
     let at = c.loop-at.at in
     let all : at / 512 ≡ length c.args.out.now / 512 = omega (arith, inv.within, c.loop-at-test.false, c.loop-at.auto.out) in
-    subst (λ (b : List ℕ). Gives does c.args.config.now (Below (mapped c.args.from.0.0) c.args.from.1) (length c.args.out.now / 512) c.args.backing.now.devices.items c.loop-at.backing.devices.items (Ok b)) (take_all at c.loop-at.out (omega (arith, c.loop-at-test.false)))
+    subst (λ (b : List ℕ). Gives (DeviceDoes g.D.BlockDev.state g.D.BlockDev.does) c.args.config.now (Below (mapped c.args.from.0.0) c.args.from.1) (length c.args.out.now / 512) c.args.backing.now.devices.items c.loop-at.backing.devices.items (Ok b)) (take_all at c.loop-at.out (omega (arith, c.loop-at-test.false)))
     (all-given c.args.from.0.0 c.args.from.1 (length c.args.out.now / 512) (at / 512) (take at c.loop-at.out) all (inv.given none))

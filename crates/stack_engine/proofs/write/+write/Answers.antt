@@ -673,25 +673,22 @@ pub write_units-returns-in-Err-clause-handed : goal.write_units-returns-in-Err-c
 write_units-returns-in-Err-clause-handed g t c =
     let p = c.args.part in
     let bytes = c.args.units.now in
-    let n : ℕ = length bytes / 512 in
     let unit = c.unit_at-unit in
     let inv = c.loop-at.invariant in
-    let at = c.loop-at.at in
-    let long : length bytes ≡ 512 * n = omega (arith, c.requires.fits.sectors.whole) in
-    let step = step-at p.units (length bytes) n at (c.sectors-sectors.result * 512) c.min-end.result (omega (arith, c.sectors-sectors.ensures.value)) long
+    let long : length bytes ≡ 512 * (length bytes / 512) = omega (arith, c.requires.fits.sectors.whole) in
+    let step = step-at p.units (length bytes) (length bytes / 512) c.loop-at.at (c.sectors-sectors.result * 512) c.min-end.result (omega (arith, c.sectors-sectors.ensures.value)) long
     c.requires.fits.holds.whole inv.even (omega (arith, c.loop-at-test.true, c.encrypt.auto.units)) (omega (arith, c.min-end.ensures, c.encrypt.auto.units)) in
     let enc = encrypted-is p.units p.key.now unit.result.index (p.first / per_unit p.units) bytes c.encrypt.new.units c.encrypt.ensures unit.ensures.index in
-    let next = step-piece (per_unit p.units) unit.result.first (unit_first p.units p.first) at c.min-end.result c.encrypt.new.units c.loop-at.units (omega (arith, step.place)) (omega (arith, step.fits, step.place, long, c.encrypt.auto.units)) (omega (arith, step.end_is, step.is)) unit.ensures.first inv.rest in
+    let next = step-piece (per_unit p.units) unit.result.first (unit_first p.units p.first) c.loop-at.at c.min-end.result c.encrypt.new.units c.loop-at.units (omega (arith, step.place)) (omega (arith, step.fits, step.place, long, c.encrypt.auto.units)) (omega (arith, step.end_is, step.is)) unit.ensures.first inv.rest in
     each-handed p unit.result.first (length c.encrypt.new.units / 512) bytes c.encrypt.new.units unit.ensures.first enc (ap (λ (k : ℕ). k / 512) c.encrypt.auto.units) (c.lower_cuts.ensures.units c.if-lower_cuts.false)
     (step-unhanded p.lower next inv.handed c.in-Err.ensures.handed)
 
 pub write_units-returns-clause-handed : goal.write_units-returns-clause-handed
 write_units-returns-clause-handed g t c =
     let p = c.args.part in
-    let bytes = c.args.units.now in
     let unit = c.unit_at-unit in
-    let enc = encrypted-is p.units p.key.now unit.result.index (p.first / per_unit p.units) bytes c.encrypt.new.units c.encrypt.ensures unit.ensures.index in
-    each-handed p unit.result.first (length c.encrypt.new.units / 512) bytes c.encrypt.new.units unit.ensures.first enc (ap (λ (k : ℕ). k / 512) c.encrypt.auto.units) (c.lower_cuts.ensures.units c.if-lower_cuts.false)
+    let enc = encrypted-is p.units p.key.now unit.result.index (p.first / per_unit p.units) c.args.units.now c.encrypt.new.units c.encrypt.ensures unit.ensures.index in
+    each-handed p unit.result.first (length c.encrypt.new.units / 512) c.args.units.now c.encrypt.new.units unit.ensures.first enc (ap (λ (k : ℕ). k / 512) c.encrypt.auto.units) (c.lower_cuts.ensures.units c.if-lower_cuts.false)
     (steps-handed (per_unit p.units) p.lower (unit_first p.units p.first) c.loop-at.at c.encrypt.new.units (omega (arith, c.loop-at-test.false)) c.loop-at.invariant.handed)
 
 pub write_unit_part-returns-in-Err-clause-handed : goal.write_unit_part-returns-in-Err-clause-handed
