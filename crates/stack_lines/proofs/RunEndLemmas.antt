@@ -26,7 +26,7 @@ all-units (Block b) most n all = tt
 all-units (Blocks b) most n all = tt
 
 module _ (c : Configuration) (d s l left : ℕ) (on : IsIn (lines_of c d) s l left) where
-  pub run-served : (n : ℕ) (source : Source) → n ≤ left → ComeFrom c (d, l) on.line.target (s - on.line.start) n source → IsServed c d s n source
+  abbrev pub run-served : (n : ℕ) (source : Source) → n ≤ left → ComeFrom c (d, l) on.line.target (s - on.line.start) n source → IsServed c d s n source
   run-served n source few come = record { number = l; line = on.line; found = on.is; is = on.at; start = on.start; fits = omega (arith, few, on.ends); come = come }
 
   -- the last sector of a run that ends with its line, or where its target cuts it

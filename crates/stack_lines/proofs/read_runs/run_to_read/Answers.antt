@@ -1,4 +1,5 @@
 use Rattle.std.proofs.Common.{◌≡◌, ◌+◌, ◌<◌, ◌≤◌, ℕ, sym, subst, arith}
+use Rattle.stack_rules.specs.Trees.{block_sectors}
 use Rattle.stack_meaning.specs.Puts.{in_one_run}
 use Rattle.stack_lines.specs.declared.source.Source.TheVariants.{Block}
 use Rattle.stack_lines.specs.Sources.{EndsRun, IsServed}
@@ -25,11 +26,12 @@ returns-else-go_at_once-clause-run c =
     let served = subst (IsServed config c.args.d.0 c.args.sector run.result.count) c.in-Blocks.is run.ensures.served in
     let first = first-served config c.args.d.0 c.args.sector run.result.count x run.ensures.some served in
     let several = (data-whole config x.device.0 x.line x.verity.now c.requires.loaded served.come.3.of.is).some in
+    let few : c.from.result ≡ block_sectors x.verity.now = c.from.ensures in
     record {
-      served = subst (λ (k : ℕ). IsServed config c.args.d.0 c.args.sector k (Block x)) (sym c.from.ensures) first.1;
-      some = omega (arith, c.from.ensures, several);
-      most = omega (arith, c.from.ensures, first.0, run.ensures.most);
-      longest = subst (λ (k : ℕ). EndsRun (in_one_run config c.args.d.0) c.args.sector c.args.most k) (sym c.from.ensures)
+      served = subst (λ (k : ℕ). IsServed config c.args.d.0 c.args.sector k (Block x)) (sym few) first.1;
+      some = omega (arith, few, several);
+      most = omega (arith, few, first.0, run.ensures.most);
+      longest = subst (λ (k : ℕ). EndsRun (in_one_run config c.args.d.0) c.args.sector c.args.most k) (sym few)
           (first-ends config c.args.d.0 c.args.sector run.result.count c.args.most x run.ensures.some served several);
       units = tt;
     }

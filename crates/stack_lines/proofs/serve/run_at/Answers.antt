@@ -22,7 +22,8 @@ returns c =
     let on = c.line_at-place.ensures in
     let run = c.line_run in
     let same : c.index-lines-number.result ≡ on.line = line_is c.lines-lines.result.now (lines_of c.args.config.now c.args.d.0) c.line_at-place.result.0 c.index-lines-number.result on.line (c.lines-lines.ensures.value ∙ c.table.ensures) c.index-lines-number.is on.at in
-    let room : c.min-count.result ≡ min c.args.most (on.line.start + on.line.length - c.args.sector) = c.min-count.ensures ∙ ap (min c.args.most) (omega (arith, on.ends)) in
+    let left : c.line_at-place.result.1 ≡ on.line.start + on.line.length - c.args.sector = omega (arith, on.ends) in
+    let room : c.min-count.result ≡ min c.args.most (on.line.start + on.line.length - c.args.sector) = c.min-count.ensures ∙ ap (λ (k : ℕ). min c.args.most k) left in
     record {
       served = run-served c.args.config.now c.args.d.0 c.args.sector c.line_at-place.result.0 c.line_at-place.result.1 on run.result.count run.result.source (omega (arith, run.ensures.most, c.min-count.ensures))
           (subst (λ (line : Line). ComeFrom c.args.config.now (c.args.d.0, c.line_at-place.result.0) line.target (c.args.sector - line.start) run.result.count run.result.source) same run.ensures.come);
