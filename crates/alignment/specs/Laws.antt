@@ -1,8 +1,10 @@
 -- Laws of pieces, units and data blocks.
-use Rattle.std.specs.Prelude.{◌≡◌, ◌⊎◌, ℕ, suc, ◌+◌, ◌-◌, ◌%◌, ◌<◌, ◌≤◌, true, List, Some}
+use Rattle.std.specs.Prelude.{◌≡◌, ◌⊎◌, ℕ, ◌+◌, ◌-◌, ◌%◌, ◌<◌, ◌≤◌, true, List, Some}
 use Rattle.dm_table.specs.declared.table.Line.{Line}
+use Rattle.dm_table.specs.declared.table.Target.{Target}
+use Rattle.dm_table.specs.declared.table.Target.TheVariants.{Linear, Striped, Zero, Error, Crypt, Verity, Unstriped}
 use Rattle.stack_rules.specs.declared.lower.Lower.{Lower}
-use Rattle.stack_rules.specs.Lines.{line_at}
+use Rattle.stack_rules.specs.Lines.{IsLine, line_at}
 use Rattle.stack_rules.specs.Names.{mapped, named}
 use Rattle.stack_rules.specs.Records.{Configuration}
 use Rattle.stack_rules.specs.Rules.{IsLoaded}
@@ -30,6 +32,24 @@ SomeEnd c d first most = (k : ℕ) × (k < most) × (ends_units c (mapped d) (fi
 abbrev pub PiecesSplitNoUnit : Type 0
 PiecesSplitNoUnit = (c : Configuration) (d first rest most s n : ℕ) → IsLoaded c → most < rest → SomeEnd c d first most → LieInUnit c (mapped d) s n
     → s < first + aligned_len c d first rest most → s + n ≤ first + aligned_len c d first rest most
+
+-- it lies at a multiple of eight sectors beneath; a line of `striped` or `unstriped` isn't meant
+abbrev pub LiesByEights : Target → Type 0
+LiesByEights (Linear base) = base.offset % 8 ≡ 0
+LiesByEights (Striped chunk bases) = ⊥
+LiesByEights Zero = Unit {0}
+LiesByEights Error = Unit {0}
+LiesByEights (Crypt line) = line.base.offset % 8 ≡ 0
+LiesByEights (Verity line) = Unit {0}
+LiesByEights (Unstriped line) = ⊥
+
+-- each line begins at a multiple of eight sectors of its device, and lies at one beneath
+abbrev pub AreByEights : Configuration → Type 0
+AreByEights c = (d l : ℕ) (line : Line) → IsLine c d l line → (line.start % 8 ≡ 0) × LiesByEights line.target
+
+-- in such a stack some sector of any eight ends all units and data blocks in which it lies
+abbrev pub SomeOfEightEnds : Type 0
+SomeOfEightEnds = (c : Configuration) (d first most : ℕ) → IsLoaded c → AreByEights c → 8 ≤ most → SomeEnd c d first most
 
 -- as many sectors as a piece and the next one have together, of the rest from sector first of device d on
 abbrev pub two_lens : Configuration → ℕ → ℕ → ℕ → ℕ → ℕ

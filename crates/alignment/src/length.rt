@@ -18,6 +18,8 @@ pub fn aligned_len(config: &Config, d: DevId, first: u64, rest: u64, most: u64) 
     if rest <= most {
         return rest;
     }
+    // What holds of every loaded configuration is learned from a call.
+    let _loaded = config.count();
     let mut count = most;
     'sectors: while count > 0 {
         if ends_units(config, d, first + (count - 1)) {

@@ -33,3 +33,13 @@ device_ends-returns t c =
     let run = c.run_at-run.result in
     let one : run.count ≡ 1 = omega (arith, c.run_at-run.ensures.some, c.run_at-run.ensures.most) in
     c.source_ends.ensures ∙ served-ends config c.args.d.0 c.args.sector run.source c.requires.loaded (subst (λ (n : ℕ). IsServed config c.args.d.0 c.args.sector n run.source) one c.run_at-run.ensures.served)
+
+pub unit_ends-overflow_add-part : goal.unit_ends-overflow_add-part
+unit_ends-overflow_add-part t c = let small = size-small c.args.config.now c.args.part.lower c.requires.loaded in omega (arith, small, c.requires.inside)
+
+pub block_ends-lower_ends-requires : goal.block_ends-lower_ends-requires
+block_ends-lower_ends-requires t c =
+    let below = data-below c.args.config.now c.args.part c.requires.loaded c.requires.part in
+    let deep = below.shallower in
+    let room = below.inside in
+    (omega (arith, deep), (c.requires.loaded, omega (arith, room, c.requires.inside)))

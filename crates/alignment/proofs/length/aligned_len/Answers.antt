@@ -1,5 +1,6 @@
 use Rattle.std.proofs.Common.{◌≡◌, ℕ, ◌+◌, ◌-◌, ◌<◌, ◌≤◌, Bool, refl, sym, ap, ◌∙◌, arith}
 use Rattle.stack_rules.specs.Names.{mapped}
+use Rattle.stack_meaning.proofs.lemmas.LoadedLemmas.{size-small}
 use Rattle.alignment.specs.Ends.{ends_units}
 use Rattle.alignment.specs.Lengths.{last_end}
 use Rattle.alignment.proofs.LastLemmas.{last-before, last-here, last-none, len-all, len-last, len-most}
@@ -17,6 +18,11 @@ returns-then-rest-most c =
 
 pub sectors-init : goal.sectors-init
 sectors-init c = record { same = refl; within = omega arith }
+
+pub overflow_add-first : goal.overflow_add-first
+overflow_add-first c =
+    let small = size-small c.args.config.now (mapped c.args.d.0) c.count-loaded.ensures.loaded in
+    omega (arith, small, c.requires.inside, c.sectors.invariant.within, c.if-rest-most.false, c.sectors-test.true)
 
 pub ends_units-requires : goal.ends_units-requires
 ends_units-requires c = omega (arith, c.sectors.invariant.within, c.sectors-test.true, c.if-rest-most.false, c.requires.inside)
