@@ -1,5 +1,5 @@
 -- The second tree checked, and both compared.
-use Rattle.std.proofs.Common.{◌≡◌, ◌⊎◌, inl, inr, ℕ, Bool, false, List, Option}
+use Rattle.std.proofs.Common.{inl, inr, ℕ, Bool, false, List, Option}
 use Rattle.block_device.specs.Device.{Device}
 use Rattle.verity_format.specs.declared.verifying.VerifyFault.TheVariants as verify
 use Rattle.tree_difference.specs.declared.difference.Roots.{Roots}
@@ -36,12 +36,12 @@ unfailed w roots failed fault check compare (inl (inr e)) =
 unfailed w roots failed fault check compare (inr e) =
     inr (record { whole = e.whole; middle = e.middle; between = e.between; checks = e.checks; cause = compare (record w { second = e.middle; printed = e.between }) e.cause })
 
-pub kept_check : (d e d' e' : Device) (old new : Option (List ℕ)) (roots : Roots) (failed : Bool) (fault : DifferenceFault) → IsCheckedCause (difference_world d e d' e' old new) roots failed fault → IsKeptCheckCause (difference_world d e d' e' old new) roots (unkept_difference fault)
-kept_check d e d' e' old new roots failed (difference.Image First f) h = unfailed (difference_world d e d' e' old new) roots failed (difference.Image First f) (λ a a' c. c) (λ v c. c) h
-kept_check d e d' e' old new roots failed (difference.Image Second f) h = unfailed (difference_world d e d' e' old new) roots failed (difference.Image Second f) (λ a a' c. c) (λ v c. c) h
-kept_check d e d' e' old new roots failed (difference.Unlike field) h = unfailed (difference_world d e d' e' old new) roots failed (difference.Unlike field) (λ a a' c. c) (λ v c. c) h
-kept_check d e d' e' old new roots failed (difference.Hash First level n) h = unfailed (difference_world d e d' e' old new) roots failed (difference.Hash First level n) (λ a a' c. c) (λ v c. c) h
-kept_check d e d' e' old new roots failed (difference.Hash Second level n) h = unfailed (difference_world d e d' e' old new) roots failed (difference.Hash Second level n) (λ a a' c. c) (λ v c. c) h
+pub kept_check : (d e d' e' : Device) (old new : Option (List ℕ)) (roots : Roots) (failed : Bool) (fault : DifferenceFault) → IsCheckedCause (difference_world d e d' e' old new) roots failed fault → IsKeptCheckCause d e d' e' roots (unkept_difference fault)
+kept_check d e d' e' old new roots failed (difference.Image First f) h = (old, (new, unfailed (difference_world d e d' e' old new) roots failed (difference.Image First f) (λ a a' c. c) (λ v c. c) h))
+kept_check d e d' e' old new roots failed (difference.Image Second f) h = (old, (new, unfailed (difference_world d e d' e' old new) roots failed (difference.Image Second f) (λ a a' c. c) (λ v c. c) h))
+kept_check d e d' e' old new roots failed (difference.Unlike field) h = (old, (new, unfailed (difference_world d e d' e' old new) roots failed (difference.Unlike field) (λ a a' c. c) (λ v c. c) h))
+kept_check d e d' e' old new roots failed (difference.Hash First level n) h = (old, (new, unfailed (difference_world d e d' e' old new) roots failed (difference.Hash First level n) (λ a a' c. c) (λ v c. c) h))
+kept_check d e d' e' old new roots failed (difference.Hash Second level n) h = (old, (new, unfailed (difference_world d e d' e' old new) roots failed (difference.Hash Second level n) (λ a a' c. c) (λ v c. c) h))
 kept_check d e d' e' old new roots failed difference.NoMemory h = tt
 kept_check d e d' e' old new roots failed difference.Write h = tt
 

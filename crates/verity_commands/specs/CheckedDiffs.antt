@@ -6,6 +6,7 @@ use Rattle.block_device.specs.Device.{Device}
 use Rattle.program_io.specs.Counted.{CountedRecord}
 use Rattle.program_io.specs.JsonLines.{json_line}
 use Rattle.image_files.specs.Opener.{Calls, Opener, calls}
+use Rattle.verity_format.specs.declared.verifying.VerifyFault.{VerifyFault}
 use Rattle.verity_format.specs.declared.verifying.VerifyFault.TheVariants as verify
 use Rattle.verity_format.specs.Blocks.{IsFullRead}
 use Rattle.verity_format.specs.Superblock.{SuperRecord}
@@ -17,7 +18,7 @@ use Rattle.tree_difference.specs.declared.difference.Roots.{Roots}
 use Rattle.tree_difference.specs.declared.fault.DifferenceFault.{DifferenceFault}
 use Rattle.tree_difference.specs.declared.fault.DifferenceFault.TheVariants as difference_fault
 use Rattle.tree_difference.specs.declared.fault.Which.TheVariants.{Second}
-use Rattle.tree_difference.specs.Comparisons.{DifferenceWorld}
+use Rattle.tree_difference.specs.Comparisons.{DifferenceWorld, difference_world}
 use Rattle.tree_difference.specs.Differences.{IsDifference, IsDifferenceCause}
 use Rattle.tree_difference.specs.Superblocks.{IsImageRead, IsOneImageCause}
 use Rattle.tree_survey.specs.declared.fault.SurveyFault.{SurveyFault}
@@ -84,15 +85,18 @@ abbrev pub IsCheckedCause : DifferenceWorld → Roots → Bool → DifferenceFau
 IsCheckedCause w roots failed fault = IsTreeUnchecked w.second w.second' failed fault ⊎ EndsComparison w roots failed fault
 
 -- with which fault `diff` ends if the check does
+abbrev pub second_fault : VerifyFault → DifferenceFault
+second_fault verify.NoMemory = difference_fault.NoMemory
+second_fault fault = difference_fault.Image Second fault
+
 abbrev pub check_fault : SurveyFault → DifferenceFault
-check_fault (survey_fault.Image verify.NoMemory) = difference_fault.NoMemory
-check_fault (survey_fault.Image fault) = difference_fault.Image Second fault
+check_fault (survey_fault.Image fault) = second_fault fault
 check_fault survey_fault.Write = difference_fault.Write
 
 -- the same causes if lines are kept in memory
-abbrev pub IsKeptCheckCause : DifferenceWorld → Roots → DifferenceFault → Type 0
-IsKeptCheckCause w roots difference_fault.NoMemory = Unit {0}
-IsKeptCheckCause w roots fault = IsCheckedCause w roots false fault
+abbrev pub IsKeptCheckCause : Device → Device → Device → Device → Roots → DifferenceFault → Type 0
+IsKeptCheckCause first second first' second' roots difference_fault.NoMemory = Unit {0}
+IsKeptCheckCause first second first' second' roots fault = (old : Option (List ℕ)) × ((new : Option (List ℕ)) × IsCheckedCause (difference_world first second first' second' old new) roots false fault)
 
 -- ---- what is printed
 
@@ -128,7 +132,7 @@ SaysSuch json w roots most P = (found : CheckedTotals) × (SaysChecked json w ro
 
 -- the lines before a fault, or nothing of an object
 abbrev pub IsUnchecked : Bool → DifferenceWorld → Roots → Bool → DifferenceFault → Type 0
-IsUnchecked true w roots failed fault = ((lines : List Line) × IsKeptCheckCause (record w { printed = Some []; printed' = Some (lines_text lines) }) roots fault) × (w.printed' ≡ w.printed)
+IsUnchecked true w roots failed fault = IsKeptCheckCause w.first w.second w.first' w.second' roots fault × (w.printed' ≡ w.printed)
 IsUnchecked false w roots failed fault = IsCheckedCause w roots failed fault
 
 -- why that isn't known, or a line can't be written
@@ -165,8 +169,8 @@ FailsToCheckDevice state h h' failed fault = IsTreeUnchecked (state h) (state h'
 abbrev pub kept_world : {D : Type 0} → (D → Device) → TwoHashes D → TwoHashes D → KeptLines → KeptLines → DifferenceWorld
 kept_world state two two' kept kept' = two_devices state two two' (Some (lines_text kept.lines.items)) (Some (lines_text kept'.lines.items))
 
-abbrev pub FailsToKeepCheck : {D : Type 0} → (D → Device) → TwoHashes D → TwoHashes D → KeptLines → KeptLines → Roots → DifferenceFault → Type 0
-FailsToKeepCheck state two two' kept kept' roots fault = IsKeptCheckCause (kept_world state two two' kept kept') roots fault
+abbrev pub FailsToKeepCheck : {D : Type 0} → (D → Device) → TwoHashes D → TwoHashes D → Roots → DifferenceFault → Type 0
+FailsToKeepCheck state two two' roots = IsKeptCheckCause (state two.first.device) (state two.second.device) (state two'.first.device) (state two'.second.device) roots
 
 -- what was found of two images that are open was printed, or why it wasn't
 abbrev pub SaysFound : {D W : Type 0} → Bool → (D → Device) → TwoHashes D → TwoHashes D → (W → Option (List ℕ)) → CountedRecord W → CountedRecord W → Roots → Option ℕ → CheckedTotals → Type 0

@@ -1,7 +1,7 @@
 //! The command `diff --all`: which hash blocks of the second image are invalid, and which data blocks of two images differ.
 ghost use Rattle.std.specs.Prelude.{◌≡◌, false, OnOk, IfErr, IfOk};
 ghost use Rattle.tree_difference.specs.Differences.{seen_world};
-ghost use Rattle.verity_commands.specs.CheckedDiffs.{ChecksDevice, ChecksImages, FailsCheck, FailsToCheckDevice, FailsToCheckImages, FailsToSay, FindsWhole, IsCheckedCause, IsCheckedDifference, IsFoundEnd, IsWholeAndSame, SaysFound, check_fault};
+ghost use Rattle.verity_commands.specs.CheckedDiffs.{ChecksDevice, ChecksImages, FailsCheck, FailsToCheckDevice, FailsToCheckImages, FailsToSay, FindsWhole, IsCheckedCause, IsCheckedDifference, IsFoundEnd, IsWholeAndSame, SaysFound, check_fault, second_fault};
 
 use crate::checked_object::say_object;
 use crate::diff::{is_unchanged, say_totals};
@@ -121,7 +121,6 @@ pub(crate) fn compare_checked<D: BlockDev, E: BlockDev, L: Listing>(
 }
 
 // Checks the hash blocks of the second tree, and returns whether all are valid.
-#[tactic(auto, using(crate::proofs::CheckedLemmas::check_cause))]
 fn check_second<H: BlockDev, L: Listing>(
     alloc: Global,
     device: &mut H,
@@ -142,9 +141,22 @@ fn check_fault(fault: SurveyFault) -> DifferenceFault
     ensures { result ≡ check_fault fault }
 {
     match fault {
-        SurveyFault::Image(VerifyFault::NoMemory) => DifferenceFault::NoMemory,
-        SurveyFault::Image(image) => DifferenceFault::Image(Which::Second, image),
+        SurveyFault::Image(image) => second_fault(image),
         SurveyFault::Write => DifferenceFault::Write,
+    }
+}
+
+// The same of the image's fault.
+fn second_fault(fault: VerifyFault) -> DifferenceFault
+    ensures { result ≡ second_fault fault }
+{
+    match fault {
+        VerifyFault::Super(field) => {
+            DifferenceFault::Image(Which::Second, VerifyFault::Super(field))
+        }
+        VerifyFault::TooSmall => DifferenceFault::Image(Which::Second, VerifyFault::TooSmall),
+        VerifyFault::Device => DifferenceFault::Image(Which::Second, VerifyFault::Device),
+        VerifyFault::NoMemory => DifferenceFault::NoMemory,
     }
 }
 

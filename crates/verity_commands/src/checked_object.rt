@@ -47,7 +47,7 @@ fn keep_checked<D: BlockDev>(
     kept: &mut KeptLines,
 ) -> Result<CheckedTotals, DifferenceFault>
     ensures ok { IfOk result (IsCheckedDifference (kept_world D.state two.old two.new kept.old kept.new) roots most) }
-    ensures err { IfErr result (FailsToKeepCheck D.state two.old two.new kept.old kept.new roots) }
+    ensures err { IfErr result (FailsToKeepCheck D.state two.old two.new roots) }
 {
     let first = &mut two.first.device;
     let second = &mut two.second.device;
