@@ -57,9 +57,13 @@ abbrev pub IsSurveyCause : ShapeRecord → Device → Device → Device → Devi
 IsSurveyCause shape data_dev hash_dev data_dev' hash_dev' failed (Image TooSmall) = IsCutOff shape data_dev hash_dev (Image TooSmall) × ((data_dev' ≡ data_dev) × (hash_dev' ≡ hash_dev))
 IsSurveyCause shape data_dev hash_dev data_dev' hash_dev' failed fault = IsPassCause data_dev hash_dev data_dev' hash_dev' failed fault
 
--- why the hash blocks of a tree aren't checked: an allocation was refused before anything was read, or a line can't be written
+-- room for the hash blocks on a path was refused, and nothing was read
+abbrev pub IsPathRefused : Device → Device → Type 0
+IsPathRefused device device' = (device' ≡ device) × IsOutOfMemory largest_block
+
+-- why the hash blocks of a tree weren't checked to the last: that, or a line can't be written
 abbrev pub IsHashesCause : Device → Device → Bool → SurveyFault → Type 0
-IsHashesCause device device' failed (Image NoMemory) = (device' ≡ device) × IsOutOfMemory largest_block
+IsHashesCause device device' failed (Image NoMemory) = IsPathRefused device device'
 IsHashesCause device device' failed Write = failed ≡ true
 IsHashesCause device device' failed fault = ⊥
 
@@ -73,6 +77,6 @@ EndsPass data_state hash_state d h d' h' failed fault = IsPassCause (data_state 
 abbrev pub EndsSurvey : {D H : Type 0} → VerityTree → (D → Device) → (H → Device) → D → H → D → H → Bool → SurveyFault → Type 0
 EndsSurvey tree data_state hash_state d h d' h' failed fault = IsSurveyCause tree.shape (data_state d) (hash_state h) (data_state d') (hash_state h') failed fault
 
--- why the hash blocks of a tree weren't checked to the last
+-- the same of the hash device
 abbrev pub EndsHashes : {H : Type 0} → (H → Device) → H → H → Bool → SurveyFault → Type 0
 EndsHashes state h h' failed fault = IsHashesCause (state h) (state h') failed fault

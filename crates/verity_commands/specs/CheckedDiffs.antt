@@ -1,7 +1,6 @@
 -- What `diff --all` prints, and how it ends.
 use Rattle.std.specs.Prelude.{◌≡◌, ◌⊎◌, ℕ, Bool, true, false, List, [], Option, Some}
 use Rattle.std.specs.Io.KnownBytes.{Appends}
-use Rattle.allocation.specs.Refusal.{IsOutOfMemory}
 use Rattle.block_device.specs.Device.{Device}
 use Rattle.program_io.specs.Counted.{CountedRecord}
 use Rattle.program_io.specs.JsonLines.{json_line}
@@ -10,7 +9,6 @@ use Rattle.verity_format.specs.declared.verifying.VerifyFault.{VerifyFault}
 use Rattle.verity_format.specs.declared.verifying.VerifyFault.TheVariants as verify
 use Rattle.verity_format.specs.Blocks.{IsFullRead}
 use Rattle.verity_format.specs.Superblock.{SuperRecord}
-use Rattle.tree_path.specs.Path.{largest_block}
 use Rattle.runs.specs.declared.line.Line.{Line}
 use Rattle.runs.specs.declared.listing.KeptLines.{KeptLines}
 use Rattle.runs.specs.Lines.{lines_text}
@@ -23,6 +21,7 @@ use Rattle.tree_difference.specs.Differences.{IsDifference, IsDifferenceCause}
 use Rattle.tree_difference.specs.Superblocks.{IsImageRead, IsOneImageCause}
 use Rattle.tree_survey.specs.declared.fault.SurveyFault.{SurveyFault}
 use Rattle.tree_survey.specs.declared.fault.SurveyFault.TheVariants as survey_fault
+use Rattle.tree_survey.specs.Causes.{IsPathRefused}
 use Rattle.tree_survey.specs.Failing.{IsReadOver}
 use Rattle.tree_survey.specs.Hashes.{TellsHashes}
 use Rattle.tree_survey.specs.Passes.{super_tree}
@@ -54,9 +53,9 @@ pub record IsCheckedDifference (w : DifferenceWorld) (roots : Roots) (most : Opt
   pub checks : ChecksTree w.second middle roots.second w.printed between found.whole_tree
   pub difference : IsDifference (record w { second = middle; printed = between }) roots most found.totals
 
--- an allocation was refused before a hash block was read, or a line can't be written
+-- room for the hash blocks on a path was refused, or a line can't be written
 abbrev pub IsCheckCause : Device → Device → Bool → DifferenceFault → Type 0
-IsCheckCause device device' failed difference_fault.NoMemory = (device' ≡ device) × IsOutOfMemory largest_block
+IsCheckCause device device' failed difference_fault.NoMemory = IsPathRefused device device'
 IsCheckCause device device' failed difference_fault.Write = failed ≡ true
 IsCheckCause device device' failed fault = ⊥
 

@@ -137,6 +137,7 @@ fn check_second<H: BlockDev, L: Listing>(
     }
 }
 
+// With which fault the comparison ends if the check does.
 fn check_fault(fault: SurveyFault) -> DifferenceFault
     ensures { result ≡ check_fault fault }
 {
@@ -146,7 +147,7 @@ fn check_fault(fault: SurveyFault) -> DifferenceFault
     }
 }
 
-// The same of the image's fault.
+// With which one if the second image has this fault.
 fn second_fault(fault: VerifyFault) -> DifferenceFault
     ensures { result ≡ second_fault fault }
 {
