@@ -41,7 +41,7 @@ PLACES = {
     "stack_commands": (3, VALUES),
     "stack_lines": (2, CACHE),
     "verified_cache": (5, CACHE),
-    "verity_commands": (6, NOT_YET),
+    "verity_commands": (9, NOT_YET),
     "verity_format": (3, STATED),
 }
 

@@ -22,7 +22,7 @@ OPTIONS = {
     "load": (b"json",), "read": (b"cache",), "write": (b"cache",), "session": (b"cache",), "nbd": (b"cache", b"all"),
     "scan": (b"cache", b"map", b"progress", b"json"), "copy": (b"cache", b"map", b"differing", b"progress"),
     "cat": (b"cache", b"first", b"count", b"progress"), "store": (b"cache", b"first", b"progress"),
-    "partitions": (b"sector-size", b"stack", b"root", b"json"), "diff": (b"blocks", b"json"),
+    "partitions": (b"sector-size", b"stack", b"root", b"json"), "diff": (b"all", b"blocks", b"json"),
     "manual": (), "version": (),
 }
 FLAGS = (b"all", b"stack", b"no-superblock", b"grow", b"json", b"differing", b"progress", b"check")

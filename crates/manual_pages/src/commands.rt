@@ -66,7 +66,7 @@ pub static COMMANDS: [Command; 18] = [
     },
     Command {
         name: "diff",
-        usage: "dmstack diff [--blocks N] [--json] HASH1 ROOT1 HASH2 ROOT2",
+        usage: "dmstack diff [--all] [--blocks N] [--json] HASH1 ROOT1 HASH2 ROOT2",
     },
     Command {
         name: "manual",

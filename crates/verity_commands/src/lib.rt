@@ -1,6 +1,8 @@
 //! The commands on verity images by their arguments, comparing two of their hash trees, and scanning one.
 #![tactic(auto)]
 
+mod checked_diff;
+mod checked_object;
 mod diff;
 mod diff_object;
 mod growing;
@@ -18,6 +20,7 @@ mod tree_fault_text;
 mod trees;
 mod verity_fault;
 
+pub use checked_diff::{CheckedTotals, DiffForm, check_images};
 pub use diff::diff_images;
 pub use invoke::{invoke_diff, invoke_survey};
 pub use paths::HashPaths;
