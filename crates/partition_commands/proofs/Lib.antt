@@ -1,3 +1,4 @@
 mod EndingLemmas
 mod LabelLemmas
+mod NoteLemmas
 mod ObjectLemmas

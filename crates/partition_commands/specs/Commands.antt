@@ -26,32 +26,35 @@ use Rattle.partition_commands.specs.Parts.{are_within, is_within, part_of}
 use Rattle.partition_commands.specs.RootStacks.{is_unfit, root_stack_text}
 use Rattle.partition_commands.specs.Roots.{image_partitions}
 use Rattle.partition_commands.specs.Stacks.{entries_text}
+use Rattle.partition_commands.specs.Warnings.{AreNotes, IsNoted, Notes, warning_text}
 
--- a text of the table that was found on the device was written
-pub record PrintsPartitions (old new : Device) (size : SectorSize) (text : PartitionTable → List ℕ) (written now_written : Option (List ℕ)) : Type 0 where
+-- a text of the table that was found on the device was written, and its warnings among the errors
+pub record PrintsPartitions (old new : Device) (size : SectorSize) (text : PartitionTable → List ℕ) (written now_written : Option (List ℕ)) (notes : Notes) : Type 0 where
   pub table : PartitionTable
   pub found : IsSizedTable old new size table
   pub printed : Appends written now_written (text table)
+  pub noted : IsNoted notes (warning_text new table)
 
 -- the stack text of a table whose partitions all end on the device
-pub record PrintsEntries (old new : Device) (size : SectorSize) (written now_written : Option (List ℕ)) : Type 0 where
+pub record PrintsEntries (old new : Device) (size : SectorSize) (written now_written : Option (List ℕ)) (notes : Notes) : Type 0 where
   pub table : PartitionTable
   pub found : IsSizedTable old new size table
   pub within : are_within new table.size table.partitions.items ≡ true
   pub printed : Appends written now_written (entries_text table)
+  pub noted : IsNoted notes (warning_text new table)
 
 -- the same of the image under the path, which is only read
-pub record PrintsOfImage {S D : Type 0} (w : Calls S D) (path : List ℕ) (size : SectorSize) (text : PartitionTable → List ℕ) (old new : Option (List ℕ)) : Type 0 where
+pub record PrintsOfImage {S D : Type 0} (w : Calls S D) (path : List ℕ) (size : SectorSize) (text : PartitionTable → List ℕ) (old new : Option (List ℕ)) (notes : Notes) : Type 0 where
   pub image : OpenImage D
   pub device' : D
   pub opened : Opens w path false image
-  pub prints : PrintsPartitions (w.state image.device) (w.state device') size text old new
+  pub prints : PrintsPartitions (w.state image.device) (w.state device') size text old new notes
 
-pub record PrintsEntriesOfImage {S D : Type 0} (w : Calls S D) (path : List ℕ) (size : SectorSize) (old new : Option (List ℕ)) : Type 0 where
+pub record PrintsEntriesOfImage {S D : Type 0} (w : Calls S D) (path : List ℕ) (size : SectorSize) (old new : Option (List ℕ)) (notes : Notes) : Type 0 where
   pub image : OpenImage D
   pub device' : D
   pub opened : Opens w path false image
-  pub prints : PrintsEntries (w.state image.device) (w.state device') size old new
+  pub prints : PrintsEntries (w.state image.device) (w.state device') size old new notes
 
 -- there is no table, memory ran out, or a line can't be written
 abbrev pub IsLabelEnd : Device → Device → SectorSize → Bool → PartitionsFault → Type 0
@@ -104,7 +107,7 @@ pub record IsFitting (device : Device) (size : SectorSize) (both : ImagePartitio
   pub fits : is_unfit size both super ≡ false
 
 -- the two partitions of the root were found on the device, and the superblock in the verity partition
-pub record PrintsRoot (device : Device) (size : SectorSize) (root : List ℕ) (old new : Option (List ℕ)) : Type 0 where
+pub record PrintsRoot (device : Device) (size : SectorSize) (root : List ℕ) (old new : Option (List ℕ)) (notes : Notes) : Type 0 where
   pub table : PartitionTable
   pub read_device : Device
   pub found : IsSizedTable device read_device size table
@@ -113,11 +116,21 @@ pub record PrintsRoot (device : Device) (size : SectorSize) (root : List ℕ) (o
   pub super : SuperRecord
   pub fitting : IsFitting read_device table.size both super
   pub printed : Appends old new (root_stack_text table.size both super root)
+  pub noted : IsNoted notes (warning_text read_device table)
 
-pub record PrintsRootOfImage {S D : Type 0} (w : Calls S D) (path : List ℕ) (size : SectorSize) (root : List ℕ) (old new : Option (List ℕ)) : Type 0 where
+pub record PrintsRootOfImage {S D : Type 0} (w : Calls S D) (path : List ℕ) (size : SectorSize) (root : List ℕ) (old new : Option (List ℕ)) (notes : Notes) : Type 0 where
   pub image : OpenImage D
   pub opened : Opens w path false image
-  pub prints : PrintsRoot (w.state image.device) size root old new
+  pub prints : PrintsRoot (w.state image.device) size root old new notes
+
+-- nothing was printed among the errors, or the warnings of a table that was found on the image under the path
+pub record NotesOfImage {S D : Type 0} (w : Calls S D) (path : List ℕ) (size : SectorSize) (notes : Notes) : Type 0 where
+  pub image : OpenImage D
+  pub opened : Opens w path false image
+  pub noted : AreNotes (w.state image.device) size notes
+
+abbrev pub AreImageNotes : {S D : Type 0} → Calls S D → List ℕ → SectorSize → Notes → Type 0
+AreImageNotes w path size notes = (notes.new ≡ notes.old) ⊎ NotesOfImage w path size notes
 
 -- a table was found, but not the two partitions
 pub record LacksPartitions (device : Device) (size : SectorSize) (root : List ℕ) (refusal : PartitionRefusal) : Type 0 where
@@ -181,20 +194,21 @@ IsRootOfImageEnd w path size root failed fault = IsImageUnopened (Refuses w path
 -- ---- as a call sees them: what a proof sees of an opener, a device or a writer, and these before and after
 
 -- a text of the table of a device, or of an image, and the stack text
-abbrev pub Prints : {D W : Type 0} → (D → Device) → D → D → (W → Option (List ℕ)) → CountedRecord W → CountedRecord W → SectorSize → (PartitionTable → List ℕ) → Type 0
-Prints state device device' contents writer writer' size text =
-    PrintsPartitions (state device) (state device') size text (contents writer.inner) (contents writer'.inner)
+abbrev pub Prints : {D W : Type 0} → (D → Device) → D → D → (W → Option (List ℕ)) → CountedRecord W → CountedRecord W → SectorSize → (PartitionTable → List ℕ) → Notes → Type 0
+Prints state device device' contents writer writer' size text notes =
+    PrintsPartitions (state device) (state device') size text (contents writer.inner) (contents writer'.inner) notes
 
-abbrev pub PrintsEntriesOf : {D W : Type 0} → (D → Device) → D → D → (W → Option (List ℕ)) → CountedRecord W → CountedRecord W → SectorSize → Type 0
-PrintsEntriesOf state device device' contents writer writer' size =
-    PrintsEntries (state device) (state device') size (contents writer.inner) (contents writer'.inner)
+abbrev pub PrintsEntriesOf : {D W : Type 0} → (D → Device) → D → D → (W → Option (List ℕ)) → CountedRecord W → CountedRecord W → SectorSize → Notes → Type 0
+PrintsEntriesOf state device device' contents writer writer' size notes =
+    PrintsEntries (state device) (state device') size (contents writer.inner) (contents writer'.inner) notes
 
-abbrev pub PrintsImage : {S D W : Type 0} → Opener S D → (D → Device) → S → S → (W → Option (List ℕ)) → CountedRecord W → CountedRecord W → List ℕ → SectorSize → (PartitionTable → List ℕ) → Type 0
-PrintsImage relations state images images' contents writer writer' path size text = PrintsOfImage (calls relations state images images') path size text (contents writer.inner) (contents writer'.inner)
+abbrev pub PrintsImage : {S D W : Type 0} → Opener S D → (D → Device) → S → S → (W → Option (List ℕ)) → CountedRecord W → CountedRecord W → List ℕ → SectorSize → (PartitionTable → List ℕ) → Notes → Type 0
+PrintsImage relations state images images' contents writer writer' path size text notes =
+    PrintsOfImage (calls relations state images images') path size text (contents writer.inner) (contents writer'.inner) notes
 
-abbrev pub PrintsStackOf : {S D W : Type 0} → Opener S D → (D → Device) → S → S → (W → Option (List ℕ)) → CountedRecord W → CountedRecord W → List ℕ → SectorSize → Type 0
-PrintsStackOf relations state images images' contents writer writer' path size =
-    PrintsEntriesOfImage (calls relations state images images') path size (contents writer.inner) (contents writer'.inner)
+abbrev pub PrintsStackOf : {S D W : Type 0} → Opener S D → (D → Device) → S → S → (W → Option (List ℕ)) → CountedRecord W → CountedRecord W → List ℕ → SectorSize → Notes → Type 0
+PrintsStackOf relations state images images' contents writer writer' path size notes =
+    PrintsEntriesOfImage (calls relations state images images') path size (contents writer.inner) (contents writer'.inner) notes
 
 abbrev pub FailsToPrint : {S D W : Type 0} → Opener S D → (D → Device) → S → S → CountedRecord W → List ℕ → SectorSize → PartitionsFault → Type 0
 FailsToPrint relations state images images' writer' path size = IsOpenedEnd (calls relations state images images') path (λ old new. IsLabelEnd old new size writer'.failed)
@@ -203,11 +217,16 @@ abbrev pub FailsToStack : {S D W : Type 0} → Opener S D → (D → Device) →
 FailsToStack relations state images images' writer' path size = IsOpenedEnd (calls relations state images images') path (λ old new. IsEntriesEnd old new size writer'.failed)
 
 -- the stack text of a root
-abbrev pub SaysRoot : {D W : Type 0} → (D → Device) → D → (W → Option (List ℕ)) → CountedRecord W → CountedRecord W → SectorSize → List ℕ → Type 0
-SaysRoot state device contents writer writer' size root = PrintsRoot (state device) size root (contents writer.inner) (contents writer'.inner)
+abbrev pub SaysRoot : {D W : Type 0} → (D → Device) → D → (W → Option (List ℕ)) → CountedRecord W → CountedRecord W → SectorSize → List ℕ → Notes → Type 0
+SaysRoot state device contents writer writer' size root notes = PrintsRoot (state device) size root (contents writer.inner) (contents writer'.inner) notes
 
-abbrev pub PrintsRootOf : {S D W : Type 0} → Opener S D → (D → Device) → S → S → (W → Option (List ℕ)) → CountedRecord W → CountedRecord W → List ℕ → SectorSize → List ℕ → Type 0
-PrintsRootOf relations state images images' contents writer writer' path size root = PrintsRootOfImage (calls relations state images images') path size root (contents writer.inner) (contents writer'.inner)
+abbrev pub PrintsRootOf : {S D W : Type 0} → Opener S D → (D → Device) → S → S → (W → Option (List ℕ)) → CountedRecord W → CountedRecord W → List ℕ → SectorSize → List ℕ → Notes → Type 0
+PrintsRootOf relations state images images' contents writer writer' path size root notes =
+    PrintsRootOfImage (calls relations state images images') path size root (contents writer.inner) (contents writer'.inner) notes
 
 abbrev pub FailsToFindRoot : {S D W : Type 0} → Opener S D → (D → Device) → S → S → CountedRecord W → List ℕ → SectorSize → List ℕ → PartitionsFault → Type 0
 FailsToFindRoot relations state images images' writer' path size root = IsRootOfImageEnd (calls relations state images images') path size root writer'.failed
+
+-- what was printed among the errors
+abbrev pub NotesImage : {S D : Type 0} → Opener S D → (D → Device) → S → S → List ℕ → SectorSize → Notes → Type 0
+NotesImage relations state images images' path size notes = AreImageNotes (calls relations state images images') path size notes

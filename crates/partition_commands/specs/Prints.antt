@@ -9,12 +9,14 @@ use Rattle.partition_table.specs.Tables.{IsNoSizedTable, IsSizedTable}
 use Rattle.partition_commands.specs.declared.fault.PrintFault.{PrintFault}
 use Rattle.partition_commands.specs.declared.fault.PrintFault.TheVariants.{NoMemory, Table, Write}
 use Rattle.partition_commands.specs.Lines.{listed_text}
+use Rattle.partition_commands.specs.Warnings.{IsNoted, Notes, warning_text}
 
--- the text of the table that was found on the device was written
-pub record PrintsTable (old new : Device) (size : SectorSize) (written now_written : Option (List ℕ)) : Type 0 where
+-- the text of the table that was found on the device was written, and its warnings among the errors
+pub record PrintsTable (old new : Device) (size : SectorSize) (written now_written : Option (List ℕ)) (notes : Notes) : Type 0 where
   pub table : PartitionTable
   pub found : IsSizedTable old new size table
   pub printed : Appends written now_written (listed_text table)
+  pub noted : IsNoted notes (warning_text new table)
 
 -- there is no table, memory ran out, or a line can't be written
 abbrev pub IsPrintEnd : Device → Device → SectorSize → Bool → PrintFault → Type 0
@@ -30,6 +32,6 @@ IsSayEnd failed Write = failed ≡ true
 
 -- ---- as a call sees them
 
-abbrev pub PrintsTableOf : {D W : Type 0} → (D → Device) → D → D → (W → Option (List ℕ)) → CountedRecord W → CountedRecord W → SectorSize → Type 0
-PrintsTableOf state device device' contents writer writer' size =
-    PrintsTable (state device) (state device') size (contents writer.inner) (contents writer'.inner)
+abbrev pub PrintsTableOf : {D W : Type 0} → (D → Device) → D → D → (W → Option (List ℕ)) → CountedRecord W → CountedRecord W → SectorSize → Notes → Type 0
+PrintsTableOf state device device' contents writer writer' size notes =
+    PrintsTable (state device) (state device') size (contents writer.inner) (contents writer'.inner) notes

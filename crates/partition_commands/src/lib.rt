@@ -16,6 +16,7 @@ mod print;
 mod refusal;
 mod root;
 mod root_stack;
+mod warnings;
 
 pub use fault::{PartitionsFault, PrintFault};
 pub use fault_text::{partitions_status, say_partitions_fault};

@@ -21,7 +21,8 @@ use Rattle.manual_pages.specs.Pages.{page_name, page_named}
 use Rattle.manual_pages.specs.Versions.{version_text}
 use Rattle.manual_pages.specs.declared.page.Page.{Page}
 use Rattle.partition_commands.specs.declared.fault.PartitionsFault.{PartitionsFault}
-use Rattle.partition_commands.specs.Invocations.{IsListingEnd, ListsPartitions}
+use Rattle.partition_commands.specs.Invocations.{AreListingNotes, IsListingEnd, ListsPartitions}
+use Rattle.partition_commands.specs.Warnings.{Notes}
 use Rattle.verity_commands.specs.Invocations.{DiffsTrees, IsDiffWordsEnd}
 use Rattle.stack_commands.specs.declared.fault.CommandFault.{CommandFault}
 use Rattle.stack_commands.specs.declared.fault.CommandFault.TheVariants.{Fec, Partitions, Usage}
@@ -178,7 +179,7 @@ Succeeds texts (format f) u = FormatsAt texts u.images u.drawing f u.old.output 
 Succeeds texts (verify v) u = ChecksImage u.images v u.old.output u.new.output
 Succeeds texts (dump d) u = DumpsAt u.images d u.old.output u.new.output
 Succeeds texts (table t) u = PrintsEntry u.images t u.old.output u.new.output
-Succeeds texts (partitions p) u = ListsPartitions u.images p u.old.output u.new.output
+Succeeds texts (partitions p) u = ListsPartitions u.images p u.old.output u.new.output u.notes
 Succeeds texts (diff d) u = DiffsTrees u.images d u.old.output u.new.output
 Succeeds texts (repair r) u = RepairsImage u.images r u.old.output u.new.output
 Succeeds texts (format_tree f) u = FormatsSaidTree texts u.images u.drawing f u.old.output u.new.output
@@ -219,3 +220,8 @@ FailsCommand texts (format_pin f) u failed fault = IsVerityEnd (IsPinFormatEnd t
 FailsCommand texts (verify_pin v) u failed fault = IsVerityEnd (IsPinVerifyEnd u.images v u.old.output u.new.output failed) fault
 FailsCommand texts (manual command) u failed fault = IsPageEnd command u.old.output u.new.output failed fault × (u.images.new ≡ u.images.old)
 FailsCommand texts version u failed fault = IsReplyUnwritten failed fault × (u.images.new ≡ u.images.old)
+
+-- what each prints among the errors while it runs: the warnings of a table that was found, or nothing
+abbrev pub AreCommandNotes : {S D : Type 0} → Calls S D → InvocationRecord → Notes → Type 0
+AreCommandNotes w (partitions p) notes = AreListingNotes w p notes
+AreCommandNotes w invocation notes = notes.new ≡ notes.old

@@ -8,6 +8,7 @@ returns-clause-ok g c =
     let new = g.W.Write.contents c.put.new.self.inner in
     record {
       table = c.in_ok-table.table;
-      found = c.in_ok-table.ensures.ok;
+      found = c.in_ok-table.ensures.ok.found;
       printed = subst (λ (line : List ℕ). Appends old new line) (c.as_bytes.ensures.value ∙ c.in_ok-line.ensures) c.in_ok-put.ensures.writes.ok;
+      noted = c.in_ok-table.ensures.ok.noted;
     }

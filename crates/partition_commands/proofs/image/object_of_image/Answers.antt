@@ -13,3 +13,6 @@ returns-clause-err g c =
     IfErr-weaker c.list_object.result _ _
     (λ fault ended. inr (record { image = c.in_ok-image.image; device' = c.list_object.new.device; opened = c.in_ok-image.ensures.ok; ended = ended }))
     c.list_object.ensures.err
+
+pub returns-clause-noted : goal.returns-clause-noted
+returns-clause-noted g c = inr (record { image = c.in_ok-image.image; opened = c.in_ok-image.ensures.ok; noted = c.list_object.ensures.noted })

@@ -13,3 +13,6 @@ returns-clause-err g c =
     IfErr-weaker c.list_entries.result _ _
     (λ fault ended. inr (record { image = c.in_ok-image.image; device' = c.list_entries.new.device; opened = c.in_ok-image.ensures.ok; ended = ended }))
     c.list_entries.ensures.err
+
+pub returns-clause-noted : goal.returns-clause-noted
+returns-clause-noted g c = inr (record { image = c.in_ok-image.image; opened = c.in_ok-image.ensures.ok; noted = c.list_entries.ensures.noted })

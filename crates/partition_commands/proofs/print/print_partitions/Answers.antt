@@ -6,7 +6,8 @@ returns-clause-ok g c =
     on_ok-as c.say_table.result
     (λ printed. record {
       table = c.in_ok-table.table;
-      found = c.in_ok-table.ensures.ok;
+      found = c.in_ok-table.ensures.ok.found;
       printed = printed;
+      noted = c.in_ok-table.ensures.ok.noted;
     })
     c.say_table.ensures.ok

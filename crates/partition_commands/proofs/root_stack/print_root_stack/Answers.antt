@@ -10,15 +10,15 @@ use Rattle.partition_commands.proofs.root_stack.print_root_stack.Goals as goal
 pub returns-in_err-table-clause-err : goal.returns-in_err-table-clause-err
 returns-in_err-table-clause-err g c =
     err-from c.from_residual.result _ (Refused (Table c.in_err-table.field-0.0)) c.from_residual.ensures.1
-    (inl (record { fault = c.in_err-table.field-0.0; read_device = g.D.BlockDev.state c.find_table.new.device; none = c.in_err-table.ensures.err; is = refl }))
+    (inl (record { fault = c.in_err-table.field-0.0; read_device = g.D.BlockDev.state c.find_noted.new.device; none = c.in_err-table.ensures.err; is = refl }))
 
 pub returns-in_err-both-clause-err : goal.returns-in_err-both-clause-err
 returns-in_err-both-clause-err g c =
     err-from c.from_residual-in_err-both.result _ (Refused c.in_err-both.field-0.0) c.from_residual-in_err-both.ensures.1
     (inr (inl (record {
       table = c.in_ok-table.table;
-      read_device = g.D.BlockDev.state c.find_table.new.device;
-      found = c.in_ok-table.ensures.ok;
+      read_device = g.D.BlockDev.state c.find_noted.new.device;
+      found = c.in_ok-table.ensures.ok.found;
       refused = ap (λ (ps : List Partition). image_partitions ps c.args.root.now) (sym c.deref.ensures.value) ∙ sym c.in_err-both.ensures;
     })))
 
@@ -29,8 +29,8 @@ returns-in_err-superblock-clause-err g c =
       g.D.BlockDev.state c.in_err-superblock.ensures.err.0,
       record {
         table = c.in_ok-table.table;
-        read_device = g.D.BlockDev.state c.find_table.new.device;
-        found = c.in_ok-table.ensures.ok;
+        read_device = g.D.BlockDev.state c.find_noted.new.device;
+        found = c.in_ok-table.ensures.ok.found;
         both = c.in_ok-both.both;
         both_is = ap (λ (ps : List Partition). image_partitions ps c.args.root.now) (sym c.deref.ensures.value) ∙ sym c.in_ok-both.ensures;
         ends = c.in_err-superblock.ensures.err.1;
@@ -42,13 +42,14 @@ returns-clause-ok g c =
     on_ok_weaker c.say_root_stack.result
     (λ printed. record {
       table = c.in_ok-table.table;
-      read_device = g.D.BlockDev.state c.find_table.new.device;
-      found = c.in_ok-table.ensures.ok;
+      read_device = g.D.BlockDev.state c.find_noted.new.device;
+      found = c.in_ok-table.ensures.ok.found;
       both = c.in_ok-both.both;
       both_is = ap (λ (ps : List Partition). image_partitions ps c.args.root.now) (sym c.deref.ensures.value) ∙ sym c.in_ok-both.ensures;
       super = c.in_ok-superblock.superblock;
       fitting = c.in_ok-superblock.ensures.ok;
       printed = printed;
+      noted = c.in_ok-table.ensures.ok.noted;
     })
     c.say_root_stack.ensures.ok
 

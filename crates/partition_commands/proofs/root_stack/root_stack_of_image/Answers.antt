@@ -13,3 +13,6 @@ returns-clause-err g c =
     IfErr-weaker c.print_root_stack.result _ _
     (λ fault ended. inr (record { image = c.in_ok-image.image; opened = c.in_ok-image.ensures.ok; ended = ended }))
     c.print_root_stack.ensures.err
+
+pub returns-clause-noted : goal.returns-clause-noted
+returns-clause-noted g c = inr (record { image = c.in_ok-image.image; opened = c.in_ok-image.ensures.ok; noted = c.print_root_stack.ensures.noted })

@@ -10,6 +10,8 @@ returns-then-output_is_data g c = inr (record {
   fault = c.in-Err.fault;
   before = _;
   unwritten = c.run.new.writer.failed;
+  notes = record { old = g.E.Write.contents c.args.errors.now.inner; new = g.E.Write.contents c.run.new.errors.inner; failed = c.run.new.errors.failed };
+  begun = refl;
   fails = c.in-Err.ensures.err;
   kept = λ is. is;
   told_so = told-elsewhere _ c.in-Err.fault _ _ _ _ (sym c.output_is_data.ensures ∙ c.if-output_is_data.true) c.explain.ensures c.end.ensures.told;
@@ -20,6 +22,8 @@ returns-else-output_is_data g c = inr (record {
   fault = c.in-Err.fault;
   before = _;
   unwritten = c.run.new.writer.failed;
+  notes = record { old = g.E.Write.contents c.args.errors.now.inner; new = g.E.Write.contents c.run.new.errors.inner; failed = c.run.new.errors.failed };
+  begun = refl;
   fails = c.in-Err.ensures.err;
   kept = c.report_end.ensures.failed;
   told_so = told-here _ c.in-Err.fault _ _ _ _ (sym c.output_is_data.ensures ∙ c.if-output_is_data.false) c.report_end.ensures.told (record {
