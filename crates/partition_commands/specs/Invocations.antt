@@ -9,7 +9,7 @@ use Rattle.image_files.specs.Opener.{Calls, Opener, calls}
 use Rattle.partition_table.specs.declared.sector_size.SectorSize.{SectorSize}
 use Rattle.partition_table.specs.declared.sector_size.SectorSize.TheVariants.{Bytes4096, Bytes512}
 use Rattle.partition_commands.specs.declared.fault.PartitionsFault.{PartitionsFault}
-use Rattle.partition_commands.specs.Commands.{AreImageNotes, IsEntriesEnd, IsOpenedEnd, IsRootOfImageEnd, IsLabelEnd, PrintsEntriesOfImage, PrintsOfImage, PrintsRootOfImage}
+use Rattle.partition_commands.specs.Commands.{AreImageNotes, IsEntriesEnd, IsLinesEnd, IsObjectEnd, IsOpenedEnd, IsRootOfImageEnd, PrintsEntriesOfImage, PrintsOfImage, PrintsRootOfImage}
 use Rattle.partition_commands.specs.Lines.{listed_text}
 use Rattle.partition_commands.specs.Objects.{object_text}
 use Rattle.partition_commands.specs.Warnings.{Notes}
@@ -25,8 +25,8 @@ PrintsForm w path size stack old new notes = PrintsEntriesOfImage w path size ol
 PrintsForm w path size (root found) old new notes = PrintsRootOfImage w path size found old new notes
 
 abbrev pub IsFormEnd : {S D : Type 0} → Calls S D → List ℕ → SectorSize → FormRecord → Bool → PartitionsFault → Type 0
-IsFormEnd w path size lines failed fault = IsOpenedEnd w path (λ old new. IsLabelEnd old new size failed) fault
-IsFormEnd w path size object failed fault = IsOpenedEnd w path (λ old new. IsLabelEnd old new size failed) fault
+IsFormEnd w path size lines failed fault = IsOpenedEnd w path (λ old new. IsLinesEnd old new size failed) fault
+IsFormEnd w path size object failed fault = IsOpenedEnd w path (λ old new. IsObjectEnd old new size failed) fault
 IsFormEnd w path size stack failed fault = IsOpenedEnd w path (λ old new. IsEntriesEnd old new size failed) fault
 IsFormEnd w path size (root found) failed fault = IsRootOfImageEnd w path size found failed fault
 
@@ -36,9 +36,9 @@ ListsPartitions w p old new notes = PrintsForm w p.image (size_of p.sector_size)
 abbrev pub IsListingEnd : {S D : Type 0} → Calls S D → PartitionsRecord → Bool → PartitionsFault → Type 0
 IsListingEnd w p failed fault = IsFormEnd w p.image (size_of p.sector_size) p.form failed fault
 
--- what it prints among the errors, also if it ends early
-abbrev pub AreListingNotes : {S D : Type 0} → Calls S D → PartitionsRecord → Notes → Type 0
-AreListingNotes w p notes = AreImageNotes w p.image (size_of p.sector_size) notes
+-- what it prints among the errors if it ends so
+abbrev pub AreListingNotes : {S D : Type 0} → Calls S D → PartitionsRecord → Notes → PartitionsFault → Type 0
+AreListingNotes w p notes fault = AreImageNotes w p.image (size_of p.sector_size) notes fault
 
 -- ---- as a call sees them, by the program's own words
 
@@ -49,5 +49,5 @@ ListsByWords relations state images images' contents writer writer' words notes 
 abbrev pub FailsToList : {S D W : Type 0} → Opener S D → (D → Device) → S → S → CountedRecord W → PartitionsWords → PartitionsFault → Type 0
 FailsToList relations state images images' writer' words = IsListingEnd (calls relations state images images') (partitions_record words) writer'.failed
 
-abbrev pub NotesByWords : {S D : Type 0} → Opener S D → (D → Device) → S → S → PartitionsWords → Notes → Type 0
+abbrev pub NotesByWords : {S D : Type 0} → Opener S D → (D → Device) → S → S → PartitionsWords → Notes → PartitionsFault → Type 0
 NotesByWords relations state images images' words notes = AreListingNotes (calls relations state images images') (partitions_record words) notes

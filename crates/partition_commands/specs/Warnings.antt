@@ -88,6 +88,6 @@ pub record FindsNoted (old new : Device) (size : SectorSize) (notes : Notes) (ta
   pub found : IsSizedTable old new size table
   pub noted : IsNoted notes (warning_text new table)
 
--- nothing was printed, or the warnings of a table that was found
-abbrev pub AreNotes : Device → SectorSize → Notes → Type 0
-AreNotes device size notes = (notes.new ≡ notes.old) ⊎ ((after : Device) × (table : PartitionTable) × FindsNoted device after size notes table)
+-- nothing was printed, since there was no table yet, or the warnings of a table that was found
+abbrev pub AreNotes : Type 0 → Device → SectorSize → Notes → Type 0
+AreNotes tableless device size notes = (tableless × (notes.new ≡ notes.old)) ⊎ ((after : Device) × (table : PartitionTable) × FindsNoted device after size notes table)

@@ -1,10 +1,10 @@
 //! The commands `partitions`, `partitions --json` and `partitions --stack`, of an image.
 ghost use Rattle.std.specs.Prelude.{IfErr, OnOk};
-ghost use Rattle.partition_commands.specs.Commands.{FailsToPrint, FailsToStack, IsEntriesEnd, IsSayFault, IsLabelEnd, NotesImage, Prints, PrintsEntriesOf, PrintsImage, PrintsStackOf};
+ghost use Rattle.partition_commands.specs.Commands.{EndsNoted, FailsToPrint, FailsToPrintObject, FailsToStack, IsEntriesEnd, IsLinesEnd, IsObjectEnd, IsSayFault, NotesImage, Prints, PrintsEntriesOf, PrintsImage, PrintsStackOf};
 ghost use Rattle.partition_commands.specs.Lines.{SaysText, listed_text};
 ghost use Rattle.partition_commands.specs.Objects.{object_text};
 ghost use Rattle.partition_commands.specs.Stacks.{SaysEntry, stack_text};
-ghost use Rattle.partition_commands.specs.Warnings.{AreNotes, notes_of};
+ghost use Rattle.partition_commands.specs.Warnings.{notes_of};
 
 use crate::entries::say_linear_entry;
 use crate::object::table_line;
@@ -31,7 +31,7 @@ pub fn partitions_of_image<'a, I: Images, W: Write, E: Write>(
 ) -> Result<(), PartitionsFault<'a>>
     ensures ok { OnOk result (PrintsImage I.relations I.Dev.state images.old images.new W.contents writer.old writer.new path.now size listed_text (notes_of E.contents errors.old errors.new)) }
     ensures err { IfErr result (FailsToPrint I.relations I.Dev.state images.old images.new writer.new path.now size) }
-    ensures noted { NotesImage I.relations I.Dev.state images.old images.new path.now size (notes_of E.contents errors.old errors.new) }
+    ensures noted { IfErr result (NotesImage I.relations I.Dev.state images.old images.new path.now size (notes_of E.contents errors.old errors.new)) }
 {
     let mut image = open_image(images, path, false)?;
     list_partitions(alloc, &mut image.device, size, writer, errors)
@@ -46,8 +46,8 @@ fn list_partitions<'a, D: BlockDev, W: Write, E: Write>(
     errors: &mut Counted<E>,
 ) -> Result<(), PartitionsFault<'a>>
     ensures ok { OnOk result (Prints D.state device.old device.new W.contents writer.old writer.new size listed_text (notes_of E.contents errors.old errors.new)) }
-    ensures err { IfErr result (IsLabelEnd (D.state device.old) (D.state device.new) size writer.new.failed) }
-    ensures noted { AreNotes (D.state device.old) size (notes_of E.contents errors.old errors.new) }
+    ensures err { IfErr result (IsLinesEnd (D.state device.old) (D.state device.new) size writer.new.failed) }
+    ensures noted { IfErr result (EndsNoted (D.state device.old) size (notes_of E.contents errors.old errors.new)) }
 {
     match print_partitions(alloc, device, size, writer, errors) {
         Ok(()) => Ok(()),
@@ -67,8 +67,8 @@ pub fn object_of_image<'a, I: Images, W: Write, E: Write>(
     errors: &mut Counted<E>,
 ) -> Result<(), PartitionsFault<'a>>
     ensures ok { OnOk result (PrintsImage I.relations I.Dev.state images.old images.new W.contents writer.old writer.new path.now size object_text (notes_of E.contents errors.old errors.new)) }
-    ensures err { IfErr result (FailsToPrint I.relations I.Dev.state images.old images.new writer.new path.now size) }
-    ensures noted { NotesImage I.relations I.Dev.state images.old images.new path.now size (notes_of E.contents errors.old errors.new) }
+    ensures err { IfErr result (FailsToPrintObject I.relations I.Dev.state images.old images.new writer.new path.now size) }
+    ensures noted { IfErr result (NotesImage I.relations I.Dev.state images.old images.new path.now size (notes_of E.contents errors.old errors.new)) }
 {
     let mut image = open_image(images, path, false)?;
     list_object(alloc, &mut image.device, size, writer, errors)
@@ -83,8 +83,8 @@ fn list_object<'a, D: BlockDev, W: Write, E: Write>(
     errors: &mut Counted<E>,
 ) -> Result<(), PartitionsFault<'a>>
     ensures ok { OnOk result (Prints D.state device.old device.new W.contents writer.old writer.new size object_text (notes_of E.contents errors.old errors.new)) }
-    ensures err { IfErr result (IsLabelEnd (D.state device.old) (D.state device.new) size writer.new.failed) }
-    ensures noted { AreNotes (D.state device.old) size (notes_of E.contents errors.old errors.new) }
+    ensures err { IfErr result (IsObjectEnd (D.state device.old) (D.state device.new) size writer.new.failed) }
+    ensures noted { IfErr result (EndsNoted (D.state device.old) size (notes_of E.contents errors.old errors.new)) }
 {
     let table = find_noted(alloc, device, size, errors)?;
     let line = table_line(alloc, &table)?;
@@ -103,7 +103,7 @@ pub fn stack_of_image<'a, I: Images, W: Write, E: Write>(
 ) -> Result<(), PartitionsFault<'a>>
     ensures ok { OnOk result (PrintsStackOf I.relations I.Dev.state images.old images.new W.contents writer.old writer.new path.now size (notes_of E.contents errors.old errors.new)) }
     ensures err { IfErr result (FailsToStack I.relations I.Dev.state images.old images.new writer.new path.now size) }
-    ensures noted { NotesImage I.relations I.Dev.state images.old images.new path.now size (notes_of E.contents errors.old errors.new) }
+    ensures noted { IfErr result (NotesImage I.relations I.Dev.state images.old images.new path.now size (notes_of E.contents errors.old errors.new)) }
 {
     let mut image = open_image(images, path, false)?;
     list_entries(alloc, &mut image.device, size, writer, errors)
@@ -119,7 +119,7 @@ fn list_entries<'a, D: BlockDev, W: Write, E: Write>(
 ) -> Result<(), PartitionsFault<'a>>
     ensures ok { OnOk result (PrintsEntriesOf D.state device.old device.new W.contents writer.old writer.new size (notes_of E.contents errors.old errors.new)) }
     ensures err { IfErr result (IsEntriesEnd (D.state device.old) (D.state device.new) size writer.new.failed) }
-    ensures noted { AreNotes (D.state device.old) size (notes_of E.contents errors.old errors.new) }
+    ensures noted { IfErr result (EndsNoted (D.state device.old) size (notes_of E.contents errors.old errors.new)) }
 {
     let table = find_noted(alloc, device, size, errors)?;
     if !are_within(device, table.size, &table.partitions) {

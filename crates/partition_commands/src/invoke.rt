@@ -36,7 +36,7 @@ pub fn invoke_partitions<'a, I: Images, W: Write, E: Write>(
 ) -> Result<(), PartitionsFault<'a>>
     ensures ok { OnOk result (ListsByWords I.relations I.Dev.state images.old images.new W.contents writer.old writer.new words.entry (notes_of E.contents errors.old errors.new)) }
     ensures err { IfErr result (FailsToList I.relations I.Dev.state images.old images.new writer.new words.entry) }
-    ensures noted { NotesByWords I.relations I.Dev.state images.old images.new words.entry (notes_of E.contents errors.old errors.new) }
+    ensures noted { IfErr result (NotesByWords I.relations I.Dev.state images.old images.new words.entry (notes_of E.contents errors.old errors.new)) }
 {
     let PartitionsWords {
         image,

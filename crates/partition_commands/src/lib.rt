@@ -1,6 +1,7 @@
 //! The partitions of an image: printed, and the stacks over them.
 #![tactic(auto)]
 
+mod characters;
 mod entries;
 mod fault;
 mod fault_text;

@@ -3,8 +3,8 @@ ghost use Rattle.std.specs.Prelude.{IfErr, OnOk};
 ghost use Rattle.partition_table.specs.Reads.{IsReadAtMost};
 ghost use Rattle.partition_table.specs.Tables.{found_reads};
 ghost use Rattle.partition_commands.specs.Lines.{SaysTable, SaysText, partition_lines};
-ghost use Rattle.partition_commands.specs.Prints.{IsPrintEnd, IsSayEnd, PrintsTableOf};
-ghost use Rattle.partition_commands.specs.Warnings.{AreNotes, notes_of};
+ghost use Rattle.partition_commands.specs.Prints.{FailsNoted, IsPrintEnd, IsSayEnd, PrintsTableOf};
+ghost use Rattle.partition_commands.specs.Warnings.{notes_of};
 
 use crate::PrintFault;
 use crate::line::{say_partition, say_source};
@@ -27,7 +27,7 @@ pub fn print_partitions<D: BlockDev, W: Write, E: Write>(
     ensures read { IsReadAtMost (D.state device.old) found_reads (D.state device.new) }
     ensures ok { OnOk result (PrintsTableOf D.state device.old device.new W.contents writer.old writer.new size (notes_of E.contents errors.old errors.new)) }
     ensures err { IfErr result (IsPrintEnd (D.state device.old) (D.state device.new) size writer.new.failed) }
-    ensures noted { AreNotes (D.state device.old) size (notes_of E.contents errors.old errors.new) }
+    ensures noted { IfErr result (FailsNoted (D.state device.old) size (notes_of E.contents errors.old errors.new)) }
 {
     let table = find_noted(alloc, device, size, errors)?;
     say_table(alloc, writer, &table)

@@ -2,10 +2,10 @@
 ghost use Rattle.std.specs.Prelude.{◌≡◌, ℕ, List, IfErr, IfOk, OnOk};
 ghost use Rattle.device_adapters.specs.Windows.{windowed};
 ghost use Rattle.verity_format.specs.Verifying.{IsReadFrom};
-ghost use Rattle.partition_commands.specs.Commands.{FailsToFindRoot, IsFitting, IsPairEnd, IsRootTextEnd, IsSayFault, IsPartSuperEnd, NotesImage, PrintsRootOf, SaysRoot};
+ghost use Rattle.partition_commands.specs.Commands.{EndsNoted, FailsToFindRoot, IsFitting, IsPairEnd, IsPartSuperEnd, IsRootSayFault, IsRootTextEnd, NotesImage, PrintsRootOf, SaysRoot};
 ghost use Rattle.partition_commands.specs.Lines.{SaysText};
 ghost use Rattle.partition_commands.specs.RootStacks.{SaysRootStack, is_unfit, root_entry};
-ghost use Rattle.partition_commands.specs.Warnings.{AreNotes, notes_of};
+ghost use Rattle.partition_commands.specs.Warnings.{notes_of};
 
 use crate::entries::{say_entry, say_linear_entry};
 use crate::parts::is_within;
@@ -37,7 +37,7 @@ pub fn root_stack_of_image<'a, I: Images, W: Write, E: Write>(
 ) -> Result<(), PartitionsFault<'a>>
     ensures ok { OnOk result (PrintsRootOf I.relations I.Dev.state images.old images.new W.contents writer.old writer.new path.now size root.now (notes_of E.contents errors.old errors.new)) }
     ensures err { IfErr result (FailsToFindRoot I.relations I.Dev.state images.old images.new writer.new path.now size root.now) }
-    ensures noted { NotesImage I.relations I.Dev.state images.old images.new path.now size (notes_of E.contents errors.old errors.new) }
+    ensures noted { IfErr result (NotesImage I.relations I.Dev.state images.old images.new path.now size (notes_of E.contents errors.old errors.new)) }
 {
     let image = open_image(images, path, false)?;
     print_root_stack(alloc, image.device, size, root, writer, errors)
@@ -54,7 +54,7 @@ fn print_root_stack<'a, D: BlockDev + Drop, W: Write, E: Write>(
 ) -> Result<(), PartitionsFault<'a>>
     ensures ok { OnOk result (SaysRoot D.state device W.contents writer.old writer.new size root.now (notes_of E.contents errors.old errors.new)) }
     ensures err { IfErr result (IsRootTextEnd size root.now writer.new.failed (D.state device)) }
-    ensures noted { AreNotes (D.state device) size (notes_of E.contents errors.old errors.new) }
+    ensures noted { IfErr result (EndsNoted (D.state device) size (notes_of E.contents errors.old errors.new)) }
 {
     let mut device = device;
     let table = find_noted(alloc, &mut device, size, errors)?;
@@ -115,7 +115,7 @@ fn say_root_stack<'a, W: Write>(
     root: &Digest,
 ) -> Result<(), PartitionsFault<'a>>
     ensures ok { OnOk result (SaysRootStack W.contents writer.old writer.new size both.now superblock.now root.now) }
-    ensures err { IfErr result (IsSayFault writer.new.failed) }
+    ensures err { IfErr result (IsRootSayFault superblock.now root.now writer.new.failed) }
 {
     say_linear_entry(writer, b"data", part_of(size, &both.data))?;
     say_linear_entry(writer, b"hash", part_of(size, &both.verity))?;
@@ -129,7 +129,7 @@ fn say_root_entry<'a, W: Write>(
     root: &Digest,
 ) -> Result<(), PartitionsFault<'a>>
     ensures ok { OnOk result (SaysText W.contents writer.old writer.new (root_entry superblock.now root.now)) }
-    ensures err { IfErr result (IsSayFault writer.new.failed) }
+    ensures err { IfErr result (IsRootSayFault superblock.now root.now writer.new.failed) }
 {
     let line = table_line(
         alloc,

@@ -1,9 +1,9 @@
 //! What is unusual of a table, printed among the errors.
-ghost use Rattle.std.specs.Prelude.{◌≡◌, IfErr, IfOk};
+ghost use Rattle.std.specs.Prelude.{◌≡◌, IfErr, IfOk, OnErr};
 ghost use Rattle.partition_table.specs.Reads.{IsReadAtMost};
 ghost use Rattle.partition_table.specs.Tables.{IsNoSizedTable, found_reads};
 ghost use Rattle.program_io.specs.Counted.{Writes};
-ghost use Rattle.partition_commands.specs.Warnings.{AreNotes, FindsNoted, backup_warnings, copies_warnings, differ_warning, end_line, end_warning, end_warnings, mbr_warning, notes_of, primary_warnings, sector_warning, warning_if, warning_line, warning_text};
+ghost use Rattle.partition_commands.specs.Warnings.{FindsNoted, backup_warnings, copies_warnings, differ_warning, end_line, end_warning, end_warnings, mbr_warning, notes_of, primary_warnings, sector_warning, warning_if, warning_line, warning_text};
 
 use crate::part_of;
 use crate::parts::is_within;
@@ -30,7 +30,7 @@ pub(crate) fn find_noted<D: BlockDev, E: Write>(
     ensures read { IsReadAtMost (D.state device.old) found_reads (D.state device.new) }
     ensures ok { IfOk result (FindsNoted (D.state device.old) (D.state device.new) size (notes_of E.contents errors.old errors.new)) }
     ensures err { IfErr result (IsNoSizedTable (D.state device.old) (D.state device.new) size) }
-    ensures noted { AreNotes (D.state device.old) size (notes_of E.contents errors.old errors.new) }
+    ensures unnoted { OnErr result (E.contents errors.new.inner ≡ E.contents errors.old.inner) }
 {
     let table = find_table(alloc, device, size)?;
     let _said = say_warnings(errors, device, &table);

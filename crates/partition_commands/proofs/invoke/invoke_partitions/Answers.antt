@@ -14,3 +14,12 @@ returns-in-Object-clause-ok g c = rw c.in-Object.is (rw c.size_of-size.ensures a
 
 pub returns-in-Object-clause-err : goal.returns-in-Object-clause-err
 returns-in-Object-clause-err g c = rw c.in-Object.is (rw c.size_of-size.ensures at c.object_of_image.ensures.err)
+
+pub returns-in-Lines-clause-noted : goal.returns-in-Lines-clause-noted
+returns-in-Lines-clause-noted g c = rw c.size_of-size.ensures at c.partitions_of_image.ensures.noted
+
+pub returns-in-Object-clause-noted : goal.returns-in-Object-clause-noted
+returns-in-Object-clause-noted g c = rw c.size_of-size.ensures at c.object_of_image.ensures.noted
+
+pub returns-in-Stack-clause-noted : goal.returns-in-Stack-clause-noted
+returns-in-Stack-clause-noted g c = rw c.size_of-size.ensures at c.stack_of_image.ensures.noted

@@ -1,4 +1,3 @@
-use Rattle.std.proofs.Common.{inr}
 use Rattle.partition_commands.proofs.NoteLemmas.{done-or-failed}
 use Rattle.partition_commands.proofs.warnings.find_noted.Goals as goal
 
@@ -7,13 +6,3 @@ returns-clause-ok g c = record {
   found = c.in_ok-table.ensures.ok;
   noted = done-or-failed _ _ c.say_warnings-said.result c.say_warnings-said.ensures;
 }
-
-pub returns-clause-noted : goal.returns-clause-noted
-returns-clause-noted g c = inr (
-  g.D.BlockDev.state c.find_table.new.device,
-  c.in_ok-table.table,
-  record {
-    found = c.in_ok-table.ensures.ok;
-    noted = done-or-failed _ _ c.say_warnings-said.result c.say_warnings-said.ensures;
-  },
-)
