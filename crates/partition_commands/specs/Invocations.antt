@@ -33,12 +33,9 @@ IsFormEnd w path size (root found) failed fault = IsRootOfImageEnd w path size f
 abbrev pub ListsPartitions : {S D : Type 0} → Calls S D → PartitionsRecord → Option (List ℕ) → Option (List ℕ) → Notes → Type 0
 ListsPartitions w p old new notes = PrintsForm w p.image (size_of p.sector_size) p.form old new notes
 
-abbrev pub IsListingEnd : {S D : Type 0} → Calls S D → PartitionsRecord → Bool → PartitionsFault → Type 0
-IsListingEnd w p failed fault = IsFormEnd w p.image (size_of p.sector_size) p.form failed fault
-
--- what it prints among the errors if it ends so
-abbrev pub AreListingNotes : {S D : Type 0} → Calls S D → PartitionsRecord → Notes → PartitionsFault → Type 0
-AreListingNotes w p notes fault = AreImageNotes w p.image (size_of p.sector_size) notes fault
+-- why it ends early, and what it printed among the errors before
+abbrev pub IsListingEnd : {S D : Type 0} → Calls S D → PartitionsRecord → Bool → Notes → PartitionsFault → Type 0
+IsListingEnd w p failed notes fault = IsFormEnd w p.image (size_of p.sector_size) p.form failed fault × AreImageNotes w p.image (size_of p.sector_size) notes fault
 
 -- ---- as a call sees them, by the program's own words
 
@@ -46,8 +43,5 @@ abbrev pub ListsByWords : {S D W : Type 0} → Opener S D → (D → Device) →
 ListsByWords relations state images images' contents writer writer' words notes =
     ListsPartitions (calls relations state images images') (partitions_record words) (contents writer.inner) (contents writer'.inner) notes
 
-abbrev pub FailsToList : {S D W : Type 0} → Opener S D → (D → Device) → S → S → CountedRecord W → PartitionsWords → PartitionsFault → Type 0
-FailsToList relations state images images' writer' words = IsListingEnd (calls relations state images images') (partitions_record words) writer'.failed
-
-abbrev pub NotesByWords : {S D : Type 0} → Opener S D → (D → Device) → S → S → PartitionsWords → Notes → PartitionsFault → Type 0
-NotesByWords relations state images images' words notes = AreListingNotes (calls relations state images images') (partitions_record words) notes
+abbrev pub FailsToList : {S D W : Type 0} → Opener S D → (D → Device) → S → S → CountedRecord W → PartitionsWords → Notes → PartitionsFault → Type 0
+FailsToList relations state images images' writer' words notes = IsListingEnd (calls relations state images images') (partitions_record words) writer'.failed notes

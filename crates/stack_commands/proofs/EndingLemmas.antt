@@ -1,5 +1,6 @@
 -- Commands that end early.
-use Rattle.std.proofs.Common.{◌≡◌, ℕ, Bool, true, false, List, Option, refl, sym, subst}
+use Rattle.std.proofs.Common.{◌≡◌, ◌∙◌, ℕ, Bool, true, false, List, Option, ap, refl, sym, subst}
+use Rattle.program_io.specs.Counted.{CountedRecord}
 use Rattle.stack_commands.specs.declared.fault.CommandFault.{CommandFault}
 use Rattle.stack_commands.specs.declared.fault.CommandFault.TheVariants.{Usage, NoMemory, Stack, Request, Io, Recovering, Stream, Verity, Fec, Partitions, Trees, Session, Service}
 use Rattle.verity_commands.proofs.EndingLemmas.{quiet as verity-quiet}
@@ -30,3 +31,11 @@ pub told-elsewhere : (cat : Bool) (fault : CommandFault) (output before : Option
     → (is_usage fault ≡ false → before ≡ told.old) → IsEndOr told.errors_failed fault before told.new status → IsTold cat fault output output told status
 told-elsewhere cat fault output before told status is unsaid ends =
     subst (λ (b : Bool). IsTold b fault output output told status) (sym is) (refl, record { before = before; unsaid = unsaid; ends = ends })
+
+-- nothing was printed
+pub same-contents : {T : Type 0} (contents : T → Option (List ℕ)) (old new : CountedRecord T) → new ≡ old → contents new.inner ≡ contents old.inner
+same-contents {T} contents old new is = ap (λ (c : CountedRecord T). contents c.inner) is
+
+-- a writer that had failed still has
+pub same-failed : {T : Type 0} (old new : CountedRecord T) → new ≡ old → old.failed ≡ true → new.failed ≡ true
+same-failed {T} old new is failed = ap (λ (c : CountedRecord T). c.failed) is ∙ failed

@@ -21,7 +21,7 @@ use Rattle.manual_pages.specs.Pages.{page_name, page_named}
 use Rattle.manual_pages.specs.Versions.{version_text}
 use Rattle.manual_pages.specs.declared.page.Page.{Page}
 use Rattle.partition_commands.specs.declared.fault.PartitionsFault.{PartitionsFault}
-use Rattle.partition_commands.specs.Invocations.{AreListingNotes, IsListingEnd, ListsPartitions}
+use Rattle.partition_commands.specs.Invocations.{IsListingEnd, ListsPartitions}
 use Rattle.partition_commands.specs.Warnings.{Notes}
 use Rattle.verity_commands.specs.Invocations.{DiffsTrees, IsDiffWordsEnd}
 use Rattle.stack_commands.specs.declared.fault.CommandFault.{CommandFault}
@@ -208,7 +208,7 @@ FailsCommand texts (format f) u failed fault = IsVerityEnd (IsSaidFormatEnd text
 FailsCommand texts (verify v) u failed fault = IsCheckCommandEnd u.images v u.old.output u.new.output failed fault
 FailsCommand texts (dump d) u failed fault = IsVerityEnd (IsDumpEnd u.images d u.old.output u.new.output failed) fault
 FailsCommand texts (table t) u failed fault = IsVerityEnd (IsTableEnd u.images t u.old.output u.new.output failed) fault
-FailsCommand texts (partitions p) u failed fault = IsPartitionsEnd (IsListingEnd u.images p failed) fault
+FailsCommand texts (partitions p) u failed fault = IsPartitionsEnd (IsListingEnd u.images p failed u.notes) fault
 FailsCommand texts (diff d) u failed fault = IsTreesEnd (IsDiffWordsEnd u.images d u.old.output u.new.output failed) fault
 FailsCommand texts (repair r) u failed fault = IsRepairWordsEnd u.images r u.old.output u.new.output failed fault
 FailsCommand texts (format_tree f) u failed fault = IsVerityEnd (IsSaidFormatTreeEnd texts u.images u.drawing f u.old.output u.new.output failed) fault
@@ -221,7 +221,7 @@ FailsCommand texts (verify_pin v) u failed fault = IsVerityEnd (IsPinVerifyEnd u
 FailsCommand texts (manual command) u failed fault = IsPageEnd command u.old.output u.new.output failed fault × (u.images.new ≡ u.images.old)
 FailsCommand texts version u failed fault = IsReplyUnwritten failed fault × (u.images.new ≡ u.images.old)
 
--- what each prints among the errors while it runs: the warnings of a table that was found, or nothing
-abbrev pub AreCommandNotes : {S D : Type 0} → Calls S D → InvocationRecord → Notes → Type 0
-AreCommandNotes w (partitions p) notes = AreListingNotes w p notes
-AreCommandNotes w invocation notes = notes.new ≡ notes.old
+-- while it runs, a command prints nothing among the errors, but `partitions` the warnings of its table, of which its row speaks
+abbrev pub AreCommandNotes : InvocationRecord → Notes → Type 0
+AreCommandNotes (partitions p) notes = Unit {0}
+AreCommandNotes invocation notes = notes.new ≡ notes.old

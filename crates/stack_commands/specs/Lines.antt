@@ -39,5 +39,5 @@ module _ {S D G F R T : Type 0} (relations : Opener S D) (state : D → Device) 
   EndsLine line = FailsCommand (option_texts line.options) (invocation_record line.invocation) all_used writer'.failed
 
 -- what the command of a line prints among the errors
-abbrev pub NotesLine : {S D : Type 0} → Opener S D → (D → Device) → S → S → CommandLine → Notes → Type 0
-NotesLine relations state images images' line notes = AreCommandNotes (calls relations state images images') (invocation_record line.invocation) notes
+abbrev pub NotesLine : CommandLine → Notes → Type 0
+NotesLine line notes = AreCommandNotes (invocation_record line.invocation) notes

@@ -47,7 +47,7 @@ pub fn invoke<'a, I: Images, G: Generators + Progress + Watchers, S: Read, W: Wr
     requires writer { writer.old.failed ≡ false }
     ensures ok { OnOk result (DoesLine I.relations I.Dev.state S.remaining W.contents images.old images.new (drawing G.gives G.Generator.stream generators.old generators.new) reader.old reader.new writer.old writer.new (notes_of E.contents errors.old errors.new) line.entry) }
     ensures err { IfErr result (EndsLine I.relations I.Dev.state S.remaining W.contents images.old images.new (drawing G.gives G.Generator.stream generators.old generators.new) reader.old reader.new writer.old writer.new (notes_of E.contents errors.old errors.new) line.entry) }
-    ensures noted { NotesLine I.relations I.Dev.state images.old images.new line.entry (notes_of E.contents errors.old errors.new) }
+    ensures noted { NotesLine line.entry (notes_of E.contents errors.old errors.new) }
 {
     let CommandLine {
         invocation,

@@ -71,7 +71,7 @@ fn report_end<W: Write, E: Write>(
     fault: CommandFault<'_>,
 ) -> u8
     ensures told { IsToldBy W.contents writer.old writer.new fault.entry result }
-    ensures failed { writer.old.failed ≡ true → writer.new.failed ≡ true }
+    ensures failed { (writer.old.failed ≡ true → writer.new.failed ≡ true) × (errors.old.failed ≡ true → errors.new.failed ≡ true) }
     ensures errors { IsRepeated writer.new.failed fault.entry (E.contents errors.old.inner) (E.contents errors.new.inner) errors.new.failed }
 {
     let status = end(writer, fault);
@@ -92,7 +92,7 @@ fn explain<E: Write>(
     words: &[String],
     fault: CommandFault<'_>,
 )
-    ensures { is_usage fault.entry ≡ false → E.contents errors.new.inner ≡ E.contents errors.old.inner }
+    ensures { is_usage fault.entry ≡ false → errors.new ≡ errors.old }
 {
     if is_usage(fault) {
         let misuse = misuse_of(alloc, words);
@@ -102,7 +102,7 @@ fn explain<E: Write>(
 
 // Says on standard error that OUT of `copy` failed, since the printed line doesn't name the device.
 fn tell_output<E: Write>(errors: &mut Counted<E>, fault: CommandFault<'_>)
-    ensures { is_output_failed fault.entry ≡ false → E.contents errors.new.inner ≡ E.contents errors.old.inner }
+    ensures { is_output_failed fault.entry ≡ false → errors.new ≡ errors.old }
 {
     if is_output_failed(fault) {
         let _said = errors.put(b"dmstack: OUT failed\n");
