@@ -38,7 +38,7 @@ PLACES = {
     "image_commands": (15, NOT_YET),
     "image_files": (8, NOT_YET),
     "image_pin": (2, STATED),
-    "partition_commands": (30, NOT_YET),
+    "partition_commands": (15, VALUES),
     "program_io": (4, VALUES),
     "request_queue": (1, NOT_YET),
     "rescue_map": (4, STATED),
