@@ -49,7 +49,7 @@ PLACES = {
     "stack_lines": (2, CACHE),
     "table_text": (3, STATED),
     "verified_cache": (5, CACHE),
-    "verity_commands": (6, NOT_YET),
+    "verity_commands": (6, VALUES),
     "verity_format": (6, STATED),
 }
 
