@@ -1,5 +1,5 @@
 use Rattle.std.proofs.Common.{◌≡◌, sym, ap, ◌∙◌, inl, inr, ◌∷◌, ℕ, ◌+◌, get_or, drop, Option, Some, None, SomeIff, IsSome, arith}
-use Rattle.std.proofs.lemmas.List.{get_or-eq_default}
+use Rattle.std.proofs.lemmas.List.{get_or_past}
 use Rattle.std.specs.Char.Utf16.{lone_unit_char, utf16_chars}
 use Rattle.std.proofs.str.Utf16.{IsPair, lone_unit_char_low, lone_unit_char_high, lone_unit_char_surrogate, utf16_chars-drop_lone, utf16_chars-drop_pair}
 use Rattle.partition_commands.proofs.characters.char_at.Goals as goal
@@ -29,7 +29,7 @@ returns-then-high-ge56320-clause-first c =
     let at = c.args.at in
     let apart = λ (pair : IsPair (get_or xs at 0) (get_or xs (at + 1) 0)). elim c.then-high-ge56320.branch as (λ _. ⊥) [
       | goal.then-high-ge56320-via-then-high-ge56320 w ↦ omega arith
-      | goal.then-high-ge56320-via-else-high-ge56320+then-units-at-lt2 w ↦ omega (arith, get_or-eq_default xs 0 {n = at + 1} (omega arith))
+      | goal.then-high-ge56320-via-else-high-ge56320+then-units-at-lt2 w ↦ omega (arith, get_or_past xs (at + 1) 0 (omega arith))
     ] in
     utf16_chars-drop_lone xs at c.requires apart
     ∙ ap (λ o. o ∷ utf16_chars (drop (at + 1) xs)) (lone_unit_char_surrogate _ c.if-high-lt55296.false c.if-high-ge57344.false)
