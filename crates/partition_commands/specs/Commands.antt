@@ -114,11 +114,12 @@ pub record EndsOfImage {S D : Type 0} (w : Calls S D) (path : List ℕ) (ends : 
 abbrev pub IsOpenedEnd : {S D : Type 0} → Calls S D → List ℕ → (Device → Device → PartitionsFault → Type 0) → PartitionsFault → Type 0
 IsOpenedEnd w path ends fault = IsImageUnopened (Refuses w path false) fault ⊎ EndsOfImage w path ends fault
 
--- the superblock was read in the verity partition; both partitions end on the device, and have the sectors of its data
--- blocks and of its tree
+-- both partitions lie inside the device, the superblock was read in the verity partition, and they have the sectors of its
+-- data blocks and of its tree
 pub record IsFitting (device : Device) (size : SectorSize) (both : ImagePartitions) (super : SuperRecord) : Type 0 where
   pub sector : List ℕ
   pub within : is_within device (part_of size both.data) ≡ true
+  pub inside : LiesInside device (part_of size both.verity)
   pub read : IsReadFrom (windowed device (part_of size both.verity)) sector super
   pub fits : is_unfit size both super ≡ false
 

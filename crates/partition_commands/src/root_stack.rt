@@ -1,5 +1,6 @@
 //! The command `partitions --root`: the stack that opens a verity image of two partitions.
 ghost use Rattle.std.specs.Prelude.{◌≡◌, ℕ, List, IfErr, IfOk, OnOk};
+ghost use Rattle.device_adapters.specs.Parts.{LiesInside};
 ghost use Rattle.device_adapters.specs.Windows.{windowed};
 ghost use Rattle.verity_format.specs.Verifying.{IsReadFrom};
 ghost use Rattle.partition_commands.specs.Commands.{EndsNoted, FailsToFindRoot, IsFitting, IsPairEnd, IsPartSuperEnd, IsRootSayFault, IsRootTextEnd, NotesImage, PrintsRootOf, SaysRoot};
@@ -94,7 +95,7 @@ fn is_unfit(size: SectorSize, both: &ImagePartitions, superblock: &Superblock) -
 
 // The superblock at the beginning of a part of a device.
 fn superblock_in<D: BlockDev + Drop>(device: D, part: Part) -> Result<Superblock, PartitionRefusal>
-    ensures ok { IfOk result (λ s. (sector : List ℕ) × IsReadFrom (windowed (D.state device) part) sector s) }
+    ensures ok { IfOk result (λ s. LiesInside (D.state device) part × ((sector : List ℕ) × IsReadFrom (windowed (D.state device) part) sector s)) }
     ensures err { IfErr result (λ refusal. (after : D) × IsPartSuperEnd (D.state device) (D.state after) part refusal) }
 {
     let mut window = match Window::<D, Brand>::new(device, part) {
