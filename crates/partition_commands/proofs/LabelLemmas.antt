@@ -13,17 +13,15 @@ unfolding units_to
 units_to-more label n = map-range_with_len_more (λ k. number16 label (2 * k)) 0 n n (zero-add n)
 
 -- how many of the units after the first one come before a zero
-more : List ℕ → ℕ
+abbrev more : List ℕ → ℕ
 more rest = 1 + prefix_len (λ v. not (v == 0)) rest
 
 -- a zero ends the label
 before_zero-zero : (u : ℕ) (rest : List ℕ) → (u == 0) ≡ true → before_zero (u ∷ rest) ≡ []
-unfolding more
 before_zero-zero u rest is = ap (λ (b : Bool). take (cond (not b) (more rest) 0) (u ∷ rest)) is
 
 -- another unit doesn't
 before_zero-more : (u : ℕ) (rest : List ℕ) → (u == 0) ≡ false → before_zero (u ∷ rest) ≡ u ∷ before_zero rest
-unfolding more
 before_zero-more u rest is =
     let next : more rest ≡ suc (prefix_len (λ v. not (v == 0)) rest) = omega arith in
     ap (λ (b : Bool). take (cond (not b) (more rest) 0) (u ∷ rest)) is ∙ ap (λ (n : ℕ). take n (u ∷ rest)) next
