@@ -34,14 +34,14 @@ PLACES = {
     "command_parser": (11, PARSER),
     "image_commands": (15, NOT_YET),
     "image_pin": (2, STATED),
-    "partition_commands": (30, NOT_YET),
+    "partition_commands": (15, VALUES),
     "program_io": (4, VALUES),
     "runs": (9, VALUES),
     "scan_commands": (20, VALUES),
     "stack_commands": (3, VALUES),
     "stack_lines": (2, CACHE),
     "verified_cache": (5, CACHE),
-    "verity_commands": (9, NOT_YET),
+    "verity_commands": (9, VALUES),
     "verity_format": (3, STATED),
 }
 

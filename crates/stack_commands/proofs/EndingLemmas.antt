@@ -1,5 +1,5 @@
 -- Commands that end early.
-use Rattle.std.proofs.Common.{◌≡◌, ℕ, Bool, true, false, List, Option, Result, Ok, Err, inl, inr, refl, sym, subst}
+use Rattle.std.proofs.Common.{◌≡◌, ◌∙◌, ℕ, Bool, true, false, List, Option, Result, Ok, Err, inl, inr, ap, refl, sym, subst}
 use Rattle.std.specs.Prelude.{◌⊎◌, IfSome}
 use Rattle.command_line.specs.declared.misuse.Misuse.{Misuse}
 use Rattle.command_line.specs.Misuses.{misuse_record}
@@ -77,3 +77,11 @@ explained-kept contents words old mid next failed same kept explains = record {
   misused = explains.misused;
   printed = rw same (explained-failed _ mid.failed failed (subst (λ n. n.failed ≡ true → failed ≡ true) same kept) explains.printed);
 }
+
+-- nothing was printed
+pub same-contents : {T : Type 0} (contents : T → Option (List ℕ)) (old new : CountedRecord T) → new ≡ old → contents new.inner ≡ contents old.inner
+same-contents {T} contents old new is = ap (λ (c : CountedRecord T). contents c.inner) is
+
+-- a writer that had failed still has
+pub same-failed : {T : Type 0} (old new : CountedRecord T) → new ≡ old → old.failed ≡ true → new.failed ≡ true
+same-failed {T} old new is failed = ap (λ (c : CountedRecord T). c.failed) is ∙ failed

@@ -22,6 +22,7 @@ use Rattle.manual_pages.specs.Versions.{version_text}
 use Rattle.manual_pages.specs.declared.page.Page.{Page}
 use Rattle.partition_commands.specs.declared.fault.PartitionsFault.{PartitionsFault}
 use Rattle.partition_commands.specs.Invocations.{IsListingEnd, ListsPartitions}
+use Rattle.partition_commands.specs.Warnings.{Notes}
 use Rattle.verity_commands.specs.Invocations.{DiffsTrees, IsDiffWordsEnd}
 use Rattle.stack_commands.specs.declared.fault.CommandFault.{CommandFault}
 use Rattle.stack_commands.specs.declared.fault.CommandFault.TheVariants.{Fec, Partitions, Usage}
@@ -181,7 +182,7 @@ Succeeds texts (format f) u = FormatsAt texts u.images u.drawing f u.old.output 
 Succeeds texts (verify v) u = ChecksImage u.images v u.old.output u.new.output
 Succeeds texts (dump d) u = DumpsAt u.images d u.old.output u.new.output
 Succeeds texts (table t) u = PrintsEntry u.images t u.old.output u.new.output
-Succeeds texts (partitions p) u = ListsPartitions u.images p u.old.output u.new.output
+Succeeds texts (partitions p) u = ListsPartitions u.images p u.old.output u.new.output u.notes
 Succeeds texts (diff d) u = DiffsTrees u.images d u.old.output u.new.output
 Succeeds texts (repair r) u = RepairsImage u.images r u.old.output u.new.output
 Succeeds texts (format_tree f) u = FormatsSaidTree texts u.images u.drawing f u.old.output u.new.output
@@ -210,7 +211,7 @@ FailsCommand texts (format f) u failed fault = IsVerityEnd (IsSaidFormatEnd text
 FailsCommand texts (verify v) u failed fault = IsCheckCommandEnd u.images v u.old.output u.new.output failed fault
 FailsCommand texts (dump d) u failed fault = IsVerityEnd (IsDumpEnd u.images d u.old.output u.new.output failed) fault
 FailsCommand texts (table t) u failed fault = IsVerityEnd (IsTableEnd u.images t u.old.output u.new.output failed) fault
-FailsCommand texts (partitions p) u failed fault = IsPartitionsEnd (IsListingEnd u.images p failed) fault
+FailsCommand texts (partitions p) u failed fault = IsPartitionsEnd (IsListingEnd u.images p failed u.notes) fault
 FailsCommand texts (diff d) u failed fault = IsTreesEnd (IsDiffWordsEnd u.images d u.old.output u.new.output failed) fault
 FailsCommand texts (repair r) u failed fault = IsRepairWordsEnd u.images r u.old.output u.new.output failed fault
 FailsCommand texts (format_tree f) u failed fault = IsVerityEnd (IsSaidFormatTreeEnd texts u.images u.drawing f u.old.output u.new.output failed) fault
@@ -222,3 +223,8 @@ FailsCommand texts (format_pin f) u failed fault = IsVerityEnd (IsPinFormatEnd t
 FailsCommand texts (verify_pin v) u failed fault = IsVerityEnd (IsPinVerifyEnd u.images v u.old.output u.new.output failed) fault
 FailsCommand texts (manual command) u failed fault = IsPageEnd command u.old.output u.new.output failed fault × (u.images.new ≡ u.images.old)
 FailsCommand texts version u failed fault = IsReplyUnwritten failed fault × (u.images.new ≡ u.images.old)
+
+-- while it runs, a command prints nothing among the errors, but `partitions` the warnings of its table, of which its row speaks
+abbrev pub AreCommandNotes : InvocationRecord → Notes → Type 0
+AreCommandNotes (partitions p) notes = Unit {0}
+AreCommandNotes invocation notes = notes.new ≡ notes.old
