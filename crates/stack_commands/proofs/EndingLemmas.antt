@@ -1,7 +1,7 @@
 -- Commands that end early.
 use Rattle.std.proofs.Common.{◌≡◌, ℕ, Bool, true, false, List, Option, refl, sym, subst}
 use Rattle.stack_commands.specs.declared.fault.CommandFault.{CommandFault}
-use Rattle.stack_commands.specs.declared.fault.CommandFault.TheVariants.{Usage, NoMemory, Stack, Request, Io, Recovering, Stream, Verity, Fec, Partitions, Trees, Session, Service}
+use Rattle.stack_commands.specs.declared.fault.CommandFault.TheVariants.{Usage, NoMemory, Stack, Linux, Request, Io, Recovering, Stream, Verity, Fec, Partitions, Trees, Session, Service}
 use Rattle.verity_commands.proofs.EndingLemmas.{quiet as verity-quiet}
 use Rattle.stack_commands.specs.Commands.{IsEndOr, IsTold, TellsErrors, Told, is_usage}
 use Rattle.stack_commands.specs.Endings.{IsSilent}
@@ -10,6 +10,7 @@ pub quiet : (fault : CommandFault) (bytes : Option (List ℕ)) → IsSilent faul
 quiet Usage bytes = refl
 quiet NoMemory bytes = refl
 quiet (Stack fault) bytes = refl
+quiet (Linux refusal) bytes = refl
 quiet (Request fault) bytes = refl
 quiet (Io fault) bytes = refl
 quiet (Recovering fault) bytes = refl
