@@ -1,9 +1,10 @@
 -- Logical blocks, from the devices of the lowest depth up.
-use Rattle.std.proofs.Common.{◌≡◌, ◌+◌, ◌≤◌, ◌<◌, ℕ, max, List, [], ◌∷◌, refl, sym, ap, ◌∙◌, length, slice_index, arith, length-set}
+use Rattle.std.proofs.Common.{◌≡◌, ◌+◌, ◌≤◌, ◌<◌, ℕ, max, List, [], ◌∷◌, ◌++◌, refl, sym, ap, ◌∙◌, length, take, slice_index, arith, length-set}
 use Rattle.std.specs.Prelude.{slice_set}
 use Rattle.std.specs.List.{AllByRecursion}
 use Rattle.std.proofs.Math.Decide.{dec_le}
 use Rattle.std.proofs.lemmas.List.{get_or-set_same, get_or-set_other, get_or_past}
+use Rattle.std.proofs.Math.Seq.{take-append_seam}
 use Rattle.dm_table.specs.declared.table.Target.{Target}
 use Rattle.dm_table.specs.declared.table.Target.TheVariants.{Verity as verity_target}
 use Rattle.stack_rules.specs.declared.lower.Lower.{Lower}
@@ -26,6 +27,9 @@ both : {X : Type 0} (P Q R : X → Type 0) → ((x : X) → P x → Q x → R x)
 both P Q R f [] p q = tt
 both P Q R f (x ∷ xs) p q = (f x p.0 q.0, both P Q R f xs p.1 q.1)
 
+pub taken : {X : Type 0} (n : ℕ) (xs ys : List X) → length xs ≡ n → take n (xs ++ ys) ≡ xs
+taken n xs ys is = ap (λ n. take n (xs ++ ys)) (sym is) ∙ take-append_seam xs ys
+
 -- no device has depth 0
 pub blocks-none : (c : Configuration) (blocks : List ℕ) → AreBlocks c 0 blocks
 unfolding descend
@@ -38,6 +42,17 @@ logical-leaf c i = refl
 logical-past : (c : Configuration) (d : ℕ) → length c.devices ≤ d → logical_block c (mapped d) ≡ 0
 unfolding descend
 logical-past c d past = rw (past_end d c.devices past) refl
+
+-- what a loop over the devices has made: the blocks of depth k, and of depth k + 1 those of the first i
+pub record SettlesSoFar (c : Configuration) (k i : ℕ) (blocks : List ℕ) : Type 0 where
+  pub below : AreBlocks c k blocks
+  pub done : (d : ℕ) → d < i → d < length blocks → depth c (mapped d) ≤ k + 1 → slice_index blocks d ≡ logical_block c (mapped d)
+
+pub settles_none : (c : Configuration) (k : ℕ) (blocks : List ℕ) → AreBlocks c k blocks → SettlesSoFar c k 0 blocks
+settles_none c k blocks are = record { below = are; done = λ d low. absurd (omega (arith, low)) }
+
+pub settles_all : (c : Configuration) (k i : ℕ) (blocks : List ℕ) → length blocks ≤ i → SettlesSoFar c k i blocks → AreBlocks c (k + 1) blocks
+settles_all c k i blocks past so-far = λ d low deep. so-far.done d (omega (arith, low, past)) low deep
 
 module _ (c : Configuration) (valid : IsValid c) where
   shallow : (x : Lower) → depth c x ≤ most_depth
@@ -56,19 +71,8 @@ module _ (c : Configuration) (valid : IsValid c) where
       at (leaf i) less inside = sym (logical-leaf c i)
       at (device e) less inside = are e.0 (omega (arith, inside, count)) (omega (arith, less, deep))
 
-  -- what a loop over the devices has made: those of depth k, and of depth k + 1 the first i
-  pub record SettlesSoFar (k i : ℕ) (blocks : List ℕ) : Type 0 where
-    pub below : AreBlocks c k blocks
-    pub done : (d : ℕ) → d < i → d < length blocks → depth c (mapped d) ≤ k + 1 → slice_index blocks d ≡ logical_block c (mapped d)
-
-  pub settles_none : (k : ℕ) (blocks : List ℕ) → AreBlocks c k blocks → SettlesSoFar k 0 blocks
-  settles_none k blocks are = record { below = are; done = λ d low. absurd (omega (arith, low)) }
-
-  pub settles_all : (k i : ℕ) (blocks : List ℕ) → length blocks ≤ i → SettlesSoFar k i blocks → AreBlocks c (k + 1) blocks
-  settles_all k i blocks past so-far = λ d low deep. so-far.done d (omega (arith, low, past)) low deep
-
   pub settles_more : (k i value : ℕ) (blocks : List ℕ) → length blocks ≡ length c.devices → i < length blocks → value ≡ table_block c (block_in blocks) (lines_of c i)
-      → SettlesSoFar k i blocks → SettlesSoFar k (i + 1) (slice_set blocks i value)
+      → SettlesSoFar c k i blocks → SettlesSoFar c k (i + 1) (slice_set blocks i value)
   settles_more k i value blocks count inside is so-far = record {
     below = λ d low deep. at d (omega (arith, deep)) (λ other. so-far.below d (omega (arith, low, length-set {A = ℕ} blocks i value)) deep);
     done = λ d first low deep. at d deep (λ other. so-far.done d (omega (arith, first, other)) (omega (arith, low, length-set {A = ℕ} blocks i value)) deep);
