@@ -11,7 +11,7 @@ use Rattle.dm_table.specs.declared.verity.Verity.{Verity}
 use Rattle.stack_rules.specs.declared.lower.Lower.{Lower}
 use Rattle.stack_rules.specs.Records.{Configuration, DeviceRecord}
 use Rattle.stack_rules.specs.Names.{mapped, table_sectors}
-use Rattle.stack_rules.specs.Descend.{by_name, most_devices}
+use Rattle.stack_rules.specs.Descend.{by_name}
 use Rattle.stack_rules.specs.Rules.{ends_past}
 use Rattle.stack_rules.specs.Trees.{block_sectors, verity_of}
 use Rattle.stack_rules.specs.Units.{crypt_of, unit_sectors}
@@ -151,4 +151,4 @@ linux_refusal c = stack_refusal c (logical_block c)
 abbrev pub IsChecked : Configuration → Result Unit LinuxFault → Type 0
 IsChecked c (Ok done) = linux_refusal c ≡ None
 IsChecked c (Err (Refused refusal)) = linux_refusal c ≡ Some refusal
-IsChecked c (Err NoMemory) = IsOutOfMemory most_devices
+IsChecked c (Err NoMemory) = IsOutOfMemory (length c.devices)

@@ -1,10 +1,12 @@
 //! The rules on a line over the devices that it names.
-ghost use Rattle.std.specs.Prelude.{◌≡◌, ◌≤◌};
+ghost use Rattle.std.specs.Prelude.{◌≡◌, ◌≤◌, ◌*◌, ◌||◌, nat_lt, slice_get};
+ghost use Rattle.std.specs.Option.{option_map_or};
 ghost use Rattle.dm_table.specs.Grammar.{IsTargetOfGrammar};
 ghost use Rattle.stack_rules.specs.Records.{Configuration};
 ghost use Rattle.stack_rules.specs.Names.{size, names};
 ghost use Rattle.stack_rules.specs.Descend.{by_name};
 ghost use Rattle.stack_rules.specs.Passing.{Mean};
+ghost use Rattle.stack_rules.specs.Trees.{block_sectors};
 ghost use Rattle.linux_rules.specs.Blocks.{block_in};
 ghost use Rattle.linux_rules.specs.Rules.{begins_beyond, first_kind, has_small_block, hash_sectors, line_faults};
 
@@ -40,10 +42,29 @@ fn size_of(config: &Config, lower: Lower) -> u128
     }
 }
 
-fn hash_sectors(verity: &Verity) -> u64
+fn hash_sectors(verity: &Verity) -> u32
     ensures { result ≡ hash_sectors verity.now }
 {
-    u64::from(verity.hash_block / 512)
+    verity.hash_block / 512
+}
+
+fn has_smaller_data(blocks: &[u64], verity: &Verity, lowers: &[Lower]) -> bool
+    ensures { result ≡ nat_lt (block_sectors verity.now) (option_map_or (block_in blocks.now) (slice_get lowers.now 0) 0) }
+{
+    u64::from(block_sectors(verity)) < block_at(blocks, lowers, 0)
+}
+
+fn has_smaller_hashes(blocks: &[u64], verity: &Verity, lowers: &[Lower]) -> bool
+    ensures { result ≡ nat_lt (hash_sectors verity.now) (option_map_or (block_in blocks.now) (slice_get lowers.now 1) 0) }
+{
+    u64::from(hash_sectors(verity)) < block_at(blocks, lowers, 1)
+}
+
+/// Whether a data or hash block is smaller than a logical block of its device.
+fn has_smaller(blocks: &[u64], verity: &Verity, lowers: &[Lower]) -> bool
+    ensures { result ≡ (nat_lt (block_sectors verity.now) (option_map_or (block_in blocks.now) (slice_get lowers.now 0) 0) || nat_lt (hash_sectors verity.now) (option_map_or (block_in blocks.now) (slice_get lowers.now 1) 0)) }
+{
+    has_smaller_data(blocks, verity, lowers) || has_smaller_hashes(blocks, verity, lowers)
 }
 
 /// Whether a `verity` line has smaller blocks than its devices.
@@ -51,12 +72,17 @@ fn has_small_block(blocks: &[u64], target: &Target, lowers: &[Lower]) -> bool
     ensures { (c : Configuration) → Mean c lowers.now (names target.now) → result ≡ has_small_block (by_name c 0 (block_in blocks.now)) target.now }
 {
     match verity_of(target) {
-        Some(verity) => {
-            u64::from(block_sectors(verity)) < block_at(blocks, lowers, 0)
-                || hash_sectors(verity) < block_at(blocks, lowers, 1)
-        }
+        Some(verity) => has_smaller(blocks, verity, lowers),
         None => false,
     }
+}
+
+/// Whether a tree begins past the end of its device.
+fn begins_past(config: &Config, verity: &Verity, hash: Lower) -> bool
+    ensures { result ≡ nat_lt (size config.now hash) (verity.now.start * hash_sectors verity.now) }
+{
+    let begin = u128::from(verity.start) * u128::from(hash_sectors(verity));
+    size_of(config, hash) < begin
 }
 
 /// Whether the tree of a `verity` line begins past the end of the hash device.
@@ -65,10 +91,7 @@ fn begins_beyond(config: &Config, target: &Target, lowers: &[Lower]) -> bool
     ensures { result ≡ begins_beyond config.now target.now }
 {
     match verity_of(target) {
-        Some(verity) => {
-            let begin = u128::from(verity.start) * u128::from(hash_sectors(verity));
-            size_of(config, lowers[1]) < begin
-        }
+        Some(verity) => begins_past(config, verity, lowers[1]),
         None => false,
     }
 }

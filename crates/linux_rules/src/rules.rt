@@ -2,7 +2,7 @@
 ghost use Rattle.std.specs.Prelude.{◌≡◌, ◌≤◌, ◌<◌, ◌+◌, List, length};
 ghost use Rattle.dm_table.specs.declared.table.Line.{Line as SomeLine};
 ghost use Rattle.stack_rules.specs.Names.{lines_of, table_sectors};
-ghost use Rattle.stack_rules.specs.Descend.{by_name, most_devices};
+ghost use Rattle.stack_rules.specs.Descend.{by_name};
 ghost use Rattle.stack_rules.specs.Passing.{RowsMean};
 ghost use Rattle.stack_rules.specs.Rules.{most_lines};
 ghost use Rattle.linux_rules.specs.Blocks.{block_in};
@@ -101,8 +101,8 @@ fn stack_refusal(config: &Config, blocks: &[u64]) -> Option<LinuxRefusal>
 ///
 /// # Errors
 ///
-/// `Refused` names the first rule that applies, by device and line. `NoMemory` if an allocation was refused, of room for at
-/// most 64 numbers.
+/// `Refused` names the first rule that applies, by device and line. `NoMemory` if an allocation was refused, of room for as
+/// many numbers as there are devices.
 pub fn check_linux(config: &Config) -> Result<(), LinuxFault>
     ensures { IsChecked config.now result }
 {

@@ -10,6 +10,7 @@ loop-depth-init c = (ap length c.in_ok-blocks.ensures.ok ∙ length-replicate c.
 pub loop-depth-preserved : goal.loop-depth-preserved
 loop-depth-preserved c =
     let count : length c.settle.new.blocks ≡ length c.args.config.now.devices = c.settle.auto.blocks ∙ ap length c.as_mut_slice.ensures.value ∙ c.loop-depth.invariant.0 in
+    let long : length c.settle.new.blocks ≡ c.loop-depth.blocks.len = c.settle.auto.blocks ∙ ap length c.as_mut_slice.ensures.value ∙ sym c.loop-depth.blocks.ok.0 in
     rw taken (count, c.settle.ensures c.loop-depth._depth (let P : List ℕ → Type 0 = λ blocks. AreBlocks c.args.config.now c.loop-depth._depth blocks in subst P (sym c.as_mut_slice.ensures.value) c.loop-depth.invariant.1))
 
 pub settle-requires : goal.settle-requires

@@ -1,8 +1,4 @@
-use Rattle.std.proofs.Common.{◌≡◌, ◌∙◌, sym, ap, map, Some, length, arith}
-use Rattle.dm_table.specs.declared.table.Line.{Line}
-use Rattle.stack_rules.specs.declared.lower.Lower.{Lower}
-use Rattle.stack_rules.specs.Names.{lines_of}
-use Rattle.stack_rules.proofs.lemmas.NameMeaningLemmas.{length-rows}
+use Rattle.std.proofs.Common.{◌∙◌, ap, arith}
 use Rattle.stack_rules.proofs.lemmas.ValidLineLemmas.{few}
 use Rattle.linux_rules.specs.Blocks.{block_in, table_block}
 use Rattle.linux_rules.proofs.BlockLemmas.{settles_none, settles_all, settles_more}
@@ -22,3 +18,6 @@ loop-d-preserved c = λ k are.
 
 pub returns : goal.returns
 returns c = λ k are. settles_all c.args.config.now k c.loop-d.d c.loop-d.blocks (omega (arith, c.loop-d-test.false, c.loop-d.auto.blocks, c.requires, c.count-d-end.ensures.value)) (c.loop-d.invariant k are)
+
+pub overflow_cast-device : goal.overflow_cast-device
+overflow_cast-device c = omega (arith, few c.args.config.now c.count-d-end.ensures.loaded.valid, c.loop-d-test.true, c.count-d-end.ensures.value)
