@@ -70,7 +70,7 @@ image_commands more =
 -- the commands on stacks
 abbrev pub stack_commands : List CommandText → List CommandText
 stack_commands more =
-    command (codes "load") (json ∷ [])
+    command (codes "load") (json ∷ flag (codes "linux") ∷ [])
     ∷ command (codes "read") (cache ∷ [])
     ∷ command (codes "write") (cache ∷ [])
     ∷ command (codes "session") (cache ∷ [])

@@ -172,6 +172,12 @@ const CHECK: OptionRow = OptionRow {
     has_value: false,
 };
 
+const LINUX: OptionRow = OptionRow {
+    name: "linux",
+    others: &[],
+    has_value: false,
+};
+
 /// All commands.
 pub static COMMANDS: [CommandRow; 18] = [
     CommandRow {
@@ -232,7 +238,7 @@ pub static COMMANDS: [CommandRow; 18] = [
     },
     CommandRow {
         name: "load",
-        options: &[JSON],
+        options: &[JSON, LINUX],
     },
     CommandRow {
         name: "read",

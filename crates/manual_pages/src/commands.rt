@@ -6,7 +6,7 @@ use crate::command::Command;
 pub static COMMANDS: [Command; 18] = [
     Command {
         name: "load",
-        usage: "dmstack load [--json] STACK BINDING...",
+        usage: "dmstack load [--json] [--linux] STACK BINDING...",
     },
     Command {
         name: "read",

@@ -8,7 +8,7 @@ use Rattle.manual_pages.specs.UsageErrors.{explanation}
 use Rattle.program_io.specs.Counted.{CountedRecord, Writes, Writing}
 use Rattle.program_io.specs.declared.fault.WriteFault.{WriteFault}
 use Rattle.stack_commands.specs.declared.fault.CommandFault.{CommandFault}
-use Rattle.stack_commands.specs.declared.fault.CommandFault.TheVariants.{Usage, NoMemory, Stack, Request, Io, Recovering, Stream, Verity, Fec, Partitions, Trees, Session, Service}
+use Rattle.stack_commands.specs.declared.fault.CommandFault.TheVariants.{Usage, NoMemory, Stack, Linux, Request, Io, Recovering, Stream, Verity, Fec, Partitions, Trees, Session, Service}
 use Rattle.verity_commands.proofs.EndingLemmas.{quiet as verity-quiet}
 use Rattle.stack_commands.specs.Commands.{ExplainsUsage, IsEndOr, IsTold, TellsErrors, Told, is_output_failed, is_usage}
 use Rattle.stack_commands.specs.Endings.{IsSilent}
@@ -17,6 +17,7 @@ pub quiet : (fault : CommandFault) (bytes : Option (List ℕ)) → IsSilent faul
 quiet Usage bytes = refl
 quiet NoMemory bytes = refl
 quiet (Stack fault) bytes = refl
+quiet (Linux refusal) bytes = refl
 quiet (Request fault) bytes = refl
 quiet (Io fault) bytes = refl
 quiet (Recovering fault) bytes = refl

@@ -140,11 +140,11 @@ module _ {S D T E : Type 0} (relations : Opener S D) (state : D → Device) (con
   EndsByParity places fec copies root = IsParityWordsEnd desk_calls (places_of places) (fec_record fec) copies root desk_before desk_behind desk_failed
 
   -- over a stack file
-  abbrev pub ListsFile : StackFile → Bool → Type 0
-  ListsFile file json = PrintsDevices json desk_calls (stack_words file) desk_before desk_behind
+  abbrev pub ListsFile : StackFile → Bool → Bool → Type 0
+  ListsFile file json linux = PrintsDevices json linux desk_calls (stack_words file) desk_before desk_behind
 
-  abbrev pub EndsListing : StackFile → CommandFault → Type 0
-  EndsListing file = IsListEnd desk_calls (stack_words file) desk_failed
+  abbrev pub EndsListing : StackFile → Bool → CommandFault → Type 0
+  EndsListing file linux = IsListEnd linux desk_calls (stack_words file) desk_failed
 
   abbrev pub ReadsFile : StackFile → ℕ → Sectors → Type 0
   ReadsFile file cache sectors = PrintsReply desk_calls (stack_words file) cache (read_request sectors) desk_before desk_behind

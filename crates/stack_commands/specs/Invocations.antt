@@ -58,10 +58,10 @@ IsFecEnd Ends fault = ⊥
 -- ---- the devices of a stack
 
 abbrev pub ListsDevices : {S D : Type 0} → Calls S D → LoadRecord → Option (List ℕ) → Option (List ℕ) → Type 0
-ListsDevices w l old new = PrintsDevices l.json w (on l.stack l.bindings) old new
+ListsDevices w l old new = PrintsDevices l.json l.linux w (on l.stack l.bindings) old new
 
 abbrev pub IsLoadWordsEnd : {S D : Type 0} → Calls S D → LoadRecord → Option (List ℕ) → Option (List ℕ) → Bool → CommandFault → Type 0
-IsLoadWordsEnd w l old new failed fault = IsListEnd w (on l.stack l.bindings) failed fault × IsSilent fault old new
+IsLoadWordsEnd w l old new failed fault = IsListEnd l.linux w (on l.stack l.bindings) failed fault × IsSilent fault old new
 
 -- ---- requests
 
