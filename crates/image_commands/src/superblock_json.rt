@@ -9,7 +9,10 @@ ghost use Rattle.image_commands.specs.Endings.{IsQuiet, IsCommonEnd};
 ghost use Rattle.image_commands.specs.SuperblockJson.{SaysDump, fields_json, superblock_json};
 
 use crate::fault::ImageFault;
+use crate::pin_file::pin_in;
 use crate::superblock_text::say_superblock;
+use command_line::DumpForm;
+use image_pin::print_pin;
 use program_io::{Counted, line_of};
 use serde_json::{Value, json};
 use std::alloc::{AllocError, Global};
@@ -17,24 +20,29 @@ use std::io::Write;
 use uuid::Uuid;
 use verity_format::Superblock;
 
-/// The fields of a superblock, as an object on one line or a line each.
+/// The fields of a superblock a line each or as an object on one line, or the pin of a root hash with its values.
 #[tactic(auto, using(crate::proofs::lemmas::EndingLemmas::quiet))]
 pub(crate) fn say_dump<'a, W: Write>(
     alloc: Global,
     writer: &mut Counted<W>,
     superblock: &Superblock,
-    json: bool,
+    form: DumpForm,
 ) -> Result<(), ImageFault<'a>>
-    ensures ok { OnOk result (SaysDump W.contents writer.old writer.new json superblock.now) }
+    ensures ok { OnOk result (SaysDump W.contents writer.old writer.new form superblock.now) }
     ensures err { IfErr result (IsCommonEnd writer.new.failed) }
     ensures quiet { IfErr result (λ fault. IsQuiet fault (W.contents writer.old.inner) (W.contents writer.new.inner)) }
 {
-    if json {
-        let line = superblock_line(alloc, superblock)?;
-        writer.put(line.as_bytes())?;
-        return Ok(());
+    match form {
+        DumpForm::Lines => say_superblock(writer, superblock)?,
+        DumpForm::Object => {
+            let line = superblock_line(alloc, superblock)?;
+            writer.put(line.as_bytes())?;
+        }
+        DumpForm::Pin(root) => {
+            let text = print_pin(alloc, &pin_in(root, superblock))?;
+            writer.put(text.as_slice())?;
+        }
     }
-    say_superblock(writer, superblock)?;
     Ok(())
 }
 
