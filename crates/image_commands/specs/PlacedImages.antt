@@ -47,14 +47,14 @@ pub record PrintsPlacedSuper {S D : Type 0} (w : Calls S D) (path : List ℕ) (f
   pub says : SaysPlaced (w.state image.device) first pin may text old new
 
 -- no hash block begins there, or the superblock was read and differs from the pin
-abbrev pub IsUnfit : Device → ℕ → Option Pin → ImageFault → Type 0
-IsUnfit device first pin Unaligned = IsTreeUnaligned (behind device first) first pin
-IsUnfit device first pin (Unpinned mismatch) = IsTreeUnpinned (behind device first) pin mismatch
-IsUnfit device first pin fault = ⊥
+abbrev pub IsNoPlacedTree : Device → ℕ → Option Pin → ImageFault → Type 0
+IsNoPlacedTree device first pin Unaligned = IsTreeUnaligned (behind device first) first pin
+IsNoPlacedTree device first pin (Unpinned mismatch) = IsTreeUnpinned (behind device first) pin mismatch
+IsNoPlacedTree device first pin fault = ⊥
 
 -- it isn't read, no tree may stand there, it isn't the pin's, memory ran out, or the text can't be written
 abbrev pub IsPlacedSuperEnd : Device → ℕ → Option Pin → Bool → ImageFault → Type 0
-IsPlacedSuperEnd device first pin failed fault = ((device' : Device) × IsVerifyEnd (IsReadCause (behind device first) device') failed fault) ⊎ IsUnfit device first pin fault
+IsPlacedSuperEnd device first pin failed fault = ((device' : Device) × IsVerifyEnd (IsReadCause (behind device first) device') failed fault) ⊎ IsNoPlacedTree device first pin fault
 
 pub record EndsPlacedSuper {S D : Type 0} (w : Calls S D) (path : List ℕ) (first : ℕ) (pin : Option Pin) (failed : Bool) (fault : ImageFault) : Type 0 where
   pub image : OpenImage D
