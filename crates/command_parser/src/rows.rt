@@ -217,7 +217,7 @@ pub static COMMANDS: [CommandRow; 18] = [
     },
     CommandRow {
         name: "dump",
-        options: &[HASH_OFFSET, JSON],
+        options: &[HASH_OFFSET, JSON, PIN],
     },
     CommandRow {
         name: "table",
@@ -230,11 +230,12 @@ pub static COMMANDS: [CommandRow; 18] = [
             ROOT_HASH_FILE,
             NAME,
             NO_SUPERBLOCK,
+            PIN,
         ],
     },
     CommandRow {
         name: "repair",
-        options: &[HASH_OFFSET, ROOT_HASH_FILE, CHECK, FEC, FEC_ROOTS],
+        options: &[HASH_OFFSET, ROOT_HASH_FILE, CHECK, FEC, FEC_ROOTS, PIN],
     },
     CommandRow {
         name: "load",

@@ -50,15 +50,15 @@ pub static COMMANDS: [Command; 18] = [
     },
     Command {
         name: "dump",
-        usage: "dmstack dump [--hash-offset BYTES] [--json] HASH",
+        usage: "dmstack dump [--hash-offset BYTES] [--json] [--pin ROOT] HASH",
     },
     Command {
         name: "table",
-        usage: "dmstack table [--data-block N] [--hash-block N] [--blocks N] [--salt HEX] [--hash-offset BYTES] [--name NAME] [--root-hash-file FILE] [--no-superblock] HASH ROOT DATANAME HASHNAME",
+        usage: "dmstack table [--data-block N] [--hash-block N] [--blocks N] [--salt HEX] [--hash-offset BYTES] [--name NAME] [--root-hash-file FILE] [--no-superblock] [--pin FILE] HASH ROOT DATANAME HASHNAME",
     },
     Command {
         name: "repair",
-        usage: "dmstack repair [--hash-offset BYTES] [--root-hash-file FILE] [--check] [--fec FILE] [--fec-roots N] DATA HASH ROOT [DATACOPY HASHCOPY]...",
+        usage: "dmstack repair [--hash-offset BYTES] [--root-hash-file FILE] [--check] [--fec FILE] [--fec-roots N] [--pin FILE] DATA HASH ROOT [DATACOPY HASHCOPY]...",
     },
     Command {
         name: "partitions",

@@ -2,7 +2,7 @@
 use Rattle.std.specs.Io.KnownBytes.{Appends}
 use Rattle.std.specs.Prelude.{◌≡◌, ◌⊎◌, ◌≢◌, ℕ, Bool, true, false, codes, List, [], None, Ok, Option, Some, unwrap_or}
 use Rattle.command_line.specs.FormatOptions.{OptionTexts}
-use Rattle.command_line.specs.Invocations.{InvocationRecord, cat, copy, diff, dump, exports, format, format_fec, format_pin, format_tree, load, manual, nbd, partitions, read, repair, scan, session, store, table, table_tree, verify, verify_fec, verify_pin, verify_tree, version, write}
+use Rattle.command_line.specs.Invocations.{InvocationRecord, cat, copy, diff, dump, exports, format, format_fec, format_pin, format_tree, load, manual, nbd, partitions, read, repair, scan, session, store, table, table_tree, verify, verify_fec, verify_tree, version, write}
 use Rattle.command_line.specs.words.Cat.{CatRecord}
 use Rattle.command_line.specs.words.Copy.{CopyRecord}
 use Rattle.command_line.specs.words.Exports.{ExportsRecord}
@@ -36,7 +36,7 @@ use Rattle.transfer_commands.specs.StoredFiles.{FileWords, IsFileEnd, PrintsFile
 use Rattle.transfer_commands.specs.Streaming.{IsBytesEnd, IsStoringEnd, PrintsBytes, PrintsStored}
 use Rattle.stack_commands.specs.ManyExports.{IsExportsEnd, ServesExports}
 use Rattle.stack_commands.specs.StackCommands.{IsClientEnd, IsListEnd, IsReadEnd, IsServeEnd, IsWriteEnd, PrintsDevices, PrintsReply, PrintsWritten, ServesClient, ServesSession, device_on, on}
-use Rattle.verity_commands.specs.Pinned.{FormatsByPin, IsPinFormatEnd, IsPinVerifyEnd, VerifiesPin}
+use Rattle.verity_commands.specs.Pinned.{FormatsByPin, IsPinFormatEnd}
 use Rattle.verity_commands.specs.Placed.{DumpsAt, FormatsAt, IsDumpEnd, IsSaidFormatEnd, IsTableEnd, PrintsEntry}
 use Rattle.verity_commands.specs.Trees.{FormatsSaidTree, IsSaidFormatTreeEnd, IsTableTreeEnd, IsVerifyTreeEnd, PrintsTreeEntry, VerifiesSaidTree}
 use Rattle.stack_commands.specs.Repairing.{IsRepairWordsEnd, RepairsImage}
@@ -191,7 +191,6 @@ Succeeds texts (table_tree t) u = PrintsTreeEntry texts u.images t u.old.output 
 Succeeds texts (format_fec f) u = FormatsFec texts u.images u.drawing f u.old.output u.new.output
 Succeeds texts (verify_fec v) u = VerifiesFec u.images v u.old.output u.new.output
 Succeeds texts (format_pin f) u = FormatsByPin texts u.images u.drawing f u.old.output u.new.output
-Succeeds texts (verify_pin v) u = VerifiesPin u.images v u.old.output u.new.output
 Succeeds texts (manual command) u = PrintsPage command u.old.output u.new.output × (u.images.new ≡ u.images.old)
 Succeeds texts version u = Appends u.old.output u.new.output version_text × (u.images.new ≡ u.images.old)
 
@@ -220,7 +219,6 @@ FailsCommand texts (table_tree t) u failed fault = IsVerityEnd (IsTableTreeEnd t
 FailsCommand texts (format_fec f) u failed fault = IsFecEnd (IsFormatFecEnd texts u.images u.drawing f u.old.output u.new.output failed) fault
 FailsCommand texts (verify_fec v) u failed fault = IsFecEnd (IsVerifyFecEnd u.images v u.old.output u.new.output failed) fault
 FailsCommand texts (format_pin f) u failed fault = IsVerityEnd (IsPinFormatEnd texts u.images u.drawing f u.old.output u.new.output failed) fault
-FailsCommand texts (verify_pin v) u failed fault = IsVerityEnd (IsPinVerifyEnd u.images v u.old.output u.new.output failed) fault
 FailsCommand texts (manual command) u failed fault = IsPageEnd command u.old.output u.new.output failed fault × (u.images.new ≡ u.images.old)
 FailsCommand texts version u failed fault = IsReplyUnwritten failed fault × (u.images.new ≡ u.images.old)
 

@@ -30,7 +30,7 @@ use std::alloc::Global;
 use std::io::{Read, Write};
 use verity_commands::{
     invoke_diff, invoke_dump, invoke_format, invoke_format_pinned, invoke_format_tree,
-    invoke_table, invoke_table_tree, invoke_verify_pinned, invoke_verify_tree,
+    invoke_table, invoke_table_tree, invoke_verify_tree,
 };
 
 /// Runs a command; the options are those that say what an image is.
@@ -96,9 +96,6 @@ pub fn invoke<'a, I: Images, G: Generators + Progress + Watchers, S: Read, W: Wr
         }
         Invocation::FormatPin(words) => {
             Ok(invoke_format_pinned(alloc, images, generators, &words, &options, writer)?)
-        }
-        Invocation::VerifyPin(words) => {
-            Ok(invoke_verify_pinned(alloc, images, generators, &words, writer)?)
         }
         Invocation::Manual(command) => show_page(command, writer),
         Invocation::Version => Ok(print_version(writer)?),
