@@ -1,6 +1,7 @@
 -- Bindings that are opened one after another, and those that aren't.
 use Rattle.std.proofs.Common.{◌≡◌, ◌<◌, ◌≤◌, ◌+◌, ℕ, Bool, zero, suc, List, [], ◌∷◌, ◌++◌, length, map, take, get_or, arith, refl, sym, ap, subst, ◌∙◌, append_assoc, inl, inr, Result, Ok, Err}
 use Rattle.std.proofs.lemmas.List.{map-append, take_more}
+use Rattle.std.proofs.lemmas.List.Sums.{sum_by-cons}
 use Rattle.std.specs.List.{sum_by}
 use Rattle.std.specs.Prelude.{IfErr, IsErrAnd}
 use Rattle.allocation.specs.Refusal.{IsOutOfMemory}
@@ -30,12 +31,19 @@ err-from (Err e) P fault is holds = subst P (sym is) holds
 pub wider : (m n : ℕ) → m ≤ n → IsOutOfMemory m → IsOutOfMemory n
 wider m n more refused = (refused.0, omega (arith, more, refused.1), refused.2)
 
+-- the first of two is no more than both, and what is no more than the second isn't either
+le-first : (m n all : ℕ) → all ≡ m + n → m ≤ all
+le-first m n all is = omega (arith, is)
+
+le-second : (k m n all : ℕ) → all ≡ m + n → k ≤ n → k ≤ all
+le-second k m n all is below = omega (arith, is, below)
+
 -- no binding asks for more than all of them
 room-at : (bindings : List Binding) (i : ℕ) (d : Binding) → i < length bindings
     → binding_room (binding_record (get_or bindings i d)) ≤ sum_by binding_room (map binding_record bindings)
 room-at [] i d there = absurd (omega (arith, there))
-room-at (b ∷ bs) zero d there = omega arith
-room-at (b ∷ bs) (suc i) d there = let more = room-at bs i d (omega (arith, there)) in omega (arith, more)
+room-at (b ∷ bs) zero d there = le-first (binding_room (binding_record b)) (sum_by binding_room (map binding_record bs)) _ (sum_by-cons binding_room (binding_record b) (map binding_record bs))
+room-at (b ∷ bs) (suc i) d there = le-second _ (binding_room (binding_record b)) (sum_by binding_room (map binding_record bs)) _ (sum_by-cons binding_room (binding_record b) (map binding_record bs)) (room-at bs i d (omega (arith, there)))
 
 -- a part that is refused ends the opening of what stands behind its name
 pub part-refused : {S D : Type 0} (w : Calls S D) (files : List FileUse) (path : List ℕ) (writable : Bool) (at : PartRecord) (unopened : UnopenedPart)

@@ -1,4 +1,4 @@
-use Rattle.std.proofs.Common.{◌++◌, [], ◌∷◌, arith, refl, inr}
+use Rattle.std.proofs.Common.{◌++◌, [], ◌∷◌, arith, refl, inl, inr}
 use Rattle.image_files.specs.FileUses.{image_use, part_use}
 use Rattle.stack_files.specs.declared.opening_fault.OpeningFault.TheVariants.{NoMemory}
 use Rattle.command_line.specs.PartBindings.{part_record}
@@ -59,3 +59,13 @@ returns-in_ok-push-in-Part-clause-ok g c =
       is = refl;
       more = rw c.device_part-part.ensures at c.in_ok-push-in-Part.ensures.ok;
     })
+
+pub returns-in_err-zeros-in-Zeros-clause-err : goal.returns-in_err-zeros-in-Zeros-clause-err
+returns-in_err-zeros-in-Zeros-clause-err g c =
+    err-from c.from_residual-in_err-zeros-in-Zeros.result _ NoMemory c.from_residual-in_err-zeros-in-Zeros.ensures.1
+    (rw c.in-Zeros.is (inl refl, (c.in_err-zeros-in-Zeros.field-0.0.asked, c.in_err-zeros-in-Zeros.ensures.err, c.in_err-zeros-in-Zeros.field-0.0.refused)))
+
+pub returns-in_err-ramp-in-Ramp-clause-err : goal.returns-in_err-ramp-in-Ramp-clause-err
+returns-in_err-ramp-in-Ramp-clause-err g c =
+    err-from c.from_residual-in_err-ramp-in-Ramp.result _ NoMemory c.from_residual-in_err-ramp-in-Ramp.ensures.1
+    (rw c.in-Ramp.is (inl refl, (c.in_err-ramp-in-Ramp.field-0.0.asked, c.in_err-ramp-in-Ramp.ensures.err, c.in_err-ramp-in-Ramp.field-0.0.refused)))
