@@ -72,9 +72,10 @@ fn has_small_block(blocks: &[u64], target: &Target, lowers: &[Lower]) -> bool
     ensures { (c : Configuration) → Mean c lowers.now (names target.now) → result ≡ has_small_block (by_name c 0 (block_in blocks.now)) target.now }
 {
     match verity_of(target) {
-        Some(verity) => has_smaller(blocks, verity, lowers),
-        None => false,
+        Some(verity) => return has_smaller(blocks, verity, lowers),
+        None => {}
     }
+    false
 }
 
 /// Whether a tree begins past the end of its device.

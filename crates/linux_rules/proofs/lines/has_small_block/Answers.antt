@@ -6,5 +6,5 @@ use Rattle.linux_rules.proofs.lines.has_small_block.Goals as goal
 pub returns-in-Some : goal.returns-in-Some
 returns-in-Some c = λ c' means. c.has_smaller.ensures ∙ small-is c' (block_in c.args.blocks.now) c.args.lowers.now c.args.target.now c.in-Some.verity.now c.in-Some.ensures means
 
-pub returns-in-None : goal.returns-in-None
-returns-in-None c = λ c' means. rw (← c.in-None.ensures) refl
+pub returns : goal.returns
+returns c = λ c' means. rw (← c.in-None.ensures) refl
