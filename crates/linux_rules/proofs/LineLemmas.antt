@@ -1,5 +1,5 @@
 -- What a line asks of the devices that it names.
-use Rattle.std.proofs.Common.{◌≡◌, ◌*◌, ℕ, max, List, [], ◌∷◌, refl, sym, ap, ◌∙◌, ◌||◌, Some, None, length, get_or, map, nat_lt, arith}
+use Rattle.std.proofs.Common.{◌≡◌, ◌*◌, ℕ, max, List, [], ◌∷◌, refl, sym, ap, ◌∙◌, Some, None, length, get_or, map, nat_lt, arith}
 use Rattle.std.specs.Prelude.{slice_get}
 use Rattle.std.specs.Option.{option_map_or}
 use Rattle.dm_table.specs.declared.table.Target.{Target}
@@ -10,10 +10,10 @@ use Rattle.stack_rules.specs.Records.{Configuration}
 use Rattle.stack_rules.specs.Names.{named, names, size}
 use Rattle.stack_rules.specs.Descend.{greatest, known, by_name}
 use Rattle.stack_rules.specs.Passing.{Mean}
-use Rattle.stack_rules.specs.Trees.{block_sectors, verity_of}
+use Rattle.stack_rules.specs.Trees.{verity_of}
 use Rattle.stack_rules.proofs.lemmas.LastCaseLemmas.{verity_of-is}
 use Rattle.linux_rules.specs.Blocks.{lower_block}
-use Rattle.linux_rules.specs.Rules.{begins_beyond, has_small_block, hash_sectors}
+use Rattle.linux_rules.specs.Rules.{are_smaller, begins_beyond, has_small_block, hash_sectors}
 
 -- what is given of the names is what is given of the devices that they mean
 pub by_name-row : (c : Configuration) (below : Lower → ℕ) (row : List Lower) (ns : List (List ℕ)) → Mean c row ns → map (by_name c 0 below) ns ≡ map below row
@@ -64,7 +64,7 @@ lower_block-plain c below row (verity_target line) plain means = cc
 lower_block-plain c below row target plain means = ap (λ costs. max (greatest costs) 1) (sym (by_name-row c below row (names target) means))
 
 pub small-is : (c : Configuration) (below : Lower → ℕ) (row : List Lower) (target : Target) (line : Verity) → Some line ≡ verity_of target → Mean c row (names target)
-    → (nat_lt (block_sectors line) (option_map_or below (slice_get row 0) 0) || nat_lt (hash_sectors line) (option_map_or below (slice_get row 1) 0)) ≡ has_small_block (by_name c 0 below) target
+    → are_smaller line (option_map_or below (slice_get row 0) 0) (option_map_or below (slice_get row 1) 0) ≡ has_small_block (by_name c 0 below) target
 small-is c below row target line is means =
     let two = two-of-target c row target line is means in
     rw (← is, data-at c below row line two, hash-at c below row line two) refl

@@ -50,9 +50,11 @@ abbrev pub hash_sectors : Verity → ℕ
 hash_sectors line = line.hash_block / 512
 
 -- a data or hash block is smaller than a logical block of its device
+abbrev pub are_smaller : Verity → ℕ → ℕ → Bool
+are_smaller line data_block hash_block = nat_lt (block_sectors line) data_block || nat_lt (hash_sectors line) hash_block
+
 abbrev pub has_small_block : (List ℕ → ℕ) → Target → Bool
-has_small_block block target =
-    option_map_or (λ line. nat_lt (block_sectors line) (block line.data) || nat_lt (hash_sectors line) (block line.hash)) (verity_of target) false
+has_small_block block target = option_map_or (λ line. are_smaller line (block line.data) (block line.hash)) (verity_of target) false
 
 -- the tree, even of no block, begins past the end of the hash device
 abbrev pub begins_beyond : Configuration → Target → Bool

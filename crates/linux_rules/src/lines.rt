@@ -1,14 +1,12 @@
 //! The rules on a line over the devices that it names.
-ghost use Rattle.std.specs.Prelude.{◌≡◌, ◌≤◌, ◌*◌, ◌||◌, nat_lt, slice_get};
-ghost use Rattle.std.specs.Option.{option_map_or};
+ghost use Rattle.std.specs.Prelude.{◌≡◌, ◌≤◌, ◌*◌, nat_lt};
 ghost use Rattle.dm_table.specs.Grammar.{IsTargetOfGrammar};
 ghost use Rattle.stack_rules.specs.Records.{Configuration};
 ghost use Rattle.stack_rules.specs.Names.{size, names};
 ghost use Rattle.stack_rules.specs.Descend.{by_name};
 ghost use Rattle.stack_rules.specs.Passing.{Mean};
-ghost use Rattle.stack_rules.specs.Trees.{block_sectors};
 ghost use Rattle.linux_rules.specs.Blocks.{block_in};
-ghost use Rattle.linux_rules.specs.Rules.{begins_beyond, first_kind, has_small_block, hash_sectors, line_faults};
+ghost use Rattle.linux_rules.specs.Rules.{are_smaller, begins_beyond, first_kind, has_small_block, hash_sectors, line_faults};
 
 use crate::block::{block_at, line_block, lower_block};
 use crate::refusal::LinuxKind;
@@ -48,23 +46,10 @@ fn hash_sectors(verity: &Verity) -> u32
     verity.hash_block / 512
 }
 
-fn has_smaller_data(blocks: &[u64], verity: &Verity, lowers: &[Lower]) -> bool
-    ensures { result ≡ nat_lt (block_sectors verity.now) (option_map_or (block_in blocks.now) (slice_get lowers.now 0) 0) }
+fn are_smaller(verity: &Verity, data_block: u64, hash_block: u64) -> bool
+    ensures { result ≡ are_smaller verity.now data_block hash_block }
 {
-    u64::from(block_sectors(verity)) < block_at(blocks, lowers, 0)
-}
-
-fn has_smaller_hashes(blocks: &[u64], verity: &Verity, lowers: &[Lower]) -> bool
-    ensures { result ≡ nat_lt (hash_sectors verity.now) (option_map_or (block_in blocks.now) (slice_get lowers.now 1) 0) }
-{
-    u64::from(hash_sectors(verity)) < block_at(blocks, lowers, 1)
-}
-
-/// Whether a data or hash block is smaller than a logical block of its device.
-fn has_smaller(blocks: &[u64], verity: &Verity, lowers: &[Lower]) -> bool
-    ensures { result ≡ (nat_lt (block_sectors verity.now) (option_map_or (block_in blocks.now) (slice_get lowers.now 0) 0) || nat_lt (hash_sectors verity.now) (option_map_or (block_in blocks.now) (slice_get lowers.now 1) 0)) }
-{
-    has_smaller_data(blocks, verity, lowers) || has_smaller_hashes(blocks, verity, lowers)
+    u64::from(block_sectors(verity)) < data_block || u64::from(hash_sectors(verity)) < hash_block
 }
 
 /// Whether a `verity` line has smaller blocks than its devices.
@@ -72,9 +57,14 @@ fn has_small_block(blocks: &[u64], target: &Target, lowers: &[Lower]) -> bool
     ensures { (c : Configuration) → Mean c lowers.now (names target.now) → result ≡ has_small_block (by_name c 0 (block_in blocks.now)) target.now }
 {
     match verity_of(target) {
-        Some(verity) => has_smaller(blocks, verity, lowers),
-        None => false,
+        Some(verity) => {
+            let data_block = block_at(blocks, lowers, 0);
+            let hash_block = block_at(blocks, lowers, 1);
+            return are_smaller(verity, data_block, hash_block);
+        }
+        None => {}
     }
+    false
 }
 
 /// Whether a tree begins past the end of its device.
