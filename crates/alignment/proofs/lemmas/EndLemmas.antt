@@ -1,5 +1,5 @@
 -- Which sectors end units and data blocks, by the line that has a sector, and by its run.
-use Rattle.std.proofs.Common.{◌≡◌, ℕ, ◌+◌, ◌-◌, ◌%◌, ◌<◌, ◌≤◌, ◌==◌, ◌&&◌, Bool, true, List, [], ◌∷◌, Option, Some, refl, sym, ap, ◌∙◌, subst, arith}
+use Rattle.std.proofs.Common.{◌≡◌, ℕ, ◌+◌, ◌-◌, ◌%◌, ◌<◌, ◌≤◌, ◌&&◌, Bool, true, List, Option, Some, refl, sym, ap, ◌∙◌, subst, arith}
 use Rattle.std.proofs.lemmas.Bool.{eq-eqb}
 use Rattle.std.proofs.lemmas.Nat.{div-add-mod'}
 use Rattle.dm_table.specs.declared.table.Line.{Line}
@@ -22,7 +22,7 @@ use Rattle.stack_lines.specs.declared.source.CryptPart.{CryptPart}
 use Rattle.stack_lines.specs.declared.source.Source.{Source}
 use Rattle.stack_lines.specs.declared.source.VerityPart.{VerityPart}
 use Rattle.stack_lines.specs.declared.source.Source.TheVariants.{Below, Units, UnitPart, Zeros, Fails, Block, Blocks}
-use Rattle.stack_lines.specs.Sources.{AreUnits, AreWholeBlocks, ComeFrom, IsPartOf, IsServed, IsVerityPart, LieInUnit}
+use Rattle.stack_lines.specs.Sources.{AreUnits, ComeFrom, IsPartOf, IsServed, IsVerityPart, LieInUnit}
 use Rattle.stack_lines.proofs.lemmas.VerityLineLemmas.{line-facts}
 use Rattle.alignment.specs.Ends.{block_ends, data_beneath, ends_units, is_last, line_ends, source_ends, unit_ends, unit_of_line}
 

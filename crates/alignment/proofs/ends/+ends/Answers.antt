@@ -1,12 +1,10 @@
-use Rattle.std.proofs.Common.{◌≡◌, ◌+◌, ◌<◌, ◌≤◌, ◌&&◌, ℕ, Bool, true, false, refl, sym, ap, ◌∙◌, subst, arith}
+use Rattle.std.proofs.Common.{◌≡◌, ℕ, sym, ap, ◌∙◌, subst, arith}
 use Rattle.stack_rules.specs.declared.lower.Lower.{Lower}
-use Rattle.stack_rules.specs.Names.{mapped, size}
 use Rattle.stack_meaning.proofs.lemmas.LoadedLemmas.{size-small}
-use Rattle.stack_lines.specs.declared.source.Source.{Source}
 use Rattle.stack_lines.specs.Sources.{IsServed, SourceHolds}
 use Rattle.stack_lines.proofs.lemmas.SourceLemmas.{served-depth, served-holds}
 use Rattle.alignment.specs.Ends.{ends_units, source_ends}
-use Rattle.alignment.proofs.lemmas.EndLemmas.{data-below, ends-leaf, part-below, served-ends, units-below}
+use Rattle.alignment.proofs.lemmas.EndLemmas.{data-below, ends-leaf, served-ends}
 use Rattle.alignment.proofs.ends.+ends.Goals as goal
 
 pub lower_ends-returns-in-Leaf : goal.lower_ends-returns-in-Leaf

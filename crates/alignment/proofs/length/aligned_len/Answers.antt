@@ -1,4 +1,4 @@
-use Rattle.std.proofs.Common.{◌≡◌, ℕ, ◌+◌, ◌-◌, ◌<◌, ◌≤◌, Bool, refl, sym, ap, ◌∙◌, arith}
+use Rattle.std.proofs.Common.{◌≡◌, ℕ, ◌<◌, ◌≤◌, Bool, refl, sym, ap, ◌∙◌, arith}
 use Rattle.stack_rules.specs.Names.{mapped}
 use Rattle.stack_meaning.proofs.lemmas.LoadedLemmas.{size-small}
 use Rattle.alignment.specs.Ends.{ends_units}
