@@ -37,5 +37,5 @@ returns-clause-ok g c =
 
 pub returns-in_err-path-clause-err : goal.returns-in_err-path-clause-err
 returns-in_err-path-clause-err g c =
-    let was = err_from_is_err_and c.from_residual-in_err-path.result c.from_residual-in_err-path.ensures.1 in
+    let was = err_from_is_err_and c.from_residual.result c.from_residual.ensures.1 in
     rw (was.1, was.2) (refl, c.in_err-path.ensures.err)

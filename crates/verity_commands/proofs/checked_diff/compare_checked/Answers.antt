@@ -4,7 +4,7 @@ use Rattle.verity_commands.proofs.checked_diff.compare_checked.Goals as goal
 
 pub returns-in_err-whole_tree-clause-err : goal.returns-in_err-whole_tree-clause-err
 returns-in_err-whole_tree-clause-err g c =
-    err-from c.from_residual-in_err-whole_tree.result _ c.in_err-whole_tree.field-0.0 c.from_residual-in_err-whole_tree.ensures.1
+    err-from c.from_residual.result _ c.in_err-whole_tree.field-0.0 c.from_residual.ensures.1
     (inl c.in_err-whole_tree.ensures.err)
 
 pub returns-in_err-totals-clause-err : goal.returns-in_err-totals-clause-err
