@@ -26,7 +26,7 @@ pub use invoke::{invoke_diff, invoke_survey};
 pub use paths::HashPaths;
 pub use pinned::invoke_format_pinned;
 pub use placed::{invoke_dump, invoke_format, invoke_table, invoke_verify};
-pub use places::{root_in, sector_at, trusted_in};
+pub use places::{sector_at, trusted_in};
 pub use status::verity_status;
 pub use survey::{SurveyOrder, say_totals, survey_images};
 pub use texts::{say_image_fault, say_verity_fault};

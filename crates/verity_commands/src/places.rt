@@ -17,7 +17,10 @@ pub fn sector_at(offset: u64) -> u64
 }
 
 /// The root digest that words give, by itself or in a file.
-pub fn root_in<'a, I: Images>(images: &mut I, root: &RootWord<'a>) -> Result<Digest, ImageFault<'a>>
+pub(crate) fn root_in<'a, I: Images>(
+    images: &mut I,
+    root: &RootWord<'a>,
+) -> Result<Digest, ImageFault<'a>>
     ensures ok { IfOk result (FindsRoot I.relations I.Dev.state images.old images.new root.now) }
     ensures err { IfErr result (FindsNoRoot I.relations I.Dev.state images.old images.new root.now) }
 {
