@@ -30,6 +30,10 @@ LocksAtMost old new = (new ≡ old) ⊎ ((id : FileId) × (new ≡ with_lock (So
 abbrev pub IsLockRefused : FileDev → OpenFault → Type 0
 IsLockRefused device fault = ((fault ≡ InUse) ⊎ (fault ≡ NoMemory)) × IsUnlocked (file_of device) fault
 
--- why a file isn't locked: that, or an allocation for one more was refused
+-- an allocation for one more was refused
+abbrev pub IsUnkept : OpenFault → Type 0
+IsUnkept fault = (fault ≡ NoMemory) × IsOutOfMemory 1
+
+-- why a file isn't locked
 abbrev pub IsNoLock : FileDev → OpenFault → Type 0
-IsNoLock device fault = IsLockRefused device fault ⊎ ((fault ≡ NoMemory) × IsOutOfMemory 1)
+IsNoLock device fault = IsLockRefused device fault ⊎ IsUnkept fault

@@ -1,5 +1,5 @@
 //! A new text beside the file whose place it takes.
-ghost use Rattle.std.specs.Prelude.{◌≡◌, ◌≤◌, ◌+◌, IfErr, IfOk, OnErr, OnOk, length, string_bytes};
+ghost use Rattle.std.specs.Prelude.{◌≡◌, ◌≤◌, ◌+◌, ◌++◌, IfErr, IfOk, OnErr, OnOk, codes, decimal, length, string_bytes};
 ghost use Rattle.allocation.specs.Asked.{asked};
 ghost use Rattle.image_files.specs.Drafts.{IsDraft, IsFilled, IsPlaced, IsUndrafted, IsUnfilled, IsUnplaced, Replaces, Tries, beside};
 
@@ -28,6 +28,13 @@ fn name_beside(alloc: Global, target: &str, number: u32) -> Result<String, OutOf
     if number == 0 {
         return joined(alloc, target, ".dmstack-new");
     }
+    numbered_name(alloc, target, number)
+}
+
+fn numbered_name(alloc: Global, target: &str, number: u32) -> Result<String, OutOfMemory>
+    ensures ok { IfOk result (λ name. string_bytes name ≡ target.now ++ (codes ".dmstack-new-" ++ decimal number)) }
+    ensures err { IfErr result (λ e. asked e ≤ length target.now + 40) }
+{
     let mut digits = Buffer::new();
     let mut name = joined(alloc, target, ".dmstack-new-")?;
     push_text(&mut name, digits.format(number))?;

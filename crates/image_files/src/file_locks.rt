@@ -1,7 +1,7 @@
 //! Locks on the files that are open for writing.
-ghost use Rattle.std.specs.Prelude.{◌≡◌, [], IfErr, OnErr, OnOk};
+ghost use Rattle.std.specs.Prelude.{◌≡◌, ◌++◌, [], ◌∷◌, IfErr, OnErr, OnOk};
 ghost use Rattle.block_device.specs.FileId.{file_id};
-ghost use Rattle.image_files.specs.FileLocks.{IsLockRefused, IsNoLock, is_locked, with_lock};
+ghost use Rattle.image_files.specs.FileLocks.{IsLockRefused, IsNoLock, IsUnkept, is_locked, with_lock};
 
 use crate::one_file::is_one_file;
 use allocation::push;
@@ -45,14 +45,9 @@ impl FileLocks {
             return Ok(());
         }
         if let Some(lock) = lock_of(device)? {
-            if push(&mut self.locks, lock).is_err() {
-                return Err(OpenFault::NoMemory);
-            }
+            keep(&mut self.locks, lock)?;
         }
-        match push(&mut self.files, id) {
-            Ok(()) => Ok(()),
-            Err(_) => Err(OpenFault::NoMemory),
-        }
+        keep(&mut self.files, id)
     }
 
     fn has_locked(&self, id: FileId) -> bool
@@ -61,6 +56,18 @@ impl FileLocks {
         self.files
             .iter()
             .any(|file| is_one_file(Some(*file), Some(id)))
+    }
+}
+
+// Appends an element.
+fn keep<T: Drop>(list: &mut Vec<T>, element: T) -> Result<(), OpenFault>
+    ensures ok { OnOk result (list.new.items ≡ list.old.items ++ element ∷ []) }
+    ensures same { OnErr result (list.new.items ≡ list.old.items) }
+    ensures err { IfErr result IsUnkept }
+{
+    match push(list, element) {
+        Ok(()) => Ok(()),
+        Err(_) => Err(OpenFault::NoMemory),
     }
 }
 
