@@ -1,7 +1,6 @@
 -- Which sectors end units and data blocks, by the line that has a sector, and by its run.
 use Rattle.std.proofs.Common.{◌≡◌, ℕ, ◌+◌, ◌-◌, ◌%◌, ◌<◌, ◌≤◌, ◌&&◌, Bool, true, List, Option, Some, refl, sym, ap, ◌∙◌, subst, arith}
 use Rattle.std.proofs.lemmas.Bool.{eq-eqb}
-use Rattle.std.proofs.lemmas.Nat.{div-add-mod'}
 use Rattle.dm_table.specs.declared.table.Line.{Line}
 use Rattle.dm_table.specs.declared.table.Target.{Target}
 use Rattle.dm_table.specs.declared.table.Target.TheVariants.{Linear, Striped, Zero, Error, Crypt, Verity, Unstriped}
@@ -22,7 +21,7 @@ use Rattle.stack_lines.specs.declared.source.CryptPart.{CryptPart}
 use Rattle.stack_lines.specs.declared.source.Source.{Source}
 use Rattle.stack_lines.specs.declared.source.VerityPart.{VerityPart}
 use Rattle.stack_lines.specs.declared.source.Source.TheVariants.{Below, Units, UnitPart, Zeros, Fails, Block, Blocks}
-use Rattle.stack_lines.specs.Sources.{AreUnits, ComeFrom, IsPartOf, IsServed, IsVerityPart, LieInUnit}
+use Rattle.stack_lines.specs.Sources.{ComeFrom, IsPartOf, IsServed, IsVerityPart}
 use Rattle.stack_lines.proofs.lemmas.VerityLineLemmas.{line-facts}
 use Rattle.alignment.specs.Ends.{block_ends, data_beneath, ends_units, is_last, line_ends, source_ends, unit_ends, unit_of_line}
 
@@ -113,13 +112,7 @@ served-ends c d s source loaded r =
     let inside : s + 0 < r.line.start + r.line.length = omega (arith, r.fits) in
     sym (ends-line c d r.number s 0 r.line loaded r.found r.start inside ∙ come-ends c d r.number (s - r.line.start) r.line.target source r.come) ∙ ap (ends_units c (mapped d)) at
 
--- ---- what the runs of single sectors are
-
-pub units-below : (c : Configuration) (u : CryptPart) → AreUnits c u 1 → u.units.offset + u.first < size c u.lower
-units-below c u units = omega (arith, units.inside, units.aligned, div-add-mod' u.first (per_unit u.units))
-
-pub part-below : (c : Configuration) (u : CryptPart) → LieInUnit c u 1 → u.units.offset + u.first < size c u.lower
-part-below c u part = omega (arith, part.inside, part.within, div-add-mod' u.first (per_unit u.units))
+-- ---- data blocks
 
 -- the data of a verity line stand less deep, and its sectors lie there
 pub record IsDataBelow (c : Configuration) (x : VerityPart) : Type 0 where
