@@ -1,7 +1,7 @@
 -- How commands end that find no tree, or compare one with what devices hold.
 use Rattle.std.proofs.Common.{ℕ, Bool, List, Option, inl, inr}
 use Rattle.block_device.specs.Device.{Device}
-use Rattle.image_pin.specs.declared.pin.Pin.{Pin}
+use Rattle.image_pin.specs.declared.pin.Pin.{Pin as ImagePin}
 use Rattle.verity_format.specs.Superblock.{SuperRecord}
 use Rattle.verity_format.specs.Trees.{tree_alone}
 use Rattle.image_commands.specs.declared.fault.ImageFault.{ImageFault}
@@ -14,7 +14,7 @@ use Rattle.image_commands.specs.PlacedImages.{IsPlacedSuperEnd}
 use Rattle.image_commands.specs.Places.{behind, tree_start}
 use Rattle.image_commands.specs.TreeImages.{IsTreeComparisonEnd}
 
-pub no-tree-end : (device device' : Device) (first : ℕ) (pin : Option Pin) (failed : Bool) (fault : NoTree)
+pub no-tree-end : (device device' : Device) (first : ℕ) (pin : Option ImagePin) (failed : Bool) (fault : NoTree)
     → IsNoTree (behind device first) first pin device' fault → IsPlacedSuperEnd device first pin failed (no_tree_fault fault)
 no-tree-end device device' first pin failed (Unread fault) cause = inl (device', cause)
 no-tree-end device device' first pin failed Misplaced cause = inr cause
