@@ -78,6 +78,7 @@ FUNCTION = re.compile(r" *(?:pub(?:\(\w+\))? )?(?:const )?fn (\w+)")
 EVIDENCE = {
     "allocation": re.compile(r"\blibrary-refused\b|\ballocation\.specs\.declared\.seal\.Seal\b"),
     "block_device": re.compile(r"\bwas-(?:opened|said-of-path|said-of-file|lengthened|told|unlocked|called)\b|\bblock_device\.specs\.declared\.seal\.Seal\b"),
+    "image_files": re.compile(r"\bwas-(?:made|asked)\b|\bimage_files\.(?:specs\.declared\.seal\.Seal|proofs\.FileLemmas)\b"),
 }
 EXPORT = re.compile(r"\bpub use (?:crate::)?seal\b")
 OTHER = re.compile(r"\s*(?://|ghost\b|requires\b|ensures\b)")

@@ -69,15 +69,15 @@ LocksNoMore view old new = view.locked new ≡ view.locked old
 
 -- Each says that the call was made, on this opener. What files hold is not in the opener, so none says that nothing changed.
 abbrev pub file_relations : {S D : Type 0} → FileView S D → Opener S D
-file_relations {S} {D} view = record {
+file_relations {D = D} view = record {
   opens = λ old path writable outcome new. WasMade old (Open path writable outcome) new × LocksFile view writable outcome old new × OpensFile (λ image. IsOpenFile view image path writable) outcome;
   opens_part = λ old path writable part outcome new. WasMade old (OpenPart path writable part outcome) new × LocksFile view writable outcome old new × OpensFile (λ image. IsOpenPart view image path writable part) outcome;
-  tells = λ old path most outcome new. WasMade {S} {D} old (ReadText path most outcome) new × LocksNoMore view old new;
+  tells = λ old path most outcome new. WasMade {D = D} old (ReadText path most outcome) new × LocksNoMore view old new;
   takes = λ old path device new. WasMade old (Close path device) new × LocksNoMore view old new;
   takes_part = λ old path part device new. WasMade old (ClosePart path part device) new × LocksNoMore view old new;
-  grows = λ old path sectors outcome new. WasMade {S} {D} old (Grow path sectors outcome) new × LocksAtMost (view.locked old) (view.locked new) × Grows path sectors outcome;
-  measures = λ old path outcome new. WasMade {S} {D} old (Measure path outcome) new × LocksNoMore view old new × EndsInPart path outcome;
-  compares = λ old path other outcome new. WasMade {S} {D} old (Compare path other outcome) new × LocksNoMore view old new;
-  replaces = λ old path bytes outcome new. WasMade {S} {D} old (Replace path bytes outcome) new × LocksNoMore view old new × view.replaced path bytes outcome;
-  tries = λ old path outcome new. WasMade {S} {D} old (TryReplace path outcome) new × LocksNoMore view old new × view.tried path outcome;
+  grows = λ old path sectors outcome new. WasMade {D = D} old (Grow path sectors outcome) new × LocksAtMost (view.locked old) (view.locked new) × Grows path sectors outcome;
+  measures = λ old path outcome new. WasMade {D = D} old (Measure path outcome) new × LocksNoMore view old new × EndsInPart path outcome;
+  compares = λ old path other outcome new. WasMade {D = D} old (Compare path other outcome) new × LocksNoMore view old new;
+  replaces = λ old path bytes outcome new. WasMade {D = D} old (Replace path bytes outcome) new × LocksNoMore view old new × view.replaced path bytes outcome;
+  tries = λ old path outcome new. WasMade {D = D} old (TryReplace path outcome) new × LocksNoMore view old new × view.tried path outcome;
 }

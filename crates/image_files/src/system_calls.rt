@@ -124,7 +124,7 @@ impl<R: Files<File = File> + AllocGlobal> FileCalls for SystemCalls<'_, R> {
         };
         let file = self.create_new(name, other.mode() & PERMISSION_BITS)?;
         if take_after(&file, &other).is_err() {
-            self.remove(name);
+            let _removed = fs::remove_file(self.rt, name);
             return Err(CreateFault::Failed);
         }
         Ok(file)
