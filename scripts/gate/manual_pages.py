@@ -111,22 +111,33 @@ def source_of(pages):
     return HEAD + "\n".join(made)
 
 
+def constant_of(what, command, said):
+    """A constant as rt fmt lays it out, since clauses can name one, and no part of a static list of structs."""
+    name = f"{command.upper() or 'PROGRAM'}_{what}"
+    text = said.replace("\\", "\\\\").replace('"', '\\"')
+    head = f"const {name}: &str ="
+    between = "\n    " if len(f'{head} "{text}";'.split("\n")[0]) > 100 else " "
+    return name, f'{head}{between}"{text}";\n\n'
+
+
 def static_of(name, what, pages):
-    text = f"/// {what}\npub static {name}: [Page; {len(pages)}] = [\n"
+    text, made = "", f"/// {what}\npub static {name}: [Page; {len(pages)}] = [\n"
     for command, _usage, lines in pages:
-        body = "\n".join(lines) + "\n"
-        body = body.replace("\\", "\\\\").replace('"', '\\"')
-        text += f'    Page {{\n        name: "{command}",\n        text: "{body}",\n    }},\n'
-    return text + "];\n"
+        constant, line = constant_of("PAGE", command, "\n".join(lines) + "\n")
+        text += line
+        made += f'    Page {{\n        name: "{command}",\n        text: {constant},\n    }},\n'
+    return text + made + "];\n"
 
 
 def commands_of(pages):
     """The list of the commands, in the order of the pages, without the program's own page."""
     pages = sorted((it for it in pages if it[0]), key=lambda it: it[0] not in ON_STACKS)
-    text = HEAD_OF_COMMANDS + f"/// All commands.\npub static COMMANDS: [Command; {len(pages)}] = [\n"
+    text, made = HEAD_OF_COMMANDS, f"/// All commands.\npub static COMMANDS: [Command; {len(pages)}] = [\n"
     for name, usage, _lines in pages:
-        text += f'    Command {{\n        name: "{name}",\n        usage: "{usage}",\n    }},\n'
-    return text + "];\n"
+        constant, line = constant_of("USAGE", name, usage)
+        text += line
+        made += f'    Command {{\n        name: "{name}",\n        usage: {constant},\n    }},\n'
+    return text + made + "];\n"
 
 
 def main():

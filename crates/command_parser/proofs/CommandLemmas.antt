@@ -1,6 +1,6 @@
 -- What words invoke, as clap cuts them.
 use Rattle.std.proofs.Common.{◌≡◌, Bool, List, [], length, map, codes, Option, Some, None, refl, ap, sym, inl, inr, ◌∙◌}
-use Rattle.std.specs.Prelude.{option_map, unwrap_or, Box}
+use Rattle.std.specs.Prelude.{is_some, option_map, unwrap_or, Box}
 use Rattle.std.specs.Option.{option_and_then}
 use Rattle.std.specs.Result.{result_ok}
 use Rattle.clap.proofs.WalkLemmas.{raw_values-rows}
@@ -16,9 +16,10 @@ use Rattle.clap.specs.declared.parser.matches.Found.{Found}
 use Rattle.command_line.specs.declared.fault.WordsFault.{WordsFault}
 use Rattle.command_line.specs.declared.fault.WordsFault.TheVariants.{NoMemory, Usage}
 use Rattle.command_line.specs.CommandWords.{IsMisuse, IsUsage, RefusesWords, invocation_of}
+use Rattle.command_line.specs.ImageValues.{options_read}
 use Rattle.command_line.specs.Invocations.{InvocationRecord}
 use Rattle.command_line.specs.Misuses.{Reading}
-use Rattle.command_parser.specs.CommandLines.{IsMisusedLine, IsMisusedText, IsNoCommand, IsUnread, is_behind_dashes, line_said, options_said, positional_in, said_by_rows, texts_in}
+use Rattle.command_parser.specs.CommandLines.{IsMisusedLine, IsMisusedText, IsNoCommand, IsUnread, invoked, is_behind_dashes, line_said, options_said, positional_in, said_by_rows, texts_in}
 use Rattle.command_line.specs.FormatOptions.{OptionTexts}
 use Rattle.command_parser.specs.Grammar.{grammar}
 
@@ -84,6 +85,12 @@ unread-line words NoMemory unread = tt
 pub line-text : (words : List Text) (fault : WordsFault) → IsMisuse (IsMisusedLine words) fault → IsMisuse (IsMisusedText words) fault
 line-text words (Usage misuse) misused = inl misused
 line-text words NoMemory misused = tt
+
+-- a command, of which an option says no value of an image
+pub value-text : (words : List Text) (invocation : InvocationRecord) (texts : OptionTexts) (fault : WordsFault) → invoked words ≡ Some invocation → options_said words ≡ Some texts
+    → RefusesWords (options_read texts) fault → IsMisuse (IsMisusedText words) fault
+value-text words invocation texts (Usage misuse) is options refuses = inr (ap is_some is, ap (option_map options_read) options ∙ ap Some refuses)
+value-text words invocation texts NoMemory is options refuses = tt
 
 -- arguments in which clap finds no command
 pub none-said : (words : List Text) (matches : ArgMatches) → subcommand_rows_of matches ≡ subcommand_of grammar words → None ≡ option_map (λ p. p.1) (subcommand_rows_of matches) → line_said words ≡ None

@@ -1,5 +1,5 @@
 -- What clap makes of the words of a command line: a command's name, its options and its positional words.
-use Rattle.std.specs.Prelude.{◌≡◌, ◌⊎◌, ◌-◌, ◌&&◌, ℕ, Bool, true, false, nat_lt, List, [], length, get_or, codes, Option, None, Some, Err, option_map, unwrap_or}
+use Rattle.std.specs.Prelude.{◌≡◌, ◌⊎◌, ◌-◌, ◌&&◌, ℕ, Bool, true, false, nat_lt, List, [], length, get_or, codes, Option, None, Some, Err, is_some, option_map, unwrap_or}
 use Rattle.std.specs.Option.{option_and_then, option_map_or}
 use Rattle.std.specs.Result.{result_ok}
 use Rattle.std.specs.Str.{bytes_eq}
@@ -85,6 +85,6 @@ IsNoCommand words = (takes grammar words ≡ true → ⊥) ⊎ (invoked words �
 abbrev pub options_said : List Text → Option OptionTexts
 options_said words = option_map (λ cut. texts_in cut.1) (subcommand_of grammar words)
 
--- the argument does, or it is an option that says no value of an image
+-- the argument does, or they are a command, and it is the first option that says no value of an image
 abbrev pub IsMisusedText : List Text → MisuseRecord → Type 0
-IsMisusedText words misuse = IsMisusedLine words misuse ⊎ (option_map options_read (options_said words) ≡ Some (Err misuse))
+IsMisusedText words misuse = IsMisusedLine words misuse ⊎ ((is_some (invoked words) ≡ true) × (option_map options_read (options_said words) ≡ Some (Err misuse)))

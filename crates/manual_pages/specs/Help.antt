@@ -3,8 +3,8 @@ use Rattle.std.specs.Prelude.{ℕ, ◌||◌, not, Bool, false, List, [], ◌∷�
 use Rattle.std.specs.List.{list_any}
 use Rattle.std.specs.Option.{option_and_then}
 use Rattle.std.specs.Str.{bytes_eq}
-use Rattle.manual_pages.specs.declared.page.Page.{Page}
-use Rattle.manual_pages.specs.Pages.{command_name, command_of, page_of}
+use Rattle.manual_pages.specs.Commands.{command_of}
+use Rattle.manual_pages.specs.Pages.{PageRecord, page_of}
 
 -- the argument isn't `--` alone, after which there is no option
 abbrev pub is_ahead : List ℕ → Bool
@@ -18,11 +18,11 @@ abbrev pub has_help : List (List ℕ) → Bool
 has_help words = list_any is_help (take_while is_ahead words)
 
 -- the page of the command of that name
-abbrev pub command_page : List ℕ → Option Page
-command_page name = option_and_then (λ command. page_of (command_name command)) (command_of name)
+abbrev pub command_page : List ℕ → Option PageRecord
+command_page name = option_and_then (λ command. page_of command.name) (command_of name)
 
 -- the program's page if the first argument asks for help, or its command's page if one after it does
-abbrev pub help_page : List (List ℕ) → Option Page
+abbrev pub help_page : List (List ℕ) → Option PageRecord
 help_page [] = None
 help_page (first ∷ words) =
     if is_help first then page_of []

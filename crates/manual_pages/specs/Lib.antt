@@ -1,4 +1,5 @@
 pub mod Causes
+pub mod Commands
 pub mod Pages
 pub mod Versions
 pub mod Help

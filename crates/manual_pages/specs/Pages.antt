@@ -1,48 +1,50 @@
--- The pages of the manual, and the commands, by their names.
+-- The pages of the manual.
 use Rattle.std.specs.Prelude.{ℕ, ◌++◌, List, [], ◌∷◌, codes, find, Option}
 use Rattle.std.specs.Str.{bytes_eq}
-use Rattle.manual_pages.specs.declared.command.Command.{Command}
-use Rattle.manual_pages.specs.declared.commands.TheConstants.{COMMANDS}
 use Rattle.manual_pages.specs.declared.page.Page.{Page}
-use Rattle.manual_pages.specs.declared.pages.TheConstants.{IMAGE_PAGES, STACK_PAGES}
+use Rattle.manual_pages.specs.declared.pages.TheConstants.{PROGRAM_PAGE, CAT_PAGE, COPY_PAGE, DIFF_PAGE, DUMP_PAGE, FORMAT_PAGE, LOAD_PAGE, MANUAL_PAGE, NBD_PAGE, PARTITIONS_PAGE, READ_PAGE, REPAIR_PAGE, SCAN_PAGE, SESSION_PAGE, STORE_PAGE, TABLE_PAGE, VERIFY_PAGE, VERSION_PAGE, WRITE_PAGE}
 
--- the commands on stacks
-unfoldable pub stack_names : List (List ℕ)
-stack_names =
-    codes "load" ∷ codes "read" ∷ codes "write" ∷ codes "session" ∷ codes "nbd" ∷ codes "scan" ∷ codes "copy" ∷ codes "cat" ∷ codes "store" ∷ []
+-- a command's name, or an empty one for the page of the program; and what is printed
+pub record PageRecord : Type 0 where
+  pub name : List ℕ
+  pub text : List ℕ
 
--- the commands on images, and `manual` and `version`
-unfoldable pub image_names : List (List ℕ)
-image_names =
-    codes "format" ∷ codes "verify" ∷ codes "dump" ∷ codes "table" ∷ codes "repair" ∷ codes "partitions" ∷ codes "diff" ∷ codes "manual" ∷ codes "version" ∷ []
+abbrev pub page_text : List ℕ → List ℕ → PageRecord
+page_text name text = record { name = name; text = text }
 
--- the name, if it is one of these
-unfoldable pub name_in : List (List ℕ) → List ℕ → Option (List ℕ)
-name_in names name = find (λ n. bytes_eq n name) names
+abbrev pub page_record : Page → PageRecord
+page_record page = page_text page.name.now page.text.now
 
--- the name of a command
-abbrev pub command_named : List ℕ → Option (List ℕ)
-command_named name = name_in (stack_names ++ image_names) name
+-- the program's page, and those of the commands on stacks
+unfoldable pub stack_pages : List PageRecord
+stack_pages =
+    page_text [] PROGRAM_PAGE.now ∷
+    page_text (codes "load") LOAD_PAGE.now ∷
+    page_text (codes "read") READ_PAGE.now ∷
+    page_text (codes "write") WRITE_PAGE.now ∷
+    page_text (codes "session") SESSION_PAGE.now ∷
+    page_text (codes "nbd") NBD_PAGE.now ∷
+    page_text (codes "scan") SCAN_PAGE.now ∷
+    page_text (codes "copy") COPY_PAGE.now ∷
+    page_text (codes "cat") CAT_PAGE.now ∷
+    page_text (codes "store") STORE_PAGE.now ∷ []
 
--- the name of a page, which is its command's, or empty for the page of the program
-abbrev pub page_named : List ℕ → Option (List ℕ)
-page_named name = name_in ([] ∷ (stack_names ++ image_names)) name
+-- those of the commands on images, and of `manual` and `version`
+unfoldable pub image_pages : List PageRecord
+image_pages =
+    page_text (codes "format") FORMAT_PAGE.now ∷
+    page_text (codes "verify") VERIFY_PAGE.now ∷
+    page_text (codes "dump") DUMP_PAGE.now ∷
+    page_text (codes "table") TABLE_PAGE.now ∷
+    page_text (codes "repair") REPAIR_PAGE.now ∷
+    page_text (codes "partitions") PARTITIONS_PAGE.now ∷
+    page_text (codes "diff") DIFF_PAGE.now ∷
+    page_text (codes "manual") MANUAL_PAGE.now ∷
+    page_text (codes "version") VERSION_PAGE.now ∷ []
 
-abbrev pub page_name : Page → List ℕ
-page_name page = page.name.now
+unfoldable pub page_in : List PageRecord → List ℕ → Option PageRecord
+page_in pages name = find (λ page. bytes_eq page.name name) pages
 
-abbrev pub command_name : Command → List ℕ
-command_name command = command.name.now
-
--- the page of that name, with its text, and the command, with how it is called
-unfoldable pub page_in : List Page → List ℕ → Option Page
-page_in pages name = find (λ page. bytes_eq (page_name page) name) pages
-
-unfoldable pub page_of : List ℕ → Option Page
-page_of name = page_in (STACK_PAGES ++ IMAGE_PAGES) name
-
-unfoldable pub command_in : List Command → List ℕ → Option Command
-command_in commands name = find (λ command. bytes_eq (command_name command) name) commands
-
-unfoldable pub command_of : List ℕ → Option Command
-command_of name = command_in COMMANDS name
+-- the page of that name
+abbrev pub page_of : List ℕ → Option PageRecord
+page_of name = page_in (stack_pages ++ image_pages) name

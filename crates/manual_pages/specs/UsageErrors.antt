@@ -6,11 +6,10 @@ use Rattle.command_line.specs.declared.misuse.Cause.{Cause}
 use Rattle.command_line.specs.declared.misuse.Cause.TheVariants.{Unknown}
 use Rattle.command_line.specs.declared.misuse.Misuse.{Misuse}
 use Rattle.manual_pages.specs.Causes.{cause_text}
+use Rattle.manual_pages.specs.Commands.{CommandRecord, command_of}
 use Rattle.manual_pages.specs.Help.{asks_version, help_page}
-use Rattle.manual_pages.specs.Pages.{command_of}
+use Rattle.manual_pages.specs.Pages.{PageRecord}
 use Rattle.manual_pages.specs.Versions.{version_text}
-use Rattle.manual_pages.specs.declared.command.Command.{Command}
-use Rattle.manual_pages.specs.declared.page.Page.{Page}
 
 -- a command hasn't that option
 unfoldable pub option_text : List ℕ → List ℕ → List ℕ
@@ -49,8 +48,8 @@ misuse_or_none name None = no_misuse_text name
 unfoldable pub usage_text : List ℕ → List ℕ → List ℕ
 usage_text name usage = codes "usage: " ++ (usage ++ (codes "\n`dmstack manual " ++ (name ++ codes "` says more\n")))
 
-abbrev pub command_error : Command → Option Misuse → List ℕ
-command_error command misuse = misuse_or_none command.name.now (named_misuse misuse) ++ usage_text command.name.now command.usage.now
+abbrev pub command_error : CommandRecord → Option Misuse → List ℕ
+command_error command misuse = misuse_or_none command.name (named_misuse misuse) ++ usage_text command.name command.usage
 
 unfoldable pub no_arguments_text : List ℕ
 no_arguments_text = codes "dmstack: a command is wanted; `dmstack manual` names them\n"
@@ -67,12 +66,12 @@ abbrev pub name_error : List ℕ → List ℕ
 name_error name = no_command_text ++ (shown_path name ++ page_text)
 
 -- of a name, with the command of that name
-abbrev pub named_error : List ℕ → Option Misuse → Option Command → List ℕ
+abbrev pub named_error : List ℕ → Option Misuse → Option CommandRecord → List ℕ
 named_error name misuse (Some command) = command_error command misuse
 named_error name misuse None = name_error name
 
 -- of all arguments, with the command that the first one names
-abbrev pub arguments_error : List (List ℕ) → Option Misuse → Option Command → List ℕ
+abbrev pub arguments_error : List (List ℕ) → Option Misuse → Option CommandRecord → List ℕ
 arguments_error [] misuse command = no_arguments_text
 arguments_error (name ∷ words) misuse command = named_error name misuse command
 
@@ -82,21 +81,21 @@ page_wanted (name ∷ command ∷ []) = if bytes_eq name (codes "manual") then S
 page_wanted words = None
 
 -- if no argument is misused, there is no page of that name
-abbrev pub page_error : Option (List ℕ) → List (List ℕ) → Option Misuse → Option Command → List ℕ
+abbrev pub page_error : Option (List ℕ) → List (List ℕ) → Option Misuse → Option CommandRecord → List ℕ
 page_error (Some name) words None command = name_error name
 page_error (Some name) words (Some misuse) command = arguments_error words (Some misuse) command
 page_error None words misuse command = arguments_error words misuse command
 
-abbrev pub usage_error : List (List ℕ) → Option Misuse → Option Command → List ℕ
+abbrev pub usage_error : List (List ℕ) → Option Misuse → Option CommandRecord → List ℕ
 usage_error words misuse command = page_error (page_wanted words) words misuse command
 
 -- the page, or else the error
-abbrev pub page_or_error : List (List ℕ) → Option Misuse → Option Command → Option Page → List ℕ
-page_or_error words misuse command (Some page) = page.text.now
+abbrev pub page_or_error : List (List ℕ) → Option Misuse → Option CommandRecord → Option PageRecord → List ℕ
+page_or_error words misuse command (Some page) = page.text
 page_or_error words misuse command None = usage_error words misuse command
 
 -- the command that the first argument names
-abbrev pub first_command : List (List ℕ) → Option Command
+abbrev pub first_command : List (List ℕ) → Option CommandRecord
 first_command [] = None
 first_command (name ∷ words) = command_of name
 

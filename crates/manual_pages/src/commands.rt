@@ -2,78 +2,123 @@
 
 use crate::command::Command;
 
+const LOAD_USAGE: &str = "dmstack load [--json] [--linux] STACK BINDING...";
+
+const READ_USAGE: &str = "dmstack read [--cache N] STACK NAME FIRST COUNT BINDING...";
+
+const WRITE_USAGE: &str = "dmstack write [--cache N] STACK NAME FIRST SOURCE BINDING...";
+
+const SESSION_USAGE: &str = "dmstack session [--cache N] BINDING...";
+
+const NBD_USAGE: &str = "dmstack nbd [--cache N] [--all] STACK NAME BINDING...";
+
+const SCAN_USAGE: &str =
+    "dmstack scan [--cache N] [--map FILE] [--progress] [--json] STACK NAME BINDING...";
+
+const COPY_USAGE: &str =
+    "dmstack copy [--cache N] [--differing] [--map FILE] [--progress] STACK NAME OUT BINDING...";
+
+const CAT_USAGE: &str =
+    "dmstack cat [--cache N] [--first N] [--count N] [--progress] STACK NAME BINDING...";
+
+const STORE_USAGE: &str =
+    "dmstack store [--cache N] [--first N] [--progress] STACK NAME SOURCE BINDING...";
+
+const FORMAT_USAGE: &str =
+    "dmstack format [--data-block N] [--hash-block N] [--blocks N] [--salt HEX] [--uuid U] [--hash-offset BYTES] [--no-superblock] [--grow] [--progress] [--fec FILE] [--fec-roots N] [--pin FILE] DATA HASH";
+
+const VERIFY_USAGE: &str =
+    "dmstack verify [--data-block N] [--hash-block N] [--blocks N] [--salt HEX] [--hash-offset BYTES] [--root-hash-file FILE] [--no-superblock] [--all] [--json] [--progress] [--fec FILE] [--fec-roots N] [--pin FILE] DATA HASH ROOT";
+
+const DUMP_USAGE: &str = "dmstack dump [--hash-offset BYTES] [--json] [--pin ROOT] HASH";
+
+const TABLE_USAGE: &str =
+    "dmstack table [--data-block N] [--hash-block N] [--blocks N] [--salt HEX] [--hash-offset BYTES] [--name NAME] [--root-hash-file FILE] [--no-superblock] [--pin FILE] HASH ROOT DATANAME HASHNAME";
+
+const REPAIR_USAGE: &str =
+    "dmstack repair [--hash-offset BYTES] [--root-hash-file FILE] [--check] [--fec FILE] [--fec-roots N] [--pin FILE] DATA HASH ROOT [DATACOPY HASHCOPY]...";
+
+const PARTITIONS_USAGE: &str =
+    "dmstack partitions [--sector-size 512|4096] [--json] [--stack] [--root ROOT] IMAGE";
+
+const DIFF_USAGE: &str = "dmstack diff [--all] [--blocks N] [--json] HASH1 ROOT1 HASH2 ROOT2";
+
+const MANUAL_USAGE: &str = "dmstack manual [COMMAND]";
+
+const VERSION_USAGE: &str = "dmstack version";
+
 /// All commands.
 pub static COMMANDS: [Command; 18] = [
     Command {
         name: "load",
-        usage: "dmstack load [--json] [--linux] STACK BINDING...",
+        usage: LOAD_USAGE,
     },
     Command {
         name: "read",
-        usage: "dmstack read [--cache N] STACK NAME FIRST COUNT BINDING...",
+        usage: READ_USAGE,
     },
     Command {
         name: "write",
-        usage: "dmstack write [--cache N] STACK NAME FIRST SOURCE BINDING...",
+        usage: WRITE_USAGE,
     },
     Command {
         name: "session",
-        usage: "dmstack session [--cache N] BINDING...",
+        usage: SESSION_USAGE,
     },
     Command {
         name: "nbd",
-        usage: "dmstack nbd [--cache N] [--all] STACK NAME BINDING...",
+        usage: NBD_USAGE,
     },
     Command {
         name: "scan",
-        usage: "dmstack scan [--cache N] [--map FILE] [--progress] [--json] STACK NAME BINDING...",
+        usage: SCAN_USAGE,
     },
     Command {
         name: "copy",
-        usage: "dmstack copy [--cache N] [--differing] [--map FILE] [--progress] STACK NAME OUT BINDING...",
+        usage: COPY_USAGE,
     },
     Command {
         name: "cat",
-        usage: "dmstack cat [--cache N] [--first N] [--count N] [--progress] STACK NAME BINDING...",
+        usage: CAT_USAGE,
     },
     Command {
         name: "store",
-        usage: "dmstack store [--cache N] [--first N] [--progress] STACK NAME SOURCE BINDING...",
+        usage: STORE_USAGE,
     },
     Command {
         name: "format",
-        usage: "dmstack format [--data-block N] [--hash-block N] [--blocks N] [--salt HEX] [--uuid U] [--hash-offset BYTES] [--no-superblock] [--grow] [--progress] [--fec FILE] [--fec-roots N] [--pin FILE] DATA HASH",
+        usage: FORMAT_USAGE,
     },
     Command {
         name: "verify",
-        usage: "dmstack verify [--data-block N] [--hash-block N] [--blocks N] [--salt HEX] [--hash-offset BYTES] [--root-hash-file FILE] [--no-superblock] [--all] [--json] [--progress] [--fec FILE] [--fec-roots N] [--pin FILE] DATA HASH ROOT",
+        usage: VERIFY_USAGE,
     },
     Command {
         name: "dump",
-        usage: "dmstack dump [--hash-offset BYTES] [--json] [--pin ROOT] HASH",
+        usage: DUMP_USAGE,
     },
     Command {
         name: "table",
-        usage: "dmstack table [--data-block N] [--hash-block N] [--blocks N] [--salt HEX] [--hash-offset BYTES] [--name NAME] [--root-hash-file FILE] [--no-superblock] [--pin FILE] HASH ROOT DATANAME HASHNAME",
+        usage: TABLE_USAGE,
     },
     Command {
         name: "repair",
-        usage: "dmstack repair [--hash-offset BYTES] [--root-hash-file FILE] [--check] [--fec FILE] [--fec-roots N] [--pin FILE] DATA HASH ROOT [DATACOPY HASHCOPY]...",
+        usage: REPAIR_USAGE,
     },
     Command {
         name: "partitions",
-        usage: "dmstack partitions [--sector-size 512|4096] [--json] [--stack] [--root ROOT] IMAGE",
+        usage: PARTITIONS_USAGE,
     },
     Command {
         name: "diff",
-        usage: "dmstack diff [--all] [--blocks N] [--json] HASH1 ROOT1 HASH2 ROOT2",
+        usage: DIFF_USAGE,
     },
     Command {
         name: "manual",
-        usage: "dmstack manual [COMMAND]",
+        usage: MANUAL_USAGE,
     },
     Command {
         name: "version",
-        usage: "dmstack version",
+        usage: VERSION_USAGE,
     },
 ];

@@ -1,7 +1,8 @@
 //! Arguments that ask for help or for the version.
-ghost use Rattle.std.specs.Prelude.{◌≡◌, map, string_bytes, take_while};
+ghost use Rattle.std.specs.Prelude.{◌≡◌, map, option_map, string_bytes, take_while};
 ghost use Rattle.std.specs.List.{list_any};
 ghost use Rattle.manual_pages.specs.Help.{asks_version, command_page, has_help, help_page, is_ahead, is_help};
+ghost use Rattle.manual_pages.specs.Pages.{page_record};
 
 use crate::command::command_named;
 use crate::page::{Page, page_of};
@@ -18,7 +19,7 @@ pub fn asks_version(words: &[String]) -> bool
 
 /// The program's page if the first argument is `--help` or `-h`, or its command's page if a later one before `--` is.
 pub fn help_page(words: &[String]) -> Option<Page>
-    ensures { result ≡ help_page (map string_bytes words.now) }
+    ensures { option_map page_record result ≡ help_page (map string_bytes words.now) }
 {
     let [first, rest @ ..] = words else {
         return None;
@@ -34,7 +35,7 @@ pub fn help_page(words: &[String]) -> Option<Page>
 
 // The page of the command of that name.
 fn command_page(name: &[u8]) -> Option<Page>
-    ensures { result ≡ command_page name.now }
+    ensures { option_map page_record result ≡ command_page name.now }
 {
     match command_named(name) {
         Some(command) => page_of(Some(command.name)),

@@ -1,7 +1,8 @@
 //! What is printed of arguments that are no command.
-ghost use Rattle.std.specs.Prelude.{◌≡◌, map, string_bytes};
+ghost use Rattle.std.specs.Prelude.{◌≡◌, map, option_map, string_bytes};
 ghost use Rattle.command_line.specs.FormatOptions.{text_of};
 ghost use Rattle.program_io.specs.Counted.{Writes};
+ghost use Rattle.manual_pages.specs.Commands.{command_record};
 ghost use Rattle.manual_pages.specs.UsageErrors.{argument_text, arguments_error, command_error, explanation, first_command, misuse_text, name_error, named_misuse, named_text, no_arguments_text, no_command_text, no_misuse_text, option_text, page_text, page_wanted, reason_text, usage_error, usage_text};
 
 use crate::cause::cause_text;
@@ -35,7 +36,7 @@ pub fn print_usage_error<W: Write>(
 
 // The command that the first argument names.
 fn first_command(words: &[String]) -> Option<Command>
-    ensures { result ≡ first_command (map string_bytes words.now) }
+    ensures { option_map command_record result ≡ first_command (map string_bytes words.now) }
 {
     match words {
         [name, ..] => command_named(name.as_bytes()).copied(),
@@ -49,7 +50,7 @@ fn say_error<W: Write>(
     misuse: Option<Misuse<'_>>,
     command: Option<Command>,
 ) -> Result<(), WriteFault>
-    ensures { Writes W.contents errors.old errors.new (usage_error (map string_bytes words.now) misuse.entry command) result }
+    ensures { Writes W.contents errors.old errors.new (usage_error (map string_bytes words.now) misuse.entry (option_map command_record command)) result }
 {
     match (page_wanted(words), misuse) {
         (Some(name), None) => say_no_command(errors, name),
@@ -77,7 +78,7 @@ fn say_arguments<W: Write>(
     misuse: Option<Misuse<'_>>,
     command: Option<Command>,
 ) -> Result<(), WriteFault>
-    ensures { Writes W.contents errors.old errors.new (arguments_error (map string_bytes words.now) misuse.entry command) result }
+    ensures { Writes W.contents errors.old errors.new (arguments_error (map string_bytes words.now) misuse.entry (option_map command_record command)) result }
 {
     let [name, ..] = words else {
         return say_no_arguments(errors);
@@ -123,7 +124,7 @@ fn say_of_command<W: Write>(
     command: Command,
     misuse: Option<Misuse<'_>>,
 ) -> Result<(), WriteFault>
-    ensures { Writes W.contents errors.old errors.new (command_error command misuse.entry) result }
+    ensures { Writes W.contents errors.old errors.new (command_error (command_record command) misuse.entry) result }
 {
     match named_misuse(misuse) {
         Some(misuse) => say_misuse(errors, command.name, misuse)?,

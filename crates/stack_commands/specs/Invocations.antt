@@ -17,9 +17,8 @@ use Rattle.program_io.specs.Streams.{Streams}
 use Rattle.image_files.specs.Opener.{Calls}
 use Rattle.fec_commands.specs.declared.fault.FecFault.{FecFault}
 use Rattle.fec_commands.specs.Commands.{FormatsFec, IsFormatFecEnd, IsVerifyFecEnd, VerifiesFec}
-use Rattle.manual_pages.specs.Pages.{page_name, page_named, page_of}
+use Rattle.manual_pages.specs.Pages.{PageRecord, page_of}
 use Rattle.manual_pages.specs.Versions.{version_text}
-use Rattle.manual_pages.specs.declared.page.Page.{Page}
 use Rattle.partition_commands.specs.declared.fault.PartitionsFault.{PartitionsFault}
 use Rattle.partition_commands.specs.Invocations.{IsListingEnd, ListsPartitions}
 use Rattle.partition_commands.specs.Warnings.{Notes}
@@ -149,16 +148,15 @@ IsExportsWordsEnd w e old new failed fault = IsExportsEnd w (on e.stack e.bindin
 
 -- ---- pages of the manual
 
--- the name of the page of that command, or of the program if none is named
-abbrev pub page_wanted : Option (List ℕ) → Option (List ℕ)
-page_wanted command = page_named (unwrap_or command [])
+-- the page of that command, or of the program if none is named
+abbrev pub page_wanted : Option (List ℕ) → Option PageRecord
+page_wanted command = page_of (unwrap_or command [])
 
--- the page of that name is printed
+-- it is printed
 pub record PrintsPage (command : Option (List ℕ)) (old new : Option (List ℕ)) : Type 0 where
-  pub page : Page
-  pub named : page_wanted command ≡ Some (page_name page)
-  pub found : page_of (unwrap_or command []) ≡ Some page
-  pub printed : Appends old new page.text.now
+  pub page : PageRecord
+  pub wanted : page_wanted command ≡ Some page
+  pub printed : Appends old new page.text
 
 -- there is no such page, or it can't be written
 abbrev pub IsPageEnd : Option (List ℕ) → Option (List ℕ) → Option (List ℕ) → Bool → CommandFault → Type 0

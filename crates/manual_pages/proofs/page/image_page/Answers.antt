@@ -1,9 +1,6 @@
-use Rattle.manual_pages.specs.Pages.{image_names}
+use Rattle.manual_pages.specs.Pages.{image_pages}
 use Rattle.manual_pages.proofs.page.image_page.Goals as goal
 
-pub returns-clause-named : goal.returns-clause-named
-unfolding image_names
-returns-clause-named c = c.page_in.ensures.named
-
-pub returns-clause-page : goal.returns-clause-page
-returns-clause-page c = c.page_in.ensures.page
+pub returns : goal.returns
+unfolding image_pages
+returns c = c.page_in.ensures
