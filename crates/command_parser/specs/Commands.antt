@@ -86,5 +86,5 @@ unfoldable pub commands : List CommandText
 commands =
     image_commands (stack_commands
     (command (codes "partitions") (value_option (codes "sector-size") ∷ flag (codes "stack") ∷ value_option (codes "root") ∷ json ∷ [])
-    ∷ command (codes "diff") (value_option (codes "blocks") ∷ json ∷ [])
+    ∷ command (codes "diff") (flag (codes "all") ∷ value_option (codes "blocks") ∷ json ∷ [])
     ∷ command (codes "manual") [] ∷ command (codes "version") [] ∷ []))

@@ -279,7 +279,7 @@ pub static COMMANDS: [CommandRow; 18] = [
     },
     CommandRow {
         name: "diff",
-        options: &[RUNS, JSON],
+        options: &[ALL, RUNS, JSON],
     },
     CommandRow {
         name: "manual",

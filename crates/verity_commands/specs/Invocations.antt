@@ -1,5 +1,5 @@
 -- What the commands on hash trees print by their words, and how they end early.
-use Rattle.std.specs.Prelude.{ℕ, ◌/◌, Bool, List, Option}
+use Rattle.std.specs.Prelude.{ℕ, ◌/◌, Bool, true, false, List, Option}
 use Rattle.block_device.specs.Device.{Device}
 use Rattle.command_line.specs.declared.words.diff.DiffWords.{DiffWords}
 use Rattle.command_line.specs.declared.words.verify.VerifyWords.{VerifyWords}
@@ -11,6 +11,7 @@ use Rattle.image_commands.specs.Places.{TwoPlaces}
 use Rattle.image_files.specs.Opener.{Calls, Opener, calls}
 use Rattle.tree_difference.specs.declared.difference.Roots.{Roots}
 use Rattle.verity_commands.specs.declared.tree_fault.TreeFault.{TreeFault}
+use Rattle.verity_commands.specs.CheckedDiffs.{IsCheckedFilesEnd, PrintsWhole}
 use Rattle.verity_commands.specs.Diffs.{IsDiffFilesEnd, PrintsSame}
 use Rattle.verity_commands.specs.Openings.{BothPaths}
 use Rattle.verity_commands.specs.Surveys.{IsSurveyFilesEnd, PrintsGood}
@@ -23,11 +24,20 @@ diff_paths d = record { first_path = d.old_path; second_path = d.new_path }
 abbrev pub diff_roots : DiffRecord → Roots
 diff_roots d = record { first = d.old_root; second = d.new_root }
 
+-- with --all the second tree is checked too
+abbrev pub DiffsBy : {S D : Type 0} → Bool → Calls S D → DiffRecord → Option (List ℕ) → Option (List ℕ) → Type 0
+DiffsBy true w d old new = PrintsWhole d.json w (diff_paths d) (diff_roots d) d.blocks old new
+DiffsBy false w d old new = PrintsSame d.json w (diff_paths d) (diff_roots d) d.blocks old new
+
+abbrev pub IsDiffEndBy : {S D : Type 0} → Bool → Calls S D → DiffRecord → Option (List ℕ) → Option (List ℕ) → Bool → TreeFault → Type 0
+IsDiffEndBy true w d old new failed fault = IsCheckedFilesEnd d.json w (diff_paths d) (diff_roots d) d.blocks old new failed fault
+IsDiffEndBy false w d old new failed fault = IsDiffFilesEnd d.json w (diff_paths d) (diff_roots d) d.blocks old new failed fault
+
 abbrev pub DiffsTrees : {S D : Type 0} → Calls S D → DiffRecord → Option (List ℕ) → Option (List ℕ) → Type 0
-DiffsTrees w d old new = PrintsSame d.json w (diff_paths d) (diff_roots d) d.blocks old new
+DiffsTrees w d old new = DiffsBy d.all w d old new
 
 abbrev pub IsDiffWordsEnd : {S D : Type 0} → Calls S D → DiffRecord → Option (List ℕ) → Option (List ℕ) → Bool → TreeFault → Type 0
-IsDiffWordsEnd w d old new failed fault = IsDiffFilesEnd d.json w (diff_paths d) (diff_roots d) d.blocks old new failed fault
+IsDiffWordsEnd w d old new failed fault = IsDiffEndBy d.all w d old new failed fault
 
 -- ---- `verify --all`
 

@@ -2,6 +2,7 @@
 ghost use Rattle.std.specs.Prelude.{OnOk, IfErr};
 ghost use Rattle.verity_commands.specs.Invocations.{DiffsByWords, FailsDiffByWords, FailsSurveyByWords, SurveysByWords};
 
+use crate::checked_diff::{DiffForm, check_images};
 use crate::diff::diff_images;
 use crate::paths::HashPaths;
 use crate::survey::{SurveyOrder, survey_images};
@@ -39,7 +40,7 @@ pub fn invoke_survey<'a, I: Images, S: Watchers, W: Write>(
     survey_images(alloc, images, watchers, order, trusted, writer)
 }
 
-/// `diff [--blocks N] [--json] HASH1 ROOT1 HASH2 ROOT2`
+/// `diff [--all] [--blocks N] [--json] HASH1 ROOT1 HASH2 ROOT2`
 pub fn invoke_diff<'a, I: Images, W: Write>(
     alloc: Global,
     images: &mut I,
@@ -55,6 +56,7 @@ pub fn invoke_diff<'a, I: Images, W: Write>(
         new_path,
         new_root,
         blocks,
+        all,
         json,
     } = words;
     let paths = HashPaths {
@@ -65,5 +67,9 @@ pub fn invoke_diff<'a, I: Images, W: Write>(
         first: old_root,
         second: new_root,
     };
+    if all {
+        let form = DiffForm { most: blocks, json };
+        return check_images(alloc, images, paths, roots, form, writer);
+    }
     diff_images(alloc, images, paths, roots, blocks, json, writer)
 }

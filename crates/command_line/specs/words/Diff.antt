@@ -1,4 +1,4 @@
--- What `diff [--blocks N] [--json] HASH1 ROOT1 HASH2 ROOT2` says.
+-- What `diff [--all] [--blocks N] [--json] HASH1 ROOT1 HASH2 ROOT2` says.
 use Rattle.std.specs.Prelude.{codes, Bool, List, Option, Ok, ℕ}
 use Rattle.command_line.specs.FormatOptions.{OptionTexts}
 use Rattle.command_line.specs.Misuses.{Reading, when}
@@ -12,6 +12,7 @@ pub record DiffRecord : Type 0 where
   pub new_path : List ℕ
   pub new_root : List ℕ
   pub blocks : Option ℕ
+  pub all : Bool
   pub json : Bool
 
 unfoldable pub diff_said : OptionTexts → List (List ℕ) → Reading DiffRecord
@@ -30,6 +31,7 @@ diff_said texts words =
       new_path = new_path.0;
       new_root = new_root;
       blocks = blocks;
+      all = texts.all;
       json = texts.json;
     })))))))))
 
@@ -41,5 +43,6 @@ diff_record w = record {
   new_path = w.new_path.now;
   new_root = w.new_root;
   blocks = w.blocks;
+  all = w.all;
   json = w.json;
 }

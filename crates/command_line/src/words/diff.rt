@@ -1,4 +1,4 @@
-//! `diff [--blocks N] [--json] HASH1 ROOT1 HASH2 ROOT2`
+//! `diff [--all] [--blocks N] [--json] HASH1 ROOT1 HASH2 ROOT2`
 ghost use Rattle.command_line.specs.Invocations.{diff};
 ghost use Rattle.command_line.specs.Reading.{ReadsAs};
 ghost use Rattle.command_line.specs.FormatOptions.{option_texts, texts_of};
@@ -19,10 +19,11 @@ pub struct DiffWords<'a> {
     pub new_path: &'a str,
     pub new_root: Digest,
     pub blocks: Option<u64>,
+    pub all: bool,
     pub json: bool,
 }
 
-/// `[--blocks N] [--json] HASH1 ROOT1 HASH2 ROOT2`
+/// `[--all] [--blocks N] [--json] HASH1 ROOT1 HASH2 ROOT2`
 #[tactic(auto, unfolding(crate::specs::words::Diff::diff_said))]
 pub fn diff_of<'a>(
     options: &OptionWords<'a>,
@@ -44,6 +45,7 @@ pub fn diff_of<'a>(
         new_path,
         new_root,
         blocks,
+        all: options.all,
         json: options.json,
     }))
 }
