@@ -11,7 +11,7 @@ use Rattle.verity_commands.specs.declared.verity_fault.VerityFault.TheVariants.{
 use Rattle.verity_format.specs.declared.verifying.Verdict.TheVariants.{Matches}
 use Rattle.verity_format.specs.Verifying.{IsTreeFound}
 use Rattle.fec_commands.specs.declared.fault.FecFault.TheVariants.{Verity}
-use Rattle.fec_commands.specs.Verifying.{EndsChecking, EndsComparing, IsUnmeasured, Measures, Parts, VerifiesParts}
+use Rattle.fec_commands.specs.Verifying.{EndsChecking, EndsComparing, IsUnmeasured, Parts, VerifiesParts}
 use Rattle.fec_commands.proofs.EndingLemmas.{err-from}
 use Rattle.fec_commands.proofs.VerifyingLemmas.{laid-after, parts-are}
 use Rattle.fec_commands.proofs.verifying.verify_open.Goals as goal
