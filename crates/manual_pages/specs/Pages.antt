@@ -2,7 +2,9 @@
 use Rattle.std.specs.Prelude.{ℕ, ◌++◌, List, [], ◌∷◌, codes, find, Option}
 use Rattle.std.specs.Str.{bytes_eq}
 use Rattle.manual_pages.specs.declared.command.Command.{Command}
+use Rattle.manual_pages.specs.declared.commands.TheConstants.{COMMANDS}
 use Rattle.manual_pages.specs.declared.page.Page.{Page}
+use Rattle.manual_pages.specs.declared.pages.TheConstants.{IMAGE_PAGES, STACK_PAGES}
 
 -- the commands on stacks
 unfoldable pub stack_names : List (List ℕ)
@@ -31,3 +33,16 @@ page_name page = page.name.now
 
 abbrev pub command_name : Command → List ℕ
 command_name command = command.name.now
+
+-- the page of that name, with its text, and the command, with how it is called
+unfoldable pub page_in : List Page → List ℕ → Option Page
+page_in pages name = find (λ page. bytes_eq (page_name page) name) pages
+
+unfoldable pub page_of : List ℕ → Option Page
+page_of name = page_in (STACK_PAGES ++ IMAGE_PAGES) name
+
+unfoldable pub command_in : List Command → List ℕ → Option Command
+command_in commands name = find (λ command. bytes_eq (command_name command) name) commands
+
+unfoldable pub command_of : List ℕ → Option Command
+command_of name = command_in COMMANDS name

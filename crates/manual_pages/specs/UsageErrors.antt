@@ -1,5 +1,5 @@
 -- What is printed of arguments that are no command.
-use Rattle.std.specs.Prelude.{ℕ, ◌≡◌, ◌==◌, ◌++◌, List, [], ◌∷◌, codes, length, String, string_bytes, Option, Some, None, option_map, if◌then◌else◌}
+use Rattle.std.specs.Prelude.{ℕ, ◌==◌, ◌++◌, List, [], ◌∷◌, codes, length, Option, Some, None, if◌then◌else◌}
 use Rattle.std.specs.Str.{bytes_eq}
 use Rattle.io_fault_text.specs.Paths.{shown_path}
 use Rattle.command_line.specs.declared.misuse.Cause.{Cause}
@@ -7,7 +7,7 @@ use Rattle.command_line.specs.declared.misuse.Cause.TheVariants.{Unknown}
 use Rattle.command_line.specs.declared.misuse.Misuse.{Misuse}
 use Rattle.manual_pages.specs.Causes.{cause_text}
 use Rattle.manual_pages.specs.Help.{asks_version, help_page}
-use Rattle.manual_pages.specs.Pages.{command_name, command_named, page_name}
+use Rattle.manual_pages.specs.Pages.{command_of}
 use Rattle.manual_pages.specs.Versions.{version_text}
 use Rattle.manual_pages.specs.declared.command.Command.{Command}
 use Rattle.manual_pages.specs.declared.page.Page.{Page}
@@ -72,42 +72,34 @@ named_error name misuse (Some command) = command_error command misuse
 named_error name misuse None = name_error name
 
 -- of all arguments, with the command that the first one names
-abbrev pub arguments_error : {Z : Type 0} → List (String Z) → Option Misuse → Option Command → List ℕ
+abbrev pub arguments_error : List (List ℕ) → Option Misuse → Option Command → List ℕ
 arguments_error [] misuse command = no_arguments_text
-arguments_error (name ∷ words) misuse command = named_error (string_bytes name) misuse command
+arguments_error (name ∷ words) misuse command = named_error name misuse command
 
 -- the command whose page is wanted
-abbrev pub page_wanted : {Z : Type 0} → List (String Z) → Option (List ℕ)
-page_wanted (name ∷ command ∷ []) = if bytes_eq (string_bytes name) (codes "manual") then Some (string_bytes command) else None
+abbrev pub page_wanted : List (List ℕ) → Option (List ℕ)
+page_wanted (name ∷ command ∷ []) = if bytes_eq name (codes "manual") then Some command else None
 page_wanted words = None
 
 -- if no argument is misused, there is no page of that name
-abbrev pub page_error : {Z : Type 0} → Option (List ℕ) → List (String Z) → Option Misuse → Option Command → List ℕ
+abbrev pub page_error : Option (List ℕ) → List (List ℕ) → Option Misuse → Option Command → List ℕ
 page_error (Some name) words None command = name_error name
 page_error (Some name) words (Some misuse) command = arguments_error words (Some misuse) command
 page_error None words misuse command = arguments_error words misuse command
 
-abbrev pub usage_error : {Z : Type 0} → List (String Z) → Option Misuse → Option Command → List ℕ
+abbrev pub usage_error : List (List ℕ) → Option Misuse → Option Command → List ℕ
 usage_error words misuse command = page_error (page_wanted words) words misuse command
 
 -- the page, or else the error
-abbrev pub page_or_error : {Z : Type 0} → List (String Z) → Option Misuse → Option Command → Option Page → List ℕ
+abbrev pub page_or_error : List (List ℕ) → Option Misuse → Option Command → Option Page → List ℕ
 page_or_error words misuse command (Some page) = page.text.now
 page_or_error words misuse command None = usage_error words misuse command
 
--- what is printed: the version or the page that is asked for, or else the error
-abbrev pub explanation : {Z : Type 0} → List (String Z) → Option Misuse → Option Command → Option Page → List ℕ
-explanation words misuse command page = if asks_version words then version_text else page_or_error words misuse command page
-
 -- the command that the first argument names
-abbrev pub first_name : {Z : Type 0} → List (String Z) → Option (List ℕ)
-first_name [] = None
-first_name (name ∷ words) = command_named (string_bytes name)
+abbrev pub first_command : List (List ℕ) → Option Command
+first_command [] = None
+first_command (name ∷ words) = command_of name
 
--- what is printed of arguments that are no command, with the command that they name and the page that they ask for
-pub record IsExplanation {Z : Type 0} (prints : List ℕ → Type 0) (words : List (String Z)) (misuse : Option Misuse) : Type 0 where
-  pub command : Option Command
-  pub named : option_map command_name command ≡ first_name words
-  pub page : Option Page
-  pub asked : option_map page_name page ≡ help_page words
-  pub printed : prints (explanation words misuse command page)
+-- what is printed of arguments that are no command: the version or the page that they ask for, or else the error
+abbrev pub explanation : List (List ℕ) → Option Misuse → List ℕ
+explanation words misuse = if asks_version words then version_text else page_or_error words misuse (first_command words) (help_page words)

@@ -1,7 +1,7 @@
 //! The commands by their names.
 ghost use Rattle.std.specs.Prelude.{◌≡◌, find, map, option_copied, option_map};
 ghost use Rattle.std.specs.Str.{bytes_eq};
-ghost use Rattle.manual_pages.specs.Pages.{command_name, command_named, name_in};
+ghost use Rattle.manual_pages.specs.Pages.{command_in, command_name, command_named, command_of, name_in};
 
 use crate::commands::COMMANDS;
 
@@ -14,14 +14,16 @@ pub struct Command {
 
 /// The command of that name.
 pub fn command_named(name: &[u8]) -> Option<&'static Command>
-    ensures { option_map command_name (option_copied result) ≡ command_named name.now }
+    ensures named { option_map command_name (option_copied result) ≡ command_named name.now }
+    ensures command { option_copied result ≡ command_of name.now }
 {
     command_in(&COMMANDS, name)
 }
 
 // The command of that name among these.
 fn command_in<'a>(commands: &'a [Command], name: &[u8]) -> Option<&'a Command>
-    ensures { option_map command_name (option_copied result) ≡ name_in (map command_name commands.now) name.now }
+    ensures named { option_map command_name (option_copied result) ≡ name_in (map command_name commands.now) name.now }
+    ensures command { option_copied result ≡ command_in commands.now name.now }
 {
     find_command(commands, name)
 }

@@ -6,7 +6,7 @@ use crate::command::Command;
 pub static COMMANDS: [Command; 18] = [
     Command {
         name: "load",
-        usage: "dmstack load [--json] STACK BINDING...",
+        usage: "dmstack load [--json] [--linux] STACK BINDING...",
     },
     Command {
         name: "read",
@@ -50,15 +50,15 @@ pub static COMMANDS: [Command; 18] = [
     },
     Command {
         name: "dump",
-        usage: "dmstack dump [--hash-offset BYTES] [--json] HASH",
+        usage: "dmstack dump [--hash-offset BYTES] [--json] [--pin ROOT] HASH",
     },
     Command {
         name: "table",
-        usage: "dmstack table [--data-block N] [--hash-block N] [--blocks N] [--salt HEX] [--hash-offset BYTES] [--name NAME] [--root-hash-file FILE] [--no-superblock] HASH ROOT DATANAME HASHNAME",
+        usage: "dmstack table [--data-block N] [--hash-block N] [--blocks N] [--salt HEX] [--hash-offset BYTES] [--name NAME] [--root-hash-file FILE] [--no-superblock] [--pin FILE] HASH ROOT DATANAME HASHNAME",
     },
     Command {
         name: "repair",
-        usage: "dmstack repair [--hash-offset BYTES] [--root-hash-file FILE] [--check] [--fec FILE] [--fec-roots N] DATA HASH ROOT [DATACOPY HASHCOPY]...",
+        usage: "dmstack repair [--hash-offset BYTES] [--root-hash-file FILE] [--check] [--fec FILE] [--fec-roots N] [--pin FILE] DATA HASH ROOT [DATACOPY HASHCOPY]...",
     },
     Command {
         name: "partitions",
@@ -66,7 +66,7 @@ pub static COMMANDS: [Command; 18] = [
     },
     Command {
         name: "diff",
-        usage: "dmstack diff [--blocks N] [--json] HASH1 ROOT1 HASH2 ROOT2",
+        usage: "dmstack diff [--all] [--blocks N] [--json] HASH1 ROOT1 HASH2 ROOT2",
     },
     Command {
         name: "manual",

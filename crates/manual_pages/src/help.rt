@@ -1,14 +1,14 @@
 //! Arguments that ask for help or for the version.
-ghost use Rattle.std.specs.Prelude.{◌≡◌, option_map};
+ghost use Rattle.std.specs.Prelude.{◌≡◌, map, string_bytes, take_while};
+ghost use Rattle.std.specs.List.{list_any};
 ghost use Rattle.manual_pages.specs.Help.{asks_version, command_page, has_help, help_page, is_ahead, is_help};
-ghost use Rattle.manual_pages.specs.Pages.{page_name};
 
 use crate::command::command_named;
 use crate::page::{Page, page_of};
 
 /// Whether the first argument is `--version`.
 pub fn asks_version(words: &[String]) -> bool
-    ensures { result ≡ asks_version words.now }
+    ensures { result ≡ asks_version (map string_bytes words.now) }
 {
     match words {
         [first, ..] => first.as_bytes() == b"--version".as_slice(),
@@ -18,7 +18,7 @@ pub fn asks_version(words: &[String]) -> bool
 
 /// The program's page if the first argument is `--help` or `-h`, or its command's page if a later one before `--` is.
 pub fn help_page(words: &[String]) -> Option<Page>
-    ensures { option_map page_name result ≡ help_page words.now }
+    ensures { result ≡ help_page (map string_bytes words.now) }
 {
     let [first, rest @ ..] = words else {
         return None;
@@ -34,7 +34,7 @@ pub fn help_page(words: &[String]) -> Option<Page>
 
 // The page of the command of that name.
 fn command_page(name: &[u8]) -> Option<Page>
-    ensures { option_map page_name result ≡ command_page name.now }
+    ensures { result ≡ command_page name.now }
 {
     match command_named(name) {
         Some(command) => page_of(Some(command.name)),
@@ -44,7 +44,13 @@ fn command_page(name: &[u8]) -> Option<Page>
 
 // Whether an argument before `--` asks for help.
 fn has_help(words: &[String]) -> bool
-    ensures { result ≡ has_help words.now }
+    ensures { result ≡ has_help (map string_bytes words.now) }
+{
+    any_help(words)
+}
+
+fn any_help(words: &[String]) -> bool
+    ensures { result ≡ list_any (λ word. is_help (string_bytes word)) (take_while (λ word. is_ahead (string_bytes word)) words.now) }
 {
     words
         .iter()

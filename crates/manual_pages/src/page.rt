@@ -3,7 +3,8 @@ ghost use Rattle.std.specs.Prelude.{◌≡◌, [], ◌∷◌, find, map, option_
 ghost use Rattle.std.specs.Str.{bytes_eq};
 ghost use Rattle.command_line.specs.FormatOptions.{text_of};
 ghost use Rattle.program_io.specs.Counted.{Writes};
-ghost use Rattle.manual_pages.specs.Pages.{image_names, name_in, page_name, page_named, stack_names};
+ghost use Rattle.manual_pages.specs.Pages.{image_names, name_in, page_in, page_name, page_named, page_of, stack_names};
+ghost use Rattle.manual_pages.specs.declared.pages.TheConstants.{IMAGE_PAGES, STACK_PAGES};
 
 use crate::pages::{IMAGE_PAGES, STACK_PAGES};
 use program_io::{Counted, WriteFault};
@@ -18,7 +19,8 @@ pub struct Page {
 
 /// The page of that command, or of the program if none is named.
 pub fn page_of(command: Option<&str>) -> Option<Page>
-    ensures { option_map page_name result ≡ page_named (unwrap_or (text_of command.entry) []) }
+    ensures named { option_map page_name result ≡ page_named (unwrap_or (text_of command.entry) []) }
+    ensures page { result ≡ page_of (unwrap_or (text_of command.entry) []) }
 {
     let wanted = command.unwrap_or("").as_bytes();
     match stack_page(wanted) {
@@ -28,20 +30,23 @@ pub fn page_of(command: Option<&str>) -> Option<Page>
 }
 
 fn stack_page(wanted: &[u8]) -> Option<&'static Page>
-    ensures { option_map page_name (option_copied result) ≡ name_in ([] ∷ stack_names) wanted.now }
+    ensures named { option_map page_name (option_copied result) ≡ name_in ([] ∷ stack_names) wanted.now }
+    ensures page { option_copied result ≡ page_in STACK_PAGES wanted.now }
 {
     page_in(&STACK_PAGES, wanted)
 }
 
 fn image_page(wanted: &[u8]) -> Option<&'static Page>
-    ensures { option_map page_name (option_copied result) ≡ name_in image_names wanted.now }
+    ensures named { option_map page_name (option_copied result) ≡ name_in image_names wanted.now }
+    ensures page { option_copied result ≡ page_in IMAGE_PAGES wanted.now }
 {
     page_in(&IMAGE_PAGES, wanted)
 }
 
 // The page of that name among these.
 fn page_in<'a>(pages: &'a [Page], wanted: &[u8]) -> Option<&'a Page>
-    ensures { option_map page_name (option_copied result) ≡ name_in (map page_name pages.now) wanted.now }
+    ensures named { option_map page_name (option_copied result) ≡ name_in (map page_name pages.now) wanted.now }
+    ensures page { option_copied result ≡ page_in pages.now wanted.now }
 {
     find_page(pages, wanted)
 }

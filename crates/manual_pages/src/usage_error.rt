@@ -1,14 +1,13 @@
 //! What is printed of arguments that are no command.
-ghost use Rattle.std.specs.Prelude.{◌≡◌, option_map};
+ghost use Rattle.std.specs.Prelude.{◌≡◌, map, string_bytes};
 ghost use Rattle.command_line.specs.FormatOptions.{text_of};
 ghost use Rattle.program_io.specs.Counted.{Writes};
-ghost use Rattle.manual_pages.specs.Pages.{command_name};
-ghost use Rattle.manual_pages.specs.UsageErrors.{IsExplanation, argument_text, arguments_error, command_error, explanation, first_name, misuse_text, name_error, named_misuse, named_text, no_arguments_text, no_command_text, no_misuse_text, option_text, page_text, page_wanted, reason_text, usage_error, usage_text};
+ghost use Rattle.manual_pages.specs.UsageErrors.{argument_text, arguments_error, command_error, explanation, first_command, misuse_text, name_error, named_misuse, named_text, no_arguments_text, no_command_text, no_misuse_text, option_text, page_text, page_wanted, reason_text, usage_error, usage_text};
 
 use crate::cause::cause_text;
 use crate::command::{Command, command_named};
 use crate::help::{asks_version, help_page};
-use crate::page::{Page, print_page};
+use crate::page::print_page;
 use crate::version::print_version;
 use command_line::{Cause, Misuse};
 use io_fault_text::say_path;
@@ -22,38 +21,25 @@ pub fn print_usage_error<W: Write>(
     words: &[String],
     misuse: Option<Misuse<'_>>,
 ) -> Result<(), WriteFault>
-    ensures { IsExplanation (λ text. Writes W.contents errors.old errors.new text result) words.now misuse.entry }
-{
-    let command = first_command(words);
-    let page = help_page(words);
-    explain(errors, words, misuse, command, page)
-}
-
-// The command that the first argument names.
-fn first_command(words: &[String]) -> Option<Command>
-    ensures { option_map command_name result ≡ first_name words.now }
-{
-    match words {
-        [name, ..] => command_named(name.as_bytes()).copied(),
-        [] => None,
-    }
-}
-
-fn explain<W: Write>(
-    errors: &mut Counted<W>,
-    words: &[String],
-    misuse: Option<Misuse<'_>>,
-    command: Option<Command>,
-    page: Option<Page>,
-) -> Result<(), WriteFault>
-    ensures { Writes W.contents errors.old errors.new (explanation words.now misuse.entry command page) result }
+    ensures { Writes W.contents errors.old errors.new (explanation (map string_bytes words.now) misuse.entry) result }
 {
     if asks_version(words) {
         return print_version(errors);
     }
-    match page {
+    let command = first_command(words);
+    match help_page(words) {
         Some(page) => print_page(errors, page),
         None => say_error(errors, words, misuse, command),
+    }
+}
+
+// The command that the first argument names.
+fn first_command(words: &[String]) -> Option<Command>
+    ensures { result ≡ first_command (map string_bytes words.now) }
+{
+    match words {
+        [name, ..] => command_named(name.as_bytes()).copied(),
+        [] => None,
     }
 }
 
@@ -63,7 +49,7 @@ fn say_error<W: Write>(
     misuse: Option<Misuse<'_>>,
     command: Option<Command>,
 ) -> Result<(), WriteFault>
-    ensures { Writes W.contents errors.old errors.new (usage_error words.now misuse.entry command) result }
+    ensures { Writes W.contents errors.old errors.new (usage_error (map string_bytes words.now) misuse.entry command) result }
 {
     match (page_wanted(words), misuse) {
         (Some(name), None) => say_no_command(errors, name),
@@ -74,7 +60,7 @@ fn say_error<W: Write>(
 
 // The command whose page `manual` is to print.
 fn page_wanted(words: &[String]) -> Option<&str>
-    ensures { text_of result ≡ page_wanted words.now }
+    ensures { text_of result ≡ page_wanted (map string_bytes words.now) }
 {
     let [name, command] = words else {
         return None;
@@ -91,7 +77,7 @@ fn say_arguments<W: Write>(
     misuse: Option<Misuse<'_>>,
     command: Option<Command>,
 ) -> Result<(), WriteFault>
-    ensures { Writes W.contents errors.old errors.new (arguments_error words.now misuse.entry command) result }
+    ensures { Writes W.contents errors.old errors.new (arguments_error (map string_bytes words.now) misuse.entry command) result }
 {
     let [name, ..] = words else {
         return say_no_arguments(errors);

@@ -1,5 +1,5 @@
 -- What the program does with the words behind its name.
-use Rattle.std.specs.Prelude.{◌≡◌, ◌⊎◌, ◌||◌, ℕ, Bool, true, false, List, [], ◌∷◌, codes, Option, Some}
+use Rattle.std.specs.Prelude.{◌≡◌, ◌⊎◌, ◌||◌, ℕ, Bool, true, false, List, [], ◌∷◌, codes, Option, Some, IfSome}
 use Rattle.std.specs.Io.KnownBytes.{Appends}
 use Rattle.std.specs.Str.{bytes_eq}
 use Rattle.stack_commands.specs.declared.fault.CommandFault.{CommandFault}
@@ -11,10 +11,14 @@ use Rattle.stack_commands.specs.Endings.{IsEnd, IsSilent, ending_text}
 use Rattle.fec_commands.specs.declared.fault.FecFault.TheVariants as fec_fault
 use Rattle.verity_commands.specs.declared.verity_fault.VerityFault.TheVariants as verity_fault
 use Rattle.program_io.specs.Streams.{Streams}
+use Rattle.command_line.specs.declared.misuse.Misuse.{Misuse}
 use Rattle.command_line.specs.Invocations.{InvocationRecord}
-use Rattle.command_parser.specs.CommandLines.{IsNoCommand, invoked, options_said}
+use Rattle.command_line.specs.Misuses.{misuse_record}
+use Rattle.command_parser.specs.CommandLines.{IsMisusedText, IsNoCommand, invoked, options_said}
 use Rattle.command_line.specs.FormatOptions.{OptionTexts}
-use Rattle.stack_commands.specs.Invocations.{FailsCommand, Succeeds}
+use Rattle.manual_pages.specs.UsageErrors.{explanation}
+use Rattle.partition_commands.specs.Warnings.{Notes}
+use Rattle.stack_commands.specs.Invocations.{AreCommandNotes, FailsCommand, Succeeds}
 use Rattle.stack_commands.specs.Uses.{IsUsageEnd, Uses}
 
 -- the command of some words, and the values of its options
@@ -25,8 +29,8 @@ pub record IsCommandOf (words : List (List ℕ)) (texts : OptionTexts) (invocati
 -- the words are no command, or memory ran out while they were read, and nothing was opened; or their command ended early
 abbrev pub IsRunEnd : {S D T G : Type 0} → List (List ℕ) → Uses S D T G → Bool → CommandFault → Type 0
 IsRunEnd words u failed fault =
-    (IsUsageEnd fault (IsNoCommand words) × (u.new ≡ u.old) × (u.images.new ≡ u.images.old))
-    ⊎ ((invocation : InvocationRecord) × (texts : OptionTexts) × IsCommandOf words texts invocation × FailsCommand texts invocation u failed fault)
+    (IsUsageEnd fault (IsNoCommand words) × (u.new ≡ u.old) × (u.images.new ≡ u.images.old) × (u.notes.new ≡ u.notes.old))
+    ⊎ ((invocation : InvocationRecord) × (texts : OptionTexts) × IsCommandOf words texts invocation × FailsCommand texts invocation u failed fault × AreCommandNotes invocation u.notes)
 
 -- the command of that name writes data for another program: the bytes of a device, the replies to a client
 abbrev pub writes_data : List ℕ → Bool
@@ -53,23 +57,32 @@ abbrev pub is_output_failed : CommandFault → Bool
 is_output_failed (Recovering (Pass fault)) = is_output fault
 is_output_failed fault = false
 
--- whether the writer failed; what stood on the errors' writer and stands there now, and whether that failed
+-- the words; whether the writer failed; what stood on the errors' writer and stands there now, and whether that failed
 pub record Told : Type 0 where
+  pub words : List (List ℕ)
   pub failed : Bool
   pub old : Option (List ℕ)
   pub new : Option (List ℕ)
   pub errors_failed : Bool
 
-abbrev pub told_to : Bool → Option (List ℕ) → Option (List ℕ) → Bool → Told
-told_to failed old new errors_failed = record { failed = failed; old = old; new = new; errors_failed = errors_failed }
+abbrev pub told_to : List (List ℕ) → Bool → Option (List ℕ) → Option (List ℕ) → Bool → Told
+told_to words failed old new errors_failed = record { words = words; failed = failed; old = old; new = new; errors_failed = errors_failed }
+
+-- what is printed of a usage error: which argument is misused and why, or the page that is wanted, unless the errors' writer
+-- failed. No argument is named if memory ran out, or if `manual` has no such page
+pub record ExplainsUsage (words : List (List ℕ)) (old new : Option (List ℕ)) (failed : Bool) : Type 0 where
+  pub misuse : Option Misuse
+  pub misused : IfSome misuse (λ m. IsMisusedText words (misuse_record m))
+  pub printed : Appends old new (explanation words misuse) ⊎ (failed ≡ true)
 
 -- its text was printed and its status answered, or the writer failed
 abbrev pub IsEndOr : Bool → CommandFault → Option (List ℕ) → Option (List ℕ) → ℕ → Type 0
 IsEndOr failed fault old new status = IsEnd fault old new status ⊎ ((status ≡ 1) × (failed ≡ true))
 
--- the same among the errors, behind what is said of words that are no command
+-- the same among the errors, after the explanation of a usage error
 pub record IsToldElsewhere (fault : CommandFault) (told : Told) (status : ℕ) : Type 0 where
   pub before : Option (List ℕ)
+  pub explained : is_usage fault ≡ true → ExplainsUsage told.words told.old before told.errors_failed
   pub unsaid : is_usage fault ≡ false → before ≡ told.old
   pub ends : IsEndOr told.errors_failed fault before told.new status
 
@@ -81,6 +94,7 @@ IsRepeated true fault old new errors_failed = Appends old new (ending_text fault
 -- what is printed among the errors: of a usage error and of a failed OUT of `copy` an explanation, then the reason if the writer failed
 pub record TellsErrors (fault : CommandFault) (told : Told) : Type 0 where
   pub before : Option (List ℕ)
+  pub explained : is_usage fault ≡ true → ExplainsUsage told.words told.old before told.errors_failed
   pub unsaid : is_usage fault ≡ false → is_output_failed fault ≡ false → before ≡ told.old
   pub repeated : IsRepeated told.failed fault before told.new told.errors_failed
 
@@ -90,15 +104,18 @@ IsTold false fault old new told status = IsEndOr told.failed fault old new statu
 IsTold true fault old new told status = (new ≡ old) × IsToldElsewhere fault told status
 
 -- A command ended early: its text is printed and its status answered, or that can't be written. Where the writer had
--- failed before, that stays known.
-pub record EndsCommand {S D T G : Type 0} (words : List (List ℕ)) (u : Uses S D T G) (told : Told) (status : ℕ) : Type 0 where
+-- failed before, that stays known. Among the errors the text follows what the command printed there.
+pub record EndsCommand {S D T G : Type 0} (u : Uses S D T G) (told : Told) (status : ℕ) : Type 0 where
   pub fault : CommandFault
   pub before : Streams
   pub unwritten : Bool
-  pub fails : IsRunEnd words (record u { new = before }) unwritten fault
+  pub notes : Notes
+  pub begun : notes.old ≡ told.old
+  pub noted : is_usage fault ≡ false → is_output_failed fault ≡ false → notes.failed ≡ true → told.errors_failed ≡ true
+  pub fails : IsRunEnd told.words (record u { new = before; notes = notes }) unwritten fault
   pub kept : unwritten ≡ true → told.failed ≡ true
-  pub told_so : IsTold (output_is_data words) fault before.output u.new.output told status
+  pub told_so : IsTold (output_is_data told.words) fault before.output u.new.output (record told { old = notes.new }) status
 
 -- the command of some words succeeded
 abbrev pub IsCommandDone : {S D T G : Type 0} → List (List ℕ) → Uses S D T G → Type 0
-IsCommandDone words u = (invocation : InvocationRecord) × (texts : OptionTexts) × IsCommandOf words texts invocation × Succeeds texts invocation u
+IsCommandDone words u = (invocation : InvocationRecord) × (texts : OptionTexts) × IsCommandOf words texts invocation × Succeeds texts invocation u × AreCommandNotes invocation u.notes

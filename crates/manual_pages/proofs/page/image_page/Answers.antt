@@ -1,6 +1,9 @@
 use Rattle.manual_pages.specs.Pages.{image_names}
 use Rattle.manual_pages.proofs.page.image_page.Goals as goal
 
-pub returns : goal.returns
+pub returns-clause-named : goal.returns-clause-named
 unfolding image_names
-returns c = c.page_in.ensures
+returns-clause-named c = c.page_in.ensures.named
+
+pub returns-clause-page : goal.returns-clause-page
+returns-clause-page c = c.page_in.ensures.page
