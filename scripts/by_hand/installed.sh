@@ -48,6 +48,15 @@ if command -v dpkg-deb > /dev/null; then
     holds 'a package is made' "$top/install" "$@" --deb
     package=$top/out/dmstack_$("$top/scripts/lib/version.sh")_amd64.deb
     holds 'the package has the program' eval "dpkg-deb -c '$package' | grep -q ' ./usr/bin/dmstack$'"
+    holds 'it is unpacked' dpkg-deb -x "$package" "$room/unpacked"
+    holds 'the launched program runs' works "$room/unpacked/usr/bin/dmstack"
+    for program in "$room"/unpacked/usr/lib/dmstack/*/dmstack; do
+        [ ! -e "$program" ] || holds "$program runs" works "$program"
+    done
+    if grep -qw avx2 /proc/cpuinfo; then
+        holds 'the launcher chooses AVX2' eval "sh -x '$room/unpacked/usr/bin/dmstack' version 2>&1 | grep -q '^+ exec .*/lib/dmstack/x86-64-v3/dmstack version'"
+        holds 'the other build has no AVX2' eval "! objdump -d '$room/unpacked/usr/lib/dmstack/x86-64/dmstack' | grep -q '%ymm'"
+    fi
     if [ "$(id -u)" = 0 ] && ! dpkg -s dmstack > /dev/null 2>&1 && [ ! -e /usr/bin/dmstack ]; then
         holds 'the package is installed' dpkg -i "$package"
         holds 'the installed program runs' works /usr/bin/dmstack

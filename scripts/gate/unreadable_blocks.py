@@ -1,9 +1,9 @@
 #!/usr/bin/env python3
-"""Tries `dmstack verify --all` and `repair` on images of which some sectors can't be read.
+"""Tries `dmstack verify --all`, `diff --all` and `repair` on images of which some sectors can't be read.
 
 unreadable_blocks.py [--cases N] [--seed S] [PROGRAM]: formats images by the model of scripts/model, changes blocks of the data and
 of the tree, and has reads of other sectors fail (scripts/gate/unreadable_sectors.c). What `verify --all` prints must be what the model says
-of blocks that can't be read or aren't good. A `repair` by a whole copy must leave the formatted block wherever all hash blocks above
+of blocks that can't be read or aren't good, and so must what `diff --all` prints of hash blocks. A `repair` by a whole copy must leave the formatted block wherever all hash blocks above
 it can be read, each other one as it was, and print at its end what `verify --all` prints of that; of a round with parity as many blocks come
 back as a codeword has bytes of it. So must `repair --check` of the image as it is. Where the superblock can't be read each ends so.
 """
@@ -90,6 +90,18 @@ class Case:
     def told(self, data, image):
         return told_survey(*survey(data, image, self.tree, self.salt, self.root, self.lost()), False)
 
+    def told_difference(self):
+        """What `diff --all` prints of a whole tree and of this one, which has the same root hash."""
+        if self.headless:
+            return [b"refused 10 Device second"], 1
+        _, bad = survey(*self.stands, self.tree, self.salt, self.root, self.lost())
+        lines, top = [b"hash %d %d" % it for it in bad], (len(self.tree.levels) - 1, 0)
+        if top in self.lost()[1]:
+            return lines + [b"refused 10 Device second"], 1
+        if top in bad:
+            return lines + [b"fault hash second %d %d" % top], 3
+        return lines + [b"same %d changed 0 removed 0 added 0" % self.tree.blocks], 3 if bad else 0
+
     def is_reached(self, level, index):
         """Whether all hash blocks above a block of that level can be read; the level below the lowest is that of the data."""
         lost = self.lost()[1]
@@ -128,6 +140,7 @@ class Case:
         root = self.root.hex()
         wanted = REFUSED if self.headless else self.told(*self.stands)
         self.check("verify --all", self.run("verify", "--all", "data", "hash", root), wanted)
+        self.check("diff --all", self.run("diff", "--all", "copy.hash", root, "hash", root), self.told_difference())
         lines, status = self.run("repair", "--check", "data", "hash", root, "copy.data", "copy.hash")
         self.check("repair --check", ([it for it in lines if not it.startswith(b"repairable ")], status), wanted)
         self.check("what is left", (load(self.room, "data"), load(self.room, "hash")), self.stands)

@@ -29,6 +29,18 @@ class Stored:
         slots = self.tree.slots
         return self.block(height, index // slots)[index % slots * 32:][:32]
 
+    def bad_hash_blocks(self):
+        """The hash blocks without the digest that is stored above, or with more than zeros after the last used entry, the top
+        level first."""
+        return [(level, index) for level in reversed(range(len(self.tree.levels))) for index in range(self.tree.levels[level])
+                if not self.is_good(level, index)]
+
+    def is_good(self, level, index):
+        beneath = self.tree.levels[level - 1] if level else self.tree.blocks
+        used = min(self.tree.slots, beneath - index * self.tree.slots)
+        return (digest(self.superblock.salt, self.block(level, index)) == self.digest(level + 1, index)
+                and not any(self.block(level, index)[32 * used:]))
+
     def check(self, level, index):
         if digest(self.superblock.salt, self.block(level, index)) != self.digest(level + 1, index):
             raise Bad("fault hash %s %d %d" % (self.which, level, index))

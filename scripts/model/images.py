@@ -9,8 +9,8 @@ from protection import check_aligned, check_one_size, check_parity_of, compared_
 from replies import Json
 from stack import SECTOR
 from tables import digits_of
-from verity import (Superblock, bare_tree, check_data, check_sizes, dump_facts, format_images, read_superblock, spelled_uuid, survey,
-                    table_line, verify_images)
+from verity import (ImageFault, Superblock, bare_tree, check_data, check_sizes, dump_facts, format_images, read_superblock,
+                    spelled_uuid, survey, table_line, verify_images)
 from words import exactly, read_diff, read_fec, read_format, read_offset, read_partitions, read_table, read_verify
 
 DONE, REFUSED, _, FAULT = range(4)
@@ -151,17 +151,26 @@ def run_table(options, words, files, _given, _features):
 
 def run_diff(options, words, files, _given, _features):
     paths, roots, most = read_diff(options, words)
-    images = [files.image(path, False) for path in paths]
-    first, second = (Stored(*it) for it in zip(images, roots, ("first", "second")))
+    old, new = ((files.image(path, False), root, which) for path, root, which in zip(paths, roots, ("first", "second")))
+    # with --all the second tree is checked before anything else is read
+    bad = Stored(*new).bad_hash_blocks() if b"all" in options else []
+    ahead = [] if b"json" in options else [b"hash %d %d" % it for it in bad]
+    try:
+        first, second = Stored(*old), Stored(*new)
+    except ImageFault as fault:
+        return ahead + [fault.text().encode()], REFUSED
     refusal = unlike(first, second)
     if refusal:
-        raise Stop(refusal.encode())
+        return ahead + [refusal.encode()], REFUSED
     lines, kinds, fault = compared(first, second, most)
-    differ = fault is not None or any(kind is not None for kind in kinds)
+    differ = bad or fault is not None or any(kind is not None for kind in kinds)
     if b"json" in options:
         # the object comes at the end, and a fault alone
-        return [fault.encode()] if fault else [Json(difference_facts(kinds, most))], FAULT if differ else DONE
-    return [line.encode() for line in lines], FAULT if differ else DONE
+        facts = difference_facts(kinds, most)
+        if b"all" in options:
+            facts["hash_blocks"] = [{"level": level, "index": index} for level, index in bad]
+        return [fault.encode()] if fault else [Json(facts)], FAULT if differ else DONE
+    return ahead + [line.encode() for line in lines], FAULT if differ else DONE
 
 
 def difference_facts(kinds, most):

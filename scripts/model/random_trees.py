@@ -273,4 +273,6 @@ class Trees(Dice):
         options = [b"--blocks", self.pick([b"1", b"2", b"5", b"0", *STRANGE_NUMBERS])] if self.chance(0.3) else []
         if self.has("forms", "json") and self.chance(0.2):
             options.append(b"--json")
+        if self.has("forms", "all") and self.chance(0.3):
+            options.append(b"--all")
         return [Run([b"diff"] + self.shuffled(options) + words)]

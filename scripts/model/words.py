@@ -16,13 +16,13 @@ OPTIONS = {
                b"pin"),
     "verify": (*TREE, b"hash-offset", b"root-hash-file", b"no-superblock", b"all", b"json", b"progress",
                b"fec", b"fec-roots", b"pin"),
-    "dump": (b"hash-offset", b"json"),
-    "table": (*TREE, b"hash-offset", b"root-hash-file", b"name", b"no-superblock"),
-    "repair": (b"hash-offset", b"root-hash-file", b"check", b"fec", b"fec-roots"),
+    "dump": (b"hash-offset", b"json", b"pin"),
+    "table": (*TREE, b"hash-offset", b"root-hash-file", b"name", b"no-superblock", b"pin"),
+    "repair": (b"hash-offset", b"root-hash-file", b"check", b"fec", b"fec-roots", b"pin"),
     "load": (b"json",), "read": (b"cache",), "write": (b"cache",), "session": (b"cache",), "nbd": (b"cache", b"all"),
     "scan": (b"cache", b"map", b"progress", b"json"), "copy": (b"cache", b"map", b"differing", b"progress"),
     "cat": (b"cache", b"first", b"count", b"progress"), "store": (b"cache", b"first", b"progress"),
-    "partitions": (b"sector-size", b"stack", b"root", b"json"), "diff": (b"blocks", b"json"),
+    "partitions": (b"sector-size", b"stack", b"root", b"json"), "diff": (b"all", b"blocks", b"json"),
     "manual": (), "version": (),
 }
 FLAGS = (b"all", b"stack", b"no-superblock", b"grow", b"json", b"differing", b"progress", b"check")
@@ -211,11 +211,8 @@ def read_repair(options, words):
 
 
 def check_pin(options):
-    """A pin's path isn't empty and no `-`, and pinned are images with a superblock and without parity."""
-    if b"pin" not in options:
-        return
-    others = (b"no-superblock", b"fec", b"fec-roots", b"all", b"json", b"root-hash-file")
-    if options[b"pin"] in (b"", b"-") or any(name in options for name in others):
+    """A pin's path isn't empty and no `-`, and pinned are images with a superblock."""
+    if b"pin" in options and (options[b"pin"] in (b"", b"-") or b"no-superblock" in options):
         raise Usage
 
 
@@ -225,6 +222,8 @@ def read_format(options, words):
         raise Usage
     uuid = uuid_of(options[b"uuid"]) if b"uuid" in options else None
     check_pin(options)
+    if b"pin" in options and (b"fec" in options or b"fec-roots" in options):
+        raise Usage
     read_fec(options)
     return *exactly(words, 2), read_sizes(options), uuid, read_offset(options)
 

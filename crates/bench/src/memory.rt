@@ -82,7 +82,7 @@ fn area_of<R: Print + AllocGlobal>(rt: &R, shape: &Shape) -> Result<(Vec<u8>, Di
         Ok(made) => Ok(made),
         Err(_) => {
             println!(rt; "area: no memory")?;
-            Ok(area(rt.alloc(), shape, &salt, &digests)?)
+            Ok(area(rt.alloc(), shape, &salt, &digests).map_err(AllocError::from)?)
         }
     }
 }
@@ -90,8 +90,8 @@ fn area_of<R: Print + AllocGlobal>(rt: &R, shape: &Shape) -> Result<(Vec<u8>, Di
 // The chain of block 3, of devices whose k-th sector is filled with the byte k.
 fn chain_of<R: Print + AllocGlobal>(rt: &R, shape: &Shape) -> Result<Chain> {
     let alloc = rt.alloc();
-    let mut data_dev = MemoryDev::ramp(alloc, 17, false)?;
-    let mut hash_dev = MemoryDev::ramp(alloc, 4, false)?;
+    let mut data_dev = MemoryDev::ramp(alloc, 17, false).map_err(AllocError::from)?;
+    let mut hash_dev = MemoryDev::ramp(alloc, 4, false).map_err(AllocError::from)?;
     match read_block(alloc, &mut data_dev, &mut hash_dev, shape)? {
         Ok(chain) => Ok(chain),
         Err(ChainFault::NoMemory) => {

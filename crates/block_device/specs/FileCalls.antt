@@ -4,6 +4,7 @@ use Rattle.std.specs.Prelude.{ℕ, Bool, List}
 use Rattle.std.specs.declared.fs.File.{File}
 use Rattle.std.specs.declared.fs.attrs.Metadata.{Metadata}
 use Rattle.block_device.specs.declared.file_calls.FileNumbers.{FileNumbers}
+use Rattle.block_device.specs.declared.open_fault.OpenFault.{OpenFault}
 use Rattle.block_device.specs.declared.seal.Seal.{Seal}
 use Rattle.block_device.specs.Call.{Call}
 
@@ -26,6 +27,10 @@ IsLengthened file bytes = Unit {0}
 -- the system told these numbers of a file
 pub Told : Metadata → FileNumbers → Type 0
 Told metadata numbers = Unit {0}
+
+-- the system didn't lock the file, for this reason
+pub IsUnlocked : File → OpenFault → Type 0
+IsUnlocked file fault = Unit {0}
 
 -- The system was called on the file once: to read or to write these bytes from that sector on, or to sync it; and what it
 -- answered. The file before the call and after it make a chain of calls.
@@ -52,6 +57,10 @@ was-lengthened file bytes seal = tt
 pub was-told : (metadata : Metadata) (numbers : FileNumbers) → Seal → Told metadata numbers
 unfolding Told
 was-told metadata numbers seal = tt
+
+pub was-unlocked : (file : File) (fault : OpenFault) → Seal → IsUnlocked file fault
+unfolding IsUnlocked
+was-unlocked file fault seal = tt
 
 pub was-called : (old : File) (call : Call) (new : File) → Seal → Called old call new
 unfolding Called

@@ -51,7 +51,7 @@ pub struct FileDev {
 
 impl FileDev {
     ghost use Rattle.std.specs.declared.fs.attrs.Metadata.{Metadata};
-    ghost use Rattle.block_device.specs.FileCalls.{IsOfFile, Opened};
+    ghost use Rattle.block_device.specs.FileCalls.{IsOfFile, IsUnlocked, Opened};
     ghost use Rattle.block_device.specs.FileId.{file_id, file_of};
     ghost use Rattle.block_device.specs.Identity.{IsLongEnough, IsOpenedAs};
 
@@ -104,7 +104,9 @@ impl FileDev {
     /// # Errors
     ///
     /// `InUse` if another open of the file holds a lock, else the fault of what the system answered.
-    pub fn try_lock(&self) -> Result<FileLock, OpenFault> {
+    pub fn try_lock(&self) -> Result<FileLock, OpenFault>
+        ensures { IfErr result (IsUnlocked (file_of self.now)) }
+    {
         FileLock::of(&self.file)
     }
 }

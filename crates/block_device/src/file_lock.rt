@@ -1,4 +1,7 @@
 //! A lock on an open file.
+ghost use Rattle.std.specs.Prelude.{IfErr};
+ghost use Rattle.block_device.specs.FileCalls.{IsUnlocked};
+
 use crate::OpenFault;
 use std::fs::{File, OpenFile, TryLockError};
 
@@ -13,7 +16,9 @@ pub struct FileLock {
 }
 
 impl FileLock {
-    pub(crate) fn of(file: &File) -> Result<FileLock, OpenFault> {
+    pub(crate) fn of(file: &File) -> Result<FileLock, OpenFault>
+        ensures { IfErr result (IsUnlocked file.now) }
+    {
         let shared = match file.try_clone() {
             Ok(shared) => shared,
             Err(error) => return Err(OpenFault::from(error.kind())),

@@ -1,6 +1,7 @@
 //! A device in memory.
-ghost use Rattle.std.specs.Prelude.{◌≡◌, ◌≤◌, ◌/◌, ◌*◌, ◌+◌, ◌%◌, ◌++◌, take, drop, length, replicate, true, refl, is_ok, IfOk, IsOk, IsTrue, OnErr, OnOk};
+ghost use Rattle.std.specs.Prelude.{◌≡◌, ◌≤◌, ◌/◌, ◌*◌, ◌+◌, ◌%◌, ◌++◌, take, drop, length, replicate, true, refl, is_ok, IfErr, IfOk, IsOk, IsTrue, OnErr, OnOk};
 ghost use Rattle.std.specs.List.{concat};
+ghost use Rattle.allocation.specs.Asked.{asked};
 ghost use Rattle.block_device.specs.Call.{DeviceDoes, Write};
 ghost use Rattle.block_device.specs.Calls.{DeviceFails, DevicePuts, DeviceWrites};
 ghost use Rattle.block_device.specs.Counters.{capped-fits};
@@ -8,7 +9,8 @@ ghost use Rattle.block_device.specs.Device.{IsInside, capped, sectors_of, in_mem
 ghost use Rattle.block_device.specs.Whole.{whole_bytes};
 
 use crate::{BlockDev, DeviceFault, SyncDev};
-use std::alloc::{AllocError, Global};
+use allocation::{OutOfMemory, append, with_capacity, zeros};
+use std::alloc::Global;
 
 /// Bytes in memory as sectors, of which a trailing part of a sector isn't seen. It is steady and never
 /// fails.
@@ -39,18 +41,28 @@ impl MemoryDev {
     }
 
     /// A device of which sector k is filled with the byte k modulo 256.
-    pub fn ramp(alloc: Global, sectors: u32, writable: bool) -> Result<MemoryDev, AllocError>
-        ensures { IfOk result (λ m. ⟦<MemoryDev as BlockDev>⟧.state m ≡ in_memory (ramp_image sectors) writable) }
+    ///
+    /// # Errors
+    ///
+    /// `OutOfMemory` if the allocator refused room for at most its bytes.
+    pub fn ramp(alloc: Global, sectors: u32, writable: bool) -> Result<MemoryDev, OutOfMemory>
+        ensures ok { IfOk result (λ m. ⟦<MemoryDev as BlockDev>⟧.state m ≡ in_memory (ramp_image sectors) writable) }
+        ensures err { IfErr result (λ e. asked e ≤ sectors * 512) }
     {
         let bytes = ramp_bytes(alloc, sectors)?;
         Ok(MemoryDev::new(bytes, writable))
     }
 
     /// A device of zero bytes.
-    pub fn zeros(alloc: Global, sectors: u32, writable: bool) -> Result<MemoryDev, AllocError>
-        ensures { IfOk result (λ m. ⟦<MemoryDev as BlockDev>⟧.state m ≡ in_memory (zeros_image sectors) writable) }
+    ///
+    /// # Errors
+    ///
+    /// `OutOfMemory` if the allocator refused room for its bytes.
+    pub fn zeros(alloc: Global, sectors: u32, writable: bool) -> Result<MemoryDev, OutOfMemory>
+        ensures ok { IfOk result (λ m. ⟦<MemoryDev as BlockDev>⟧.state m ≡ in_memory (zeros_image sectors) writable) }
+        ensures err { IfErr result (λ e. asked e ≤ sectors * 512) }
     {
-        let bytes = zero_bytes(alloc, sectors as usize * 512)?;
+        let bytes = zeros(alloc, sectors as usize * 512)?;
         Ok(MemoryDev::new(bytes, writable))
     }
 
@@ -71,19 +83,14 @@ impl MemoryDev {
     }
 }
 
-fn zero_bytes(alloc: Global, length: usize) -> Result<Vec<u8>, AllocError>
-    ensures { IfOk result (λ v. v.items ≡ replicate length 0) }
-{
-    vec![in alloc; 0u8; length]
-}
-
 // The sectors of a ramp, one after another.
-fn ramp_bytes(alloc: Global, sectors: u32) -> Result<Vec<u8>, AllocError>
-    ensures { IfOk result (λ v. v.items ≡ concat (ramp_image sectors)) }
+fn ramp_bytes(alloc: Global, sectors: u32) -> Result<Vec<u8>, OutOfMemory>
+    ensures ok { IfOk result (λ v. v.items ≡ concat (ramp_image sectors)) }
+    ensures err { IfErr result (λ e. asked e ≤ sectors * 512) }
 {
-    let mut bytes = Vec::with_capacity(alloc, sectors as usize * 512)?;
+    let mut bytes = with_capacity(alloc, sectors as usize * 512)?;
     for k in 0..sectors {
-        bytes.extend_from_slice(&[(k % 256) as u8; 512])?;
+        append(&mut bytes, &[(k % 256) as u8; 512])?;
     }
     Ok(bytes)
 }

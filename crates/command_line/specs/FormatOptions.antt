@@ -48,6 +48,7 @@ pub record OptionTexts : Type 0 where
   pub progress : Bool
   pub json : Bool
   pub check : Bool
+  pub linux : Bool
 
 -- what the program's own value says
 abbrev pub text_of : Option (Bor (List ℕ)) → Option (List ℕ)
@@ -83,6 +84,7 @@ option_texts words = record {
   progress = words.progress;
   json = words.json;
   check = words.check;
+  linux = words.linux;
 }
 
 -- each value is the one that its text says; where there is no text, it is 4,096 for a block size, and none for the others

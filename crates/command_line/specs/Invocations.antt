@@ -1,5 +1,5 @@
 -- The commands of a command line.
-use Rattle.std.specs.Prelude.{ℕ, List, codes, Option, is_some, if◌then◌else◌}
+use Rattle.std.specs.Prelude.{ℕ, List, codes, Ok, Option, is_some, if◌then◌else◌}
 use Rattle.std.specs.Str.{bytes_eq}
 use Rattle.command_line.specs.FormatOptions.{OptionTexts, text_of}
 use Rattle.command_line.specs.words.Cat.{CatRecord, cat_record, cat_said}
@@ -21,7 +21,6 @@ use Rattle.command_line.specs.declared.misuse.Cause.TheVariants.{Unknown, WithFe
 use Rattle.command_line.specs.words.FecFormat.{FecFormatRecord, fec_format_record, fec_format_said}
 use Rattle.command_line.specs.words.FecVerify.{FecVerifyRecord, fec_verify_record, fec_verify_said}
 use Rattle.command_line.specs.words.PinFormat.{PinFormatRecord, pin_format_record, pin_format_said}
-use Rattle.command_line.specs.words.PinVerify.{PinVerifyRecord, pin_verify_record, pin_verify_said}
 use Rattle.command_line.specs.words.Format.{FormatRecord, format_record, format_said}
 use Rattle.command_line.specs.words.Verify.{VerifyRecord, verify_record, verify_said}
 use Rattle.command_line.specs.words.Dump.{DumpRecord, dump_record, dump_said}
@@ -32,7 +31,7 @@ use Rattle.command_line.specs.words.TreeFormat.{TreeFormatRecord, tree_format_re
 use Rattle.command_line.specs.words.TreeVerify.{TreeVerifyRecord, tree_verify_record, tree_verify_said}
 use Rattle.command_line.specs.words.TreeTable.{TreeTableRecord, tree_table_record, tree_table_said}
 use Rattle.command_line.specs.declared.invocation.Invocation.{Invocation}
-use Rattle.command_line.specs.declared.invocation.Invocation.TheVariants.{Load, Read, Write, Session, Nbd, Exports, Scan, Copy, Cat, Store, Format, Verify, Dump, Table, Partitions, Diff, Repair, FormatTree, VerifyTree, TableTree, FormatFec, VerifyFec, FormatPin, VerifyPin, Manual, Version}
+use Rattle.command_line.specs.declared.invocation.Invocation.TheVariants.{Load, Read, Write, Session, Nbd, Exports, Scan, Copy, Cat, Store, Format, Verify, Dump, Table, Partitions, Diff, Repair, FormatTree, VerifyTree, TableTree, FormatFec, VerifyFec, FormatPin, Manual, Version}
 
 pub data InvocationRecord : Type 0 where
   load : LoadRecord → InvocationRecord
@@ -62,7 +61,6 @@ pub data InvocationRecord : Type 0 where
   verify_fec : FecVerifyRecord → InvocationRecord
   -- `format --pin`
   format_pin : PinFormatRecord → InvocationRecord
-  verify_pin : PinVerifyRecord → InvocationRecord
   -- the name of the command whose page is printed, if there is one
   manual : Option (List ℕ) → InvocationRecord
   version : InvocationRecord
@@ -83,14 +81,19 @@ fec_said name texts words =
     else if bytes_eq name (codes "verify") then said_as verify_fec (fec_verify_said texts words)
     else misused (codes "--fec") Unknown)
 
--- the commands on images with a pin, which have a superblock; parity isn't pinned
-abbrev pub pin_said : List ℕ → OptionTexts → List (List ℕ) → Reading InvocationRecord
-pin_said name texts words =
+-- an image with a pin has a superblock, and a format with parity writes no pin
+abbrev pub pin_conflicts : List ℕ → OptionTexts → Reading (Unit {0})
+pin_conflicts name texts =
     when (refuse_if texts.no_superblock (codes "--no-superblock") WithPin) (λ a.
-    when (refuse_if (has_fec_value texts) (codes "--pin") WithFec) (λ b.
-    if bytes_eq name (codes "format") then said_as format_pin (pin_format_said texts words)
-    else if bytes_eq name (codes "verify") then said_as verify_pin (pin_verify_said texts words)
-    else misused (codes "--pin") Unknown))
+    if bytes_eq name (codes "format") then refuse_if (has_fec_value texts) (codes "--pin") WithFec else Ok tt)
+
+-- so if `--pin` is given
+abbrev pub pin_allowed : List ℕ → OptionTexts → Reading (Unit {0})
+pin_allowed name texts = if is_some texts.pin then pin_conflicts name texts else Ok tt
+
+-- an image is made, and with `--pin` its pin written
+abbrev pub formatted_said : OptionTexts → List (List ℕ) → Reading InvocationRecord
+formatted_said texts words = if is_some texts.pin then said_as format_pin (pin_format_said texts words) else said_as format (format_said texts words)
 
 -- no argument is after `version`
 abbrev pub version_said : List (List ℕ) → Reading InvocationRecord
@@ -99,7 +102,7 @@ version_said words = said_as (λ none. version) (no_more words)
 -- the commands on images, or on nothing
 abbrev pub image_said : List ℕ → OptionTexts → List (List ℕ) → Reading InvocationRecord
 image_said name texts words =
-    if bytes_eq name (codes "format") then said_as format (format_said texts words)
+    if bytes_eq name (codes "format") then formatted_said texts words
     else if bytes_eq name (codes "verify") then said_as verify (verify_said texts words)
     else if bytes_eq name (codes "dump") then said_as dump (dump_said texts words)
     else if bytes_eq name (codes "table") then said_as table (table_said texts words)
@@ -132,13 +135,13 @@ command_said name texts words =
     else if bytes_eq name (codes "nbd") then served_said texts words
     else device_said name texts words
 
--- by the same, with `--pin`, `--fec` or `--no-superblock`, or without them
+-- by the same, with `--fec` or `--no-superblock`, or without them, if nothing conflicts with `--pin`
 abbrev pub invocation_said : List ℕ → OptionTexts → List (List ℕ) → Reading InvocationRecord
 invocation_said name texts words =
-    if is_some texts.pin then pin_said name texts words
-    else if bytes_eq name (codes "repair") then said_as repair (repair_said texts words)
+    when (pin_allowed name texts) (λ a.
+    if bytes_eq name (codes "repair") then said_as repair (repair_said texts words)
     else if has_fec_value texts then fec_said name texts words
-    else if texts.no_superblock then tree_said name texts words else command_said name texts words
+    else if texts.no_superblock then tree_said name texts words else command_said name texts words)
 
 -- what the program's own value says
 abbrev pub invocation_record : Invocation → InvocationRecord
@@ -165,6 +168,5 @@ invocation_record (TableTree w) = table_tree (tree_table_record w)
 invocation_record (FormatFec w) = format_fec (fec_format_record w)
 invocation_record (VerifyFec w) = verify_fec (fec_verify_record w)
 invocation_record (FormatPin w) = format_pin (pin_format_record w)
-invocation_record (VerifyPin w) = verify_pin (pin_verify_record w)
 invocation_record (Manual command) = manual (text_of command)
 invocation_record Version = version

@@ -1,12 +1,12 @@
 -- The positional arguments, one after the other.
-use Rattle.std.specs.Prelude.{ℕ, List, [], ◌∷◌, codes, Option, None, Some, Ok, if◌then◌else◌}
+use Rattle.std.specs.Prelude.{ℕ, List, [], ◌∷◌, codes, Option, None, Some, Ok, is_some, if◌then◌else◌}
 use Rattle.std.specs.Borrow.{Bor}
 use Rattle.dm_table.specs.Names.{is_device}
 use Rattle.dm_table.specs.Numbers.{number}
 use Rattle.command_line.specs.FormatOptions.{texts_of}
-use Rattle.command_line.specs.Misuses.{Reading, misused, wanted, when}
-use Rattle.command_line.specs.Values.{RootRecord, digest, root_file, root_said}
-use Rattle.command_line.specs.declared.misuse.Cause.TheVariants.{DeviceName, Missing, Number, Surplus}
+use Rattle.command_line.specs.Misuses.{Reading, misused, refuse_if, wanted, when}
+use Rattle.command_line.specs.Values.{RootOrPinRecord, RootRecord, digest, path_said, pin_file, root_file, root_said, root_word}
+use Rattle.command_line.specs.declared.misuse.Cause.TheVariants.{DeviceName, Missing, Number, Surplus, WithPin}
 
 -- the next one, whose name in the usage is the first argument, and those after it
 unfoldable pub positional : List ℕ → List (List ℕ) → Reading (List ℕ × List (List ℕ))
@@ -35,6 +35,16 @@ root_first None words =
 -- the root, and none after it
 unfoldable pub root_alone : Option (List ℕ) → List (List ℕ) → Reading RootRecord
 root_alone file words = when (root_first file words) (λ found. when (no_more found.1) (λ none. Ok found.0))
+
+-- the root, or the pin that holds it, and those after them; a root is the next one unless a file or the pin holds it
+unfoldable pub root_or_pin_first : Option (List ℕ) → Option (List ℕ) → List (List ℕ) → Reading (RootOrPinRecord × List (List ℕ))
+root_or_pin_first None file words = when (root_first file words) (λ found. Ok (root_word found.0, found.1))
+root_or_pin_first (Some word) file words =
+    when (refuse_if (is_some file) (codes "--root-hash-file") WithPin) (λ a. when (path_said (codes "--pin") word) (λ path. Ok (pin_file path, words)))
+
+-- the root, or the pin that holds it, and none after them
+unfoldable pub root_or_pin_alone : Option (List ℕ) → Option (List ℕ) → List (List ℕ) → Reading RootOrPinRecord
+root_or_pin_alone pin file words = when (root_or_pin_first pin file words) (λ found. when (no_more found.1) (λ none. Ok found.0))
 
 -- the device arguments of data and hashes, and none after them
 unfoldable pub device_names : List (List ℕ) → Reading (List ℕ × List ℕ)

@@ -11,6 +11,8 @@ use Rattle.command_line.specs.Misuses.{Reading, misused, wanted, when}
 use Rattle.command_line.specs.declared.misuse.Cause.TheVariants.{CacheBlocks, FilePath, MappedName, Missing, Number, Offset, RootHash, RunCount, SectorSize, WithRoot, WithStack}
 use Rattle.command_line.specs.declared.values.PartitionForm.{PartitionForm}
 use Rattle.command_line.specs.declared.values.PartitionForm.TheVariants.{Lines, Object, Stack, Root}
+use Rattle.command_line.specs.declared.values.RootOrPin.{RootOrPin}
+use Rattle.command_line.specs.declared.values.RootOrPin.TheVariants.{Root as RootAlone, Pin}
 use Rattle.command_line.specs.declared.values.RootWord.{RootWord}
 use Rattle.command_line.specs.declared.values.RootWord.TheVariants.{Digest, File}
 
@@ -76,6 +78,11 @@ pub data RootRecord : Type 0 where
   digest : List ℕ → RootRecord
   root_file : List ℕ → RootRecord
 
+-- a root digest, or the path of the pin that holds one
+pub data RootOrPinRecord : Type 0 where
+  root_word : RootRecord → RootOrPinRecord
+  pin_file : List ℕ → RootOrPinRecord
+
 -- how partitions are printed: a line each, as a JSON object, as a stack text, or as the stack text of the partitions of a root
 pub data FormRecord : Type 0 where
   lines : FormRecord
@@ -100,6 +107,13 @@ root_record (File path) = root_file path.now
 
 abbrev pub root_first_record : RootWord × Bor (List (Bor (List ℕ))) → RootRecord × List (List ℕ)
 root_first_record found = (root_record found.0, texts_of found.1.now)
+
+abbrev pub root_or_pin_record : RootOrPin → RootOrPinRecord
+root_or_pin_record (RootAlone word) = root_word (root_record word)
+root_or_pin_record (Pin path) = pin_file path.now
+
+abbrev pub root_or_pin_first_record : RootOrPin × Bor (List (Bor (List ℕ))) → RootOrPinRecord × List (List ℕ)
+root_or_pin_first_record found = (root_or_pin_record found.0, texts_of found.1.now)
 
 abbrev pub form_record : PartitionForm → FormRecord
 form_record Lines = lines

@@ -11,7 +11,6 @@ pub mod Manual
 pub mod Nbd
 pub mod Partitions
 pub mod PinFormat
-pub mod PinVerify
 pub mod Read
 pub mod Repair
 pub mod Scan

@@ -2,7 +2,8 @@
 ghost use Rattle.std.specs.Prelude.{◌≡◌, drop, find, option_copied};
 ghost use Rattle.command_line.specs.FormatOptions.{option_texts, text_of, texts_of};
 ghost use Rattle.command_line.specs.CommandWords.{invoked_by, is_option, late_option};
-ghost use Rattle.command_line.specs.Invocations.{command_said, device_said, fec_said, image_said, invocation_said, pin_said, served_said, tree_said};
+ghost use Rattle.command_line.specs.Misuses.{ReadsValue};
+ghost use Rattle.command_line.specs.Invocations.{command_said, device_said, fec_said, formatted_said, image_said, invocation_said, pin_allowed, pin_conflicts, served_said, tree_said};
 ghost use Rattle.command_line.specs.Reading.{ReadsCommand};
 
 use crate::fault::WordsFault;
@@ -22,7 +23,6 @@ use crate::words::manual::{manual_of, version_of};
 use crate::words::nbd::nbd_of;
 use crate::words::partitions::partitions_of;
 use crate::words::pin_format::pin_format_of;
-use crate::words::pin_verify::pin_verify_of;
 use crate::words::read::read_of;
 use crate::words::repair::repair_of;
 use crate::words::scan::scan_of;
@@ -54,7 +54,7 @@ pub fn invocation_of<'a>(
     }
 }
 
-// With `--pin` the command is one on a pin, with `--fec` one on parity, and with `--no-superblock` one on a tree that has none.
+// With `--fec` the command is one on parity, and with `--no-superblock` one on a tree that has none.
 fn said_by<'a>(
     alloc: Global,
     name: &[u8],
@@ -63,9 +63,8 @@ fn said_by<'a>(
 ) -> Result<Invocation<'a>, WordsFault<'a>>
     ensures { ReadsCommand (invocation_said name.now (option_texts options.now) (texts_of words.now)) result }
 {
-    if options.pin.is_some() {
-        pinned_of(name, options, words)
-    } else if name == b"repair".as_slice() {
+    allow_pin(name, options)?;
+    if name == b"repair".as_slice() {
         repair_of(alloc, options, words)
     } else if has_fec_value(options) {
         fec_of(name, options, words)
@@ -76,22 +75,26 @@ fn said_by<'a>(
     }
 }
 
-// The command of that name on an image with a pin, which has a superblock. Parity isn't pinned.
-fn pinned_of<'a>(
-    name: &[u8],
-    options: &OptionWords<'a>,
-    words: &[&'a str],
-) -> Result<Invocation<'a>, WordsFault<'a>>
-    ensures { ReadsCommand (pin_said name.now (option_texts options.now) (texts_of words.now)) result }
+// Refuses `--pin` if it conflicts with another option.
+fn allow_pin<'a>(name: &[u8], options: &OptionWords<'a>) -> Result<(), Misuse<'a>>
+    ensures { ReadsValue (λ none. none) (pin_allowed name.now (option_texts options.now)) result }
+{
+    if options.pin.is_some() {
+        check_pin(name, options)
+    } else {
+        Ok(())
+    }
+}
+
+// An image with a pin has a superblock. A format with parity writes no pin.
+fn check_pin<'a>(name: &[u8], options: &OptionWords<'a>) -> Result<(), Misuse<'a>>
+    ensures { ReadsValue (λ none. none) (pin_conflicts name.now (option_texts options.now)) result }
 {
     refuse_if(options.no_superblock, "--no-superblock", Cause::WithPin)?;
-    refuse_if(has_fec_value(options), "--pin", Cause::WithFec)?;
     if name == b"format".as_slice() {
-        pin_format_of(options, words)
-    } else if name == b"verify".as_slice() {
-        pin_verify_of(options, words)
+        refuse_if(has_fec_value(options), "--pin", Cause::WithFec)
     } else {
-        Err(WordsFault::Usage(Misuse::new("--pin", Cause::Unknown)))
+        Ok(())
     }
 }
 
@@ -202,7 +205,7 @@ fn image_of<'a>(
     ensures { ReadsCommand (image_said name.now (option_texts options.now) (texts_of words.now)) result }
 {
     if name == b"format".as_slice() {
-        format_of(options, words)
+        formatted_of(options, words)
     } else if name == b"verify".as_slice() {
         verify_of(options, words)
     } else if name == b"dump".as_slice() {
@@ -219,6 +222,20 @@ fn image_of<'a>(
         version_of(words)
     } else {
         Err(WordsFault::Usage(Misuse::new("COMMAND", Cause::Unknown)))
+    }
+}
+
+// An image is made, and with `--pin` its pin written.
+fn formatted_of<'a>(
+    options: &OptionWords<'a>,
+    words: &[&'a str],
+) -> Result<Invocation<'a>, WordsFault<'a>>
+    ensures { ReadsCommand (formatted_said (option_texts options.now) (texts_of words.now)) result }
+{
+    if options.pin.is_some() {
+        pin_format_of(options, words)
+    } else {
+        format_of(options, words)
     }
 }
 

@@ -11,7 +11,6 @@ use crate::words::load::LoadWords;
 use crate::words::nbd::NbdWords;
 use crate::words::partitions::PartitionsWords;
 use crate::words::pin_format::PinFormatWords;
-use crate::words::pin_verify::PinVerifyWords;
 use crate::words::read::ReadWords;
 use crate::words::repair::RepairWords;
 use crate::words::scan::ScanWords;
@@ -78,7 +77,6 @@ pub enum Invocation<'a> {
     VerifyFec(FecVerifyWords<'a>),
     /// `format --pin`
     FormatPin(PinFormatWords<'a>),
-    VerifyPin(PinVerifyWords<'a>),
     /// The name of the command whose page is printed, if there is one.
     Manual(Option<&'a str>),
     Version,

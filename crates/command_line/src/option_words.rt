@@ -34,6 +34,7 @@ pub struct OptionWords<'a> {
     pub progress: bool,
     pub json: bool,
     pub check: bool,
+    pub linux: bool,
 }
 
 /// Whether an option of parity is there.

@@ -1,11 +1,11 @@
 //! The positional arguments, one after the other.
 ghost use Rattle.command_line.specs.FormatOptions.{text_of, texts_of};
 ghost use Rattle.command_line.specs.Misuses.{ReadsValue};
-ghost use Rattle.command_line.specs.Positional.{device_at, device_names, next_number, next_word, no_more, number_at, positional, root_alone, root_first};
-ghost use Rattle.command_line.specs.Values.{root_first_record, root_record};
+ghost use Rattle.command_line.specs.Positional.{device_at, device_names, next_number, next_word, no_more, number_at, positional, root_alone, root_first, root_or_pin_alone, root_or_pin_first};
+ghost use Rattle.command_line.specs.Values.{root_first_record, root_or_pin_first_record, root_or_pin_record, root_record};
 
-use crate::misuse::{Cause, Misuse};
-use crate::values::{RootWord, root_said};
+use crate::misuse::{Cause, Misuse, refuse_if};
+use crate::values::{RootOrPin, RootWord, path_of, root_said};
 use dm_table::is_device;
 use table_text::number;
 
@@ -86,6 +86,44 @@ pub fn root_alone<'a>(file: Option<&'a str>, words: &[&'a str]) -> Result<RootWo
     ensures { ReadsValue root_record (root_alone (text_of file.entry) (texts_of words.now)) result }
 {
     match root_first(file, words) {
+        Ok((root, rest)) => {
+            no_more(rest)?;
+            Ok(root)
+        }
+        Err(misuse) => Err(misuse),
+    }
+}
+
+/// The root, or the pin that holds it, and the arguments after them. The root is the next argument unless a file or the pin holds it.
+#[tactic(auto, unfolding(crate::specs::Positional::root_or_pin_first))]
+pub fn root_or_pin_first<'a, 'b>(
+    pin: Option<&'a str>,
+    file: Option<&'a str>,
+    words: &'b [&'a str],
+) -> Result<(RootOrPin<'a>, &'b [&'a str]), Misuse<'a>>
+    ensures { ReadsValue root_or_pin_first_record (root_or_pin_first (text_of pin.entry) (text_of file.entry) (texts_of words.now)) result }
+{
+    let Some(word) = pin else {
+        return match root_first(file, words) {
+            Ok((root, rest)) => Ok((RootOrPin::Root(root), rest)),
+            Err(misuse) => Err(misuse),
+        };
+    };
+    refuse_if(file.is_some(), "--root-hash-file", Cause::WithPin)?;
+    let path = path_of("--pin", word)?;
+    Ok((RootOrPin::Pin(path), words))
+}
+
+/// The root, or the pin that holds it, and no argument after them.
+#[tactic(auto, unfolding(crate::specs::Positional::root_or_pin_alone))]
+pub fn root_or_pin_alone<'a>(
+    pin: Option<&'a str>,
+    file: Option<&'a str>,
+    words: &[&'a str],
+) -> Result<RootOrPin<'a>, Misuse<'a>>
+    ensures { ReadsValue root_or_pin_record (root_or_pin_alone (text_of pin.entry) (text_of file.entry) (texts_of words.now)) result }
+{
+    match root_or_pin_first(pin, file, words) {
         Ok((root, rest)) => {
             no_more(rest)?;
             Ok(root)

@@ -24,6 +24,13 @@ pub enum RootWord<'a> {
     File(&'a str),
 }
 
+/// A root digest, or the path of the pin that holds one.
+#[derive(Clone, Copy)]
+pub enum RootOrPin<'a> {
+    Root(RootWord<'a>),
+    Pin(&'a str),
+}
+
 /// How partitions are printed: a line each, as a JSON object, as a stack text, or as the stack text of the partitions that belong to a
 /// root.
 #[derive(Clone, Copy)]
@@ -155,9 +162,9 @@ pub fn pin_of<'a>(word: Option<&'a str>) -> Result<&'a str, Misuse<'a>>
     }
 }
 
-// The path of a file: not empty, and not `-`, the standard input.
+/// The path of a file: not empty, and not `-`, the standard input.
 #[tactic(auto, unfolding(crate::specs::Values::path_said))]
-fn path_of<'a>(option: &'a str, word: &'a str) -> Result<&'a str, Misuse<'a>>
+pub fn path_of<'a>(option: &'a str, word: &'a str) -> Result<&'a str, Misuse<'a>>
     ensures { ReadsValue (λ path. path.now) (path_said option.now word.now) result }
 {
     if word.is_empty() || word.as_bytes() == b"-".as_slice() {

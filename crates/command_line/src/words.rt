@@ -12,7 +12,6 @@ pub mod manual;
 pub mod nbd;
 pub mod partitions;
 pub mod pin_format;
-pub mod pin_verify;
 pub mod read;
 pub mod repair;
 pub mod scan;

@@ -46,6 +46,7 @@ texts_in rows = record {
   progress = is_there (codes "progress") rows;
   json = is_there (codes "json") rows;
   check = is_there (codes "check") rows;
+  linux = is_there (codes "linux") rows;
 }
 
 -- the positional words

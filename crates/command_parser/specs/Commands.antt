@@ -37,7 +37,7 @@ offset = value_option (codes "hash-offset")
 abbrev pub root_file : OptionText
 root_file = value_option (codes "root-hash-file")
 
--- the file of a pin
+-- the file of a pin, or the root hash of the pin that is printed
 abbrev pub pin : OptionText
 pin = value_option (codes "pin")
 
@@ -62,15 +62,15 @@ abbrev pub image_commands : List CommandText → List CommandText
 image_commands more =
     command (codes "format") (tree_options (value_option (codes "uuid") ∷ offset ∷ bare_option ∷ flag (codes "grow") ∷ progress ∷ fec_options (pin ∷ [])))
     ∷ command (codes "verify") (tree_options (offset ∷ root_file ∷ bare_option ∷ flag (codes "all") ∷ json ∷ progress ∷ fec_options (pin ∷ [])))
-    ∷ command (codes "dump") (offset ∷ json ∷ [])
-    ∷ command (codes "table") (tree_options (offset ∷ root_file ∷ value_option (codes "name") ∷ bare_option ∷ []))
-    ∷ command (codes "repair") (offset ∷ root_file ∷ flag (codes "check") ∷ fec_options [])
+    ∷ command (codes "dump") (offset ∷ json ∷ pin ∷ [])
+    ∷ command (codes "table") (tree_options (offset ∷ root_file ∷ value_option (codes "name") ∷ bare_option ∷ pin ∷ []))
+    ∷ command (codes "repair") (offset ∷ root_file ∷ flag (codes "check") ∷ fec_options (pin ∷ []))
     ∷ more
 
 -- the commands on stacks
 abbrev pub stack_commands : List CommandText → List CommandText
 stack_commands more =
-    command (codes "load") (json ∷ [])
+    command (codes "load") (json ∷ flag (codes "linux") ∷ [])
     ∷ command (codes "read") (cache ∷ [])
     ∷ command (codes "write") (cache ∷ [])
     ∷ command (codes "session") (cache ∷ [])

@@ -38,6 +38,7 @@ pub fn option_words<'a>(found: &ArgMatches<'a>) -> OptionWords<'a>
         progress: is_there(found, "progress"),
         json: is_there(found, "json"),
         check: is_there(found, "check"),
+        linux: is_there(found, "linux"),
     }
 }
 

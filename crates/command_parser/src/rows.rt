@@ -172,6 +172,12 @@ const CHECK: OptionRow = OptionRow {
     has_value: false,
 };
 
+const LINUX: OptionRow = OptionRow {
+    name: "linux",
+    others: &[],
+    has_value: false,
+};
+
 /// All commands.
 pub static COMMANDS: [CommandRow; 18] = [
     CommandRow {
@@ -211,7 +217,7 @@ pub static COMMANDS: [CommandRow; 18] = [
     },
     CommandRow {
         name: "dump",
-        options: &[HASH_OFFSET, JSON],
+        options: &[HASH_OFFSET, JSON, PIN],
     },
     CommandRow {
         name: "table",
@@ -224,15 +230,16 @@ pub static COMMANDS: [CommandRow; 18] = [
             ROOT_HASH_FILE,
             NAME,
             NO_SUPERBLOCK,
+            PIN,
         ],
     },
     CommandRow {
         name: "repair",
-        options: &[HASH_OFFSET, ROOT_HASH_FILE, CHECK, FEC, FEC_ROOTS],
+        options: &[HASH_OFFSET, ROOT_HASH_FILE, CHECK, FEC, FEC_ROOTS, PIN],
     },
     CommandRow {
         name: "load",
-        options: &[JSON],
+        options: &[JSON, LINUX],
     },
     CommandRow {
         name: "read",

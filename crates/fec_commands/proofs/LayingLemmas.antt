@@ -1,5 +1,5 @@
 -- Layouts on devices, and windows of devices that are the same.
-use Rattle.std.proofs.Common.{◌≡◌, ℕ, ◌+◌, ◌*◌, ◌/◌, ◌≤◌, ap, subst, ◌∙◌, arith, inl}
+use Rattle.std.proofs.Common.{◌≡◌, ℕ, ◌+◌, ◌*◌, ◌/◌, ◌≤◌, Option, ap, subst, ◌∙◌, arith, inl}
 use Rattle.std.proofs.Math.Nat.{div-mul-le_self}
 use Rattle.block_device.specs.Device.{Device}
 use Rattle.device_adapters.specs.declared.part.Part.{Part}
@@ -11,8 +11,9 @@ use Rattle.verity_format.specs.Image.{data_sectors}
 use Rattle.fec_commands.specs.declared.fault.FecFault.{FecFault}
 use Rattle.fec_commands.specs.declared.image.LaidTree.{LaidTree}
 use Rattle.image_commands.specs.declared.finding.NoTree.{NoTree}
-use Rattle.image_commands.specs.declared.finding.NoTree.TheVariants.{Unaligned, Unread}
+use Rattle.image_commands.specs.declared.finding.NoTree.TheVariants.{Unaligned, Unpinned, Unread}
 use Rattle.image_commands.specs.Finding.{IsNoTree}
+use Rattle.image_pin.specs.declared.pin.Pin.{Pin}
 use Rattle.fec_commands.specs.FecFaults.{no_tree}
 use Rattle.fec_commands.specs.Layings.{IsLayoutEnd, LaysOut}
 
@@ -32,15 +33,16 @@ laid-on s sectors roots l d h is valid data_room hash_room =
     }
 
 -- a layout on devices that are the same
-pub lays-as : (a a' b b' h : Device) (first roots : ℕ) (l : LaidTree) → a ≡ a' → b ≡ b' → LaysOut a b first roots h l → LaysOut a' b' first roots h l
-lays-as a a' b b' h first roots l x y lays =
-    subst (λ (v : Device). LaysOut v b' first roots h l) x (subst (λ (v : Device). LaysOut a v first roots h l) y lays)
+pub lays-as : (a a' b b' h : Device) (first : ℕ) (pin : Option Pin) (roots : ℕ) (l : LaidTree) → a ≡ a' → b ≡ b' → LaysOut a b first pin roots h l → LaysOut a' b' first pin roots h l
+lays-as a a' b b' h first pin roots l x y lays =
+    subst (λ (v : Device). LaysOut v b' first pin roots h l) x (subst (λ (v : Device). LaysOut a v first pin roots h l) y lays)
 
-pub layout_end-as : (a a' b b' h : Device) (first : ℕ) (fault : FecFault) → a ≡ a' → b ≡ b' → IsLayoutEnd a b first h fault → IsLayoutEnd a' b' first h fault
-layout_end-as a a' b b' h first fault x y ends =
-    subst (λ (v : Device). IsLayoutEnd v b' first h fault) x (subst (λ (v : Device). IsLayoutEnd a v first h fault) y ends)
+pub layout_end-as : (a a' b b' h : Device) (first : ℕ) (pin : Option Pin) (fault : FecFault) → a ≡ a' → b ≡ b' → IsLayoutEnd a b first pin h fault → IsLayoutEnd a' b' first pin h fault
+layout_end-as a a' b b' h first pin fault x y ends =
+    subst (λ (v : Device). IsLayoutEnd v b' first pin h fault) x (subst (λ (v : Device). IsLayoutEnd a v first pin h fault) y ends)
 
 -- there is no tree
-pub no-tree-layout : (d h h' : Device) (first : ℕ) (fault : NoTree) → IsNoTree h first h' fault → IsLayoutEnd d h first h' (no_tree fault)
-no-tree-layout d h h' first (Unread fault) cause = inl cause
-no-tree-layout d h h' first Unaligned cause = cause
+pub no-tree-layout : (d h h' : Device) (first : ℕ) (pin : Option Pin) (fault : NoTree) → IsNoTree h first pin h' fault → IsLayoutEnd d h first pin h' (no_tree fault)
+no-tree-layout d h h' first pin (Unread fault) cause = inl cause
+no-tree-layout d h h' first pin Unaligned cause = cause
+no-tree-layout d h h' first pin (Unpinned mismatch) cause = cause

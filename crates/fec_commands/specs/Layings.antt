@@ -1,10 +1,11 @@
 -- How parity lies across a verity image, by its superblock.
-use Rattle.std.specs.Prelude.{◌≡◌, ◌≢◌, ◌⊎◌, ℕ, ◌<◌, ◌≤◌}
+use Rattle.std.specs.Prelude.{◌≡◌, ◌≢◌, ◌⊎◌, ℕ, ◌<◌, ◌≤◌, Option}
 use Rattle.block_device.specs.Device.{Device}
 use Rattle.fec_area.specs.Layouts.{IsLaidOn, IsLayoutOf}
 use Rattle.image_commands.specs.declared.fault.ImageFault.{ImageFault}
-use Rattle.image_commands.specs.declared.fault.ImageFault.TheVariants.{Unaligned, Verify}
-use Rattle.image_commands.specs.Finding.{IsTreeUnaligned, ReadsSuper}
+use Rattle.image_commands.specs.declared.fault.ImageFault.TheVariants.{Unaligned, Unpinned, Verify}
+use Rattle.image_commands.specs.Finding.{IsTreeUnaligned, IsTreeUnpinned, ReadsSuper}
+use Rattle.image_pin.specs.declared.pin.Pin.{Pin}
 use Rattle.verity_commands.specs.Endings.{IsImageEnd}
 use Rattle.verity_format.specs.declared.verifying.VerifyFault.{VerifyFault}
 use Rattle.verity_format.specs.declared.verifying.VerifyFault.TheVariants.{TooSmall}
@@ -21,45 +22,46 @@ use Rattle.fec_commands.specs.declared.image.LaidTree.{LaidTree}
 abbrev pub IsRoots : ℕ → Type 0
 IsRoots roots = (2 ≤ roots) × (roots ≤ 24)
 
--- The superblock was read once. The layout is that of its tree; the covered blocks lie on the two devices.
-pub record LaysOut (data_dev hash_dev : Device) (first roots : ℕ) (hash_dev' : Device) (laid : LaidTree) : Type 0 where
+-- The superblock was read once and has the values of the pin, if there is one. The layout is that of its tree; the covered blocks lie on the two devices.
+pub record LaysOut (data_dev hash_dev : Device) (first : ℕ) (pin : Option Pin) (roots : ℕ) (hash_dev' : Device) (laid : LaidTree) : Type 0 where
   pub super : SuperRecord
-  pub super_read : ReadsSuper hash_dev first super
+  pub super_read : ReadsSuper hash_dev first pin super
   pub tree_is : laid.tree ≡ superblock_tree super
   pub is : IsLayoutOf laid.tree.shape hash_dev.size roots laid.layout
   pub laid_on : IsLaidOn laid.layout data_dev hash_dev'
   pub read : IsFullRead hash_dev 1 hash_dev'
 
 -- it speaks of more data than there are
-pub record AreDataShort (data_dev hash_dev : Device) (first : ℕ) (fault : VerifyFault) : Type 0 where
+pub record AreDataShort (data_dev hash_dev : Device) (first : ℕ) (pin : Option Pin) (fault : VerifyFault) : Type 0 where
   pub super : SuperRecord
-  pub super_read : ReadsSuper hash_dev first super
+  pub super_read : ReadsSuper hash_dev first pin super
   pub short : data_dev.size < data_sectors (shape_of super)
   pub is : fault ≡ TooSmall
 
 -- its data and hash blocks have different sizes
-pub record HasOtherSizes (hash_dev : Device) (first : ℕ) : Type 0 where
+pub record HasOtherSizes (hash_dev : Device) (first : ℕ) (pin : Option Pin) : Type 0 where
   pub super : SuperRecord
-  pub super_read : ReadsSuper hash_dev first super
+  pub super_read : ReadsSuper hash_dev first pin super
   pub differ : super.data_block ≢ super.hash_block
 
--- the superblock isn't read or taken, speaks of more data, or no hash block begins there
-abbrev pub IsSuperUnread : Device → Device → ℕ → Device → ImageFault → Type 0
-IsSuperUnread data_dev hash_dev first hash_dev' (Verify fault) = IsReadCause hash_dev hash_dev' fault ⊎ AreDataShort data_dev hash_dev first fault
-IsSuperUnread data_dev hash_dev first hash_dev' Unaligned = IsTreeUnaligned hash_dev first
-IsSuperUnread data_dev hash_dev first hash_dev' fault = ⊥
+-- the superblock isn't read or taken, speaks of more data, differs from the pin, or no hash block begins there
+abbrev pub IsSuperUnread : Device → Device → ℕ → Option Pin → Device → ImageFault → Type 0
+IsSuperUnread data_dev hash_dev first pin hash_dev' (Verify fault) = IsReadCause hash_dev hash_dev' fault ⊎ AreDataShort data_dev hash_dev first pin fault
+IsSuperUnread data_dev hash_dev first pin hash_dev' Unaligned = IsTreeUnaligned hash_dev first pin
+IsSuperUnread data_dev hash_dev first pin hash_dev' (Unpinned mismatch) = IsTreeUnpinned hash_dev pin mismatch
+IsSuperUnread data_dev hash_dev first pin hash_dev' fault = ⊥
 
 -- why there is no layout
-abbrev pub IsLayoutEnd : Device → Device → ℕ → Device → FecFault → Type 0
-IsLayoutEnd data_dev hash_dev first hash_dev' (Verity fault) = IsImageEnd (IsSuperUnread data_dev hash_dev first hash_dev') fault
-IsLayoutEnd data_dev hash_dev first hash_dev' BlockSizes = HasOtherSizes hash_dev first
-IsLayoutEnd data_dev hash_dev first hash_dev' (Parity fault) = ⊥
-IsLayoutEnd data_dev hash_dev first hash_dev' (Differs round) = ⊥
+abbrev pub IsLayoutEnd : Device → Device → ℕ → Option Pin → Device → FecFault → Type 0
+IsLayoutEnd data_dev hash_dev first pin hash_dev' (Verity fault) = IsImageEnd (IsSuperUnread data_dev hash_dev first pin hash_dev') fault
+IsLayoutEnd data_dev hash_dev first pin hash_dev' BlockSizes = HasOtherSizes hash_dev first pin
+IsLayoutEnd data_dev hash_dev first pin hash_dev' (Parity fault) = ⊥
+IsLayoutEnd data_dev hash_dev first pin hash_dev' (Differs round) = ⊥
 
 -- ---- the same by what devices of any kind are
 
-abbrev pub IsLaidOut : {D H : Type 0} → (D → Device) → (H → Device) → D → H → ℕ → ℕ → H → LaidTree → Type 0
-IsLaidOut data_state hash_state data_dev hash_dev first roots hash_dev' laid = LaysOut (data_state data_dev) (hash_state hash_dev) first roots (hash_state hash_dev') laid
+abbrev pub IsLaidOut : {D H : Type 0} → (D → Device) → (H → Device) → D → H → ℕ → Option Pin → ℕ → H → LaidTree → Type 0
+IsLaidOut data_state hash_state data_dev hash_dev first pin roots hash_dev' laid = LaysOut (data_state data_dev) (hash_state hash_dev) first pin roots (hash_state hash_dev') laid
 
-abbrev pub IsNotLaidOut : {D H : Type 0} → (D → Device) → (H → Device) → D → H → ℕ → H → FecFault → Type 0
-IsNotLaidOut data_state hash_state data_dev hash_dev first hash_dev' fault = IsLayoutEnd (data_state data_dev) (hash_state hash_dev) first (hash_state hash_dev') fault
+abbrev pub IsNotLaidOut : {D H : Type 0} → (D → Device) → (H → Device) → D → H → ℕ → Option Pin → H → FecFault → Type 0
+IsNotLaidOut data_state hash_state data_dev hash_dev first pin hash_dev' fault = IsLayoutEnd (data_state data_dev) (hash_state hash_dev) first pin (hash_state hash_dev') fault

@@ -1,5 +1,5 @@
 -- Parity of an image that stands in files, written to a file.
-use Rattle.std.specs.Prelude.{◌≡◌, ◌⊎◌, true}
+use Rattle.std.specs.Prelude.{◌≡◌, ◌⊎◌, None, true}
 use Rattle.block_device.specs.Device.{Device, IsUnsynced, synced}
 use Rattle.fec_area.specs.declared.layout.Layout.{Layout}
 use Rattle.fec_area.specs.declared.writing.ParityFault.{ParityFault}
@@ -54,13 +54,13 @@ IsSealingEnd l data_dev hash_dev parity_dev parity_dev' fault =
 pub record ProtectsBehind (data_dev hash_dev parity_dev : Device) (extent : Extent) (parity_dev' : Device) : Type 0 where
   pub laid : LaidTree
   pub read_dev : Device
-  pub lays : LaysOut (before data_dev extent.end) (behind hash_dev extent.first) extent.first extent.roots read_dev laid
+  pub lays : LaysOut (before data_dev extent.end) (behind hash_dev extent.first) extent.first None extent.roots read_dev laid
   pub sealed : IsSealed laid.layout (before data_dev extent.end) read_dev parity_dev parity_dev'
 
 -- there is no layout, and nothing was written
 pub record EndsUnlaid (data_dev hash_dev parity_dev : Device) (extent : Extent) (parity_dev' : Device) (fault : FecFault) : Type 0 where
   pub read_dev : Device
-  pub ends : IsLayoutEnd (before data_dev extent.end) (behind hash_dev extent.first) extent.first read_dev fault
+  pub ends : IsLayoutEnd (before data_dev extent.end) (behind hash_dev extent.first) extent.first None read_dev fault
   pub same : parity_dev' ≡ parity_dev
 
 -- there is one, and the parity isn't on its medium
@@ -68,7 +68,7 @@ pub record EndsUnsealed (data_dev hash_dev parity_dev : Device) (extent : Extent
   pub laid : LaidTree
   pub read_dev : Device
   pub cause : ParityFault
-  pub lays : LaysOut (before data_dev extent.end) (behind hash_dev extent.first) extent.first extent.roots read_dev laid
+  pub lays : LaysOut (before data_dev extent.end) (behind hash_dev extent.first) extent.first None extent.roots read_dev laid
   pub ends : IsSealingEnd laid.layout (before data_dev extent.end) read_dev parity_dev parity_dev' cause
   pub is : fault ≡ Parity cause
 

@@ -12,12 +12,14 @@ use Rattle.fec_area.specs.Layouts.{parity_sectors}
 use Rattle.image_files.specs.Opener.{Calls, Opener, calls}
 use Rattle.image_commands.specs.declared.comparing.ImagePair.{ImagePair}
 use Rattle.image_commands.specs.declared.fault.ImageFault.{ImageFault}
+use Rattle.image_commands.specs.declared.trusted.TrustedRoot.{TrustedRoot}
 use Rattle.image_commands.specs.Comparing.{IsComparedEnd}
 use Rattle.image_commands.specs.Endings.{IsQuiet}
 use Rattle.image_commands.specs.Places.{before, behind, tree_start}
+use Rattle.image_pin.specs.declared.pin.Pin.{Pin}
 use Rattle.verity_commands.specs.declared.verity_fault.VerityFault.TheVariants.{Image}
 use Rattle.verity_commands.specs.Endings.{IsVerityQuiet}
-use Rattle.verity_commands.specs.Places.{IsRootEnd, TellsRoot}
+use Rattle.verity_commands.specs.Places.{IsTrustedEnd, TellsTrusted}
 use Rattle.verity_format.specs.declared.verifying.Verdict.TheVariants.{Matches}
 use Rattle.verity_format.specs.Verifying.{IsTreeFound}
 use Rattle.fec_commands.specs.declared.fault.FecFault.{FecFault}
@@ -28,31 +30,32 @@ use Rattle.fec_commands.specs.FecFaults.{unwritten}
 use Rattle.fec_commands.specs.Images.{three_data_end}
 use Rattle.fec_commands.specs.Layings.{IsLayoutEnd, LaysOut}
 
--- ---- the parts of an image, and the device of its parity
+-- ---- the parts of an image, the device of its parity, and the pin that is given
 
 pub record Parts : Type 0 where
   pub data_dev : Device
   pub hash_dev : Device
   pub parity_dev : Device
   pub first : ℕ
+  pub pin : Option Pin
   pub roots : ℕ
 
--- the superblock was read once, and the parity of its image has room on its device
+-- the superblock was read once and has the values of the pin, if there is one, and the parity of its image has room on its device
 pub record Measures (p : Parts) (read_dev : Device) (laid : LaidTree) : Type 0 where
-  pub lays : LaysOut p.data_dev p.hash_dev p.first p.roots read_dev laid
+  pub lays : LaysOut p.data_dev p.hash_dev p.first p.pin p.roots read_dev laid
   pub room : parity_sectors laid.layout ≤ p.parity_dev.size
 
 -- it hasn't
 pub record IsParityShort (p : Parts) (fault : FecFault) : Type 0 where
   pub laid : LaidTree
   pub read_dev : Device
-  pub lays : LaysOut p.data_dev p.hash_dev p.first p.roots read_dev laid
+  pub lays : LaysOut p.data_dev p.hash_dev p.first p.pin p.roots read_dev laid
   pub short : p.parity_dev.size < parity_sectors laid.layout
   pub is : fault ≡ Parity (TooSmall (parity_sectors laid.layout))
 
 -- that, or there is no layout
 abbrev pub IsUnmeasured : Parts → FecFault → Type 0
-IsUnmeasured p fault = ((read_dev : Device) × IsLayoutEnd p.data_dev p.hash_dev p.first read_dev fault) ⊎ IsParityShort p fault
+IsUnmeasured p fault = ((read_dev : Device) × IsLayoutEnd p.data_dev p.hash_dev p.first p.pin read_dev fault) ⊎ IsParityShort p fault
 
 -- the parity is that of the image, and this is printed
 pub record ChecksParity (l : Layout) (data_dev hash_dev parity_dev : Device) (old new : Option (List ℕ)) : Type 0 where
@@ -100,43 +103,44 @@ pub record VerifiesParts (p : Parts) (root : List ℕ) (old new : Option (List �
   pub matches : MatchesLaid p root old told
   pub checks : ChecksParity matches.laid.layout matches.data_dev' matches.hash_dev' p.parity_dev told new
 
--- ---- files that are open; the arguments or a file give the root
+-- ---- files that are open; the arguments, a file or a pin give the root, which is read before the superblock
 
-abbrev pub parts_of : {D : Type 0} → (D → Device) → ThreeImages D → FecVerifyRecord → Parts
-parts_of state three v =
+abbrev pub parts_of : {D : Type 0} → (D → Device) → ThreeImages D → FecVerifyRecord → Option Pin → Parts
+parts_of state three v pin =
     let first = v.verify.hash_offset / 512 in
     record {
       data_dev = before (state three.«data».device) (three_data_end three first);
       hash_dev = behind (state three.hash.device) first;
       parity_dev = state three.parity.device;
       first = first;
+      pin = pin;
       roots = v.fec.roots;
     }
 
 pub record VerifiesThree {S D : Type 0} (w : Calls S D) (three : ThreeImages D) (v : FecVerifyRecord) (old new : Option (List ℕ)) : Type 0 where
-  pub root : List ℕ
-  pub told : TellsRoot w v.verify.root root
-  pub verifies : VerifiesParts (parts_of w.state three v) root old new
+  pub trusted : TrustedRoot
+  pub told : TellsTrusted w v.verify.root trusted
+  pub verifies : VerifiesParts (parts_of w.state three v trusted.pin) trusted.root old new
 
--- there is no root
-pub record EndsUnrooted {S D : Type 0} (w : Calls S D) (three : ThreeImages D) (v : FecVerifyRecord) (fault : FecFault) : Type 0 where
-  pub laid : LaidTree
-  pub read_dev : Device
+-- there is no root, or no pin
+pub record EndsUnrooted {S D : Type 0} (w : Calls S D) (v : FecVerifyRecord) (fault : FecFault) : Type 0 where
   pub cause : ImageFault
-  pub measures : Measures (parts_of w.state three v) read_dev laid
-  pub ends : IsRootEnd w v.verify.root cause
+  pub ends : IsTrustedEnd w v.verify.root cause
   pub is : fault ≡ Verity (Image cause)
 
--- the image isn't the one under the root, or isn't compared; or it is, as is printed, and its parity isn't, or isn't compared
-pub record EndsRooted {S D : Type 0} (w : Calls S D) (three : ThreeImages D) (v : FecVerifyRecord) (old new : Option (List ℕ)) (failed : Bool) (fault : FecFault) : Type 0 where
-  pub root : List ℕ
-  pub told : TellsRoot w v.verify.root root
-  pub ends : EndsComparing (parts_of w.state three v) root old new failed fault ⊎ EndsChecking (parts_of w.state three v) root old new failed fault
+-- there is no layout, or no room for the parity, and nothing was printed; or the image isn't the one under the root, or isn't compared;
+-- or it is, as is printed, and its parity isn't, or isn't compared
+abbrev pub IsPartsEnd : Parts → List ℕ → Option (List ℕ) → Option (List ℕ) → Bool → FecFault → Type 0
+IsPartsEnd p root old new failed fault = (IsUnmeasured p fault × (new ≡ old)) ⊎ (EndsComparing p root old new failed fault ⊎ EndsChecking p root old new failed fault)
 
--- there is no layout, no room for the parity, or no root, and nothing was printed; or it ended later
+pub record EndsRooted {S D : Type 0} (w : Calls S D) (three : ThreeImages D) (v : FecVerifyRecord) (old new : Option (List ℕ)) (failed : Bool) (fault : FecFault) : Type 0 where
+  pub trusted : TrustedRoot
+  pub told : TellsTrusted w v.verify.root trusted
+  pub ends : IsPartsEnd (parts_of w.state three v trusted.pin) trusted.root old new failed fault
+
+-- there is no root, and nothing was printed; or it ended later
 abbrev pub IsVerifyThreeEnd : {S D : Type 0} → Calls S D → ThreeImages D → FecVerifyRecord → Option (List ℕ) → Option (List ℕ) → Bool → FecFault → Type 0
-IsVerifyThreeEnd w three v old new failed fault =
-    (IsUnmeasured (parts_of w.state three v) fault × ((w.new ≡ w.old) × (new ≡ old))) ⊎ ((EndsUnrooted w three v fault × (new ≡ old)) ⊎ EndsRooted w three v old new failed fault)
+IsVerifyThreeEnd w three v old new failed fault = (EndsUnrooted w v fault × (new ≡ old)) ⊎ EndsRooted w three v old new failed fault
 
 -- nothing is written ahead of what ends it, unless it is the writing that fails
 abbrev pub IsFecQuiet : FecFault → Option (List ℕ) → Option (List ℕ) → Type 0
@@ -147,14 +151,14 @@ IsFecQuiet (Differs round) old new = new ≡ old
 
 -- ---- the same by what devices of any kind are, an opener and a writer, each before and after, and the program's own words
 
-abbrev pub parts_by : {D H P : Type 0} → (D → Device) → (H → Device) → (P → Device) → D → H → P → ℕ → ℕ → Parts
-parts_by data_state hash_state parity_state d h p first roots = record { data_dev = data_state d; hash_dev = hash_state h; parity_dev = parity_state p; first = first; roots = roots }
+abbrev pub parts_by : {D H P : Type 0} → (D → Device) → (H → Device) → (P → Device) → D → H → P → ℕ → Option Pin → ℕ → Parts
+parts_by data_state hash_state parity_state d h p first pin roots = record { data_dev = data_state d; hash_dev = hash_state h; parity_dev = parity_state p; first = first; pin = pin; roots = roots }
 
-abbrev pub MeasuresBy : {D H P : Type 0} → (D → Device) → (H → Device) → (P → Device) → D → H → P → ℕ → ℕ → H → LaidTree → Type 0
-MeasuresBy data_state hash_state parity_state d h p first roots h' = Measures (parts_by data_state hash_state parity_state d h p first roots) (hash_state h')
+abbrev pub MeasuresBy : {D H P : Type 0} → (D → Device) → (H → Device) → (P → Device) → D → H → P → ℕ → Option Pin → ℕ → H → LaidTree → Type 0
+MeasuresBy data_state hash_state parity_state d h p first pin roots h' = Measures (parts_by data_state hash_state parity_state d h p first pin roots) (hash_state h')
 
-abbrev pub IsUnmeasuredBy : {D H P : Type 0} → (D → Device) → (H → Device) → (P → Device) → D → H → P → ℕ → ℕ → FecFault → Type 0
-IsUnmeasuredBy data_state hash_state parity_state d h p first roots = IsUnmeasured (parts_by data_state hash_state parity_state d h p first roots)
+abbrev pub IsUnmeasuredBy : {D H P : Type 0} → (D → Device) → (H → Device) → (P → Device) → D → H → P → ℕ → Option Pin → ℕ → FecFault → Type 0
+IsUnmeasuredBy data_state hash_state parity_state d h p first pin roots = IsUnmeasured (parts_by data_state hash_state parity_state d h p first pin roots)
 
 abbrev pub PrintsParity : {D H P W : Type 0} → Layout → (D → Device) → (H → Device) → (P → Device) → ImagePair D H → P → (W → Option (List ℕ)) → CountedRecord W → CountedRecord W → Type 0
 PrintsParity l data_state hash_state parity_state two parity contents writer writer' =

@@ -11,6 +11,7 @@ use command_line::FecFile;
 use fec_area::Layout;
 use image_commands::{ImageFault, ImagePlaces, find_tree};
 use image_files::{FileUse, Images, OpenImage, UnopenedFile, is_one_file, open_apart, open_image};
+use image_pin::Pin;
 use verity_commands::VerityFault;
 use verity_format::{VerifyFault, VerityTree, data_sectors};
 
@@ -92,18 +93,19 @@ pub(crate) fn end_of_data(data: Option<FileId>, hash: Option<FileId>, first: u64
     u64::MAX
 }
 
-/// The tree of an image, whose superblock is read once, and how parity with so many bytes in a codeword lies across the image.
+/// The tree of an image, whose superblock is read once and has the values of the pin, if there is one, and how parity with so many bytes in a codeword lies across the image.
 pub(crate) fn lay_out<'a, D: BlockDev, H: BlockDev>(
     data_dev: &D,
     hash_dev: &mut H,
     first: u64,
+    pin: &Option<Pin>,
     roots: u32,
 ) -> Result<LaidTree, FecFault<'a>>
     requires { IsRoots roots }
-    ensures ok { IfOk result (IsLaidOut D.state H.state data_dev.now hash_dev.old first roots hash_dev.new) }
-    ensures err { IfErr result (IsNotLaidOut D.state H.state data_dev.now hash_dev.old first hash_dev.new) }
+    ensures ok { IfOk result (IsLaidOut D.state H.state data_dev.now hash_dev.old first pin.now roots hash_dev.new) }
+    ensures err { IfErr result (IsNotLaidOut D.state H.state data_dev.now hash_dev.old first pin.now hash_dev.new) }
 {
-    let superblock = find_tree(hash_dev, first)?;
+    let superblock = find_tree(hash_dev, first, pin)?;
     let tree = superblock.tree();
     if data_dev.sectors() < data_sectors(&tree.shape) {
         return Err(FecFault::Verity(VerityFault::Image(ImageFault::Verify(VerifyFault::TooSmall))));

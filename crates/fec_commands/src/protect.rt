@@ -67,7 +67,7 @@ fn protect_behind<'a, D: BlockDev + Drop, H: BlockDev + Drop, P: SyncDev>(
 {
     let mut before = Window::<D, Brand>::before(data_dev, extent.end);
     let mut behind = Window::<H, Brand>::behind(hash_dev, extent.first);
-    let laid = lay_out(&before, &mut behind, extent.first, extent.roots)?;
+    let laid = lay_out(&before, &mut behind, extent.first, &None, extent.roots)?;
     write_synced(alloc, &laid.layout, &mut before, &mut behind, parity)?;
     Ok(())
 }

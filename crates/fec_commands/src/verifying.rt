@@ -12,12 +12,13 @@ use device_adapters::{Watched, Watchers, bytes_before, watcher_of};
 use fec_area::{Layout, ParityFault, check_parity};
 use image_commands::{Bounds, ImagePair, compare, place_parts, tree_start};
 use image_files::{Images, OpenImage};
+use image_pin::Pin;
 use program_io::Counted;
 use std::alloc::Global;
 use std::io::Write;
-use verity_commands::{root_in, sector_at};
+use verity_commands::{sector_at, trusted_in};
 
-/// Compares an image with its tree, and then its parity with the one in a file. The superblock is read once.
+/// Compares an image with its tree, and then its parity with the one in a file. The superblock is read once, after the root or the pin.
 pub(crate) fn verify_open<'a, I: Images, S: Watchers, W: Write>(
     alloc: Global,
     images: &mut I,
@@ -48,16 +49,24 @@ pub(crate) fn verify_open<'a, I: Images, S: Watchers, W: Write>(
         },
     } = three;
     let mut two = place_parts(data_dev, hash_dev, Bounds { end, first });
+    let trusted = trusted_in(images, &words.verify.root)?;
+    let pin = &trusted.pin;
     let roots = words.fec.roots;
-    let laid = measure(&two.data, &mut two.hash, &parity_dev, first, roots)?;
-    let root = root_in(images, &words.verify.root)?;
+    let laid = measure(&two.data, &mut two.hash, &parity_dev, first, pin, roots)?;
     let watcher = watcher_of(watchers, words.verify.progress);
     let ImagePair { data, hash } = two;
     let data = Watched::new(data, watcher, all);
     let mut watched = ImagePair { data, hash };
     let size = laid.tree.shape.hash_block();
     let ahead = tree_start(first, size, 0);
-    compare(alloc, &mut watched, &laid.tree, ahead, &root, writer)?;
+    compare(
+        alloc,
+        &mut watched,
+        &laid.tree,
+        ahead,
+        &trusted.root,
+        writer,
+    )?;
     let ImagePair { data, hash } = watched;
     let data = data.inner;
     let mut parts = ImagePair { data, hash };
@@ -70,13 +79,14 @@ fn measure<'a, D: BlockDev, H: BlockDev, P: BlockDev>(
     hash_dev: &mut H,
     parity: &P,
     first: u64,
+    pin: &Option<Pin>,
     roots: u32,
 ) -> Result<LaidTree, FecFault<'a>>
     requires { IsRoots roots }
-    ensures ok { IfOk result (MeasuresBy D.state H.state P.state data_dev.now hash_dev.old parity.now first roots hash_dev.new) }
-    ensures err { IfErr result (IsUnmeasuredBy D.state H.state P.state data_dev.now hash_dev.old parity.now first roots) }
+    ensures ok { IfOk result (MeasuresBy D.state H.state P.state data_dev.now hash_dev.old parity.now first pin.now roots hash_dev.new) }
+    ensures err { IfErr result (IsUnmeasuredBy D.state H.state P.state data_dev.now hash_dev.old parity.now first pin.now roots) }
 {
-    let laid = lay_out(data_dev, hash_dev, first, roots)?;
+    let laid = lay_out(data_dev, hash_dev, first, pin, roots)?;
     let needed = laid.layout.parity_sectors();
     if parity.sectors() < needed {
         return Err(FecFault::Parity(ParityFault::TooSmall { needed }));

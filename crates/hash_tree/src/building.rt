@@ -9,7 +9,7 @@ mod grouping;
 
 use allocation::{OutOfMemory, push, with_capacity};
 use block_bytes::{append, extend, fill};
-use std::alloc::{AllocError, Global};
+use std::alloc::Global;
 use std::marker::Model;
 use std::mem;
 use tree_shape::{Digest, Salt, Shape};
@@ -50,13 +50,13 @@ pub struct LevelBuilder {
     hash_block: usize,
     salt: Salt,
     left: u64,
-    failed: bool,
+    refused: Option<OutOfMemory>,
     levels: Vec<Level>,
     root: Digest,
 }
 
 impl Model for LevelBuilder {
-    ghost use Rattle.std.specs.Prelude.{◌≡◌, ◌+◌, ◌^◌, ◌≤◌, false, All};
+    ghost use Rattle.std.specs.Prelude.{◌≡◌, ◌+◌, ◌^◌, ◌≤◌, false, All, is_some};
     ghost use Rattle.hash_tree.specs.Building.{BuilderRecord, HaveRoom};
 
     ghost Value = { BuilderRecord };
@@ -65,12 +65,12 @@ impl Model for LevelBuilder {
       hash_block = b.hash_block;
       salt = b.salt;
       left = b.left;
-      failed = b.failed;
+      failed = is_some b.refused;
       levels = b.levels.items;
       root = b.root;
     } };
 
-    ghost invariant = { λ b. b.failed ≡ false → HaveRoom b.left b.levels.items };
+    ghost invariant = { λ b. is_some b.refused ≡ false → HaveRoom b.left b.levels.items };
 }
 
 impl LevelBuilder {
@@ -78,8 +78,8 @@ impl LevelBuilder {
     ///
     /// # Errors
     ///
-    /// `AllocError` if the allocator refused room for its levels.
-    pub fn new(alloc: Global, shape: Shape, salt: Salt) -> Result<LevelBuilder, AllocError>
+    /// `OutOfMemory` if the allocator refused room for its levels.
+    pub fn new(alloc: Global, shape: Shape, salt: Salt) -> Result<LevelBuilder, OutOfMemory>
         ensures value { IfOk result (λ b. b ≡ begun_builder shape salt) }
         ensures valid { IsShape shape }
         ensures err { OnErr result (IsOutOfMemory 14) }
@@ -90,7 +90,7 @@ impl LevelBuilder {
             hash_block,
             salt,
             left,
-            failed: false,
+            refused: None,
             levels: begun_levels(alloc, &shape)?,
             root: Digest::new([0; Digest::SIZE]),
         })
@@ -107,16 +107,17 @@ impl LevelBuilder {
     ///
     /// # Errors
     ///
-    /// `AllocError` if the allocator refused room for a hash block. Each later call returns the same error.
-    pub fn push(&mut self, digest: Digest, out: &mut Vec<Placed>) -> Result<(), AllocError>
+    /// `OutOfMemory` if the allocator refused room for a hash block. Each later call returns the same error.
+    pub fn push(&mut self, digest: Digest, out: &mut Vec<Placed>) -> Result<(), OutOfMemory>
         requires { self.old.failed ≡ false → 0 < self.old.left }
         ensures ok { OnOk result (Pushes self.old (digest ∷ []) self.new out.old.items out.new.items) }
         ensures err { OnErr result (FailsToPush self.old self.new) }
         ensures some { HasSome out.old.items (completed self.old (digest ∷ [])) out.new.items }
         ensures failed { self.old.failed ≡ true → (is_err result ≡ true) × (out.new.items ≡ out.old.items) }
     {
-        if self.failed {
-            return Err(AllocError);
+        match self.refused {
+            Some(refused) => return Err(refused),
+            None => {}
         }
         match rise(
             self.hash_block,
@@ -130,9 +131,9 @@ impl LevelBuilder {
                 self.left -= 1;
                 Ok(())
             }
-            Err(_) => {
-                self.failed = true;
-                Err(AllocError)
+            Err(refused) => {
+                self.refused = Some(refused);
+                Err(refused)
             }
         }
     }
@@ -141,16 +142,21 @@ impl LevelBuilder {
     ///
     /// # Errors
     ///
-    /// `AllocError` if the allocator refused room for at most eight hash blocks, or did so before.
-    pub fn push_many(&mut self, digests: &[Digest], out: &mut Vec<Placed>) -> Result<(), AllocError>
+    /// `OutOfMemory` if the allocator refused room for at most eight hash blocks, or did so before.
+    pub fn push_many(
+        &mut self,
+        digests: &[Digest],
+        out: &mut Vec<Placed>,
+    ) -> Result<(), OutOfMemory>
         requires { self.old.failed ≡ false → length digests.now ≤ self.old.left }
         ensures ok { OnOk result (Pushes self.old digests.now self.new out.old.items out.new.items) }
         ensures err { OnErr result (FailsToPush self.old self.new) }
         ensures some { HasSome out.old.items (completed self.old digests.now) out.new.items }
         ensures failed { self.old.failed ≡ true → (is_err result ≡ true) × (out.new.items ≡ out.old.items) }
     {
-        if self.failed {
-            return Err(AllocError);
+        match self.refused {
+            Some(refused) => return Err(refused),
+            None => {}
         }
         let mut done = 0;
         while done < digests.len() {
@@ -163,8 +169,8 @@ impl LevelBuilder {
     ///
     /// # Errors
     ///
-    /// `AllocError` if the allocator refused room for a hash block, or did so before.
-    pub fn finish(self, out: &mut Vec<Placed>) -> Result<Digest, AllocError>
+    /// `OutOfMemory` if the allocator refused room for a hash block, or did so before.
+    pub fn finish(self, out: &mut Vec<Placed>) -> Result<Digest, OutOfMemory>
         requires { self.failed ≡ false → self.left ≡ 0 }
         ensures root { IfOk result (λ r. r ≡ built_root self) }
         ensures out { OnOk result (out.new.items ≡ out.old.items ++ last_completed self) }
@@ -172,8 +178,9 @@ impl LevelBuilder {
         ensures failed { self.failed ≡ true → (is_err result ≡ true) × (out.new.items ≡ out.old.items) }
         ensures err { OnErr result (self.failed ≡ false → IsOutOfMemory (builder_room self)) }
     {
-        if self.failed {
-            return Err(AllocError);
+        match self.refused {
+            Some(refused) => return Err(refused),
+            None => {}
         }
         let mut levels = self.levels;
         let root = close_up(

@@ -8,7 +8,7 @@ ghost use Rattle.hash_tree.specs.Tree.{area, root, cut};
 
 use crate::digest_blocks;
 use allocation::{OutOfMemory, filled, zeros};
-use std::alloc::{AllocError, Global};
+use std::alloc::Global;
 use tree_shape::{Digest, Salt, Shape};
 
 /// The tree's hash blocks as they are stored, the top level first and each filled up with zeros, and the root
@@ -16,13 +16,13 @@ use tree_shape::{Digest, Salt, Shape};
 ///
 /// # Errors
 ///
-/// `AllocError` if the allocator refused room for the area, or for the digests of a level.
+/// `OutOfMemory` if the allocator refused room for the area, or for the digests of a level.
 pub fn area(
     alloc: Global,
     shape: &Shape,
     salt: &Salt,
     digests: &[Digest],
-) -> Result<(Vec<u8>, Digest), AllocError>
+) -> Result<(Vec<u8>, Digest), OutOfMemory>
     requires { length digests.now ≡ shape.now.blocks }
     ensures area { IfOk result (λ r. r.0.items ≡ concat (area shape.now.hash_block salt.now digests.now)) }
     ensures root { IfOk result (λ r. r.1 ≡ root shape.now.hash_block salt.now digests.now) }

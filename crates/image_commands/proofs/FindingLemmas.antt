@@ -1,21 +1,24 @@
 -- How commands end that find no tree, or compare one with what devices hold.
-use Rattle.std.proofs.Common.{ℕ, Bool, List, inl, inr, refl}
+use Rattle.std.proofs.Common.{ℕ, Bool, List, Option, inl, inr}
 use Rattle.block_device.specs.Device.{Device}
+use Rattle.image_pin.specs.declared.pin.Pin.{Pin as ImagePin}
 use Rattle.verity_format.specs.Superblock.{SuperRecord}
 use Rattle.verity_format.specs.Trees.{tree_alone}
 use Rattle.image_commands.specs.declared.fault.ImageFault.{ImageFault}
 use Rattle.image_commands.specs.declared.fault.ImageFault.TheVariants.{DataOverlapsTree, NoMemory, Open, Format, Verify, Differs, Pin, PinUnwritten, RootText, Unaligned, Unpinned, Random, Write}
 use Rattle.image_commands.specs.declared.finding.NoTree.{NoTree}
-use Rattle.image_commands.specs.declared.finding.NoTree.TheVariants.{Unread, Unaligned as Misplaced}
+use Rattle.image_commands.specs.declared.finding.NoTree.TheVariants.{Unread, Unaligned as Misplaced, Unpinned as Unlike}
 use Rattle.image_commands.specs.Comparing.{IsComparedEnd}
 use Rattle.image_commands.specs.Finding.{IsNoTree, no_tree_fault}
 use Rattle.image_commands.specs.PlacedImages.{IsPlacedSuperEnd}
 use Rattle.image_commands.specs.Places.{behind, tree_start}
 use Rattle.image_commands.specs.TreeImages.{IsTreeComparisonEnd}
 
-pub no-tree-end : (device device' : Device) (first : ℕ) (failed : Bool) (fault : NoTree) → IsNoTree (behind device first) first device' fault → IsPlacedSuperEnd device first failed (no_tree_fault fault)
-no-tree-end device device' first failed (Unread fault) cause = inl (device', cause)
-no-tree-end device device' first failed Misplaced cause = inr (cause, refl)
+pub no-tree-end : (device device' : Device) (first : ℕ) (pin : Option ImagePin) (failed : Bool) (fault : NoTree)
+    → IsNoTree (behind device first) first pin device' fault → IsPlacedSuperEnd device first pin failed (no_tree_fault fault)
+no-tree-end device device' first pin failed (Unread fault) cause = inl (device', cause)
+no-tree-end device device' first pin failed Misplaced cause = inr cause
+no-tree-end device device' first pin failed (Unlike mismatch) cause = inr cause
 
 -- of a tree without a superblock
 pub compared-alone : (s : SuperRecord) (d h d' h' : Device) (first : ℕ) (root : List ℕ) (failed : Bool) (fault : ImageFault)

@@ -20,4 +20,3 @@ pub mod TreePlaces
 pub mod ClearedTrees
 pub mod TreeFormats
 pub mod TreeImages
-pub mod Pinned

@@ -14,6 +14,7 @@ use Rattle.image_files.specs.declared.texts.ReplaceFault.{ReplaceFault}
 use Rattle.image_pin.specs.declared.fault.PinFault.{PinFault}
 use Rattle.image_pin.specs.declared.pin.Pin.{Pin}
 use Rattle.image_pin.specs.PinTexts.{limited_pin, pin_text}
+use Rattle.verity_format.specs.Superblock.{SuperRecord}
 use Rattle.image_commands.specs.declared.fault.ImageFault.{ImageFault}
 use Rattle.image_commands.specs.declared.fault.ImageFault.TheVariants as image
 use Rattle.image_commands.specs.declared.format.MadeImage.{MadeImage}
@@ -43,6 +44,10 @@ IsPinFileEnd w path fault = ⊥
 -- the pin of an image that was made with these options
 abbrev pub pin_of_image : ImageOptions → MadeImage → Pin
 pin_of_image options made = record { root = made.root; salt = made.salt; data_block = options.data_block; hash_block = options.hash_block; blocks = made.blocks }
+
+-- the pin of a root hash with the values of a superblock
+abbrev pub pin_in : List ℕ → SuperRecord → Pin
+pin_in root s = record { root = root; salt = s.salt; data_block = s.data_block; hash_block = s.hash_block; blocks = s.blocks }
 
 -- which file stands under a path, where one does and that is known
 abbrev pub TellsId : {S D : Type 0} → Calls S D → List ℕ → Option FileId → Type 0

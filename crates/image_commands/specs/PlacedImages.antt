@@ -1,9 +1,10 @@
 -- What the commands on a hash image print, and how they end early. It begins at a sector of its file.
 use Rattle.std.specs.Borrow.{Bor}
-use Rattle.std.specs.Prelude.{◌≡◌, ◌⊎◌, ℕ, Bool, true, false, List, codes, Option}
+use Rattle.std.specs.Prelude.{◌≡◌, ◌⊎◌, ℕ, Bool, true, false, List, codes, Option, None}
 use Rattle.std.specs.Io.KnownBytes.{Appends}
 use Rattle.block_device.specs.Device.{Device}
 use Rattle.program_io.specs.Counted.{CountedRecord}
+use Rattle.command_line.specs.declared.words.dump.DumpForm.{DumpForm}
 use Rattle.image_files.specs.declared.images.OpenImage.{OpenImage}
 use Rattle.image_files.specs.Opened.{Opens, Refuses}
 use Rattle.image_files.specs.Opener.{Calls, Opener, calls}
@@ -13,121 +14,129 @@ use Rattle.verity_format.specs.Superblock.{SuperRecord, shape_of}
 use Rattle.verity_format.specs.Trees.{superblock_tree}
 use Rattle.verity_format.specs.Verifying.{IsReadCause, IsReadFrom, IsTreeFound}
 use Rattle.image_commands.specs.declared.fault.ImageFault.{ImageFault}
-use Rattle.image_commands.specs.declared.fault.ImageFault.TheVariants.{Unaligned}
+use Rattle.image_commands.specs.declared.fault.ImageFault.TheVariants.{Unaligned, Unpinned}
 use Rattle.image_commands.specs.declared.paths.TwoImages.{TwoImages}
 use Rattle.image_commands.specs.declared.places.Bounds.{Bounds}
 use Rattle.image_commands.specs.declared.places.HashPlace.{HashPlace}
 use Rattle.image_commands.specs.declared.table.LineWords.{LineWords}
+use Rattle.image_commands.specs.declared.trusted.TrustedRoot.{TrustedRoot}
 use Rattle.image_commands.specs.declared.watching.WatchedPlaces.{WatchedPlaces}
+use Rattle.image_pin.specs.declared.pin.Pin.{Pin}
 use Rattle.image_commands.specs.Comparing.{IsComparedEnd}
 use Rattle.image_commands.specs.Endings.{IsUnopened, IsVerifyEnd}
-use Rattle.image_commands.specs.Finding.{IsTreeUnaligned, ReadsSuper}
+use Rattle.image_commands.specs.Finding.{IsTreeUnaligned, IsTreeUnpinned, ReadsSuper, mismatch_of}
 use Rattle.image_commands.specs.Openings.{FailsToOpenTwo, OpensTwo}
 use Rattle.image_commands.specs.Places.{TwoPlaces, before, behind, data_end, is_aligned, tree_start, two_places}
 use Rattle.image_commands.specs.SuperblockJson.{dump_text}
 use Rattle.image_commands.specs.TableLines.{placed_line}
 
--- the superblock behind that sector was read, and a text of it written; where it must be, its tree may stand there
-pub record SaysPlaced (device : Device) (first : ℕ) (may : SuperRecord → Bool) (text : SuperRecord → List ℕ) (old new : Option (List ℕ)) : Type 0 where
+-- the superblock behind that sector was read, and a text of it written; it has the values of the pin, if there is one, and where it
+-- must be, its tree may stand there
+pub record SaysPlaced (device : Device) (first : ℕ) (pin : Option Pin) (may : SuperRecord → Bool) (text : SuperRecord → List ℕ) (old new : Option (List ℕ)) : Type 0 where
   pub super : SuperRecord
   pub sector : List ℕ
   pub read : IsReadFrom (behind device first) sector super
+  pub pinned : mismatch_of pin super ≡ None
   pub allowed : may super ≡ true
   pub printed : Appends old new (text super)
 
 -- `dump` and `table`, of the image under the path, which is only read
-pub record PrintsPlacedSuper {S D : Type 0} (w : Calls S D) (path : List ℕ) (first : ℕ) (may : SuperRecord → Bool) (text : SuperRecord → List ℕ) (old new : Option (List ℕ)) : Type 0 where
+pub record PrintsPlacedSuper {S D : Type 0} (w : Calls S D) (path : List ℕ) (first : ℕ) (pin : Option Pin) (may : SuperRecord → Bool) (text : SuperRecord → List ℕ) (old new : Option (List ℕ)) : Type 0 where
   pub image : OpenImage D
   pub opened : Opens w path false image
-  pub says : SaysPlaced (w.state image.device) first may text old new
+  pub says : SaysPlaced (w.state image.device) first pin may text old new
 
--- the superblock was read, but no hash block begins there
-abbrev pub IsUnaligned : Device → ℕ → ImageFault → Type 0
-IsUnaligned device first fault = IsTreeUnaligned (behind device first) first × (fault ≡ Unaligned)
+-- no hash block begins there, or the superblock was read and differs from the pin
+abbrev pub IsNoPlacedTree : Device → ℕ → Option Pin → ImageFault → Type 0
+IsNoPlacedTree device first pin Unaligned = IsTreeUnaligned (behind device first) first pin
+IsNoPlacedTree device first pin (Unpinned mismatch) = IsTreeUnpinned (behind device first) pin mismatch
+IsNoPlacedTree device first pin fault = ⊥
 
--- it isn't read, no tree may stand there, memory ran out, or the text can't be written
-abbrev pub IsPlacedSuperEnd : Device → ℕ → Bool → ImageFault → Type 0
-IsPlacedSuperEnd device first failed fault = ((device' : Device) × IsVerifyEnd (IsReadCause (behind device first) device') failed fault) ⊎ IsUnaligned device first fault
+-- it isn't read, no tree may stand there, it isn't the pin's, memory ran out, or the text can't be written
+abbrev pub IsPlacedSuperEnd : Device → ℕ → Option Pin → Bool → ImageFault → Type 0
+IsPlacedSuperEnd device first pin failed fault = ((device' : Device) × IsVerifyEnd (IsReadCause (behind device first) device') failed fault) ⊎ IsNoPlacedTree device first pin fault
 
-pub record EndsPlacedSuper {S D : Type 0} (w : Calls S D) (path : List ℕ) (first : ℕ) (failed : Bool) (fault : ImageFault) : Type 0 where
+pub record EndsPlacedSuper {S D : Type 0} (w : Calls S D) (path : List ℕ) (first : ℕ) (pin : Option Pin) (failed : Bool) (fault : ImageFault) : Type 0 where
   pub image : OpenImage D
   pub opened : Opens w path false image
-  pub ends : IsPlacedSuperEnd (w.state image.device) first failed fault
+  pub ends : IsPlacedSuperEnd (w.state image.device) first pin failed fault
 
-abbrev pub IsPlacedImageEnd : {S D : Type 0} → Calls S D → List ℕ → ℕ → Bool → ImageFault → Type 0
-IsPlacedImageEnd w path first failed fault = IsUnopened (Refuses w path false) fault ⊎ EndsPlacedSuper w path first failed fault
+abbrev pub IsPlacedImageEnd : {S D : Type 0} → Calls S D → List ℕ → ℕ → Option Pin → Bool → ImageFault → Type 0
+IsPlacedImageEnd w path first pin failed fault = IsUnopened (Refuses w path false) fault ⊎ EndsPlacedSuper w path first pin failed fault
 
--- `verify`: the superblock at that sector was read once, and its tree is valid for what lies before the data's end, under the root
-pub record MatchesPlaced (data_dev hash_dev : Device) (end first : ℕ) (root : List ℕ) (old new : Option (List ℕ)) : Type 0 where
+-- `verify`: the superblock at that sector was read once and has the values of the pin, if there is one; its tree is valid for what lies
+-- before the data's end, under the root
+pub record MatchesPlaced (data_dev hash_dev : Device) (end first : ℕ) (trusted : TrustedRoot) (old new : Option (List ℕ)) : Type 0 where
   pub super : SuperRecord
   pub read_dev : Device
   pub data_dev' : Device
   pub hash_dev' : Device
-  pub super_read : ReadsSuper (behind hash_dev first) first super
+  pub super_read : ReadsSuper (behind hash_dev first) first trusted.pin super
   pub one : IsFullRead (behind hash_dev first) 1 read_dev
-  pub found : IsTreeFound (shape_of super) super.salt (before data_dev end) read_dev data_dev' hash_dev' root Matches
+  pub found : IsTreeFound (shape_of super) super.salt (before data_dev end) read_dev data_dev' hash_dev' trusted.root Matches
   pub printed : Appends old new (codes "matches\n")
 
-pub record PrintsPlacedMatches {S D : Type 0} (w : Calls S D) (places : TwoPlaces) (root : List ℕ) (old new : Option (List ℕ)) : Type 0 where
+pub record PrintsPlacedMatches {S D : Type 0} (w : Calls S D) (places : TwoPlaces) (trusted : TrustedRoot) (old new : Option (List ℕ)) : Type 0 where
   pub two : TwoImages D
   pub opened : OpensTwo w places.paths false two
-  pub matches : MatchesPlaced (w.state two.data.device) (w.state two.hash.device) (data_end two places.first) places.first root old new
+  pub matches : MatchesPlaced (w.state two.data.device) (w.state two.hash.device) (data_end two places.first) places.first trusted old new
 
 -- the superblock was read once, and the comparison with its tree ends early
-pub record EndsMatching (data_dev hash_dev : Device) (end first : ℕ) (root : List ℕ) (failed : Bool) (fault : ImageFault) : Type 0 where
+pub record EndsMatching (data_dev hash_dev : Device) (end first : ℕ) (trusted : TrustedRoot) (failed : Bool) (fault : ImageFault) : Type 0 where
   pub super : SuperRecord
   pub read_dev : Device
   pub data_dev' : Device
   pub hash_dev' : Device
-  pub super_read : ReadsSuper (behind hash_dev first) first super
+  pub super_read : ReadsSuper (behind hash_dev first) first trusted.pin super
   pub one : IsFullRead (behind hash_dev first) 1 read_dev
-  pub ends : IsComparedEnd (superblock_tree super) (tree_start first super.hash_block 0) (before data_dev end) read_dev data_dev' hash_dev' root failed fault
+  pub ends : IsComparedEnd (superblock_tree super) (tree_start first super.hash_block 0) (before data_dev end) read_dev data_dev' hash_dev' trusted.root failed fault
 
-abbrev pub IsMatchingEnd : Device → Device → ℕ → ℕ → List ℕ → Bool → ImageFault → Type 0
-IsMatchingEnd data_dev hash_dev end first root failed fault = IsPlacedSuperEnd hash_dev first failed fault ⊎ EndsMatching data_dev hash_dev end first root failed fault
+abbrev pub IsMatchingEnd : Device → Device → ℕ → ℕ → TrustedRoot → Bool → ImageFault → Type 0
+IsMatchingEnd data_dev hash_dev end first trusted failed fault =
+    IsPlacedSuperEnd hash_dev first trusted.pin failed fault ⊎ EndsMatching data_dev hash_dev end first trusted failed fault
 
-pub record EndsPlacedMatches {S D : Type 0} (w : Calls S D) (places : TwoPlaces) (root : List ℕ) (failed : Bool) (fault : ImageFault) : Type 0 where
+pub record EndsPlacedMatches {S D : Type 0} (w : Calls S D) (places : TwoPlaces) (trusted : TrustedRoot) (failed : Bool) (fault : ImageFault) : Type 0 where
   pub two : TwoImages D
   pub opened : OpensTwo w places.paths false two
-  pub ends : IsMatchingEnd (w.state two.data.device) (w.state two.hash.device) (data_end two places.first) places.first root failed fault
+  pub ends : IsMatchingEnd (w.state two.data.device) (w.state two.hash.device) (data_end two places.first) places.first trusted failed fault
 
-abbrev pub IsPlacedMatchesEnd : {S D : Type 0} → Calls S D → TwoPlaces → List ℕ → Bool → ImageFault → Type 0
-IsPlacedMatchesEnd w places root failed fault = IsUnopened (FailsToOpenTwo w places.paths false) fault ⊎ EndsPlacedMatches w places root failed fault
+abbrev pub IsPlacedMatchesEnd : {S D : Type 0} → Calls S D → TwoPlaces → TrustedRoot → Bool → ImageFault → Type 0
+IsPlacedMatchesEnd w places trusted failed fault = IsUnopened (FailsToOpenTwo w places.paths false) fault ⊎ EndsPlacedMatches w places trusted failed fault
 
 -- ---- as a call sees them: an opener's relations and what a proof sees of its devices, what gives generators and what a proof sees of one,
 -- and what a proof sees of a writer, each with its value before and after
 
-abbrev pub DumpsImageAt : {S D W : Type 0} → Opener S D → (D → Device) → S → S → (W → Option (List ℕ)) → CountedRecord W → CountedRecord W → HashPlace → Bool → Type 0
-DumpsImageAt relations state images images' contents writer writer' place json =
-    PrintsPlacedSuper (calls relations state images images') place.path.now place.first (λ s. true) (dump_text json) (contents writer.inner) (contents writer'.inner)
+abbrev pub DumpsImageAt : {S D W : Type 0} → Opener S D → (D → Device) → S → S → (W → Option (List ℕ)) → CountedRecord W → CountedRecord W → HashPlace → DumpForm → Type 0
+DumpsImageAt relations state images images' contents writer writer' place form =
+    PrintsPlacedSuper (calls relations state images images') place.path.now place.first None (λ s. true) (dump_text form) (contents writer.inner) (contents writer'.inner)
 
 abbrev pub PrintsLineAt : {S D W : Type 0} → Opener S D → (D → Device) → S → S → (W → Option (List ℕ)) → CountedRecord W → CountedRecord W → HashPlace → Option (Bor (List ℕ)) → LineWords → Type 0
 PrintsLineAt relations state images images' contents writer writer' place name words =
-    PrintsPlacedSuper (calls relations state images images') place.path.now place.first (λ s. is_aligned place.first s.hash_block) (λ s. placed_line name s words place.first) (contents writer.inner) (contents writer'.inner)
+    PrintsPlacedSuper (calls relations state images images') place.path.now place.first words.root.now.pin (λ s. is_aligned place.first s.hash_block) (λ s. placed_line name s words place.first) (contents writer.inner) (contents writer'.inner)
 
-abbrev pub FailsToPrintAt : {S D W : Type 0} → Opener S D → (D → Device) → S → S → CountedRecord W → HashPlace → ImageFault → Type 0
-FailsToPrintAt relations state images images' writer' place = IsPlacedImageEnd (calls relations state images images') place.path.now place.first writer'.failed
+abbrev pub FailsToPrintAt : {S D W : Type 0} → Opener S D → (D → Device) → S → S → CountedRecord W → HashPlace → Option Pin → ImageFault → Type 0
+FailsToPrintAt relations state images images' writer' place pin = IsPlacedImageEnd (calls relations state images images') place.path.now place.first pin writer'.failed
 
 -- the same of a device that is open
-abbrev pub SaysFieldsAt : {H W : Type 0} → (H → Device) → H → (W → Option (List ℕ)) → CountedRecord W → CountedRecord W → ℕ → Bool → Type 0
-SaysFieldsAt state hash_dev contents writer writer' first json =
-    SaysPlaced (state hash_dev) first (λ s. true) (dump_text json) (contents writer.inner) (contents writer'.inner)
+abbrev pub SaysFieldsAt : {H W : Type 0} → (H → Device) → H → (W → Option (List ℕ)) → CountedRecord W → CountedRecord W → ℕ → DumpForm → Type 0
+SaysFieldsAt state hash_dev contents writer writer' first form =
+    SaysPlaced (state hash_dev) first None (λ s. true) (dump_text form) (contents writer.inner) (contents writer'.inner)
 
 abbrev pub SaysLineAt : {H W : Type 0} → (H → Device) → H × ℕ → (W → Option (List ℕ)) → CountedRecord W → CountedRecord W → Option (Bor (List ℕ)) → LineWords → Type 0
 SaysLineAt state placed contents writer writer' name words =
-    SaysPlaced (state placed.0) placed.1 (λ s. is_aligned placed.1 s.hash_block) (λ s. placed_line name s words placed.1) (contents writer.inner) (contents writer'.inner)
+    SaysPlaced (state placed.0) placed.1 words.root.now.pin (λ s. is_aligned placed.1 s.hash_block) (λ s. placed_line name s words placed.1) (contents writer.inner) (contents writer'.inner)
 
 -- two images, or two devices that are open, are compared
-abbrev pub VerifiesImagesAt : {S D W : Type 0} → Opener S D → (D → Device) → S → S → (W → Option (List ℕ)) → CountedRecord W → CountedRecord W → WatchedPlaces → List ℕ → Type 0
-VerifiesImagesAt relations state images images' contents writer writer' watched root = PrintsPlacedMatches (calls relations state images images') (two_places watched.places) root (contents writer.inner) (contents writer'.inner)
+abbrev pub VerifiesImagesAt : {S D W : Type 0} → Opener S D → (D → Device) → S → S → (W → Option (List ℕ)) → CountedRecord W → CountedRecord W → WatchedPlaces → TrustedRoot → Type 0
+VerifiesImagesAt relations state images images' contents writer writer' watched trusted = PrintsPlacedMatches (calls relations state images images') (two_places watched.places) trusted (contents writer.inner) (contents writer'.inner)
 
-abbrev pub FailsToVerifyAt : {S D W : Type 0} → Opener S D → (D → Device) → S → S → CountedRecord W → WatchedPlaces → List ℕ → ImageFault → Type 0
-FailsToVerifyAt relations state images images' writer' watched root = IsPlacedMatchesEnd (calls relations state images images') (two_places watched.places) root writer'.failed
+abbrev pub FailsToVerifyAt : {S D W : Type 0} → Opener S D → (D → Device) → S → S → CountedRecord W → WatchedPlaces → TrustedRoot → ImageFault → Type 0
+FailsToVerifyAt relations state images images' writer' watched trusted = IsPlacedMatchesEnd (calls relations state images images') (two_places watched.places) trusted writer'.failed
 
-abbrev pub MatchesAt : {D H W : Type 0} → (D → Device) → (H → Device) → D × H → (W → Option (List ℕ)) → CountedRecord W → CountedRecord W → Bounds → List ℕ → Type 0
-MatchesAt data_state hash_state devices contents writer writer' bounds root =
-    MatchesPlaced (data_state devices.0) (hash_state devices.1) bounds.end bounds.first root (contents writer.inner) (contents writer'.inner)
+abbrev pub MatchesAt : {D H W : Type 0} → (D → Device) → (H → Device) → D × H → (W → Option (List ℕ)) → CountedRecord W → CountedRecord W → Bounds → TrustedRoot → Type 0
+MatchesAt data_state hash_state devices contents writer writer' bounds trusted =
+    MatchesPlaced (data_state devices.0) (hash_state devices.1) bounds.end bounds.first trusted (contents writer.inner) (contents writer'.inner)
 
-abbrev pub FailsToMatchAt : {D H W : Type 0} → (D → Device) → (H → Device) → D × H → CountedRecord W → Bounds → List ℕ → ImageFault → Type 0
-FailsToMatchAt data_state hash_state devices writer' bounds root =
-    IsMatchingEnd (data_state devices.0) (hash_state devices.1) bounds.end bounds.first root writer'.failed
+abbrev pub FailsToMatchAt : {D H W : Type 0} → (D → Device) → (H → Device) → D × H → CountedRecord W → Bounds → TrustedRoot → ImageFault → Type 0
+FailsToMatchAt data_state hash_state devices writer' bounds trusted =
+    IsMatchingEnd (data_state devices.0) (hash_state devices.1) bounds.end bounds.first trusted writer'.failed

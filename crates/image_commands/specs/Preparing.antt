@@ -31,10 +31,10 @@ HasRoom options data_dev =
     (first_fault (shape_of (superblock_with options data_dev.size)) ≡ None) × (data_sectors (shape_of (superblock_with options data_dev.size)) ≤ data_dev.size)
 
 -- there is no tree of such a shape, or the device has fewer sectors
-abbrev pub IsUnfit : FormatOptions → Device → FormatFault → Type 0
-IsUnfit options data_dev Shape = IsSome (first_fault (shape_of (superblock_with options data_dev.size)))
-IsUnfit options data_dev DataTooSmall = data_dev.size < data_sectors (shape_of (superblock_with options data_dev.size))
-IsUnfit options data_dev fault = ⊥
+abbrev pub IsNoPlacedTree : FormatOptions → Device → FormatFault → Type 0
+IsNoPlacedTree options data_dev Shape = IsSome (first_fault (shape_of (superblock_with options data_dev.size)))
+IsNoPlacedTree options data_dev DataTooSmall = data_dev.size < data_sectors (shape_of (superblock_with options data_dev.size))
+IsNoPlacedTree options data_dev fault = ⊥
 
 -- A tree may stand at that place. The options are as they are given or drawn, and the data image was opened, and has the data
 -- blocks.
@@ -58,7 +58,7 @@ pub record HasNoRoom {S D : Type 0} (w : Calls S D) (given : FormatOptions) (pla
   pub image : OpenImage D
   pub cause : FormatFault
   pub opened : Opens w places.paths.data_path false image
-  pub unfit : IsUnfit given (w.state image.device) cause
+  pub unfit : IsNoPlacedTree given (w.state image.device) cause
   pub is : fault ≡ Format cause
 
 -- the options were given or drawn, but the data image isn't opened or doesn't fit

@@ -1,5 +1,5 @@
 -- The fields of a superblock as a JSON object, and in which form they are printed.
-use Rattle.std.specs.Prelude.{ℕ, Bool, true, false, List, Option, codes}
+use Rattle.std.specs.Prelude.{ℕ, List, Option, codes}
 use Rattle.std.specs.Io.KnownBytes.{Appends}
 use Rattle.program_io.specs.Counted.{CountedRecord}
 use Rattle.uuid.specs.Text.{hyphenated_text, lower}
@@ -7,6 +7,10 @@ use Rattle.serde_json.specs.Data.{Data, number, object, string, unsigned, member
 use Rattle.program_io.specs.JsonLines.{json_line}
 use Rattle.verity_format.specs.Line.{salt_word}
 use Rattle.verity_format.specs.Superblock.{SuperRecord}
+use Rattle.command_line.specs.declared.words.dump.DumpForm.{DumpForm}
+use Rattle.command_line.specs.declared.words.dump.DumpForm.TheVariants.{Lines, Object, Pin}
+use Rattle.image_pin.specs.PinTexts.{pin_text}
+use Rattle.image_commands.specs.PinFiles.{pin_in}
 use Rattle.image_commands.specs.SuperblockTexts.{superblock_text}
 
 -- the hash type and the algorithm are always these
@@ -26,11 +30,12 @@ fields_json data_block blocks hash_block salt uuid =
 abbrev pub superblock_json : SuperRecord → Data
 superblock_json s = fields_json s.data_block s.blocks s.hash_block (string (salt_word s.salt)) (string (hyphenated_text lower s.uuid))
 
--- as an object, or as lines
-abbrev pub dump_text : Bool → SuperRecord → List ℕ
-dump_text true s = json_line (superblock_json s)
-dump_text false s = superblock_text s
+-- as lines, as an object, or as the pin of a root hash with these values
+abbrev pub dump_text : DumpForm → SuperRecord → List ℕ
+dump_text Lines s = superblock_text s
+dump_text Object s = json_line (superblock_json s)
+dump_text (Pin root) s = pin_text (pin_in root s)
 
--- one of the two was written
-abbrev pub SaysDump : {W : Type 0} → (W → Option (List ℕ)) → CountedRecord W → CountedRecord W → Bool → SuperRecord → Type 0
-SaysDump contents writer writer' json s = Appends (contents writer.inner) (contents writer'.inner) (dump_text json s)
+-- one of these was written
+abbrev pub SaysDump : {W : Type 0} → (W → Option (List ℕ)) → CountedRecord W → CountedRecord W → DumpForm → SuperRecord → Type 0
+SaysDump contents writer writer' form s = Appends (contents writer.inner) (contents writer'.inner) (dump_text form s)

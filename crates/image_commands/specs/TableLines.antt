@@ -15,7 +15,7 @@ entry_head None = []
 
 -- the line of an image whose tree begins at that block of the hash device, and a newline; with a name the whole entry
 abbrev pub named_line : Option (Bor (List ℕ)) → SuperRecord → LineWords → ℕ → List ℕ
-named_line name s words start = entry_head name ++ (verity_text s words.data_name.now words.hash_name.now words.root.now start ++ codes "\n")
+named_line name s words start = entry_head name ++ (verity_text s words.data_name.now words.hash_name.now words.root.now.root start ++ codes "\n")
 
 -- of a tree that follows a superblock at that sector, and of one that begins there itself
 abbrev pub placed_line : Option (Bor (List ℕ)) → SuperRecord → LineWords → ℕ → List ℕ

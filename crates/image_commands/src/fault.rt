@@ -81,6 +81,7 @@ impl From<NoTree> for ImageFault<'_> {
         match fault {
             NoTree::Unread(fault) => ImageFault::Verify(fault),
             NoTree::Unaligned => ImageFault::Unaligned,
+            NoTree::Unpinned(mismatch) => ImageFault::Unpinned(mismatch),
         }
     }
 }

@@ -1,10 +1,11 @@
 //! The superblock of a hash image, read once.
-ghost use Rattle.std.specs.Prelude.{IfErr, IfOk, OnOk};
+ghost use Rattle.std.specs.Prelude.{◌≡◌, IfErr, IfOk, OnOk};
 ghost use Rattle.verity_format.specs.Blocks.{IsFullRead, IsOnlyRead};
-ghost use Rattle.image_commands.specs.Finding.{IsNoTree, ReadsSuper};
+ghost use Rattle.image_commands.specs.Finding.{IsNoTree, ReadsSuper, may_begin, mismatch_of};
 
 use crate::places::is_aligned;
 use block_device::BlockDev;
+use image_pin::{Mismatch, Pin, check_superblock};
 use verity_format::{Superblock, VerifyFault, read_superblock};
 
 /// Why a hash image has no tree that a command may use.
@@ -14,6 +15,8 @@ pub enum NoTree {
     Unread(VerifyFault),
     /// No hash block begins at the superblock's sector.
     Unaligned,
+    /// The superblock differs from the pin.
+    Unpinned(Mismatch),
 }
 
 impl From<VerifyFault> for NoTree {
@@ -27,22 +30,57 @@ impl From<VerifyFault> for NoTree {
     }
 }
 
-/// Reads the superblock of a hash image that begins at that sector of its file, and checks that a hash block begins there. A command
-/// on a tree reads the superblock by this call alone, and takes the tree from its result.
+/// Reads the superblock of a hash image that begins at that sector of its file, and checks that it has the values of the pin, if
+/// there is one, and that a hash block begins there. A command on a tree reads the superblock by this call alone, and takes the tree
+/// from its result.
 ///
 /// # Errors
 ///
-/// `Unread` with the fault of `read_superblock`, or `Unaligned`.
-pub fn find_tree<H: BlockDev>(hash_dev: &mut H, first: u64) -> Result<Superblock, NoTree>
+/// `Unread` with the fault of `read_superblock`, `Unpinned` with the first value that differs from the pin's, or `Unaligned`.
+pub fn find_tree<H: BlockDev>(
+    hash_dev: &mut H,
+    first: u64,
+    pin: &Option<Pin>,
+) -> Result<Superblock, NoTree>
     ensures read { IsOnlyRead (H.state hash_dev.old) (H.state hash_dev.new) }
-    ensures ok { IfOk result (ReadsSuper (H.state hash_dev.old) first) }
+    ensures ok { IfOk result (ReadsSuper (H.state hash_dev.old) first pin.now) }
     ensures full { OnOk result (IsFullRead (H.state hash_dev.old) 1 (H.state hash_dev.new)) }
-    ensures err { IfErr result (IsNoTree (H.state hash_dev.old) first (H.state hash_dev.new)) }
+    ensures err { IfErr result (IsNoTree (H.state hash_dev.old) first pin.now (H.state hash_dev.new)) }
 {
+    if !may_begin(pin, first) {
+        return Err(NoTree::Unaligned);
+    }
     let superblock = read_superblock(hash_dev)?;
+    match mismatch_of(pin, &superblock) {
+        Some(mismatch) => return Err(NoTree::Unpinned(mismatch)),
+        None => {}
+    }
     let size = superblock.hash_block();
     if !is_aligned(first, size) {
         return Err(NoTree::Unaligned);
     }
     Ok(superblock)
+}
+
+// Whether a tree of the pin may begin at that sector.
+fn may_begin(pin: &Option<Pin>, first: u64) -> bool
+    ensures { result ≡ may_begin pin.now first }
+{
+    match pin {
+        Some(pin) => is_aligned(first, pin.hash_block),
+        None => true,
+    }
+}
+
+/// The first value of a superblock that differs from the pin's, if there is a pin.
+pub fn mismatch_of(pin: &Option<Pin>, superblock: &Superblock) -> Option<Mismatch>
+    ensures { result ≡ mismatch_of pin.now superblock.now }
+{
+    match pin {
+        Some(pin) => match check_superblock(pin, superblock) {
+            Ok(()) => None,
+            Err(mismatch) => Some(mismatch),
+        },
+        None => None,
+    }
 }

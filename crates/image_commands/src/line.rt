@@ -36,7 +36,7 @@ pub(crate) fn say_line<'a, W: Write>(
         superblock,
         data_name.as_bytes(),
         hash_name.as_bytes(),
-        root,
+        &root.root,
         start,
     )?;
     say_entry(writer, name, line.as_slice())?;

@@ -1,7 +1,7 @@
 //! Pins in files.
 ghost use Rattle.std.specs.Prelude.{◌≡◌, IfErr, IfOk, OnOk};
 ghost use Rattle.image_files.specs.Opener.{calls};
-ghost use Rattle.image_commands.specs.PinFiles.{AreApart, AreOne, IsNoPinPath, IsPinFileEnd, IsPinPath, IsPinUnwritten, ReadsPin, TellsId, WritesPin, pin_of_image};
+ghost use Rattle.image_commands.specs.PinFiles.{AreApart, AreOne, IsNoPinPath, IsPinFileEnd, IsPinPath, IsPinUnwritten, ReadsPin, TellsId, WritesPin, pin_in, pin_of_image};
 
 use crate::fault::ImageFault;
 use crate::format::MadeImage;
@@ -11,6 +11,8 @@ use command_line::ImageOptions;
 use image_files::{Images, UnopenedFile, is_one_file, is_one_place};
 use image_pin::{MOST_BYTES, Pin, parse_pin, print_pin};
 use std::alloc::Global;
+use tree_shape::Digest;
+use verity_format::Superblock;
 
 /// `--pin FILE`: the pin that the file holds.
 pub fn read_pin<'a, I: Images>(images: &mut I, path: &'a str) -> Result<Pin, ImageFault<'a>>
@@ -37,6 +39,19 @@ pub fn pin_of_image(options: &ImageOptions, made: &MadeImage) -> Pin
         data_block: options.data_block,
         hash_block: options.hash_block,
         blocks: made.blocks,
+    }
+}
+
+/// The pin of a root hash with the values of a superblock. No hash covers the superblock, so the pin is as trusted as the source of both.
+pub(crate) fn pin_in(root: Digest, superblock: &Superblock) -> Pin
+    ensures { result ≡ pin_in root superblock.now }
+{
+    Pin {
+        root,
+        salt: superblock.salt(),
+        data_block: superblock.data_block(),
+        hash_block: superblock.hash_block(),
+        blocks: superblock.blocks(),
     }
 }
 

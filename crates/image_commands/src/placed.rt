@@ -1,5 +1,5 @@
 //! The commands `dump`, `table` and `verify`.
-ghost use Rattle.std.specs.Prelude.{IfErr, OnOk};
+ghost use Rattle.std.specs.Prelude.{IfErr, None, OnOk};
 ghost use Rattle.image_commands.specs.Endings.{IsQuiet};
 ghost use Rattle.image_commands.specs.PlacedImages.{DumpsImageAt, FailsToMatchAt, FailsToPrintAt, FailsToVerifyAt, IsPlacedSuperEnd, MatchesAt, PrintsLineAt, SaysFieldsAt, SaysLineAt, VerifiesImagesAt};
 
@@ -11,33 +11,35 @@ use crate::paths::{ImagePaths, open_two};
 use crate::places::{Bounds, HashPlace, ImagePlaces, data_end, tree_start};
 use crate::superblock_json::say_dump;
 use crate::table::LineWords;
+use crate::trusted::TrustedRoot;
 use crate::watching::{WatchedPlaces, watch};
 use block_device::BlockDev;
+use command_line::DumpForm;
 use device_adapters::{Watchers, Window, bytes_before};
 use image_files::{Images, open_image};
 use program_io::Counted;
 use std::alloc::Global;
 use std::io::Write;
 use std::marker::Brand;
-use tree_shape::Digest;
 use verity_format::read_superblock;
 
-/// `dump [--hash-offset BYTES] [--json] HASH`: the fields of the superblock at that place, as a JSON object or a line each.
+/// `dump [--hash-offset BYTES] [--json] [--pin ROOT] HASH`: the fields of the superblock at that place a line each or as a JSON object,
+/// or the pin of a root hash with these fields.
 #[tactic(auto, using(crate::proofs::lemmas::EndingLemmas::quiet))]
 pub fn dump_placed<'a, I: Images, W: Write>(
     alloc: Global,
     images: &mut I,
     place: HashPlace<'a>,
-    json: bool,
+    form: DumpForm,
     writer: &mut Counted<W>,
 ) -> Result<(), ImageFault<'a>>
-    ensures ok { OnOk result (DumpsImageAt I.relations I.Dev.state images.old images.new W.contents writer.old writer.new place.entry json) }
-    ensures err { IfErr result (FailsToPrintAt I.relations I.Dev.state images.old images.new writer.new place.entry) }
+    ensures ok { OnOk result (DumpsImageAt I.relations I.Dev.state images.old images.new W.contents writer.old writer.new place.entry form) }
+    ensures err { IfErr result (FailsToPrintAt I.relations I.Dev.state images.old images.new writer.new place.entry None) }
     ensures quiet { IfErr result (λ fault. IsQuiet fault (W.contents writer.old.inner) (W.contents writer.new.inner)) }
 {
     let HashPlace { path, first } = place;
     let image = open_image(images, path, false)?;
-    dump_behind(alloc, image.device, first, json, writer)
+    dump_behind(alloc, image.device, first, form, writer)
 }
 
 #[tactic(auto, using(crate::proofs::lemmas::EndingLemmas::quiet))]
@@ -45,16 +47,16 @@ fn dump_behind<'a, H: BlockDev + Drop, W: Write>(
     alloc: Global,
     hash_dev: H,
     first: u64,
-    json: bool,
+    form: DumpForm,
     writer: &mut Counted<W>,
 ) -> Result<(), ImageFault<'a>>
-    ensures ok { OnOk result (SaysFieldsAt H.state hash_dev W.contents writer.old writer.new first json) }
-    ensures err { IfErr result (IsPlacedSuperEnd (H.state hash_dev) first writer.new.failed) }
+    ensures ok { OnOk result (SaysFieldsAt H.state hash_dev W.contents writer.old writer.new first form) }
+    ensures err { IfErr result (IsPlacedSuperEnd (H.state hash_dev) first None writer.new.failed) }
     ensures quiet { IfErr result (λ fault. IsQuiet fault (W.contents writer.old.inner) (W.contents writer.new.inner)) }
 {
     let mut window = Window::<H, Brand>::behind(hash_dev, first);
     let superblock = read_superblock(&mut window)?;
-    say_dump(alloc, writer, &superblock, json)
+    say_dump(alloc, writer, &superblock, form)
 }
 
 /// `table [--hash-offset BYTES] [--name NAME] HASH ROOT DATANAME HASHNAME`: the table line, its tree counted from the
@@ -69,7 +71,7 @@ pub fn table_placed<'a, I: Images, W: Write>(
     writer: &mut Counted<W>,
 ) -> Result<(), ImageFault<'a>>
     ensures ok { OnOk result (PrintsLineAt I.relations I.Dev.state images.old images.new W.contents writer.old writer.new place.entry name.entry words.entry) }
-    ensures err { IfErr result (FailsToPrintAt I.relations I.Dev.state images.old images.new writer.new place.entry) }
+    ensures err { IfErr result (FailsToPrintAt I.relations I.Dev.state images.old images.new writer.new place.entry words.entry.root.now.pin) }
     ensures quiet { IfErr result (λ fault. IsQuiet fault (W.contents writer.old.inner) (W.contents writer.new.inner)) }
 {
     let HashPlace { path, first } = place;
@@ -86,19 +88,19 @@ fn table_behind<'a, H: BlockDev + Drop, W: Write>(
     writer: &mut Counted<W>,
 ) -> Result<(), ImageFault<'a>>
     ensures ok { OnOk result (SaysLineAt H.state placed W.contents writer.old writer.new name.entry words.entry) }
-    ensures err { IfErr result (IsPlacedSuperEnd (H.state placed.0) placed.1 writer.new.failed) }
+    ensures err { IfErr result (IsPlacedSuperEnd (H.state placed.0) placed.1 words.entry.root.now.pin writer.new.failed) }
     ensures quiet { IfErr result (λ fault. IsQuiet fault (W.contents writer.old.inner) (W.contents writer.new.inner)) }
 {
     let (hash_dev, first) = placed;
     let mut window = Window::<H, Brand>::behind(hash_dev, first);
-    let superblock = find_tree(&mut window, first)?;
+    let superblock = find_tree(&mut window, first, &words.root.pin)?;
     let size = superblock.hash_block();
     let start = tree_start(first, size, 1);
     say_line(alloc, writer, name, &superblock, words, start)
 }
 
 /// `verify [--hash-offset BYTES] DATA HASH ROOT`: prints `matches` if the hash image that begins at that sector of HASH has the tree of
-/// the data under this root; a difference is the fault `Differs`. If both are one file and that sector isn't the first, the data are
+/// the data under this root, and the pin's values if there is a pin; a difference is the fault `Differs`. If both are one file and that sector isn't the first, the data are
 /// what lies before it.
 #[tactic(auto, using(crate::proofs::lemmas::EndingLemmas::quiet))]
 pub fn verify_placed<'a, I: Images, S: Watchers, W: Write>(
@@ -106,11 +108,11 @@ pub fn verify_placed<'a, I: Images, S: Watchers, W: Write>(
     images: &mut I,
     watchers: &S,
     watched: WatchedPlaces<'a>,
-    root: &Digest,
+    trusted: &TrustedRoot,
     writer: &mut Counted<W>,
 ) -> Result<(), ImageFault<'a>>
-    ensures ok { OnOk result (VerifiesImagesAt I.relations I.Dev.state images.old images.new W.contents writer.old writer.new watched.entry root.now) }
-    ensures err { IfErr result (FailsToVerifyAt I.relations I.Dev.state images.old images.new writer.new watched.entry root.now) }
+    ensures ok { OnOk result (VerifiesImagesAt I.relations I.Dev.state images.old images.new W.contents writer.old writer.new watched.entry trusted.now) }
+    ensures err { IfErr result (FailsToVerifyAt I.relations I.Dev.state images.old images.new writer.new watched.entry trusted.now) }
     ensures quiet { IfErr result (λ fault. IsQuiet fault (W.contents writer.old.inner) (W.contents writer.new.inner)) }
 {
     let WatchedPlaces { places, progress } = watched;
@@ -124,7 +126,7 @@ pub fn verify_placed<'a, I: Images, S: Watchers, W: Write>(
     let all = bytes_before(&two.data.device, end);
     let (data_dev, hash_dev) = watch(two, watchers, progress, all);
     let bounds = Bounds { end, first };
-    compare_behind(alloc, (data_dev, hash_dev), bounds, root, writer)
+    compare_behind(alloc, (data_dev, hash_dev), bounds, trusted, writer)
 }
 
 #[tactic(auto, using(crate::proofs::lemmas::EndingLemmas::quiet))]
@@ -132,17 +134,24 @@ fn compare_behind<'a, D: BlockDev + Drop, H: BlockDev + Drop, W: Write>(
     alloc: Global,
     devices: (D, H),
     bounds: Bounds,
-    root: &Digest,
+    trusted: &TrustedRoot,
     writer: &mut Counted<W>,
 ) -> Result<(), ImageFault<'a>>
-    ensures ok { OnOk result (MatchesAt D.state H.state devices W.contents writer.old writer.new bounds root.now) }
-    ensures err { IfErr result (FailsToMatchAt D.state H.state devices writer.new bounds root.now) }
+    ensures ok { OnOk result (MatchesAt D.state H.state devices W.contents writer.old writer.new bounds trusted.now) }
+    ensures err { IfErr result (FailsToMatchAt D.state H.state devices writer.new bounds trusted.now) }
     ensures quiet { IfErr result (λ fault. IsQuiet fault (W.contents writer.old.inner) (W.contents writer.new.inner)) }
 {
     let (data_dev, hash_dev) = devices;
     let mut two = place_parts(data_dev, hash_dev, bounds);
-    let superblock = find_tree(&mut two.hash, bounds.first)?;
+    let superblock = find_tree(&mut two.hash, bounds.first, &trusted.pin)?;
     let size = superblock.hash_block();
     let ahead = tree_start(bounds.first, size, 0);
-    compare(alloc, &mut two, &superblock.tree(), ahead, root, writer)
+    compare(
+        alloc,
+        &mut two,
+        &superblock.tree(),
+        ahead,
+        &trusted.root,
+        writer,
+    )
 }

@@ -1,6 +1,6 @@
 //! What `format --grow` makes sure of before it makes a file.
 ghost use Rattle.std.specs.Prelude.{◌≡◌, IfErr, IfOk, OnOk};
-ghost use Rattle.image_commands.specs.Preparing.{FailsToPrepare, HasRoom, IsUnfit, PreparesImage, said_options};
+ghost use Rattle.image_commands.specs.Preparing.{FailsToPrepare, HasRoom, IsNoPlacedTree, PreparesImage, said_options};
 
 use crate::fault::ImageFault;
 use crate::format::given_or_drawn;
@@ -35,7 +35,7 @@ pub fn prepare_image<'a, I: Images, G: Generators>(
 // Whether the device has the data blocks of an image.
 fn check_data<D: BlockDev>(data_dev: &D, options: &FormatOptions) -> Result<(), FormatFault>
     ensures ok { OnOk result (HasRoom options.now (D.state data_dev.now)) }
-    ensures err { IfErr result (IsUnfit options.now (D.state data_dev.now)) }
+    ensures err { IfErr result (IsNoPlacedTree options.now (D.state data_dev.now)) }
 {
     let sectors = data_dev.sectors();
     let params = tree_of(*options, sectors)?;

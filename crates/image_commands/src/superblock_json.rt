@@ -6,36 +6,60 @@ ghost use Rattle.serde_json.specs.Data.{string};
 ghost use Rattle.serde_json.specs.View.{view};
 ghost use Rattle.verity_format.specs.Line.{salt_word};
 ghost use Rattle.image_commands.specs.Endings.{IsQuiet, IsCommonEnd};
+ghost use Rattle.image_pin.specs.PinTexts.{pin_text};
+ghost use Rattle.image_commands.specs.PinFiles.{pin_in};
 ghost use Rattle.image_commands.specs.SuperblockJson.{SaysDump, fields_json, superblock_json};
 
 use crate::fault::ImageFault;
+use crate::pin_file::pin_in;
 use crate::superblock_text::say_superblock;
+use command_line::DumpForm;
+use image_pin::print_pin;
 use program_io::{Counted, line_of};
 use serde_json::{Value, json};
 use std::alloc::{AllocError, Global};
 use std::io::Write;
+use tree_shape::Digest;
 use uuid::Uuid;
 use verity_format::Superblock;
 
-/// The fields of a superblock, as an object on one line or a line each.
+/// The fields of a superblock a line each or as an object on one line, or the pin of a root hash with its values.
 #[tactic(auto, using(crate::proofs::lemmas::EndingLemmas::quiet))]
 pub(crate) fn say_dump<'a, W: Write>(
     alloc: Global,
     writer: &mut Counted<W>,
     superblock: &Superblock,
-    json: bool,
+    form: DumpForm,
 ) -> Result<(), ImageFault<'a>>
-    ensures ok { OnOk result (SaysDump W.contents writer.old writer.new json superblock.now) }
+    ensures ok { OnOk result (SaysDump W.contents writer.old writer.new form superblock.now) }
     ensures err { IfErr result (IsCommonEnd writer.new.failed) }
     ensures quiet { IfErr result (λ fault. IsQuiet fault (W.contents writer.old.inner) (W.contents writer.new.inner)) }
 {
-    if json {
-        let line = superblock_line(alloc, superblock)?;
-        writer.put(line.as_bytes())?;
-        return Ok(());
+    match form {
+        DumpForm::Lines => {
+            say_superblock(writer, superblock)?;
+            Ok(())
+        }
+        DumpForm::Object => {
+            let line = superblock_line(alloc, superblock)?;
+            writer.put(line.as_bytes())?;
+            Ok(())
+        }
+        DumpForm::Pin(root) => {
+            let text = pin_bytes(alloc, root, superblock)?;
+            writer.put(text.as_slice())?;
+            Ok(())
+        }
     }
-    say_superblock(writer, superblock)?;
-    Ok(())
+}
+
+// The text of the pin of a root hash with the values of a superblock.
+fn pin_bytes(alloc: Global, root: Digest, superblock: &Superblock) -> Result<Vec<u8>, AllocError>
+    ensures { IfOk result (λ text. text.items ≡ pin_text (pin_in root superblock.now)) }
+{
+    let pin = pin_in(root, superblock);
+    let text = print_pin(alloc, &pin)?;
+    Ok(text)
 }
 
 fn superblock_line(alloc: Global, superblock: &Superblock) -> Result<String, AllocError>

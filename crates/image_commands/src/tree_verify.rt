@@ -66,9 +66,9 @@ pub fn verify_tree<'a, I: Images, S: Watchers, W: Write>(
     )
 }
 
-/// Compares what lies before one sector of the data device with what lies behind one of the hash device.
+// Compares what lies before one sector of the data device with what lies behind one of the hash device.
 #[tactic(auto, using(crate::proofs::lemmas::EndingLemmas::quiet))]
-pub(crate) fn compare_at<'a, D: BlockDev + Drop, H: BlockDev + Drop, W: Write>(
+fn compare_at<'a, D: BlockDev + Drop, H: BlockDev + Drop, W: Write>(
     alloc: Global,
     devices: (D, H),
     bounds: Bounds,

@@ -11,8 +11,8 @@ IsNoDraft fault = (fault ≡ NoMemory) ⊎ (fault ≡ Write)
 -- Relations of the file system before a call, the call's arguments, its outcome, and the file system after it. What is generic
 -- over the file system knows none of them but by a call, so that a clause that cites one says which call was made.
 pub record FileRelations (S F : Type 0) : Type 1 where
-  -- a path, and the one that its symbolic links lead to
-  pub resolves : S → List ℕ → List ℕ → S → Type 0
+  -- a path, and the one that its symbolic links lead to, or why they can't be followed
+  pub resolves : S → List ℕ → Result (List ℕ) ReplaceFault → S → Type 0
   -- the name of a file, the path of the one that it is to be like, and the file
   pub creates : S → List ℕ → List ℕ → F → S → Type 0
   -- a file, the bytes that are written, and the file then

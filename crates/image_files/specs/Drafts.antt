@@ -1,5 +1,6 @@
 -- A text that takes the place of a file's: which calls are made, and in which order.
-use Rattle.std.specs.Prelude.{◌≡◌, ◌⊎◌, ◌++◌, ◌==◌, ℕ, List, Result, Ok, Err, codes, decimal, string_bytes, if◌then◌else◌}
+use Rattle.std.specs.Prelude.{◌≡◌, ◌⊎◌, ◌+◌, ◌++◌, ◌==◌, ℕ, List, Result, Ok, Err, codes, decimal, length, string_bytes, if◌then◌else◌}
+use Rattle.allocation.specs.Refusal.{IsOutOfMemory}
 use Rattle.image_files.specs.declared.calls.CallFault.{CallFault}
 use Rattle.image_files.specs.declared.draft.Draft.{Draft}
 use Rattle.image_files.specs.declared.texts.ReplaceFault.{ReplaceFault}
@@ -14,7 +15,7 @@ beside target number = if number == 0 then target ++ codes ".dmstack-new" else t
 pub record IsDraft {S F : Type 0} (r : FileRelations S F) (old : S) (path : List ℕ) (draft : Draft F) (new : S) : Type 0 where
   pub between : S
   pub number : ℕ
-  pub resolved : r.resolves old path (string_bytes draft.target) between
+  pub resolved : r.resolves old path (Ok (string_bytes draft.target)) between
   pub name_is : string_bytes draft.name ≡ beside (string_bytes draft.target) number
   pub created : r.creates between (string_bytes draft.name) (string_bytes draft.target) draft.file new
 
@@ -75,10 +76,17 @@ pub record IsReplaced {S F : Type 0} (r : FileRelations S F) (old : S) (path byt
   pub is_placed : IsPlaced r begun draft bytes placed
   pub listed : r.lists placed (string_bytes draft.target) (Ok tt) new
 
--- no file was created
+-- why no file was created beside a target: an allocation for its name was refused, or the file system created none
+abbrev pub IsUncreated : List ℕ → ReplaceFault → Type 0
+IsUncreated target NoMemory = IsOutOfMemory (length target + 40)
+IsUncreated target Write = Unit {0}
+IsUncreated target Sync = ⊥
+IsUncreated target Rename = ⊥
+
+-- no file was created: the path wasn't resolved, or no file created beside what it names
 pub record IsUndrafted {S F : Type 0} (r : FileRelations S F) (old : S) (path : List ℕ) (fault : ReplaceFault) (new : S) : Type 0 where
   pub fault_is : IsNoDraft fault
-  pub resolved : (new ≡ old) ⊎ ((target : List ℕ) × r.resolves old path target new)
+  pub cause : ((new ≡ old) × r.resolves old path (Err fault) new) ⊎ ((target : List ℕ) × r.resolves old path (Ok target) new × IsUncreated target fault)
 
 -- the draft was removed, since its text doesn't take the file's place
 pub record IsWithdrawn {S F : Type 0} (r : FileRelations S F) (old : S) (path bytes : List ℕ) (fault : ReplaceFault) (new : S) : Type 0 where

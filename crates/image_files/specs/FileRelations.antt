@@ -14,7 +14,9 @@ use Rattle.device_adapters.specs.Parts.{LiesInside}
 use Rattle.device_adapters.specs.Windows.{windowed}
 use Rattle.image_files.specs.declared.images.OpenImage.{OpenImage}
 use Rattle.image_files.specs.FileLocks.{Locks, LocksAtMost}
+use Rattle.image_files.specs.ImageCalls.{WasMade, Open, OpenPart, ReadText, Close, ClosePart, Grow, Measure, Compare, Replace, TryReplace}
 use Rattle.image_files.specs.Opener.{Opener}
+use Rattle.image_files.specs.declared.texts.ReplaceFault.{ReplaceFault}
 
 -- what a proof sees of a device, which file it is, whether the system opened it under a path, for writing too or not, and
 -- which files an opener has locked
@@ -23,6 +25,9 @@ pub record FileView (S D : Type 0) : Type 1 where
   pub id : D → Option FileId
   pub opened : D → List ℕ → Bool → Type 0
   pub locked : S → List FileId
+  -- which calls replaced the text under a path, and which tried to
+  pub replaced : List ℕ → List ℕ → Result (Unit {0}) ReplaceFault → Type 0
+  pub tried : List ℕ → Result (Unit {0}) ReplaceFault → Type 0
 
 -- a file as it was opened under its path, of its own size, and which one it is
 pub record IsOpenFile {S D : Type 0} (view : FileView S D) (image : OpenImage D) (path : List ℕ) (writable : Bool) : Type 0 where
@@ -58,16 +63,21 @@ abbrev pub EndsInPart : List ℕ → Result Bool OpenFault → Type 0
 EndsInPart path (Ok part) = (said : Metadata) × IsOfPath path said × (IsTrue part ↔ (IsFile (file_type said) × (metadata_len said % 512 ≢ 0)))
 EndsInPart path (Err fault) = Unit {0}
 
+-- the same files are locked
+abbrev pub LocksNoMore : {S D : Type 0} → FileView S D → S → S → Type 0
+LocksNoMore view old new = view.locked new ≡ view.locked old
+
+-- Each says that the call was made, on this opener. What files hold is not in the opener, so none says that nothing changed.
 abbrev pub file_relations : {S D : Type 0} → FileView S D → Opener S D
-file_relations view = record {
-  opens = λ old path writable outcome new. LocksFile view writable outcome old new × OpensFile (λ image. IsOpenFile view image path writable) outcome;
-  opens_part = λ old path writable part outcome new. LocksFile view writable outcome old new × OpensFile (λ image. IsOpenPart view image path writable part) outcome;
-  tells = λ old path most outcome new. new ≡ old;
-  takes = λ old path device new. new ≡ old;
-  takes_part = λ old path part device new. new ≡ old;
-  grows = λ old path sectors outcome new. LocksAtMost (view.locked old) (view.locked new) × Grows path sectors outcome;
-  measures = λ old path outcome new. (new ≡ old) × EndsInPart path outcome;
-  compares = λ old path other outcome new. new ≡ old;
-  replaces = λ old path bytes outcome new. new ≡ old;
-  tries = λ old path outcome new. new ≡ old;
+file_relations {D = D} view = record {
+  opens = λ old path writable outcome new. WasMade old (Open path writable outcome) new × LocksFile view writable outcome old new × OpensFile (λ image. IsOpenFile view image path writable) outcome;
+  opens_part = λ old path writable part outcome new. WasMade old (OpenPart path writable part outcome) new × LocksFile view writable outcome old new × OpensFile (λ image. IsOpenPart view image path writable part) outcome;
+  tells = λ old path most outcome new. WasMade {D = D} old (ReadText path most outcome) new × LocksNoMore view old new;
+  takes = λ old path device new. WasMade old (Close path device) new × LocksNoMore view old new;
+  takes_part = λ old path part device new. WasMade old (ClosePart path part device) new × LocksNoMore view old new;
+  grows = λ old path sectors outcome new. WasMade {D = D} old (Grow path sectors outcome) new × LocksAtMost (view.locked old) (view.locked new) × Grows path sectors outcome;
+  measures = λ old path outcome new. WasMade {D = D} old (Measure path outcome) new × LocksNoMore view old new × EndsInPart path outcome;
+  compares = λ old path other outcome new. WasMade {D = D} old (Compare path other outcome) new × LocksNoMore view old new;
+  replaces = λ old path bytes outcome new. WasMade {D = D} old (Replace path bytes outcome) new × LocksNoMore view old new × view.replaced path bytes outcome;
+  tries = λ old path outcome new. WasMade {D = D} old (TryReplace path outcome) new × LocksNoMore view old new × view.tried path outcome;
 }

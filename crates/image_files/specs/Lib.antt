@@ -1,6 +1,7 @@
 pub mod Apart
 pub mod FileLocks
 pub mod FileRelations
+pub mod ImageCalls
 pub mod FileUses
 pub mod OneFile
 pub mod OnePlace
@@ -10,3 +11,4 @@ pub mod OpenParts
 pub mod Promises
 pub mod Calls
 pub mod Drafts
+pub mod SystemFiles

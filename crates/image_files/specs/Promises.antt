@@ -1,5 +1,6 @@
--- What is taken of an operating system's files: a premise of who reads the commands' clauses of files. The library's contracts
--- say none of it, so no proof gives it of `FileImages`; images in memory keep it (`command_tests`).
+-- What is taken of an operating system's files: a premise of who reads the commands' clauses of files. No contract of the standard
+-- library says any of it, so nothing proves it of `FileImages`, and nothing there refutes it (`specs/ImageCalls`); images in memory
+-- keep it (`command_tests`).
 use Rattle.std.specs.Prelude.{◌≡◌, ◌+◌, ◌-◌, ◌*◌, ◌/◌, ◌%◌, ◌≤◌, ◌==◌, ◌++◌, ℕ, Bool, true, false, not, IsSome, List, length, take, drop, replicate, Option, Some, None, Result, Ok}
 use Rattle.block_device.specs.declared.file_id.FileId.{FileId}
 use Rattle.block_device.specs.declared.open_fault.OpenFault.{OpenFault}

@@ -1,5 +1,5 @@
 //! The calls of a file system by which a text is replaced.
-ghost use Rattle.std.specs.Prelude.{◌≡◌, IfErr, IfOk, string_bytes};
+ghost use Rattle.std.specs.Prelude.{◌≡◌, Err, IfErr, IfOk, Ok, string_bytes};
 ghost use Rattle.image_files.specs.Calls.{FileRelations, IsNoDraft};
 
 use crate::texts::ReplaceFault;
@@ -35,8 +35,8 @@ pub trait FileCalls {
     ///
     /// `NoMemory`, or `Write` if the links can't be followed.
     fn resolve(&mut self, path: &str) -> Result<String, ReplaceFault>
-        ensures ok { IfOk result (λ target. relations.resolves self.old path.now (string_bytes target) self.new) }
-        ensures err { IfErr result IsNoDraft }
+        ensures ok { IfOk result (λ target. relations.resolves self.old path.now (Ok (string_bytes target)) self.new) }
+        ensures err { IfErr result (λ fault. IsNoDraft fault × relations.resolves self.old path.now (Err fault) self.new) }
         ensures same { IfErr result (λ fault. self.new ≡ self.old) };
 
     /// Creates a file of this name, exclusively, with the owner and the permissions of another one if there is one.

@@ -1,10 +1,13 @@
 //! A new text beside the file whose place it takes.
-ghost use Rattle.std.specs.Prelude.{◌≡◌, IfErr, IfOk, OnErr, OnOk, string_bytes};
+ghost use Rattle.std.specs.Prelude.{◌≡◌, ◌≤◌, ◌+◌, ◌++◌, IfErr, IfOk, OnErr, OnOk, codes, decimal, length, string_bytes};
+ghost use Rattle.allocation.specs.Asked.{asked};
 ghost use Rattle.image_files.specs.Drafts.{IsDraft, IsFilled, IsPlaced, IsUndrafted, IsUnfilled, IsUnplaced, Replaces, Tries, beside};
 
 use crate::calls::{CallFault, CreateFault, FileCalls};
 use crate::texts::ReplaceFault;
-use std::alloc::{AllocError, Global};
+use allocation::{OutOfMemory, joined, push_text};
+use itoa::Buffer;
+use std::alloc::Global;
 
 /// So many names are tried at most: those that are taken were left by runs that were cut off.
 const MOST_NAMES: u32 = 64;
@@ -18,13 +21,24 @@ pub struct Draft<F> {
 }
 
 // The name of that number under which a text is written beside the target.
-fn name_beside(alloc: Global, target: &str, number: u32) -> Result<String, AllocError>
-    ensures { IfOk result (λ name. string_bytes name ≡ beside target.now number) }
+fn name_beside(alloc: Global, target: &str, number: u32) -> Result<String, OutOfMemory>
+    ensures ok { IfOk result (λ name. string_bytes name ≡ beside target.now number) }
+    ensures err { IfErr result (λ e. asked e ≤ length target.now + 40) }
 {
     if number == 0 {
-        return format!(in alloc; "{target}.dmstack-new");
+        return joined(alloc, target, ".dmstack-new");
     }
-    format!(in alloc; "{target}.dmstack-new-{number}")
+    numbered_name(alloc, target, number)
+}
+
+fn numbered_name(alloc: Global, target: &str, number: u32) -> Result<String, OutOfMemory>
+    ensures ok { IfOk result (λ name. string_bytes name ≡ target.now ++ (codes ".dmstack-new-" ++ decimal number)) }
+    ensures err { IfErr result (λ e. asked e ≤ length target.now + 40) }
+{
+    let mut digits = Buffer::new();
+    let mut name = joined(alloc, target, ".dmstack-new-")?;
+    push_text(&mut name, digits.format(number))?;
+    Ok(name)
 }
 
 // An empty draft beside what the path names.
@@ -38,8 +52,9 @@ fn create_draft<C: FileCalls>(
 {
     let target = calls.resolve(path)?;
     for number in 0..MOST_NAMES {
-        let Ok(name) = name_beside(alloc, target.as_str(), number) else {
-            return Err(ReplaceFault::NoMemory);
+        let name = match name_beside(alloc, target.as_str(), number) {
+            Ok(name) => name,
+            Err(_) => return Err(ReplaceFault::NoMemory),
         };
         match calls.create(name.as_str(), target.as_str()) {
             Ok(file) => return Ok(Draft { target, name, file }),

@@ -77,12 +77,23 @@ impl<'a, R: AllocGlobal> FileImages<'a, R> {
 }
 
 impl<R: Files<File = File> + AllocGlobal + Input> Images for FileImages<'_, R> {
+    ghost use Rattle.image_files.specs.Drafts.{Replaces, Tries};
     ghost use Rattle.image_files.specs.FileRelations.{file_relations};
+    ghost use Rattle.image_files.specs.SystemFiles.{system_relations};
+    ghost use Rattle.image_files.specs.declared.system_calls.SystemCalls.{SystemCalls};
 
     type Dev = Window<AnyDev>;
 
-    ghost relations = { file_relations (record { state = ⟦<Window<AnyDev> as BlockDev>⟧.state; id = λ window. any_id window.inner; opened = λ window. any_opened window.inner; locked = λ images. images.locks.files.items }) };
+    ghost relations = { file_relations (record {
+      state = ⟦<Window<AnyDev> as BlockDev>⟧.state;
+      id = λ window. any_id window.inner;
+      opened = λ window. any_opened window.inner;
+      locked = λ images. images.locks.files.items;
+      replaced = λ path bytes outcome. (before after : SystemCalls R) × Replaces system_relations before path bytes outcome after;
+      tried = λ path outcome. (before after : SystemCalls R) × Tries system_relations before path outcome after;
+    }) };
 
+    #[tactic(auto, using(crate::proofs::FileLemmas::made))]
     fn open(&mut self, path: &str, writable: bool) -> Result<OpenImage<Window<AnyDev>>, OpenFault> {
         let file = open_file(self.rt, &mut self.locks, path, writable)?;
         let id = file.id();
@@ -92,6 +103,7 @@ impl<R: Files<File = File> + AllocGlobal + Input> Images for FileImages<'_, R> {
         })
     }
 
+    #[tactic(auto, using(crate::proofs::FileLemmas::made))]
     fn open_part(
         &mut self,
         path: &str,
@@ -107,6 +119,7 @@ impl<R: Files<File = File> + AllocGlobal + Input> Images for FileImages<'_, R> {
     }
 
     // A file of any kind that can be read, or what stands in the standard input.
+    #[tactic(auto, using(crate::proofs::FileLemmas::made))]
     fn read_text(&mut self, path: &str, most: usize) -> Result<FileText, OpenFault> {
         if path == INPUT {
             let bytes = first_bytes(self.rt.alloc(), self.rt.reader(), most)?;
@@ -122,15 +135,18 @@ impl<R: Files<File = File> + AllocGlobal + Input> Images for FileImages<'_, R> {
     }
 
     // Its file holds all that there is.
+    #[tactic(auto, using(crate::proofs::FileLemmas::made))]
     fn close(&mut self, _path: &str, device: Window<AnyDev>) {
         drop(device);
     }
 
+    #[tactic(auto, using(crate::proofs::FileLemmas::made))]
     fn close_part(&mut self, _path: &str, _part: Part, device: Window<AnyDev>) {
         drop(device);
     }
 
     // A regular file alone.
+    #[tactic(auto, using(crate::proofs::FileLemmas::made))]
     fn grow(&mut self, path: &str, sectors: u64) -> Result<(), OpenFault> {
         match metadata_at(self.rt, path) {
             Ok(metadata) if !metadata.is_file() => return Ok(()),
@@ -145,11 +161,13 @@ impl<R: Files<File = File> + AllocGlobal + Input> Images for FileImages<'_, R> {
         file.lengthen(sectors * SECTOR)
     }
 
+    #[tactic(auto, using(crate::proofs::FileLemmas::made))]
     fn has_part_sector(&mut self, path: &str) -> Result<bool, OpenFault> {
         let metadata = metadata_at(self.rt, path)?;
         Ok(metadata.is_file() && metadata.len() % SECTOR != 0)
     }
 
+    #[tactic(auto, using(crate::proofs::FileLemmas::made))]
     fn is_one_place(&mut self, path: &str, other: &str) -> Result<bool, OpenFault> {
         is_one_place(self.rt, path, other)
     }

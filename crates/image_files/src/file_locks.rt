@@ -1,10 +1,10 @@
 //! Locks on the files that are open for writing.
-ghost use Rattle.std.specs.Prelude.{◌≡◌, ◌⊎◌, [], IfErr, OnErr, OnOk};
+ghost use Rattle.std.specs.Prelude.{◌≡◌, ◌++◌, [], ◌∷◌, IfErr, OnErr, OnOk};
 ghost use Rattle.block_device.specs.FileId.{file_id};
-ghost use Rattle.block_device.specs.declared.open_fault.OpenFault.TheVariants as fault;
-ghost use Rattle.image_files.specs.FileLocks.{is_locked, with_lock};
+ghost use Rattle.image_files.specs.FileLocks.{IsLockRefused, IsNoLock, IsUnkept, is_locked, with_lock};
 
 use crate::one_file::is_one_file;
+use allocation::push;
 use block_device::{FileDev, FileId, FileLock, OpenFault};
 use std::alloc::Global;
 
@@ -31,11 +31,12 @@ impl FileLocks {
     ///
     /// # Errors
     ///
-    /// `InUse` if another process holds a lock on the file, or `NoMemory`.
+    /// `InUse` if another process holds a lock on the file; `NoMemory` if the system has no memory for a lock, or an allocation was
+    /// refused.
     pub fn lock(&mut self, device: &FileDev) -> Result<(), OpenFault>
         ensures ok { OnOk result (self.new.files.items ≡ with_lock (file_id device.now) self.old.files.items) }
         ensures same { OnErr result (self.new.files.items ≡ self.old.files.items) }
-        ensures err { IfErr result (λ e. (e ≡ fault.InUse) ⊎ (e ≡ fault.NoMemory)) }
+        ensures err { IfErr result (IsNoLock device.now) }
     {
         let Some(id) = device.id() else {
             return Ok(());
@@ -44,14 +45,9 @@ impl FileLocks {
             return Ok(());
         }
         if let Some(lock) = lock_of(device)? {
-            if self.locks.push(lock).is_err() {
-                return Err(OpenFault::NoMemory);
-            }
+            keep(&mut self.locks, lock)?;
         }
-        match self.files.push(id) {
-            Ok(()) => Ok(()),
-            Err(_) => Err(OpenFault::NoMemory),
-        }
+        keep(&mut self.files, id)
     }
 
     fn has_locked(&self, id: FileId) -> bool
@@ -63,9 +59,21 @@ impl FileLocks {
     }
 }
 
+// Appends an element.
+fn keep<T: Drop>(list: &mut Vec<T>, element: T) -> Result<(), OpenFault>
+    ensures ok { OnOk result (list.new.items ≡ list.old.items ++ element ∷ []) }
+    ensures same { OnErr result (list.new.items ≡ list.old.items) }
+    ensures err { IfErr result IsUnkept }
+{
+    match push(list, element) {
+        Ok(()) => Ok(()),
+        Err(_) => Err(OpenFault::NoMemory),
+    }
+}
+
 // The lock of a device's file, if its file system has locks.
 fn lock_of(device: &FileDev) -> Result<Option<FileLock>, OpenFault>
-    ensures { IfErr result (λ e. (e ≡ fault.InUse) ⊎ (e ≡ fault.NoMemory)) }
+    ensures { IfErr result (IsLockRefused device.now) }
 {
     match device.try_lock() {
         Ok(lock) => Ok(Some(lock)),

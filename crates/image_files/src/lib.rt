@@ -14,6 +14,7 @@ mod one_file;
 mod one_place;
 mod opening;
 mod parts;
+mod seal;
 mod system_calls;
 mod texts;
 

@@ -2,6 +2,7 @@
 ghost use Rattle.std.specs.Prelude.{◌≡◌};
 
 use crate::texts::{ReplaceFault, Texts};
+use allocation::copied;
 use std::alloc::Global;
 
 /// One text, whatever the path.
@@ -22,14 +23,16 @@ impl MemoryText {
 }
 
 impl Texts for MemoryText {
-    ghost use Rattle.std.specs.Prelude.{MatchResult, ◌≡◌};
+    ghost use Rattle.std.specs.Prelude.{MatchResult, ◌≡◌, ◌≤◌, length};
+    ghost use Rattle.allocation.specs.Refusal.{IsOutOfMemory};
+    ghost use Rattle.image_files.specs.declared.texts.ReplaceFault.TheVariants.{NoMemory};
 
-    ghost replaces = { λ old path bytes result new. MatchResult result (λ _. new.bytes.items ≡ bytes) (λ _. new ≡ old) };
+    ghost replaces = { λ old path bytes result new. MatchResult result (λ _. new.bytes.items ≡ bytes) (λ fault. (new ≡ old) × (fault ≡ NoMemory) × IsOutOfMemory (length bytes)) };
 
     ghost tries = { λ old path result new. new ≡ old };
 
     fn replace(&mut self, _path: &str, bytes: &[u8]) -> Result<(), ReplaceFault> {
-        match Vec::from_slice(self.alloc, bytes) {
+        match copied(self.alloc, bytes) {
             Ok(text) => {
                 self.bytes = text;
                 Ok(())

@@ -90,19 +90,13 @@ impl<R: Files<File = File> + AllocGlobal> SystemCalls<'_, R> {
 }
 
 impl<R: Files<File = File> + AllocGlobal> FileCalls for SystemCalls<'_, R> {
-    ghost use Rattle.std.specs.Prelude.{◌≡◌};
+    ghost use Rattle.image_files.specs.SystemFiles.{system_relations};
 
     type File = File;
 
-    ghost relations = { record {
-      resolves = λ old path target new. new ≡ old;
-      creates = λ old name like file new. new ≡ old;
-      writes = λ old file bytes result file' new. new ≡ old;
-      syncs = λ old file result new. new ≡ old;
-      renames = λ old from to result new. new ≡ old;
-      lists = λ old path result new. new ≡ old;
-      removes = λ old name new. new ≡ old;
-    } };
+    ghost relations = { system_relations };
+
+    // Trusted: that the body of each function makes the call that its clause names.
 
     fn resolve(&mut self, path: &str) -> Result<String, ReplaceFault> {
         let Ok(mut at) = PathBuf::from_str(self.rt.alloc(), path) else {
@@ -130,7 +124,7 @@ impl<R: Files<File = File> + AllocGlobal> FileCalls for SystemCalls<'_, R> {
         };
         let file = self.create_new(name, other.mode() & PERMISSION_BITS)?;
         if take_after(&file, &other).is_err() {
-            self.remove(name);
+            let _removed = fs::remove_file(self.rt, name);
             return Err(CreateFault::Failed);
         }
         Ok(file)

@@ -2,7 +2,7 @@
 
 use crate::command::Command;
 
-const LOAD_USAGE: &str = "dmstack load [--json] STACK BINDING...";
+const LOAD_USAGE: &str = "dmstack load [--json] [--linux] STACK BINDING...";
 
 const READ_USAGE: &str = "dmstack read [--cache N] STACK NAME FIRST COUNT BINDING...";
 
@@ -30,18 +30,18 @@ const FORMAT_USAGE: &str =
 const VERIFY_USAGE: &str =
     "dmstack verify [--data-block N] [--hash-block N] [--blocks N] [--salt HEX] [--hash-offset BYTES] [--root-hash-file FILE] [--no-superblock] [--all] [--json] [--progress] [--fec FILE] [--fec-roots N] [--pin FILE] DATA HASH ROOT";
 
-const DUMP_USAGE: &str = "dmstack dump [--hash-offset BYTES] [--json] HASH";
+const DUMP_USAGE: &str = "dmstack dump [--hash-offset BYTES] [--json] [--pin ROOT] HASH";
 
 const TABLE_USAGE: &str =
-    "dmstack table [--data-block N] [--hash-block N] [--blocks N] [--salt HEX] [--hash-offset BYTES] [--name NAME] [--root-hash-file FILE] [--no-superblock] HASH ROOT DATANAME HASHNAME";
+    "dmstack table [--data-block N] [--hash-block N] [--blocks N] [--salt HEX] [--hash-offset BYTES] [--name NAME] [--root-hash-file FILE] [--no-superblock] [--pin FILE] HASH ROOT DATANAME HASHNAME";
 
 const REPAIR_USAGE: &str =
-    "dmstack repair [--hash-offset BYTES] [--root-hash-file FILE] [--check] [--fec FILE] [--fec-roots N] DATA HASH ROOT [DATACOPY HASHCOPY]...";
+    "dmstack repair [--hash-offset BYTES] [--root-hash-file FILE] [--check] [--fec FILE] [--fec-roots N] [--pin FILE] DATA HASH ROOT [DATACOPY HASHCOPY]...";
 
 const PARTITIONS_USAGE: &str =
     "dmstack partitions [--sector-size 512|4096] [--json] [--stack] [--root ROOT] IMAGE";
 
-const DIFF_USAGE: &str = "dmstack diff [--blocks N] [--json] HASH1 ROOT1 HASH2 ROOT2";
+const DIFF_USAGE: &str = "dmstack diff [--all] [--blocks N] [--json] HASH1 ROOT1 HASH2 ROOT2";
 
 const MANUAL_USAGE: &str = "dmstack manual [COMMAND]";
 

@@ -1,5 +1,7 @@
 -- Zeros, and what stands around them in the sectors that they touch.
-use Rattle.std.specs.Prelude.{ℕ, List, ◌++◌, replicate}
+use Rattle.std.specs.Prelude.{◌≡◌, ◌≤◌, ℕ, ◌*◌, ◌/◌, ◌%◌, List, ◌++◌, replicate}
+use Rattle.alignment.specs.Lengths.{aligned_len}
+use Rattle.stack_rules.specs.Records.{Configuration}
 use Rattle.request_queue.specs.World.{World}
 use Rattle.nbd_protocol.specs.declared.request_error.RequestError.{RequestError}
 use Rattle.nbd_server.specs.Sectors.{FailsToZero}
@@ -8,6 +10,14 @@ use Rattle.nbd_server.specs.declared.zeros.Zeros.{Zeros}
 -- all of them
 abbrev pub zeros_of : Zeros → List ℕ
 zeros_of z = z.before.now ++ (replicate z.count 0 ++ z.behind.now)
+
+-- how many bytes the next run of them has, of so many that are left of sectors of device d, from the first on
+pub record IsRunLen (c : Configuration) (d first left n : ℕ) : Type 0 where
+  pub value : n ≡ 512 * aligned_len c d first (left / 512) 2048
+  pub whole : n % 512 ≡ 0
+  pub some : 512 ≤ n
+  pub few : n ≤ 1048576
+  pub inside : n ≤ left
 
 -- not all of them were put
 abbrev pub FailsToPutZeros : World → ℕ → ℕ → Zeros → World → RequestError → Type 0

@@ -1,17 +1,20 @@
 //! Puts sectors of the export.
-ghost use Rattle.std.specs.Prelude.{◌≡◌, ◌<◌, ◌≤◌, ◌+◌, ◌/◌, ◌%◌, ◌^◌, length, IfErr, OnOk};
+ghost use Rattle.std.specs.Prelude.{◌≡◌, ◌<◌, ◌≤◌, ◌+◌, ◌*◌, ◌/◌, ◌%◌, ◌^◌, length, IfErr, OnOk};
 ghost use Rattle.nbd_server.specs.Sectors.{FailsToPutAll, IsStored};
 ghost use Rattle.nbd_protocol.specs.Exports.{IsExport, export_record};
 ghost use Rattle.nbd_server.specs.Premises.{AreExportSectors, HaveEnds, IsZeroRun};
-ghost use Rattle.nbd_server.specs.Zeros.{FailsToPutZeros, zeros_of};
+ghost use Rattle.nbd_server.specs.Zeros.{FailsToPutZeros, IsRunLen, zeros_of};
 
 use crate::zeros::Zeros;
+use alignment::aligned_len;
 use block_device::BlockDev;
 use nbd_protocol::{Export, RequestError};
 use request_queue::{BytesFault, Queue};
 use std::alloc::Global;
 
-// The most bytes of one run of zeros: 2,048 sectors.
+// The most sectors of one run of zeros, and their bytes.
+const MOST_SECTORS: u64 = 2048;
+
 const MOST_BYTES: usize = 1048576;
 
 /// Puts the bytes of sectors from `first` on, up to the first piece that fails.
@@ -51,6 +54,19 @@ fn zero_run<D: BlockDev>(
     store(queue, export, first, bytes.as_slice())
 }
 
+// How many bytes the next run of zeros has, of so many that are left from sector `first` on: it splits no unit and no data
+// block that can be written in one run.
+fn run_bytes<D: BlockDev>(queue: &Queue<D>, export: &Export<'_>, first: u64, left: usize) -> usize
+    requires export { IsExport queue.now.stack.config (export_record export.now) }
+    requires some { 512 ≤ left }
+    requires inside { 512 * first + left ≤ export.now.size }
+    ensures { IsRunLen queue.now.stack.config export.now.device.0 first left result }
+{
+    let config = queue.stack().config();
+    let sectors = (left / 512) as u64;
+    aligned_len(config, export.device, first, sectors, MOST_SECTORS) as usize * 512
+}
+
 /// Writes zeros with the rest of their first and last sector, as `store` writes bytes, with one run in memory at a time.
 pub(crate) fn store_zeros<D: BlockDev>(
     alloc: Global,
@@ -69,7 +85,9 @@ pub(crate) fn store_zeros<D: BlockDev>(
     let mut at = first;
     let mut rest = *zeros;
     'runs: while rest.len() > MOST_BYTES {
-        let count = MOST_BYTES - rest.before.len();
+        let left = rest.len();
+        let size = run_bytes(queue, export, at, left);
+        let count = size - rest.before.len();
         let run = Zeros {
             before: rest.before,
             count,
@@ -81,7 +99,7 @@ pub(crate) fn store_zeros<D: BlockDev>(
             count: rest.count - count,
             behind: rest.behind,
         };
-        at += (MOST_BYTES / 512) as u64;
+        at += (size / 512) as u64;
     }
     zero_run(alloc, queue, export, at, &rest)
 }

@@ -1,3 +1,5 @@
 mod EndingLemmas
 mod LabelLemmas
+mod NameLemmas
+mod NoteLemmas
 mod ObjectLemmas

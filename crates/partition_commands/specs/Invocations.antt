@@ -9,36 +9,39 @@ use Rattle.image_files.specs.Opener.{Calls, Opener, calls}
 use Rattle.partition_table.specs.declared.sector_size.SectorSize.{SectorSize}
 use Rattle.partition_table.specs.declared.sector_size.SectorSize.TheVariants.{Bytes4096, Bytes512}
 use Rattle.partition_commands.specs.declared.fault.PartitionsFault.{PartitionsFault}
-use Rattle.partition_commands.specs.Commands.{IsEntriesEnd, IsOpenedEnd, IsRootOfImageEnd, IsLabelEnd, PrintsEntriesOfImage, PrintsOfImage, PrintsRootOfImage}
+use Rattle.partition_commands.specs.Commands.{AreImageNotes, IsEntriesEnd, IsLinesEnd, IsObjectEnd, IsOpenedEnd, IsRootOfImageEnd, PrintsEntriesOfImage, PrintsOfImage, PrintsRootOfImage}
 use Rattle.partition_commands.specs.Lines.{listed_text}
 use Rattle.partition_commands.specs.Objects.{object_text}
+use Rattle.partition_commands.specs.Warnings.{Notes}
 
 -- the size of sectors with which a table is looked for first: 4,096 bytes, or 512
 abbrev pub size_of : ℕ → SectorSize
 size_of bytes = if bytes == 4096 then Bytes4096 else Bytes512
 
-abbrev pub PrintsForm : {S D : Type 0} → Calls S D → List ℕ → SectorSize → FormRecord → Option (List ℕ) → Option (List ℕ) → Type 0
-PrintsForm w path size lines old new = PrintsOfImage w path size listed_text old new
-PrintsForm w path size object old new = PrintsOfImage w path size object_text old new
-PrintsForm w path size stack old new = PrintsEntriesOfImage w path size old new
-PrintsForm w path size (root found) old new = PrintsRootOfImage w path size found old new
+abbrev pub PrintsForm : {S D : Type 0} → Calls S D → List ℕ → SectorSize → FormRecord → Option (List ℕ) → Option (List ℕ) → Notes → Type 0
+PrintsForm w path size lines old new notes = PrintsOfImage w path size listed_text old new notes
+PrintsForm w path size object old new notes = PrintsOfImage w path size object_text old new notes
+PrintsForm w path size stack old new notes = PrintsEntriesOfImage w path size old new notes
+PrintsForm w path size (root found) old new notes = PrintsRootOfImage w path size found old new notes
 
 abbrev pub IsFormEnd : {S D : Type 0} → Calls S D → List ℕ → SectorSize → FormRecord → Bool → PartitionsFault → Type 0
-IsFormEnd w path size lines failed fault = IsOpenedEnd w path (λ old new. IsLabelEnd old new size failed) fault
-IsFormEnd w path size object failed fault = IsOpenedEnd w path (λ old new. IsLabelEnd old new size failed) fault
+IsFormEnd w path size lines failed fault = IsOpenedEnd w path (λ old new. IsLinesEnd old new size failed) fault
+IsFormEnd w path size object failed fault = IsOpenedEnd w path (λ old new. IsObjectEnd old new size failed) fault
 IsFormEnd w path size stack failed fault = IsOpenedEnd w path (λ old new. IsEntriesEnd old new size failed) fault
 IsFormEnd w path size (root found) failed fault = IsRootOfImageEnd w path size found failed fault
 
-abbrev pub ListsPartitions : {S D : Type 0} → Calls S D → PartitionsRecord → Option (List ℕ) → Option (List ℕ) → Type 0
-ListsPartitions w p old new = PrintsForm w p.image (size_of p.sector_size) p.form old new
+abbrev pub ListsPartitions : {S D : Type 0} → Calls S D → PartitionsRecord → Option (List ℕ) → Option (List ℕ) → Notes → Type 0
+ListsPartitions w p old new notes = PrintsForm w p.image (size_of p.sector_size) p.form old new notes
 
-abbrev pub IsListingEnd : {S D : Type 0} → Calls S D → PartitionsRecord → Bool → PartitionsFault → Type 0
-IsListingEnd w p failed fault = IsFormEnd w p.image (size_of p.sector_size) p.form failed fault
+-- why it ends early, and what it printed among the errors before
+abbrev pub IsListingEnd : {S D : Type 0} → Calls S D → PartitionsRecord → Bool → Notes → PartitionsFault → Type 0
+IsListingEnd w p failed notes fault = IsFormEnd w p.image (size_of p.sector_size) p.form failed fault × AreImageNotes w p.image (size_of p.sector_size) notes fault
 
 -- ---- as a call sees them, by the program's own words
 
-abbrev pub ListsByWords : {S D W : Type 0} → Opener S D → (D → Device) → S → S → (W → Option (List ℕ)) → CountedRecord W → CountedRecord W → PartitionsWords → Type 0
-ListsByWords relations state images images' contents writer writer' words = ListsPartitions (calls relations state images images') (partitions_record words) (contents writer.inner) (contents writer'.inner)
+abbrev pub ListsByWords : {S D W : Type 0} → Opener S D → (D → Device) → S → S → (W → Option (List ℕ)) → CountedRecord W → CountedRecord W → PartitionsWords → Notes → Type 0
+ListsByWords relations state images images' contents writer writer' words notes =
+    ListsPartitions (calls relations state images images') (partitions_record words) (contents writer.inner) (contents writer'.inner) notes
 
-abbrev pub FailsToList : {S D W : Type 0} → Opener S D → (D → Device) → S → S → CountedRecord W → PartitionsWords → PartitionsFault → Type 0
-FailsToList relations state images images' writer' words = IsListingEnd (calls relations state images images') (partitions_record words) writer'.failed
+abbrev pub FailsToList : {S D W : Type 0} → Opener S D → (D → Device) → S → S → CountedRecord W → PartitionsWords → Notes → PartitionsFault → Type 0
+FailsToList relations state images images' writer' words notes = IsListingEnd (calls relations state images images') (partitions_record words) writer'.failed notes

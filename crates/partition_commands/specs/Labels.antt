@@ -20,6 +20,14 @@ label_units label = units_to label 36
 abbrev pub shown_unit : ℕ → ℕ
 shown_unit unit = if nat_lt unit 32 || (nat_le 127 unit && nat_lt unit 160) then 0xfffd else unit
 
+-- the units before the first zero
+abbrev pub before_zero : List ℕ → List ℕ
+before_zero units = take_while (λ u. not (u == 0)) units
+
 -- the characters up to the first zero, with U+FFFD for control characters and for surrogates that have no partner
 abbrev pub label_text : List ℕ → List ℕ
-label_text label = encode_utf8_all (utf16_lossy_chars (map shown_unit (take_while (λ u. not (u == 0)) (label_units label))))
+label_text label = encode_utf8_all (utf16_lossy_chars (map shown_unit (before_zero (label_units label))))
+
+-- no allocation for a label or a name asks for more elements
+abbrev pub name_room : ℕ
+name_room = 41

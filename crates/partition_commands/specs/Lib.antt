@@ -12,3 +12,4 @@ pub mod RefusalNames
 pub mod RootStacks
 pub mod Roots
 pub mod Stacks
+pub mod Warnings

@@ -2,7 +2,7 @@
 use Rattle.std.specs.Prelude.{ℕ, List, ◌++◌, ◌||◌, nat_lt, Bool, codes, Option}
 use Rattle.program_io.specs.Counted.{CountedRecord}
 use Rattle.partition_table.specs.declared.sector_size.SectorSize.{SectorSize}
-use Rattle.verity_format.specs.Line.{table_text}
+use Rattle.verity_format.specs.Line.{line_room, table_text}
 use Rattle.verity_format.specs.Image.{data_sectors, tree_sectors}
 use Rattle.verity_format.specs.Superblock.{SuperRecord, shape_of}
 use Rattle.partition_commands.specs.declared.root.ImagePartitions.{ImagePartitions}
@@ -13,6 +13,10 @@ use Rattle.partition_commands.specs.Stacks.{entry_text, linear_line}
 -- the data blocks, checked by the tree: `root`
 unfoldable pub root_entry : SuperRecord → List ℕ → List ℕ
 root_entry s root = entry_text (codes "root") (table_text s (codes "/dev/mapper/data") (codes "/dev/mapper/hash") root)
+
+-- no allocation for it asks for more bytes
+abbrev pub root_room : SuperRecord → List ℕ → ℕ
+root_room s root = line_room s (codes "/dev/mapper/data") (codes "/dev/mapper/hash") root 1
 
 -- `data` and `hash`, the two partitions, and `root` over them
 unfoldable pub root_stack_text : SectorSize → ImagePartitions → SuperRecord → List ℕ → List ℕ

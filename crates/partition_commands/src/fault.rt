@@ -5,6 +5,7 @@ ghost use Rattle.partition_commands.specs.declared.fault.PartitionsFault.TheVari
 ghost use Rattle.partition_commands.specs.declared.refusal.PartitionRefusal.TheVariants as refusals;
 
 use crate::PartitionRefusal;
+use allocation::OutOfMemory;
 use image_files::UnopenedFile;
 use partition_table::NoTable;
 use program_io::WriteFault;
@@ -13,7 +14,7 @@ use std::alloc::AllocError;
 /// Why partitions aren't printed.
 #[derive(Clone, Copy, Debug, PartialEq, Eq)]
 pub enum PrintFault {
-    /// Memory ran out.
+    /// Room for a label was refused.
     NoMemory,
     /// The image has no good table.
     Table(NoTable),
@@ -21,10 +22,10 @@ pub enum PrintFault {
     Write,
 }
 
-impl From<AllocError> for PrintFault {
+impl From<OutOfMemory> for PrintFault {
     ghost from_gives = { λ _ fault. fault ≡ print_fault.NoMemory };
 
-    fn from(_error: AllocError) -> Self {
+    fn from(_error: OutOfMemory) -> Self {
         PrintFault::NoMemory
     }
 }
@@ -62,6 +63,14 @@ impl From<AllocError> for PartitionsFault<'_> {
     ghost from_gives = { λ _ fault. fault ≡ partitions_fault.NoMemory };
 
     fn from(_error: AllocError) -> Self {
+        PartitionsFault::NoMemory
+    }
+}
+
+impl From<OutOfMemory> for PartitionsFault<'_> {
+    ghost from_gives = { λ _ fault. fault ≡ partitions_fault.NoMemory };
+
+    fn from(_error: OutOfMemory) -> Self {
         PartitionsFault::NoMemory
     }
 }

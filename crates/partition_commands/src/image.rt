@@ -1,49 +1,55 @@
 //! The commands `partitions`, `partitions --json` and `partitions --stack`, of an image.
 ghost use Rattle.std.specs.Prelude.{IfErr, OnOk};
-ghost use Rattle.partition_commands.specs.Commands.{FailsToPrint, FailsToStack, IsEntriesEnd, IsSayFault, IsLabelEnd, Prints, PrintsEntriesOf, PrintsImage, PrintsStackOf};
+ghost use Rattle.partition_commands.specs.Commands.{EndsNoted, FailsToPrint, FailsToPrintObject, FailsToStack, IsEntriesEnd, IsLinesEnd, IsObjectEnd, IsSayFault, NotesImage, Prints, PrintsEntriesOf, PrintsImage, PrintsStackOf};
 ghost use Rattle.partition_commands.specs.Lines.{SaysText, listed_text};
 ghost use Rattle.partition_commands.specs.Objects.{object_text};
 ghost use Rattle.partition_commands.specs.Stacks.{SaysEntry, stack_text};
+ghost use Rattle.partition_commands.specs.Warnings.{notes_of};
 
 use crate::entries::say_linear_entry;
 use crate::object::table_line;
 use crate::parts::are_within;
+use crate::warnings::find_noted;
 use crate::{
     PartitionRefusal, PartitionsFault, PrintFault, part_of, partition_name, print_partitions,
 };
 use block_device::BlockDev;
 use image_files::{Images, open_image};
-use partition_table::{Partition, SectorSize, find_table};
+use partition_table::{Partition, SectorSize};
 use program_io::Counted;
 use std::alloc::Global;
 use std::io::Write;
 
 /// `partitions IMAGE`: which copies of the image's table are good, and a line for each partition.
-pub fn partitions_of_image<'a, I: Images, W: Write>(
+pub fn partitions_of_image<'a, I: Images, W: Write, E: Write>(
     alloc: Global,
     images: &mut I,
     path: &'a str,
     size: SectorSize,
     writer: &mut Counted<W>,
+    errors: &mut Counted<E>,
 ) -> Result<(), PartitionsFault<'a>>
-    ensures ok { OnOk result (PrintsImage I.relations I.Dev.state images.old images.new W.contents writer.old writer.new path.now size listed_text) }
+    ensures ok { OnOk result (PrintsImage I.relations I.Dev.state images.old images.new W.contents writer.old writer.new path.now size listed_text (notes_of E.contents errors.old errors.new)) }
     ensures err { IfErr result (FailsToPrint I.relations I.Dev.state images.old images.new writer.new path.now size) }
+    ensures noted { IfErr result (NotesImage I.relations I.Dev.state images.old images.new path.now size (notes_of E.contents errors.old errors.new)) }
 {
     let mut image = open_image(images, path, false)?;
-    list_partitions(alloc, &mut image.device, size, writer)
+    list_partitions(alloc, &mut image.device, size, writer, errors)
 }
 
 // The same of a device.
-fn list_partitions<'a, D: BlockDev, W: Write>(
+fn list_partitions<'a, D: BlockDev, W: Write, E: Write>(
     alloc: Global,
     device: &mut D,
     size: SectorSize,
     writer: &mut Counted<W>,
+    errors: &mut Counted<E>,
 ) -> Result<(), PartitionsFault<'a>>
-    ensures ok { OnOk result (Prints D.state device.old device.new W.contents writer.old writer.new size listed_text) }
-    ensures err { IfErr result (IsLabelEnd (D.state device.old) (D.state device.new) size writer.new.failed) }
+    ensures ok { OnOk result (Prints D.state device.old device.new W.contents writer.old writer.new size listed_text (notes_of E.contents errors.old errors.new)) }
+    ensures err { IfErr result (IsLinesEnd (D.state device.old) (D.state device.new) size writer.new.failed) }
+    ensures noted { IfErr result (EndsNoted (D.state device.old) size (notes_of E.contents errors.old errors.new)) }
 {
-    match print_partitions(alloc, device, size, writer) {
+    match print_partitions(alloc, device, size, writer, errors) {
         Ok(()) => Ok(()),
         Err(PrintFault::NoMemory) => Err(PartitionsFault::NoMemory),
         Err(PrintFault::Table(fault)) => Err(PartitionsFault::from(fault)),
@@ -52,62 +58,70 @@ fn list_partitions<'a, D: BlockDev, W: Write>(
 }
 
 /// `partitions --json IMAGE`: the same as a JSON object on one line.
-pub fn object_of_image<'a, I: Images, W: Write>(
+pub fn object_of_image<'a, I: Images, W: Write, E: Write>(
     alloc: Global,
     images: &mut I,
     path: &'a str,
     size: SectorSize,
     writer: &mut Counted<W>,
+    errors: &mut Counted<E>,
 ) -> Result<(), PartitionsFault<'a>>
-    ensures ok { OnOk result (PrintsImage I.relations I.Dev.state images.old images.new W.contents writer.old writer.new path.now size object_text) }
-    ensures err { IfErr result (FailsToPrint I.relations I.Dev.state images.old images.new writer.new path.now size) }
+    ensures ok { OnOk result (PrintsImage I.relations I.Dev.state images.old images.new W.contents writer.old writer.new path.now size object_text (notes_of E.contents errors.old errors.new)) }
+    ensures err { IfErr result (FailsToPrintObject I.relations I.Dev.state images.old images.new writer.new path.now size) }
+    ensures noted { IfErr result (NotesImage I.relations I.Dev.state images.old images.new path.now size (notes_of E.contents errors.old errors.new)) }
 {
     let mut image = open_image(images, path, false)?;
-    list_object(alloc, &mut image.device, size, writer)
+    list_object(alloc, &mut image.device, size, writer, errors)
 }
 
 // The same of a device.
-fn list_object<'a, D: BlockDev, W: Write>(
+fn list_object<'a, D: BlockDev, W: Write, E: Write>(
     alloc: Global,
     device: &mut D,
     size: SectorSize,
     writer: &mut Counted<W>,
+    errors: &mut Counted<E>,
 ) -> Result<(), PartitionsFault<'a>>
-    ensures ok { OnOk result (Prints D.state device.old device.new W.contents writer.old writer.new size object_text) }
-    ensures err { IfErr result (IsLabelEnd (D.state device.old) (D.state device.new) size writer.new.failed) }
+    ensures ok { OnOk result (Prints D.state device.old device.new W.contents writer.old writer.new size object_text (notes_of E.contents errors.old errors.new)) }
+    ensures err { IfErr result (IsObjectEnd (D.state device.old) (D.state device.new) size writer.new.failed) }
+    ensures noted { IfErr result (EndsNoted (D.state device.old) size (notes_of E.contents errors.old errors.new)) }
 {
-    let table = find_table(alloc, device, size)?;
+    let table = find_noted(alloc, device, size, errors)?;
     let line = table_line(alloc, &table)?;
     writer.put(line.as_bytes())?;
     Ok(())
 }
 
 /// `partitions --stack IMAGE`: the text of a stack with a read-only device for each partition, over the leaf DISK.
-pub fn stack_of_image<'a, I: Images, W: Write>(
+pub fn stack_of_image<'a, I: Images, W: Write, E: Write>(
     alloc: Global,
     images: &mut I,
     path: &'a str,
     size: SectorSize,
     writer: &mut Counted<W>,
+    errors: &mut Counted<E>,
 ) -> Result<(), PartitionsFault<'a>>
-    ensures ok { OnOk result (PrintsStackOf I.relations I.Dev.state images.old images.new W.contents writer.old writer.new path.now size) }
+    ensures ok { OnOk result (PrintsStackOf I.relations I.Dev.state images.old images.new W.contents writer.old writer.new path.now size (notes_of E.contents errors.old errors.new)) }
     ensures err { IfErr result (FailsToStack I.relations I.Dev.state images.old images.new writer.new path.now size) }
+    ensures noted { IfErr result (NotesImage I.relations I.Dev.state images.old images.new path.now size (notes_of E.contents errors.old errors.new)) }
 {
     let mut image = open_image(images, path, false)?;
-    list_entries(alloc, &mut image.device, size, writer)
+    list_entries(alloc, &mut image.device, size, writer, errors)
 }
 
 // The same of a device.
-fn list_entries<'a, D: BlockDev, W: Write>(
+fn list_entries<'a, D: BlockDev, W: Write, E: Write>(
     alloc: Global,
     device: &mut D,
     size: SectorSize,
     writer: &mut Counted<W>,
+    errors: &mut Counted<E>,
 ) -> Result<(), PartitionsFault<'a>>
-    ensures ok { OnOk result (PrintsEntriesOf D.state device.old device.new W.contents writer.old writer.new size) }
+    ensures ok { OnOk result (PrintsEntriesOf D.state device.old device.new W.contents writer.old writer.new size (notes_of E.contents errors.old errors.new)) }
     ensures err { IfErr result (IsEntriesEnd (D.state device.old) (D.state device.new) size writer.new.failed) }
+    ensures noted { IfErr result (EndsNoted (D.state device.old) size (notes_of E.contents errors.old errors.new)) }
 {
-    let table = find_table(alloc, device, size)?;
+    let table = find_noted(alloc, device, size, errors)?;
     if !are_within(device, table.size, &table.partitions) {
         return Err(PartitionsFault::Refused(PartitionRefusal::OutsideDevice));
     }

@@ -1,6 +1,7 @@
 //! The command `partitions` by its words.
 ghost use Rattle.std.specs.Prelude.{◌≡◌, OnOk, IfErr};
 ghost use Rattle.partition_commands.specs.Invocations.{FailsToList, ListsByWords, size_of};
+ghost use Rattle.partition_commands.specs.Warnings.{notes_of};
 
 use crate::fault::PartitionsFault;
 use crate::image::{object_of_image, partitions_of_image, stack_of_image};
@@ -25,15 +26,16 @@ fn size_of(bytes: u32) -> SectorSize
     }
 }
 
-/// `partitions [--sector-size 512|4096] [--json | --stack | --root ROOT] IMAGE`
-pub fn invoke_partitions<'a, I: Images, W: Write>(
+/// `partitions [--sector-size 512|4096] [--json | --stack | --root ROOT] IMAGE`; what is unusual of the table goes to `errors`.
+pub fn invoke_partitions<'a, I: Images, W: Write, E: Write>(
     alloc: Global,
     images: &mut I,
     words: PartitionsWords<'a>,
     writer: &mut Counted<W>,
+    errors: &mut Counted<E>,
 ) -> Result<(), PartitionsFault<'a>>
-    ensures ok { OnOk result (ListsByWords I.relations I.Dev.state images.old images.new W.contents writer.old writer.new words.entry) }
-    ensures err { IfErr result (FailsToList I.relations I.Dev.state images.old images.new writer.new words.entry) }
+    ensures ok { OnOk result (ListsByWords I.relations I.Dev.state images.old images.new W.contents writer.old writer.new words.entry (notes_of E.contents errors.old errors.new)) }
+    ensures err { IfErr result (FailsToList I.relations I.Dev.state images.old images.new writer.new words.entry (notes_of E.contents errors.old errors.new)) }
 {
     let PartitionsWords {
         image,
@@ -42,11 +44,11 @@ pub fn invoke_partitions<'a, I: Images, W: Write>(
     } = words;
     let size = size_of(sector_size);
     match form {
-        PartitionForm::Lines => partitions_of_image(alloc, images, image, size, writer),
-        PartitionForm::Object => object_of_image(alloc, images, image, size, writer),
-        PartitionForm::Stack => stack_of_image(alloc, images, image, size, writer),
+        PartitionForm::Lines => partitions_of_image(alloc, images, image, size, writer, errors),
+        PartitionForm::Object => object_of_image(alloc, images, image, size, writer, errors),
+        PartitionForm::Stack => stack_of_image(alloc, images, image, size, writer, errors),
         PartitionForm::Root(root) => {
-            root_stack_of_image(alloc, images, image, size, &root, writer)
+            root_stack_of_image(alloc, images, image, size, &root, writer, errors)
         }
     }
 }

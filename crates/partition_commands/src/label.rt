@@ -1,41 +1,60 @@
 //! The label of a partition, as text.
-ghost use Rattle.std.specs.Prelude.{◌≡◌, ◌+◌, ◌≤◌, ◌==◌, not, map, take_while, length, IfOk, string_bytes};
-ghost use Rattle.partition_commands.specs.Labels.{label_text, label_units, number16, shown_unit};
+ghost use Rattle.std.specs.Prelude.{◌≡◌, ◌+◌, ◌≤◌, ◌==◌, map, length, IfOk, IfErr, string_bytes};
+ghost use Rattle.allocation.specs.Asked.{asked};
+ghost use Rattle.partition_commands.specs.Labels.{before_zero, label_text, label_units, name_room, number16, shown_unit};
 
-use std::alloc::{AllocError, Global};
+use crate::characters::lossy_text;
+use allocation::{OutOfMemory, push};
+use std::alloc::Global;
 
 const REPLACEMENT: u16 = 0xfffd;
 
 /// Returns the characters of a label up to its first zero. An unpaired surrogate and a control character become
 /// U+FFFD.
-pub fn label_text(alloc: Global, label: &[u8; 72]) -> Result<String, AllocError>
-    ensures { IfOk result (λ s. string_bytes s ≡ label_text label.now) }
+///
+/// # Errors
+///
+/// `OutOfMemory` if the allocator refused room for a unit or a character.
+pub fn label_text(alloc: Global, label: &[u8; 72]) -> Result<String, OutOfMemory>
+    ensures ok { IfOk result (λ s. string_bytes s ≡ label_text label.now) }
+    ensures err { IfErr result (λ e. asked e ≤ name_room) }
 {
     let units = label_units(alloc, label)?;
     let shown = shown_units(alloc, &units)?;
-    String::from_utf16_lossy(alloc, &shown)
+    lossy_text(alloc, &shown)
 }
 
 // The units of the label, with its first zero and those after it.
-fn label_units(alloc: Global, label: &[u8; 72]) -> Result<Vec<u16>, AllocError>
-    ensures { IfOk result (λ v. v.items ≡ label_units label.now) }
+fn label_units(alloc: Global, label: &[u8; 72]) -> Result<Vec<u16>, OutOfMemory>
+    ensures ok { IfOk result (λ v. v.items ≡ label_units label.now) }
+    ensures err { IfErr result (λ e. asked e ≤ name_room) }
 {
     let mut units = Vec::new(alloc);
     for index in 0..36_usize {
-        units.push(number16(label, 2 * index))?;
+        push(&mut units, number16(label, 2 * index))?;
     }
     Ok(units)
 }
 
-fn shown_units(alloc: Global, units: &[u16]) -> Result<Vec<u16>, AllocError>
-    ensures { IfOk result (λ v. v.items ≡ map shown_unit (take_while (λ u. not (u == 0)) units.now)) }
+// Those before the first zero, as they are shown.
+fn shown_units(alloc: Global, units: &[u16]) -> Result<Vec<u16>, OutOfMemory>
+    ensures ok { IfOk result (λ v. v.items ≡ map shown_unit (before_zero units.now)) }
+    ensures err { IfErr result (λ e. asked e ≤ name_room) }
 {
-    units
-        .iter()
-        .copied()
-        .take_while(|unit| *unit != 0)
-        .map(shown_unit)
-        .collect(alloc)
+    let mut shown = Vec::new(alloc);
+    for unit in units {
+        if is_end(*unit) {
+            return Ok(shown);
+        }
+        push(&mut shown, shown_unit(*unit))?;
+    }
+    Ok(shown)
+}
+
+fn is_end(unit: u16) -> bool
+    ensures { result ≡ (unit == 0) }
+{
+    unit == 0
 }
 
 fn shown_unit(unit: u16) -> u16

@@ -1,6 +1,7 @@
 //! The partitions of an image: printed, and the stacks over them.
 #![tactic(auto)]
 
+mod characters;
 mod entries;
 mod fault;
 mod fault_text;
@@ -16,6 +17,7 @@ mod print;
 mod refusal;
 mod root;
 mod root_stack;
+mod warnings;
 
 pub use fault::{PartitionsFault, PrintFault};
 pub use fault_text::{partitions_status, say_partitions_fault};

@@ -1,24 +1,32 @@
 //! What the mapped device over a partition is called.
-ghost use Rattle.std.specs.Prelude.{◌≡◌, ◌&&◌, ◌||◌, ◌==◌, not, IfOk, string_bytes};
+ghost use Rattle.std.specs.Prelude.{◌≡◌, ◌&&◌, ◌||◌, ◌==◌, ◌≤◌, not, IfOk, IfErr, string_bytes};
 ghost use Rattle.std.specs.Str.{bytes_eq};
+ghost use Rattle.allocation.specs.Asked.{asked};
 ghost use Rattle.dm_table.specs.Names.{is_mapped_name};
-ghost use Rattle.partition_commands.specs.Labels.{label_text};
+ghost use Rattle.partition_commands.specs.Labels.{label_text, name_room};
 ghost use Rattle.partition_commands.specs.Names.{is_option_like, is_taken, is_taken_by, numbered_name, partition_name};
 
 use crate::label_text;
+use allocation::{OutOfMemory, joined};
 use dm_table::is_mapped_name;
+use itoa::Buffer;
 use partition_table::Partition;
-use std::alloc::{AllocError, Global};
+use std::alloc::Global;
 
 /// Returns the label if it is a name of a mapped device, doesn't begin with `-` and isn't another partition's, and else
 /// `p` and the number.
+///
+/// # Errors
+///
+/// `OutOfMemory` if the allocator refused room for a label or a name.
 #[tactic(auto, unfolding(crate::specs::Names::partition_name))]
 pub fn partition_name(
     alloc: Global,
     partitions: &[Partition],
     partition: &Partition,
-) -> Result<String, AllocError>
-    ensures { IfOk result (λ name. string_bytes name ≡ partition_name partitions.now partition.now) }
+) -> Result<String, OutOfMemory>
+    ensures ok { IfOk result (λ name. string_bytes name ≡ partition_name partitions.now partition.now) }
+    ensures err { IfErr result (λ e. asked e ≤ name_room) }
 {
     let label = label_text(alloc, &partition.label)?;
     if is_mapped_name(label.as_bytes())
@@ -44,8 +52,9 @@ fn is_taken(
     partitions: &[Partition],
     number: u32,
     name: &str,
-) -> Result<bool, AllocError>
-    ensures { IfOk result (λ taken. taken ≡ is_taken partitions.now number name.now) }
+) -> Result<bool, OutOfMemory>
+    ensures ok { IfOk result (λ taken. taken ≡ is_taken partitions.now number name.now) }
+    ensures err { IfErr result (λ e. asked e ≤ name_room) }
 {
     for partition in partitions {
         if is_taken_by(alloc, number, name, partition)? {
@@ -61,8 +70,9 @@ fn is_taken_by(
     number: u32,
     name: &str,
     partition: &Partition,
-) -> Result<bool, AllocError>
-    ensures { IfOk result (λ taken. taken ≡ is_taken_by number name.now partition.now) }
+) -> Result<bool, OutOfMemory>
+    ensures ok { IfOk result (λ taken. taken ≡ is_taken_by number name.now partition.now) }
+    ensures err { IfErr result (λ e. asked e ≤ name_room) }
 {
     let label = label_text(alloc, &partition.label)?;
     let numbered = numbered_name(alloc, partition.number)?;
@@ -70,8 +80,10 @@ fn is_taken_by(
 }
 
 #[tactic(auto, unfolding(crate::specs::Names::numbered_name))]
-fn numbered_name(alloc: Global, number: u32) -> Result<String, AllocError>
-    ensures { IfOk result (λ name. string_bytes name ≡ numbered_name number) }
+fn numbered_name(alloc: Global, number: u32) -> Result<String, OutOfMemory>
+    ensures ok { IfOk result (λ name. string_bytes name ≡ numbered_name number) }
+    ensures err { IfErr result (λ e. asked e ≤ name_room) }
 {
-    format!(in alloc; "p{number}")
+    let mut digits = Buffer::new();
+    joined(alloc, "p", digits.format(number))
 }

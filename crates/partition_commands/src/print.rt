@@ -3,28 +3,33 @@ ghost use Rattle.std.specs.Prelude.{IfErr, OnOk};
 ghost use Rattle.partition_table.specs.Reads.{IsReadAtMost};
 ghost use Rattle.partition_table.specs.Tables.{found_reads};
 ghost use Rattle.partition_commands.specs.Lines.{SaysTable, SaysText, partition_lines};
-ghost use Rattle.partition_commands.specs.Prints.{IsPrintEnd, IsSayEnd, PrintsTableOf};
+ghost use Rattle.partition_commands.specs.Prints.{FailsNoted, IsPrintEnd, IsSayEnd, PrintsTableOf};
+ghost use Rattle.partition_commands.specs.Warnings.{notes_of};
 
 use crate::PrintFault;
 use crate::line::{say_partition, say_source};
+use crate::warnings::find_noted;
 use block_device::BlockDev;
-use partition_table::{Partition, PartitionTable, SectorSize, find_table};
+use partition_table::{Partition, PartitionTable, SectorSize};
 use program_io::Counted;
 use std::alloc::Global;
 use std::io::Write;
 
-/// `partitions IMAGE`: which copies of the device's table are good, and a line for each partition.
-pub fn print_partitions<D: BlockDev, W: Write>(
+/// `partitions IMAGE`: which copies of the device's table are good, and a line for each partition; among the errors, what is
+/// unusual of the table.
+pub fn print_partitions<D: BlockDev, W: Write, E: Write>(
     alloc: Global,
     device: &mut D,
     size: SectorSize,
     writer: &mut Counted<W>,
+    errors: &mut Counted<E>,
 ) -> Result<(), PrintFault>
     ensures read { IsReadAtMost (D.state device.old) found_reads (D.state device.new) }
-    ensures ok { OnOk result (PrintsTableOf D.state device.old device.new W.contents writer.old writer.new size) }
+    ensures ok { OnOk result (PrintsTableOf D.state device.old device.new W.contents writer.old writer.new size (notes_of E.contents errors.old errors.new)) }
     ensures err { IfErr result (IsPrintEnd (D.state device.old) (D.state device.new) size writer.new.failed) }
+    ensures noted { IfErr result (FailsNoted (D.state device.old) size (notes_of E.contents errors.old errors.new)) }
 {
-    let table = find_table(alloc, device, size)?;
+    let table = find_noted(alloc, device, size, errors)?;
     say_table(alloc, writer, &table)
 }
 

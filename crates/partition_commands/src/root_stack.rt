@@ -1,18 +1,21 @@
 //! The command `partitions --root`: the stack that opens a verity image of two partitions.
 ghost use Rattle.std.specs.Prelude.{◌≡◌, ℕ, List, IfErr, IfOk, OnOk};
+ghost use Rattle.device_adapters.specs.Parts.{LiesInside};
 ghost use Rattle.device_adapters.specs.Windows.{windowed};
 ghost use Rattle.verity_format.specs.Verifying.{IsReadFrom};
-ghost use Rattle.partition_commands.specs.Commands.{FailsToFindRoot, IsFitting, IsPairEnd, IsRootTextEnd, IsSayFault, IsPartSuperEnd, PrintsRootOf, SaysRoot};
+ghost use Rattle.partition_commands.specs.Commands.{EndsNoted, FailsToFindRoot, IsFitting, IsPairEnd, IsPartSuperEnd, IsRootSayFault, IsRootTextEnd, NotesImage, PrintsRootOf, SaysRoot};
 ghost use Rattle.partition_commands.specs.Lines.{SaysText};
 ghost use Rattle.partition_commands.specs.RootStacks.{SaysRootStack, is_unfit, root_entry};
+ghost use Rattle.partition_commands.specs.Warnings.{notes_of};
 
 use crate::entries::{say_entry, say_linear_entry};
 use crate::parts::is_within;
+use crate::warnings::find_noted;
 use crate::{ImagePartitions, PartitionRefusal, PartitionsFault, part_of};
 use block_device::BlockDev;
 use device_adapters::{Part, Window};
 use image_files::{Images, open_image};
-use partition_table::{SectorSize, find_table};
+use partition_table::SectorSize;
 use program_io::Counted;
 use std::alloc::Global;
 use std::io::Write;
@@ -24,34 +27,38 @@ use verity_format::{
 
 /// `partitions --root ROOT IMAGE`: the text of a stack with the devices `data` and `hash` over the two partitions of the
 /// root, and `root`, the data blocks checked.
-pub fn root_stack_of_image<'a, I: Images, W: Write>(
+pub fn root_stack_of_image<'a, I: Images, W: Write, E: Write>(
     alloc: Global,
     images: &mut I,
     path: &'a str,
     size: SectorSize,
     root: &Digest,
     writer: &mut Counted<W>,
+    errors: &mut Counted<E>,
 ) -> Result<(), PartitionsFault<'a>>
-    ensures ok { OnOk result (PrintsRootOf I.relations I.Dev.state images.old images.new W.contents writer.old writer.new path.now size root.now) }
+    ensures ok { OnOk result (PrintsRootOf I.relations I.Dev.state images.old images.new W.contents writer.old writer.new path.now size root.now (notes_of E.contents errors.old errors.new)) }
     ensures err { IfErr result (FailsToFindRoot I.relations I.Dev.state images.old images.new writer.new path.now size root.now) }
+    ensures noted { IfErr result (NotesImage I.relations I.Dev.state images.old images.new path.now size (notes_of E.contents errors.old errors.new)) }
 {
     let image = open_image(images, path, false)?;
-    print_root_stack(alloc, image.device, size, root, writer)
+    print_root_stack(alloc, image.device, size, root, writer, errors)
 }
 
 // The same of a device.
-fn print_root_stack<'a, D: BlockDev + Drop, W: Write>(
+fn print_root_stack<'a, D: BlockDev + Drop, W: Write, E: Write>(
     alloc: Global,
     device: D,
     size: SectorSize,
     root: &Digest,
     writer: &mut Counted<W>,
+    errors: &mut Counted<E>,
 ) -> Result<(), PartitionsFault<'a>>
-    ensures ok { OnOk result (SaysRoot D.state device W.contents writer.old writer.new size root.now) }
+    ensures ok { OnOk result (SaysRoot D.state device W.contents writer.old writer.new size root.now (notes_of E.contents errors.old errors.new)) }
     ensures err { IfErr result (IsRootTextEnd size root.now writer.new.failed (D.state device)) }
+    ensures noted { IfErr result (EndsNoted (D.state device) size (notes_of E.contents errors.old errors.new)) }
 {
     let mut device = device;
-    let table = find_table(alloc, &mut device, size)?;
+    let table = find_noted(alloc, &mut device, size, errors)?;
     let both = ImagePartitions::find(&table.partitions, root)?;
     let superblock = superblock_of(device, table.size, &both)?;
     say_root_stack(alloc, writer, table.size, &both, &superblock, root)
@@ -88,7 +95,7 @@ fn is_unfit(size: SectorSize, both: &ImagePartitions, superblock: &Superblock) -
 
 // The superblock at the beginning of a part of a device.
 fn superblock_in<D: BlockDev + Drop>(device: D, part: Part) -> Result<Superblock, PartitionRefusal>
-    ensures ok { IfOk result (λ s. (sector : List ℕ) × IsReadFrom (windowed (D.state device) part) sector s) }
+    ensures ok { IfOk result (λ s. LiesInside (D.state device) part × ((sector : List ℕ) × IsReadFrom (windowed (D.state device) part) sector s)) }
     ensures err { IfErr result (λ refusal. (after : D) × IsPartSuperEnd (D.state device) (D.state after) part refusal) }
 {
     let mut window = match Window::<D, Brand>::new(device, part) {
@@ -109,7 +116,7 @@ fn say_root_stack<'a, W: Write>(
     root: &Digest,
 ) -> Result<(), PartitionsFault<'a>>
     ensures ok { OnOk result (SaysRootStack W.contents writer.old writer.new size both.now superblock.now root.now) }
-    ensures err { IfErr result (IsSayFault writer.new.failed) }
+    ensures err { IfErr result (IsRootSayFault superblock.now root.now writer.new.failed) }
 {
     say_linear_entry(writer, b"data", part_of(size, &both.data))?;
     say_linear_entry(writer, b"hash", part_of(size, &both.verity))?;
@@ -123,7 +130,7 @@ fn say_root_entry<'a, W: Write>(
     root: &Digest,
 ) -> Result<(), PartitionsFault<'a>>
     ensures ok { OnOk result (SaysText W.contents writer.old writer.new (root_entry superblock.now root.now)) }
-    ensures err { IfErr result (IsSayFault writer.new.failed) }
+    ensures err { IfErr result (IsRootSayFault superblock.now root.now writer.new.failed) }
 {
     let line = table_line(
         alloc,

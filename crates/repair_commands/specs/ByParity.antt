@@ -6,6 +6,7 @@ use Rattle.command_line.specs.declared.image_copies.ImageCopy.{ImageCopy}
 use Rattle.command_line.specs.declared.fec_file.FecFile.{FecFile}
 use Rattle.command_line.specs.FecFiles.{FecRecord, fec_record}
 use Rattle.fec_area.specs.declared.layout.Layout.{Layout}
+use Rattle.image_commands.specs.declared.trusted.TrustedRoot.{TrustedRoot}
 use Rattle.image_files.specs.declared.opening.UnopenedFile.{UnopenedFile}
 use Rattle.image_files.specs.Opener.{Calls, Opener, calls}
 use Rattle.verity_commands.specs.declared.tree_fault.TreeFault.{TreeFault}
@@ -91,7 +92,7 @@ pub record OpensAllWithParity {S D : Type 0} (w : Calls S D) (p : Places) (fec :
   pub parity_opens : OpensParity (record w { old = between }) p.write o fec parity
 
 -- all is open, the hash image's last hash blocks were looked at, and it was repaired and given back
-pub record MendsFilesByParity {S D : Type 0} (w : Calls S D) (p : Places) (fec : FecRecord) (copies : List ImageCopy) (root : List ℕ) (old new : Option (List ℕ)) (outcome : Outcome) : Type 0 where
+pub record MendsFilesByParity {S D : Type 0} (w : Calls S D) (p : Places) (fec : FecRecord) (copies : List ImageCopy) (trusted : TrustedRoot) (old new : Option (List ℕ)) (outcome : Outcome) : Type 0 where
   pub ready : S
   pub before : Opened D
   pub opened : Opened D
@@ -99,17 +100,17 @@ pub record MendsFilesByParity {S D : Type 0} (w : Calls S D) (p : Places) (fec :
   pub whole : Bool
   pub found : Outcome
   pub opens : OpensAllWithParity (record w { new = ready }) p fec copies before parity
-  pub passes : PassesOpened w.state root before opened whole
-  pub mends : MendsOpenedByParity (record w { old = ready }) p opened parity root old new found
+  pub passes : PassesOpened w.state trusted before opened whole
+  pub mends : MendsOpenedByParity (record w { old = ready }) p opened parity trusted.root old new found
   pub known : outcome ≡ known_by whole found
 
 -- and then it was told what is still lost, and that is nothing
-pub record RepairsByParity {S D : Type 0} (w : Calls S D) (p : Places) (fec : FecRecord) (copies : List ImageCopy) (root : List ℕ) (old new : Option (List ℕ)) : Type 0 where
+pub record RepairsByParity {S D : Type 0} (w : Calls S D) (p : Places) (fec : FecRecord) (copies : List ImageCopy) (trusted : TrustedRoot) (old new : Option (List ℕ)) : Type 0 where
   pub mended : S
   pub between : Option (List ℕ)
   pub outcome : Outcome
-  pub mends : MendsFilesByParity (record w { new = mended }) p fec copies root old between outcome
-  pub tells : TellsRest outcome (record w { old = mended }) p root between new
+  pub mends : MendsFilesByParity (record w { new = mended }) p fec copies trusted old between outcome
+  pub tells : TellsRest outcome (record w { old = mended }) p trusted between new
 
 -- ---- how it ends early
 
@@ -131,41 +132,41 @@ pub record EndsWithoutParity {S D : Type 0} (w : Calls S D) (p : Places) (fec : 
   pub is : fault ≡ Tree (Open file)
 
 -- all is open, and the image is refused before anything is written or printed
-pub record EndsRefusedByParity {S D : Type 0} (w : Calls S D) (p : Places) (fec : FecRecord) (copies : List ImageCopy) (root : List ℕ) (old new : Option (List ℕ)) (fault : ParityRepairFault) : Type 0 where
+pub record EndsRefusedByParity {S D : Type 0} (w : Calls S D) (p : Places) (fec : FecRecord) (copies : List ImageCopy) (trusted : TrustedRoot) (old new : Option (List ℕ)) (fault : ParityRepairFault) : Type 0 where
   pub before : Opened D
   pub opened : Opened D
   pub parity : Parity D
   pub opens : OpensAllWithParity w p fec copies before parity
   pub cause : TreeFault
-  pub refuses : RefusesOpened w.state root before opened cause
+  pub refuses : RefusesOpened w.state trusted before opened cause
   pub quiet : new ≡ old
   pub is : fault ≡ Tree cause
 
 -- it isn't, and not repaired to the end
-pub record EndsUnmendedByParity {S D : Type 0} (w : Calls S D) (p : Places) (fec : FecRecord) (copies : List ImageCopy) (root : List ℕ) (old new : Option (List ℕ)) (fault : ParityRepairFault) : Type 0 where
+pub record EndsUnmendedByParity {S D : Type 0} (w : Calls S D) (p : Places) (fec : FecRecord) (copies : List ImageCopy) (trusted : TrustedRoot) (old new : Option (List ℕ)) (fault : ParityRepairFault) : Type 0 where
   pub ready : S
   pub before : Opened D
   pub opened : Opened D
   pub parity : Parity D
   pub whole : Bool
   pub opens : OpensAllWithParity (record w { new = ready }) p fec copies before parity
-  pub passes : PassesOpened w.state root before opened whole
-  pub half : HalfMendsOpenedByParity (record w { old = ready }) p opened parity root old new fault
+  pub passes : PassesOpened w.state trusted before opened whole
+  pub half : HalfMendsOpenedByParity (record w { old = ready }) p opened parity trusted.root old new fault
 
 -- it is, and then that isn't told to its end, or not all of it is good
-pub record EndsBehindByParity {S D : Type 0} (w : Calls S D) (p : Places) (fec : FecRecord) (copies : List ImageCopy) (root : List ℕ) (old new : Option (List ℕ)) (failed : Bool) (fault : ParityRepairFault) : Type 0 where
+pub record EndsBehindByParity {S D : Type 0} (w : Calls S D) (p : Places) (fec : FecRecord) (copies : List ImageCopy) (trusted : TrustedRoot) (old new : Option (List ℕ)) (failed : Bool) (fault : ParityRepairFault) : Type 0 where
   pub mended : S
   pub between : Option (List ℕ)
   pub outcome : Outcome
-  pub mends : MendsFilesByParity (record w { new = mended }) p fec copies root old between outcome
+  pub mends : MendsFilesByParity (record w { new = mended }) p fec copies trusted old between outcome
   pub cause : TreeFault
-  pub ends : IsRestEnd outcome (record w { old = mended }) p root between new failed cause
+  pub ends : IsRestEnd outcome (record w { old = mended }) p trusted between new failed cause
   pub is : fault ≡ Tree cause
 
-abbrev pub IsParityRepairEnd : {S D : Type 0} → Calls S D → Places → FecRecord → List ImageCopy → List ℕ → Option (List ℕ) → Option (List ℕ) → Bool → ParityRepairFault → Type 0
-IsParityRepairEnd w p fec copies root old new failed fault =
-    EndsUnopenedByParity w p copies old new fault ⊎ (EndsWithoutParity w p fec copies old new fault ⊎ (EndsRefusedByParity w p fec copies root old new fault
-    ⊎ (EndsUnmendedByParity w p fec copies root old new fault ⊎ EndsBehindByParity w p fec copies root old new failed fault)))
+abbrev pub IsParityRepairEnd : {S D : Type 0} → Calls S D → Places → FecRecord → List ImageCopy → TrustedRoot → Option (List ℕ) → Option (List ℕ) → Bool → ParityRepairFault → Type 0
+IsParityRepairEnd w p fec copies trusted old new failed fault =
+    EndsUnopenedByParity w p copies old new fault ⊎ (EndsWithoutParity w p fec copies old new fault ⊎ (EndsRefusedByParity w p fec copies trusted old new fault
+    ⊎ (EndsUnmendedByParity w p fec copies trusted old new fault ⊎ EndsBehindByParity w p fec copies trusted old new failed fault)))
 
 -- ---- the same by what an opener does, a writer before and behind, and the words
 
@@ -179,12 +180,12 @@ abbrev pub IsPairHalfMendedByFec : {S D W : Type 0} → Opener S D → (D → De
 IsPairHalfMendedByFec relations state old new places o parity root contents before behind fault =
     HalfMendsOpenedByParity (calls relations state old new) (places_of places) o parity root (contents before.inner) (contents behind.inner) fault
 
-abbrev pub AreRepairedByFec : {S D W : Type 0} → Opener S D → (D → Device) → S → S → RepairPlaces → FecFile → List ImageCopy → List ℕ
+abbrev pub AreRepairedByFec : {S D W : Type 0} → Opener S D → (D → Device) → S → S → RepairPlaces → FecFile → List ImageCopy → TrustedRoot
     → (W → Option (List ℕ)) → CountedRecord W → CountedRecord W → Type 0
-AreRepairedByFec relations state old new places fec copies root contents before behind =
-    RepairsByParity (calls relations state old new) (places_of places) (fec_record fec) copies root (contents before.inner) (contents behind.inner)
+AreRepairedByFec relations state old new places fec copies trusted contents before behind =
+    RepairsByParity (calls relations state old new) (places_of places) (fec_record fec) copies trusted (contents before.inner) (contents behind.inner)
 
-abbrev pub AreUnrepairedByFec : {S D W : Type 0} → Opener S D → (D → Device) → S → S → RepairPlaces → FecFile → List ImageCopy → List ℕ
+abbrev pub AreUnrepairedByFec : {S D W : Type 0} → Opener S D → (D → Device) → S → S → RepairPlaces → FecFile → List ImageCopy → TrustedRoot
     → (W → Option (List ℕ)) → CountedRecord W → CountedRecord W → ParityRepairFault → Type 0
-AreUnrepairedByFec relations state old new places fec copies root contents before behind fault =
-    IsParityRepairEnd (calls relations state old new) (places_of places) (fec_record fec) copies root (contents before.inner) (contents behind.inner) behind.failed fault
+AreUnrepairedByFec relations state old new places fec copies trusted contents before behind fault =
+    IsParityRepairEnd (calls relations state old new) (places_of places) (fec_record fec) copies trusted (contents before.inner) (contents behind.inner) behind.failed fault

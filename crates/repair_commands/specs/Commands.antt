@@ -3,6 +3,7 @@ use Rattle.std.specs.Prelude.{◌≡◌, ◌⊎◌, ℕ, Bool, true, false, List
 use Rattle.block_device.specs.Device.{Device}
 use Rattle.program_io.specs.Counted.{CountedRecord}
 use Rattle.command_line.specs.declared.image_copies.ImageCopy.{ImageCopy}
+use Rattle.image_commands.specs.declared.trusted.TrustedRoot.{TrustedRoot}
 use Rattle.image_files.specs.Opener.{Calls, Opener, calls}
 use Rattle.verity_commands.specs.declared.tree_fault.TreeFault.{TreeFault}
 use Rattle.tree_repair.specs.declared.outcome.Outcome.{Outcome}
@@ -60,30 +61,31 @@ pub record HalfMendsOpened {S D : Type 0} (w : Calls S D) (p : Places) (o : Open
 abbrev pub with_hash : {D : Type 0} → Opened D → D → Opened D
 with_hash o device = record o { pair = record o.pair { hash_image = record o.pair.hash_image { device = device } } }
 
--- its hash device was read, and none of its good hash blocks on the way to the last data block holds anything after its last used entry
-pub record PassesOpened {D : Type 0} (state : D → Device) (root : List ℕ) (before o : Opened D) (whole : Bool) : Type 0 where
+-- its hash device was read, the superblock has the values of the pin, if there is one, and none of the good hash blocks on the way to
+-- the last data block holds anything after its last used entry
+pub record PassesOpened {D : Type 0} (state : D → Device) (trusted : TrustedRoot) (before o : Opened D) (whole : Bool) : Type 0 where
   pub rest_is : o ≡ with_hash before o.pair.hash_image.device
   pub read : IsOnlyRead (state before.pair.hash_image.device) (state o.pair.hash_image.device)
-  pub passed : IsUnusedPassed root (state before.pair.hash_image.device) (state o.pair.hash_image.device) whole
+  pub passed : IsUnusedPassed trusted (state before.pair.hash_image.device) (state o.pair.hash_image.device) whole
 
 -- or the image is refused; of the devices that one alone was asked, and only read
-pub record RefusesOpened {D : Type 0} (state : D → Device) (root : List ℕ) (before o : Opened D) (fault : TreeFault) : Type 0 where
+pub record RefusesOpened {D : Type 0} (state : D → Device) (trusted : TrustedRoot) (before o : Opened D) (fault : TreeFault) : Type 0 where
   pub rest_is : o ≡ with_hash before o.pair.hash_image.device
   pub read : IsOnlyRead (state before.pair.hash_image.device) (state o.pair.hash_image.device)
-  pub cause : IsUnusedCause root (state before.pair.hash_image.device) (state o.pair.hash_image.device) fault
+  pub cause : IsUnusedCause trusted (state before.pair.hash_image.device) (state o.pair.hash_image.device) fault
 
 -- ---- from the words on
 
 -- The images and the copies were opened, the hash image's last hash blocks looked at, and the images repaired and given back.
-pub record MendsFiles {S D : Type 0} (w : Calls S D) (p : Places) (copies : List ImageCopy) (root : List ℕ) (old new : Option (List ℕ)) (outcome : Outcome) : Type 0 where
+pub record MendsFiles {S D : Type 0} (w : Calls S D) (p : Places) (copies : List ImageCopy) (trusted : TrustedRoot) (old new : Option (List ℕ)) (outcome : Outcome) : Type 0 where
   pub ready : S
   pub before : Opened D
   pub opened : Opened D
   pub whole : Bool
   pub found : Outcome
   pub opens : OpensAll (record w { new = ready }) p copies before
-  pub passes : PassesOpened w.state root before opened whole
-  pub mends : MendsOpened (record w { old = ready }) p opened root old new found
+  pub passes : PassesOpened w.state trusted before opened whole
+  pub mends : MendsOpened (record w { old = ready }) p opened trusted.root old new found
   pub known : outcome ≡ known_by whole found
 
 -- a file isn't opened, and nothing was written or printed
@@ -92,47 +94,47 @@ pub record EndsUnopenedRepair {S D : Type 0} (w : Calls S D) (p : Places) (copie
   pub quiet : new ≡ old
 
 -- all are open, and the image is refused before anything is written or printed
-pub record EndsRefused {S D : Type 0} (w : Calls S D) (p : Places) (copies : List ImageCopy) (root : List ℕ) (old new : Option (List ℕ)) (fault : TreeFault) : Type 0 where
+pub record EndsRefused {S D : Type 0} (w : Calls S D) (p : Places) (copies : List ImageCopy) (trusted : TrustedRoot) (old new : Option (List ℕ)) (fault : TreeFault) : Type 0 where
   pub before : Opened D
   pub opened : Opened D
   pub opens : OpensAll w p copies before
-  pub refuses : RefusesOpened w.state root before opened fault
+  pub refuses : RefusesOpened w.state trusted before opened fault
   pub quiet : new ≡ old
 
 -- it isn't, and not repaired to the end
-pub record EndsUnmended {S D : Type 0} (w : Calls S D) (p : Places) (copies : List ImageCopy) (root : List ℕ) (old new : Option (List ℕ)) (fault : TreeFault) : Type 0 where
+pub record EndsUnmended {S D : Type 0} (w : Calls S D) (p : Places) (copies : List ImageCopy) (trusted : TrustedRoot) (old new : Option (List ℕ)) (fault : TreeFault) : Type 0 where
   pub ready : S
   pub before : Opened D
   pub opened : Opened D
   pub whole : Bool
   pub opens : OpensAll (record w { new = ready }) p copies before
-  pub passes : PassesOpened w.state root before opened whole
-  pub half : HalfMendsOpened (record w { old = ready }) p opened root old new fault
+  pub passes : PassesOpened w.state trusted before opened whole
+  pub half : HalfMendsOpened (record w { old = ready }) p opened trusted.root old new fault
 
-abbrev pub IsMendingEnd : {S D : Type 0} → Calls S D → Places → List ImageCopy → List ℕ → Option (List ℕ) → Option (List ℕ) → TreeFault → Type 0
-IsMendingEnd w p copies root old new fault = EndsUnopenedRepair w p copies old new fault ⊎ (EndsRefused w p copies root old new fault ⊎ EndsUnmended w p copies root old new fault)
+abbrev pub IsMendingEnd : {S D : Type 0} → Calls S D → Places → List ImageCopy → TrustedRoot → Option (List ℕ) → Option (List ℕ) → TreeFault → Type 0
+IsMendingEnd w p copies trusted old new fault = EndsUnopenedRepair w p copies old new fault ⊎ (EndsRefused w p copies trusted old new fault ⊎ EndsUnmended w p copies trusted old new fault)
 
 -- ---- and what is still lost
 
 -- behind that it was told what is still lost, and that is nothing
-pub record RepairsFiles {S D : Type 0} (w : Calls S D) (p : Places) (copies : List ImageCopy) (root : List ℕ) (old new : Option (List ℕ)) : Type 0 where
+pub record RepairsFiles {S D : Type 0} (w : Calls S D) (p : Places) (copies : List ImageCopy) (trusted : TrustedRoot) (old new : Option (List ℕ)) : Type 0 where
   pub mended : S
   pub between : Option (List ℕ)
   pub outcome : Outcome
-  pub mends : MendsFiles (record w { new = mended }) p copies root old between outcome
-  pub tells : TellsRest outcome (record w { old = mended }) p root between new
+  pub mends : MendsFiles (record w { new = mended }) p copies trusted old between outcome
+  pub tells : TellsRest outcome (record w { old = mended }) p trusted between new
 
 -- or that isn't told to its end, or not all of it is good
-pub record EndsBehind {S D : Type 0} (w : Calls S D) (p : Places) (copies : List ImageCopy) (root : List ℕ) (old new : Option (List ℕ)) (failed : Bool) (fault : TreeFault) : Type 0 where
+pub record EndsBehind {S D : Type 0} (w : Calls S D) (p : Places) (copies : List ImageCopy) (trusted : TrustedRoot) (old new : Option (List ℕ)) (failed : Bool) (fault : TreeFault) : Type 0 where
   pub mended : S
   pub between : Option (List ℕ)
   pub outcome : Outcome
-  pub mends : MendsFiles (record w { new = mended }) p copies root old between outcome
-  pub ends : IsRestEnd outcome (record w { old = mended }) p root between new failed fault
+  pub mends : MendsFiles (record w { new = mended }) p copies trusted old between outcome
+  pub ends : IsRestEnd outcome (record w { old = mended }) p trusted between new failed fault
 
 -- it isn't repaired to the end, or is, and that comes behind
-abbrev pub IsRepairEnd : {S D : Type 0} → Calls S D → Places → List ImageCopy → List ℕ → Option (List ℕ) → Option (List ℕ) → Bool → TreeFault → Type 0
-IsRepairEnd w p copies root old new failed fault = IsMendingEnd w p copies root old new fault ⊎ EndsBehind w p copies root old new failed fault
+abbrev pub IsRepairEnd : {S D : Type 0} → Calls S D → Places → List ImageCopy → TrustedRoot → Option (List ℕ) → Option (List ℕ) → Bool → TreeFault → Type 0
+IsRepairEnd w p copies trusted old new failed fault = IsMendingEnd w p copies trusted old new fault ⊎ EndsBehind w p copies trusted old new failed fault
 
 -- ---- the same by what an opener does, a writer before and behind, and the words
 
@@ -147,11 +149,11 @@ abbrev pub IsPairHalfMended : {S D W : Type 0} → Opener S D → (D → Device)
 IsPairHalfMended relations state old new places o root contents before behind fault =
     HalfMendsOpened (calls relations state old new) (places_of places) o root (contents before.inner) (contents behind.inner) fault
 
-abbrev pub AreRepaired : {S D W : Type 0} → Opener S D → (D → Device) → S → S → RepairPlaces → List ImageCopy → List ℕ → (W → Option (List ℕ)) → CountedRecord W → CountedRecord W → Type 0
-AreRepaired relations state old new places copies root contents before behind =
-    RepairsFiles (calls relations state old new) (places_of places) copies root (contents before.inner) (contents behind.inner)
+abbrev pub AreRepaired : {S D W : Type 0} → Opener S D → (D → Device) → S → S → RepairPlaces → List ImageCopy → TrustedRoot → (W → Option (List ℕ)) → CountedRecord W → CountedRecord W → Type 0
+AreRepaired relations state old new places copies trusted contents before behind =
+    RepairsFiles (calls relations state old new) (places_of places) copies trusted (contents before.inner) (contents behind.inner)
 
-abbrev pub AreUnrepaired : {S D W : Type 0} → Opener S D → (D → Device) → S → S → RepairPlaces → List ImageCopy → List ℕ
+abbrev pub AreUnrepaired : {S D W : Type 0} → Opener S D → (D → Device) → S → S → RepairPlaces → List ImageCopy → TrustedRoot
     → (W → Option (List ℕ)) → CountedRecord W → CountedRecord W → TreeFault → Type 0
-AreUnrepaired relations state old new places copies root contents before behind fault =
-    IsRepairEnd (calls relations state old new) (places_of places) copies root (contents before.inner) (contents behind.inner) behind.failed fault
+AreUnrepaired relations state old new places copies trusted contents before behind fault =
+    IsRepairEnd (calls relations state old new) (places_of places) copies trusted (contents before.inner) (contents behind.inner) behind.failed fault

@@ -3,6 +3,7 @@ use Rattle.std.specs.Prelude.{◌≡◌, ℕ, ◌%◌, ◌==◌, Bool, true, fal
 use Rattle.std.specs.Io.KnownBytes.{Appends}
 use Rattle.block_device.specs.Device.{Device}
 use Rattle.program_io.specs.Counted.{CountedRecord}
+use Rattle.image_commands.specs.declared.trusted.TrustedRoot.{TrustedRoot}
 use Rattle.image_commands.specs.Places.{TwoPlaces}
 use Rattle.image_files.specs.Opener.{Calls, Opener, calls}
 use Rattle.verity_commands.specs.declared.tree_fault.TreeFault.{TreeFault}
@@ -35,27 +36,27 @@ known_good Partly first = None
 
 -- Where they are known the totals were printed, and no file was opened. Else the image was gone over as by `verify --all`, and all
 -- of it is good.
-abbrev pub TellsKnown : {S D : Type 0} → Option ℕ → Calls S D → Places → List ℕ → Option (List ℕ) → Option (List ℕ) → Type 0
-TellsKnown (Some count) w p root old new = (w.new ≡ w.old) × Appends old new (survey_totals (all_good_totals count))
-TellsKnown None w p root old new = PrintsGood false w (surveyed p) root old new
+abbrev pub TellsKnown : {S D : Type 0} → Option ℕ → Calls S D → Places → TrustedRoot → Option (List ℕ) → Option (List ℕ) → Type 0
+TellsKnown (Some count) w p trusted old new = (w.new ≡ w.old) × Appends old new (survey_totals (all_good_totals count))
+TellsKnown None w p trusted old new = PrintsGood false w (surveyed p) trusted old new
 
 -- they couldn't be printed; or the image wasn't gone over, or not all of it is good
-abbrev pub IsKnownEnd : {S D : Type 0} → Option ℕ → Calls S D → Places → List ℕ → Option (List ℕ) → Option (List ℕ) → Bool → TreeFault → Type 0
-IsKnownEnd (Some count) w p root old new failed fault = (w.new ≡ w.old) × ((fault ≡ Write) × (failed ≡ true))
-IsKnownEnd None w p root old new failed fault = IsSurveyFilesEnd false w (surveyed p) root old new failed fault
+abbrev pub IsKnownEnd : {S D : Type 0} → Option ℕ → Calls S D → Places → TrustedRoot → Option (List ℕ) → Option (List ℕ) → Bool → TreeFault → Type 0
+IsKnownEnd (Some count) w p trusted old new failed fault = (w.new ≡ w.old) × ((fault ≡ Write) × (failed ≡ true))
+IsKnownEnd None w p trusted old new failed fault = IsSurveyFilesEnd false w (surveyed p) trusted old new failed fault
 
-abbrev pub TellsRest : {S D : Type 0} → Outcome → Calls S D → Places → List ℕ → Option (List ℕ) → Option (List ℕ) → Type 0
-TellsRest outcome w p root old new = TellsKnown (known_good outcome p.first) w p root old new
+abbrev pub TellsRest : {S D : Type 0} → Outcome → Calls S D → Places → TrustedRoot → Option (List ℕ) → Option (List ℕ) → Type 0
+TellsRest outcome w p trusted old new = TellsKnown (known_good outcome p.first) w p trusted old new
 
-abbrev pub IsRestEnd : {S D : Type 0} → Outcome → Calls S D → Places → List ℕ → Option (List ℕ) → Option (List ℕ) → Bool → TreeFault → Type 0
-IsRestEnd outcome w p root old new failed fault = IsKnownEnd (known_good outcome p.first) w p root old new failed fault
+abbrev pub IsRestEnd : {S D : Type 0} → Outcome → Calls S D → Places → TrustedRoot → Option (List ℕ) → Option (List ℕ) → Bool → TreeFault → Type 0
+IsRestEnd outcome w p trusted old new failed fault = IsKnownEnd (known_good outcome p.first) w p trusted old new failed fault
 
 -- ---- the same by what an opener does, a writer before and behind, and the places of the words
 
-abbrev pub IsRestTold : {S D W : Type 0} → Outcome → Opener S D → (D → Device) → S → S → RepairPlaces → List ℕ → (W → Option (List ℕ)) → CountedRecord W → CountedRecord W → Type 0
-IsRestTold outcome relations state old new places root contents before behind =
-    TellsRest outcome (calls relations state old new) (places_of places) root (contents before.inner) (contents behind.inner)
+abbrev pub IsRestTold : {S D W : Type 0} → Outcome → Opener S D → (D → Device) → S → S → RepairPlaces → TrustedRoot → (W → Option (List ℕ)) → CountedRecord W → CountedRecord W → Type 0
+IsRestTold outcome relations state old new places trusted contents before behind =
+    TellsRest outcome (calls relations state old new) (places_of places) trusted (contents before.inner) (contents behind.inner)
 
-abbrev pub IsRestUntold : {S D W : Type 0} → Outcome → Opener S D → (D → Device) → S → S → RepairPlaces → List ℕ → (W → Option (List ℕ)) → CountedRecord W → CountedRecord W → TreeFault → Type 0
-IsRestUntold outcome relations state old new places root contents before behind fault =
-    IsRestEnd outcome (calls relations state old new) (places_of places) root (contents before.inner) (contents behind.inner) behind.failed fault
+abbrev pub IsRestUntold : {S D W : Type 0} → Outcome → Opener S D → (D → Device) → S → S → RepairPlaces → TrustedRoot → (W → Option (List ℕ)) → CountedRecord W → CountedRecord W → TreeFault → Type 0
+IsRestUntold outcome relations state old new places trusted contents before behind fault =
+    IsRestEnd outcome (calls relations state old new) (places_of places) trusted (contents before.inner) (contents behind.inner) behind.failed fault

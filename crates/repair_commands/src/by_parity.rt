@@ -18,6 +18,7 @@ use block_device::{BlockDev, SyncDev};
 use command_line::{FecFile, ImageCopy};
 use device_adapters::Watchers;
 use fec_area::Layout;
+use image_commands::TrustedRoot;
 use image_files::Images;
 use program_io::Counted;
 use std::alloc::Global;
@@ -35,24 +36,24 @@ pub fn repair_by_parity<'a, I: Images, S: Watchers, W: Write>(
     places: RepairPlaces<'a>,
     fec: &FecFile<'a>,
     copies: &[ImageCopy<'a>],
-    root: &Digest,
+    trusted: &TrustedRoot,
     writer: &mut Counted<W>,
 ) -> Result<(), ParityRepairFault<'a>>
     requires first { places.hash_first ≤ 2 ^ 55 }
     requires some { 2 ≤ fec.now.roots }
     requires few { fec.now.roots ≤ 24 }
-    ensures ok { OnOk result (AreRepairedByFec I.relations I.Dev.state images.old images.new places.entry fec.now copies.now root.now W.contents writer.old writer.new) }
-    ensures err { IfErr result (AreUnrepairedByFec I.relations I.Dev.state images.old images.new places.entry fec.now copies.now root.now W.contents writer.old writer.new) }
+    ensures ok { OnOk result (AreRepairedByFec I.relations I.Dev.state images.old images.new places.entry fec.now copies.now trusted.now W.contents writer.old writer.new) }
+    ensures err { IfErr result (AreUnrepairedByFec I.relations I.Dev.state images.old images.new places.entry fec.now copies.now trusted.now W.contents writer.old writer.new) }
 {
     let mut opened = open_all(alloc, images, places, copies)?;
     let parity = match open_parity(images, places.write, &opened, fec) {
         Ok(parity) => parity,
         Err(file) => return Err(ParityRepairFault::Tree(TreeFault::Open(file))),
     };
-    let whole = check_unused(alloc, &mut opened.pair.hash_image.device, root)?;
-    let outcome = mend_opened(alloc, images, places, opened, parity, root, writer)?;
+    let whole = check_unused(alloc, &mut opened.pair.hash_image.device, trusted)?;
+    let outcome = mend_opened(alloc, images, places, opened, parity, &trusted.root, writer)?;
     let known = known_by(whole, outcome);
-    say_rest(alloc, images, watchers, places, known, root, writer)?;
+    say_rest(alloc, images, watchers, places, known, trusted, writer)?;
     Ok(())
 }
 

@@ -11,6 +11,7 @@ use crate::rest::{known_by, say_rest};
 use crate::unused::check_unused;
 use command_line::ImageCopy;
 use device_adapters::Watchers;
+use image_commands::TrustedRoot;
 use image_files::Images;
 use program_io::Counted;
 use std::alloc::Global;
@@ -29,18 +30,18 @@ pub fn repair_images<'a, I: Images, S: Watchers, W: Write>(
     watchers: &S,
     places: RepairPlaces<'a>,
     copies: &[ImageCopy<'a>],
-    root: &Digest,
+    trusted: &TrustedRoot,
     writer: &mut Counted<W>,
 ) -> Result<(), TreeFault<'a>>
     requires { places.hash_first ≤ 2 ^ 55 }
-    ensures ok { OnOk result (AreRepaired I.relations I.Dev.state images.old images.new places.entry copies.now root.now W.contents writer.old writer.new) }
-    ensures err { IfErr result (AreUnrepaired I.relations I.Dev.state images.old images.new places.entry copies.now root.now W.contents writer.old writer.new) }
+    ensures ok { OnOk result (AreRepaired I.relations I.Dev.state images.old images.new places.entry copies.now trusted.now W.contents writer.old writer.new) }
+    ensures err { IfErr result (AreUnrepaired I.relations I.Dev.state images.old images.new places.entry copies.now trusted.now W.contents writer.old writer.new) }
 {
     let mut opened = open_all(alloc, images, places, copies)?;
-    let whole = check_unused(alloc, &mut opened.pair.hash_image.device, root)?;
-    let outcome = mend_opened(alloc, images, places, opened, root, writer)?;
+    let whole = check_unused(alloc, &mut opened.pair.hash_image.device, trusted)?;
+    let outcome = mend_opened(alloc, images, places, opened, &trusted.root, writer)?;
     let known = known_by(whole, outcome);
-    say_rest(alloc, images, watchers, places, known, root, writer)
+    say_rest(alloc, images, watchers, places, known, trusted, writer)
 }
 
 // Repairs what is open, and gives the images back, however that ends.

@@ -6,12 +6,12 @@ ghost use Rattle.repair_commands.specs.Rest.{IsRestTold, IsRestUntold, all_good_
 
 use crate::pair::RepairPlaces;
 use device_adapters::Watchers;
+use image_commands::TrustedRoot;
 use image_files::Images;
 use program_io::{Counted, WriteFault};
 use std::alloc::Global;
 use std::io::Write;
 use tree_repair::Outcome;
-use tree_shape::Digest;
 use tree_survey::Totals;
 use verity_commands::{SurveyOrder, TreeFault, say_totals, survey_images};
 
@@ -25,11 +25,11 @@ pub(crate) fn say_rest<'a, I: Images, S: Watchers, W: Write>(
     watchers: &S,
     places: RepairPlaces<'a>,
     outcome: Outcome,
-    root: &Digest,
+    trusted: &TrustedRoot,
     writer: &mut Counted<W>,
 ) -> Result<(), TreeFault<'a>>
-    ensures ok { OnOk result (IsRestTold outcome I.relations I.Dev.state images.old images.new places.entry root.now W.contents writer.old writer.new) }
-    ensures err { IfErr result (IsRestUntold outcome I.relations I.Dev.state images.old images.new places.entry root.now W.contents writer.old writer.new) }
+    ensures ok { OnOk result (IsRestTold outcome I.relations I.Dev.state images.old images.new places.entry trusted.now W.contents writer.old writer.new) }
+    ensures err { IfErr result (IsRestUntold outcome I.relations I.Dev.state images.old images.new places.entry trusted.now W.contents writer.old writer.new) }
 {
     let RepairPlaces {
         data,
@@ -46,7 +46,7 @@ pub(crate) fn say_rest<'a, I: Images, S: Watchers, W: Write>(
     };
     match known_good(outcome, hash_first) {
         Some(count) => Ok(say_all_good(writer, count)?),
-        None => survey_images(alloc, images, watchers, order, root, writer),
+        None => survey_images(alloc, images, watchers, order, trusted, writer),
     }
 }
 

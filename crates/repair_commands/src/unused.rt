@@ -1,11 +1,11 @@
-//! What an image holds after the last used entries of its hash blocks, read before anything is written.
+//! What an image holds after the last used entries of its hash blocks, and whether it is the pin's, read before anything is written.
 ghost use Rattle.std.specs.Prelude.{IfErr, IfOk};
 ghost use Rattle.verity_format.specs.Blocks.{IsOnlyRead};
 ghost use Rattle.repair_commands.specs.Unused.{IsUnusedCauseBy, IsUnusedPassedBy};
 
 use block_device::BlockDev;
+use image_commands::{TrustedRoot, mismatch_of};
 use std::alloc::Global;
-use tree_shape::Digest;
 use tree_survey::{SurveyFault, Unused, read_unused};
 use verity_commands::TreeFault;
 use verity_format::{VerifyFault, read_superblock, tree_sectors};
@@ -16,23 +16,27 @@ use verity_format::{VerifyFault, read_superblock, tree_sectors};
 /// # Errors
 ///
 /// `UnusedEntries` if a good one holds something else: the superblock has fewer data blocks than the image that was formatted.
-/// The superblock's fault if there is none. `NoMemory` if an allocation of at most 4,096 elements was refused.
+/// `Unpinned` if the superblock differs from the pin. The superblock's fault if there is none. `NoMemory` if an allocation of at most 4,096 elements was refused.
 pub(crate) fn check_unused<'a, H: BlockDev>(
     alloc: Global,
     hash_dev: &mut H,
-    root: &Digest,
+    trusted: &TrustedRoot,
 ) -> Result<bool, TreeFault<'a>>
     ensures read { IsOnlyRead (H.state hash_dev.old) (H.state hash_dev.new) }
-    ensures ok { IfOk result (IsUnusedPassedBy H.state root.now hash_dev.old hash_dev.new) }
-    ensures err { IfErr result (IsUnusedCauseBy H.state root.now hash_dev.old hash_dev.new) }
+    ensures ok { IfOk result (IsUnusedPassedBy H.state trusted.now hash_dev.old hash_dev.new) }
+    ensures err { IfErr result (IsUnusedCauseBy H.state trusted.now hash_dev.old hash_dev.new) }
 {
     let superblock = read_superblock(hash_dev)?;
+    match mismatch_of(&trusted.pin, &superblock) {
+        Some(mismatch) => return Err(TreeFault::Unpinned(mismatch)),
+        None => {}
+    }
     let shape = superblock.shape();
     let needed = tree_sectors(&shape);
     if hash_dev.sectors() < needed {
         return Ok(false);
     }
-    let Ok(found) = read_unused(alloc, hash_dev, &superblock, root) else {
+    let Ok(found) = read_unused(alloc, hash_dev, &superblock, &trusted.root) else {
         return Err(TreeFault::Survey(SurveyFault::Image(VerifyFault::NoMemory)));
     };
     match found {

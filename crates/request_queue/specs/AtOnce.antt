@@ -1,5 +1,6 @@
 -- Writes at once: which sectors they put, and their pieces as steps.
-use Rattle.std.specs.Prelude.{◌≡◌, ℕ, ◌+◌, ◌/◌, IsTrue, List, [], ◌++◌, length, Result, Ok, Err}
+use Rattle.std.specs.Prelude.{◌≡◌, ℕ, ◌+◌, ◌*◌, ◌/◌, ◌%◌, ◌≤◌, IsTrue, List, [], ◌++◌, length, Result, Ok, Err}
+use Rattle.alignment.specs.Lengths.{aligned_len}
 use Rattle.stack_rules.specs.Names.{mapped, may_write}
 use Rattle.stack_rules.specs.Records.{Configuration}
 use Rattle.stack_meaning.specs.declared.fault.IoFault.{IoFault}
@@ -10,7 +11,7 @@ use Rattle.request_queue.specs.declared.fault.SubmitFault.{SubmitFault}
 use Rattle.request_queue.specs.declared.range.SectorRange.{SectorRange}
 use Rattle.request_queue.specs.Flights.{FlightRecord}
 use Rattle.request_queue.specs.Parts.{EachPart}
-use Rattle.request_queue.specs.Ranges.{HaveSectors, bytes_range}
+use Rattle.request_queue.specs.Ranges.{HaveSectors, bytes_range, most_piece}
 use Rattle.request_queue.specs.Requests.{writable_sectors}
 use Rattle.request_queue.specs.WholeRuns.{WritesWhole}
 use Rattle.request_queue.specs.World.{World, world, Step, write_piece}
@@ -18,6 +19,15 @@ use Rattle.request_queue.specs.World.{World, world, Step, write_piece}
 -- the sectors of these bytes of mapped device d, from the first on, or the first reason why they aren't written
 abbrev pub write_range : Configuration → ℕ → ℕ → List ℕ → Result SectorRange SubmitFault
 write_range c d first bytes = writable_sectors c bytes (bytes_range c d first (length bytes))
+
+-- How many bytes the next piece has, of so many that are left of sectors of mapped device d, from the first on: it splits no
+-- unit and no data block that can be read or written in one piece.
+pub record IsNextPiece (c : Configuration) (d first left n : ℕ) : Type 0 where
+  pub value : n ≡ 512 * aligned_len c d first (left / 512) most_piece
+  pub whole : n % 512 ≡ 0
+  pub some : 512 ≤ n
+  pub most : n ≤ 65536
+  pub inside : n ≤ left
 
 -- bytes of whole sectors inside mapped device d, which may be written
 pub record CanBeWritten (c : Configuration) (d first : ℕ) (bytes : List ℕ) : Type 0 where

@@ -1,22 +1,31 @@
 //! Sectors that are read or written at once, piece by piece.
-ghost use Rattle.std.specs.Prelude.{◌≡◌, ◌≤◌, ◌<◌, ◌/◌, ◌%◌, Err, length};
+ghost use Rattle.std.specs.Prelude.{◌≡◌, ◌<◌, ◌/◌, Err, length};
 ghost use Rattle.stack_rules.specs.Names.{mapped};
 ghost use Rattle.stack_engine.specs.Bytes.{EachBytes};
 ghost use Rattle.stack_engine.specs.KeptBlocks.{ReadKeeps};
 ghost use Rattle.stack_meaning.specs.Meaning.{said_at};
 ghost use Rattle.stack_meaning.specs.Reading.{MeetVerity, buffer_answer};
 ghost use Rattle.stack_lines.specs.Writing.{SomeEncrypt};
-ghost use Rattle.request_queue.specs.AtOnce.{CanBeWritten, WritesBeside};
+ghost use Rattle.request_queue.specs.AtOnce.{CanBeWritten, IsNextPiece, WritesBeside};
 ghost use Rattle.request_queue.specs.Ranges.{HaveSectors, range_at};
 ghost use Rattle.request_queue.specs.WholeRuns.{WritesWhole};
 
-use crate::range::{SectorRange, piece_len};
+use crate::range::MOST_PIECE;
+use alignment::aligned_len;
 use block_device::BlockDev;
 use stack_config::DevId;
 use stack_engine::{IoFault, Stack};
 
-// The most bytes of a piece: 128 sectors.
-const MOST_BYTES: usize = 65536;
+// How many of the bytes that are left the next piece has: it splits no unit and no data block that can be read or written
+// in one piece.
+fn piece_bytes<D: BlockDev>(stack: &Stack<D>, device: DevId, first: u64, left: usize) -> usize
+    requires sectors { HaveSectors stack.now.config device.0 first left }
+    requires some { 0 < left }
+    ensures { IsNextPiece stack.now.config device.0 first left result }
+{
+    let sectors = (left / 512) as u64;
+    aligned_len(stack.config(), device, first, sectors, MOST_PIECE) as usize * 512
+}
 
 /// Reads the sectors of a device from `first` on into the slice, up to the first piece that fails.
 pub(crate) fn read_pieces<D: BlockDev>(
@@ -34,29 +43,12 @@ pub(crate) fn read_pieces<D: BlockDev>(
     let _kept = stack.cached();
     let mut done = 0;
     'pieces: while done < out.len() {
-        let end = out.len().min(done + MOST_BYTES);
         let at = first + (done / 512) as u64;
+        let end = done + piece_bytes(stack, device, at, out.len() - done);
         stack.read_bytes(device, at, &mut out[done..end])?;
         done = end;
     }
     Ok(())
-}
-
-// How many of the bytes that are left the next piece has: it stays in one line, as that of a request does.
-fn piece_bytes<D: BlockDev>(stack: &Stack<D>, device: DevId, first: u64, left: usize) -> usize
-    requires sectors { HaveSectors stack.now.config device.0 first left }
-    requires some { 0 < left }
-    ensures whole { result % 512 ≡ 0 }
-    ensures some { 512 ≤ result }
-    ensures most { result ≤ 65536 }
-    ensures inside { result ≤ left }
-{
-    let rest = SectorRange {
-        device,
-        first,
-        count: (left.min(MOST_BYTES) / 512) as u64,
-    };
-    piece_len(stack.config(), rest) as usize * 512
 }
 
 /// Writes the bytes to the sectors of a device from `first` on, up to the first piece that fails.

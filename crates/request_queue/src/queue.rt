@@ -26,7 +26,7 @@ use crate::range::{SectorRange, bytes_range};
 use crate::reply::{Progress, Reply, Ticket};
 use crate::request::Request;
 use crate::work::Work;
-use allocation::reserve;
+use allocation::{push, reserve};
 use block_device::{BlockDev, SyncDev};
 use dm_table::StackText;
 use stack_config::DevId;
@@ -143,7 +143,7 @@ impl<D: BlockDev> Queue<D> {
             Err(request) => return Err((SubmitFault::NoMemory, request)),
         };
         let ticket = self.given + 1;
-        self.flights.push(Flight::new(ticket, range, work)).unwrap();
+        push(&mut self.flights, Flight::new(ticket, range, work)).unwrap();
         self.given = ticket;
         Ok(Ticket(ticket))
     }

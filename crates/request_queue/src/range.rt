@@ -6,7 +6,7 @@ ghost use Rattle.request_queue.specs.Ranges.{HaveSectors, IsRangeInside, bytes_r
 use crate::fault::SubmitFault;
 use stack_config::{Config, DevId};
 
-const MOST_PIECE: u64 = 128;
+pub(crate) const MOST_PIECE: u64 = 128;
 
 const MOST_COUNT: u64 = 2048;
 

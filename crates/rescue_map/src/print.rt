@@ -10,7 +10,7 @@ use crate::kind::MapKind;
 use crate::map::{Map, Run};
 use allocation::{OutOfMemory, append, copied, push};
 use itoa::Buffer;
-use std::alloc::{AllocError, Global};
+use std::alloc::Global;
 
 /// A map of a kind: a scan's mark, a status line, and a line for each run, in bytes. If all sectors were tried, it is finished.
 /// If those before one were tried, it is copying, and a run of sectors that weren't recovered is `-` only if it ends there or before.
@@ -23,7 +23,7 @@ pub fn print_map(
     kind: MapKind,
     map: &Map,
     tried: Option<u64>,
-) -> Result<Vec<u8>, AllocError>
+) -> Result<Vec<u8>, OutOfMemory>
     ensures text { IfOk result (λ text. text.items ≡ map_text kind tried map.now) }
     ensures kind { IfOk result (λ text. kind_of text.items ≡ kind) }
     ensures reads_back { IfOk result (λ text. map_of (length (marks map.now)) text.items ≡ Ok map.now) }

@@ -8,7 +8,7 @@ ghost use Rattle.rescue_map.specs.Maps.{marks, spliced_marks};
 use crate::ahead::Ahead;
 use crate::map::{Map, Run};
 use allocation::OutOfMemory;
-use std::alloc::{AllocError, Global};
+use std::alloc::Global;
 
 /// So many sectors from one on.
 #[derive(Clone, Copy, Debug, PartialEq, Eq)]
@@ -28,7 +28,7 @@ pub fn splice(
     within: &Map,
     span: Span,
     sectors: u64,
-) -> Result<Map, AllocError>
+) -> Result<Map, OutOfMemory>
     requires around { length (marks around.now) ≡ sectors }
     requires within { length (marks within.now) ≡ sectors }
     requires inside { span.first + span.count ≤ sectors }

@@ -8,7 +8,6 @@ use block_device::DeviceFault;
 use image_files::{ReplaceFault, UnopenedFile};
 use rescue_map::MapFault;
 use stack_recovery::RecoveryFault;
-use std::alloc::AllocError;
 
 /// Why a pass over a device ends early.
 #[derive(Clone, Copy, Debug, PartialEq, Eq)]
@@ -31,14 +30,6 @@ impl From<OutOfMemory> for PassFault<'_> {
     ghost from_gives = { λ _ given. given ≡ pass_fault.NoMemory };
 
     fn from(_error: OutOfMemory) -> Self {
-        PassFault::NoMemory
-    }
-}
-
-impl From<AllocError> for PassFault<'_> {
-    ghost from_gives = { λ _ given. given ≡ pass_fault.NoMemory };
-
-    fn from(_error: AllocError) -> Self {
         PassFault::NoMemory
     }
 }

@@ -9,6 +9,7 @@ ghost use Rattle.scan_commands.specs.Turns.{IsSpan, LeavesMap, RescuesByFile, St
 
 use crate::map_file::{MapFile, MapPath};
 use crate::rescue_fault::PassFault;
+use allocation::OutOfMemory;
 use block_device::{BlockDev, SyncDev};
 use device_adapters::Progress;
 use image_files::Images;
@@ -16,7 +17,7 @@ use rescue_map::{Map, Span, Totals, is_had, print_map, splice, totals_of};
 use stack_config::DevId;
 use stack_engine::Stack;
 use stack_recovery::{Listing, rescue};
-use std::alloc::{AllocError, Global};
+use std::alloc::Global;
 
 const LEAST_TURN: u64 = 131_072;
 
@@ -32,7 +33,7 @@ fn turn_len(sectors: u64) -> u64
 }
 
 // The map by which only sectors of a span are read: all others count as read before.
-fn asked(alloc: Global, map: &Map, span: Span, sectors: u64) -> Result<Map, AllocError>
+fn asked(alloc: Global, map: &Map, span: Span, sectors: u64) -> Result<Map, OutOfMemory>
     requires map { length (marks map.now) ≡ sectors }
     requires inside { span.first + span.count ≤ sectors }
     ensures ok { IfOk result (λ runs. marks runs ≡ asked_marks span sectors map.now) }

@@ -1,5 +1,5 @@
 -- Commands that end early.
-use Rattle.std.proofs.Common.{◌≡◌, ℕ, Bool, true, false, List, Option, Result, Ok, Err, inl, inr, refl, sym, subst}
+use Rattle.std.proofs.Common.{◌≡◌, ◌∙◌, ℕ, Bool, true, false, List, Option, Result, Ok, Err, inl, inr, ap, refl, sym, subst}
 use Rattle.std.specs.Prelude.{◌⊎◌, IfSome}
 use Rattle.command_line.specs.declared.misuse.Misuse.{Misuse}
 use Rattle.command_line.specs.Misuses.{misuse_record}
@@ -8,7 +8,7 @@ use Rattle.manual_pages.specs.UsageErrors.{explanation}
 use Rattle.program_io.specs.Counted.{CountedRecord, Writes, Writing}
 use Rattle.program_io.specs.declared.fault.WriteFault.{WriteFault}
 use Rattle.stack_commands.specs.declared.fault.CommandFault.{CommandFault}
-use Rattle.stack_commands.specs.declared.fault.CommandFault.TheVariants.{Usage, NoMemory, Stack, Request, Io, Recovering, Stream, Verity, Fec, Partitions, Trees, Session, Service}
+use Rattle.stack_commands.specs.declared.fault.CommandFault.TheVariants.{Usage, NoMemory, Stack, Linux, Request, Io, Recovering, Stream, Verity, Fec, Partitions, Trees, Session, Service}
 use Rattle.verity_commands.proofs.EndingLemmas.{quiet as verity-quiet}
 use Rattle.stack_commands.specs.Commands.{ExplainsUsage, IsEndOr, IsTold, TellsErrors, Told, is_output_failed, is_usage}
 use Rattle.stack_commands.specs.Endings.{IsSilent}
@@ -17,6 +17,7 @@ pub quiet : (fault : CommandFault) (bytes : Option (List ℕ)) → IsSilent faul
 quiet Usage bytes = refl
 quiet NoMemory bytes = refl
 quiet (Stack fault) bytes = refl
+quiet (Linux refusal) bytes = refl
 quiet (Request fault) bytes = refl
 quiet (Io fault) bytes = refl
 quiet (Recovering fault) bytes = refl
@@ -44,6 +45,7 @@ pub usage-no_output : (fault : CommandFault) → is_usage fault ≡ true → is_
 usage-no_output Usage usage = refl
 usage-no_output NoMemory usage = refl
 usage-no_output (Stack fault) usage = refl
+usage-no_output (Linux refusal) usage = refl
 usage-no_output (Request fault) usage = refl
 usage-no_output (Io fault) usage = refl
 usage-no_output (Recovering fault) usage = let clash : false ≡ true = usage in cc
@@ -77,3 +79,11 @@ explained-kept contents words old mid next failed same kept explains = record {
   misused = explains.misused;
   printed = rw same (explained-failed _ mid.failed failed (subst (λ n. n.failed ≡ true → failed ≡ true) same kept) explains.printed);
 }
+
+-- nothing was printed
+pub same-contents : {T : Type 0} (contents : T → Option (List ℕ)) (old new : CountedRecord T) → new ≡ old → contents new.inner ≡ contents old.inner
+same-contents {T} contents old new is = ap (λ (c : CountedRecord T). contents c.inner) is
+
+-- a writer that had failed still has
+pub same-failed : {T : Type 0} (old new : CountedRecord T) → new ≡ old → old.failed ≡ true → new.failed ≡ true
+same-failed {T} old new is failed = ap (λ (c : CountedRecord T). c.failed) is ∙ failed

@@ -1,5 +1,6 @@
 pub mod EndingLemmas
 pub mod OpeningLemmas
+mod LinuxLemmas
 mod RepairingLemmas
 pub mod ServeLemmas
 pub mod UsageLemmas

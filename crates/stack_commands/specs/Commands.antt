@@ -17,7 +17,8 @@ use Rattle.command_line.specs.Misuses.{misuse_record}
 use Rattle.command_parser.specs.CommandLines.{IsMisusedText, IsNoCommand, invoked, options_said}
 use Rattle.command_line.specs.FormatOptions.{OptionTexts}
 use Rattle.manual_pages.specs.UsageErrors.{explanation}
-use Rattle.stack_commands.specs.Invocations.{FailsCommand, Succeeds}
+use Rattle.partition_commands.specs.Warnings.{Notes}
+use Rattle.stack_commands.specs.Invocations.{AreCommandNotes, FailsCommand, Succeeds}
 use Rattle.stack_commands.specs.Uses.{IsUsageEnd, Uses}
 
 -- the command of some words, and the values of its options
@@ -28,8 +29,8 @@ pub record IsCommandOf (words : List (List ℕ)) (texts : OptionTexts) (invocati
 -- the words are no command, or memory ran out while they were read, and nothing was opened; or their command ended early
 abbrev pub IsRunEnd : {S D T G : Type 0} → List (List ℕ) → Uses S D T G → Bool → CommandFault → Type 0
 IsRunEnd words u failed fault =
-    (IsUsageEnd fault (IsNoCommand words) × (u.new ≡ u.old) × (u.images.new ≡ u.images.old))
-    ⊎ ((invocation : InvocationRecord) × (texts : OptionTexts) × IsCommandOf words texts invocation × FailsCommand texts invocation u failed fault)
+    (IsUsageEnd fault (IsNoCommand words) × (u.new ≡ u.old) × (u.images.new ≡ u.images.old) × (u.notes.new ≡ u.notes.old))
+    ⊎ ((invocation : InvocationRecord) × (texts : OptionTexts) × IsCommandOf words texts invocation × FailsCommand texts invocation u failed fault × AreCommandNotes invocation u.notes)
 
 -- the command of that name writes data for another program: the bytes of a device, the replies to a client
 abbrev pub writes_data : List ℕ → Bool
@@ -103,15 +104,18 @@ IsTold false fault old new told status = IsEndOr told.failed fault old new statu
 IsTold true fault old new told status = (new ≡ old) × IsToldElsewhere fault told status
 
 -- A command ended early: its text is printed and its status answered, or that can't be written. Where the writer had
--- failed before, that stays known.
+-- failed before, that stays known. Among the errors the text follows what the command printed there.
 pub record EndsCommand {S D T G : Type 0} (u : Uses S D T G) (told : Told) (status : ℕ) : Type 0 where
   pub fault : CommandFault
   pub before : Streams
   pub unwritten : Bool
-  pub fails : IsRunEnd told.words (record u { new = before }) unwritten fault
+  pub notes : Notes
+  pub begun : notes.old ≡ told.old
+  pub noted : is_usage fault ≡ false → is_output_failed fault ≡ false → notes.failed ≡ true → told.errors_failed ≡ true
+  pub fails : IsRunEnd told.words (record u { new = before; notes = notes }) unwritten fault
   pub kept : unwritten ≡ true → told.failed ≡ true
-  pub told_so : IsTold (output_is_data told.words) fault before.output u.new.output told status
+  pub told_so : IsTold (output_is_data told.words) fault before.output u.new.output (record told { old = notes.new }) status
 
 -- the command of some words succeeded
 abbrev pub IsCommandDone : {S D T G : Type 0} → List (List ℕ) → Uses S D T G → Type 0
-IsCommandDone words u = (invocation : InvocationRecord) × (texts : OptionTexts) × IsCommandOf words texts invocation × Succeeds texts invocation u
+IsCommandDone words u = (invocation : InvocationRecord) × (texts : OptionTexts) × IsCommandOf words texts invocation × Succeeds texts invocation u × AreCommandNotes invocation u.notes

@@ -28,6 +28,7 @@ use Rattle.command_line.specs.words.Scan.{scan_record}
 use Rattle.command_line.specs.words.Verify.{verify_record}
 use Rattle.command_line.specs.words.Write.{write_record}
 use Rattle.image_files.specs.Opener.{Calls, Opener, calls}
+use Rattle.image_commands.specs.declared.trusted.TrustedRoot.{TrustedRoot}
 use Rattle.repair_commands.specs.declared.pair.RepairPlaces.{RepairPlaces}
 use Rattle.repair_commands.specs.ByParity.{RepairsByParity}
 use Rattle.repair_commands.specs.Commands.{IsRepairEnd, RepairsFiles}
@@ -127,24 +128,24 @@ module _ {S D T E : Type 0} (relations : Opener S D) (state : D → Device) (con
   EndsRepair words = IsRepairWordsEnd desk_calls (repair_record words) desk_before desk_behind desk_failed
 
   -- without parity, and by it
-  abbrev pub FixesByCopies : RepairPlaces → List ImageCopy → List ℕ → Type 0
-  FixesByCopies places copies root = RepairsFiles desk_calls (places_of places) copies root desk_before desk_behind
+  abbrev pub FixesByCopies : RepairPlaces → List ImageCopy → TrustedRoot → Type 0
+  FixesByCopies places copies trusted = RepairsFiles desk_calls (places_of places) copies trusted desk_before desk_behind
 
-  abbrev pub EndsByCopies : RepairPlaces → List ImageCopy → List ℕ → CommandFault → Type 0
-  EndsByCopies places copies root = IsTreesEnd (IsRepairEnd desk_calls (places_of places) copies root desk_before desk_behind desk_failed)
+  abbrev pub EndsByCopies : RepairPlaces → List ImageCopy → TrustedRoot → CommandFault → Type 0
+  EndsByCopies places copies trusted = IsTreesEnd (IsRepairEnd desk_calls (places_of places) copies trusted desk_before desk_behind desk_failed)
 
-  abbrev pub FixesByParity : RepairPlaces → FecFile → List ImageCopy → List ℕ → Type 0
-  FixesByParity places fec copies root = RepairsByParity desk_calls (places_of places) (fec_record fec) copies root desk_before desk_behind
+  abbrev pub FixesByParity : RepairPlaces → FecFile → List ImageCopy → TrustedRoot → Type 0
+  FixesByParity places fec copies trusted = RepairsByParity desk_calls (places_of places) (fec_record fec) copies trusted desk_before desk_behind
 
-  abbrev pub EndsByParity : RepairPlaces → FecFile → List ImageCopy → List ℕ → CommandFault → Type 0
-  EndsByParity places fec copies root = IsParityWordsEnd desk_calls (places_of places) (fec_record fec) copies root desk_before desk_behind desk_failed
+  abbrev pub EndsByParity : RepairPlaces → FecFile → List ImageCopy → TrustedRoot → CommandFault → Type 0
+  EndsByParity places fec copies trusted = IsParityWordsEnd desk_calls (places_of places) (fec_record fec) copies trusted desk_before desk_behind desk_failed
 
   -- over a stack file
-  abbrev pub ListsFile : StackFile → Bool → Type 0
-  ListsFile file json = PrintsDevices json desk_calls (stack_words file) desk_before desk_behind
+  abbrev pub ListsFile : StackFile → Bool → Bool → Type 0
+  ListsFile file json linux = PrintsDevices json linux desk_calls (stack_words file) desk_before desk_behind
 
-  abbrev pub EndsListing : StackFile → CommandFault → Type 0
-  EndsListing file = IsListEnd desk_calls (stack_words file) desk_failed
+  abbrev pub EndsListing : StackFile → Bool → CommandFault → Type 0
+  EndsListing file linux = IsListEnd linux desk_calls (stack_words file) desk_failed
 
   abbrev pub ReadsFile : StackFile → ℕ → Sectors → Type 0
   ReadsFile file cache sectors = PrintsReply desk_calls (stack_words file) cache (read_request sectors) desk_before desk_behind

@@ -4,7 +4,9 @@ use Rattle.std.specs.Io.KnownBytes.{Appends}
 use Rattle.command_line.specs.declared.fault.WordsFault.{WordsFault}
 use Rattle.command_line.specs.declared.fault.WordsFault.TheVariants as words
 use Rattle.stack_commands.specs.declared.fault.CommandFault.{CommandFault}
-use Rattle.stack_commands.specs.declared.fault.CommandFault.TheVariants.{Usage, NoMemory, Stack, Request, Io, Recovering, Stream, Verity, Fec, Partitions, Trees, Session, Service}
+use Rattle.stack_commands.specs.declared.fault.CommandFault.TheVariants.{Usage, NoMemory, Stack, Linux, Request, Io, Recovering, Stream, Verity, Fec, Partitions, Trees, Session, Service}
+use Rattle.linux_rules.specs.declared.refusal.LinuxFault.{LinuxFault}
+use Rattle.linux_rules.specs.declared.refusal.LinuxFault.TheVariants as linux
 use Rattle.nbd_protocol.specs.declared.fault.ServiceFault.TheVariants as service
 use Rattle.stack_session.specs.declared.fault.SessionFault.TheVariants.{WriteFault}
 use Rattle.verity_commands.specs.Endings as verity
@@ -13,18 +15,24 @@ use Rattle.fec_commands.specs.FaultTexts.{fec_status, fec_text}
 use Rattle.partition_commands.specs.FaultTexts.{partitions_status, partitions_text}
 use Rattle.verity_commands.specs.TreeFaultTexts.{tree_status, tree_fault_text}
 use Rattle.io_fault_text.specs.Texts.{io_text, no_memory, usage_text}
-use Rattle.stack_commands.specs.FaultTexts.{io_status, recovering_status, recovering_text, request_status, request_text, stack_fault_text, stream_status, stream_text}
+use Rattle.stack_commands.specs.FaultTexts.{io_status, linux_text, recovering_status, recovering_text, request_status, request_text, stack_fault_text, stream_status, stream_text}
 
 -- how a command ends where the words are none
 abbrev pub command_words_ending : WordsFault → CommandFault
 command_words_ending (words.Usage misuse) = Usage
 command_words_ending words.NoMemory = NoMemory
 
+-- how a command ends if Linux wouldn't take a stack, or memory ran out before that was known
+abbrev pub linux_ending : LinuxFault → CommandFault
+linux_ending (linux.Refused refusal) = Linux refusal
+linux_ending linux.NoMemory = NoMemory
+
 -- what is printed of it; the own faults of a session and of the service of a client print nothing
 abbrev pub ending_text : CommandFault → List ℕ
 ending_text Usage = usage_text
 ending_text NoMemory = no_memory
 ending_text (Stack fault) = stack_fault_text fault
+ending_text (Linux refusal) = linux_text refusal
 ending_text (Request fault) = request_text fault
 ending_text (Io fault) = io_text fault
 ending_text (Recovering fault) = recovering_text fault

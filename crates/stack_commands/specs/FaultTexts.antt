@@ -2,7 +2,9 @@
 use Rattle.std.specs.Prelude.{ℕ, List, [], ◌++◌, codes, decimal}
 use Rattle.io_fault_text.specs.Opening.{open_text}
 use Rattle.io_fault_text.specs.Paths.{shown_path}
-use Rattle.io_fault_text.specs.Texts.{io_text, no_memory, refused_text}
+use Rattle.io_fault_text.specs.Texts.{io_text, kind_then, no_memory, refused_text}
+use Rattle.linux_rules.specs.Kinds.{linux_number, linux_name}
+use Rattle.linux_rules.specs.declared.refusal.LinuxRefusal.{LinuxRefusal}
 use Rattle.stack_meaning.specs.declared.fault.IoFault.{IoFault}
 use Rattle.stack_meaning.specs.declared.fault.IoFault.TheVariants as io
 use Rattle.stack_rules.specs.declared.refusal.ConfigFault.{ConfigFault}
@@ -32,6 +34,10 @@ outside_text path = codes "refused 23 OutsideFile " ++ (shown_path path ++ codes
 abbrev pub config_text : ConfigFault → List ℕ
 config_text config.NoMemory = no_memory
 config_text fault = refused_text (config_number fault) (config_name fault)
+
+-- what Linux would refuse or read otherwise, with the device and the line
+abbrev pub linux_text : LinuxRefusal → List ℕ
+linux_text r = codes "refused " ++ kind_then (linux_number r.kind) (linux_name r.kind) (codes " device " ++ (decimal r.device ++ (codes " line " ++ (decimal r.line ++ codes "\n"))))
 
 abbrev pub stack_fault_text : StackFault → List ℕ
 stack_fault_text stack.NoMemory = no_memory

@@ -2,7 +2,7 @@
 use Rattle.std.specs.Io.KnownBytes.{Appends}
 use Rattle.std.specs.Prelude.{◌≡◌, ◌⊎◌, ◌≢◌, ℕ, Bool, true, false, codes, List, [], None, Ok, Option, Some, unwrap_or}
 use Rattle.command_line.specs.FormatOptions.{OptionTexts}
-use Rattle.command_line.specs.Invocations.{InvocationRecord, cat, copy, diff, dump, exports, format, format_fec, format_pin, format_tree, load, manual, nbd, partitions, read, repair, scan, session, store, table, table_tree, verify, verify_fec, verify_pin, verify_tree, version, write}
+use Rattle.command_line.specs.Invocations.{InvocationRecord, cat, copy, diff, dump, exports, format, format_fec, format_pin, format_tree, load, manual, nbd, partitions, read, repair, scan, session, store, table, table_tree, verify, verify_fec, verify_tree, version, write}
 use Rattle.command_line.specs.words.Cat.{CatRecord}
 use Rattle.command_line.specs.words.Copy.{CopyRecord}
 use Rattle.command_line.specs.words.Exports.{ExportsRecord}
@@ -21,6 +21,7 @@ use Rattle.manual_pages.specs.Pages.{PageRecord, page_of}
 use Rattle.manual_pages.specs.Versions.{version_text}
 use Rattle.partition_commands.specs.declared.fault.PartitionsFault.{PartitionsFault}
 use Rattle.partition_commands.specs.Invocations.{IsListingEnd, ListsPartitions}
+use Rattle.partition_commands.specs.Warnings.{Notes}
 use Rattle.verity_commands.specs.Invocations.{DiffsTrees, IsDiffWordsEnd}
 use Rattle.stack_commands.specs.declared.fault.CommandFault.{CommandFault}
 use Rattle.stack_commands.specs.declared.fault.CommandFault.TheVariants.{Fec, Partitions, Usage}
@@ -34,7 +35,7 @@ use Rattle.transfer_commands.specs.StoredFiles.{FileWords, IsFileEnd, PrintsFile
 use Rattle.transfer_commands.specs.Streaming.{IsBytesEnd, IsStoringEnd, PrintsBytes, PrintsStored}
 use Rattle.stack_commands.specs.ManyExports.{IsExportsEnd, ServesExports}
 use Rattle.stack_commands.specs.StackCommands.{IsClientEnd, IsListEnd, IsReadEnd, IsServeEnd, IsWriteEnd, PrintsDevices, PrintsReply, PrintsWritten, ServesClient, ServesSession, device_on, on}
-use Rattle.verity_commands.specs.Pinned.{FormatsByPin, IsPinFormatEnd, IsPinVerifyEnd, VerifiesPin}
+use Rattle.verity_commands.specs.Pinned.{FormatsByPin, IsPinFormatEnd}
 use Rattle.verity_commands.specs.Placed.{DumpsAt, FormatsAt, IsDumpEnd, IsSaidFormatEnd, IsTableEnd, PrintsEntry}
 use Rattle.verity_commands.specs.Trees.{FormatsSaidTree, IsSaidFormatTreeEnd, IsTableTreeEnd, IsVerifyTreeEnd, PrintsTreeEntry, VerifiesSaidTree}
 use Rattle.stack_commands.specs.Repairing.{IsRepairWordsEnd, RepairsImage}
@@ -56,10 +57,10 @@ IsFecEnd Ends fault = ⊥
 -- ---- the devices of a stack
 
 abbrev pub ListsDevices : {S D : Type 0} → Calls S D → LoadRecord → Option (List ℕ) → Option (List ℕ) → Type 0
-ListsDevices w l old new = PrintsDevices l.json w (on l.stack l.bindings) old new
+ListsDevices w l old new = PrintsDevices l.json l.linux w (on l.stack l.bindings) old new
 
 abbrev pub IsLoadWordsEnd : {S D : Type 0} → Calls S D → LoadRecord → Option (List ℕ) → Option (List ℕ) → Bool → CommandFault → Type 0
-IsLoadWordsEnd w l old new failed fault = IsListEnd w (on l.stack l.bindings) failed fault × IsSilent fault old new
+IsLoadWordsEnd w l old new failed fault = IsListEnd l.linux w (on l.stack l.bindings) failed fault × IsSilent fault old new
 
 -- ---- requests
 
@@ -179,7 +180,7 @@ Succeeds texts (format f) u = FormatsAt texts u.images u.drawing f u.old.output 
 Succeeds texts (verify v) u = ChecksImage u.images v u.old.output u.new.output
 Succeeds texts (dump d) u = DumpsAt u.images d u.old.output u.new.output
 Succeeds texts (table t) u = PrintsEntry u.images t u.old.output u.new.output
-Succeeds texts (partitions p) u = ListsPartitions u.images p u.old.output u.new.output
+Succeeds texts (partitions p) u = ListsPartitions u.images p u.old.output u.new.output u.notes
 Succeeds texts (diff d) u = DiffsTrees u.images d u.old.output u.new.output
 Succeeds texts (repair r) u = RepairsImage u.images r u.old.output u.new.output
 Succeeds texts (format_tree f) u = FormatsSaidTree texts u.images u.drawing f u.old.output u.new.output
@@ -188,7 +189,6 @@ Succeeds texts (table_tree t) u = PrintsTreeEntry texts u.images t u.old.output 
 Succeeds texts (format_fec f) u = FormatsFec texts u.images u.drawing f u.old.output u.new.output
 Succeeds texts (verify_fec v) u = VerifiesFec u.images v u.old.output u.new.output
 Succeeds texts (format_pin f) u = FormatsByPin texts u.images u.drawing f u.old.output u.new.output
-Succeeds texts (verify_pin v) u = VerifiesPin u.images v u.old.output u.new.output
 Succeeds texts (manual command) u = PrintsPage command u.old.output u.new.output × (u.images.new ≡ u.images.old)
 Succeeds texts version u = Appends u.old.output u.new.output version_text × (u.images.new ≡ u.images.old)
 
@@ -208,7 +208,7 @@ FailsCommand texts (format f) u failed fault = IsVerityEnd (IsSaidFormatEnd text
 FailsCommand texts (verify v) u failed fault = IsCheckCommandEnd u.images v u.old.output u.new.output failed fault
 FailsCommand texts (dump d) u failed fault = IsVerityEnd (IsDumpEnd u.images d u.old.output u.new.output failed) fault
 FailsCommand texts (table t) u failed fault = IsVerityEnd (IsTableEnd u.images t u.old.output u.new.output failed) fault
-FailsCommand texts (partitions p) u failed fault = IsPartitionsEnd (IsListingEnd u.images p failed) fault
+FailsCommand texts (partitions p) u failed fault = IsPartitionsEnd (IsListingEnd u.images p failed u.notes) fault
 FailsCommand texts (diff d) u failed fault = IsTreesEnd (IsDiffWordsEnd u.images d u.old.output u.new.output failed) fault
 FailsCommand texts (repair r) u failed fault = IsRepairWordsEnd u.images r u.old.output u.new.output failed fault
 FailsCommand texts (format_tree f) u failed fault = IsVerityEnd (IsSaidFormatTreeEnd texts u.images u.drawing f u.old.output u.new.output failed) fault
@@ -217,6 +217,10 @@ FailsCommand texts (table_tree t) u failed fault = IsVerityEnd (IsTableTreeEnd t
 FailsCommand texts (format_fec f) u failed fault = IsFecEnd (IsFormatFecEnd texts u.images u.drawing f u.old.output u.new.output failed) fault
 FailsCommand texts (verify_fec v) u failed fault = IsFecEnd (IsVerifyFecEnd u.images v u.old.output u.new.output failed) fault
 FailsCommand texts (format_pin f) u failed fault = IsVerityEnd (IsPinFormatEnd texts u.images u.drawing f u.old.output u.new.output failed) fault
-FailsCommand texts (verify_pin v) u failed fault = IsVerityEnd (IsPinVerifyEnd u.images v u.old.output u.new.output failed) fault
 FailsCommand texts (manual command) u failed fault = IsPageEnd command u.old.output u.new.output failed fault × (u.images.new ≡ u.images.old)
 FailsCommand texts version u failed fault = IsReplyUnwritten failed fault × (u.images.new ≡ u.images.old)
+
+-- while it runs, a command prints nothing among the errors, but `partitions` the warnings of its table, of which its row speaks
+abbrev pub AreCommandNotes : InvocationRecord → Notes → Type 0
+AreCommandNotes (partitions p) notes = Unit {0}
+AreCommandNotes invocation notes = notes.new ≡ notes.old

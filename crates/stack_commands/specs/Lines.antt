@@ -8,19 +8,21 @@ use Rattle.command_line.specs.Invocations.{invocation_record}
 use Rattle.command_parser.specs.declared.parser.CommandLine.{CommandLine}
 use Rattle.image_commands.specs.Drawing.{Drawing}
 use Rattle.image_files.specs.Opener.{Opener, calls}
+use Rattle.partition_commands.specs.Warnings.{Notes}
 use Rattle.stack_commands.specs.declared.fault.CommandFault.{CommandFault}
 use Rattle.stack_commands.specs.Commands.{IsCommandDone, IsRunEnd}
-use Rattle.stack_commands.specs.Invocations.{FailsCommand, Succeeds}
+use Rattle.stack_commands.specs.Invocations.{AreCommandNotes, FailsCommand, Succeeds}
 use Rattle.stack_commands.specs.Uses.{Uses, uses}
 
 module _ {S D G F R T : Type 0} (relations : Opener S D) (state : D → Device) (remaining : R → Option (List ℕ)) (contents : T → Option (List ℕ)) (images images' : S) (drawn : Drawing G F)
-    (reader reader' : CountedRecord R) (writer writer' : CountedRecord T) where
+    (reader reader' : CountedRecord R) (writer writer' : CountedRecord T) (notes : Notes) where
   abbrev all_used : Uses S D G F
   all_used = uses
       (calls relations state images images')
       drawn
       (streams (remaining reader.inner) (contents writer.inner))
       (streams (remaining reader'.inner) (contents writer'.inner))
+      notes
 
   -- by the words behind the program's name
   abbrev pub DoesWords : List (List ℕ) → Type 0
@@ -35,3 +37,7 @@ module _ {S D G F R T : Type 0} (relations : Opener S D) (state : D → Device) 
 
   abbrev pub EndsLine : CommandLine → CommandFault → Type 0
   EndsLine line = FailsCommand (option_texts line.options) (invocation_record line.invocation) all_used writer'.failed
+
+-- what the command of a line prints among the errors
+abbrev pub NotesLine : CommandLine → Notes → Type 0
+NotesLine line notes = AreCommandNotes (invocation_record line.invocation) notes

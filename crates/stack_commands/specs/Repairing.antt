@@ -6,6 +6,7 @@ use Rattle.command_line.specs.ImageCopies.{image_copy_record}
 use Rattle.command_line.specs.words.Repair.{RepairRecord}
 use Rattle.fec_area.specs.declared.writing.ParityFault.TheVariants.{TooSmall as ParityTooSmall}
 use Rattle.fec_commands.specs.declared.fault.FecFault.TheVariants as fec
+use Rattle.image_commands.specs.declared.trusted.TrustedRoot.{TrustedRoot}
 use Rattle.image_files.specs.Opener.{Calls}
 use Rattle.repair_commands.specs.declared.fault.ParityRepairFault.{ParityRepairFault}
 use Rattle.repair_commands.specs.declared.fault.ParityRepairFault.TheVariants.{BlockSizes, TooSmall, Tree}
@@ -13,7 +14,7 @@ use Rattle.repair_commands.specs.ByParity.{IsParityRepairEnd, RepairsByParity}
 use Rattle.repair_commands.specs.Commands.{IsRepairEnd, RepairsFiles}
 use Rattle.repair_commands.specs.Pairs.{Places}
 use Rattle.verity_commands.specs.Endings.{IsImageEnd}
-use Rattle.verity_commands.specs.Places.{IsRootEnd, TellsRoot}
+use Rattle.verity_commands.specs.Places.{IsTrustedEnd, TellsTrusted}
 use Rattle.stack_commands.specs.declared.fault.CommandFault.{CommandFault}
 use Rattle.stack_commands.specs.declared.fault.CommandFault.TheVariants.{Fec, Trees, Usage}
 use Rattle.stack_commands.specs.Uses.{IsTreesEnd, IsVerityEnd}
@@ -29,39 +30,39 @@ parity_fault BlockSizes = Fec fec.BlockSizes
 parity_fault (TooSmall needed) = Fec (fec.Parity (ParityTooSmall needed))
 
 -- with parity a codeword may have 2 to 24 bytes of it, else nothing was printed; and then it ends as that repair does
-abbrev pub IsParityWordsEnd : {S D : Type 0} → Calls S D → Places → FecRecord → List ImageCopy → List ℕ → Option (List ℕ) → Option (List ℕ) → Bool → CommandFault → Type 0
-IsParityWordsEnd w p file copies root old new failed fault =
+abbrev pub IsParityWordsEnd : {S D : Type 0} → Calls S D → Places → FecRecord → List ImageCopy → TrustedRoot → Option (List ℕ) → Option (List ℕ) → Bool → CommandFault → Type 0
+IsParityWordsEnd w p file copies trusted old new failed fault =
     ((fault ≡ Usage) × (((file.roots < 2) ⊎ (24 < file.roots)) × (new ≡ old)))
-    ⊎ ((cause : ParityRepairFault) × ((fault ≡ parity_fault cause) × IsParityRepairEnd w p file copies root old new failed cause))
+    ⊎ ((cause : ParityRepairFault) × ((fault ≡ parity_fault cause) × IsParityRepairEnd w p file copies trusted old new failed cause))
 
 -- by copies, or by parity too
-abbrev pub RepairsBy : {S D : Type 0} → Option FecRecord → Calls S D → Places → List ImageCopy → List ℕ → Option (List ℕ) → Option (List ℕ) → Type 0
-RepairsBy None w p copies root old new = RepairsFiles w p copies root old new
-RepairsBy (Some file) w p copies root old new = RepairsByParity w p file copies root old new
+abbrev pub RepairsBy : {S D : Type 0} → Option FecRecord → Calls S D → Places → List ImageCopy → TrustedRoot → Option (List ℕ) → Option (List ℕ) → Type 0
+RepairsBy None w p copies trusted old new = RepairsFiles w p copies trusted old new
+RepairsBy (Some file) w p copies trusted old new = RepairsByParity w p file copies trusted old new
 
-abbrev pub IsEndBy : {S D : Type 0} → Option FecRecord → Calls S D → Places → List ImageCopy → List ℕ → Option (List ℕ) → Option (List ℕ) → Bool → CommandFault → Type 0
-IsEndBy None w p copies root old new failed fault = IsTreesEnd (IsRepairEnd w p copies root old new failed) fault
-IsEndBy (Some file) w p copies root old new failed fault = IsParityWordsEnd w p file copies root old new failed fault
+abbrev pub IsEndBy : {S D : Type 0} → Option FecRecord → Calls S D → Places → List ImageCopy → TrustedRoot → Option (List ℕ) → Option (List ℕ) → Bool → CommandFault → Type 0
+IsEndBy None w p copies trusted old new failed fault = IsTreesEnd (IsRepairEnd w p copies trusted old new failed) fault
+IsEndBy (Some file) w p copies trusted old new failed fault = IsParityWordsEnd w p file copies trusted old new failed fault
 
--- the root was told, and then the image repaired by what the words name, and all of it is good under that root
+-- the root was told, or the pin that holds it, and then the image repaired by what the words name, and all of it is good under that root
 pub record RepairsImage {S D : Type 0} (w : Calls S D) (r : RepairRecord) (old new : Option (List ℕ)) : Type 0 where
   pub between : S
-  pub found : List ℕ
+  pub found : TrustedRoot
   pub copies : List ImageCopy
   pub are : map image_copy_record copies ≡ r.copies
-  pub told : TellsRoot (record w { new = between }) r.root found
+  pub told : TellsTrusted (record w { new = between }) r.root found
   pub repairs : RepairsBy r.fec (record w { old = between }) (places r) copies found old new
 
--- the root was told, and then the image isn't gone over to its end, or some of its blocks aren't good
+-- the root was told, or the pin that holds it, and then the image isn't gone over to its end, or some of its blocks aren't good
 pub record EndsRepairing {S D : Type 0} (w : Calls S D) (r : RepairRecord) (old new : Option (List ℕ)) (failed : Bool) (fault : CommandFault) : Type 0 where
   pub between : S
-  pub found : List ℕ
+  pub found : TrustedRoot
   pub copies : List ImageCopy
   pub are : map image_copy_record copies ≡ r.copies
-  pub told : TellsRoot (record w { new = between }) r.root found
+  pub told : TellsTrusted (record w { new = between }) r.root found
   pub ends : IsEndBy r.fec (record w { old = between }) (places r) copies found old new failed fault
 
 -- that, or the root isn't told, and nothing is printed
 abbrev pub IsRepairWordsEnd : {S D : Type 0} → Calls S D → RepairRecord → Option (List ℕ) → Option (List ℕ) → Bool → CommandFault → Type 0
 IsRepairWordsEnd w r old new failed fault =
-    (IsVerityEnd (IsImageEnd (IsRootEnd w r.root)) fault × (new ≡ old)) ⊎ EndsRepairing w r old new failed fault
+    (IsVerityEnd (IsImageEnd (IsTrustedEnd w r.root)) fault × (new ≡ old)) ⊎ EndsRepairing w r old new failed fault

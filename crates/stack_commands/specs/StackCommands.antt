@@ -1,8 +1,10 @@
 -- What the commands on stacks print where they succeed, and how they end early.
-use Rattle.std.specs.Prelude.{◌≡◌, ◌⊎◌, ℕ, Bool, true, List, [], ◌∷◌, Option, Result, Ok, Err}
+use Rattle.std.specs.Prelude.{◌≡◌, ◌⊎◌, ℕ, Bool, true, false, List, [], ◌∷◌, Option, Some, None, Result, Ok, Err}
 use Rattle.std.specs.Io.KnownBytes.{Appends}
 use Rattle.image_files.specs.Opener.{Calls}
 use Rattle.stack_rules.specs.Records.{Configuration}
+use Rattle.linux_rules.specs.declared.refusal.LinuxFault.{LinuxFault}
+use Rattle.linux_rules.specs.Rules.{IsChecked, linux_refusal}
 use Rattle.stack_engine.specs.Stacks.{StackRecord}
 use Rattle.stack_meaning.specs.declared.fault.IoFault.{IoFault}
 use Rattle.nbd_protocol.specs.declared.fault.ServiceFault.{ServiceFault}
@@ -23,7 +25,7 @@ use Rattle.program_io.specs.Streams.{Streams}
 use Rattle.scan_commands.specs.DeviceLines.{load_text}
 use Rattle.stack_session.specs.Texts.{reply_text, written_text}
 use Rattle.stack_commands.specs.declared.fault.CommandFault.{CommandFault}
-use Rattle.stack_commands.specs.declared.fault.CommandFault.TheVariants.{Io, NoMemory, Service, Session, Stack}
+use Rattle.stack_commands.specs.declared.fault.CommandFault.TheVariants.{Io, Linux, NoMemory, Service, Session, Stack}
 use Rattle.command_line.specs.Bindings.{BindingRecord}
 use Rattle.stack_files.specs.declared.stack_fault.StackFault.{StackFault}
 use Rattle.stack_files.specs.declared.stack_fault.StackFault.TheVariants.{NoSuchDevice}
@@ -43,21 +45,37 @@ device_on stack name cache bindings = device_words (on stack bindings) name cach
 
 -- ---- `load`
 
+-- with `linux`, no rule of Linux applies to a configuration
+abbrev pub IsTaken : Bool → Configuration → Type 0
+IsTaken true config = linux_refusal config ≡ None
+IsTaken false config = Unit {0}
+
+-- the result of a check that is made with `linux` alone
+abbrev pub IsCheckedIf : Bool → Configuration → Result Unit LinuxFault → Type 0
+IsCheckedIf true config result = IsChecked config result
+IsCheckedIf false config result = result ≡ Ok tt
+
+-- with `linux`, the first rule of Linux that applies ends the command
+abbrev pub IsLinuxEnd : Bool → Configuration → CommandFault → Type 0
+IsLinuxEnd linux config (Linux refusal) = (linux ≡ true) × (linux_refusal config ≡ Some refusal)
+IsLinuxEnd linux config fault = ⊥
+
 -- a line for each mapped device, or an object of them
-pub record PrintsDevices {S D : Type 0} (json : Bool) (w : Calls S D) (words : StackWords) (old new : Option (List ℕ)) : Type 0 where
+pub record PrintsDevices {S D : Type 0} (json linux : Bool) (w : Calls S D) (words : StackWords) (old new : Option (List ℕ)) : Type 0 where
   pub config : Configuration
   pub made : Configures w words config
+  pub taken : IsTaken linux config
   pub printed : Appends old new (load_text json config)
 
 -- the devices of the one that is made aren't printed
-pub record FailsToListDevices {S D : Type 0} (w : Calls S D) (words : StackWords) (failed : Bool) (fault : CommandFault) : Type 0 where
+pub record FailsToListDevices {S D : Type 0} (linux : Bool) (w : Calls S D) (words : StackWords) (failed : Bool) (fault : CommandFault) : Type 0 where
   pub config : Configuration
   pub made : Configures w words config
-  pub why : (fault ≡ NoMemory) ⊎ IsReplyUnwritten failed fault
+  pub why : (fault ≡ NoMemory) ⊎ (IsLinuxEnd linux config fault ⊎ IsReplyUnwritten failed fault)
 
 -- that, or the text makes none
-abbrev pub IsListEnd : {S D : Type 0} → Calls S D → StackWords → Bool → CommandFault → Type 0
-IsListEnd w words failed fault = IsStackEnd (FailsToLoadFile w words) fault ⊎ FailsToListDevices w words failed fault
+abbrev pub IsListEnd : {S D : Type 0} → Bool → Calls S D → StackWords → Bool → CommandFault → Type 0
+IsListEnd linux w words failed fault = IsStackEnd (FailsToLoadFile w words) fault ⊎ FailsToListDevices linux w words failed fault
 
 -- ---- `read`
 

@@ -4,6 +4,7 @@ use Rattle.stack_commands.specs.declared.fault.CommandFault.TheVariants.{NoMemor
 use Rattle.program_io.specs.Streams.{Streams}
 use Rattle.image_commands.specs.Drawing.{Drawing}
 use Rattle.image_files.specs.Opener.{Calls}
+use Rattle.partition_commands.specs.Warnings.{Notes}
 use Rattle.scan_commands.specs.declared.recovering_fault.RecoveringFault.{RecoveringFault}
 use Rattle.transfer_commands.specs.declared.request_fault.RequestFault.{RequestFault}
 use Rattle.stack_files.specs.declared.stack_fault.StackFault.{StackFault}
@@ -47,12 +48,13 @@ abbrev pub IsTreesEnd : (TreeFault → Type 0) → CommandFault → Type 0
 IsTreesEnd Ends (Trees fault) = Ends fault
 IsTreesEnd Ends fault = ⊥
 
--- what a command opens, draws from, reads and writes, before and after it
+-- what a command opens, draws from, reads and writes, and what it prints among the errors, before and after it
 pub record Uses (S D T G : Type 0) : Type 1 where
   pub images : Calls S D
   pub drawing : Drawing T G
   pub old : Streams
   pub new : Streams
+  pub notes : Notes
 
-abbrev pub uses : {S D T G : Type 0} → Calls S D → Drawing T G → Streams → Streams → Uses S D T G
-uses images drawing old new = record { images = images; drawing = drawing; old = old; new = new }
+abbrev pub uses : {S D T G : Type 0} → Calls S D → Drawing T G → Streams → Streams → Notes → Uses S D T G
+uses images drawing old new notes = record { images = images; drawing = drawing; old = old; new = new; notes = notes }

@@ -1,33 +1,34 @@
 -- What `verify` prints where the image is good, and how it ends early; with `--all` the image is gone over whole.
 use Rattle.std.specs.Prelude.{◌≡◌, ◌⊎◌, ℕ, Bool, true, List, Option}
 use Rattle.command_line.specs.words.Verify.{VerifyRecord}
+use Rattle.image_commands.specs.declared.trusted.TrustedRoot.{TrustedRoot}
 use Rattle.image_files.specs.Opener.{Calls}
 use Rattle.verity_commands.specs.declared.tree_fault.TreeFault.{TreeFault}
 use Rattle.verity_commands.specs.Invocations.{IsSurveyWordsEnd, SurveysAt}
 use Rattle.verity_commands.specs.Endings.{IsImageEnd}
 use Rattle.verity_commands.specs.Placed.{IsSaidVerifyEnd, VerifiesAt}
-use Rattle.verity_commands.specs.Places.{IsRootEnd, TellsRoot}
+use Rattle.verity_commands.specs.Places.{IsTrustedEnd, TellsTrusted}
 use Rattle.stack_commands.specs.declared.fault.CommandFault.{CommandFault}
 use Rattle.stack_commands.specs.Uses.{IsTreesEnd, IsVerityEnd}
 
--- the root was told, and then each block of the image was found good under it, and their number printed
+-- the root was told, or the pin that holds it, and then each block of the image was found good under it, and their number printed
 pub record GoesOverImage {S D : Type 0} (w : Calls S D) (v : VerifyRecord) (old new : Option (List ℕ)) : Type 0 where
   pub between : S
-  pub found : List ℕ
-  pub told : TellsRoot (record w { new = between }) v.root found
+  pub found : TrustedRoot
+  pub told : TellsTrusted (record w { new = between }) v.root found
   pub gone_over : SurveysAt (record w { old = between }) v found old new
 
--- the root was told, and then the image isn't gone over to its end, or some of its blocks aren't good
+-- the root was told, or the pin that holds it, and then the image isn't gone over to its end, or some of its blocks aren't good
 pub record EndsGoingOver {S D : Type 0} (w : Calls S D) (v : VerifyRecord) (old new : Option (List ℕ)) (failed : Bool) (fault : TreeFault) : Type 0 where
   pub between : S
-  pub found : List ℕ
-  pub told : TellsRoot (record w { new = between }) v.root found
+  pub found : TrustedRoot
+  pub told : TellsTrusted (record w { new = between }) v.root found
   pub ends : IsSurveyWordsEnd (record w { old = between }) v found old new failed fault
 
 -- that, or the root isn't told, and nothing is printed
 abbrev pub IsGoingOverEnd : {S D : Type 0} → Calls S D → VerifyRecord → Option (List ℕ) → Option (List ℕ) → Bool → CommandFault → Type 0
 IsGoingOverEnd w v old new failed fault =
-    (IsVerityEnd (IsImageEnd (IsRootEnd w v.root)) fault × (new ≡ old)) ⊎ IsTreesEnd (EndsGoingOver w v old new failed) fault
+    (IsVerityEnd (IsImageEnd (IsTrustedEnd w v.root)) fault × (new ≡ old)) ⊎ IsTreesEnd (EndsGoingOver w v old new failed) fault
 
 abbrev pub ChecksImage : {S D : Type 0} → Calls S D → VerifyRecord → Option (List ℕ) → Option (List ℕ) → Type 0
 ChecksImage w v old new = ((v.all ≡ true) × GoesOverImage w v old new) ⊎ VerifiesAt w v old new

@@ -6,8 +6,8 @@ ghost use Rattle.stack_commands.specs.Endings.{ending_status, ending_text};
 
 use crate::fault::CommandFault;
 use crate::fault_texts::{
-    io_status, recovering_status, request_status, say_recovering_fault, say_request_fault,
-    say_stack_fault, say_stream_fault, stream_status,
+    io_status, recovering_status, request_status, say_linux_refusal, say_recovering_fault,
+    say_request_fault, say_stack_fault, say_stream_fault, stream_status,
 };
 use fec_commands::{fec_status, say_fec_fault};
 use io_fault_text::{say_io_fault, say_no_memory, say_usage};
@@ -69,6 +69,7 @@ fn say_fault<W: Write>(writer: &mut Counted<W>, fault: CommandFault<'_>) -> Resu
         CommandFault::Usage => say_usage(writer),
         CommandFault::NoMemory => say_no_memory(writer),
         CommandFault::Stack(fault) => say_stack_fault(writer, fault),
+        CommandFault::Linux(refusal) => say_linux_refusal(writer, refusal),
         CommandFault::Request(fault) => say_request_fault(writer, fault),
         CommandFault::Io(fault) => say_io_fault(writer, fault),
         CommandFault::Recovering(fault) => say_recovering_fault(writer, fault),

@@ -2,11 +2,12 @@
 ghost use Rattle.std.specs.Prelude.{◌≡◌};
 ghost use Rattle.stack_commands.specs.declared.fault.CommandFault.TheVariants as command_fault;
 ghost use Rattle.stack_session.specs.declared.fault.SessionFault.TheVariants as session_fault;
-ghost use Rattle.stack_commands.specs.Endings.{command_words_ending};
+ghost use Rattle.stack_commands.specs.Endings.{command_words_ending, linux_ending};
 
 use allocation::OutOfMemory;
 use command_line::WordsFault;
 use fec_commands::FecFault;
+use linux_rules::{LinuxFault, LinuxRefusal};
 use nbd_server::ServiceFault;
 use partition_commands::PartitionsFault;
 use program_io::WriteFault;
@@ -27,6 +28,8 @@ pub enum CommandFault<'a> {
     NoMemory,
     /// There is no stack, or no such device.
     Stack(StackFault<'a>),
+    /// Linux wouldn't load the stack, or would read other bytes.
+    Linux(LinuxRefusal),
     /// A request of a stack isn't served.
     Request(RequestFault<'a>),
     /// The leaves that were written can't be synced.
@@ -81,6 +84,17 @@ impl<'a> From<StackFault<'a>> for CommandFault<'a> {
 
     fn from(fault: StackFault<'a>) -> Self {
         CommandFault::Stack(fault)
+    }
+}
+
+impl From<LinuxFault> for CommandFault<'_> {
+    ghost from_gives = { λ fault given. given ≡ linux_ending fault };
+
+    fn from(fault: LinuxFault) -> Self {
+        match fault {
+            LinuxFault::Refused(refusal) => CommandFault::Linux(refusal),
+            LinuxFault::NoMemory => CommandFault::NoMemory,
+        }
     }
 }
 

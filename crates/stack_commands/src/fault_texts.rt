@@ -1,9 +1,10 @@
 //! The texts of the faults of stacks, of requests, of scans of devices, and of their bytes; and the statuses.
 ghost use Rattle.std.specs.Prelude.{◌≡◌};
 ghost use Rattle.program_io.specs.Counted.{Writes};
-ghost use Rattle.stack_commands.specs.FaultTexts.{config_text, io_status, outside_text, recovering_status, recovering_text, request_status, request_text, stack_fault_text, stream_status, stream_text, too_small_text};
+ghost use Rattle.stack_commands.specs.FaultTexts.{config_text, io_status, linux_text, outside_text, recovering_status, recovering_text, request_status, request_text, stack_fault_text, stream_status, stream_text, too_small_text};
 
 use io_fault_text::{say_io_fault, say_no_memory, say_path, say_refused, say_unopened};
+use linux_rules::LinuxRefusal;
 use program_io::{Counted, WriteFault};
 use request_queue::SubmitFault;
 use scan_commands::{RecoveringFault, say_counts, say_pass_fault};
@@ -37,6 +38,18 @@ pub fn say_stack_fault<W: Write>(
         StackFault::Load(refusal) => say_refusal(writer, refusal),
         StackFault::NoSuchDevice => say_submit_fault(writer, SubmitFault::NoSuchDevice),
     }
+}
+
+/// `refused K NAME device D line L`
+pub fn say_linux_refusal<W: Write>(
+    writer: &mut Counted<W>,
+    refusal: LinuxRefusal,
+) -> Result<(), WriteFault>
+    ensures { Writes W.contents writer.old writer.new (linux_text refusal) result }
+{
+    let LinuxRefusal { kind, device, line } = refusal;
+    let (number, name) = (kind.number(), kind.name());
+    writer.print(format_args!("refused {number} {name} device {device} line {line}\n"))
 }
 
 // `refused 23 OutsideFile PATH`

@@ -2,7 +2,8 @@
 ghost use Rattle.std.specs.Prelude.{false, ◌≡◌, OnOk, IfErr};
 ghost use Rattle.image_commands.specs.Drawing.{drawing};
 ghost use Rattle.stack_commands.specs.Desks.{EndsPage, ShowsPage};
-ghost use Rattle.stack_commands.specs.Lines.{DoesLine, EndsLine};
+ghost use Rattle.partition_commands.specs.Warnings.{notes_of};
+ghost use Rattle.stack_commands.specs.Lines.{DoesLine, EndsLine, NotesLine};
 
 use crate::copy::invoke_copy;
 use crate::desk::Desk;
@@ -29,22 +30,24 @@ use std::alloc::Global;
 use std::io::{Read, Write};
 use verity_commands::{
     invoke_diff, invoke_dump, invoke_format, invoke_format_pinned, invoke_format_tree,
-    invoke_table, invoke_table_tree, invoke_verify_pinned, invoke_verify_tree,
+    invoke_table, invoke_table_tree, invoke_verify_tree,
 };
 
 /// Runs a command; the options are those that say what an image is.
-pub fn invoke<'a, I: Images, G: Generators + Progress + Watchers, S: Read, W: Write>(
+pub fn invoke<'a, I: Images, G: Generators + Progress + Watchers, S: Read, W: Write, E: Write>(
     alloc: Global,
     images: &mut I,
     generators: &mut G,
     line: CommandLine<'a>,
     reader: &mut Counted<S>,
     writer: &mut Counted<W>,
+    errors: &mut Counted<E>,
 ) -> Result<(), CommandFault<'a>>
     requires reader { reader.old.failed ≡ false }
     requires writer { writer.old.failed ≡ false }
-    ensures ok { OnOk result (DoesLine I.relations I.Dev.state S.remaining W.contents images.old images.new (drawing G.gives G.Generator.stream generators.old generators.new) reader.old reader.new writer.old writer.new line.entry) }
-    ensures err { IfErr result (EndsLine I.relations I.Dev.state S.remaining W.contents images.old images.new (drawing G.gives G.Generator.stream generators.old generators.new) reader.old reader.new writer.old writer.new line.entry) }
+    ensures ok { OnOk result (DoesLine I.relations I.Dev.state S.remaining W.contents images.old images.new (drawing G.gives G.Generator.stream generators.old generators.new) reader.old reader.new writer.old writer.new (notes_of E.contents errors.old errors.new) line.entry) }
+    ensures err { IfErr result (EndsLine I.relations I.Dev.state S.remaining W.contents images.old images.new (drawing G.gives G.Generator.stream generators.old generators.new) reader.old reader.new writer.old writer.new (notes_of E.contents errors.old errors.new) line.entry) }
+    ensures noted { NotesLine line.entry (notes_of E.contents errors.old errors.new) }
 {
     let CommandLine {
         invocation,
@@ -69,7 +72,9 @@ pub fn invoke<'a, I: Images, G: Generators + Progress + Watchers, S: Read, W: Wr
         }
         Invocation::Dump(words) => Ok(invoke_dump(alloc, images, &words, writer)?),
         Invocation::Table(words) => Ok(invoke_table(alloc, images, &words, writer)?),
-        Invocation::Partitions(words) => Ok(invoke_partitions(alloc, images, words, writer)?),
+        Invocation::Partitions(words) => {
+            Ok(invoke_partitions(alloc, images, words, writer, errors)?)
+        }
         Invocation::Diff(words) => Ok(invoke_diff(alloc, images, words, writer)?),
         Invocation::Repair(words) => {
             repair_image(alloc, Desk { images, writer }, generators, &words)
@@ -91,9 +96,6 @@ pub fn invoke<'a, I: Images, G: Generators + Progress + Watchers, S: Read, W: Wr
         }
         Invocation::FormatPin(words) => {
             Ok(invoke_format_pinned(alloc, images, generators, &words, &options, writer)?)
-        }
-        Invocation::VerifyPin(words) => {
-            Ok(invoke_verify_pinned(alloc, images, generators, &words, writer)?)
         }
         Invocation::Manual(command) => show_page(command, writer),
         Invocation::Version => Ok(print_version(writer)?),

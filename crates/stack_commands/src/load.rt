@@ -2,12 +2,14 @@
 ghost use Rattle.std.specs.Prelude.{◌≡◌, ◌⊎◌, IfErr, OnOk};
 ghost use Rattle.stack_commands.specs.Endings.{IsSilent, IsReplyUnwritten};
 ghost use Rattle.stack_commands.specs.Desks.{DoesLoad, EndsListing, EndsLoad, IsSilentOn, ListsFile, PrintsConfiguration};
+ghost use Rattle.stack_commands.specs.StackCommands.{IsCheckedIf};
 
 use crate::desk::Desk;
 use crate::fault::CommandFault;
 use crate::words::stack_file;
 use command_line::LoadWords;
 use image_files::Images;
+use linux_rules::{LinuxFault, check_linux};
 use program_io::Counted;
 use scan_commands::{devices_line, say_devices};
 use stack_config::Config;
@@ -15,7 +17,8 @@ use stack_files::{StackFile, open_configuration};
 use std::alloc::Global;
 use std::io::Write;
 
-/// `load [--json] STACK BINDING...`: the devices of a stack file over the bindings, as a JSON object or a line each.
+/// `load [--json] [--linux] STACK BINDING...`: the devices of a stack file over the bindings, as a JSON object or a line each; with
+/// `--linux` only if Linux would load them too, and read and write the same.
 pub fn invoke_load<'a, I: Images, W: Write>(
     alloc: Global,
     desk: Desk<'_, I, W>,
@@ -28,9 +31,10 @@ pub fn invoke_load<'a, I: Images, W: Write>(
         stack,
         bindings,
         json,
+        linux,
     } = words;
     let file = stack_file(stack, &bindings);
-    load_stack_file(alloc, desk, file, json)
+    load_stack_file(alloc, desk, file, json, linux)
 }
 
 // The devices of a stack file, as a JSON object or a line each.
@@ -40,14 +44,26 @@ fn load_stack_file<'a, I: Images, W: Write>(
     desk: Desk<'_, I, W>,
     file: StackFile<'a, '_>,
     json: bool,
+    linux: bool,
 ) -> Result<(), CommandFault<'a>>
-    ensures ok { OnOk result (ListsFile I.relations I.Dev.state W.contents desk.entry desk.exit file.entry json) }
-    ensures err { IfErr result (EndsListing I.relations I.Dev.state W.contents desk.entry desk.exit file.entry) }
+    ensures ok { OnOk result (ListsFile I.relations I.Dev.state W.contents desk.entry desk.exit file.entry json linux) }
+    ensures err { IfErr result (EndsListing I.relations I.Dev.state W.contents desk.entry desk.exit file.entry linux) }
     ensures quiet { IfErr result (IsSilentOn W.contents desk.entry desk.exit) }
 {
     let Desk { images, writer } = desk;
     let config = open_configuration(alloc, images, file)?;
+    check_rules(&config, linux)?;
     say_configuration(alloc, &config, json, writer)
+}
+
+// With `linux`, whether Linux would take the configuration too.
+fn check_rules(config: &Config, linux: bool) -> Result<(), LinuxFault>
+    ensures { IsCheckedIf linux config.now result }
+{
+    if linux {
+        return check_linux(config);
+    }
+    Ok(())
 }
 
 // Its mapped devices, as an object on one line or a line each.

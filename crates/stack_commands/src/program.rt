@@ -3,6 +3,7 @@ ghost use Rattle.std.specs.Prelude.{false, true, ◌≡◌, ◌⊎◌, ℕ, List
 ghost use Rattle.program_io.specs.Streams.{streams};
 ghost use Rattle.image_commands.specs.Drawing.{drawing};
 ghost use Rattle.image_files.specs.Opener.{calls};
+ghost use Rattle.partition_commands.specs.Warnings.{notes_of};
 ghost use Rattle.stack_commands.specs.Commands.{EndsCommand, ExplainsUsage, IsCommandDone, IsRepeated, is_output_failed, is_usage, output_is_data, told_to, writes_data};
 ghost use Rattle.stack_commands.specs.Desks.{IsToldBy};
 ghost use Rattle.stack_commands.specs.Lines.{DoesWords, EndsWords};
@@ -31,7 +32,8 @@ const UNPRINTED: u8 = 1;
 /// the stack or images that differ, 4 a client that breaks the NBD protocol.
 ///
 /// All that is opened is opened by `images`. Why `cat` and `nbd` end early goes to `errors`, since what they write is
-/// data for another program; so do the explanation of a usage error, beside `usage`, and the line that OUT of `copy` failed.
+/// data for another program; so do the explanation of a usage error, beside `usage`, the line that OUT of `copy` failed, and the
+/// warnings of the table that `partitions` finds.
 /// If the writer fails, `errors` gets the reason of every other command, too.
 pub fn command<I: Images, G: Generators + Progress + Watchers, S: Read, W: Write, E: Write>(
     alloc: Global,
@@ -44,10 +46,10 @@ pub fn command<I: Images, G: Generators + Progress + Watchers, S: Read, W: Write
 ) -> u8
     requires reader { reader.old.failed ≡ false }
     requires writer { writer.old.failed ≡ false }
-    ensures { ((result ≡ 0) × IsCommandDone (map string_bytes words.now) (uses (calls I.relations I.Dev.state images.old images.new) (drawing G.gives G.Generator.stream generators.old generators.new) (streams (S.remaining reader.old.inner) (W.contents writer.old.inner)) (streams (S.remaining reader.new.inner) (W.contents writer.new.inner))))
-        ⊎ EndsCommand (uses (calls I.relations I.Dev.state images.old images.new) (drawing G.gives G.Generator.stream generators.old generators.new) (streams (S.remaining reader.old.inner) (W.contents writer.old.inner)) (streams (S.remaining reader.new.inner) (W.contents writer.new.inner))) (told_to (map string_bytes words.now) writer.new.failed (E.contents errors.old.inner) (E.contents errors.new.inner) errors.new.failed) result }
+    ensures { ((result ≡ 0) × IsCommandDone (map string_bytes words.now) (uses (calls I.relations I.Dev.state images.old images.new) (drawing G.gives G.Generator.stream generators.old generators.new) (streams (S.remaining reader.old.inner) (W.contents writer.old.inner)) (streams (S.remaining reader.new.inner) (W.contents writer.new.inner)) (notes_of E.contents errors.old errors.new)))
+        ⊎ EndsCommand (uses (calls I.relations I.Dev.state images.old images.new) (drawing G.gives G.Generator.stream generators.old generators.new) (streams (S.remaining reader.old.inner) (W.contents writer.old.inner)) (streams (S.remaining reader.new.inner) (W.contents writer.new.inner)) (notes_of E.contents errors.old errors.new)) (told_to (map string_bytes words.now) writer.new.failed (E.contents errors.old.inner) (E.contents errors.new.inner) errors.new.failed) result }
 {
-    match run(alloc, images, generators, words, reader, writer) {
+    match run(alloc, images, generators, words, reader, writer, errors) {
         Ok(()) => DONE,
         Err(fault) => {
             explain(alloc, errors, words, fault);
@@ -155,19 +157,20 @@ fn output_is_data(words: &[String]) -> bool
 }
 
 // Files are opened in the order of the words, once all words are read.
-fn run<'a, I: Images, G: Generators + Progress + Watchers, S: Read, W: Write>(
+fn run<'a, I: Images, G: Generators + Progress + Watchers, S: Read, W: Write, E: Write>(
     alloc: Global,
     images: &mut I,
     generators: &mut G,
     words: &'a [String],
     reader: &mut Counted<S>,
     writer: &mut Counted<W>,
+    errors: &mut Counted<E>,
 ) -> Result<(), CommandFault<'a>>
     requires reader { reader.old.failed ≡ false }
     requires writer { writer.old.failed ≡ false }
-    ensures ok { OnOk result (DoesWords I.relations I.Dev.state S.remaining W.contents images.old images.new (drawing G.gives G.Generator.stream generators.old generators.new) reader.old reader.new writer.old writer.new (map string_bytes words.now)) }
-    ensures err { IfErr result (EndsWords I.relations I.Dev.state S.remaining W.contents images.old images.new (drawing G.gives G.Generator.stream generators.old generators.new) reader.old reader.new writer.old writer.new (map string_bytes words.now)) }
+    ensures ok { OnOk result (DoesWords I.relations I.Dev.state S.remaining W.contents images.old images.new (drawing G.gives G.Generator.stream generators.old generators.new) reader.old reader.new writer.old writer.new (notes_of E.contents errors.old errors.new) (map string_bytes words.now)) }
+    ensures err { IfErr result (EndsWords I.relations I.Dev.state S.remaining W.contents images.old images.new (drawing G.gives G.Generator.stream generators.old generators.new) reader.old reader.new writer.old writer.new (notes_of E.contents errors.old errors.new) (map string_bytes words.now)) }
 {
     let line = parse(alloc, words)?;
-    invoke(alloc, images, generators, line, reader, writer)
+    invoke(alloc, images, generators, line, reader, writer, errors)
 }

@@ -9,15 +9,15 @@ use command_line::{FecFile, ImageCopy, RepairWords};
 use device_adapters::Watchers;
 use fec_area::ParityFault;
 use fec_commands::FecFault;
+use image_commands::TrustedRoot;
 use image_files::Images;
 use repair_commands::{ParityRepairFault, RepairPlaces, repair_by_parity, repair_images};
 use std::alloc::Global;
 use std::io::Write;
-use tree_shape::Digest;
-use verity_commands::{VerityFault, root_in, sector_at};
+use verity_commands::{VerityFault, sector_at, trusted_in};
 
-/// `repair [--check] [--fec FILE [--fec-roots N]] [--hash-offset BYTES] [--root-hash-file FILE] DATA HASH [ROOT] [COPY ..]`: the root
-/// is known before an image is opened.
+/// `repair [--check] [--fec FILE [--fec-roots N]] [--hash-offset BYTES] [--root-hash-file FILE | --pin FILE] DATA HASH [ROOT] [COPY ..]`: the root or
+/// the pin is known before an image is opened.
 pub fn repair_image<'a, I: Images, S: Watchers, W: Write>(
     alloc: Global,
     desk: Desk<'_, I, W>,
@@ -27,8 +27,8 @@ pub fn repair_image<'a, I: Images, S: Watchers, W: Write>(
     ensures ok { OnOk result (DoesRepair I.relations I.Dev.state W.contents desk.entry desk.exit words.now) }
     ensures err { IfErr result (EndsRepair I.relations I.Dev.state W.contents desk.entry desk.exit words.now) }
 {
-    let root = match root_in(desk.images, &words.root) {
-        Ok(root) => root,
+    let trusted = match trusted_in(desk.images, &words.root) {
+        Ok(trusted) => trusted,
         Err(fault) => return Err(CommandFault::Verity(VerityFault::Image(fault))),
     };
     let places = RepairPlaces {
@@ -39,8 +39,8 @@ pub fn repair_image<'a, I: Images, S: Watchers, W: Write>(
     };
     let copies = words.copies.as_slice();
     match &words.fec {
-        None => by_copies(alloc, desk, watchers, places, copies, &root),
-        Some(fec) => by_parity(alloc, desk, watchers, places, fec, copies, &root),
+        None => by_copies(alloc, desk, watchers, places, copies, &trusted),
+        Some(fec) => by_parity(alloc, desk, watchers, places, fec, copies, &trusted),
     }
 }
 
@@ -51,14 +51,14 @@ fn by_copies<'a, I: Images, S: Watchers, W: Write>(
     watchers: &S,
     places: RepairPlaces<'a>,
     copies: &[ImageCopy<'a>],
-    root: &Digest,
+    trusted: &TrustedRoot,
 ) -> Result<(), CommandFault<'a>>
     requires { places.hash_first ≤ 2 ^ 55 }
-    ensures ok { OnOk result (FixesByCopies I.relations I.Dev.state W.contents desk.entry desk.exit places.entry copies.now root.now) }
-    ensures err { IfErr result (EndsByCopies I.relations I.Dev.state W.contents desk.entry desk.exit places.entry copies.now root.now) }
+    ensures ok { OnOk result (FixesByCopies I.relations I.Dev.state W.contents desk.entry desk.exit places.entry copies.now trusted.now) }
+    ensures err { IfErr result (EndsByCopies I.relations I.Dev.state W.contents desk.entry desk.exit places.entry copies.now trusted.now) }
 {
     let Desk { images, writer } = desk;
-    Ok(repair_images(alloc, images, watchers, places, copies, root, writer)?)
+    Ok(repair_images(alloc, images, watchers, places, copies, trusted, writer)?)
 }
 
 // By parity too, of which a codeword has 2 to 24 bytes.
@@ -69,17 +69,19 @@ fn by_parity<'a, I: Images, S: Watchers, W: Write>(
     places: RepairPlaces<'a>,
     fec: &FecFile<'a>,
     copies: &[ImageCopy<'a>],
-    root: &Digest,
+    trusted: &TrustedRoot,
 ) -> Result<(), CommandFault<'a>>
     requires { places.hash_first ≤ 2 ^ 55 }
-    ensures ok { OnOk result (FixesByParity I.relations I.Dev.state W.contents desk.entry desk.exit places.entry fec.now copies.now root.now) }
-    ensures err { IfErr result (EndsByParity I.relations I.Dev.state W.contents desk.entry desk.exit places.entry fec.now copies.now root.now) }
+    ensures ok { OnOk result (FixesByParity I.relations I.Dev.state W.contents desk.entry desk.exit places.entry fec.now copies.now trusted.now) }
+    ensures err { IfErr result (EndsByParity I.relations I.Dev.state W.contents desk.entry desk.exit places.entry fec.now copies.now trusted.now) }
 {
     let Desk { images, writer } = desk;
     if fec.roots < 2 || fec.roots > 24 {
         return Err(CommandFault::Usage);
     }
-    match repair_by_parity(alloc, images, watchers, places, fec, copies, root, writer) {
+    match repair_by_parity(
+        alloc, images, watchers, places, fec, copies, trusted, writer,
+    ) {
         Ok(()) => Ok(()),
         Err(fault) => return Err(parity_fault(fault)),
     }

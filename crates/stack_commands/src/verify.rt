@@ -9,9 +9,9 @@ use device_adapters::Watchers;
 use image_files::Images;
 use std::alloc::Global;
 use std::io::Write;
-use verity_commands::{VerityFault, invoke_survey, invoke_verify, root_in};
+use verity_commands::{VerityFault, invoke_survey, invoke_verify, trusted_in};
 
-/// `verify [--all] [--progress] [--hash-offset BYTES] [--root-hash-file FILE] DATA HASH [ROOT]`
+/// `verify [--all] [--progress] [--hash-offset BYTES] [--root-hash-file FILE | --pin FILE] DATA HASH [ROOT]`
 pub fn check_image<'a, I: Images, S: Watchers, W: Write>(
     alloc: Global,
     desk: Desk<'_, I, W>,
@@ -29,7 +29,7 @@ pub fn check_image<'a, I: Images, S: Watchers, W: Write>(
     }
 }
 
-// With `--all`: the root is known before an image is opened.
+// With `--all`: the root or the pin is known before an image is opened.
 fn go_over_image<'a, I: Images, S: Watchers, W: Write>(
     alloc: Global,
     desk: Desk<'_, I, W>,
@@ -40,9 +40,9 @@ fn go_over_image<'a, I: Images, S: Watchers, W: Write>(
     ensures err { IfErr result (EndsVerifyAll I.relations I.Dev.state W.contents desk.entry desk.exit words.now) }
 {
     let Desk { images, writer } = desk;
-    let root = match root_in(images, &words.root) {
-        Ok(root) => root,
+    let trusted = match trusted_in(images, &words.root) {
+        Ok(trusted) => trusted,
         Err(fault) => return Err(CommandFault::Verity(VerityFault::Image(fault))),
     };
-    Ok(invoke_survey(alloc, images, watchers, words, &root, writer)?)
+    Ok(invoke_survey(alloc, images, watchers, words, &trusted, writer)?)
 }

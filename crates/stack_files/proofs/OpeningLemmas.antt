@@ -1,7 +1,10 @@
 -- Bindings that are opened one after another, and those that aren't.
-use Rattle.std.proofs.Common.{◌≡◌, ◌<◌, ◌+◌, ℕ, Bool, zero, suc, List, [], ◌∷◌, ◌++◌, length, map, take, get_or, arith, refl, sym, ap, subst, ◌∙◌, append_assoc, inl, inr, Result, Ok, Err}
+use Rattle.std.proofs.Common.{◌≡◌, ◌<◌, ◌≤◌, ◌+◌, ℕ, Bool, zero, suc, List, [], ◌∷◌, ◌++◌, length, map, take, get_or, arith, refl, sym, ap, subst, ◌∙◌, append_assoc, inl, inr, Result, Ok, Err}
 use Rattle.std.proofs.lemmas.List.{map-append, take_more}
+use Rattle.std.proofs.lemmas.List.Sums.{sum_by-cons}
+use Rattle.std.specs.List.{sum_by}
 use Rattle.std.specs.Prelude.{IfErr, IsErrAnd}
+use Rattle.allocation.specs.Refusal.{IsOutOfMemory}
 use Rattle.block_device.specs.Device.{Device}
 use Rattle.command_line.specs.declared.bindings.Binding.{Binding}
 use Rattle.command_line.specs.Bindings.{BackingRecord, BindingRecord, backing_record, binding_record, part}
@@ -17,12 +20,30 @@ use Rattle.stack_files.specs.declared.opening_fault.OpeningFault.{OpeningFault}
 use Rattle.stack_files.specs.declared.opening_fault.OpeningFault.TheVariants.{NoMemory, Open, Outside, TooLong}
 use Rattle.stack_files.specs.declared.leaves.OpenLeaves.{OpenLeaves}
 use Rattle.stack_files.specs.Bindings.{OpensBacking, OpensEach, backings_of, device_part}
-use Rattle.stack_files.specs.Openings.{IsBackingEnd, IsBindingEnd, RefusesBacking, RefusesBinding, RunsOut, part_ending}
+use Rattle.stack_files.specs.Openings.{IsAtBacking, IsBackingEnd, IsBindingEnd, RefusesBacking, RefusesBinding, RunsOut, backing_room, binding_room, bindings_room, part_ending}
 
 -- what holds of a fault holds of the result that hands it on
 pub err-from : {T E : Type 0} (r : Result T E) (P : E → Type 0) (fault : E) → IsErrAnd r (λ e. e ≡ fault) → P fault → IfErr r P
 err-from (Ok done) P fault is holds = tt
 err-from (Err e) P fault is holds = subst P (sym is) holds
+
+-- a bound of a refused allocation, and a larger one
+pub wider : (m n : ℕ) → m ≤ n → IsOutOfMemory m → IsOutOfMemory n
+wider m n more refused = (refused.0, omega (arith, more, refused.1), refused.2)
+
+-- the first of two is no more than both, and what is no more than the second isn't either
+le-first : (m n all : ℕ) → all ≡ m + n → m ≤ all
+le-first m n all is = omega (arith, is)
+
+le-second : (k m n all : ℕ) → all ≡ m + n → k ≤ n → k ≤ all
+le-second k m n all is below = omega (arith, is, below)
+
+-- no binding asks for more than all of them
+room-at : (bindings : List Binding) (i : ℕ) (d : Binding) → i < length bindings
+    → binding_room (binding_record (get_or bindings i d)) ≤ sum_by binding_room (map binding_record bindings)
+room-at [] i d there = absurd (omega (arith, there))
+room-at (b ∷ bs) zero d there = le-first (binding_room (binding_record b)) (sum_by binding_room (map binding_record bs)) _ (sum_by-cons binding_room (binding_record b) (map binding_record bs))
+room-at (b ∷ bs) (suc i) d there = le-second _ (binding_room (binding_record b)) (sum_by binding_room (map binding_record bs)) _ (sum_by-cons binding_room (binding_record b) (map binding_record bs)) (room-at bs i d (omega (arith, there)))
 
 -- a part that is refused ends the opening of what stands behind its name
 pub part-refused : {S D : Type 0} (w : Calls S D) (files : List FileUse) (path : List ℕ) (writable : Bool) (at : PartRecord) (unopened : UnopenedPart)
@@ -110,10 +131,10 @@ module _ {S D : Type 0} (o : Opener S D) (state : D → Device) where
       refused = refused;
     }
 
-    -- an end at one of them
-    ends-at : (backing : BackingRecord) (fault : OpeningFault) → backings_of bindings ≡ first ++ backing ∷ rest → OpensEach (calls o state old between) files first devices more
-        → IsBackingEnd (calls o state between new) more backing fault → IsBindingEnd (calls o state old new) files bindings fault
-    ends-at backing NoMemory all each (inl idle) = record {
+    -- an allocation is refused at one of them
+    runs_out-at : (backing : BackingRecord) → backings_of bindings ≡ first ++ backing ∷ rest → OpensEach (calls o state old between) files first devices more
+        → IsAtBacking (calls o state between new) more backing → RunsOut (calls o state old new) files (backings_of bindings)
+    runs_out-at backing all each (inl idle) = record {
       first = first;
       more = backing ∷ rest;
       devices = devices;
@@ -121,28 +142,41 @@ module _ {S D : Type 0} (o : Opener S D) (state : D → Device) where
       are = all;
       opened = subst (λ (s : S). OpensEach (calls o state old s) files first devices more) (sym idle) each;
     }
-    ends-at backing NoMemory all each (inr one) = runs_out-behind old between new files more one.1 (backings_of bindings) first rest devices backing one.0 all each one.2
-    ends-at backing TooLong all each refused = refuses-at backing TooLong all each refused
-    ends-at backing (Open unopened) all each refused = refuses-at backing (Open unopened) all each refused
-    ends-at backing (Outside path) all each refused = refuses-at backing (Outside path) all each refused
+    runs_out-at backing all each (inr one) = runs_out-behind old between new files more one.1 (backings_of bindings) first rest devices backing one.0 all each one.2
+
+    -- an end at one of them
+    ends-at : (backing : BackingRecord) (fault : OpeningFault) → backing_room backing ≤ bindings_room files bindings → backings_of bindings ≡ first ++ backing ∷ rest
+        → OpensEach (calls o state old between) files first devices more → IsBackingEnd (calls o state between new) more backing fault → IsBindingEnd (calls o state old new) files bindings fault
+    ends-at backing NoMemory room all each ends = (runs_out-at backing all each ends.0, wider (backing_room backing) (bindings_room files bindings) room ends.1)
+    ends-at backing TooLong room all each refused = refuses-at backing TooLong all each refused
+    ends-at backing (Open unopened) room all each refused = refuses-at backing (Open unopened) all each refused
+    ends-at backing (Outside path) room all each refused = refuses-at backing (Outside path) all each refused
 
   pub IsBindingEnd-at : (old between new : S) (files more : List FileUse) (bindings : List Binding) (i : ℕ) (d : Binding) (over : OpenLeaves D) (fault : OpeningFault)
       → i < length bindings → AreOpen (calls o state old between) files (map binding_record (take i bindings)) over more
       → IsBackingEnd (calls o state between new) more (backing_record (get_or bindings i d).backing) fault → IsBindingEnd (calls o state old new) files (map binding_record bindings) fault
   IsBindingEnd-at old between new files more bindings i d over fault there open_so_far ends =
       let at = split bindings i d there in
-      ends-at old between new files more (map binding_record bindings) (backings_of (map binding_record (take i bindings))) at.0 over.devices.items (backing_record (get_or bindings i d).backing) fault at.1 open_so_far.opened ends
+      let room = room-at bindings i d there in
+      ends-at old between new files more (map binding_record bindings) (backings_of (map binding_record (take i bindings))) at.0 over.devices.items (backing_record (get_or bindings i d).backing) fault
+      (omega (arith, room)) at.1 open_so_far.opened ends
 
-  -- the image of one is open, but memory runs out behind it
+  -- the image of one is open, and an allocation for its leaf is refused
   pub IsBindingEnd-memory : (old between new : S) (files more files' : List FileUse) (bindings : List Binding) (i : ℕ) (d : Binding) (over : OpenLeaves D) (device : D)
       → i < length bindings → AreOpen (calls o state old between) files (map binding_record (take i bindings)) over more
-      → OpensBacking (calls o state between new) more (backing_record (get_or bindings i d).backing) device files'
-      → RunsOut (calls o state old new) files (backings_of (map binding_record bindings))
-  IsBindingEnd-memory old between new files more files' bindings i d over device there open_so_far last =
+      → OpensBacking (calls o state between new) more (backing_record (get_or bindings i d).backing) device files' → IsOutOfMemory (length (get_or bindings i d).name.now + 1)
+      → IsBindingEnd (calls o state old new) files (map binding_record bindings) NoMemory
+  IsBindingEnd-memory old between new files more files' bindings i d over device there open_so_far last refused =
       let at = split bindings i d there in
-      runs_out-behind old between new files more files' (backings_of (map binding_record bindings)) (backings_of (map binding_record (take i bindings))) at.0 over.devices.items
-      (backing_record (get_or bindings i d).backing) device at.1 open_so_far.opened last
+      let room = room-at bindings i d there in (
+        runs_out-behind old between new files more files' (backings_of (map binding_record bindings)) (backings_of (map binding_record (take i bindings))) at.0 over.devices.items
+            (backing_record (get_or bindings i d).backing) device at.1 open_so_far.opened last,
+        wider (length (get_or bindings i d).name.now + 1) (bindings_room files (map binding_record bindings)) (omega (arith, room)) refused,
+      )
 
   -- before any is opened
-  pub RunsOut-first : (old : S) (files : List FileUse) (backings : List BackingRecord) → RunsOut (calls o state old old) files backings
-  RunsOut-first old files backings = record { first = []; more = backings; devices = []; files' = files; are = refl; opened = (refl, refl) }
+  pub IsBindingEnd-first : (old : S) (files : List FileUse) (bindings : List Binding) → IsOutOfMemory (length files) → IsBindingEnd (calls o state old old) files (map binding_record bindings) NoMemory
+  IsBindingEnd-first old files bindings refused = (
+    record { first = []; more = backings_of (map binding_record bindings); devices = []; files' = files; are = refl; opened = (refl, refl) },
+    wider (length files) (bindings_room files (map binding_record bindings)) (omega arith) refused,
+  )

@@ -1,6 +1,8 @@
 -- How a command ends where what it names isn't opened or read.
 use Rattle.std.specs.Global.{Global}
 use Rattle.std.specs.Prelude.{◌≡◌, ◌⊎◌, ℕ, ◌+◌, ◌*◌, ◌^◌, ◌<◌, ◌≤◌, Bool, List, [], ◌∷◌, ◌++◌, length, map, Vec}
+use Rattle.std.specs.List.{sum_by}
+use Rattle.allocation.specs.Refusal.{IsOutOfMemory}
 use Rattle.block_device.specs.Device.{Device}
 use Rattle.command_line.specs.Bindings.{BackingRecord, BindingRecord, backing_record, binding_record, file, part, ramp, zeros}
 use Rattle.command_line.specs.declared.bindings.Backing.{Backing}
@@ -59,9 +61,28 @@ RefusesBacking w files (part path writable at) (Open unopened) = RefusesPart w f
 RefusesBacking w files (part path writable at) (Outside of) = RefusesPart w files path writable (device_part at) (unopened_part.Outside of)
 RefusesBacking w files backing fault = ⊥
 
--- that, or memory ran out before or behind it
+-- how many elements an allocation for what a name is bound to asks for at most: its sectors in memory, or one more open file
+abbrev pub backing_room : BackingRecord → ℕ
+backing_room (file path writable) = 1
+backing_room (part path writable at) = 1
+backing_room (zeros n) = n * 512
+backing_room (ramp n) = n * 512
+
+-- the same of a binding: its name, and a leaf and its device, too
+abbrev pub binding_room : BindingRecord → ℕ
+binding_room binding = length binding.name + 1 + backing_room binding.backing
+
+-- no allocation for bindings beside open files asks for more
+abbrev pub bindings_room : List FileUse → List BindingRecord → ℕ
+bindings_room files bindings = length files + sum_by binding_room bindings
+
+-- nothing was opened, or what the name is bound to
+abbrev pub IsAtBacking : {S D : Type 0} → Calls S D → List FileUse → BackingRecord → Type 0
+IsAtBacking {S} {D} w files backing = IsIdle w ⊎ ((device : D) × (files' : List FileUse) × OpensBacking w files backing device files')
+
+-- that, or an allocation was refused before or after it
 abbrev pub IsBackingEnd : {S D : Type 0} → Calls S D → List FileUse → BackingRecord → OpeningFault → Type 0
-IsBackingEnd {S} {D} w files backing NoMemory = IsIdle w ⊎ ((device : D) × (files' : List FileUse) × OpensBacking w files backing device files')
+IsBackingEnd w files backing NoMemory = IsAtBacking w files backing × IsOutOfMemory (backing_room backing)
 IsBackingEnd w files backing fault = RefusesBacking w files backing fault
 
 -- the first of them were opened, and the image behind them wasn't
@@ -76,7 +97,7 @@ pub record RefusesBinding {S D : Type 0} (w : Calls S D) (files : List FileUse) 
   pub opened : OpensEach (record w { new = between }) files first devices files'
   pub refused : RefusesBacking (record w { old = between }) files' backing fault
 
--- the first of them were opened, and then memory ran out
+-- the first of them were opened, and then an allocation was refused
 pub record RunsOut {S D : Type 0} (w : Calls S D) (files : List FileUse) (backings : List BackingRecord) : Type 0 where
   pub first : List BackingRecord
   pub more : List BackingRecord
@@ -87,7 +108,7 @@ pub record RunsOut {S D : Type 0} (w : Calls S D) (files : List FileUse) (backin
 
 -- the images of some bindings aren't all opened
 abbrev pub IsBindingEnd : {S D : Type 0} → Calls S D → List FileUse → List BindingRecord → OpeningFault → Type 0
-IsBindingEnd w files bindings NoMemory = RunsOut w files (backings_of bindings)
+IsBindingEnd w files bindings NoMemory = RunsOut w files (backings_of bindings) × IsOutOfMemory (bindings_room files bindings)
 IsBindingEnd w files bindings fault = RefusesBinding w files (backings_of bindings) fault
 
 -- ---- the same by the opener, before and after its calls, and by what the program names

@@ -1,5 +1,6 @@
 //! The leaves of the bindings that a command line names, opened in their order.
-ghost use Rattle.std.specs.Prelude.{◌≡◌, ◌++◌, [], ◌∷◌, map, IfOk, IfErr, OnOk};
+ghost use Rattle.std.specs.Prelude.{◌≡◌, ◌≤◌, ◌+◌, ◌++◌, [], ◌∷◌, length, map, IfOk, IfErr, OnOk};
+ghost use Rattle.allocation.specs.Asked.{asked};
 ghost use Rattle.stack_meaning.specs.Leaves.{ServeLeaves};
 ghost use Rattle.stack_files.specs.Bindings.{Backs, BindsAll, names_in};
 ghost use Rattle.stack_files.specs.Openings.{FailsToBack, FailsToBindAll};
@@ -35,8 +36,8 @@ impl<D: BlockDev + Drop> OpenLeaves<D> {
     fn bind(&mut self, alloc: Global, name: &str, device: D) -> Result<(), OutOfMemory>
         requires { ServeLeaves self.old.leaves.items (map D.state self.old.devices.items) }
         ensures served { OnOk result (ServeLeaves self.new.leaves.items (map D.state self.new.devices.items)) }
-        ensures names { OnOk result (names_in self.new.leaves.items ≡ names_in self.old.leaves.items ++ name.now ∷ []) }
-        ensures devices { OnOk result (self.new.devices.items ≡ self.old.devices.items ++ device ∷ []) }
+        ensures more { OnOk result ((names_in self.new.leaves.items ≡ names_in self.old.leaves.items ++ name.now ∷ []) × (self.new.devices.items ≡ self.old.devices.items ++ device ∷ [])) }
+        ensures err { IfErr result (λ e. asked e ≤ length name.now + 1) }
     {
         let leaf = Leaf {
             name: copied(alloc, name.as_bytes())?,

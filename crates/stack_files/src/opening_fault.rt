@@ -5,12 +5,11 @@ ghost use Rattle.stack_files.specs.Openings.{part_ending};
 
 use allocation::OutOfMemory;
 use image_files::{UnopenedFile, UnopenedPart};
-use std::alloc::AllocError;
 
 /// Why what a command names isn't opened.
 #[derive(Clone, Copy, Debug, PartialEq, Eq)]
 pub enum OpeningFault<'a> {
-    /// Memory ran out.
+    /// An allocation was refused.
     NoMemory,
     /// A stack file has more than 1 MiB.
     TooLong,
@@ -18,14 +17,6 @@ pub enum OpeningFault<'a> {
     Open(UnopenedFile<'a>),
     /// A binding's part isn't inside the file under this path.
     Outside(&'a str),
-}
-
-impl From<AllocError> for OpeningFault<'_> {
-    ghost from_gives = { λ _ fault. fault ≡ opening_fault.NoMemory };
-
-    fn from(_error: AllocError) -> Self {
-        OpeningFault::NoMemory
-    }
 }
 
 impl From<OutOfMemory> for OpeningFault<'_> {

@@ -7,12 +7,26 @@ use Rattle.stack_rules.specs.Records.{Configuration}
 use Rattle.stack_rules.specs.Names.{lines_of}
 use Rattle.stack_rules.specs.Lines.{IsIn}
 use Rattle.stack_lines.specs.declared.source.Source.{Source}
+use Rattle.stack_lines.specs.declared.source.Source.TheVariants.{Below, Units, UnitPart, Zeros, Fails, Block, Blocks}
 use Rattle.stack_meaning.specs.Puts.{together, in_one_run}
+use Rattle.stack_lines.specs.Runs.{HasAllUnits}
 use Rattle.stack_lines.specs.Sources.{ComeFrom, EndsRun, IsServed}
+use Rattle.stack_meaning.proofs.lemmas.UnitSizeLemmas.{per_unit-some}
+use Rattle.stack_meaning.specs.Units.{per_unit}
 use Rattle.stack_meaning.proofs.lemmas.LineLemmas.{found-more}
 
+-- a run that has as many sectors as it may
+pub all-units : (source : Source) (most n : ℕ) → n ≡ most → HasAllUnits source most n
+all-units (Below lower first) most n all = tt
+all-units (Units u) most n all = omega (arith, all, per_unit-some u.units)
+all-units (UnitPart u) most n all = tt
+all-units Zeros most n all = tt
+all-units Fails most n all = tt
+all-units (Block b) most n all = tt
+all-units (Blocks b) most n all = tt
+
 module _ (c : Configuration) (d s l left : ℕ) (on : IsIn (lines_of c d) s l left) where
-  pub run-served : (n : ℕ) (source : Source) → n ≤ left → ComeFrom c (d, l) on.line.target (s - on.line.start) n source → IsServed c d s n source
+  abbrev pub run-served : (n : ℕ) (source : Source) → n ≤ left → ComeFrom c (d, l) on.line.target (s - on.line.start) n source → IsServed c d s n source
   run-served n source few come = record { number = l; line = on.line; found = on.is; is = on.at; start = on.start; fits = omega (arith, few, on.ends); come = come }
 
   -- the last sector of a run that ends with its line, or where its target cuts it

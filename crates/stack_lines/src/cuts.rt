@@ -1,12 +1,13 @@
 //! Whether a write may be cut in two, which asks no device.
-ghost use Rattle.std.specs.Prelude.{IsTrue};
+ghost use Rattle.std.specs.Prelude.{◌≡◌, false, IsTrue};
 ghost use Rattle.stack_rules.specs.Names.{mapped};
 ghost use Rattle.stack_rules.specs.Rules.{IsLoaded};
 ghost use Rattle.stack_lines.specs.declared.source.Source.TheVariants.{Below};
+ghost use Rattle.stack_meaning.specs.Meaning.{said_at};
 ghost use Rattle.stack_meaning.specs.Puts.{put_on};
 ghost use Rattle.stack_lines.specs.Cuts.{AreSteps, PutsInSteps, AreInSteps};
-ghost use Rattle.stack_lines.specs.Sources.{AreUnits};
-ghost use Rattle.stack_lines.specs.Writing.{source_put};
+ghost use Rattle.stack_lines.specs.Sources.{AreUnits, source_said};
+ghost use Rattle.stack_lines.specs.Writing.{SomeEncrypt, source_put};
 
 use crate::serve::run_at;
 use crate::source::{CryptPart, Source};
@@ -34,13 +35,14 @@ fn units_cut(config: &Config, part: CryptPart<'_>, count: u64, steps: Steps) -> 
     steps.skip % sectors == 0
 }
 
-/// Whether a put of so many sectors of a leaf or a mapped device, from that one on, may be cut behind each step. Where
-/// nothing is known, the answer is `false`.
+/// Whether a write of so many sectors of a leaf or a mapped device, from that one on, may be split after each step. `false`
+/// if that isn't known, and only if some of the sectors are encrypted.
 #[cycle(cuts)]
 pub fn lower_cuts(config: &Config, lower: Lower, first: u64, count: u64, steps: Steps) -> bool
     requires loaded { IsLoaded config.now }
     requires sectors { AreInSteps config.now (Below lower first) count steps }
-    ensures { IsTrue result → PutsInSteps (put_on config.now lower) first count steps }
+    ensures puts { IsTrue result → PutsInSteps (put_on config.now lower) first count steps }
+    ensures units { result ≡ false → SomeEncrypt (said_at config.now lower) first count }
 {
     match lower {
         Lower::Leaf(_) => true,
@@ -53,9 +55,11 @@ pub fn lower_cuts(config: &Config, lower: Lower, first: u64, count: u64, steps: 
 fn run_cuts(config: &Config, source: Source<'_>, count: u64, steps: Steps) -> bool
     requires loaded { IsLoaded config.now }
     requires sectors { AreInSteps config.now source count steps }
-    ensures { IsTrue result → PutsInSteps (source_put config.now source.entry) 0 count steps }
+    ensures puts { IsTrue result → PutsInSteps (source_put config.now source.entry) 0 count steps }
+    ensures units { result ≡ false → SomeEncrypt (source_said config.now source.entry) 0 count }
 {
-    if count <= steps.size - steps.skip {
+    let left = steps.size - steps.skip;
+    if count <= left {
         return true;
     }
     match source {
@@ -63,7 +67,8 @@ fn run_cuts(config: &Config, source: Source<'_>, count: u64, steps: Steps) -> bo
         Source::Units(part) => units_cut(config, part, count, steps),
         Source::UnitPart(_) => false,
         Source::Zeros | Source::Fails => true,
-        Source::Block(_) | Source::Blocks(_) => false,
+        Source::Block(_) => false,
+        Source::Blocks(_) => false,
     }
 }
 
@@ -72,7 +77,8 @@ fn run_cuts(config: &Config, source: Source<'_>, count: u64, steps: Steps) -> bo
 fn device_cuts(config: &Config, d: DevId, first: u64, count: u64, steps: Steps) -> bool
     requires loaded { IsLoaded config.now }
     requires sectors { AreInSteps config.now (Below (mapped d.0) first) count steps }
-    ensures { IsTrue result → PutsInSteps (put_on config.now (mapped d.0)) first count steps }
+    ensures puts { IsTrue result → PutsInSteps (put_on config.now (mapped d.0)) first count steps }
+    ensures units { result ≡ false → SomeEncrypt (said_at config.now (mapped d.0)) first count }
 {
     let mut at = 0;
     while at < count {

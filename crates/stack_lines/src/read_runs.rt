@@ -3,8 +3,8 @@ ghost use Rattle.std.specs.Prelude.{◌≡◌, ◌<◌, ◌≤◌, ◌+◌, IsTr
 ghost use Rattle.stack_rules.specs.Names.{mapped, size};
 ghost use Rattle.stack_rules.specs.Rules.{IsLoaded};
 ghost use Rattle.stack_lines.specs.AtOnce.{AreBefore, CanGo, GoAtOnce};
-ghost use Rattle.stack_meaning.specs.Puts.{in_one_run};
-ghost use Rattle.stack_lines.specs.Sources.{AreWholeBlocks, EndsRun, IsServed};
+ghost use Rattle.stack_lines.specs.Runs.{IsRunAt};
+ghost use Rattle.stack_lines.specs.Sources.{AreWholeBlocks};
 ghost use Rattle.stack_lines.specs.Standing.{AreLeafSets};
 
 use crate::cache::Cache;
@@ -65,10 +65,7 @@ pub fn run_to_read<'a>(
     requires loaded { IsLoaded config.now }
     requires some { 0 < most }
     requires inside { sector + most ≤ size config.now (mapped d.0) }
-    ensures served { IsServed config.now d.0 sector result.count result.source }
-    ensures some { 0 < result.count }
-    ensures most { result.count ≤ most }
-    ensures ends { EndsRun (in_one_run config.now d.0) sector most result.count }
+    ensures run { IsRunAt config.now d.0 sector most result }
     ensures can_go { AreLeafSets config.now cache.now.beneath → CanGo config.now result.source result.count found.now }
 {
     let run = run_at(config, d, sector, most);

@@ -4,6 +4,7 @@ ghost use Rattle.dm_table.specs.Grammar.{IsTargetOfGrammar};
 ghost use Rattle.stack_rules.specs.Names.{mapped, size};
 ghost use Rattle.stack_recovery.specs.Pieces.{AreLostTogether, IsPace, IsPiece};
 
+use alignment::aligned_len;
 use dm_table::Target;
 use stack_config::{Config, DevId};
 
@@ -46,8 +47,8 @@ fn unit_of(target: &Target, within: u64) -> Unit
     }
 }
 
-/// The piece from sector `first` on and before sector `end`, of at most so many sectors where they aren't lost together.
-/// It stays in one line, and ends where such a part ends.
+/// The piece from sector `first` on and before sector `end`, of at most so many sectors if they aren't lost together. It stays
+/// in one line, and splits no unit and no data block that can be read in one piece.
 pub fn piece_at(config: &Config, d: DevId, first: u64, end: u64, most: u32) -> Piece
     requires device { d.0 < length config.now.devices }
     requires some { first < end }
@@ -63,8 +64,9 @@ pub fn piece_at(config: &Config, d: DevId, first: u64, end: u64, most: u32) -> P
     let Unit { rest, whole } = unit_of(&line.target, first - line.start);
     let wanted = u64::from(most);
     let behind = wanted.saturating_sub(rest) / whole * whole;
-    let room = left.min(end - first).min(MOST_PIECE);
-    let count = (rest + behind).min(room);
+    let longest = (rest + behind).min(MOST_PIECE);
+    let room = left.min(end - first);
+    let count = aligned_len(config, d, first, room, longest);
     Piece {
         count: count as u32,
         alike: count <= rest,

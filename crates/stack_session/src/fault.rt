@@ -17,7 +17,7 @@ pub enum SessionFault {
     /// There are more than 16 MiB of input.
     #[error("the input is too long")]
     TooLong = 3,
-    /// An allocation was refused, for a line or for setting up.
+    /// An allocation to keep a line was refused.
     #[error("out of memory")]
     NoMemory = 4,
 }

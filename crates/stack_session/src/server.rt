@@ -194,6 +194,11 @@ impl<D: BlockDev> LineServer for Queue<D> {
 }
 
 /// Serves a session's lines by a queue, which is left as the last line left it.
+///
+/// # Errors
+///
+/// `TooLong` if the input has more than 16 MiB; `ReadFault` if the reader failed, or was called 2^24 + 1 times;
+/// `WriteFault` if the writer failed; `NoMemory` if an allocation of at most 16 MiB was refused.
 pub fn session<D: BlockDev, R: Read, W: Write>(
     alloc: Global,
     queue: &mut Queue<D>,

@@ -13,7 +13,7 @@ use crate::print_verity::print_verity;
 use allocation::{OutOfMemory, append, push};
 use dm_table::{Base, Line, Table, Target};
 use itoa::Buffer;
-use std::alloc::{AllocError, Global};
+use std::alloc::Global;
 
 /// Prints each line on a line of its own, ended by a newline, as `dmsetup create` takes them.
 /// In place of each key, unless `show_keys` asks for it, there are as many zeros.
@@ -21,7 +21,7 @@ use std::alloc::{AllocError, Global};
 /// # Errors
 ///
 /// An allocation of room for at most as many bytes as the text has was refused.
-pub fn print_table(alloc: Global, table: &Table, show_keys: bool) -> Result<Vec<u8>, AllocError>
+pub fn print_table(alloc: Global, table: &Table, show_keys: bool) -> Result<Vec<u8>, OutOfMemory>
     ensures text { IfOk result (λ text. text.items ≡ printed_table show_keys table.now) }
     ensures reads_back { IfOk result (λ text. table_of text.items ≡ Ok (printed_lines show_keys table.now)) }
     ensures err { OnErr result (IsOutOfMemory (length (printed_table show_keys table.now))) }
@@ -39,7 +39,7 @@ pub fn print_table(alloc: Global, table: &Table, show_keys: bool) -> Result<Vec<
 /// # Errors
 ///
 /// An allocation of room for at most as many bytes as the text has was refused.
-pub fn print_line(alloc: Global, line: &Line, show_keys: bool) -> Result<Vec<u8>, AllocError>
+pub fn print_line(alloc: Global, line: &Line, show_keys: bool) -> Result<Vec<u8>, OutOfMemory>
     ensures text { IfOk result (λ text. text.items ≡ line_text show_keys line.now) }
     ensures reads_back { IsLineOfGrammar line.now → IfOk result (λ text. table_of text.items ≡ Ok (printed_lines show_keys (line.now ∷ []))) }
     ensures err { OnErr result (IsOutOfMemory (length (line_text show_keys line.now))) }

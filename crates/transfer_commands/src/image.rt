@@ -6,6 +6,7 @@ ghost use Rattle.transfer_commands.specs.Stores.{put_refusal};
 
 use crate::input::{MOST_PIECE, ROOM, StorePlace, refusal_of, sync_stopped, sync_stored, tell};
 use crate::stream_fault::{StoreCause, StoreFault};
+use alignment::aligned_len;
 use block_device::{BlockDev, SyncDev};
 use device_adapters::Progress;
 use stack_config::DevId;
@@ -66,7 +67,7 @@ fn store_image_by<D: BlockDev, S: BlockDev, P: Progress>(
     let sectors = source.sectors();
     let mut done = 0;
     'pieces: while done < sectors {
-        let most = (sectors - done).min(MOST_PIECE);
+        let most = aligned_len(stack.config(), d, first + done, sectors - done, MOST_PIECE);
         let bytes = &mut room[..most as usize * 512];
         if source.read(done, bytes).is_err() {
             let cause = StoreCause::Read;

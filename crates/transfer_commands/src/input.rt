@@ -6,6 +6,7 @@ ghost use Rattle.transfer_commands.specs.Stores.{EndsStoreBy, EndsThere, GoesFur
 
 use crate::filling::fill;
 use crate::stream_fault::{StoreCause, StoreFault};
+use alignment::aligned_len;
 use block_device::{BlockDev, SyncDev};
 use device_adapters::Progress;
 use program_io::Counted;
@@ -120,7 +121,7 @@ fn store_by<D: BlockDev, R: Read, P: Progress>(
     let mut at = place.first;
     'pieces: while at < sectors {
         let written = at - place.first;
-        let most = (sectors - at).min(MOST_PIECE);
+        let most = aligned_len(stack.config(), d, at, sectors - at, MOST_PIECE);
         let size = most as usize * 512;
         let bytes = &mut room[..size];
         let Ok(count) = fill(reader, bytes) else {

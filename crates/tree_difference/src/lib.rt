@@ -11,3 +11,4 @@ mod walk;
 
 pub use difference::{Roots, Totals, compare_trees};
 pub use fault::{DifferenceFault, Unlike, Which};
+pub use superblocks::superblock_of;

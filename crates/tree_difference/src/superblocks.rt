@@ -10,7 +10,7 @@ use tree_shape::Salt;
 use verity_format::{Superblock, VerifyFault, read_superblock, tree_sectors};
 
 /// The superblock of a hash image, where its tree fits the device.
-pub(crate) fn superblock_of<H: BlockDev>(
+pub fn superblock_of<H: BlockDev>(
     device: &mut H,
     which: Which,
 ) -> Result<Superblock, DifferenceFault>

@@ -221,7 +221,7 @@ module _ (p q r : PathRecord) (d d' d'' : Device) (above l : ℕ) (old now new :
     printed_are = subst (Appends old new) (sym (lines-append u.bad h.bad)) (Appends-trans old now new (hash_lines u.bad) (hash_lines h.bad) u.printed_are h.printed_are);
   }
 
-pub tree-all : (p q : PathRecord) (d d' : Device) (level : ℕ) (old new : Option (List ℕ)) (whole : Bool) → level ≡ 0 → IsSayingTree p q d d' level old new whole → TellsHashes p d d' old new whole
+pub tree-all : (p q : PathRecord) (d d' : Device) (level : ℕ) (old new : Option (List ℕ)) (whole : Bool) → level ≡ 0 → IsSayingTree p q d d' level old new whole → TellsHashes (tree_of_path p) d d' old new whole
 tree-all p q d d' level old new whole none u =
     let all : levels p.shape - level ≡ levels p.shape = omega (arith, none) in
     record {

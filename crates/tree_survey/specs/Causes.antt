@@ -8,6 +8,7 @@ use Rattle.verity_format.specs.declared.verifying.VerifyFault.TheVariants.{TooSm
 use Rattle.verity_format.specs.Image.{data_sectors, tree_sectors}
 use Rattle.verity_format.specs.Superblock.{SuperRecord, shape_of}
 use Rattle.verity_format.specs.Verifying.{IsReadCause, IsReadFrom}
+use Rattle.tree_path.specs.Path.{largest_block}
 use Rattle.tree_survey.specs.declared.fault.SurveyFault.{SurveyFault}
 use Rattle.tree_survey.specs.declared.fault.SurveyFault.TheVariants.{Image, Write}
 
@@ -56,6 +57,16 @@ abbrev pub IsSurveyCause : ShapeRecord → Device → Device → Device → Devi
 IsSurveyCause shape data_dev hash_dev data_dev' hash_dev' failed (Image TooSmall) = IsCutOff shape data_dev hash_dev (Image TooSmall) × ((data_dev' ≡ data_dev) × (hash_dev' ≡ hash_dev))
 IsSurveyCause shape data_dev hash_dev data_dev' hash_dev' failed fault = IsPassCause data_dev hash_dev data_dev' hash_dev' failed fault
 
+-- room for the hash blocks on a path was refused, and nothing was read
+abbrev pub IsPathRefused : Device → Device → Type 0
+IsPathRefused device device' = (device' ≡ device) × IsOutOfMemory largest_block
+
+-- why the hash blocks of a tree weren't checked to the last: that, or a line can't be written
+abbrev pub IsHashesCause : Device → Device → Bool → SurveyFault → Type 0
+IsHashesCause device device' failed (Image NoMemory) = IsPathRefused device device'
+IsHashesCause device device' failed Write = failed ≡ true
+IsHashesCause device device' failed fault = ⊥
+
 -- ---- calls, by what a proof sees of the two devices: as they were before, and then after
 
 -- why data blocks weren't gone over to their end
@@ -65,3 +76,7 @@ EndsPass data_state hash_state d h d' h' failed fault = IsPassCause (data_state 
 -- why an image wasn't gone over to its end
 abbrev pub EndsSurvey : {D H : Type 0} → VerityTree → (D → Device) → (H → Device) → D → H → D → H → Bool → SurveyFault → Type 0
 EndsSurvey tree data_state hash_state d h d' h' failed fault = IsSurveyCause tree.shape (data_state d) (hash_state h) (data_state d') (hash_state h') failed fault
+
+-- the same of the hash device
+abbrev pub EndsHashes : {H : Type 0} → (H → Device) → H → H → Bool → SurveyFault → Type 0
+EndsHashes state h h' failed fault = IsHashesCause (state h) (state h') failed fault

@@ -117,8 +117,8 @@ pub record SaysLevel (old new : PathRecord) (device device' : Device) (l : ℕ) 
   pub whole_is : whole ≡ is_whole bad
   pub printed_are : Appends printed printed' (hash_lines bad)
 
-pub record TellsHashes (old : PathRecord) (device device' : Device) (printed printed' : Option (List ℕ)) (whole : Bool) : Type 0 where
-  pub found : HashesFound (tree_of_path old) device device'
+pub record TellsHashes (t : Tree) (device device' : Device) (printed printed' : Option (List ℕ)) (whole : Bool) : Type 0 where
+  pub found : HashesFound t device device'
   pub whole_is : whole ≡ is_whole found.bad
   pub printed_are : Appends printed printed' (hash_lines found.bad)
 
@@ -126,5 +126,5 @@ pub record TellsHashes (old : PathRecord) (device device' : Device) (printed pri
 abbrev pub TellsBad : {H L : Type 0} → (H → Device) → (L → Option (List ℕ)) → PathRecord → PathRecord → H → H → ℕ → L → L → Bool → Type 0
 TellsBad state told old new h h' level l l' whole = SaysLevel old new (state h) (state h') level (told l) (told l') whole
 
-abbrev pub TellsTree : {H L : Type 0} → (H → Device) → (L → Option (List ℕ)) → PathRecord → H → H → L → L → Bool → Type 0
-TellsTree state told old h h' l l' whole = TellsHashes old (state h) (state h') (told l) (told l') whole
+abbrev pub TellsTree : {H L : Type 0} → (H → Device) → (L → Option (List ℕ)) → Tree → H → H → L → L → Bool → Type 0
+TellsTree state told t h h' l l' whole = TellsHashes t (state h) (state h') (told l) (told l') whole

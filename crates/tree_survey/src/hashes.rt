@@ -1,17 +1,49 @@
 //! The hash blocks of a tree, compared with the digests that stand above them, and their unused parts with zeros.
-ghost use Rattle.std.specs.Prelude.{◌≡◌, ◌&&◌, ◌<◌, ◌≤◌, true, IfOk, OnErr};
+ghost use Rattle.std.specs.Prelude.{◌≡◌, ◌&&◌, ◌<◌, ◌≤◌, true, IfErr, IfOk, OnErr};
 ghost use Rattle.tree_shape.specs.Shape.{levels};
 ghost use Rattle.verity_format.specs.Image.{tree_sectors};
+ghost use Rattle.verity_format.specs.Superblock.{shape_of};
 ghost use Rattle.runs.specs.Listings.{Tells};
+ghost use Rattle.tree_survey.specs.Causes.{EndsHashes};
 ghost use Rattle.tree_survey.specs.Failing.{IsReadOver};
-ghost use Rattle.tree_survey.specs.Hashes.{CanCompareHashes, IsAbove, IsCompared, TellsBad, TellsTree, hash_line_at};
+ghost use Rattle.tree_survey.specs.Hashes.{CanCompareHashes, IsAbove, IsCompared, TellsBad, TellsTree, hash_line_at, tree_of_path};
+ghost use Rattle.tree_survey.specs.Passes.{super_tree};
 
+use crate::fault::SurveyFault;
 use crate::path::load;
 use block_device::BlockDev;
 use program_io::WriteFault;
 use runs::{Line, Listing};
+use std::alloc::Global;
 use tree_path::{TreePath, span};
-use tree_shape::Shape;
+use tree_shape::{Digest, Shape};
+use verity_format::Superblock;
+
+/// Checks each hash block of a tree, reports a line `hash LEVEL INDEX` for each that is invalid or can't be checked, the top
+/// level first, and returns whether there was none. A hash block is valid if its digest is stored in its parent, the root
+/// hash for the top one, and the block is zero after its last used entry. A block can't be checked if it or its parent can't
+/// be read.
+///
+/// # Errors
+///
+/// `NoMemory` if an allocation was refused, before anything was read; `Write` if a line can't be reported.
+pub fn survey_hashes<H: BlockDev, L: Listing>(
+    alloc: Global,
+    device: &mut H,
+    superblock: &Superblock,
+    root: &Digest,
+    listing: &mut L,
+) -> Result<bool, SurveyFault>
+    requires { tree_sectors (shape_of superblock.now) ≤ (H.state device.old).size }
+    ensures over { IsReadOver (H.state device.old) (H.state device.new) }
+    ensures ok { IfOk result (TellsTree H.state L.told (super_tree superblock.now root.now) device.old device.new listing.old listing.new) }
+    ensures err { IfErr result (EndsHashes H.state device.old device.new (L.failed listing.new)) }
+{
+    let shape = superblock.shape();
+    let mut path = TreePath::new(alloc, shape, superblock.salt(), *root)?;
+    let whole = say_hashes(&mut path, &shape, device, listing)?;
+    Ok(whole)
+}
 
 /// Tells a line for each hash block that isn't seen to be good, in the order in which they lie on the device, the top level
 /// first, and tells whether there was none. A hash block is good if its digest is stored in its parent and the block is zero
@@ -24,7 +56,7 @@ pub(crate) fn say_hashes<H: BlockDev, L: Listing>(
 ) -> Result<bool, WriteFault>
     requires { CanCompareHashes path.old shape.now (H.state device.old) }
     ensures over { IsReadOver (H.state device.old) (H.state device.new) }
-    ensures ok { IfOk result (TellsTree H.state L.told path.old device.old device.new listing.old listing.new) }
+    ensures ok { IfOk result (TellsTree H.state L.told (tree_of_path path.old) device.old device.new listing.old listing.new) }
     ensures err { OnErr result (L.failed listing.new ≡ true) }
 {
     let mut level = shape.levels();

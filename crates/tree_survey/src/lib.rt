@@ -14,5 +14,6 @@ mod unused;
 
 pub use counts::Totals;
 pub use fault::SurveyFault;
+pub use hashes::survey_hashes;
 pub use survey::{Survey, survey_image};
 pub use unused::{Unused, read_unused};

@@ -2,3 +2,4 @@ pub mod EndingLemmas
 pub mod OpeningLemmas
 pub mod KeptLemmas
 pub mod ObjectLemmas
+pub mod CheckedLemmas

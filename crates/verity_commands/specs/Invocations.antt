@@ -6,6 +6,7 @@ use Rattle.command_line.specs.declared.words.verify.VerifyWords.{VerifyWords}
 use Rattle.command_line.specs.words.Diff.{DiffRecord, diff_record}
 use Rattle.command_line.specs.words.Verify.{VerifyRecord, verify_record}
 use Rattle.program_io.specs.Counted.{CountedRecord}
+use Rattle.image_commands.specs.declared.trusted.TrustedRoot.{TrustedRoot}
 use Rattle.image_commands.specs.Places.{TwoPlaces}
 use Rattle.image_files.specs.Opener.{Calls, Opener, calls}
 use Rattle.tree_difference.specs.declared.difference.Roots.{Roots}
@@ -33,11 +34,11 @@ IsDiffWordsEnd w d old new failed fault = IsDiffFilesEnd d.json w (diff_paths d)
 abbrev pub survey_at : VerifyRecord → TwoPlaces
 survey_at v = record { paths = record { data_path = v.data_path; hash_path = v.hash_path }; first = v.hash_offset / 512 }
 
-abbrev pub SurveysAt : {S D : Type 0} → Calls S D → VerifyRecord → List ℕ → Option (List ℕ) → Option (List ℕ) → Type 0
-SurveysAt w v root old new = PrintsGood v.json w (survey_at v) root old new
+abbrev pub SurveysAt : {S D : Type 0} → Calls S D → VerifyRecord → TrustedRoot → Option (List ℕ) → Option (List ℕ) → Type 0
+SurveysAt w v trusted old new = PrintsGood v.json w (survey_at v) trusted old new
 
-abbrev pub IsSurveyWordsEnd : {S D : Type 0} → Calls S D → VerifyRecord → List ℕ → Option (List ℕ) → Option (List ℕ) → Bool → TreeFault → Type 0
-IsSurveyWordsEnd w v root old new failed fault = IsSurveyFilesEnd v.json w (survey_at v) root old new failed fault
+abbrev pub IsSurveyWordsEnd : {S D : Type 0} → Calls S D → VerifyRecord → TrustedRoot → Option (List ℕ) → Option (List ℕ) → Bool → TreeFault → Type 0
+IsSurveyWordsEnd w v trusted old new failed fault = IsSurveyFilesEnd v.json w (survey_at v) trusted old new failed fault
 
 -- ---- as a call sees them, by the program's own words
 
@@ -47,8 +48,8 @@ DiffsByWords relations state images images' contents writer writer' words = Diff
 abbrev pub FailsDiffByWords : {S D W : Type 0} → Opener S D → (D → Device) → S → S → (W → Option (List ℕ)) → CountedRecord W → CountedRecord W → DiffWords → TreeFault → Type 0
 FailsDiffByWords relations state images images' contents writer writer' words = IsDiffWordsEnd (calls relations state images images') (diff_record words) (contents writer.inner) (contents writer'.inner) writer'.failed
 
-abbrev pub SurveysByWords : {S D W : Type 0} → Opener S D → (D → Device) → S → S → (W → Option (List ℕ)) → CountedRecord W → CountedRecord W → VerifyWords → List ℕ → Type 0
-SurveysByWords relations state images images' contents writer writer' words root = SurveysAt (calls relations state images images') (verify_record words) root (contents writer.inner) (contents writer'.inner)
+abbrev pub SurveysByWords : {S D W : Type 0} → Opener S D → (D → Device) → S → S → (W → Option (List ℕ)) → CountedRecord W → CountedRecord W → VerifyWords → TrustedRoot → Type 0
+SurveysByWords relations state images images' contents writer writer' words trusted = SurveysAt (calls relations state images images') (verify_record words) trusted (contents writer.inner) (contents writer'.inner)
 
-abbrev pub FailsSurveyByWords : {S D W : Type 0} → Opener S D → (D → Device) → S → S → (W → Option (List ℕ)) → CountedRecord W → CountedRecord W → VerifyWords → List ℕ → TreeFault → Type 0
-FailsSurveyByWords relations state images images' contents writer writer' words root = IsSurveyWordsEnd (calls relations state images images') (verify_record words) root (contents writer.inner) (contents writer'.inner) writer'.failed
+abbrev pub FailsSurveyByWords : {S D W : Type 0} → Opener S D → (D → Device) → S → S → (W → Option (List ℕ)) → CountedRecord W → CountedRecord W → VerifyWords → TrustedRoot → TreeFault → Type 0
+FailsSurveyByWords relations state images images' contents writer writer' words trusted = IsSurveyWordsEnd (calls relations state images images') (verify_record words) trusted (contents writer.inner) (contents writer'.inner) writer'.failed

@@ -8,6 +8,7 @@ pub mod Trees
 pub mod Openings
 pub mod Objects
 pub mod Diffs
+pub mod CheckedDiffs
 pub mod TreeFaultTexts
 pub mod Invocations
 pub mod Surveys

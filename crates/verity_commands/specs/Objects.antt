@@ -20,6 +20,19 @@ difference_json lines t =
     (member (codes "same") (number (unsigned t.same))
     no_members))))))
 
+-- the same, and the hash blocks
+abbrev pub checked_json : List Line → Differences → Data
+checked_json lines t =
+    object
+    (member (codes "added") (number (unsigned t.added))
+    (member (codes "changed") (number (unsigned t.changed))
+    (member (codes "hash_blocks") (array (items_of (hashes_json lines)))
+    (member (codes "more") (boolean (says_more lines))
+    (member (codes "removed") (number (unsigned t.removed))
+    (member (codes "runs") (array (items_of (runs_json lines)))
+    (member (codes "same") (number (unsigned t.same))
+    no_members)))))))
+
 -- the runs and the hash blocks of which the lines tell, and the totals
 abbrev pub survey_json : List Line → Counts → Data
 survey_json lines t =

@@ -1,4 +1,4 @@
--- What `format` and `verify` do with a pin, and how they end early.
+-- What `format` does with a pin, and how it ends early.
 use Rattle.std.specs.Prelude.{◌≡◌, ◌⊎◌, ℕ, Bool, List, Option}
 use Rattle.std.specs.Io.KnownBytes.{Appends}
 use Rattle.block_device.specs.Device.{Device}
@@ -6,21 +6,17 @@ use Rattle.program_io.specs.Counted.{CountedRecord}
 use Rattle.command_line.specs.declared.image_options.ImageOptions.{ImageOptions}
 use Rattle.command_line.specs.declared.option_words.OptionWords.{OptionWords}
 use Rattle.command_line.specs.declared.words.pin_format.PinFormatWords.{PinFormatWords}
-use Rattle.command_line.specs.declared.words.pin_verify.PinVerifyWords.{PinVerifyWords}
 use Rattle.command_line.specs.FormatOptions.{AreSaid, OptionTexts, option_texts}
 use Rattle.command_line.specs.words.Format.{FormatRecord}
 use Rattle.command_line.specs.words.PinFormat.{PinFormatRecord, pin_format_record}
-use Rattle.command_line.specs.words.PinVerify.{PinVerifyRecord, pin_verify_record}
 use Rattle.image_commands.specs.declared.fault.ImageFault.{ImageFault}
 use Rattle.image_commands.specs.declared.format.MadeImage.{MadeImage}
 use Rattle.image_commands.specs.Drawing.{Drawing}
 use Rattle.image_commands.specs.Endings.{IsLineUnwritten}
 use Rattle.image_commands.specs.Formats.{made_text}
-use Rattle.image_commands.specs.PinFiles.{IsNoPinPath, IsPinFileEnd, IsPinPath, IsPinUnwritten, ReadsPin, WritesPin, pin_of_image}
-use Rattle.image_commands.specs.Pinned.{IsPinnedMatchesEnd, PrintsPinnedMatches}
+use Rattle.image_commands.specs.PinFiles.{IsNoPinPath, IsPinPath, IsPinUnwritten, WritesPin, pin_of_image}
 use Rattle.image_commands.specs.Places.{TwoPlaces}
 use Rattle.image_files.specs.Opener.{Calls, Opener, calls}
-use Rattle.image_pin.specs.declared.pin.Pin.{Pin}
 use Rattle.verity_commands.specs.declared.verity_fault.VerityFault.{VerityFault}
 use Rattle.verity_commands.specs.Endings.{IsImageEnd, IsUnsaid, IsVerityQuiet}
 use Rattle.verity_commands.specs.Placed.{IsMakingEnd, MakesImage}
@@ -73,22 +69,6 @@ IsPinFormatEnd texts w d f old new failed fault =
     ⊎ ((options : ImageOptions) × AreSaid texts options × IsImageEnd (IsPinFormatCause w d options f failed) fault))
     × IsVerityQuiet fault old new
 
--- `verify`: the pin was read, and then the images compared
-pub record VerifiesPin {S D : Type 0} (w : Calls S D) (v : PinVerifyRecord) (old new : Option (List ℕ)) : Type 0 where
-  pub between : S
-  pub pin : Pin
-  pub read : ReadsPin (record w { new = between }) v.pin pin
-  pub matches : PrintsPinnedMatches (record w { old = between }) (image_places v.data_path v.hash_path v.hash_offset) pin old new
-
-pub record EndsByPin {S D : Type 0} (w : Calls S D) (v : PinVerifyRecord) (failed : Bool) (fault : ImageFault) : Type 0 where
-  pub between : S
-  pub pin : Pin
-  pub read : ReadsPin (record w { new = between }) v.pin pin
-  pub ends : IsPinnedMatchesEnd (record w { old = between }) (image_places v.data_path v.hash_path v.hash_offset) pin failed fault
-
-abbrev pub IsPinVerifyEnd : {S D : Type 0} → Calls S D → PinVerifyRecord → Option (List ℕ) → Option (List ℕ) → Bool → VerityFault → Type 0
-IsPinVerifyEnd w v old new failed fault = IsImageEnd (λ f. IsPinFileEnd w v.pin f ⊎ EndsByPin w v failed f) fault × IsVerityQuiet fault old new
-
 -- ---- as a call sees them, as in `Placed`
 
 abbrev pub FormatsPinned : {S D T G W : Type 0} → Opener S D → (D → Device) → S → S → Drawing T G → (W → Option (List ℕ)) → CountedRecord W → CountedRecord W → OptionWords → PinFormatWords → Type 0
@@ -98,9 +78,3 @@ FormatsPinned relations state images images' d contents writer writer' options w
 abbrev pub FailsToFormatPinned : {S D T G W : Type 0} → Opener S D → (D → Device) → S → S → Drawing T G → (W → Option (List ℕ)) → CountedRecord W → CountedRecord W → OptionWords → PinFormatWords → VerityFault → Type 0
 FailsToFormatPinned relations state images images' d contents writer writer' options words =
     IsPinFormatEnd (option_texts options) (calls relations state images images') d (pin_format_record words) (contents writer.inner) (contents writer'.inner) writer'.failed
-
-abbrev pub VerifiesByPin : {S D W : Type 0} → Opener S D → (D → Device) → S → S → (W → Option (List ℕ)) → CountedRecord W → CountedRecord W → PinVerifyWords → Type 0
-VerifiesByPin relations state images images' contents writer writer' words = VerifiesPin (calls relations state images images') (pin_verify_record words) (contents writer.inner) (contents writer'.inner)
-
-abbrev pub FailsToVerifyByPin : {S D W : Type 0} → Opener S D → (D → Device) → S → S → (W → Option (List ℕ)) → CountedRecord W → CountedRecord W → PinVerifyWords → VerityFault → Type 0
-FailsToVerifyByPin relations state images images' contents writer writer' words = IsPinVerifyEnd (calls relations state images images') (pin_verify_record words) (contents writer.inner) (contents writer'.inner) writer'.failed

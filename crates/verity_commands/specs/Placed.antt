@@ -1,7 +1,7 @@
 -- What `format`, `verify`, `dump` and `table` print, and how they end early.
 use Rattle.std.specs.Borrow.{Bor}
 use Rattle.std.specs.Io.KnownBytes.{Appends}
-use Rattle.std.specs.Prelude.{◌≡◌, ◌⊎◌, ℕ, ◌/◌, Bool, true, false, List, Option}
+use Rattle.std.specs.Prelude.{◌≡◌, ◌⊎◌, ℕ, ◌/◌, Bool, true, false, List, Option, None}
 use Rattle.block_device.specs.Device.{Device}
 use Rattle.program_io.specs.Counted.{CountedRecord}
 use Rattle.command_line.specs.declared.image_options.ImageOptions.{ImageOptions}
@@ -18,6 +18,7 @@ use Rattle.command_line.specs.words.Verify.{VerifyRecord, verify_record}
 use Rattle.image_commands.specs.declared.fault.ImageFault.{ImageFault}
 use Rattle.image_commands.specs.declared.fault.ImageFault.TheVariants.{Format}
 use Rattle.image_commands.specs.declared.table.LineWords.{LineWords}
+use Rattle.image_commands.specs.declared.trusted.TrustedRoot.{TrustedRoot}
 use Rattle.image_commands.specs.declared.watching.WatchedPlaces.{WatchedPlaces}
 use Rattle.image_commands.specs.Drawing.{Drawing}
 use Rattle.image_commands.specs.declared.format.MadeImage.{MadeImage}
@@ -34,47 +35,47 @@ use Rattle.verity_commands.specs.declared.verity_fault.VerityFault.{VerityFault}
 use Rattle.verity_commands.specs.declared.verity_fault.VerityFault.TheVariants.{Usage}
 use Rattle.verity_commands.specs.Endings.{IsImageEnd, IsVerityQuiet, IsUnsaid}
 use Rattle.verity_commands.specs.Growing.{FormatsGrowing, IsGrowingEnd, PreparesFirst}
-use Rattle.verity_commands.specs.Places.{IsRootEnd, TellsRoot, image_places}
+use Rattle.verity_commands.specs.Places.{IsTrustedEnd, TellsTrusted, image_places}
 use Rattle.verity_format.specs.declared.formatting.FormatFault.TheVariants.{HashTooSmall}
 
 -- the words are none of the command's, and nothing is opened
 abbrev pub IsRefusedUnread : {S D : Type 0} → Calls S D → VerityFault → Type 0
 IsRefusedUnread w fault = (fault ≡ Usage) × (w.new ≡ w.old)
 
--- `verify`: the root was told, and then the images compared
+-- `verify`: the root was told, or the pin that holds it, and then the images compared
 pub record PrintsVerified {S D : Type 0} (w : Calls S D) (v : VerifyRecord) (old new : Option (List ℕ)) : Type 0 where
   pub between : S
-  pub found : List ℕ
-  pub told : TellsRoot (record w { new = between }) v.root found
+  pub found : TrustedRoot
+  pub told : TellsTrusted (record w { new = between }) v.root found
   pub matches : PrintsPlacedMatches (record w { old = between }) (image_places v.data_path v.hash_path v.hash_offset) found old new
 
 pub record EndsVerified {S D : Type 0} (w : Calls S D) (v : VerifyRecord) (failed : Bool) (fault : ImageFault) : Type 0 where
   pub between : S
-  pub found : List ℕ
-  pub told : TellsRoot (record w { new = between }) v.root found
+  pub found : TrustedRoot
+  pub told : TellsTrusted (record w { new = between }) v.root found
   pub ends : IsPlacedMatchesEnd (record w { old = between }) (image_places v.data_path v.hash_path v.hash_offset) found failed fault
 
 abbrev pub IsVerifiedEnd : {S D : Type 0} → Calls S D → VerifyRecord → Bool → ImageFault → Type 0
-IsVerifiedEnd w v failed fault = IsRootEnd w v.root fault ⊎ EndsVerified w v failed fault
+IsVerifiedEnd w v failed fault = IsTrustedEnd w v.root fault ⊎ EndsVerified w v failed fault
 
--- `table`: the root was told, and then a line of the superblock printed, or a whole entry
+-- `table`: the root was told, or the pin that holds it, and then a line of the superblock printed, or a whole entry
 pub record PrintsEntry {S D : Type 0} (w : Calls S D) (t : TableRecord) (old new : Option (List ℕ)) : Type 0 where
   pub between : S
   pub words : LineWords
   pub name : Option (Bor (List ℕ))
-  pub told : TellsRoot (record w { new = between }) t.root words.root.now
+  pub told : TellsTrusted (record w { new = between }) t.root words.root.now
   pub names : (words.data_name.now ≡ t.data_name) × (words.hash_name.now ≡ t.hash_name)
   pub entry : text_of name ≡ t.name
-  pub prints : PrintsPlacedSuper (record w { old = between }) t.hash_path (t.hash_offset / 512) (λ s. is_aligned (t.hash_offset / 512) s.hash_block) (λ s. placed_line name s words (t.hash_offset / 512)) old new
+  pub prints : PrintsPlacedSuper (record w { old = between }) t.hash_path (t.hash_offset / 512) words.root.now.pin (λ s. is_aligned (t.hash_offset / 512) s.hash_block) (λ s. placed_line name s words (t.hash_offset / 512)) old new
 
 pub record EndsEntry {S D : Type 0} (w : Calls S D) (t : TableRecord) (failed : Bool) (fault : ImageFault) : Type 0 where
   pub between : S
-  pub found : List ℕ
-  pub told : TellsRoot (record w { new = between }) t.root found
-  pub ends : IsPlacedImageEnd (record w { old = between }) t.hash_path (t.hash_offset / 512) failed fault
+  pub found : TrustedRoot
+  pub told : TellsTrusted (record w { new = between }) t.root found
+  pub ends : IsPlacedImageEnd (record w { old = between }) t.hash_path (t.hash_offset / 512) found.pin failed fault
 
 abbrev pub IsEntryEnd : {S D : Type 0} → Calls S D → TableRecord → Bool → ImageFault → Type 0
-IsEntryEnd w t failed fault = IsRootEnd w t.root fault ⊎ EndsEntry w t failed fault
+IsEntryEnd w t failed fault = IsTrustedEnd w t.root fault ⊎ EndsEntry w t failed fault
 
 -- ---- each by its words
 
@@ -126,10 +127,10 @@ IsSaidVerifyEnd w v old new failed fault =
     ((v.all ≡ true) × IsRefusedUnread w fault × (new ≡ old)) ⊎ (IsImageEnd (IsVerifiedEnd w v failed) fault × IsVerityQuiet fault old new)
 
 abbrev pub DumpsAt : {S D : Type 0} → Calls S D → DumpRecord → Option (List ℕ) → Option (List ℕ) → Type 0
-DumpsAt w d old new = PrintsPlacedSuper w d.hash_path (d.hash_offset / 512) (λ s. true) (dump_text d.json) old new
+DumpsAt w d old new = PrintsPlacedSuper w d.hash_path (d.hash_offset / 512) None (λ s. true) (dump_text d.form) old new
 
 abbrev pub IsDumpEnd : {S D : Type 0} → Calls S D → DumpRecord → Option (List ℕ) → Option (List ℕ) → Bool → VerityFault → Type 0
-IsDumpEnd w d old new failed fault = IsImageEnd (IsPlacedImageEnd w d.hash_path (d.hash_offset / 512) failed) fault × IsVerityQuiet fault old new
+IsDumpEnd w d old new failed fault = IsImageEnd (IsPlacedImageEnd w d.hash_path (d.hash_offset / 512) None failed) fault × IsVerityQuiet fault old new
 
 abbrev pub IsTableEnd : {S D : Type 0} → Calls S D → TableRecord → Option (List ℕ) → Option (List ℕ) → Bool → VerityFault → Type 0
 IsTableEnd w t old new failed fault = IsImageEnd (IsEntryEnd w t failed) fault × IsVerityQuiet fault old new

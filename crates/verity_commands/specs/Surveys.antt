@@ -7,10 +7,12 @@ use Rattle.image_commands.specs.declared.finding.NoTree.{NoTree}
 use Rattle.image_commands.specs.declared.finding.NoTree.TheVariants as no_tree
 use Rattle.image_commands.specs.declared.paths.TwoImages.{TwoImages}
 use Rattle.image_commands.specs.declared.places.Bounds.{Bounds}
+use Rattle.image_commands.specs.declared.trusted.TrustedRoot.{TrustedRoot}
 use Rattle.image_commands.specs.Finding.{IsNoTree, ReadsSuper}
 use Rattle.image_commands.specs.Openings.{FailsToOpenTwo, OpensTwo, TwoPaths}
 use Rattle.image_commands.specs.Places.{TwoPlaces, before, behind, data_end}
 use Rattle.image_files.specs.Opener.{Calls, Opener, calls}
+use Rattle.image_pin.specs.declared.pin.Pin.{Pin}
 use Rattle.program_io.specs.JsonLines.{json_line}
 use Rattle.tree_shape.specs.Shape.{ShapeRecord}
 use Rattle.verity_format.specs.declared.tree.VerityTree.{VerityTree}
@@ -29,7 +31,7 @@ use Rattle.tree_survey.specs.declared.survey.Survey.{Survey as Found}
 use Rattle.tree_survey.specs.Causes.{IsSurveyCause}
 use Rattle.tree_survey.specs.Passes.{IsSurvey, Pass, pass}
 use Rattle.verity_commands.specs.declared.tree_fault.TreeFault.{TreeFault}
-use Rattle.verity_commands.specs.declared.tree_fault.TreeFault.TheVariants.{Damaged, Open, Survey, Unaligned, Write}
+use Rattle.verity_commands.specs.declared.tree_fault.TreeFault.TheVariants.{Damaged, Open, Survey, Unaligned, Unpinned, Write}
 use Rattle.verity_commands.specs.declared.survey.SurveyOrder.{SurveyOrder}
 use Rattle.verity_commands.specs.Objects.{survey_json}
 use Rattle.verity_commands.specs.Surveyed.{SurveyedDevices}
@@ -88,54 +90,55 @@ IsSurveyEnd json tree w root failed fault = ⊥
 -- ---- a place for the hash image in its file
 
 -- the superblock at that sector was read once, and the image scanned by its tree
-pub record SurveysPlaced (json : Bool) (data_dev hash_dev : Device) (end first : ℕ) (root : List ℕ) (old new : Option (List ℕ)) : Type 0 where
+pub record SurveysPlaced (json : Bool) (data_dev hash_dev : Device) (end first : ℕ) (trusted : TrustedRoot) (old new : Option (List ℕ)) : Type 0 where
   pub super : SuperRecord
   pub read_dev : Device
   pub data_dev' : Device
   pub hash_dev' : Device
-  pub super_read : ReadsSuper (behind hash_dev first) first super
+  pub super_read : ReadsSuper (behind hash_dev first) first trusted.pin super
   pub one : IsFullRead (behind hash_dev first) 1 read_dev
-  pub says : SaysFound json (superblock_tree super) (pass (before data_dev end) read_dev data_dev' hash_dev' old new) root true
+  pub says : SaysFound json (superblock_tree super) (pass (before data_dev end) read_dev data_dev' hash_dev' old new) trusted.root true
 
 -- with which fault a command ends without a tree
 abbrev pub no_tree_fault : NoTree → TreeFault
 no_tree_fault (no_tree.Unread fault) = Survey (Image fault)
 no_tree_fault no_tree.Unaligned = Unaligned
+no_tree_fault (no_tree.Unpinned mismatch) = Unpinned mismatch
 
--- there is no superblock behind that sector, or no hash block begins there
-pub record IsSurveyWithout (hash_dev : Device) (first : ℕ) (fault : TreeFault) : Type 0 where
+-- there is no superblock behind that sector, it differs from the pin, or no hash block begins there
+pub record IsSurveyWithout (hash_dev : Device) (first : ℕ) (pin : Option Pin) (fault : TreeFault) : Type 0 where
   pub cause : NoTree
   pub hash_dev' : Device
-  pub none : IsNoTree (behind hash_dev first) first hash_dev' cause
+  pub none : IsNoTree (behind hash_dev first) first pin hash_dev' cause
   pub is : fault ≡ no_tree_fault cause
 
-pub record EndsPlacedSurvey (json : Bool) (data_dev hash_dev : Device) (end first : ℕ) (root : List ℕ) (old new : Option (List ℕ)) (failed : Bool) (fault : TreeFault) : Type 0 where
+pub record EndsPlacedSurvey (json : Bool) (data_dev hash_dev : Device) (end first : ℕ) (trusted : TrustedRoot) (old new : Option (List ℕ)) (failed : Bool) (fault : TreeFault) : Type 0 where
   pub super : SuperRecord
   pub read_dev : Device
   pub data_dev' : Device
   pub hash_dev' : Device
-  pub super_read : ReadsSuper (behind hash_dev first) first super
+  pub super_read : ReadsSuper (behind hash_dev first) first trusted.pin super
   pub one : IsFullRead (behind hash_dev first) 1 read_dev
-  pub ends : IsSurveyEnd json (superblock_tree super) (pass (before data_dev end) read_dev data_dev' hash_dev' old new) root failed fault
+  pub ends : IsSurveyEnd json (superblock_tree super) (pass (before data_dev end) read_dev data_dev' hash_dev' old new) trusted.root failed fault
 
-abbrev pub IsPlacedSurveyEnd : Bool → Device → Device → ℕ → ℕ → List ℕ → Option (List ℕ) → Option (List ℕ) → Bool → TreeFault → Type 0
-IsPlacedSurveyEnd json data_dev hash_dev end first root old new failed fault =
-    IsSurveyWithout hash_dev first fault ⊎ EndsPlacedSurvey json data_dev hash_dev end first root old new failed fault
+abbrev pub IsPlacedSurveyEnd : Bool → Device → Device → ℕ → ℕ → TrustedRoot → Option (List ℕ) → Option (List ℕ) → Bool → TreeFault → Type 0
+IsPlacedSurveyEnd json data_dev hash_dev end first trusted old new failed fault =
+    IsSurveyWithout hash_dev first trusted.pin fault ⊎ EndsPlacedSurvey json data_dev hash_dev end first trusted old new failed fault
 
 -- ---- of images that were opened
 
 abbrev pub survey_places : SurveyOrder → TwoPlaces
 survey_places p = record { paths = record { data_path = p.data.now; hash_path = p.hash.now }; first = p.hash_first }
 
-pub record PrintsGood {S D : Type 0} (json : Bool) (w : Calls S D) (places : TwoPlaces) (root : List ℕ) (old new : Option (List ℕ)) : Type 0 where
+pub record PrintsGood {S D : Type 0} (json : Bool) (w : Calls S D) (places : TwoPlaces) (trusted : TrustedRoot) (old new : Option (List ℕ)) : Type 0 where
   pub two : TwoImages D
   pub opened : OpensTwo w places.paths false two
-  pub surveys : SurveysPlaced json (w.state two.data.device) (w.state two.hash.device) (data_end two places.first) places.first root old new
+  pub surveys : SurveysPlaced json (w.state two.data.device) (w.state two.hash.device) (data_end two places.first) places.first trusted old new
 
-pub record EndsTreeSurvey {S D : Type 0} (json : Bool) (w : Calls S D) (places : TwoPlaces) (root : List ℕ) (old new : Option (List ℕ)) (failed : Bool) (fault : TreeFault) : Type 0 where
+pub record EndsTreeSurvey {S D : Type 0} (json : Bool) (w : Calls S D) (places : TwoPlaces) (trusted : TrustedRoot) (old new : Option (List ℕ)) (failed : Bool) (fault : TreeFault) : Type 0 where
   pub two : TwoImages D
   pub opened : OpensTwo w places.paths false two
-  pub ends : IsPlacedSurveyEnd json (w.state two.data.device) (w.state two.hash.device) (data_end two places.first) places.first root old new failed fault
+  pub ends : IsPlacedSurveyEnd json (w.state two.data.device) (w.state two.hash.device) (data_end two places.first) places.first trusted old new failed fault
 
 -- one of the two isn't opened
 abbrev pub IsImageUnopened : {S D : Type 0} → Calls S D → TwoPaths → TreeFault → Type 0
@@ -143,8 +146,8 @@ IsImageUnopened w paths (Open file) = FailsToOpenTwo w paths false file
 IsImageUnopened w paths fault = ⊥
 
 -- that, or it ends so
-abbrev pub IsSurveyFilesEnd : {S D : Type 0} → Bool → Calls S D → TwoPlaces → List ℕ → Option (List ℕ) → Option (List ℕ) → Bool → TreeFault → Type 0
-IsSurveyFilesEnd json w places root old new failed fault = IsImageUnopened w places.paths fault ⊎ EndsTreeSurvey json w places root old new failed fault
+abbrev pub IsSurveyFilesEnd : {S D : Type 0} → Bool → Calls S D → TwoPlaces → TrustedRoot → Option (List ℕ) → Option (List ℕ) → Bool → TreeFault → Type 0
+IsSurveyFilesEnd json w places trusted old new failed fault = IsImageUnopened w places.paths fault ⊎ EndsTreeSurvey json w places trusted old new failed fault
 
 -- ---- as a call sees them, as in `Diffs`
 
@@ -168,19 +171,19 @@ abbrev pub FailsSurvey : {W : Type 0} → Bool → VerityTree → SurveyedDevice
 FailsSurvey json tree image image' contents writer writer' root = IsSurveyEnd json tree (gone_over image image' (contents writer.inner) (contents writer'.inner)) root writer'.failed
 
 -- what lies before the data's end, and what lies behind a sector
-abbrev pub SurveysBehind : {D H W : Type 0} → (D → Device) → (H → Device) → D × H → (W → Option (List ℕ)) → CountedRecord W → CountedRecord W → Bounds → List ℕ → Bool → Type 0
-SurveysBehind data_state hash_state devices contents writer writer' bounds root json =
-    SurveysPlaced json (data_state devices.0) (hash_state devices.1) bounds.end bounds.first root (contents writer.inner) (contents writer'.inner)
+abbrev pub SurveysBehind : {D H W : Type 0} → (D → Device) → (H → Device) → D × H → (W → Option (List ℕ)) → CountedRecord W → CountedRecord W → Bounds → TrustedRoot → Bool → Type 0
+SurveysBehind data_state hash_state devices contents writer writer' bounds trusted json =
+    SurveysPlaced json (data_state devices.0) (hash_state devices.1) bounds.end bounds.first trusted (contents writer.inner) (contents writer'.inner)
 
-abbrev pub FailsToSurveyBehind : {D H W : Type 0} → (D → Device) → (H → Device) → D × H → (W → Option (List ℕ)) → CountedRecord W → CountedRecord W → Bounds → List ℕ → Bool → TreeFault → Type 0
-FailsToSurveyBehind data_state hash_state devices contents writer writer' bounds root json =
-    IsPlacedSurveyEnd json (data_state devices.0) (hash_state devices.1) bounds.end bounds.first root (contents writer.inner) (contents writer'.inner) writer'.failed
+abbrev pub FailsToSurveyBehind : {D H W : Type 0} → (D → Device) → (H → Device) → D × H → (W → Option (List ℕ)) → CountedRecord W → CountedRecord W → Bounds → TrustedRoot → Bool → TreeFault → Type 0
+FailsToSurveyBehind data_state hash_state devices contents writer writer' bounds trusted json =
+    IsPlacedSurveyEnd json (data_state devices.0) (hash_state devices.1) bounds.end bounds.first trusted (contents writer.inner) (contents writer'.inner) writer'.failed
 
 -- two images
-abbrev pub SurveysImages : {S D W : Type 0} → Opener S D → (D → Device) → S → S → (W → Option (List ℕ)) → CountedRecord W → CountedRecord W → SurveyOrder → List ℕ → Type 0
-SurveysImages relations state images images' contents writer writer' order root =
-    PrintsGood order.json (calls relations state images images') (survey_places order) root (contents writer.inner) (contents writer'.inner)
+abbrev pub SurveysImages : {S D W : Type 0} → Opener S D → (D → Device) → S → S → (W → Option (List ℕ)) → CountedRecord W → CountedRecord W → SurveyOrder → TrustedRoot → Type 0
+SurveysImages relations state images images' contents writer writer' order trusted =
+    PrintsGood order.json (calls relations state images images') (survey_places order) trusted (contents writer.inner) (contents writer'.inner)
 
-abbrev pub FailsToSurvey : {S D W : Type 0} → Opener S D → (D → Device) → S → S → (W → Option (List ℕ)) → CountedRecord W → CountedRecord W → SurveyOrder → List ℕ → TreeFault → Type 0
-FailsToSurvey relations state images images' contents writer writer' order root =
-    IsSurveyFilesEnd order.json (calls relations state images images') (survey_places order) root (contents writer.inner) (contents writer'.inner) writer'.failed
+abbrev pub FailsToSurvey : {S D W : Type 0} → Opener S D → (D → Device) → S → S → (W → Option (List ℕ)) → CountedRecord W → CountedRecord W → SurveyOrder → TrustedRoot → TreeFault → Type 0
+FailsToSurvey relations state images images' contents writer writer' order trusted =
+    IsSurveyFilesEnd order.json (calls relations state images images') (survey_places order) trusted (contents writer.inner) (contents writer'.inner) writer'.failed

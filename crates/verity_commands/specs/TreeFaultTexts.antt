@@ -1,7 +1,8 @@
 -- What is printed of commands on hash trees that end early, and their status.
 use Rattle.std.specs.Prelude.{ℕ, List, [], ◌++◌, codes, decimal}
+use Rattle.image_pin.specs.Mismatches.{mismatch_name, mismatch_number}
 use Rattle.io_fault_text.specs.Opening.{open_text}
-use Rattle.io_fault_text.specs.Texts.{kind_then, no_memory}
+use Rattle.io_fault_text.specs.Texts.{kind_then, no_memory, refused_text}
 use Rattle.verity_commands.specs.declared.tree_fault.TreeFault.{TreeFault}
 use Rattle.verity_commands.specs.declared.tree_fault.TreeFault.TheVariants as trees
 use Rattle.tree_difference.specs.declared.fault.DifferenceFault.{DifferenceFault}
@@ -62,6 +63,7 @@ tree_fault_text (trees.Trees fault) = difference_text fault
 tree_fault_text trees.Differs = []
 tree_fault_text (trees.Survey fault) = survey_text fault
 tree_fault_text trees.Unaligned = codes "refused 18 Unaligned\n"
+tree_fault_text (trees.Unpinned mismatch) = refused_text (mismatch_number mismatch) (mismatch_name mismatch)
 tree_fault_text trees.UnusedEntries = codes "refused 28 UnusedEntries\n"
 tree_fault_text trees.Damaged = []
 tree_fault_text trees.Write = []

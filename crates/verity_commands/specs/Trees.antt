@@ -93,7 +93,7 @@ pub record PrintsTreeEntry {S D : Type 0} (texts : OptionTexts) (w : Calls S D) 
   pub words : LineWords
   pub name : Option (Bor (List ℕ))
   pub said : SaysTree texts given
-  pub told : TellsRoot w t.root words.root.now
+  pub told : TellsRoot w t.root words.root.now.root
   pub names : (words.data_name.now ≡ t.data_name) × (words.hash_name.now ≡ t.hash_name)
   pub entry : text_of name ≡ t.name
   pub prints : PrintsTreeLine (t.hash_offset / 512) name words given old new

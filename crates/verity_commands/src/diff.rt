@@ -77,8 +77,12 @@ pub(crate) fn is_unchanged(totals: Totals) -> bool
     totals.changed == 0 && totals.removed == 0 && totals.added == 0
 }
 
+/// Prints how many data blocks differ: `same N changed N removed N added N`.
 #[tactic(auto, unfolding(crate::specs::Diffs::difference_totals))]
-fn say_totals<W: Write>(writer: &mut Counted<W>, totals: Totals) -> Result<(), WriteFault>
+pub(crate) fn say_totals<W: Write>(
+    writer: &mut Counted<W>,
+    totals: Totals,
+) -> Result<(), WriteFault>
     ensures { Writes W.contents writer.old writer.new (difference_totals totals) result }
 {
     let Totals {

@@ -59,7 +59,8 @@ fn keep_difference<D: BlockDev>(
     }
 }
 
-fn unkept(fault: DifferenceFault) -> DifferenceFault
+/// With which fault a comparison ends if lines are kept in memory: a line isn't kept only if memory ran out.
+pub(crate) fn unkept(fault: DifferenceFault) -> DifferenceFault
     ensures { result ≡ unkept_difference fault }
 {
     match fault {

@@ -8,26 +8,26 @@ use crate::survey::{SurveyOrder, survey_images};
 use crate::tree_fault::TreeFault;
 use command_line::{DiffWords, VerifyWords};
 use device_adapters::Watchers;
+use image_commands::TrustedRoot;
 use image_files::Images;
 use program_io::Counted;
 use std::alloc::Global;
 use std::io::Write;
 use tree_difference::Roots;
-use tree_shape::Digest;
 
 const SECTOR: u64 = 512;
 
-/// `verify --all [--json] [--progress] [--hash-offset BYTES] DATA HASH ROOT`, with the root digest that the words name.
+/// `verify --all [--json] [--progress] [--hash-offset BYTES] DATA HASH ROOT`, with the root that the words name, or the pin.
 pub fn invoke_survey<'a, I: Images, S: Watchers, W: Write>(
     alloc: Global,
     images: &mut I,
     watchers: &S,
     words: &VerifyWords<'a>,
-    root: &Digest,
+    trusted: &TrustedRoot,
     writer: &mut Counted<W>,
 ) -> Result<(), TreeFault<'a>>
-    ensures ok { OnOk result (SurveysByWords I.relations I.Dev.state images.old images.new W.contents writer.old writer.new words.now root.now) }
-    ensures err { IfErr result (FailsSurveyByWords I.relations I.Dev.state images.old images.new W.contents writer.old writer.new words.now root.now) }
+    ensures ok { OnOk result (SurveysByWords I.relations I.Dev.state images.old images.new W.contents writer.old writer.new words.now trusted.now) }
+    ensures err { IfErr result (FailsSurveyByWords I.relations I.Dev.state images.old images.new W.contents writer.old writer.new words.now trusted.now) }
 {
     let order = SurveyOrder {
         data: words.data_path,
@@ -36,7 +36,7 @@ pub fn invoke_survey<'a, I: Images, S: Watchers, W: Write>(
         json: words.json,
         progress: words.progress,
     };
-    survey_images(alloc, images, watchers, order, root, writer)
+    survey_images(alloc, images, watchers, order, trusted, writer)
 }
 
 /// `diff [--blocks N] [--json] HASH1 ROOT1 HASH2 ROOT2`

@@ -1,6 +1,8 @@
 //! The commands on verity images by their arguments, comparing two of their hash trees, and scanning one.
 #![tactic(auto)]
 
+mod checked_diff;
+mod checked_object;
 mod diff;
 mod diff_object;
 mod growing;
@@ -18,12 +20,13 @@ mod tree_fault_text;
 mod trees;
 mod verity_fault;
 
+pub use checked_diff::{CheckedTotals, DiffForm, check_images};
 pub use diff::diff_images;
 pub use invoke::{invoke_diff, invoke_survey};
 pub use paths::HashPaths;
-pub use pinned::{invoke_format_pinned, invoke_verify_pinned};
+pub use pinned::invoke_format_pinned;
 pub use placed::{invoke_dump, invoke_format, invoke_table, invoke_verify};
-pub use places::{root_in, sector_at};
+pub use places::{sector_at, trusted_in};
 pub use status::verity_status;
 pub use survey::{SurveyOrder, say_totals, survey_images};
 pub use texts::{say_image_fault, say_verity_fault};

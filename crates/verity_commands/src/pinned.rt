@@ -1,17 +1,13 @@
-//! The commands on verity images with a pin.
+//! The command `format --pin`.
 ghost use Rattle.std.specs.Prelude.{OnOk, IfErr};
 ghost use Rattle.image_commands.specs.Drawing.{drawing};
-ghost use Rattle.verity_commands.specs.Pinned.{FailsToFormatPinned, FailsToVerifyByPin, FormatsPinned, VerifiesByPin};
+ghost use Rattle.verity_commands.specs.Pinned.{FailsToFormatPinned, FormatsPinned};
 
 use crate::placed::{make_image, places_of, print_made};
-use crate::places::sector_at;
 use crate::verity_fault::VerityFault;
-use command_line::{OptionWords, PinFormatWords, PinVerifyWords, options_of};
+use command_line::{OptionWords, PinFormatWords, options_of};
 use device_adapters::Watchers;
-use image_commands::{
-    Generators, ImagePlaces, WatchedPlaces, check_pin_path, pin_of_image, read_pin, verify_pinned,
-    write_pin,
-};
+use image_commands::{Generators, check_pin_path, pin_of_image, write_pin};
 use image_files::Images;
 use program_io::Counted;
 use std::alloc::Global;
@@ -38,26 +34,4 @@ pub fn invoke_format_pinned<'a, I: Images, G: Generators + Watchers, W: Write>(
     let pin = pin_of_image(&options, &made);
     write_pin(alloc, images, watched.places, words.pin, &pin)?;
     Ok(print_made(writer, &made)?)
-}
-
-/// `verify --pin FILE [--progress] [--hash-offset BYTES] DATA HASH`
-pub fn invoke_verify_pinned<'a, I: Images, S: Watchers, W: Write>(
-    alloc: Global,
-    images: &mut I,
-    watchers: &S,
-    words: &PinVerifyWords<'a>,
-    writer: &mut Counted<W>,
-) -> Result<(), VerityFault<'a>>
-    ensures ok { OnOk result (VerifiesByPin I.relations I.Dev.state images.old images.new W.contents writer.old writer.new words.now) }
-    ensures err { IfErr result (FailsToVerifyByPin I.relations I.Dev.state images.old images.new W.contents writer.old writer.new words.now) }
-{
-    let pin = read_pin(images, words.pin)?;
-    let places = ImagePlaces {
-        data: words.data_path,
-        hash: words.hash_path,
-        hash_first: sector_at(words.hash_offset),
-    };
-    let progress = words.progress;
-    let watched = WatchedPlaces { places, progress };
-    Ok(verify_pinned(alloc, images, watchers, watched, &pin, writer)?)
 }

@@ -5,7 +5,7 @@ ghost use Rattle.image_commands.specs.Endings.{IsLineUnwritten};
 ghost use Rattle.verity_commands.specs.Placed.{DumpsByWords, FailsSaidImage, FailsToDump, FailsToFormat, FailsToPrintTable, FailsToVerifyByWords, FormatsByWords, MakesSaidImage, PrintsByWords, PrintsMade, VerifiesByWords, places_of};
 
 use crate::growing::make_growing;
-use crate::places::{root_in, sector_at};
+use crate::places::{sector_at, trusted_in};
 use crate::verity_fault::VerityFault;
 use command_line::{
     DumpWords, FormatWords, ImageOptions, OptionWords, TableWords, VerifyWords, options_of,
@@ -84,7 +84,7 @@ pub(crate) fn make_image<'a, I: Images, G: Generators + Watchers>(
     make_growing(alloc, images, generators, &said, watched)
 }
 
-/// `verify [--progress] [--hash-offset BYTES] [--root-hash-file FILE] DATA HASH [ROOT]`
+/// `verify [--progress] [--hash-offset BYTES] [--root-hash-file FILE | --pin FILE] DATA HASH [ROOT]`
 pub fn invoke_verify<'a, I: Images, S: Watchers, W: Write>(
     alloc: Global,
     images: &mut I,
@@ -98,7 +98,7 @@ pub fn invoke_verify<'a, I: Images, S: Watchers, W: Write>(
     if words.all {
         return Err(VerityFault::Usage);
     }
-    let root = root_in(images, &words.root)?;
+    let trusted = trusted_in(images, &words.root)?;
     let hash_first = sector_at(words.hash_offset);
     let places = ImagePlaces {
         data: words.data_path,
@@ -107,10 +107,10 @@ pub fn invoke_verify<'a, I: Images, S: Watchers, W: Write>(
     };
     let progress = words.progress;
     let watched = WatchedPlaces { places, progress };
-    Ok(verify_placed(alloc, images, watchers, watched, &root, writer)?)
+    Ok(verify_placed(alloc, images, watchers, watched, &trusted, writer)?)
 }
 
-/// `dump [--hash-offset BYTES] [--json] HASH`
+/// `dump [--hash-offset BYTES] [--json] [--pin ROOT] HASH`
 pub fn invoke_dump<'a, I: Images, W: Write>(
     alloc: Global,
     images: &mut I,
@@ -124,10 +124,10 @@ pub fn invoke_dump<'a, I: Images, W: Write>(
         path: words.hash_path,
         first: sector_at(words.hash_offset),
     };
-    Ok(dump_placed(alloc, images, place, words.json, writer)?)
+    Ok(dump_placed(alloc, images, place, words.form, writer)?)
 }
 
-/// `table [--hash-offset BYTES] [--name NAME] [--root-hash-file FILE] HASH [ROOT] DATANAME HASHNAME`
+/// `table [--hash-offset BYTES] [--name NAME] [--root-hash-file FILE | --pin FILE] HASH [ROOT] DATANAME HASHNAME`
 pub fn invoke_table<'a, I: Images, W: Write>(
     alloc: Global,
     images: &mut I,
@@ -137,13 +137,13 @@ pub fn invoke_table<'a, I: Images, W: Write>(
     ensures ok { OnOk result (PrintsByWords I.relations I.Dev.state images.old images.new W.contents writer.old writer.new words.now) }
     ensures err { IfErr result (FailsToPrintTable I.relations I.Dev.state images.old images.new W.contents writer.old writer.new words.now) }
 {
-    let root = root_in(images, &words.root)?;
+    let trusted = trusted_in(images, &words.root)?;
     let place = HashPlace {
         path: words.hash_path,
         first: sector_at(words.hash_offset),
     };
     let line = LineWords {
-        root: &root,
+        root: &trusted,
         data_name: words.data_name,
         hash_name: words.hash_name,
     };

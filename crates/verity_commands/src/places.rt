@@ -1,9 +1,9 @@
 //! The commands on verity images whose superblock and tree stand at a place of their file.
 ghost use Rattle.std.specs.Prelude.{◌≡◌, ◌/◌, IfErr, IfOk};
-ghost use Rattle.verity_commands.specs.Places.{FindsNoRoot, FindsRoot};
+ghost use Rattle.verity_commands.specs.Places.{FindsNoRoot, FindsNoTrusted, FindsRoot, FindsTrusted};
 
-use command_line::RootWord;
-use image_commands::{ImageFault, read_root};
+use command_line::{RootOrPin, RootWord};
+use image_commands::{ImageFault, TrustedRoot, read_pin, read_root};
 use image_files::Images;
 use tree_shape::Digest;
 
@@ -17,12 +17,41 @@ pub fn sector_at(offset: u64) -> u64
 }
 
 /// The root digest that words give, by itself or in a file.
-pub fn root_in<'a, I: Images>(images: &mut I, root: &RootWord<'a>) -> Result<Digest, ImageFault<'a>>
+pub(crate) fn root_in<'a, I: Images>(
+    images: &mut I,
+    root: &RootWord<'a>,
+) -> Result<Digest, ImageFault<'a>>
     ensures ok { IfOk result (FindsRoot I.relations I.Dev.state images.old images.new root.now) }
     ensures err { IfErr result (FindsNoRoot I.relations I.Dev.state images.old images.new root.now) }
 {
     match root {
         RootWord::Digest(root) => Ok(*root),
         RootWord::File(path) => read_root(images, path),
+    }
+}
+
+/// The root that is trusted: the root digest that words give, or the pin of a file and its root.
+pub fn trusted_in<'a, I: Images>(
+    images: &mut I,
+    word: &RootOrPin<'a>,
+) -> Result<TrustedRoot, ImageFault<'a>>
+    ensures ok { IfOk result (FindsTrusted I.relations I.Dev.state images.old images.new word.now) }
+    ensures err { IfErr result (FindsNoTrusted I.relations I.Dev.state images.old images.new word.now) }
+{
+    match word {
+        RootOrPin::Root(word) => match root_in(images, word) {
+            Ok(root) => Ok(TrustedRoot { root, pin: None }),
+            Err(fault) => Err(fault),
+        },
+        RootOrPin::Pin(path) => match read_pin(images, path) {
+            Ok(pin) => {
+                let root = pin.root;
+                Ok(TrustedRoot {
+                    root,
+                    pin: Some(pin),
+                })
+            }
+            Err(fault) => Err(fault),
+        },
     }
 }

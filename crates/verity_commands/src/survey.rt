@@ -8,7 +8,7 @@ use crate::tree_fault::TreeFault;
 use block_device::BlockDev;
 use device_adapters::{Watchers, bytes_before};
 use image_commands::{
-    Bounds, ImagePair, ImagePaths, data_end, find_tree, open_two, place_parts, watch,
+    Bounds, ImagePair, ImagePaths, TrustedRoot, data_end, find_tree, open_two, place_parts, watch,
 };
 use image_files::Images;
 use program_io::{Counted, WriteFault};
@@ -54,11 +54,11 @@ pub fn survey_images<'a, I: Images, S: Watchers, W: Write>(
     images: &mut I,
     watchers: &S,
     order: SurveyOrder<'a>,
-    root: &Digest,
+    trusted: &TrustedRoot,
     writer: &mut Counted<W>,
 ) -> Result<(), TreeFault<'a>>
-    ensures ok { OnOk result (SurveysImages I.relations I.Dev.state images.old images.new W.contents writer.old writer.new order.entry root.now) }
-    ensures err { IfErr result (FailsToSurvey I.relations I.Dev.state images.old images.new W.contents writer.old writer.new order.entry root.now) }
+    ensures ok { OnOk result (SurveysImages I.relations I.Dev.state images.old images.new W.contents writer.old writer.new order.entry trusted.now) }
+    ensures err { IfErr result (FailsToSurvey I.relations I.Dev.state images.old images.new W.contents writer.old writer.new order.entry trusted.now) }
 {
     let SurveyOrder {
         data,
@@ -72,7 +72,7 @@ pub fn survey_images<'a, I: Images, S: Watchers, W: Write>(
     let all = bytes_before(&two.data.device, end);
     let devices = watch(two, watchers, progress, all);
     let bounds = Bounds { end, first };
-    survey_behind(alloc, devices, bounds, root, json, writer)
+    survey_behind(alloc, devices, bounds, trusted, json, writer)
 }
 
 // What lies before the data's end, and what lies behind that sector.
@@ -80,19 +80,26 @@ fn survey_behind<'a, D: BlockDev + Drop, H: BlockDev + Drop, W: Write>(
     alloc: Global,
     devices: (D, H),
     bounds: Bounds,
-    root: &Digest,
+    trusted: &TrustedRoot,
     json: bool,
     writer: &mut Counted<W>,
 ) -> Result<(), TreeFault<'a>>
-    ensures ok { OnOk result (SurveysBehind D.state H.state devices W.contents writer.old writer.new bounds root.now json) }
-    ensures err { IfErr result (FailsToSurveyBehind D.state H.state devices W.contents writer.old writer.new bounds root.now json) }
+    ensures ok { OnOk result (SurveysBehind D.state H.state devices W.contents writer.old writer.new bounds trusted.now json) }
+    ensures err { IfErr result (FailsToSurveyBehind D.state H.state devices W.contents writer.old writer.new bounds trusted.now json) }
 {
     let (data_dev, hash_dev) = devices;
     let mut two = place_parts(data_dev, hash_dev, bounds);
-    let superblock = find_tree(&mut two.hash, bounds.first)?;
+    let superblock = find_tree(&mut two.hash, bounds.first, &trusted.pin)?;
     let ImagePair { data, hash } = two;
     let mut placed = SurveyedImage { data, hash };
-    say_survey(alloc, &mut placed, &superblock.tree(), root, json, writer)
+    say_survey(
+        alloc,
+        &mut placed,
+        &superblock.tree(),
+        &trusted.root,
+        json,
+        writer,
+    )
 }
 
 // Goes over the two devices, and prints what was found.

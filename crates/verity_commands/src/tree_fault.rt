@@ -5,6 +5,7 @@ ghost use Rattle.tree_survey.specs.declared.fault.SurveyFault.TheVariants as sur
 
 use image_commands::NoTree;
 use image_files::UnopenedFile;
+use image_pin::Mismatch;
 use program_io::WriteFault;
 use tree_difference::DifferenceFault;
 use tree_survey::SurveyFault;
@@ -23,6 +24,8 @@ pub enum TreeFault<'a> {
     Survey(SurveyFault),
     /// No hash block begins at the place of the superblock.
     Unaligned,
+    /// The superblock differs from the pin.
+    Unpinned(Mismatch),
     /// A hash block isn't zero after its last used entry: the image that was formatted has more data blocks than the
     /// superblock says.
     UnusedEntries,
@@ -65,6 +68,7 @@ impl From<NoTree> for TreeFault<'_> {
         match fault {
             NoTree::Unread(fault) => TreeFault::from(fault),
             NoTree::Unaligned => TreeFault::Unaligned,
+            NoTree::Unpinned(mismatch) => TreeFault::Unpinned(mismatch),
         }
     }
 }

@@ -5,7 +5,7 @@ ghost use Rattle.program_io.specs.Counted.{Writes};
 ghost use Rattle.verity_commands.specs.TreeFaultTexts.{difference_text, hash_image_text, image_fault_text, survey_text, tree_status, tree_fault_text, unlike_text, which_name};
 
 use crate::tree_fault::TreeFault;
-use io_fault_text::{say_no_memory, say_unopened};
+use io_fault_text::{say_no_memory, say_refused, say_unopened};
 use program_io::{Counted, WriteFault};
 use std::io::Write;
 use tree_difference::{DifferenceFault, Unlike, Which};
@@ -29,6 +29,7 @@ pub fn say_tree_fault<W: Write>(
         TreeFault::Differs => Ok(()),
         TreeFault::Survey(fault) => say_survey_fault(writer, fault),
         TreeFault::Unaligned => writer.put(b"refused 18 Unaligned\n"),
+        TreeFault::Unpinned(mismatch) => { say_refused(writer, mismatch.number(), mismatch.name()) }
         TreeFault::UnusedEntries => writer.put(b"refused 28 UnusedEntries\n"),
         TreeFault::Damaged => Ok(()),
         TreeFault::Write => Ok(()),

@@ -11,8 +11,8 @@ use crate::verity_fault::VerityFault;
 use command_line::{OptionWords, TreeFormatWords, TreeTableWords, TreeVerifyWords, options_of};
 use device_adapters::Watchers;
 use image_commands::{
-    ExpectedTree, Generators, ImagePlaces, LineWords, WatchedPlaces, format_tree, given_options,
-    prepare_image, print_tree_line, unnamed, verify_tree,
+    ExpectedTree, Generators, ImagePlaces, LineWords, TrustedRoot, WatchedPlaces, format_tree,
+    given_options, prepare_image, print_tree_line, unnamed, verify_tree,
 };
 use image_files::Images;
 use program_io::Counted;
@@ -88,8 +88,9 @@ pub fn invoke_table_tree<'a, I: Images, W: Write>(
     let given = tree_options(alloc, options)?;
     let root = root_in(images, &words.root)?;
     let first = sector_at(words.hash_offset);
+    let trusted = TrustedRoot { root, pin: None };
     let line = LineWords {
-        root: &root,
+        root: &trusted,
         data_name: words.data_name,
         hash_name: words.hash_name,
     };

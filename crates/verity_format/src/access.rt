@@ -12,7 +12,6 @@ ghost use Rattle.verity_format.specs.Premises.{IsBlockOn, IsRunOn};
 use allocation::OutOfMemory;
 use block_device::{BlockDev, DeviceFault};
 use hash_tree::digest_blocks;
-use std::alloc::AllocError;
 use tree_shape::{Digest, Salt, Shape};
 
 /// Why there is no tree over a device's blocks.
@@ -40,16 +39,6 @@ impl From<OutOfMemory> for TreeFault {
     ghost from_gives = { λ _ e. e ≡ NoMemory };
 
     fn from(_error: OutOfMemory) -> TreeFault {
-        TreeFault::NoMemory
-    }
-}
-
-impl From<AllocError> for TreeFault {
-    ghost use Rattle.verity_format.specs.declared.access.TreeFault.TheVariants.{NoMemory};
-
-    ghost from_gives = { λ _ e. e ≡ NoMemory };
-
-    fn from(_error: AllocError) -> TreeFault {
         TreeFault::NoMemory
     }
 }

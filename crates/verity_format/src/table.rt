@@ -47,7 +47,7 @@ pub fn table_line_at(
     ensures err { OnErr result (IsOutOfMemory (line_room superblock.now data_name.now hash_name.now root.now start)) }
 {
     let line = verity_line(alloc, superblock, data_name, hash_name, root, start)?;
-    print_line(alloc, &line, true)
+    Ok(print_line(alloc, &line, true)?)
 }
 
 fn verity_line(

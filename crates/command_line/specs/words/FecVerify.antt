@@ -1,4 +1,4 @@
--- What `verify --fec FILE [--fec-roots N] [--hash-offset BYTES] [--root-hash-file FILE] [--progress] DATA HASH [ROOT]` says.
+-- What `verify --fec FILE [--fec-roots N] [--hash-offset BYTES] [--root-hash-file FILE | --pin FILE] [--progress] DATA HASH [ROOT]` says.
 use Rattle.std.specs.Prelude.{codes, List, Ok, ℕ}
 use Rattle.command_line.specs.FecFiles.{FecRecord, fec_file_of, fec_record}
 use Rattle.command_line.specs.FormatOptions.{OptionTexts}

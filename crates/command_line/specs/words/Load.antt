@@ -1,4 +1,4 @@
--- What `load [--json] STACK BINDING...` says.
+-- What `load [--json] [--linux] STACK BINDING...` says.
 use Rattle.std.specs.Prelude.{codes, Bool, List, Ok, map, ℕ}
 use Rattle.command_line.specs.Bindings.{BindingRecord, binding_record}
 use Rattle.command_line.specs.BindingWords.{bindings_of}
@@ -11,6 +11,7 @@ pub record LoadRecord : Type 0 where
   pub stack : List ℕ
   pub bindings : List BindingRecord
   pub json : Bool
+  pub linux : Bool
 
 unfoldable pub load_said : OptionTexts → List (List ℕ) → Reading LoadRecord
 load_said texts words =
@@ -19,6 +20,7 @@ load_said texts words =
       stack = stack.0;
       bindings = bindings;
       json = texts.json;
+      linux = texts.linux;
     })))
 
 -- what the program's own value says
@@ -27,4 +29,5 @@ load_record w = record {
   stack = w.stack.now;
   bindings = map binding_record w.bindings.items;
   json = w.json;
+  linux = w.linux;
 }

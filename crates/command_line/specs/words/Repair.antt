@@ -1,30 +1,30 @@
--- What `repair [--check] [--fec FILE [--fec-roots N]] [--hash-offset BYTES] [--root-hash-file FILE] DATA HASH [ROOT] [COPY..]` says.
+-- What `repair [--check] [--fec FILE [--fec-roots N]] [--hash-offset BYTES] [--root-hash-file FILE | --pin FILE] DATA HASH [ROOT] [COPY..]` says.
 use Rattle.std.specs.Prelude.{codes, Bool, List, Option, Ok, map, option_map, ℕ}
 use Rattle.command_line.specs.FecFiles.{FecRecord, fec_choice_of, fec_record}
 use Rattle.command_line.specs.FormatOptions.{OptionTexts}
 use Rattle.command_line.specs.ImageCopies.{ImageCopyRecord, copies_of, image_copy_record, said_copies}
 use Rattle.command_line.specs.Misuses.{Reading, when}
-use Rattle.command_line.specs.Positional.{positional, root_first}
-use Rattle.command_line.specs.Values.{RootRecord, offset_of, root_record}
+use Rattle.command_line.specs.Positional.{positional, root_or_pin_first}
+use Rattle.command_line.specs.Values.{RootOrPinRecord, offset_of, root_or_pin_record}
 use Rattle.command_line.specs.declared.words.repair.RepairWords.{RepairWords}
 
 pub record RepairRecord : Type 0 where
   pub data_path : List ℕ
   pub hash_path : List ℕ
-  pub root : RootRecord
+  pub root : RootOrPinRecord
   pub hash_offset : ℕ
   pub check : Bool
   pub fec : Option FecRecord
   pub copies : List ImageCopyRecord
 
--- after the root, which is an argument unless a file holds it, are the copies
+-- after the root, which is an argument unless a file or a pin holds it, are the copies
 unfoldable pub repair_said : OptionTexts → List (List ℕ) → Reading RepairRecord
 repair_said texts words =
     when (positional (codes "DATA") words) (λ data_path.
     when (positional (codes "HASH") data_path.1) (λ hash_path.
     when (offset_of texts.hash_offset) (λ hash_offset.
     when (fec_choice_of texts.fec texts.fec_roots) (λ fec.
-    when (root_first texts.root_hash_file hash_path.1) (λ found.
+    when (root_or_pin_first texts.pin texts.root_hash_file hash_path.1) (λ found.
     when (said_copies (copies_of data_path.0 hash_path.0 found.1)) (λ copies.
     Ok (record {
       data_path = data_path.0;
@@ -41,7 +41,7 @@ abbrev pub repair_record : RepairWords → RepairRecord
 repair_record w = record {
   data_path = w.data_path.now;
   hash_path = w.hash_path.now;
-  root = root_record w.root;
+  root = root_or_pin_record w.root;
   hash_offset = w.hash_offset;
   check = w.check;
   fec = option_map fec_record w.fec;

@@ -1,15 +1,15 @@
--- What `table [--hash-offset BYTES] [--name NAME] [--root-hash-file FILE] HASH [ROOT] DATANAME HASHNAME` says.
+-- What `table [--hash-offset BYTES] [--name NAME] [--root-hash-file FILE | --pin FILE] HASH [ROOT] DATANAME HASHNAME` says.
 use Rattle.std.specs.Prelude.{codes, List, Option, Ok, ℕ}
 use Rattle.command_line.specs.FormatOptions.{OptionTexts, text_of}
 use Rattle.command_line.specs.Misuses.{Reading, when}
-use Rattle.command_line.specs.Positional.{device_names, positional, root_first}
-use Rattle.command_line.specs.Values.{RootRecord, name_said, offset_of, root_record}
+use Rattle.command_line.specs.Positional.{device_names, positional, root_or_pin_first}
+use Rattle.command_line.specs.Values.{RootOrPinRecord, name_said, offset_of, root_or_pin_record}
 use Rattle.command_line.specs.OptionGroups.{in_superblock}
 use Rattle.command_line.specs.declared.words.table.TableWords.{TableWords}
 
 pub record TableRecord : Type 0 where
   pub hash_path : List ℕ
-  pub root : RootRecord
+  pub root : RootOrPinRecord
   pub data_name : List ℕ
   pub hash_name : List ℕ
   pub hash_offset : ℕ
@@ -21,7 +21,7 @@ table_said texts words =
     when (in_superblock texts) (λ a.
     when (offset_of texts.hash_offset) (λ hash_offset.
     when (name_said texts.name) (λ name.
-    when (root_first texts.root_hash_file hash_path.1) (λ found.
+    when (root_or_pin_first texts.pin texts.root_hash_file hash_path.1) (λ found.
     when (device_names found.1) (λ names.
     Ok (record {
       hash_path = hash_path.0;
@@ -36,7 +36,7 @@ table_said texts words =
 abbrev pub table_record : TableWords → TableRecord
 table_record w = record {
   hash_path = w.hash_path.now;
-  root = root_record w.root;
+  root = root_or_pin_record w.root;
   data_name = w.data_name.now;
   hash_name = w.hash_name.now;
   hash_offset = w.hash_offset;

@@ -1,9 +1,9 @@
--- What `verify [--all [--json]] [--hash-offset BYTES] [--root-hash-file FILE] [--progress] DATA HASH [ROOT]` says.
+-- What `verify [--all [--json]] [--hash-offset BYTES] [--root-hash-file FILE | --pin FILE] [--progress] DATA HASH [ROOT]` says.
 use Rattle.std.specs.Prelude.{◌&&◌, not, codes, Bool, List, Ok, ℕ}
 use Rattle.command_line.specs.FormatOptions.{OptionTexts}
 use Rattle.command_line.specs.Misuses.{Reading, refuse_if, when}
-use Rattle.command_line.specs.Positional.{positional, root_alone}
-use Rattle.command_line.specs.Values.{RootRecord, offset_of, root_record}
+use Rattle.command_line.specs.Positional.{positional, root_or_pin_alone}
+use Rattle.command_line.specs.Values.{RootOrPinRecord, offset_of, root_or_pin_record}
 use Rattle.command_line.specs.OptionGroups.{in_superblock}
 use Rattle.command_line.specs.declared.misuse.Cause.TheVariants.{WithoutAll}
 use Rattle.command_line.specs.declared.words.verify.VerifyWords.{VerifyWords}
@@ -11,7 +11,7 @@ use Rattle.command_line.specs.declared.words.verify.VerifyWords.{VerifyWords}
 pub record VerifyRecord : Type 0 where
   pub data_path : List ℕ
   pub hash_path : List ℕ
-  pub root : RootRecord
+  pub root : RootOrPinRecord
   pub hash_offset : ℕ
   pub all : Bool
   pub json : Bool
@@ -24,7 +24,7 @@ verify_said texts words =
     when (in_superblock texts) (λ a.
     when (refuse_if (texts.json && not texts.all) (codes "--json") WithoutAll) (λ b.
     when (offset_of texts.hash_offset) (λ hash_offset.
-    when (root_alone texts.root_hash_file hash_path.1) (λ root.
+    when (root_or_pin_alone texts.pin texts.root_hash_file hash_path.1) (λ root.
     Ok (record {
       data_path = data_path.0;
       hash_path = hash_path.0;
@@ -40,7 +40,7 @@ abbrev pub verify_record : VerifyWords → VerifyRecord
 verify_record w = record {
   data_path = w.data_path.now;
   hash_path = w.hash_path.now;
-  root = root_record w.root;
+  root = root_or_pin_record w.root;
   hash_offset = w.hash_offset;
   all = w.all;
   json = w.json;

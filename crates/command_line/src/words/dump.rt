@@ -1,24 +1,35 @@
-//! `dump [--hash-offset BYTES] [--json] HASH`
+//! `dump [--hash-offset BYTES] [--json] [--pin ROOT] HASH`
+ghost use Rattle.command_line.specs.FormatOptions.{option_texts, text_of, texts_of};
 ghost use Rattle.command_line.specs.Invocations.{dump};
+ghost use Rattle.command_line.specs.Misuses.{ReadsValue};
 ghost use Rattle.command_line.specs.Reading.{ReadsAs};
-ghost use Rattle.command_line.specs.FormatOptions.{option_texts, texts_of};
-ghost use Rattle.command_line.specs.words.Dump.{dump_said};
+ghost use Rattle.command_line.specs.words.Dump.{dump_form, dump_said};
 
 use crate::fault::WordsFault;
 use crate::invocation::Invocation;
+use crate::misuse::{Cause, Misuse};
 use crate::option_words::OptionWords;
 use crate::positional::{no_more, positional};
-use crate::values::offset_of;
+use crate::values::{offset_of, root_said};
+use tree_shape::Digest;
+
+/// How a superblock is printed: a line each, as a JSON object, or as the pin of a root hash with its values.
+#[derive(Clone, Copy)]
+pub enum DumpForm {
+    Lines,
+    Object,
+    Pin(Digest),
+}
 
 /// A superblock is printed.
 #[derive(Drop)]
 pub struct DumpWords<'a> {
     pub hash_path: &'a str,
     pub hash_offset: u64,
-    pub json: bool,
+    pub form: DumpForm,
 }
 
-/// `[--hash-offset BYTES] [--json] HASH`
+/// `[--hash-offset BYTES] [--json] [--pin ROOT] HASH`
 #[tactic(auto, unfolding(crate::specs::words::Dump::dump_said))]
 pub fn dump_of<'a>(
     options: &OptionWords<'a>,
@@ -28,10 +39,27 @@ pub fn dump_of<'a>(
 {
     let (hash_path, words) = positional("HASH", words)?;
     no_more(words)?;
+    let form = dump_form(options.pin, options.json)?;
     let hash_offset = offset_of(options.hash_offset)?;
     Ok(Invocation::Dump(DumpWords {
         hash_path,
         hash_offset,
-        json: options.json,
+        form,
     }))
+}
+
+// The form, by `--pin ROOT` and `--json`, of which at most one is given.
+#[tactic(auto, unfolding(crate::specs::words::Dump::dump_form))]
+fn dump_form<'a>(root: Option<&'a str>, json: bool) -> Result<DumpForm, Misuse<'a>>
+    ensures { ReadsValue (λ form. form) (dump_form (text_of root.entry) json) result }
+{
+    match (root, json) {
+        (None, false) => Ok(DumpForm::Lines),
+        (None, true) => Ok(DumpForm::Object),
+        (Some(_), true) => Err(Misuse::new("--json", Cause::WithPin)),
+        (Some(word), false) => {
+            let root = root_said("--pin", word)?;
+            Ok(DumpForm::Pin(root))
+        }
+    }
 }

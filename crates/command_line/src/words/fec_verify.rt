@@ -1,4 +1,4 @@
-//! `verify --fec FILE [--fec-roots N] [--hash-offset BYTES] [--root-hash-file FILE] [--progress] DATA HASH [ROOT]`
+//! `verify --fec FILE [--fec-roots N] [--hash-offset BYTES] [--root-hash-file FILE | --pin FILE] [--progress] DATA HASH [ROOT]`
 ghost use Rattle.command_line.specs.Invocations.{verify_fec};
 ghost use Rattle.command_line.specs.Reading.{ReadsAs};
 ghost use Rattle.command_line.specs.FormatOptions.{option_texts, texts_of};
@@ -18,7 +18,7 @@ pub struct FecVerifyWords<'a> {
     pub fec: FecFile<'a>,
 }
 
-/// `--fec FILE [--fec-roots N] [--hash-offset BYTES] [--root-hash-file FILE] [--progress] DATA HASH [ROOT]`
+/// `--fec FILE [--fec-roots N] [--hash-offset BYTES] [--root-hash-file FILE | --pin FILE] [--progress] DATA HASH [ROOT]`
 #[tactic(auto, unfolding(crate::specs::words::FecVerify::fec_verify_said))]
 pub fn fec_verify_of<'a>(
     options: &OptionWords<'a>,

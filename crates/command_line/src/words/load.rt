@@ -1,4 +1,4 @@
-//! `load [--json] STACK BINDING...`
+//! `load [--json] [--linux] STACK BINDING...`
 ghost use Rattle.command_line.specs.Invocations.{load};
 ghost use Rattle.command_line.specs.Reading.{ReadsAs};
 ghost use Rattle.command_line.specs.FormatOptions.{option_texts, texts_of};
@@ -12,15 +12,16 @@ use crate::option_words::OptionWords;
 use crate::positional::positional;
 use std::alloc::Global;
 
-/// The devices of a stack are printed.
+/// The devices of a stack are printed: with `linux` only if Linux would load them too, and read the same.
 #[derive(Drop)]
 pub struct LoadWords<'a> {
     pub stack: &'a str,
     pub bindings: Vec<Binding<'a>>,
     pub json: bool,
+    pub linux: bool,
 }
 
-/// `[--json] STACK BINDING...`
+/// `[--json] [--linux] STACK BINDING...`
 #[tactic(auto, unfolding(crate::specs::words::Load::load_said))]
 pub fn load_of<'a>(
     alloc: Global,
@@ -35,5 +36,6 @@ pub fn load_of<'a>(
         stack,
         bindings,
         json: options.json,
+        linux: options.linux,
     }))
 }

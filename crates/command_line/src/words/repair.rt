@@ -9,8 +9,8 @@ use crate::fec_file::{FecFile, fec_choice_of};
 use crate::image_copies::{ImageCopy, copies_of};
 use crate::invocation::Invocation;
 use crate::option_words::OptionWords;
-use crate::positional::{positional, root_first};
-use crate::values::{RootWord, offset_of};
+use crate::positional::{positional, root_or_pin_first};
+use crate::values::{RootOrPin, offset_of};
 use std::alloc::Global;
 
 /// A verity image is repaired from copies of it and by parity, or only looked at where `check` is said.
@@ -18,14 +18,14 @@ use std::alloc::Global;
 pub struct RepairWords<'a> {
     pub data_path: &'a str,
     pub hash_path: &'a str,
-    pub root: RootWord<'a>,
+    pub root: RootOrPin<'a>,
     pub hash_offset: u64,
     pub check: bool,
     pub fec: Option<FecFile<'a>>,
     pub copies: Vec<ImageCopy<'a>>,
 }
 
-/// `[--check] [--fec FILE [--fec-roots N]] [--hash-offset BYTES] [--root-hash-file FILE] DATA HASH [ROOT] [COPY..]`
+/// `[--check] [--fec FILE [--fec-roots N]] [--hash-offset BYTES] [--root-hash-file FILE | --pin FILE] DATA HASH [ROOT] [COPY..]`
 #[tactic(auto, unfolding(crate::specs::words::Repair::repair_said))]
 pub fn repair_of<'a>(
     alloc: Global,
@@ -38,7 +38,7 @@ pub fn repair_of<'a>(
     let (hash_path, words) = positional("HASH", words)?;
     let hash_offset = offset_of(options.hash_offset)?;
     let fec = fec_choice_of(options.fec, options.fec_roots)?;
-    match root_first(options.root_hash_file, words) {
+    match root_or_pin_first(options.pin, options.root_hash_file, words) {
         Ok((root, rest)) => {
             let copies = copies_of(alloc, data_path, hash_path, rest)?;
             Ok(Invocation::Repair(RepairWords {

@@ -1,4 +1,4 @@
-//! `table [--hash-offset BYTES] [--name NAME] [--root-hash-file FILE] HASH [ROOT] DATANAME HASHNAME`
+//! `table [--hash-offset BYTES] [--name NAME] [--root-hash-file FILE | --pin FILE] HASH [ROOT] DATANAME HASHNAME`
 ghost use Rattle.command_line.specs.Invocations.{table};
 ghost use Rattle.command_line.specs.Reading.{ReadsAs};
 ghost use Rattle.command_line.specs.FormatOptions.{option_texts, texts_of};
@@ -7,21 +7,21 @@ ghost use Rattle.command_line.specs.words.Table.{table_said};
 use crate::fault::WordsFault;
 use crate::invocation::Invocation;
 use crate::option_words::{OptionWords, in_superblock};
-use crate::positional::{device_names, positional, root_first};
-use crate::values::{RootWord, name_of, offset_of};
+use crate::positional::{device_names, positional, root_or_pin_first};
+use crate::values::{RootOrPin, name_of, offset_of};
 
 /// The table line of a verity image is printed, or a whole entry with a name.
 #[derive(Drop)]
 pub struct TableWords<'a> {
     pub hash_path: &'a str,
-    pub root: RootWord<'a>,
+    pub root: RootOrPin<'a>,
     pub data_name: &'a str,
     pub hash_name: &'a str,
     pub hash_offset: u64,
     pub name: Option<&'a str>,
 }
 
-/// `[--hash-offset BYTES] [--name NAME] [--root-hash-file FILE] HASH [ROOT] DATANAME HASHNAME`
+/// `[--hash-offset BYTES] [--name NAME] [--root-hash-file FILE | --pin FILE] HASH [ROOT] DATANAME HASHNAME`
 #[tactic(auto, unfolding(crate::specs::words::Table::table_said))]
 pub fn table_of<'a>(
     options: &OptionWords<'a>,
@@ -33,7 +33,7 @@ pub fn table_of<'a>(
     in_superblock(options)?;
     let hash_offset = offset_of(options.hash_offset)?;
     let name = name_of(options.name)?;
-    match root_first(options.root_hash_file, words) {
+    match root_or_pin_first(options.pin, options.root_hash_file, words) {
         Ok((root, behind)) => {
             let (data_name, hash_name) = device_names(behind)?;
             Ok(Invocation::Table(TableWords {

@@ -1,4 +1,4 @@
-//! `verify [--all [--json]] [--hash-offset BYTES] [--root-hash-file FILE] [--progress] DATA HASH [ROOT]`
+//! `verify [--all [--json]] [--hash-offset BYTES] [--root-hash-file FILE | --pin FILE] [--progress] DATA HASH [ROOT]`
 ghost use Rattle.command_line.specs.Misuses.{ReadsValue};
 ghost use Rattle.command_line.specs.Invocations.{verify};
 ghost use Rattle.command_line.specs.Reading.{ReadsAs};
@@ -9,22 +9,22 @@ use crate::fault::WordsFault;
 use crate::invocation::Invocation;
 use crate::misuse::{Cause, Misuse, refuse_if};
 use crate::option_words::{OptionWords, in_superblock};
-use crate::positional::{positional, root_alone};
-use crate::values::{RootWord, offset_of};
+use crate::positional::{positional, root_or_pin_alone};
+use crate::values::{RootOrPin, offset_of};
 
 /// A verity image is checked.
 #[derive(Drop)]
 pub struct VerifyWords<'a> {
     pub data_path: &'a str,
     pub hash_path: &'a str,
-    pub root: RootWord<'a>,
+    pub root: RootOrPin<'a>,
     pub hash_offset: u64,
     pub all: bool,
     pub json: bool,
     pub progress: bool,
 }
 
-/// `[--all [--json]] [--hash-offset BYTES] [--root-hash-file FILE] [--progress] DATA HASH [ROOT]`
+/// `[--all [--json]] [--hash-offset BYTES] [--root-hash-file FILE | --pin FILE] [--progress] DATA HASH [ROOT]`
 pub fn verify_of<'a>(
     options: &OptionWords<'a>,
     words: &[&'a str],
@@ -50,7 +50,7 @@ pub fn verify_words<'a>(
     in_superblock(options)?;
     refuse_if(options.json && !options.all, "--json", Cause::WithoutAll)?;
     let hash_offset = offset_of(options.hash_offset)?;
-    match root_alone(options.root_hash_file, words) {
+    match root_or_pin_alone(options.pin, options.root_hash_file, words) {
         Ok(root) => Ok(VerifyWords {
             data_path,
             hash_path,

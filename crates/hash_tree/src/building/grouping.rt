@@ -8,7 +8,7 @@ use super::{Level, LevelBuilder, Placed, rise};
 use crate::block_digests::eight_digests;
 use crate::packing::are_whole;
 use allocation::{OutOfMemory, append, copied, push, with_capacity};
-use std::alloc::{AllocError, Global};
+use std::alloc::Global;
 use tree_shape::{Digest, Salt};
 
 impl LevelBuilder {
@@ -18,7 +18,7 @@ impl LevelBuilder {
         &mut self,
         digests: &[Digest],
         out: &mut Vec<Placed>,
-    ) -> Result<usize, AllocError>
+    ) -> Result<usize, OutOfMemory>
         requires working { self.old.failed ≡ false }
         requires some { 0 < length digests.now }
         requires left { length digests.now ≤ self.old.left }
@@ -53,7 +53,7 @@ impl LevelBuilder {
         let blocks = match joined(alloc, digests) {
             Ok(blocks) => blocks,
             Err(refused) => {
-                self.failed = true;
+                self.refused = Some(refused);
                 return Err(refused);
             }
         };
@@ -92,7 +92,7 @@ impl LevelBuilder {
                 Ok(())
             }
             Err(refused) => {
-                self.failed = true;
+                self.refused = Some(refused);
                 Err(refused)
             }
         }

@@ -4,7 +4,7 @@ use Rattle.stack_rules.specs.Records.{Configuration}
 use Rattle.stack_meaning.specs.declared.fault.IoFault.{IoFault}
 use Rattle.stack_lines.specs.declared.source.Source.{Source}
 use Rattle.stack_engine.specs.LeafCalls.{LeafCall, AllLeafCallsSucceeded, NoneAfterFailure, EndAtFailure}
-use Rattle.stack_engine.specs.SectorCalls.{AreReadCalls, AreWriteCalls, leaf_read, leaf_unread, none_read, more_read, ended_read, line_read, units_read, units_unread, part_read, part_unread, zeros_read, fails_read, leaf_written, leaf_unwritten, none_written, more_written, ended_written, line_written, units_written, part_written, part_lost, zeros_written, fails_written}
+use Rattle.stack_engine.specs.SectorCalls.{bytes_before, AreReadCalls, WriteTo, WriteCalls, leaf_read, leaf_unread, none_read, line_read, line_unread, units_read, units_unread, part_read, part_unread, zeros_read, fails_read, leaf_written, leaf_unwritten, none_written, line_written, line_unwritten, units_written, each_written, part_written, part_lost, none_stepped, step_written, step_unwritten, zeros_written, fails_written}
 
 all-append : (calls later : List LeafCall) → AllLeafCallsSucceeded calls → AllLeafCallsSucceeded later → AllLeafCallsSucceeded (calls ++ later)
 all-append [] later h k = k
@@ -20,13 +20,16 @@ ended-append : {A B : Type 0} (result : Result A B) (calls later : List LeafCall
 ended-append (Ok x) calls later h k = all-append calls later h k
 ended-append (Err fault) calls later h k = end-append calls later h k
 
+ended-before : (xs : List ℕ) (answer : Result (List ℕ) IoFault) (calls later : List LeafCall) → AllLeafCallsSucceeded calls → EndAtFailure answer later → EndAtFailure (bytes_before xs answer) (calls ++ later)
+ended-before xs (Ok ys) calls later h k = all-append calls later h k
+ended-before xs (Err fault) calls later h k = end-append calls later h k
+
 pub reads-ended : {c : Configuration} {source : Source} {n : ℕ} {calls : List LeafCall} {answer : Result (List ℕ) IoFault} → AreReadCalls c source n calls answer → EndAtFailure answer calls
 reads-ended (leaf_read i s bytes) = (refl, tt)
 reads-ended (leaf_unread i s bytes) = tt
-reads-ended (none_read x s) = tt
-reads-ended (more_read {calls = calls} {later = later} a b) = all-append calls later (reads-ended a) (reads-ended b)
-reads-ended (ended_read {calls = calls} {later = later} left a b) = end-append calls later (reads-ended a) (reads-ended b)
-reads-ended (line_read served a) = reads-ended a
+reads-ended (none_read d s) = tt
+reads-ended (line_read {calls = calls} {later = later} {xs = xs} {answer = answer} run a b) = ended-before xs answer calls later (reads-ended a) (reads-ended b)
+reads-ended (line_unread run a) = reads-ended a
 reads-ended (units_read a) = reads-ended a
 reads-ended (units_unread a) = reads-ended a
 reads-ended (part_read n a) = reads-ended a
@@ -34,15 +37,18 @@ reads-ended (part_unread n a) = reads-ended a
 reads-ended (zeros_read n) = tt
 reads-ended (fails_read n) = tt
 
-pub writes-ended : {c : Configuration} {source : Source} {bytes : List ℕ} {calls : List LeafCall} {result : Result Unit IoFault} → AreWriteCalls c source bytes calls result → EndAtFailure result calls
+pub writes-ended : {c : Configuration} {to : WriteTo} {bytes : List ℕ} {calls : List LeafCall} {result : Result Unit IoFault} → WriteCalls c to bytes calls result → EndAtFailure result calls
 writes-ended (leaf_written i s bytes) = (refl, tt)
 writes-ended (leaf_unwritten i s bytes) = tt
-writes-ended (none_written x s) = tt
-writes-ended (more_written {calls = calls} {later = later} a b) = all-append calls later (writes-ended a) (writes-ended b)
-writes-ended (ended_written {calls = calls} {later = later} left a b) = end-append calls later (writes-ended a) (writes-ended b)
-writes-ended (line_written served a) = writes-ended a
+writes-ended (none_written d s) = tt
+writes-ended {result = result} (line_written {calls = calls} {later = later} run width a b) = ended-append result calls later (writes-ended a) (writes-ended b)
+writes-ended (line_unwritten more run width a) = writes-ended a
 writes-ended (units_written a) = writes-ended a
+writes-ended (each_written some a) = writes-ended a
 writes-ended {result = result} (part_written {calls = calls} {later = later} a b) = ended-append result calls later (reads-ended a) (writes-ended b)
 writes-ended (part_lost bytes a) = reads-ended a
+writes-ended (none_stepped k x s) = tt
+writes-ended {result = result} (step_written {calls = calls} {later = later} width a b) = ended-append result calls later (writes-ended a) (writes-ended b)
+writes-ended (step_unwritten more width a) = writes-ended a
 writes-ended (zeros_written bytes) = tt
 writes-ended (fails_written bytes) = tt

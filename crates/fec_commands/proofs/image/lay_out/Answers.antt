@@ -11,7 +11,7 @@ pub returns-in_err-superblock-clause-err : goal.returns-in_err-superblock-clause
 returns-in_err-superblock-clause-err g c =
     let fault = c.in_err-superblock.field-0.0 in
     err-from c.from_residual.result _ (no_tree fault) c.from_residual.ensures.1
-    (no-tree-layout (g.D.BlockDev.state c.args.data_dev.now) (g.H.BlockDev.state c.args.hash_dev.now) (g.H.BlockDev.state c.find_tree.new.hash_dev) c.args.first fault c.in_err-superblock.ensures.err)
+    (no-tree-layout (g.D.BlockDev.state c.args.data_dev.now) (g.H.BlockDev.state c.args.hash_dev.now) (g.H.BlockDev.state c.find_tree.new.hash_dev) c.args.first c.args.pin.now fault c.in_err-superblock.ensures.err)
 
 pub returns-in-Some-clause-ok : goal.returns-in-Some-clause-ok
 returns-in-Some-clause-ok g c =

@@ -1,4 +1,4 @@
-use Rattle.std.proofs.Common.{ap, inl, inr, refl, subst}
+use Rattle.std.proofs.Common.{None, ap, inl, inr, refl, subst}
 use Rattle.block_device.specs.Device.{Device}
 use Rattle.device_adapters.specs.Parts.{part_before, part_behind}
 use Rattle.device_adapters.specs.Windows.{windowed}
@@ -18,7 +18,7 @@ returns-in_err-laid-clause-err g c =
     let b = windowed-same _ hash_dev _ (part_behind hash_dev c.args.extent.first) (ap g.H.BlockDev.state c.behind-behind.ensures.inner) c.behind-behind.ensures.part in
     let fault = c.in_err-laid.field-0.0 in
     err-from c.from_residual.result _ fault c.from_residual.ensures.1
-    (inl (record { read_dev = read_dev; ends = layout_end-as _ _ _ _ read_dev c.args.extent.first fault a b c.in_err-laid.ensures.err; same = refl }))
+    (inl (record { read_dev = read_dev; ends = layout_end-as _ _ _ _ read_dev c.args.extent.first None fault a b c.in_err-laid.ensures.err; same = refl }))
 
 pub write_synced-requires : goal.write_synced-requires
 write_synced-requires g c = c.in_ok-laid.ensures.ok.laid_on
@@ -40,7 +40,7 @@ returns-in_err-write_synced-clause-err g c =
       laid = l;
       read_dev = read_dev;
       cause = cause;
-      lays = lays-as _ _ _ _ read_dev c.args.extent.first c.args.extent.roots l a b c.in_ok-laid.ensures.ok;
+      lays = lays-as _ _ _ _ read_dev c.args.extent.first None c.args.extent.roots l a b c.in_ok-laid.ensures.ok;
       ends = subst (λ (v : Device). IsSealingEnd l.layout v read_dev old new cause) a c.in_err-write_synced.ensures.err;
       is = refl;
     }))
@@ -59,6 +59,6 @@ returns-clause-ok g c =
     record {
       laid = l;
       read_dev = read_dev;
-      lays = lays-as _ _ _ _ read_dev c.args.extent.first c.args.extent.roots l a b c.in_ok-laid.ensures.ok;
+      lays = lays-as _ _ _ _ read_dev c.args.extent.first None c.args.extent.roots l a b c.in_ok-laid.ensures.ok;
       sealed = subst (λ (v : Device). IsSealed l.layout v read_dev old new) a c.in_ok-write_synced.ensures.ok;
     }

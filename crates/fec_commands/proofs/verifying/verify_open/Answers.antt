@@ -16,37 +16,26 @@ use Rattle.fec_commands.proofs.EndingLemmas.{err-from}
 use Rattle.fec_commands.proofs.VerifyingLemmas.{laid-after, parts-are}
 use Rattle.fec_commands.proofs.verifying.verify_open.Goals as goal
 
+pub returns-in_err-trusted-clause-err : goal.returns-in_err-trusted-clause-err
+returns-in_err-trusted-clause-err g c =
+    let cause = c.in_err-trusted.field-0.0 in
+    err-from c.from_residual.result _ (Verity (Image cause)) c.from_residual.ensures.1
+    (inl (record { cause = cause; ends = c.in_err-trusted.ensures.err; is = refl }, refl))
+
 pub returns-in_err-laid-clause-err : goal.returns-in_err-laid-clause-err
 returns-in_err-laid-clause-err g c =
     let state = g.I.Dev.BlockDev.state in
     let two = c.place_parts-two in
     let v : FecVerifyRecord = fec_verify_record c.args.words.now in
-    let here = parts-are state c.args.three v _ _ c.sector_at-first.result c.data_end-end.result two.ensures.«data» two.ensures.hash c.data_end-end.ensures c.sector_at-first.ensures in
+    let trusted = c.in_ok-trusted.trusted in
+    let here = parts-are state c.args.three v trusted.pin _ _ c.sector_at-first.result c.data_end-end.result two.ensures.«data» two.ensures.hash c.data_end-end.ensures c.sector_at-first.ensures in
     let fault = c.in_err-laid.field-0.0 in
-    err-from c.from_residual.result _ fault c.from_residual.ensures.1
-    (inl (subst (λ (p : Parts). IsUnmeasured p fault) here c.in_err-laid.ensures.err, (refl, refl)))
-
-pub returns-in_err-root-clause-err : goal.returns-in_err-root-clause-err
-returns-in_err-root-clause-err g c =
-    let state = g.I.Dev.BlockDev.state in
-    let read = c.measure.new.hash_dev in
-    let read_dev : Device = windowed (state read.inner) read.part in
-    let two = c.place_parts-two in
-    let v : FecVerifyRecord = fec_verify_record c.args.words.now in
-    let here = parts-are state c.args.three v _ _ c.sector_at-first.result c.data_end-end.result two.ensures.«data» two.ensures.hash c.data_end-end.ensures c.sector_at-first.ensures in
-    let cause = c.in_err-root.field-0.0 in
-    err-from c.from_residual-in_err-root.result _ (Verity (Image cause)) c.from_residual-in_err-root.ensures.1
-    (inr (inl (
-      record {
-        laid = c.in_ok-laid.laid;
-        read_dev = read_dev;
-        cause = cause;
-        measures = subst (λ (p : Parts). Measures p read_dev c.in_ok-laid.laid) here c.in_ok-laid.ensures.ok;
-        ends = c.in_err-root.ensures.err;
-        is = refl;
-      },
-      refl,
-    )))
+    err-from c.from_residual-in_err-laid.result _ fault c.from_residual-in_err-laid.ensures.1
+    (inr (record {
+      trusted = trusted;
+      told = c.in_ok-trusted.ensures.ok;
+      ends = inl (subst (λ (p : Parts). IsUnmeasured p fault) here c.in_err-laid.ensures.err, refl);
+    }))
 
 pub returns-in_err-compare-clause-err : goal.returns-in_err-compare-clause-err
 returns-in_err-compare-clause-err g c =
@@ -57,8 +46,9 @@ returns-in_err-compare-clause-err g c =
     let hash_new : Device = windowed (state c.compare.new.two.hash.inner) c.compare.new.two.hash.part in
     let two = c.place_parts-two in
     let v : FecVerifyRecord = fec_verify_record c.args.words.now in
-    let here = parts-are state c.args.three v _ _ c.sector_at-first.result c.data_end-end.result two.ensures.«data» two.ensures.hash c.data_end-end.ensures c.sector_at-first.ensures in
-    let root = c.in_ok-root.root in
+    let here = parts-are state c.args.three v c.in_ok-trusted.trusted.pin _ _ c.sector_at-first.result c.data_end-end.result two.ensures.«data» two.ensures.hash c.data_end-end.ensures c.sector_at-first.ensures in
+    let trusted = c.in_ok-trusted.trusted in
+    let root = trusted.root in
     let old = g.W.Write.contents c.args.writer.now.inner in
     let new = g.W.Write.contents c.compare.new.writer.inner in
     let failed = c.compare.new.writer.failed in
@@ -67,10 +57,10 @@ returns-in_err-compare-clause-err g c =
     let ahead : c.tree_start-ahead.result ≡ tree_start c.sector_at-first.result size 0 =
     c.tree_start-ahead.ensures ∙ ap (λ (n : ℕ). tree_start c.sector_at-first.result n 0) c.hash_block-size.ensures.value in
     err-from c.from_residual-in_err-compare.result _ (Verity (Image cause)) c.from_residual-in_err-compare.ensures.1
-    (inr (inr (record {
-      root = root;
-      told = c.in_ok-root.ensures.ok;
-      ends = inl (subst (λ (p : Parts). EndsComparing p root old new failed (Verity (Image cause))) here (record {
+    (inr (record {
+      trusted = trusted;
+      told = c.in_ok-trusted.ensures.ok;
+      ends = inr (inl (subst (λ (p : Parts). EndsComparing p root old new failed (Verity (Image cause))) here (record {
         cause = cause;
         laid = c.in_ok-laid.laid;
         read_dev = read_dev;
@@ -80,8 +70,8 @@ returns-in_err-compare-clause-err g c =
         ends = subst₂ (λ (a : ℕ) (d : Device). IsComparedEnd c.in_ok-laid.laid.tree a d read_dev data_new hash_new root failed cause) ahead c.new-data.ensures.state c.in_err-compare.ensures.err;
         is = refl;
         quiet = c.in_err-compare.ensures.quiet;
-      }));
-    })))
+      })));
+    }))
 
 pub print_checked-requires : goal.print_checked-requires
 print_checked-requires g c =
@@ -100,16 +90,17 @@ returns-clause-ok g c =
     let hash_new : Device = windowed (state c.compare.new.two.hash.inner) c.compare.new.two.hash.part in
     let two = c.place_parts-two in
     let v : FecVerifyRecord = fec_verify_record c.args.words.now in
-    let here = parts-are state c.args.three v _ _ c.sector_at-first.result c.data_end-end.result two.ensures.«data» two.ensures.hash c.data_end-end.ensures c.sector_at-first.ensures in
-    let root = c.in_ok-root.root in
+    let here = parts-are state c.args.three v c.in_ok-trusted.trusted.pin _ _ c.sector_at-first.result c.data_end-end.result two.ensures.«data» two.ensures.hash c.data_end-end.ensures c.sector_at-first.ensures in
+    let trusted = c.in_ok-trusted.trusted in
+    let root = trusted.root in
     let laid = c.in_ok-laid.laid in
     let old = g.W.Write.contents c.args.writer.now.inner in
     let told = g.W.Write.contents c.compare.new.writer.inner in
     let new = g.W.Write.contents c.print_checked.new.writer.inner in
     on_ok_weaker c.print_checked.result
     (λ done. record {
-      root = root;
-      told = c.in_ok-root.ensures.ok;
+      trusted = trusted;
+      told = c.in_ok-trusted.ensures.ok;
       verifies = subst (λ (p : Parts). VerifiesParts p root old new) here (record {
         told = told;
         matches = record {
@@ -135,18 +126,19 @@ returns-clause-err g c =
     let hash_new : Device = windowed (state c.compare.new.two.hash.inner) c.compare.new.two.hash.part in
     let two = c.place_parts-two in
     let v : FecVerifyRecord = fec_verify_record c.args.words.now in
-    let here = parts-are state c.args.three v _ _ c.sector_at-first.result c.data_end-end.result two.ensures.«data» two.ensures.hash c.data_end-end.ensures c.sector_at-first.ensures in
-    let root = c.in_ok-root.root in
+    let here = parts-are state c.args.three v c.in_ok-trusted.trusted.pin _ _ c.sector_at-first.result c.data_end-end.result two.ensures.«data» two.ensures.hash c.data_end-end.ensures c.sector_at-first.ensures in
+    let trusted = c.in_ok-trusted.trusted in
+    let root = trusted.root in
     let laid = c.in_ok-laid.laid in
     let failed = c.print_checked.new.writer.failed in
     let old = g.W.Write.contents c.args.writer.now.inner in
     let told = g.W.Write.contents c.compare.new.writer.inner in
     let new = g.W.Write.contents c.print_checked.new.writer.inner in
     IfErr-weaker c.print_checked.result _ _
-    (λ fault ends. inr (inr (record {
-      root = root;
-      told = c.in_ok-root.ensures.ok;
-      ends = inr (subst (λ (p : Parts). EndsChecking p root old new failed fault) here (record {
+    (λ fault ends. inr (record {
+      trusted = trusted;
+      told = c.in_ok-trusted.ensures.ok;
+      ends = inr (inr (subst (λ (p : Parts). EndsChecking p root old new failed fault) here (record {
         between = told;
         matches = record {
           laid = laid;
@@ -158,6 +150,6 @@ returns-clause-err g c =
           printed = c.in_ok-compare.ensures.ok.1;
         };
         ends = ends;
-      }));
-    })))
+      })));
+    }))
     c.print_checked.ensures.err

@@ -22,7 +22,7 @@ returns-in_err-superblock-clause-err g c =
     let after = windowed (g.H.BlockDev.state new.inner) new.part in
     let fault = c.in_err-superblock.field-0.0 in
     err-from c.from_residual.result _ (no_tree_fault fault) c.from_residual.ensures.1
-    (inl (no-tree-end hash_dev after first _ fault (subst (λ (v : Device). IsNoTree v first after fault) c.place_parts-two.ensures.hash c.in_err-superblock.ensures.err)))
+    (inl (no-tree-end hash_dev after first c.args.trusted.now.pin _ fault (subst (λ (v : Device). IsNoTree v first c.args.trusted.now.pin after fault) c.place_parts-two.ensures.hash c.in_err-superblock.ensures.err)))
 
 pub returns-clause-ok : goal.returns-clause-ok
 returns-clause-ok g c =
@@ -38,9 +38,9 @@ returns-clause-ok g c =
       read_dev = read_dev;
       data_dev' = data_new;
       hash_dev' = hash_new;
-      super_read = subst (λ (v : Device). ReadsSuper v first super) c.place_parts-two.ensures.hash c.in_ok-superblock.ensures.ok;
+      super_read = subst (λ (v : Device). ReadsSuper v first c.args.trusted.now.pin super) c.place_parts-two.ensures.hash c.in_ok-superblock.ensures.ok;
       one = subst (λ (v : Device). IsFullRead v 1 read_dev) c.place_parts-two.ensures.hash c.in_ok-superblock.ensures.full;
-      found = subst₂ (λ (t : VerityTree) (v : Device). IsTreeFound t.shape t.salt v read_dev data_new hash_new c.args.root.now Matches) c.tree.ensures.value c.place_parts-two.ensures.data done.0;
+      found = subst₂ (λ (t : VerityTree) (v : Device). IsTreeFound t.shape t.salt v read_dev data_new hash_new c.args.trusted.now.root Matches) c.tree.ensures.value c.place_parts-two.ensures.data done.0;
       printed = done.1;
     })
     c.compare.ensures.ok
@@ -48,7 +48,7 @@ returns-clause-ok g c =
 pub returns-clause-err : goal.returns-clause-err
 returns-clause-err g c =
     let first = c.args.bounds.first in
-    let root = c.args.root.now in
+    let root = c.args.trusted.now.root in
     let super = c.in_ok-superblock.superblock in
     let read = c.find_tree.new.hash_dev in
     let read_dev = windowed (g.H.BlockDev.state read.inner) read.part in
@@ -61,7 +61,7 @@ returns-clause-err g c =
       read_dev = read_dev;
       data_dev' = data_new;
       hash_dev' = hash_new;
-      super_read = subst (λ (v : Device). ReadsSuper v first super) c.place_parts-two.ensures.hash c.in_ok-superblock.ensures.ok;
+      super_read = subst (λ (v : Device). ReadsSuper v first c.args.trusted.now.pin super) c.place_parts-two.ensures.hash c.in_ok-superblock.ensures.ok;
       one = subst (λ (v : Device). IsFullRead v 1 read_dev) c.place_parts-two.ensures.hash c.in_ok-superblock.ensures.full;
       ends = subst₃ (λ (t : VerityTree) (a : ℕ) (v : Device). IsComparedEnd t a v read_dev data_new hash_new root c.compare.new.writer.failed fault) c.tree.ensures.value ahead c.place_parts-two.ensures.data ends;
     }))

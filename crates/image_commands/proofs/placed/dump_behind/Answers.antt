@@ -33,6 +33,7 @@ returns-clause-ok g c =
       super = c.in_ok-superblock.superblock;
       sector = found.0;
       read = subst (λ (v : Device). IsReadFrom v found.0 c.in_ok-superblock.superblock) b found.1;
+      pinned = refl;
       allowed = refl;
       printed = printed;
     })

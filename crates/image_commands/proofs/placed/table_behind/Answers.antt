@@ -22,7 +22,7 @@ returns-in_err-superblock-clause-err g c =
     let fault = c.in_err-superblock.field-0.0 in
     let b = windowed-same _ hash_dev _ (part_behind hash_dev first) (ap g.H.BlockDev.state c.behind-window.ensures.inner) c.behind-window.ensures.part in
     err-from c.from_residual.result _ (no_tree_fault fault) c.from_residual.ensures.1
-    (no-tree-end hash_dev after first _ fault (subst (λ (v : Device). IsNoTree v first after fault) b c.in_err-superblock.ensures.err))
+    (no-tree-end hash_dev after first c.args.words.root.now.pin _ fault (subst (λ (v : Device). IsNoTree v first c.args.words.root.now.pin after fault) b c.in_err-superblock.ensures.err))
 
 -- there is a sector at the place, so that the device doesn't end before it
 pub tree_start-start-requires : goal.tree_start-start-requires
@@ -43,13 +43,14 @@ returns-clause-ok g c =
     let new = g.W.Write.contents c.say_line.new.writer.inner in
     let s = c.in_ok-superblock.superblock in
     let b = windowed-same _ hash_dev _ (part_behind hash_dev first) (ap g.H.BlockDev.state c.behind-window.ensures.inner) c.behind-window.ensures.part in
-    let found = subst (λ (v : Device). ReadsSuper v first s) b c.in_ok-superblock.ensures.ok in
+    let found = subst (λ (v : Device). ReadsSuper v first c.args.words.root.now.pin s) b c.in_ok-superblock.ensures.ok in
     let start : c.tree_start-start.result ≡ tree_start first s.hash_block 1 = c.tree_start-start.ensures ∙ ap (λ (n : ℕ). tree_start first n 1) c.hash_block-size.ensures in
     on_ok_weaker c.say_line.result
     (λ printed. record {
       super = s;
       sector = found.sector;
       read = found.read;
+      pinned = found.pinned;
       allowed = found.aligned;
       printed = subst (λ (n : ℕ). Appends old new (named_line c.args.name s c.args.words n)) start printed;
     })

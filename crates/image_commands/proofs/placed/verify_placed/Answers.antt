@@ -15,7 +15,7 @@ returns-clause-ok g c =
     (λ matches. record {
       two = c.in_ok-two.two;
       opened = c.in_ok-two.ensures.ok;
-      matches = subst₃ (λ (d h : Device) (end : ℕ). MatchesPlaced d h end c.args.watched.places.hash_first c.args.root.now old new) (ap state watched.ensures.data) (ap state watched.ensures.hash) c.data_end-end.ensures matches;
+      matches = subst₃ (λ (d h : Device) (end : ℕ). MatchesPlaced d h end c.args.watched.places.hash_first c.args.trusted.now old new) (ap state watched.ensures.data) (ap state watched.ensures.hash) c.data_end-end.ensures matches;
     })
     c.compare_behind.ensures.ok
 
@@ -27,6 +27,6 @@ returns-clause-err g c =
     (λ fault ends. inr (record {
       two = c.in_ok-two.two;
       opened = c.in_ok-two.ensures.ok;
-      ends = subst₃ (λ (d h : Device) (end : ℕ). IsMatchingEnd d h end c.args.watched.places.hash_first c.args.root.now c.compare_behind.new.writer.failed fault) (ap state watched.ensures.data) (ap state watched.ensures.hash) c.data_end-end.ensures ends;
+      ends = subst₃ (λ (d h : Device) (end : ℕ). IsMatchingEnd d h end c.args.watched.places.hash_first c.args.trusted.now c.compare_behind.new.writer.failed fault) (ap state watched.ensures.data) (ap state watched.ensures.hash) c.data_end-end.ensures ends;
     }))
     c.compare_behind.ensures.err

@@ -14,23 +14,33 @@ runs-init g c = record {
   sectors = c.requires.sectors;
 }
 
+pub run_bytes-size-requires-clause-inside : goal.run_bytes-size-requires-clause-inside
+run_bytes-size-requires-clause-inside g c = omega (arith, c.len-left.ensures.value, c.runs.invariant.sectors.inside)
+
+pub run_bytes-size-requires-clause-some : goal.run_bytes-size-requires-clause-some
+run_bytes-size-requires-clause-some g c = omega (arith, c.len-left.ensures.value, c.len.ensures.value, c.runs-test.true)
+
 pub zero_run-requires-clause-sectors : goal.zero_run-requires-clause-sectors
 zero_run-requires-clause-sectors g c =
     let before = c.runs.rest.before.now in
-    let size : length (before ++ (replicate (1048576 - length before) 0 ++ [])) ≡ 1048576 = omega (arith, length-zeros before [] (1048576 - length before), c.runs.invariant.ends.before) in
+    let k = c.run_bytes-size.result in
+    let is = c.run_bytes-size.ensures in
+    let size : length (before ++ (replicate (k - length before) 0 ++ [])) ≡ k = omega (arith, length-zeros before [] (k - length before), c.runs.invariant.ends.before, is.some) in
     record {
-      whole = omega (arith, size);
-      inside = omega (arith, size, c.len.ensures.value, c.runs-test.true, c.runs.invariant.sectors.inside);
+      whole = omega (arith, size, is.whole);
+      inside = omega (arith, size, is.few, c.len.ensures.value, c.runs-test.true, c.runs.invariant.sectors.inside);
       allowed = c.runs.invariant.sectors.allowed;
     }
 
 pub zero_run-requires-clause-run : goal.zero_run-requires-clause-run
 zero_run-requires-clause-run g c =
     let before = c.runs.rest.before.now in
+    let k = c.run_bytes-size.result in
+    let is = c.run_bytes-size.ensures in
     record {
-      ends = record { before = c.runs.invariant.ends.before; few = omega (arith, c.runs.invariant.ends.few); behind = omega arith };
-      some = omega (arith, c.runs.invariant.ends.before);
-      few = omega (arith, length-zeros before [] (1048576 - length before), c.runs.invariant.ends.before);
+      ends = record { before = c.runs.invariant.ends.before; few = omega (arith, c.runs.invariant.ends.few, is.few); behind = omega arith };
+      some = omega (arith, c.runs.invariant.ends.before, is.some);
+      few = omega (arith, length-zeros before [] (k - length before), c.runs.invariant.ends.before, is.some, is.few);
     }
 
 pub zero_run-requires-2-clause-run : goal.zero_run-requires-2-clause-run
@@ -48,8 +58,10 @@ returns-in_err-zero_run-clause-err g c =
     let before = c.runs.rest.before.now in
     let behind = c.runs.rest.behind.now in
     let n = c.runs.rest.count in
-    let m = 1048576 - length before in
-    let few : m ≤ n = omega (arith, c.len.ensures.value, c.len.ensures.sum, c.runs-test.true, c.runs.invariant.sectors.whole, c.runs.invariant.ends.before, c.runs.invariant.ends.behind) in
+    let k = c.run_bytes-size.result in
+    let is = c.run_bytes-size.ensures in
+    let m = k - length before in
+    let few : m ≤ n = omega (arith, is.few, c.len.ensures.value, c.len.ensures.sum, c.runs-test.true, c.runs.invariant.sectors.whole, c.runs.invariant.ends.before, c.runs.invariant.ends.behind) in
     let run : List ℕ = before ++ (replicate m 0 ++ []) in
     let rest : List ℕ = [] ++ (replicate (n - m) 0 ++ behind) in
     let put : IsPut first d c.args.first c.runs.at all (run ++ rest) c.runs.queue = subst (λ (l : List ℕ). IsPut first d c.args.first c.runs.at all l c.runs.queue) (zeros-split before behind m n few) c.runs.invariant.put in
@@ -65,24 +77,26 @@ runs-preserved g c =
     let before = c.runs.rest.before.now in
     let behind = c.runs.rest.behind.now in
     let n = c.runs.rest.count in
-    let m = 1048576 - length before in
-    let few : m ≤ n = omega (arith, c.len.ensures.value, c.len.ensures.sum, c.runs-test.true, c.runs.invariant.sectors.whole, c.runs.invariant.ends.before, c.runs.invariant.ends.behind) in
+    let k = c.run_bytes-size.result in
+    let is = c.run_bytes-size.ensures in
+    let m = k - length before in
+    let few : m ≤ n = omega (arith, is.few, c.len.ensures.value, c.len.ensures.sum, c.runs-test.true, c.runs.invariant.sectors.whole, c.runs.invariant.ends.before, c.runs.invariant.ends.behind) in
     let run : List ℕ = before ++ (replicate m 0 ++ []) in
     let rest : List ℕ = [] ++ (replicate (n - m) 0 ++ behind) in
     let put : IsPut first d c.args.first c.runs.at all (run ++ rest) c.runs.queue = subst (λ (l : List ℕ). IsPut first d c.args.first c.runs.at all l c.runs.queue) (zeros-split before behind m n few) c.runs.invariant.put in
-    let size : length run ≡ 1048576 = omega (arith, length-zeros before [] m, c.runs.invariant.ends.before) in
-    let sectors : length run / 512 ≡ 2048 = omega (arith, size) in
+    let size : length run ≡ k = omega (arith, length-zeros before [] m, c.runs.invariant.ends.before, is.some) in
+    let sectors : length run / 512 ≡ k / 512 = omega (arith, size) in
     let left : length rest ≡ n - m + length behind = omega (arith, length-zeros [] behind (n - m)) in
-    let more : IsPut first d c.args.first (c.runs.at + length run / 512) all rest now = put-more first c.runs.queue now d c.args.first c.runs.at all run rest (omega (arith, size)) put c.in_ok-zero_run.ensures.ok in
-    let more_left : 0 < n - m = omega (arith, c.len.ensures.value, c.len.ensures.sum, c.runs-test.true, c.runs.invariant.sectors.whole, c.runs.invariant.ends.before, c.runs.invariant.ends.behind) in
+    let more : IsPut first d c.args.first (c.runs.at + length run / 512) all rest now = put-more first c.runs.queue now d c.args.first c.runs.at all run rest (omega (arith, size, is.whole)) put c.in_ok-zero_run.ensures.ok in
+    let more_left : 0 < n - m = omega (arith, is.few, c.len.ensures.value, c.len.ensures.sum, c.runs-test.true, c.runs.invariant.sectors.whole, c.runs.invariant.ends.before, c.runs.invariant.ends.behind) in
     record {
-      put = subst (λ (k : ℕ). IsPut first d c.args.first (c.runs.at + k) all rest now) sectors more;
+      put = subst (λ (j : ℕ). IsPut first d c.args.first (c.runs.at + j) all rest now) sectors more;
       export = subst (λ x. IsExport x (export_record c.args.export.now)) (sym c.in_ok-zero_run.ensures.ok.put.any.config) c.runs.invariant.export;
       some = more_left;
       ends = record { before = omega arith; few = omega (arith, c.runs.invariant.ends.few); behind = c.runs.invariant.ends.behind };
       sectors = record {
-        whole = omega (arith, left, few, c.len.ensures.value, c.len.ensures.sum, c.runs.invariant.sectors.whole, c.runs.invariant.ends.before);
-        inside = omega (arith, left, few, c.len.ensures.value, c.len.ensures.sum, c.runs.invariant.sectors.inside, c.runs.invariant.ends.before);
+        whole = omega (arith, left, few, is.whole, is.some, c.len.ensures.value, c.len.ensures.sum, c.runs.invariant.sectors.whole, c.runs.invariant.ends.before);
+        inside = omega (arith, left, few, is.whole, is.some, c.len.ensures.value, c.len.ensures.sum, c.runs.invariant.sectors.inside, c.runs.invariant.ends.before);
         allowed = c.runs.invariant.sectors.allowed;
       };
     }

@@ -1,6 +1,9 @@
-use Rattle.std.proofs.Common.{sym, ◌∙◌}
+use Rattle.std.proofs.Common.{sym, ◌∙◌, inl, inr}
 use Rattle.std.proofs.lemmas.Result.{IfErr-weaker, on_ok_weaker}
-use Rattle.partition_commands.proofs.EndingLemmas.{say-entries}
+use Rattle.partition_commands.specs.declared.fault.PartitionsFault.TheVariants.{Refused}
+use Rattle.partition_commands.specs.declared.refusal.PartitionRefusal.TheVariants.{Table}
+use Rattle.partition_commands.proofs.EndingLemmas.{err-from, say-entries}
+use Rattle.partition_commands.proofs.NoteLemmas.{on_err-any}
 use Rattle.partition_commands.proofs.image.list_entries.Goals as goal
 
 pub returns-clause-ok : goal.returns-clause-ok
@@ -8,19 +11,30 @@ returns-clause-ok g c =
     on_ok_weaker c.say_entries.result
     (λ printed. record {
       table = c.in_ok-table.table;
-      found = c.in_ok-table.ensures.ok;
+      found = c.in_ok-table.ensures.ok.found;
       within = rw c.deref.ensures.value at (sym c.are_within.ensures ∙ c.if-not-are_within.false);
       printed = rw c.deref-2.ensures.value at printed;
+      noted = c.in_ok-table.ensures.ok.noted;
     })
     c.say_entries.ensures.ok
 
 pub returns-then-not-are_within-clause-err : goal.returns-then-not-are_within-clause-err
 returns-then-not-are_within-clause-err g c = record {
   table = c.in_ok-table.table;
-  found = c.in_ok-table.ensures.ok;
+  found = c.in_ok-table.ensures.ok.found;
   outside = rw c.deref.ensures.value at (sym c.are_within.ensures ∙ c.if-not-are_within.true);
 }
 
 pub returns-clause-err : goal.returns-clause-err
 returns-clause-err g c =
-    IfErr-weaker c.say_entries.result _ _ (say-entries (g.D.BlockDev.state c.args.device.now) (g.D.BlockDev.state c.find_table.new.device) c.args.size c.say_entries.new.writer.failed) c.say_entries.ensures.err
+    IfErr-weaker c.say_entries.result _ _ (say-entries (g.D.BlockDev.state c.args.device.now) (g.D.BlockDev.state c.find_noted.new.device) c.args.size c.say_entries.new.writer.failed) c.say_entries.ensures.err
+
+pub returns-in_err-table-clause-noted : goal.returns-in_err-table-clause-noted
+returns-in_err-table-clause-noted g c =
+    err-from c.from_residual.result _ (Refused (Table c.in_err-table.field-0.0)) c.from_residual.ensures.1 (inl (tt, c.in_err-table.ensures.unnoted))
+
+pub returns-then-not-are_within-clause-noted : goal.returns-then-not-are_within-clause-noted
+returns-then-not-are_within-clause-noted g c = inr (g.D.BlockDev.state c.find_noted.new.device, c.in_ok-table.table, c.in_ok-table.ensures.ok)
+
+pub returns-clause-noted : goal.returns-clause-noted
+returns-clause-noted g c = on_err-any c.say_entries.result _ (λ fault. inr (g.D.BlockDev.state c.find_noted.new.device, c.in_ok-table.table, c.in_ok-table.ensures.ok))

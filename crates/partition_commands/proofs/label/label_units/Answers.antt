@@ -7,9 +7,9 @@ pub loop-index-init : goal.loop-index-init
 loop-index-init c = c.new-units.ensures.items ∙ sym (units_to-none c.args.label.now)
 
 pub loop-index-preserved : goal.loop-index-preserved
-loop-index-preserved c = let more = units_to-more c.args.label.now c.loop-index.index in cc (c.in_ok-push.ensures.items, more)
+loop-index-preserved c = let more = units_to-more c.args.label.now c.loop-index.index in cc (c.in_ok-push.ensures.ok, more)
 
-pub returns : goal.returns
-returns c =
+pub returns-clause-ok : goal.returns-clause-ok
+returns-clause-ok c =
     let all : c.loop-index.index ≡ 36 = omega arith in
     c.loop-index.invariant ∙ ap (units_to c.args.label.now) all

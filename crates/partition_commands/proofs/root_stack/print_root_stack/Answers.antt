@@ -5,20 +5,21 @@ use Rattle.partition_commands.specs.declared.refusal.PartitionRefusal.TheVariant
 use Rattle.partition_table.specs.declared.partition.Partition.{Partition}
 use Rattle.partition_commands.specs.Roots.{image_partitions}
 use Rattle.partition_commands.proofs.EndingLemmas.{err-from, say-root}
+use Rattle.partition_commands.proofs.NoteLemmas.{on_err-any}
 use Rattle.partition_commands.proofs.root_stack.print_root_stack.Goals as goal
 
 pub returns-in_err-table-clause-err : goal.returns-in_err-table-clause-err
 returns-in_err-table-clause-err g c =
     err-from c.from_residual.result _ (Refused (Table c.in_err-table.field-0.0)) c.from_residual.ensures.1
-    (inl (record { fault = c.in_err-table.field-0.0; read_device = g.D.BlockDev.state c.find_table.new.device; none = c.in_err-table.ensures.err; is = refl }))
+    (inl (record { fault = c.in_err-table.field-0.0; read_device = g.D.BlockDev.state c.find_noted.new.device; none = c.in_err-table.ensures.err; is = refl }))
 
 pub returns-in_err-both-clause-err : goal.returns-in_err-both-clause-err
 returns-in_err-both-clause-err g c =
     err-from c.from_residual-in_err-both.result _ (Refused c.in_err-both.field-0.0) c.from_residual-in_err-both.ensures.1
     (inr (inl (record {
       table = c.in_ok-table.table;
-      read_device = g.D.BlockDev.state c.find_table.new.device;
-      found = c.in_ok-table.ensures.ok;
+      read_device = g.D.BlockDev.state c.find_noted.new.device;
+      found = c.in_ok-table.ensures.ok.found;
       refused = ap (λ (ps : List Partition). image_partitions ps c.args.root.now) (sym c.deref.ensures.value) ∙ sym c.in_err-both.ensures;
     })))
 
@@ -29,8 +30,8 @@ returns-in_err-superblock-clause-err g c =
       g.D.BlockDev.state c.in_err-superblock.ensures.err.0,
       record {
         table = c.in_ok-table.table;
-        read_device = g.D.BlockDev.state c.find_table.new.device;
-        found = c.in_ok-table.ensures.ok;
+        read_device = g.D.BlockDev.state c.find_noted.new.device;
+        found = c.in_ok-table.ensures.ok.found;
         both = c.in_ok-both.both;
         both_is = ap (λ (ps : List Partition). image_partitions ps c.args.root.now) (sym c.deref.ensures.value) ∙ sym c.in_ok-both.ensures;
         ends = c.in_err-superblock.ensures.err.1;
@@ -42,15 +43,41 @@ returns-clause-ok g c =
     on_ok_weaker c.say_root_stack.result
     (λ printed. record {
       table = c.in_ok-table.table;
-      read_device = g.D.BlockDev.state c.find_table.new.device;
-      found = c.in_ok-table.ensures.ok;
+      read_device = g.D.BlockDev.state c.find_noted.new.device;
+      found = c.in_ok-table.ensures.ok.found;
       both = c.in_ok-both.both;
       both_is = ap (λ (ps : List Partition). image_partitions ps c.args.root.now) (sym c.deref.ensures.value) ∙ sym c.in_ok-both.ensures;
       super = c.in_ok-superblock.superblock;
       fitting = c.in_ok-superblock.ensures.ok;
       printed = printed;
+      noted = c.in_ok-table.ensures.ok.noted;
     })
     c.say_root_stack.ensures.ok
 
 pub returns-clause-err : goal.returns-clause-err
-returns-clause-err g c = IfErr-weaker c.say_root_stack.result _ _ (say-root c.args.size c.args.root.now c.say_root_stack.new.writer.failed (g.D.BlockDev.state c.args.device)) c.say_root_stack.ensures.err
+returns-clause-err g c =
+    IfErr-weaker c.say_root_stack.result _ _
+    (say-root c.args.size c.args.root.now c.in_ok-superblock.superblock c.say_root_stack.new.writer.failed (g.D.BlockDev.state c.args.device) (λ refused. record {
+      table = c.in_ok-table.table;
+      read_device = g.D.BlockDev.state c.find_noted.new.device;
+      found = c.in_ok-table.ensures.ok.found;
+      both = c.in_ok-both.both;
+      both_is = ap (λ (ps : List Partition). image_partitions ps c.args.root.now) (sym c.deref.ensures.value) ∙ sym c.in_ok-both.ensures;
+      super = c.in_ok-superblock.superblock;
+      fitting = c.in_ok-superblock.ensures.ok;
+      refused = refused;
+    }))
+    c.say_root_stack.ensures.err
+
+pub returns-in_err-table-clause-noted : goal.returns-in_err-table-clause-noted
+returns-in_err-table-clause-noted g c =
+    err-from c.from_residual.result _ (Refused (Table c.in_err-table.field-0.0)) c.from_residual.ensures.1 (inl (tt, c.in_err-table.ensures.unnoted))
+
+pub returns-in_err-both-clause-noted : goal.returns-in_err-both-clause-noted
+returns-in_err-both-clause-noted g c = on_err-any c.from_residual-in_err-both.result _ (λ fault. inr (g.D.BlockDev.state c.find_noted.new.device, c.in_ok-table.table, c.in_ok-table.ensures.ok))
+
+pub returns-in_err-superblock-clause-noted : goal.returns-in_err-superblock-clause-noted
+returns-in_err-superblock-clause-noted g c = on_err-any c.from_residual-in_err-superblock.result _ (λ fault. inr (g.D.BlockDev.state c.find_noted.new.device, c.in_ok-table.table, c.in_ok-table.ensures.ok))
+
+pub returns-clause-noted : goal.returns-clause-noted
+returns-clause-noted g c = on_err-any c.say_root_stack.result _ (λ fault. inr (g.D.BlockDev.state c.find_noted.new.device, c.in_ok-table.table, c.in_ok-table.ensures.ok))

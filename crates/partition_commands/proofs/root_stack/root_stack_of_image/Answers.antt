@@ -1,5 +1,7 @@
-use Rattle.std.proofs.Common.{inr}
+use Rattle.std.proofs.Common.{refl, inl, inr}
 use Rattle.std.proofs.lemmas.Result.{IfErr-weaker, on_ok_weaker}
+use Rattle.partition_commands.specs.declared.fault.PartitionsFault.TheVariants.{Open}
+use Rattle.partition_commands.proofs.EndingLemmas.{err-from}
 use Rattle.partition_commands.proofs.root_stack.root_stack_of_image.Goals as goal
 
 pub returns-clause-ok : goal.returns-clause-ok
@@ -13,3 +15,12 @@ returns-clause-err g c =
     IfErr-weaker c.print_root_stack.result _ _
     (λ fault ended. inr (record { image = c.in_ok-image.image; opened = c.in_ok-image.ensures.ok; ended = ended }))
     c.print_root_stack.ensures.err
+
+pub returns-in_err-image-clause-noted : goal.returns-in_err-image-clause-noted
+returns-in_err-image-clause-noted g c = err-from c.from_residual.result _ (Open c.in_err-image.field-0.0) c.from_residual.ensures.1 (inl (tt, refl))
+
+pub returns-clause-noted : goal.returns-clause-noted
+returns-clause-noted g c =
+    IfErr-weaker c.print_root_stack.result _ _
+    (λ fault noted. inr (record { image = c.in_ok-image.image; opened = c.in_ok-image.ensures.ok; noted = noted }))
+    c.print_root_stack.ensures.noted

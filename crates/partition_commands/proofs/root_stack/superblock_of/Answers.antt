@@ -18,8 +18,8 @@ returns-then-is_unfit-clause-err g c = (
     refl,
     record {
       super = c.in_ok-superblock.superblock;
-      sector = c.in_ok-superblock.ensures.ok.0;
-      read = rw c.part_of.ensures at c.in_ok-superblock.ensures.ok.1;
+      sector = c.in_ok-superblock.ensures.ok.1.0;
+      read = rw c.part_of.ensures at c.in_ok-superblock.ensures.ok.1.1;
       unfit = sym c.is_unfit.ensures ∙ c.if-is_unfit.true;
     },
   )),
@@ -27,8 +27,9 @@ returns-then-is_unfit-clause-err g c = (
 
 pub returns-clause-ok : goal.returns-clause-ok
 returns-clause-ok g c = record {
-  sector = c.in_ok-superblock.ensures.ok.0;
+  sector = c.in_ok-superblock.ensures.ok.1.0;
   within = rw c.part_of-data.ensures at (sym c.is_within.ensures ∙ c.if-not-is_within.false);
-  read = rw c.part_of.ensures at c.in_ok-superblock.ensures.ok.1;
+  inside = rw c.part_of.ensures at c.in_ok-superblock.ensures.ok.0;
+  read = rw c.part_of.ensures at c.in_ok-superblock.ensures.ok.1.1;
   fits = sym c.is_unfit.ensures ∙ c.if-is_unfit.false;
 }

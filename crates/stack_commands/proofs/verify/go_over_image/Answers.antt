@@ -9,4 +9,4 @@ returns-in-Err-clause-err g c = inl (c.in-Err.ensures.err, refl)
 pub returns-in_err-invoke_survey-clause-err : goal.returns-in_err-invoke_survey-clause-err
 returns-in_err-invoke_survey-clause-err g c =
     err-from c.from_residual.result _ (Trees c.in_err-invoke_survey.field-0.0) c.from_residual.ensures.1
-    (inr (record { between = c.root_in.new.images; found = _; told = c.in-Ok.ensures.ok; ends = c.in_err-invoke_survey.ensures.err }))
+    (inr (record { between = c.trusted_in.new.images; found = _; told = c.in-Ok.ensures.ok; ends = c.in_err-invoke_survey.ensures.err }))

@@ -8,9 +8,9 @@ use Rattle.std.proofs.lemmas.List.{with_items_is}
 use Rattle.std.specs.Prelude.{option_map, is_ok}
 use Rattle.block_device.specs.Call.{DeviceDoes, Read}
 use Rattle.stack_engine.specs.LeafCalls.{IsLeafCall}
-use Rattle.stack_engine.specs.SectorCalls.{Gives, none_read, zeros_read, fails_read}
+use Rattle.stack_engine.specs.SectorCalls.{Gives, zeros_read, fails_read}
 use Rattle.stack_engine.proofs.LeafCallLemmas.{makes-none}
-use Rattle.stack_engine.proofs.SectorCallLemmas.{leaf-given, run-given, run-ended, units-given, units-ungiven, part-given, part-ungiven}
+use Rattle.stack_engine.proofs.SectorCallLemmas.{leaf-given, gives-begin, run-given, run-ungiven, all-given, units-given, units-ungiven, part-given, part-ungiven}
 use Rattle.std.specs.Vec.{with_items}
 use borrow.Rule.Slice.PartMut.{put_mid, same_len_mid}
 use Rattle.tree_shape.specs.Digests.{digest, digest_in}
@@ -80,7 +80,7 @@ read_device-read_run-requires g t c κs within =
     let config = c.args.config.now in
     let next = c.run_to_read-run in
     let inv = c.loop-at.invariant in
-    let run = next-run c.args.from.1 c.loop-at.at (length c.args.out.now / 512) c.loop-at.out inv.whole c.loop-at-test.true (omega (arith, c.loop-at.auto.out)) next.ensures.served next.ensures.some next.ensures.most next.ensures.ends in
+    let run = next-run c.args.from.1 c.loop-at.at (length c.args.out.now / 512) c.loop-at.out inv.whole c.loop-at-test.true (omega (arith, c.loop-at.auto.out)) next.ensures.run.served next.ensures.run.some next.ensures.run.most next.ensures.run.longest in
     let deep = served-depth config c.args.from.0.0 (c.args.from.1 + c.loop-at.at / 512) next.result.count next.result.source c.requires.stack.sound.loaded run.some run.served in (
       omega (arith, deep),
       (
@@ -100,7 +100,7 @@ read_device-loop-at-preserved g t c =
     let source = next.result.source in
     let count = next.result.count in
     let end : ℕ = at + count * 512 in
-    let run = next-run c.args.from.1 at (length c.args.out.now / 512) out inv.whole c.loop-at-test.true (omega (arith, c.loop-at.auto.out)) next.ensures.served next.ensures.some next.ensures.most next.ensures.ends in
+    let run = next-run c.args.from.1 at (length c.args.out.now / 512) out inv.whole c.loop-at-test.true (omega (arith, c.loop-at.auto.out)) next.ensures.run.served next.ensures.run.some next.ensures.run.most next.ensures.run.longest in
     let front : take end (put_mid at (end - at) out c.read_run.new.out) ≡ take at out ++ c.read_run.new.out = take-put_mid at (end - at) out c.read_run.new.out end (omega (arith, c.read_run.auto.out, run.len)) inv.within in
     let more = subst (λ (n : ℕ). ReadsSourceAs c.args.chains config source n (did g.D.BlockDev.state c.loop-at.backing c.loop-at.found.items c.read_run.new.backing c.read_run.new.found.items) (Ok c.read_run.new.out)) run.sectors c.in-Ok.ensures.reads in
     record {
@@ -110,7 +110,8 @@ read_device-loop-at-preserved g t c =
       given = λ none.
           let does = DeviceDoes g.D.BlockDev.state g.D.BlockDev.does in
           let here = subst (λ (k : ℕ). (MeetVerity (source_said config source) 0 k → ⊥) → Gives does config source k c.loop-at.backing.devices.items c.read_run.new.backing.devices.items (Ok c.read_run.new.out)) run.sectors c.in-Ok.ensures.given in
-          run-given c.args.from.0.0 c.args.from.1 (at / 512) count (end / 512) source (take at out) c.read_run.new.out _ run.served run.next (sym front) (inv.given none) (here (λ some. none (run-meets loaded run _ run.inside some)));
+          run-given c.args.from.0.0 c.args.from.1 (length c.args.out.now / 512) (at / 512) ((length out - at) / 512) (end / 512) next.result (take at out) c.read_run.new.out _ run.left run.next (omega (arith, run.next, run.inside)) next.ensures.run (sym front) (inv.given none)
+          (here (λ some. none (run-meets loaded run _ run.inside some)));
       step = device-step-ok loaded run inv.cut run.sectors inv.step c.in-Ok.ensures.step;
       cut = subst (λ (k : ℕ). IsCutBehind config c.args.from.0.0 c.args.from.1 k (length c.args.out.now / 512)) run.next run.behind;
     }
@@ -120,7 +121,7 @@ read_device-returns-in-Err-clause-reads g t c =
     let config = c.args.config.now in
     let next = c.run_to_read-run in
     let inv = c.loop-at.invariant in
-    let run = next-run c.args.from.1 c.loop-at.at (length c.args.out.now / 512) c.loop-at.out inv.whole c.loop-at-test.true (omega (arith, c.loop-at.auto.out)) next.ensures.served next.ensures.some next.ensures.most next.ensures.ends in
+    let run = next-run c.args.from.1 c.loop-at.at (length c.args.out.now / 512) c.loop-at.out inv.whole c.loop-at-test.true (omega (arith, c.loop-at.auto.out)) next.ensures.run.served next.ensures.run.some next.ensures.run.most next.ensures.run.longest in
     let more = subst (λ (n : ℕ). ReadsSourceAs c.args.chains config next.result.source n (did g.D.BlockDev.state c.loop-at.backing c.loop-at.found.items c.read_run.new.backing c.read_run.new.found.items) (Err c.in-Err.fault)) run.sectors c.in-Err.ensures.reads in
     device_err config c.args.from.0.0 c.args.from.1 (c.loop-at.at / 512) next.result.count next.result.source c.args.chains c.requires.stack.sound.loaded run.some run.served inv.so_far _ c.in-Err.fault run.inside more
 
@@ -1169,7 +1170,7 @@ read_device-loop-at-init g t c =
       whole = refl;
       within = omega arith;
       so_far = finds-begin c.args.chains c.requires.kept;
-      given = λ none. makes-none (none_read (mapped c.args.from.0.0) c.args.from.1);
+      given = λ none. gives-begin c.args.from.0.0 c.args.from.1 (length c.args.out.now / 512);
       step = device-begin c.args.from.0.0 c.args.from.1 c.requires.stack.cached;
       cut = inl refl;
     }
@@ -1178,7 +1179,7 @@ pub read_device-returns-in-Err-clause-step : goal.read_device-returns-in-Err-cla
 read_device-returns-in-Err-clause-step g t c =
     let next = c.run_to_read-run in
     let inv = c.loop-at.invariant in
-    let run = next-run c.args.from.1 c.loop-at.at (length c.args.out.now / 512) c.loop-at.out inv.whole c.loop-at-test.true (omega (arith, c.loop-at.auto.out)) next.ensures.served next.ensures.some next.ensures.most next.ensures.ends in
+    let run = next-run c.args.from.1 c.loop-at.at (length c.args.out.now / 512) c.loop-at.out inv.whole c.loop-at-test.true (omega (arith, c.loop-at.auto.out)) next.ensures.run.served next.ensures.run.some next.ensures.run.most next.ensures.run.longest in
     device-step-err c.requires.stack.sound.loaded run inv.cut run.sectors inv.step c.in-Err.ensures.step
 
 pub read_device-returns-clause-step : goal.read_device-returns-clause-step
@@ -1287,17 +1288,16 @@ read_device-returns-in-Err-clause-given g t c =
     let next = c.run_to_read-run in
     let inv = c.loop-at.invariant in
     let source = next.result.source in
-    let run = next-run c.args.from.1 c.loop-at.at (length c.args.out.now / 512) c.loop-at.out inv.whole c.loop-at-test.true (omega (arith, c.loop-at.auto.out)) next.ensures.served next.ensures.some next.ensures.most next.ensures.ends in
+    let run = next-run c.args.from.1 c.loop-at.at (length c.args.out.now / 512) c.loop-at.out inv.whole c.loop-at-test.true (omega (arith, c.loop-at.auto.out)) next.ensures.run.served next.ensures.run.some next.ensures.run.most next.ensures.run.longest in
     let here = subst (λ (k : ℕ). (MeetVerity (source_said config source) 0 k → ⊥) → Gives does config source k c.loop-at.backing.devices.items c.read_run.new.backing.devices.items (Err c.in-Err.fault)) run.sectors c.in-Err.ensures.given in
-    run-ended c.args.from.0.0 c.args.from.1 (c.loop-at.at / 512) next.result.count (length c.args.out.now / 512) source (take c.loop-at.at c.loop-at.out) c.in-Err.fault run.served run.inside (inv.given none)
+    run-ungiven c.args.from.0.0 c.args.from.1 (length c.args.out.now / 512) (c.loop-at.at / 512) ((length c.loop-at.out - c.loop-at.at) / 512) next.result (take c.loop-at.at c.loop-at.out) c.in-Err.fault run.left next.ensures.run (inv.given none)
     (here (λ some. none (run-meets c.requires.stack.sound.loaded run _ run.inside some)))
 
 pub read_device-returns-clause-given : goal.read_device-returns-clause-given
 read_device-returns-clause-given g t c =
     λ none.
     let inv = c.loop-at.invariant in
-    let does = DeviceDoes g.D.BlockDev.state g.D.BlockDev.does in
     let at = c.loop-at.at in
     let all : at / 512 ≡ length c.args.out.now / 512 = omega (arith, inv.within, c.loop-at-test.false, c.loop-at.auto.out) in
-    let Is : ℕ → List ℕ → Type 0 = λ k b. Gives does c.args.config.now (Below (mapped c.args.from.0.0) c.args.from.1) k c.args.backing.now.devices.items c.loop-at.backing.devices.items (Ok b) in
-    subst (λ (k : ℕ). Is k c.loop-at.out) all (subst (Is (at / 512)) (take_all at c.loop-at.out (omega (arith, c.loop-at-test.false))) (inv.given none))
+    subst (λ (b : List ℕ). Gives (DeviceDoes g.D.BlockDev.state g.D.BlockDev.does) c.args.config.now (Below (mapped c.args.from.0.0) c.args.from.1) (length c.args.out.now / 512) c.args.backing.now.devices.items c.loop-at.backing.devices.items (Ok b)) (take_all at c.loop-at.out (omega (arith, c.loop-at-test.false)))
+    (all-given c.args.from.0.0 c.args.from.1 (length c.args.out.now / 512) (at / 512) (take at c.loop-at.out) all (inv.given none))

@@ -4,8 +4,7 @@ use Rattle.stack_rules.specs.Descend.{depth}
 use Rattle.block_device.specs.Call.{DeviceDoes}
 use Rattle.stack_meaning.specs.Meaning.{said_at}
 use Rattle.stack_meaning.specs.Reading.{MeetVerity}
-use Rattle.stack_lines.specs.declared.source.Source.TheVariants.{Below}
-use Rattle.stack_engine.specs.SectorCalls.{Gives}
+use Rattle.stack_engine.proofs.SectorCallLemmas.{GivesUpTo}
 use Rattle.stack_lines.specs.Sources.{source_depth}
 use Rattle.stack_lines.specs.Walks.{block_in, IsWalked}
 use Rattle.stack_lines.specs.Caches.{IsCached, KeepsCache}
@@ -38,7 +37,7 @@ invariant-read_device-loop-at g l = record {
   so_far : ReadsAs l.chains l.config (mapped l.from.0.0) l.from.1 (l.at / 512)
       (record { old = map g.D.BlockDev.state l.fn.backing.devices.items; new = map g.D.BlockDev.state l.backing.devices.items; before = l.fn.found.items; after = l.found.items }) (Ok (take l.at l.out));
   given : (MeetVerity (said_at l.config (mapped l.from.0.0)) l.from.1 (length l.fn.out / 512) → ⊥)
-      → Gives (DeviceDoes g.D.BlockDev.state g.D.BlockDev.does) l.config (Below (mapped l.from.0.0) l.from.1) (l.at / 512) l.fn.backing.devices.items l.backing.devices.items (Ok (take l.at l.out));
+      → GivesUpTo (DeviceDoes g.D.BlockDev.state g.D.BlockDev.does) l.config l.from.0.0 l.from.1 (length l.fn.out / 512) (l.at / 512) (take l.at l.out) l.fn.backing.devices.items l.backing.devices.items;
   step : IsReadStep l.config (run_beneath l.config (mapped l.from.0.0) l.from.1 (l.at / 512)) (backing_of g.D.BlockDev.state l.fn.backing) (backing_of g.D.BlockDev.state l.backing) (Ok tt);
   cut : IsCutBehind l.config l.from.0.0 l.from.1 (l.at / 512) (length l.fn.out / 512);
 }

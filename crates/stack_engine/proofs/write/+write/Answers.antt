@@ -41,9 +41,9 @@ use Rattle.stack_engine.proofs.UnitStepLemmas.{step-at, step-width, step-written
 use Rattle.stack_engine.proofs.HeldLemmas.{rest-later, one-none, none-of_units, none-of_part, IsCut, cut-bytes, cut-rest, cut-held}
 use Rattle.block_device.specs.Call.{DeviceDoes}
 use Rattle.stack_meaning.specs.Reading.{MeetVerity}
-use Rattle.stack_engine.specs.SectorCalls.{Hands, none_written, zeros_written, fails_written}
+use Rattle.stack_engine.specs.SectorCalls.{Hands, in_steps, zeros_written, fails_written}
 use Rattle.stack_engine.proofs.LeafCallLemmas.{makes-none}
-use Rattle.stack_engine.proofs.SectorCallLemmas.{leaf-handed, more-handed, ended-handed, step-handed, run-handed, units-handed, part-handed, part-lost}
+use Rattle.stack_engine.proofs.SectorCallLemmas.{runs_of, run-piece, step-piece, writes-begin, leaf-handed, run-handed, run-unhanded, all-handed, step-handed, step-unhanded, steps-handed, each-handed, units-handed, part-handed, part-lost}
 use Rattle.stack_engine.specs.Backings.{backing_of}
 use Rattle.stack_engine.specs.WriteSteps.{write_to, write_beneath, IsWriteStep}
 use Rattle.stack_engine.proofs.WriteStepLemmas.{write_some, write-step-none, device-write-step, device-write-err, unit-write-step, unit-write-err, part-read-step, part-write-step}
@@ -62,7 +62,7 @@ write_device-loop-at-init g t c =
       rest = refl;
       so_far = subst (λ (l : List (List ℕ)). WritesSectors to c.args.first l leaves leaves (Ok tt)) (sym sectors_in-none) (write_none to c.args.first leaves (put-none c.args.config.now (mapped c.args.d.0) c.args.first));
       ends = inl (inl refl);
-      handed = makes-none (none_written (mapped c.args.d.0) c.args.first);
+      handed = writes-begin (runs_of c.args.d.0) c.args.first (c.args.plain.now ++ c.args.buffer.now);
       step = write-step-none c.requires.can.stack.cached;
       cut = inl refl;
     }
@@ -138,7 +138,7 @@ write_device-loop-at-preserved g t c =
       rest = cut-rest cut c.write_run.new.buffer c.write_run.auto.buffer;
       so_far = subst (λ (b : List ℕ). WritesSectors (destination_of config (mapped d)) first (sectors_in b) old new (Ok tt)) (with_run bytes at count run.fits) all;
       ends = ends_after bytes at count run.fits config d first rest inv.whole run.some (omega (arith, c.requires.can.fits.sectors.whole, ap (λ (l : List ℕ). length l) c.held-len.ensures)) next.ensures.longest;
-      handed = more-handed (mapped d) first at (at + count * 512) bytes (omega arith) inv.handed (run-handed d first at count source bytes _ run.fits run.served same c.in-Ok.ensures.handed);
+      handed = run-handed (run-piece d first at rest bytes _ next.result inv.whole run.fits (ap (λ (l : List ℕ). (length l - at) / 512) c.held-len.ensures) next.ensures same) inv.handed c.in-Ok.ensures.handed;
       step = device-write-step loaded run inv.cut (ap (λ (l : List ℕ). length l / 512) same ∙ run.sectors) inv.step c.in-Ok.ensures.step;
       cut = subst (λ (k : ℕ). IsCutBehind config d first k (length bytes / 512)) run.next run.behind;
     }
@@ -379,7 +379,7 @@ write_units-returns-then-lower_cuts-clause-writes g t c =
     let cut : PutsInSteps (put_on config lower) (unit_first p.units p.first) n (record { size = per_unit p.units; skip = 0 }) =
     subst (λ (k : ℕ). PutsInSteps (put_on config lower) (unit_first p.units p.first) n (record { size = k; skip = 0 })) (c.from.ensures ∙ c.sectors-sectors.ensures.value)
     (subst (λ (k : ℕ). PutsInSteps (put_on config lower) (unit_first p.units p.first) k (record { size = c.from.result; skip = 0 })) count
-    (subst (λ (k : ℕ). PutsInSteps (put_on config lower) k (length c.encrypt.new.units / 512) (record { size = c.from.result; skip = 0 })) unit.ensures.first (c.lower_cuts.ensures c.if-lower_cuts.true))) in
+    (subst (λ (k : ℕ). PutsInSteps (put_on config lower) k (length c.encrypt.new.units / 512) (record { size = c.from.result; skip = 0 })) unit.ensures.first (c.lower_cuts.ensures.puts c.if-lower_cuts.true))) in
     lower-written config p bytes n c.requires.fits.holds (omega (arith, c.requires.fits.sectors.whole)) cut
     (subst (λ (k : ℕ). WritesSectors (destination_of config lower) k (sectors_in (encrypted_units p.units p.key.now (p.first / per_unit p.units) bytes)) old new c.write_lower.result) unit.ensures.first
     (subst (λ (b : List ℕ). WritesSectors (destination_of config lower) unit.result.first (sectors_in b) old new c.write_lower.result) enc c.write_lower.ensures.writes))
@@ -420,7 +420,7 @@ write_units-loop-at-init g t c =
       within = omega arith;
       rest = refl;
       so_far = subst (λ (l : List (List ℕ)). WritesSectors to 0 l leaves leaves (Ok tt)) (sym sectors_in-none) (write_none to 0 leaves (λ images. units-none c.args.config.now c.args.part images));
-      handed = makes-none (none_written c.args.part.lower (unit_first c.args.part.units c.args.part.first));
+      handed = writes-begin (in_steps (per_unit c.args.part.units) c.args.part.lower) (unit_first c.args.part.units c.args.part.first) c.encrypt.new.units;
       step = write-step-none c.requires.stack.cached;
     }
 
@@ -452,8 +452,8 @@ write_units-loop-at-preserved g t c =
           (c.write_lower-in-loop-at.auto.buffer ∙ step-width step now now_long ∙ (omega (arith, step.end_is)))
           ∙ ap (λ (k : ℕ). drop k now) step.end_is ∙ rest-later now c.encrypt.new.units at size inv.rest ∙ ap (λ (k : ℕ). drop k c.encrypt.new.units) (sym step.end_is);
       so_far = subst (λ (k : ℕ). WritesSectors (source_destination config (Units p)) 0 (sectors_in (take k bytes)) old (map state c.write_lower-in-loop-at.new.backing.devices.items) (Ok tt)) (sym (step.end_is ∙ step.next)) all;
-      handed = more-handed p.lower (unit_first p.units p.first) at c.min-end.result c.encrypt.new.units (omega (arith, step.end_is)) inv.handed
-          (step-handed p.lower unit.result.first (unit_first p.units p.first) at c.min-end.result now c.encrypt.new.units unit.ensures.first (omega (arith, c.loop-at-test.true)) inv.rest c.in-Ok.ensures.handed);
+      handed = step-handed p.lower (step-piece (per_unit p.units) unit.result.first (unit_first p.units p.first) at c.min-end.result c.encrypt.new.units now (omega (arith, step.place)) (omega (arith, step.fits, step.place, long, c.encrypt.auto.units)) (omega (arith, step.end_is, step.is)) unit.ensures.first inv.rest)
+          inv.handed c.in-Ok.ensures.handed;
       step = unit-write-step step c.requires.stack.sound.loaded c.requires.fits.holds now now_long unit.ensures.first inv.step c.in-Ok.ensures.step c.in-Ok.ensures.writes.unread;
     }
 
@@ -672,23 +672,24 @@ write_units-returns-then-lower_cuts-clause-handed g t c =
 pub write_units-returns-in-Err-clause-handed : goal.write_units-returns-in-Err-clause-handed
 write_units-returns-in-Err-clause-handed g t c =
     let p = c.args.part in
+    let bytes = c.args.units.now in
     let unit = c.unit_at-unit in
     let inv = c.loop-at.invariant in
-    let at = c.loop-at.at in
-    let first : ℕ = unit_first p.units p.first in
-    let end = c.min-end.result in
-    units-handed p first c.args.units.now c.encrypt.new.units refl (encrypted-is p.units p.key.now unit.result.index (p.first / per_unit p.units) c.args.units.now c.encrypt.new.units c.encrypt.ensures unit.ensures.index)
-    (ended-handed p.lower first at end c.encrypt.new.units c.in-Err.fault inv.handed
-    (step-handed p.lower unit.result.first first at end c.loop-at.units c.encrypt.new.units unit.ensures.first (omega (arith, c.loop-at-test.true)) inv.rest c.in-Err.ensures.handed))
+    let long : length bytes ≡ 512 * (length bytes / 512) = omega (arith, c.requires.fits.sectors.whole) in
+    let step = step-at p.units (length bytes) (length bytes / 512) c.loop-at.at (c.sectors-sectors.result * 512) c.min-end.result (omega (arith, c.sectors-sectors.ensures.value)) long
+    c.requires.fits.holds.whole inv.even (omega (arith, c.loop-at-test.true, c.encrypt.auto.units)) (omega (arith, c.min-end.ensures, c.encrypt.auto.units)) in
+    let enc = encrypted-is p.units p.key.now unit.result.index (p.first / per_unit p.units) bytes c.encrypt.new.units c.encrypt.ensures unit.ensures.index in
+    let next = step-piece (per_unit p.units) unit.result.first (unit_first p.units p.first) c.loop-at.at c.min-end.result c.encrypt.new.units c.loop-at.units (omega (arith, step.place)) (omega (arith, step.fits, step.place, long, c.encrypt.auto.units)) (omega (arith, step.end_is, step.is)) unit.ensures.first inv.rest in
+    each-handed p unit.result.first (length c.encrypt.new.units / 512) bytes c.encrypt.new.units unit.ensures.first enc (ap (λ (k : ℕ). k / 512) c.encrypt.auto.units) (c.lower_cuts.ensures.units c.if-lower_cuts.false)
+    (step-unhanded p.lower next inv.handed c.in-Err.ensures.handed)
 
 pub write_units-returns-clause-handed : goal.write_units-returns-clause-handed
 write_units-returns-clause-handed g t c =
     let p = c.args.part in
     let unit = c.unit_at-unit in
-    let first : ℕ = unit_first p.units p.first in
-    let whole : take c.loop-at.at c.encrypt.new.units ≡ c.encrypt.new.units = take_all c.loop-at.at c.encrypt.new.units (omega (arith, c.loop-at-test.false)) in
-    units-handed p first c.args.units.now c.encrypt.new.units refl (encrypted-is p.units p.key.now unit.result.index (p.first / per_unit p.units) c.args.units.now c.encrypt.new.units c.encrypt.ensures unit.ensures.index)
-    (subst (λ (b : List ℕ). Hands (DeviceDoes g.D.BlockDev.state g.D.BlockDev.does) c.args.config.now (Below p.lower first) b c.args.backing.now.devices.items c.loop-at.backing.devices.items (Ok tt)) whole c.loop-at.invariant.handed)
+    let enc = encrypted-is p.units p.key.now unit.result.index (p.first / per_unit p.units) c.args.units.now c.encrypt.new.units c.encrypt.ensures unit.ensures.index in
+    each-handed p unit.result.first (length c.encrypt.new.units / 512) c.args.units.now c.encrypt.new.units unit.ensures.first enc (ap (λ (k : ℕ). k / 512) c.encrypt.auto.units) (c.lower_cuts.ensures.units c.if-lower_cuts.false)
+    (steps-handed (per_unit p.units) p.lower (unit_first p.units p.first) c.loop-at.at c.encrypt.new.units (omega (arith, c.loop-at-test.false)) c.loop-at.invariant.handed)
 
 pub write_unit_part-returns-in-Err-clause-handed : goal.write_unit_part-returns-in-Err-clause-handed
 write_unit_part-returns-in-Err-clause-handed g t c =
@@ -727,10 +728,9 @@ write_device-returns-in-Err-clause-handed g t c =
     let cut : IsCut plain buffer c.loop-at.buffer c.between-part.result.now at (at + count * 512) c.min-from.result c.min-to.result =
     record { part_is = c.between-part.ensures; from_is = c.min-from.ensures; to_is = c.min-to.ensures; same_len = c.loop-at.auto.buffer; same_rest = inv.rest; order = omega arith } in
     let same = cut-bytes cut (one-none (said_at config (mapped d)) first plain buffer c.requires.bytes) in
-    ended-handed (mapped d) first at (at + count * 512) bytes c.in-Err.fault inv.handed (run-handed d first at count next.result.source bytes _ run.fits run.served same c.in-Err.ensures.handed)
+    let rest : ℕ = (length c.held-len.result.now - at) / 512 in
+    run-unhanded (run-piece d first at rest bytes _ next.result inv.whole run.fits (ap (λ (l : List ℕ). (length l - at) / 512) c.held-len.ensures) next.ensures same) inv.handed c.in-Err.ensures.handed
 
 pub write_device-returns-clause-handed : goal.write_device-returns-clause-handed
 write_device-returns-clause-handed g t c =
-    let bytes = c.args.plain.now ++ c.args.buffer.now in
-    let whole : take c.loop-at.at bytes ≡ bytes = take_all c.loop-at.at bytes (omega (arith, c.loop-at-test.false, ap (λ (l : List ℕ). length l) c.held-len.ensures)) in
-    subst (λ (b : List ℕ). Hands (DeviceDoes g.D.BlockDev.state g.D.BlockDev.does) c.args.config.now (Below (mapped c.args.d.0) c.args.first) b c.args.backing.now.devices.items c.loop-at.backing.devices.items (Ok tt)) whole c.loop-at.invariant.handed
+    all-handed c.args.d.0 c.args.first c.loop-at.at (c.args.plain.now ++ c.args.buffer.now) (omega (arith, c.loop-at-test.false, ap (λ (l : List ℕ). length l) c.held-len.ensures)) c.loop-at.invariant.handed

@@ -3,13 +3,13 @@ use Rattle.stack_rules.specs.Names.{mapped}
 use Rattle.stack_rules.specs.Descend.{depth}
 use Rattle.stack_lines.specs.Writing.{sectors_in, destination_of, source_destination, WritesSectors}
 use Rattle.block_device.specs.Call.{DeviceDoes}
-use Rattle.stack_meaning.specs.Units.{unit_first}
-use Rattle.stack_lines.specs.declared.source.Source.TheVariants.{Below, Units}
+use Rattle.stack_meaning.specs.Units.{per_unit, unit_first}
+use Rattle.stack_lines.specs.declared.source.Source.TheVariants.{Units}
 use Rattle.stack_lines.proofs.lemmas.WriteSourceLemmas.{EndsBefore}
 use Rattle.stack_lines.specs.Sources.{source_depth}
 use Rattle.stack_engine.proofs.SpentLemmas.{IsCutBehind}
 use Rattle.stack_engine.specs.Backings.{backing_of}
-use Rattle.stack_engine.specs.SectorCalls.{Hands}
+use Rattle.stack_engine.proofs.SectorCallLemmas.{HandsUpTo, StepsUpTo}
 use Rattle.stack_engine.specs.WriteSteps.{write_to, IsWriteStep}
 use Rattle.stack_engine.proofs.WriteStepLemmas.{write_some}
 use Rattle.stack_engine.proofs.write.+write.Given as goal
@@ -32,7 +32,7 @@ invariant-write_device-loop-at g l = record {
   within : l.at ≤ length (l.plain ++ l.fn.buffer);
   rest : drop l.at l.buffer ≡ drop l.at l.fn.buffer;
   so_far : WritesSectors (destination_of l.config (mapped l.d.0)) l.first (sectors_in (take l.at (l.plain ++ l.fn.buffer))) (map g.D.BlockDev.state l.fn.backing.devices.items) (map g.D.BlockDev.state l.backing.devices.items) (Ok tt);
-  handed : Hands (DeviceDoes g.D.BlockDev.state g.D.BlockDev.does) l.config (Below (mapped l.d.0) l.first) (take l.at (l.plain ++ l.fn.buffer)) l.fn.backing.devices.items l.backing.devices.items (Ok tt);
+  handed : HandsUpTo (DeviceDoes g.D.BlockDev.state g.D.BlockDev.does) l.config l.d.0 l.first l.at (l.plain ++ l.fn.buffer) l.fn.backing.devices.items l.backing.devices.items;
   step : IsWriteStep l.config (write_some l.config l.d.0 l.first (l.at / 512) (length (l.plain ++ l.fn.buffer) / 512)) (backing_of g.D.BlockDev.state l.fn.backing) (backing_of g.D.BlockDev.state l.backing);
   cut : IsCutBehind l.config l.d.0 l.first (l.at / 512) (length (l.plain ++ l.fn.buffer) / 512);
   ends : EndsBefore l.config l.d.0 (l.first + l.at / 512) (take l.at (l.plain ++ l.fn.buffer)) ⊎ (l.at ≡ length (l.plain ++ l.fn.buffer));
@@ -53,7 +53,7 @@ invariant-write_units-loop-at g l = record {
   even : l.at % l.size ≡ 0;
   within : l.at ≤ length l.fn.units;
   rest : drop l.at l.units ≡ drop l.at l.initial.units;
-  handed : Hands (DeviceDoes g.D.BlockDev.state g.D.BlockDev.does) l.config (Below l.fn.part.lower (unit_first l.fn.part.units l.fn.part.first)) (take l.at l.initial.units) l.fn.backing.devices.items l.backing.devices.items (Ok tt);
+  handed : StepsUpTo (DeviceDoes g.D.BlockDev.state g.D.BlockDev.does) l.config (per_unit l.fn.part.units) l.fn.part.lower (unit_first l.fn.part.units l.fn.part.first) l.at l.initial.units l.fn.backing.devices.items l.backing.devices.items;
   step : IsWriteStep l.config (write_to l.config (Units l.fn.part) (l.at / 512)) (backing_of g.D.BlockDev.state l.fn.backing) (backing_of g.D.BlockDev.state l.backing);
   so_far : WritesSectors (source_destination l.config (Units l.fn.part)) 0 (sectors_in (take l.at l.fn.units)) (map g.D.BlockDev.state l.fn.backing.devices.items) (map g.D.BlockDev.state l.backing.devices.items) (Ok tt);
 }

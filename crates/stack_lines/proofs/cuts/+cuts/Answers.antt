@@ -1,17 +1,22 @@
-use Rattle.std.proofs.Common.{◌≡◌, ◌+◌, ◌-◌, ◌⊎◌, false, refl, inl, inr, sym, ap, ◌∙◌, subst, arith}
+use Rattle.std.proofs.Common.{◌≡◌, ◌+◌, ◌-◌, ◌≤◌, ◌⊎◌, false, refl, inl, inr, sym, ap, ◌∙◌, subst, arith}
 use Rattle.std.proofs.lemmas.Nat.{mod_below}
 use Rattle.stack_rules.specs.declared.lower.Lower.{Lower}
+use Rattle.stack_lines.specs.declared.source.Source.{Source}
 use Rattle.stack_lines.specs.Cuts.{PutsInSteps}
 use Rattle.stack_meaning.specs.Puts.{in_one_run, put_on}
 use Rattle.stack_meaning.proofs.lemmas.LoadedLemmas.{size-small}
 use Rattle.stack_lines.proofs.lemmas.SourceLemmas.{served-depth, served-holds}
 use Rattle.stack_lines.proofs.lemmas.WriteSourceLemmas.{served-may_write}
 use Rattle.stack_lines.proofs.CutLemmas.{leaf-cut, device-cut}
+use Rattle.stack_lines.proofs.lemmas.EncryptLemmas.{units-some, unit_part-some, below-some, run-some}
+use Rattle.stack_lines.specs.Sources.{source_said}
+use Rattle.stack_lines.specs.Writing.{SomeEncrypt, SourceMayWrite}
+use Rattle.stack_meaning.specs.Meaning.{said_at}
 use Rattle.stack_rules.specs.Names.{mapped}
 use Rattle.stack_lines.proofs.cuts.+cuts.Goals as goal
 
-pub lower_cuts-returns-in-Leaf : goal.lower_cuts-returns-in-Leaf
-lower_cuts-returns-in-Leaf t c sure =
+pub lower_cuts-returns-in-Leaf-clause-puts : goal.lower_cuts-returns-in-Leaf-clause-puts
+lower_cuts-returns-in-Leaf-clause-puts t c sure =
     subst (λ (x : Lower). PutsInSteps (put_on c.args.config.now x) c.args.first c.args.count c.args.steps) (sym c.in-Leaf.is) (leaf-cut c.args.config.now c.in-Leaf.field-0 c.args.first c.args.count c.args.steps)
 
 pub device_cuts-overflow_add-first : goal.device_cuts-overflow_add-first
@@ -64,5 +69,37 @@ device_cuts-loop-at-preserved t c =
         | inl all ↦ inr (inl (omega (arith, all, low)))
         | inr cut ↦ let e : first + (at + run.count) - 1 ≡ first + at + run.count - 1 = omega arith in inr (inr (ap (in_one_run config d) e ∙ cut))
       ];
-      so_far = device-cut config d first at run.count run.source c.args.steps c.requires.loaded (omega (arith, c.requires.sectors.steps.begins)) may apart c.loop-at.invariant.so_far served (c.if-not-run_cuts.ensures refl);
+      so_far = device-cut config d first at run.count run.source c.args.steps c.requires.loaded (omega (arith, c.requires.sectors.steps.begins)) may apart c.loop-at.invariant.so_far served (c.if-not-run_cuts.ensures.puts refl);
     }
+
+-- ---- where it isn't known, some sectors are encrypted
+
+pub lower_cuts-returns-in-Device-clause-units : goal.lower_cuts-returns-in-Device-clause-units
+lower_cuts-returns-in-Device-clause-units t c no =
+    subst (λ (x : Lower). SomeEncrypt (said_at c.args.config.now x) c.args.first c.args.count) (sym c.in-Device.is) (c.device_cuts.ensures.units no)
+
+pub run_cuts-returns-in-Below-clause-units : goal.run_cuts-returns-in-Below-clause-units
+run_cuts-returns-in-Below-clause-units t c no =
+    let config = c.args.config.now in
+    let run = c.in-Below in
+    subst (λ (s : Source). SomeEncrypt (source_said config s) 0 c.args.count) (sym run.is) (below-some config run.lower run.first c.args.count (c.lower_cuts.ensures.units no))
+
+pub run_cuts-returns-in-Units-clause-units : goal.run_cuts-returns-in-Units-clause-units
+run_cuts-returns-in-Units-clause-units t c no =
+    subst (λ (s : Source). SomeEncrypt (source_said c.args.config.now s) 0 c.args.count) (sym c.in-Units.is) (units-some c.args.config.now c.in-Units.part c.args.count (omega (arith, c.if-count-left.false)))
+
+pub run_cuts-returns-in-UnitPart-clause-units : goal.run_cuts-returns-in-UnitPart-clause-units
+run_cuts-returns-in-UnitPart-clause-units t c no =
+    subst (λ (s : Source). SomeEncrypt (source_said c.args.config.now s) 0 c.args.count) (sym c.in-UnitPart.is) (unit_part-some c.args.config.now c.in-UnitPart.field-0 c.args.count (omega (arith, c.if-count-left.false)))
+
+pub run_cuts-returns-in-Block-clause-units : goal.run_cuts-returns-in-Block-clause-units
+run_cuts-returns-in-Block-clause-units t c no = absurd (subst (SourceMayWrite c.args.config.now) c.in-Block.is c.requires.sectors.allowed)
+
+pub run_cuts-returns-in-Blocks-clause-units : goal.run_cuts-returns-in-Blocks-clause-units
+run_cuts-returns-in-Blocks-clause-units t c no = absurd (subst (SourceMayWrite c.args.config.now) c.in-Blocks.is c.requires.sectors.allowed)
+
+pub device_cuts-returns-then-not-run_cuts-clause-units : goal.device_cuts-returns-then-not-run_cuts-clause-units
+device_cuts-returns-then-not-run_cuts-clause-units t c no =
+    let run = c.run_at-run.result in
+    let inside : c.loop-at.at + run.count ≤ c.args.count = omega (arith, c.run_at-run.ensures.most, c.loop-at-test.true) in
+    run-some c.args.config.now c.args.d.0 c.args.first c.loop-at.at run.count run.source c.requires.loaded c.run_at-run.ensures.served run.count c.args.count (omega arith) inside (c.if-not-run_cuts.ensures.units refl)

@@ -20,4 +20,5 @@ returns c =
       some = omega (arith, is, c.requires.line.some, low);
       most = omega (arith, c.min-count.ensures);
       longest = part-longest u w c.args.count c.min-count.result some c.requires.line.some is;
+      units = tt;
     }

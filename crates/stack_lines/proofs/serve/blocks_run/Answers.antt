@@ -26,4 +26,5 @@ returns c =
       some = omega (arith, few, c.requires.enough, low);
       most = omega (arith);
       longest = inr (part-ends u (x.first + n) some (omega (arith, few, c.requires.enough, low)) ((unit-more u x.first n some c.requires.aligned).1 ∙ whole));
+      units = tt;
     }

@@ -67,6 +67,7 @@ module _ (c : Configuration) (d l count : ℕ) (crypt : Crypt) (x : CryptPart) (
         some = omega (arith, is, enough, low);
         most = omega (arith, is);
         longest = ends (inr (part-ends u (x.first + n) some (omega (arith, is, enough, low)) ((unit-more u x.first n some aligned).1 ∙ whole)));
+        units = omega (arith, is, low);
       }
 
   part : n ≡ min count (per_unit x.units - x.first % per_unit x.units) → (x.first % per_unit x.units ≡ 0 → count < per_unit x.units) → IsRunOfLine c (d, l) (crypt_target crypt) x.first count (record { source = UnitPart x; count = n })
@@ -91,6 +92,7 @@ module _ (c : Configuration) (d l count : ℕ) (crypt : Crypt) (x : CryptPart) (
         some = omega (arith, is, line.some, low);
         most = omega (arith, is);
         longest = ends (part-longest u w count n some line.some is);
+        units = tt;
       }
 
 -- the part that is made of what the configuration gives

@@ -1,6 +1,7 @@
 use Rattle.std.proofs.Common.{ℕ, sym, subst, inl, arith}
 use Rattle.stack_lines.specs.Sources.{ComeFrom}
 use Rattle.dm_table.specs.declared.table.Target.{Target}
+use Rattle.stack_lines.proofs.RunEndLemmas.{all-units}
 use Rattle.stack_lines.proofs.serve.line_run.Goals as goal
 
 pub returns-in-Linear : goal.returns-in-Linear
@@ -14,4 +15,5 @@ returns-in-Linear c =
       some = omega (arith, run.ensures.count, c.requires.line.some);
       most = omega (arith, run.ensures.count);
       longest = inl run.ensures.count;
+      units = all-units run.result.source c.args.count run.result.count run.ensures.count;
     }

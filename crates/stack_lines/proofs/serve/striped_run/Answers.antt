@@ -50,4 +50,5 @@ returns c = record {
   some = omega (arith, c.min-count.ensures, c.requires.line.some, mod_below c.args.within c.args.chunk (omega (arith, c.requires.grammar.chunk_some)));
   most = omega (arith, c.min-count.ensures);
   longest = part-longest c.args.chunk c.args.within c.args.count c.min-count.result (omega (arith, c.requires.grammar.chunk_some)) c.requires.line.some c.min-count.ensures;
+  units = tt;
 }

@@ -67,4 +67,5 @@ returns c =
       some = omega (arith, is, c.requires.line.some, part);
       most = omega (arith, is);
       longest = part-longest k w c.args.count c.min-count.result c.requires.grammar.chunk_some c.requires.line.some is;
+      units = tt;
     }

@@ -20,17 +20,17 @@ returns c =
     let both : Some line ≡ Some here.line = sym found ∙ here.at in
     let same : line ≡ here.line = cc in
     let rest : ℕ = c.unit_of-rest.result.rest in
-    let count = c.min-count.ensures in
+    let count = c.aligned_len-count.ensures in
     let room = c.min-room.ensures in
-    let left = c.min.ensures in
+    let longest = c.min-longest.ensures in
     let behind : c.saturating_sub.result / c.unit_of-rest.result.whole * c.unit_of-rest.result.whole ≤ c.saturating_sub.result = omega (arith, div-add-mod' c.saturating_sub.result c.unit_of-rest.result.whole) in
     let together = subst (λ (x : Line). AreLostTogether x.target (c.args.first - x.start) rest) same c.unit_of-rest.ensures.together in
     record {
-      some = omega (arith, count, room, left, here.some, c.requires.some, c.unit_of-rest.ensures.rest);
-      few = omega (arith, count, room);
-      inside = omega (arith, count, room, left, c.requires.some);
+      some = count.some;
+      few = omega (arith, count.few, longest);
+      inside = omega (arith, count.inside, room, c.requires.some);
       alike = λ is.
-          alike-at c.args.config.now c.count-loaded.ensures.loaded c.args.d.0 c.args.first c.min-count.result number here.line here.is here.start (omega (arith, here.ends, count, room, left))
-          (fewer-together here.line.target (c.args.first - here.line.start) c.min-count.result rest (omega (arith, leb-true _ _ is)) together);
-      apart = λ is. let over = leb-false _ _ is in (omega (arith, over, c.unit_of-rest.ensures.rest), omega (arith, over, count, behind, c.saturating_sub.ensures, c.from-wanted.ensures));
+          alike-at c.args.config.now c.count-loaded.ensures.loaded c.args.d.0 c.args.first c.aligned_len-count.result number here.line here.is here.start (omega (arith, here.ends, count.inside, room))
+          (fewer-together here.line.target (c.args.first - here.line.start) c.aligned_len-count.result rest (omega (arith, leb-true _ _ is)) together);
+      apart = λ is. let over = leb-false _ _ is in (omega (arith, over, c.unit_of-rest.ensures.rest), omega (arith, over, count.few, longest, behind, c.saturating_sub.ensures, c.from-wanted.ensures));
     }

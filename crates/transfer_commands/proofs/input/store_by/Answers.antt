@@ -36,8 +36,8 @@ returns-then-count-size-clause-ok g c =
     let old : StoreSide = store_side c.args.stack.now (g.R.Read.remaining c.args.reader.now.inner) in
     let mid : StoreSide = store_side c.pieces.stack (g.R.Read.remaining c.pieces.reader.inner) in
     let new : StoreSide = store_side c.store_last.new.stack input in
-    let most : ℕ = c.min-most.result in
-    let wide : length (take (most * 512) c.pieces.room) ≡ most * 512 = length-take-le (most * 512) c.pieces.room (omega (arith, before.room, c.min-most.ensures)) in
+    let most : ℕ = c.aligned_len-most.result in
+    let wide : length (take (most * 512) c.pieces.room) ≡ most * 512 = length-take-le (most * 512) c.pieces.room (omega (arith, before.room, c.aligned_len-most.ensures.few)) in
     let ended : IsAtEnd input = filled.ended (omega (arith, c.fill.auto.buffer, wide, c.if-count-size.true)) in
     ok-as c.store_last.result
     (λ n. (n ≡ k + length bytes / 512) × (length bytes % 512 ≡ 0) × StoresPiece c.pieces.stack d c.pieces.at (whole_of bytes) c.store_last.new.stack)
@@ -62,8 +62,8 @@ returns-then-count-size-clause-err g c =
     let old : StoreSide = store_side c.args.stack.now (g.R.Read.remaining c.args.reader.now.inner) in
     let mid : StoreSide = store_side c.pieces.stack (g.R.Read.remaining c.pieces.reader.inner) in
     let new : StoreSide = store_side c.store_last.new.stack input in
-    let most : ℕ = c.min-most.result in
-    let wide : length (take (most * 512) c.pieces.room) ≡ most * 512 = length-take-le (most * 512) c.pieces.room (omega (arith, before.room, c.min-most.ensures)) in
+    let most : ℕ = c.aligned_len-most.result in
+    let wide : length (take (most * 512) c.pieces.room) ≡ most * 512 = length-take-le (most * 512) c.pieces.room (omega (arith, before.room, c.aligned_len-most.ensures.few)) in
     let ended : IsAtEnd input = filled.ended (omega (arith, c.fill.auto.buffer, wide, c.if-count-size.true)) in
     let broken : Type 0 = IsBroken c.fill.new.reader in
     err-as c.store_last.result (IsLastEnd d c.pieces.at k bytes c.pieces.stack c.store_last.new.stack) (IsStoreStop d first old new broken)
@@ -82,8 +82,8 @@ returns-in-Err-clause-err g c =
     let piece : List ℕ = c.fill.new.buffer in
     let input : Option (List ℕ) = g.R.Read.remaining c.fill.new.reader.inner in
     let mid : StoreSide = store_side c.pieces.stack (g.R.Read.remaining c.pieces.reader.inner) in
-    let most : ℕ = c.min-most.result in
-    let wide : length (take (most * 512) c.pieces.room) ≡ most * 512 = length-take-le (most * 512) c.pieces.room (omega (arith, before.room, c.min-most.ensures)) in
+    let most : ℕ = c.aligned_len-most.result in
+    let wide : length (take (most * 512) c.pieces.room) ≡ most * 512 = length-take-le (most * 512) c.pieces.room (omega (arith, before.room, c.aligned_len-most.ensures.few)) in
     let all : take c.in-Ok.count piece ≡ piece ++ [] = take_all c.in-Ok.count piece (omega (arith, c.fill.auto.buffer, wide, c.if-count-size.false)) ∙ sym (append-nil piece) in
     record {
       left = mid;
@@ -107,8 +107,8 @@ pieces-preserved g c =
     let old : StoreSide = store_side c.args.stack.now (g.R.Read.remaining c.args.reader.now.inner) in
     let mid : StoreSide = store_side c.pieces.stack (g.R.Read.remaining c.pieces.reader.inner) in
     let new : StoreSide = store_side c.write_piece.new.self input in
-    let most : ℕ = c.min-most.result in
-    let wide : length (take (most * 512) c.pieces.room) ≡ most * 512 = length-take-le (most * 512) c.pieces.room (omega (arith, before.room, c.min-most.ensures)) in
+    let most : ℕ = c.aligned_len-most.result in
+    let wide : length (take (most * 512) c.pieces.room) ≡ most * 512 = length-take-le (most * 512) c.pieces.room (omega (arith, before.room, c.aligned_len-most.ensures.few)) in
     let long : length piece ≡ 512 * most = omega (arith, c.fill.auto.buffer, wide) in
     let all : take c.in-Ok.count piece ≡ piece = take_all c.in-Ok.count piece (omega (arith, long, c.if-count-size.false)) in
     let wrote = subst (λ (s : ℕ). EachWrite c.pieces.stack d s piece (Ok tt) c.write_piece.new.self) here (record { piece = c.in_default-write_piece.ensures.piece; any = c.in_default-write_piece.ensures.any; steady = c.in_default-write_piece.ensures.steady }) in
@@ -118,9 +118,9 @@ pieces-preserved g c =
       stored = subst (λ (m : ℕ). HasStored d first m old new) sum stored;
       config = c.in_default-write_piece.ensures.any.config ∙ before.config;
       from = omega (arith, before.from);
-      within = omega (arith, c.min-most.ensures, c.pieces-test.true);
+      within = omega (arith, c.aligned_len-most.ensures.inside, c.pieces-test.true);
       all = before.all;
-      room = length-append piece (drop (most * 512) c.pieces.room) ∙ omega (arith, long, length-drop (most * 512) c.pieces.room, before.room, c.min-most.ensures);
+      room = length-append piece (drop (most * 512) c.pieces.room) ∙ omega (arith, long, length-drop (most * 512) c.pieces.room, before.room, c.aligned_len-most.ensures.few);
     }
 
 pub returns-clause-err : goal.returns-clause-err

@@ -18,12 +18,12 @@ returns-in_err-superblock-clause-err g c =
     let after = windowed (g.H.BlockDev.state new.inner) new.part in
     let cause = c.in_err-superblock.field-0.0 in
     err-from c.from_residual.result _ (no_tree_fault cause) c.from_residual.ensures.1
-    (inl (record { cause = cause; hash_dev' = after; none = subst (λ (v : Device). IsNoTree v first after cause) c.place_parts-two.ensures.hash c.in_err-superblock.ensures.err; is = refl }))
+    (inl (record { cause = cause; hash_dev' = after; none = subst (λ (v : Device). IsNoTree v first c.args.trusted.now.pin after cause) c.place_parts-two.ensures.hash c.in_err-superblock.ensures.err; is = refl }))
 
 pub returns-clause-ok : goal.returns-clause-ok
 returns-clause-ok g c =
     let first = c.args.bounds.first in
-    let root = c.args.root.now in
+    let root = c.args.trusted.now.root in
     let super = c.in_ok-superblock.superblock in
     let read = c.find_tree.new.hash_dev in
     let read_dev = windowed (g.H.BlockDev.state read.inner) read.part in
@@ -36,7 +36,7 @@ returns-clause-ok g c =
       read_dev = read_dev;
       data_dev' = after.data_dev;
       hash_dev' = after.hash_dev;
-      super_read = subst (λ (v : Device). ReadsSuper v first super) c.place_parts-two.ensures.hash c.in_ok-superblock.ensures.ok;
+      super_read = subst (λ (v : Device). ReadsSuper v first c.args.trusted.now.pin super) c.place_parts-two.ensures.hash c.in_ok-superblock.ensures.ok;
       one = subst (λ (v : Device). IsFullRead v 1 read_dev) c.place_parts-two.ensures.hash c.in_ok-superblock.ensures.full;
       says = subst₂ (λ (t : VerityTree) (v : Device). SaysFound c.args.json t (pass v read_dev after.data_dev after.hash_dev old printed) root true) c.tree.ensures.value c.place_parts-two.ensures.data done;
     })
@@ -45,7 +45,7 @@ returns-clause-ok g c =
 pub returns-clause-err : goal.returns-clause-err
 returns-clause-err g c =
     let first = c.args.bounds.first in
-    let root = c.args.root.now in
+    let root = c.args.trusted.now.root in
     let super = c.in_ok-superblock.superblock in
     let read = c.find_tree.new.hash_dev in
     let read_dev = windowed (g.H.BlockDev.state read.inner) read.part in
@@ -59,7 +59,7 @@ returns-clause-err g c =
       read_dev = read_dev;
       data_dev' = after.data_dev;
       hash_dev' = after.hash_dev;
-      super_read = subst (λ (v : Device). ReadsSuper v first super) c.place_parts-two.ensures.hash c.in_ok-superblock.ensures.ok;
+      super_read = subst (λ (v : Device). ReadsSuper v first c.args.trusted.now.pin super) c.place_parts-two.ensures.hash c.in_ok-superblock.ensures.ok;
       one = subst (λ (v : Device). IsFullRead v 1 read_dev) c.place_parts-two.ensures.hash c.in_ok-superblock.ensures.full;
       ends = subst₂ (λ (t : VerityTree) (v : Device). IsSurveyEnd c.args.json t (pass v read_dev after.data_dev after.hash_dev old printed) root failed fault) c.tree.ensures.value c.place_parts-two.ensures.data ends;
     }))

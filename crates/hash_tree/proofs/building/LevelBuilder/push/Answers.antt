@@ -1,3 +1,4 @@
+use Rattle.std.specs.Prelude.{is_some}
 use Rattle.std.proofs.Common.{◌≡◌, ◌<◌, ◌+◌, ◌-◌, length, sym, ap, ◌∙◌, arith, subst, List, ℕ}
 use Rattle.std.proofs.lemmas.List.{with_items_is}
 use Rattle.std.specs.Vec.{with_items}
@@ -32,7 +33,7 @@ invariant_of-self c = λ well.
 pub returns-in-Ok-clause-ok : goal.returns-in-Ok-clause-ok
 returns-in-Ok-clause-ok c =
     let i = c.self.inside in
-    let made : List LevelRecord → List ℕ → BuilderRecord = λ ls r. record { hash_block = i.hash_block; salt = i.salt; left = i.left - 1; failed = i.failed; levels = ls; root = r } in
+    let made : List LevelRecord → List ℕ → BuilderRecord = λ ls r. record { hash_block = i.hash_block; salt = i.salt; left = i.left - 1; failed = is_some i.refused; levels = ls; root = r } in
     let root : c.rise.new.root ≡ (grow i.hash_block i.salt i.levels.items i.root c.args.digest).root =
     c.in-Ok.ensures.root ∙ ap (λ ls. (grow i.hash_block i.salt ls i.root c.args.digest).root) c.deref_mut.ensures.value in (
       rw (pushed-one c.args.self.now c.args.digest, ← c.self.view_is)

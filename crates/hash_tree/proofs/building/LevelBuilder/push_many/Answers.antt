@@ -1,5 +1,7 @@
 use Rattle.std.proofs.Common.{◌≡◌, ◌-◌, ◌++◌, List, ℕ, length, take, drop, ap, ◌∙◌, arith, subst}
+use Rattle.std.specs.Prelude.{is_some}
 use Rattle.std.proofs.lemmas.List.{take_all, length-drop, length-take-le}
+use Rattle.allocation.specs.declared.out_of_memory.OutOfMemory.{OutOfMemory}
 use Rattle.hash_tree.specs.Building.{BuilderRecord, completed, HasSome, IsPushed}
 use Rattle.hash_tree.proofs.lemmas.GrowLemmas.{HasSome-all}
 use Rattle.hash_tree.proofs.lemmas.BuilderLemmas.{left-pushed, failed-pushed}
@@ -12,7 +14,7 @@ rest : (n : ℕ) (ds : List (List ℕ)) → take (length ds - n) (drop n ds) ≡
 rest n ds = take_all (length ds - n) (drop n ds) (omega (arith, length-drop n ds))
 
 pub loop-done-init : goal.loop-done-init
-loop-done-init c = record { well = rw (← c.self.view_is) c.if-self.false; few = omega arith; pushed = IsPushed-none c.args.self.now c.args.out.now.items }
+loop-done-init c = record { well = rw (← c.self.view_is) (ap (is_some {T = OutOfMemory}) c.in-None.is); few = omega arith; pushed = IsPushed-none c.args.self.now c.args.out.now.items }
 
 pub push_next-requires-clause-working : goal.push_next-requires-clause-working
 push_next-requires-clause-working c =

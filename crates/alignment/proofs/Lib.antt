@@ -1,0 +1,4 @@
+pub mod lemmas
+mod EightLemmas
+mod LastLemmas
+mod UnitLemmas

@@ -1,0 +1,37 @@
+-- Calls of the operating system by which a text is replaced, as evidence: the definition isn't unfoldable, so code knows it
+-- only from a call of `SystemCalls`.
+use Rattle.std.specs.Prelude.{ℕ, List, Result}
+use Rattle.std.specs.declared.fs.File.{File}
+use Rattle.image_files.specs.Calls.{FileRelations}
+use Rattle.image_files.specs.declared.calls.CallFault.{CallFault}
+use Rattle.image_files.specs.declared.seal.Seal.{Seal}
+
+-- a call, its arguments, and its outcome where it has one
+pub data SystemCall : Type 0 where
+  Resolve : List ℕ → List ℕ → SystemCall
+  Create : List ℕ → List ℕ → File → SystemCall
+  Write : File → List ℕ → Result (Unit {0}) CallFault → File → SystemCall
+  Sync : File → Result (Unit {0}) CallFault → SystemCall
+  Rename : List ℕ → List ℕ → Result (Unit {0}) CallFault → SystemCall
+  SyncFolder : List ℕ → Result (Unit {0}) CallFault → SystemCall
+  Remove : List ℕ → SystemCall
+
+-- the system was called so
+pub WasAsked : {S : Type 0} → S → SystemCall → S → Type 0
+WasAsked old call new = Unit {0}
+
+-- only the proofs of this crate can name a `Seal`
+pub was-asked : {S : Type 0} (old : S) (call : SystemCall) (new : S) → Seal → WasAsked old call new
+unfolding WasAsked
+was-asked old call new seal = tt
+
+abbrev pub system_relations : {S : Type 0} → FileRelations S File
+system_relations = record {
+  resolves = λ old path target new. WasAsked old (Resolve path target) new;
+  creates = λ old name like file new. WasAsked old (Create name like file) new;
+  writes = λ old file bytes result file' new. WasAsked old (Write file bytes result file') new;
+  syncs = λ old file result new. WasAsked old (Sync file result) new;
+  renames = λ old from to result new. WasAsked old (Rename from to result) new;
+  lists = λ old path result new. WasAsked old (SyncFolder path result) new;
+  removes = λ old name new. WasAsked old (Remove name) new;
+}

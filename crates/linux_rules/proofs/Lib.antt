@@ -1,0 +1,4 @@
+mod GreatestLemmas
+mod BlockLemmas
+mod FirstLemmas
+mod LineLemmas

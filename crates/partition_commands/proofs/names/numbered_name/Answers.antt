@@ -1,0 +1,12 @@
+use Rattle.std.proofs.lemmas.Result.{IfErr-weaker}
+use Rattle.allocation.specs.Asked.{asked}
+use Rattle.partition_commands.specs.Names.{numbered_name}
+use Rattle.partition_commands.proofs.NameLemmas.{room-digits}
+use Rattle.partition_commands.proofs.names.numbered_name.Goals as goal
+
+pub returns-clause-ok : goal.returns-clause-ok
+unfolding numbered_name
+returns-clause-ok c = rw c.format.ensures.text at c.joined.ensures.ok
+
+pub returns-clause-err : goal.returns-clause-err
+returns-clause-err c = IfErr-weaker c.joined.result _ _ (λ e was. room-digits (asked e) c.format.result.now was.0 c.format.ensures.short) c.joined.ensures.err

@@ -1,0 +1,68 @@
+-- The second tree checked, and both compared.
+use Rattle.std.proofs.Common.{inl, inr, ℕ, Bool, false, List, Option}
+use Rattle.block_device.specs.Device.{Device}
+use Rattle.verity_format.specs.declared.verifying.VerifyFault.TheVariants as verify
+use Rattle.tree_difference.specs.declared.difference.Roots.{Roots}
+use Rattle.tree_difference.specs.declared.fault.DifferenceFault.{DifferenceFault}
+use Rattle.tree_difference.specs.declared.fault.DifferenceFault.TheVariants as difference
+use Rattle.tree_difference.specs.declared.fault.Which.TheVariants.{First, Second}
+use Rattle.tree_difference.specs.Comparisons.{DifferenceWorld, difference_world}
+use Rattle.tree_difference.specs.Differences.{IsDifferenceCause}
+use Rattle.tree_survey.specs.declared.fault.SurveyFault.{SurveyFault}
+use Rattle.tree_survey.specs.declared.fault.SurveyFault.TheVariants as survey
+use Rattle.tree_survey.specs.Causes.{IsHashesCause}
+use Rattle.verity_commands.specs.declared.checked_diff.CheckedTotals.{CheckedTotals}
+use Rattle.verity_commands.specs.declared.tree_fault.TreeFault.{TreeFault}
+use Rattle.verity_commands.specs.declared.tree_fault.TreeFault.TheVariants as tree
+use Rattle.verity_commands.specs.CheckedDiffs.{IsCheckCause, IsCheckedCause, IsCheckedEnd, IsFoundEnd, IsKeptCheckCause, IsSayingEnd, SaysChecked}
+use Rattle.verity_commands.specs.CheckedDiffs as checked
+use Rattle.verity_commands.specs.Diffs.{unkept_difference}
+
+pub check_cause : (d d' : Device) (failed : Bool) (fault : SurveyFault) → IsHashesCause d d' failed fault → IsCheckCause d d' failed (checked.check_fault fault)
+check_cause d d' failed (survey.Image (verify.Super f)) h = absurd h
+check_cause d d' failed (survey.Image verify.TooSmall) h = absurd h
+check_cause d d' failed (survey.Image verify.Device) h = absurd h
+check_cause d d' failed (survey.Image verify.NoMemory) h = h
+check_cause d d' failed survey.Write h = h
+
+-- a cause that doesn't depend on whether a line could be written
+unfailed : (w : DifferenceWorld) (roots : Roots) (failed : Bool) (fault : DifferenceFault)
+    → ((d d' : Device) → IsCheckCause d d' failed fault → IsCheckCause d d' false fault)
+    → ((v : DifferenceWorld) → IsDifferenceCause v roots failed fault → IsDifferenceCause v roots false fault)
+    → IsCheckedCause w roots failed fault → IsCheckedCause w roots false fault
+unfailed w roots failed fault check compare (inl (inl h)) = inl (inl h)
+unfailed w roots failed fault check compare (inl (inr e)) =
+    inl (inr (record { super = e.super; read_dev = e.read_dev; image = e.image; one = e.one; cause = check e.read_dev w.second' e.cause }))
+unfailed w roots failed fault check compare (inr e) =
+    inr (record { whole = e.whole; middle = e.middle; between = e.between; checks = e.checks; cause = compare (record w { second = e.middle; printed = e.between }) e.cause })
+
+pub kept_check : (d e d' e' : Device) (old new : Option (List ℕ)) (roots : Roots) (failed : Bool) (fault : DifferenceFault) → IsCheckedCause (difference_world d e d' e' old new) roots failed fault → IsKeptCheckCause d e d' e' roots (unkept_difference fault)
+kept_check d e d' e' old new roots failed (difference.Image First f) h = (old, (new, unfailed (difference_world d e d' e' old new) roots failed (difference.Image First f) (λ a a' c. c) (λ v c. c) h))
+kept_check d e d' e' old new roots failed (difference.Image Second f) h = (old, (new, unfailed (difference_world d e d' e' old new) roots failed (difference.Image Second f) (λ a a' c. c) (λ v c. c) h))
+kept_check d e d' e' old new roots failed (difference.Unlike field) h = (old, (new, unfailed (difference_world d e d' e' old new) roots failed (difference.Unlike field) (λ a a' c. c) (λ v c. c) h))
+kept_check d e d' e' old new roots failed (difference.Hash First level n) h = (old, (new, unfailed (difference_world d e d' e' old new) roots failed (difference.Hash First level n) (λ a a' c. c) (λ v c. c) h))
+kept_check d e d' e' old new roots failed (difference.Hash Second level n) h = (old, (new, unfailed (difference_world d e d' e' old new) roots failed (difference.Hash Second level n) (λ a a' c. c) (λ v c. c) h))
+kept_check d e d' e' old new roots failed difference.NoMemory h = tt
+kept_check d e d' e' old new roots failed difference.Write h = tt
+
+-- how a comparison ends of which all was printed
+pub found-end : (json : Bool) (w : DifferenceWorld) (roots : Roots) (most : Option ℕ) (failed : Bool) (found : CheckedTotals) → SaysChecked json w roots most found → (fault : TreeFault) → IsFoundEnd found fault → IsCheckedEnd json w roots most failed fault
+found-end json w roots most failed found says (tree.Open file) h = absurd h
+found-end json w roots most failed found says (tree.Trees fault) h = absurd h
+found-end json w roots most failed found says tree.Differs h = (found, (says, h))
+found-end json w roots most failed found says (tree.Survey fault) h = absurd h
+found-end json w roots most failed found says tree.Unaligned h = absurd h
+found-end json w roots most failed found says tree.UnusedEntries h = absurd h
+found-end json w roots most failed found says tree.Damaged h = (found, (says, h))
+found-end json w roots most failed found says tree.Write h = absurd h
+
+-- and of which it wasn't
+pub said-end : (json : Bool) (w : DifferenceWorld) (roots : Roots) (most : Option ℕ) (failed : Bool) (fault : TreeFault) → IsSayingEnd json w roots failed fault → IsCheckedEnd json w roots most failed fault
+said-end json w roots most failed (tree.Open file) h = h
+said-end json w roots most failed (tree.Trees fault) h = h
+said-end json w roots most failed tree.Differs h = absurd h
+said-end json w roots most failed (tree.Survey fault) h = h
+said-end json w roots most failed tree.Unaligned h = h
+said-end json w roots most failed tree.UnusedEntries h = h
+said-end json w roots most failed tree.Damaged h = absurd h
+said-end json w roots most failed tree.Write h = h

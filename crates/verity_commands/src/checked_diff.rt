@@ -1,0 +1,176 @@
+//! The command `diff --all`: which hash blocks of the second image are invalid, and which data blocks of two images differ.
+ghost use Rattle.std.specs.Prelude.{◌≡◌, false, OnOk, IfErr, IfOk};
+ghost use Rattle.tree_difference.specs.Differences.{seen_world};
+ghost use Rattle.verity_commands.specs.CheckedDiffs.{ChecksDevice, ChecksImages, FailsCheck, FailsToCheckDevice, FailsToCheckImages, FailsToSay, FindsWhole, IsCheckedCause, IsCheckedDifference, IsFoundEnd, IsWholeAndSame, SaysFound, check_fault, second_fault};
+
+use crate::checked_object::say_object;
+use crate::diff::{is_unchanged, say_totals};
+use crate::paths::{HashPaths, TwoHashes, open_both};
+use crate::tree_fault::TreeFault;
+use block_device::BlockDev;
+use image_files::Images;
+use program_io::Counted;
+use runs::Listing;
+use std::alloc::Global;
+use std::io::Write;
+use tree_difference::{DifferenceFault, Roots, Totals, Which, compare_trees, superblock_of};
+use tree_shape::Digest;
+use tree_survey::{SurveyFault, survey_hashes};
+use verity_format::VerifyFault;
+
+/// How many runs are printed at most, and whether one JSON object is printed and no lines.
+#[derive(Clone, Copy, Debug, PartialEq, Eq)]
+pub struct DiffForm {
+    pub most: Option<u64>,
+    pub json: bool,
+}
+
+/// How many data blocks differ, and whether each hash block of the second tree is valid.
+#[derive(Clone, Copy, Debug, PartialEq, Eq)]
+pub struct CheckedTotals {
+    pub totals: Totals,
+    pub whole_tree: bool,
+}
+
+/// `diff --all [--blocks N] [--json] HASH1 ROOT1 HASH2 ROOT2`: a line for each invalid hash block of the second tree, one for
+/// each longest run of data blocks that differ, and the totals; or one JSON object of all of them. The hash blocks come
+/// first, since the comparison ends at an invalid one that it reads.
+///
+/// # Errors
+///
+/// `Damaged` if a hash block is invalid, else `Differs` if data blocks differ.
+pub fn check_images<'a, I: Images, W: Write>(
+    alloc: Global,
+    images: &mut I,
+    paths: HashPaths<'a>,
+    roots: Roots,
+    form: DiffForm,
+    writer: &mut Counted<W>,
+) -> Result<(), TreeFault<'a>>
+    ensures ok { OnOk result (ChecksImages I.relations I.Dev.state images.old images.new W.contents writer.old writer.new paths.entry roots form) }
+    ensures err { IfErr result (FailsToCheckImages I.relations I.Dev.state images.old images.new W.contents writer.old writer.new paths.entry roots form) }
+{
+    let mut two = open_both(images, paths)?;
+    check(alloc, &mut two, roots, form, writer)
+}
+
+fn check<'a, D: BlockDev, W: Write>(
+    alloc: Global,
+    two: &mut TwoHashes<D>,
+    roots: Roots,
+    form: DiffForm,
+    writer: &mut Counted<W>,
+) -> Result<(), TreeFault<'a>>
+    ensures ok { OnOk result (FindsWhole D.state two.old two.new W.contents writer.old writer.new roots form) }
+    ensures err { IfErr result (FailsCheck D.state two.old two.new W.contents writer.old writer.new roots form) }
+{
+    let found = say_checked(alloc, two, roots, form, writer)?;
+    end_of(found)
+}
+
+// Prints what is found, as an object or as lines.
+fn say_checked<'a, D: BlockDev, W: Write>(
+    alloc: Global,
+    two: &mut TwoHashes<D>,
+    roots: Roots,
+    form: DiffForm,
+    writer: &mut Counted<W>,
+) -> Result<CheckedTotals, TreeFault<'a>>
+    ensures ok { IfOk result (SaysFound form.json D.state two.old two.new W.contents writer.old writer.new roots form.most) }
+    ensures err { IfErr result (FailsToSay form.json D.state two.old two.new W.contents writer.old writer.new roots) }
+{
+    let DiffForm { most, json } = form;
+    if json {
+        return say_object(alloc, two, roots, most, writer);
+    }
+    say_lines(alloc, two, roots, most, writer)
+}
+
+fn say_lines<'a, D: BlockDev, W: Write>(
+    alloc: Global,
+    two: &mut TwoHashes<D>,
+    roots: Roots,
+    most: Option<u64>,
+    writer: &mut Counted<W>,
+) -> Result<CheckedTotals, TreeFault<'a>>
+    ensures ok { IfOk result (SaysFound false D.state two.old two.new W.contents writer.old writer.new roots most) }
+    ensures err { IfErr result (FailsToSay false D.state two.old two.new W.contents writer.old writer.new roots) }
+{
+    let first = &mut two.first.device;
+    let second = &mut two.second.device;
+    let found = compare_checked(alloc, first, second, roots, most, writer)?;
+    say_totals(writer, found.totals)?;
+    Ok(found)
+}
+
+/// Checks the hash blocks of the second tree, and compares both.
+pub(crate) fn compare_checked<D: BlockDev, E: BlockDev, L: Listing>(
+    alloc: Global,
+    first: &mut D,
+    second: &mut E,
+    roots: Roots,
+    most: Option<u64>,
+    listing: &mut L,
+) -> Result<CheckedTotals, DifferenceFault>
+    ensures ok { IfOk result (IsCheckedDifference (seen_world D.state E.state L.told first.old second.old first.new second.new listing.old listing.new) roots most) }
+    ensures err { IfErr result (IsCheckedCause (seen_world D.state E.state L.told first.old second.old first.new second.new listing.old listing.new) roots (L.failed listing.new)) }
+{
+    let whole_tree = check_second(alloc, second, &roots.second, listing)?;
+    let totals = compare_trees(alloc, first, second, roots, most, listing)?;
+    Ok(CheckedTotals { totals, whole_tree })
+}
+
+// Checks the hash blocks of the second tree, and returns whether all are valid.
+fn check_second<H: BlockDev, L: Listing>(
+    alloc: Global,
+    device: &mut H,
+    root: &Digest,
+    listing: &mut L,
+) -> Result<bool, DifferenceFault>
+    ensures ok { IfOk result (ChecksDevice H.state L.told device.old device.new root.now listing.old listing.new) }
+    ensures err { IfErr result (FailsToCheckDevice H.state device.old device.new (L.failed listing.new)) }
+{
+    let superblock = superblock_of(device, Which::Second)?;
+    match survey_hashes(alloc, device, &superblock, root, listing) {
+        Ok(whole) => Ok(whole),
+        Err(fault) => Err(check_fault(fault)),
+    }
+}
+
+// With which fault the comparison ends if the check does.
+fn check_fault(fault: SurveyFault) -> DifferenceFault
+    ensures { result ≡ check_fault fault }
+{
+    match fault {
+        SurveyFault::Image(image) => second_fault(image),
+        SurveyFault::Write => DifferenceFault::Write,
+    }
+}
+
+// With which one if the second image has this fault.
+fn second_fault(fault: VerifyFault) -> DifferenceFault
+    ensures { result ≡ second_fault fault }
+{
+    match fault {
+        VerifyFault::Super(field) => {
+            DifferenceFault::Image(Which::Second, VerifyFault::Super(field))
+        }
+        VerifyFault::TooSmall => DifferenceFault::Image(Which::Second, VerifyFault::TooSmall),
+        VerifyFault::Device => DifferenceFault::Image(Which::Second, VerifyFault::Device),
+        VerifyFault::NoMemory => DifferenceFault::NoMemory,
+    }
+}
+
+// How a comparison ends that found this.
+fn end_of<'a>(found: CheckedTotals) -> Result<(), TreeFault<'a>>
+    ensures ok { OnOk result (IsWholeAndSame found) }
+    ensures err { IfErr result (IsFoundEnd found) }
+{
+    if !found.whole_tree {
+        return Err(TreeFault::Damaged);
+    }
+    if !is_unchanged(found.totals) {
+        return Err(TreeFault::Differs);
+    }
+    Ok(())
+}

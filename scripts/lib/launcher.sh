@@ -1,0 +1,13 @@
+#!/bin/sh
+# The program of a package for every machine: runs the build for processors with AVX2 where this one has it, else the other.
+flags=
+while read -r name _ rest; do
+    [ "$name" != flags ] || { flags=" $rest "; break; }
+done < /proc/cpuinfo
+build=x86-64-v3
+for it in avx2 bmi1 bmi2 f16c fma abm movbe; do
+    case $flags in *" $it "*) ;; *) build=x86-64 ;; esac
+done
+self=$0
+[ ! -L "$self" ] || self=$(readlink -f "$self")
+exec "${self%/bin/*}/lib/dmstack/$build/dmstack" "$@"
