@@ -35,7 +35,7 @@ PLACES = {
     "block_device": (8, NOT_YET),
     "command_parser": (11, PARSER),
     "hash_tree": (14, STATED),
-    "image_commands": (15, NOT_YET),
+    "image_commands": (16, NOT_YET),
     "image_files": (8, NOT_YET),
     "image_pin": (2, STATED),
     "partition_commands": (30, NOT_YET),
