@@ -1,6 +1,6 @@
 //! MixColumns and its inverse (FIPS 197, 5.1.3 and 5.3.3) on planes.
 //!
-//! Only the last round moves rows. Until then, the state is stored `shifts` ShiftRows behind, and a column is
+//! No round but the last moves rows. Until then, the state is stored `shifts` ShiftRows behind, and a column is
 //! gathered from the lanes that hold its bytes.
 
 ghost use Rattle.std.specs.Prelude.{◌≡◌, ℕ, ◌<◌, length, slice_index};
