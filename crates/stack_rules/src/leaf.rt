@@ -1,7 +1,8 @@
 //! The leaves of a stack.
 use std::marker::Model;
 
-/// A device at the bottom of a stack, by the name that tables give it.
+/// A leaf: a backing device at the bottom of a stack, with the name that tables use for it, its size in sectors of
+/// 512 bytes, and whether it is writable.
 #[derive(Debug, Drop)]
 pub struct Leaf {
     pub name: Vec<u8>,

@@ -1,4 +1,4 @@
-//! What the names in a table mean, found once at loading.
+//! The leaves and devices that the names in a table refer to, looked up once when it is loaded.
 ghost use Rattle.std.specs.Prelude.{◌≡◌, ◌<◌, length, map, slice_get, get_or, []};
 ghost use Rattle.std.specs.List.{list_any};
 ghost use Rattle.stack_rules.specs.Cycles.{is_mapped};
@@ -7,7 +7,7 @@ ghost use Rattle.stack_rules.specs.Removal.{lower_after};
 use crate::lower::Lower;
 use std::marker::Model;
 
-/// What the names of one line mean, from left to right.
+/// The leaves and devices that the names in one line refer to, from left to right.
 #[derive(Drop)]
 pub struct LineLowers {
     list: Vec<Lower>,
@@ -41,7 +41,7 @@ impl LineLowers {
         self.list.iter().any(|lower| lower.is_mapped(d))
     }
 
-    /// The same once device d is removed.
+    /// Adjusts the indices for the removal of device `d`.
     fn remove(&mut self, d: usize)
         ensures { self.new ≡ map (lower_after d) self.old }
     {
@@ -51,7 +51,7 @@ impl LineLowers {
     }
 }
 
-/// The same for each line of one device.
+/// The leaves and devices that each line of one device names.
 #[derive(Drop)]
 pub struct DeviceLowers {
     lines: Vec<LineLowers>,
@@ -88,14 +88,14 @@ impl DeviceLowers {
         lowers.list[i]
     }
 
-    /// Whether a line names device d.
+    /// Returns whether a line names device `d`.
     pub fn names(&self, d: usize) -> bool
         ensures { result ≡ list_any (list_any (is_mapped d)) self.now }
     {
         self.lines.iter().any(|line| line.names(d))
     }
 
-    /// The same once device d is removed.
+    /// Adjusts the indices for the removal of device `d`.
     pub fn remove(&mut self, d: usize)
         ensures { self.new ≡ map (map (lower_after d)) self.old }
     {

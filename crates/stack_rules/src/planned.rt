@@ -1,4 +1,4 @@
-//! A mapped device of a configuration to come, of which nothing is copied yet.
+//! A mapped device of a planned configuration, not yet copied.
 ghost use Rattle.std.specs.Prelude.{◌≡◌};
 ghost use Rattle.stack_rules.specs.Names.{table_sectors};
 
@@ -6,7 +6,7 @@ use crate::mapped::sectors_of;
 use dm_table::Table;
 use std::marker::Model;
 
-/// A mapped device whose name and table stand where they were read or loaded. The size is the sum of its lines' lengths.
+/// A mapped device that borrows its name and table. `size` is the sum of the lengths of its lines.
 #[derive(Drop)]
 pub struct Planned<'a> {
     name: &'a [u8],
