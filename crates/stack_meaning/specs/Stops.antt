@@ -32,7 +32,7 @@ IsCounted (io.Stack fault) leaves = Unit {0}
 IsCounted (io.Device i) leaves = (d : Device) → (slice_index_or leaves (i - 1) d).failures < 2 ^ 64 - 1
 IsCounted io.NoMemory leaves = Unit {0}
 
--- a read of n sectors from `first` on: the first `before` sectors didn't fail, the next `failed` ones did, and a leaf
+-- a read of n sectors from `first` on: after the first `before` sectors the next `failed` ones failed, and a leaf
 -- that only later sectors reach is unchanged, including its counters: it wasn't accessed
 pub record StopsReading (said : ℕ → Said) (first n : ℕ) (fault : IoFault) (old new : List Device) : Type 0 where
   pub before : ℕ
