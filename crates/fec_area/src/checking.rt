@@ -25,7 +25,7 @@ use std::alloc::Global;
 ///
 /// - `TooSmall` if the parity device has fewer sectors than needed.
 /// - `Device` if one of the three devices fails.
-/// - `NoMemory` if an allocation of at most 128 KiB fails; the parity device was not accessed.
+/// - `NoMemory` if an allocation fails; the parity device was not accessed.
 pub fn check_parity<D: BlockDev, H: BlockDev, P: BlockDev>(
     alloc: Global,
     layout: &Layout,

@@ -76,7 +76,7 @@ impl From<OutOfMemory> for RestoreFault {
 /// - `TooManyLost` if more blocks of the round are lost than a codeword has parity bytes; no device was accessed.
 /// - `TooSmall` if the parity device has fewer sectors than needed; no device was accessed.
 /// - `Device` if one of the three devices fails.
-/// - `NoMemory` if an allocation of at most 128 KiB fails; no device was accessed.
+/// - `NoMemory` if an allocation fails; no device was accessed.
 pub fn restore_block<D: BlockDev, H: BlockDev, P: BlockDev>(
     alloc: Global,
     sought: &LostBlock<'_>,

@@ -63,7 +63,7 @@ impl From<OutOfMemory> for ParityFault {
 /// - `TooSmall` if the parity device has fewer sectors than needed, `ReadOnly` if it is read-only; it was not
 ///   accessed.
 /// - `Device` if one of the three devices fails.
-/// - `NoMemory` if an allocation of at most 128 KiB fails; the parity device was not accessed.
+/// - `NoMemory` if an allocation fails; the parity device was not accessed.
 pub fn write_parity<D: BlockDev, H: BlockDev, P: BlockDev>(
     alloc: Global,
     layout: &Layout,
