@@ -28,7 +28,7 @@ add_round_key s k = state_of (λ r c. bit_xor (byte_at s r c) (byte_at k r c))
 unfoldable pub inv_shift_rows : List ℕ → List ℕ
 inv_shift_rows s = state_of (λ r c. byte_at s r ((c + 4 - r) % 4))
 
--- 5.3.2: each byte goes through the map of InvSubBytes
+-- 5.3.2: the map of InvSubBytes applied to each byte
 unfoldable pub inv_sub_bytes : List ℕ → List ℕ
 inv_sub_bytes s = state_of (λ r c. inv_sub_byte (byte_at s r c))
 

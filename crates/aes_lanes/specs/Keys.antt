@@ -5,7 +5,7 @@ use Rattle.aes_lanes.specs.declared.keys.KeyPlanes.{KeyPlanes}
 use Rattle.aes_lanes.specs.Constant.{add_constant}
 use Rattle.aes_lanes.specs.Planes.{ArePlanes, lane_block, shifted}
 
--- each of the sixteen blocks in the planes becomes this key after s ShiftRows
+-- each of the sixteen blocks in the planes, after s ShiftRows, is this key
 pub record AreOneBlock (s : ℕ) (key : List ℕ) (q : List (List ℕ)) : Type 0 where
   pub planes : ArePlanes q
   pub blocks : (j : ℕ) → j < 16 → shifted s (lane_block q j) ≡ key
@@ -26,6 +26,7 @@ abbrev pub kept_key : List ℕ → ℕ → List ℕ
 kept_key w zero = round_key w 0
 kept_key w (suc r) = add_constant (round_key w (suc r))
 
--- round keys 0 to n of the key schedule w, each stored r % 4 ShiftRows behind: ShiftRows repeats after four times
+-- round keys 0 to n of the key schedule w, each stored with r % 4 ShiftRows pending: ShiftRows repeats after four
+-- times
 abbrev pub HoldKeys : ℕ → List ℕ → List KeyPlanes → Type 0
 HoldKeys n w keys = (r : ℕ) → r ≤ n → AreOneBlock (r % 4) (kept_key w r) (key_planes keys r)

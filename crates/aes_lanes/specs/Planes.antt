@@ -73,7 +73,7 @@ pub record AreMoved (from : ℕ → ℕ) (old new : List (List ℕ)) : Type 0 wh
   pub planes : ArePlanes new
   pub lanes : (k p : ℕ) → k < 8 → p < 32 → lane new k p ≡ lane old k (from p)
 
--- the lane of the byte n rows below in the same column, in a block stored s ShiftRows behind
+-- the lane of the byte n rows below in the same column, in a block stored with s ShiftRows pending
 abbrev pub lane_below : ℕ → ℕ → ℕ → ℕ
 lane_below n s p = 16 * (p / 16) + (4 * ((p / 4 + s * n) % 4) + (p + n) % 4)
 

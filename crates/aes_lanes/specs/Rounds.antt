@@ -1,5 +1,5 @@
--- The steps of the cipher on the states of sixteen blocks. A state is stored s ShiftRows behind: s ShiftRows of a
--- stored block give the state.
+-- The steps of the cipher on the states of sixteen blocks. A state is stored with s ShiftRows pending: s ShiftRows of
+-- a stored block give the state.
 use Rattle.std.specs.Prelude.{◌≡◌, ℕ, ◌+◌, ◌<◌, List}
 use Rattle.aes_block.specs.Blocks.{block, joined}
 use Rattle.aes_block.specs.Cipher.{cipher_with, inverse_cipher_with}
@@ -20,11 +20,11 @@ EachGoesThrough map s old new = (j : ℕ) → j < 16 → shifted s (lane_block n
 abbrev pub IsKeyed : ℕ → List ℕ → List (List ℕ) → List (List ℕ) → Type 0
 IsKeyed s k old new = (j : ℕ) → j < 16 → shifted s (lane_block new j) ≡ add_round_key (shifted s (lane_block old j)) k
 
--- a round is applied to each state, which is stored one more ShiftRows behind afterwards
+-- a round is applied to each state, which has one more ShiftRows pending afterwards
 abbrev pub IsRound : ℕ → List ℕ → List (List ℕ) → List (List ℕ) → Type 0
 IsRound s k old new = (j : ℕ) → j < 16 → shifted (s + 1) (lane_block new j) ≡ round (shifted s (lane_block old j)) k
 
--- the last round is applied to each state, which is stored as it is afterwards
+-- the last round is applied to each state, which has none pending afterwards
 abbrev pub IsLastRound : ℕ → List ℕ → List (List ℕ) → List (List ℕ) → Type 0
 IsLastRound s k old new = (j : ℕ) → j < 16 → lane_block new j ≡ last_round (shifted s (lane_block old j)) k
 
@@ -33,13 +33,13 @@ IsLastRound s k old new = (j : ℕ) → j < 16 → lane_block new j ≡ last_rou
 abbrev pub IsInverseStart : ℕ → List ℕ → List (List ℕ) → List (List ℕ) → Type 0
 IsInverseStart s k old new = (j : ℕ) → j < 16 → add_constant (shifted s (lane_block new j)) ≡ add_round_key (lane_block old j) k
 
--- a round of the inverse cipher is applied to each state, which is stored one ShiftRows less behind afterwards
+-- a round of the inverse cipher is applied to each state, which has one ShiftRows less pending afterwards
 abbrev pub IsInverseRound : ℕ → List ℕ → List (List ℕ) → List (List ℕ) → Type 0
 IsInverseRound s k old new = (j : ℕ) → j < 16
     → add_constant (shifted s (lane_block new j)) ≡ inverse_round (add_constant (shifted (s + 1) (lane_block old j))) k
 
--- the last round of the inverse cipher is applied to each state, which was stored one ShiftRows behind and is stored
--- as it is afterwards
+-- the last round of the inverse cipher is applied to each state, which has one ShiftRows pending before it and none
+-- afterwards
 abbrev pub IsLastInverseRound : List ℕ → List (List ℕ) → List (List ℕ) → Type 0
 IsLastInverseRound k old new = (j : ℕ) → j < 16 → lane_block new j ≡ last_inverse_round (add_constant (shifted 1 (lane_block old j))) k
 

@@ -1,6 +1,6 @@
 //! MixColumns and its inverse (FIPS 197, 5.1.3 and 5.3.3) on planes.
 //!
-//! No round but the last moves rows. Until then, the state is stored `shifts` ShiftRows behind, and a column is
+//! No round but the last moves rows. Until then, the state is stored with `shifts` ShiftRows pending, and a column is
 //! gathered from the lanes that hold its bytes.
 
 ghost use Rattle.std.specs.Prelude.{◌≡◌, ℕ, ◌<◌, length, slice_index};
@@ -13,8 +13,8 @@ use crate::planes::{Planes, each};
 use crate::sums::add;
 use std::simd::prelude::*;
 
-// Moves to each lane the byte one row below in the same column. The suffix of the variants is the number of ShiftRows
-// that the state is stored behind.
+// Moves to each lane the byte one row below in the same column. The suffix of the variants is the number of pending
+// ShiftRows.
 //
 // The lane numbers are constants because only some compilers emit a single instruction for a table that is read by an
 // index.

@@ -71,7 +71,7 @@ fn copies(schedule: &[u8], round: usize) -> Planes
 }
 
 // Returns the planes of sixteen copies of a round key as it is stored: with the constant of SubBytes added, except
-// for round key 0, and with its rows moved to where the round's state is stored.
+// for round key 0, and with as many ShiftRows pending as the state to which it is added.
 fn kept_planes(schedule: &[u8], round: usize) -> Planes
     requires { 16 * round + 16 ≤ length schedule.now }
     ensures { AreOneBlock (round % 4) (kept_key schedule.now round) result }

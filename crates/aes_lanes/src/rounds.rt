@@ -1,8 +1,8 @@
 //! The rounds of the cipher and of its inverse (FIPS 197, 5.1 and 5.3) on planes.
 //!
-//! A state is stored some ShiftRows behind: each round of the cipher leaves it one more behind, each round of the
-//! inverse one less, and no lane is moved. ShiftRows repeats after four times. The constant of SubBytes is added with
-//! the round keys.
+//! A state is stored with some ShiftRows pending: each round of the cipher leaves one more, each round of the inverse
+//! one less, and no lane is moved. ShiftRows repeats after four times. The constant of SubBytes is added with the
+//! round keys.
 
 ghost use Rattle.std.specs.Prelude.{◌≡◌, ℕ, ◌+◌, ◌%◌, ◌<◌, List};
 ghost use Rattle.aes_lanes.specs.Planes.{ArePlanes};
@@ -16,7 +16,7 @@ use crate::planes::Planes;
 use crate::rows::{inv_shift_rows, shift_rows};
 use crate::sums::add_round_key;
 
-// Runs a round, after which the state is stored `shifts` ShiftRows behind.
+// Runs a round, after which the state has `shifts` ShiftRows pending.
 #[inline(always)]
 pub(crate) fn round(q: &Planes, key: &Planes, shifts: usize) -> Planes
     requires planes { ArePlanes q.now }
@@ -29,8 +29,7 @@ pub(crate) fn round(q: &Planes, key: &Planes, shifts: usize) -> Planes
     add_round_key(&mixed, key)
 }
 
-// Runs the last round, which has no MixColumns, on a state that is stored one ShiftRows behind. The result is stored
-// as it is.
+// Runs the last round, which has no MixColumns, on a state with one ShiftRows pending. The result has none pending.
 #[inline(always)]
 pub(crate) fn last_round(q: &Planes, key: &Planes) -> Planes
     requires { ArePlanes q.now }
@@ -43,8 +42,8 @@ pub(crate) fn last_round(q: &Planes, key: &Planes) -> Planes
     shift_rows(&once)
 }
 
-// Runs the first AddRoundKey of the inverse cipher. Afterwards the state is stored two ShiftRows behind, with the
-// constant of SubBytes added.
+// Runs the first AddRoundKey of the inverse cipher. Afterwards the state has two ShiftRows pending and the constant
+// of SubBytes added.
 #[inline(always)]
 pub(crate) fn first_inverse_key(q: &Planes, key: &Planes) -> Planes
     ensures planes { ArePlanes result }
@@ -55,8 +54,8 @@ pub(crate) fn first_inverse_key(q: &Planes, key: &Planes) -> Planes
     add_round_key(&back, key)
 }
 
-// Runs a round of the inverse cipher, after which the state is stored `shifts` ShiftRows behind. The constant of
-// SubBytes is added to the stored state before and after it.
+// Runs a round of the inverse cipher, after which the state has `shifts` ShiftRows pending. The stored state has the
+// constant of SubBytes added before and after it.
 #[inline(always)]
 pub(crate) fn inverse_round(q: &Planes, key: &Planes, shifts: usize) -> Planes
     requires planes { ArePlanes q.now }

@@ -32,7 +32,7 @@ pub(crate) fn add(a: &Planes, b: &Planes) -> Planes
     [s0, s1, s2, s3, s4, s5, s6, s7]
 }
 
-// Applies AddRoundKey (5.1.4). The state and the round key must be stored the same number of ShiftRows behind.
+// Applies AddRoundKey (5.1.4). The state and the round key must have the same number of ShiftRows pending.
 #[inline(always)]
 pub(crate) fn add_round_key(q: &Planes, key: &Planes) -> Planes
     ensures planes { ArePlanes result }

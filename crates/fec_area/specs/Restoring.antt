@@ -27,8 +27,8 @@ lost_count l lost index = count_by (is_beside l index) lost + 1
 abbrev pub IsAmong : List ℕ → ℕ → Type 0
 IsAmong lost j = (k : ℕ) × ((k < length lost) × (slice_index lost k ≡ j))
 
--- a former image in which the block is whole; in the block's round it has this parity, and its other blocks of the
--- round that aren't known to be lost are unchanged
+-- a former image in which the block is whole, with this parity in the block's round; its other blocks of the round
+-- that aren't known to be lost are those of the present image
 pub record IsBefore (l : Layout) (data_image hash_image former_data former_hash : List (List ℕ)) (parity lost : List ℕ) (index : ℕ) : Type 0 where
   pub whole : length (covered l former_data former_hash index) ≡ l.block
   pub stands : IsParityOf l former_data former_hash (round_of l index) parity

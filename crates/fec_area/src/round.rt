@@ -33,8 +33,8 @@ pub(crate) fn sum_parity<D: BlockDev, H: BlockDev>(
     Ok(())
 }
 
-/// Reconstructs the lost blocks of a round from its other blocks, which alone are read, and its parity. With n lost
-/// blocks, byte c of lost block k is at index c * n + k of `sums`. `block` is a buffer for reads.
+/// Reconstructs the lost blocks of a round from its parity and its other blocks; only the other blocks are read. With
+/// n lost blocks, byte c of lost block k is at index c * n + k of `sums`. `block` is a buffer for reads.
 pub(crate) fn restore_blocks<D: BlockDev, H: BlockDev>(
     gap: &Gap<'_>,
     data_dev: &mut D,

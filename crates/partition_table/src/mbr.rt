@@ -16,7 +16,7 @@ const SIGNATURE: u32 = 0xaa55;
 
 const PROTECTIVE: u32 = 0xee;
 
-/// What the master boot record in sector 0 says about a disk with a GUID partition table.
+/// The kind of master boot record in sector 0 of a disk with a GUID partition table.
 #[derive(Clone, Copy, Debug, PartialEq, Eq)]
 pub enum Mbr {
     /// One record has the type 0xEE and begins at sector 1; the other three are zeros.

@@ -28,6 +28,7 @@ impl<T> Model for Counted<T> {
 }
 
 impl<T> Counted<T> {
+    /// Returns a reader or writer without calls or failures.
     pub fn new(inner: T) -> Counted<T>
         ensures { result ≡ record { inner = inner; calls = 0; failed = false; pending = false } }
     {
@@ -39,6 +40,7 @@ impl<T> Counted<T> {
         }
     }
 
+    /// Returns the inner reader or writer.
     pub fn into_inner(self) -> T
         ensures { result ≡ self.inner }
     {

@@ -26,8 +26,10 @@ pub enum Direction<'a> {
     Write(&'a [u64]),
 }
 
+/// The largest depth of a device.
 pub const MOST_DEPTH: u64 = 8;
 
+/// The largest number of leaf sectors read for one sector.
 pub const MOST_COST: u64 = 1 << 32;
 
 /// More than the cost of writing one sector can be.

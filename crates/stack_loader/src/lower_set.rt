@@ -13,6 +13,7 @@ use allocation::{OutOfMemory, push, with_capacity};
 use stack_rules::{DeviceLowers, LineLowers, Lower};
 use std::alloc::Global;
 
+/// The largest number of mapped devices in a configuration.
 pub const MOST_DEVICES: u32 = 64;
 
 /// Returns the set with the lower device added, if it is a mapped device.

@@ -21,18 +21,21 @@ impl Model for Leaf {
 impl Leaf {
     ghost use Rattle.std.specs.Prelude.{◌≡◌};
 
+    /// Returns the name that tables use for the leaf.
     pub fn name(&self) -> &[u8]
         ensures { result.now ≡ self.now.name }
     {
         self.name.as_slice()
     }
 
+    /// Returns the size in sectors of 512 bytes.
     pub fn sectors(&self) -> u64
         ensures { result ≡ self.now.sectors }
     {
         self.sectors
     }
 
+    /// Returns whether the leaf is writable.
     pub fn writable(&self) -> bool
         ensures { result ≡ self.now.writable }
     {

@@ -23,12 +23,14 @@ impl Model for LineLowers {
 }
 
 impl LineLowers {
+    /// Returns the leaves and devices of a line, in the order of its names.
     pub fn new(list: Vec<Lower>) -> LineLowers
         ensures { result ≡ list.items }
     {
         LineLowers { list }
     }
 
+    /// Returns the leaves and devices in the order of the names.
     pub fn as_slice(&self) -> &[Lower]
         ensures { result.now ≡ self.now }
     {
@@ -67,18 +69,21 @@ impl Model for DeviceLowers {
 }
 
 impl DeviceLowers {
+    /// Returns the leaves and devices of a device's lines, in order.
     pub fn new(lines: Vec<LineLowers>) -> DeviceLowers
         ensures { result ≡ lines.items }
     {
         DeviceLowers { lines }
     }
 
+    /// Returns the leaves and devices of each line, in order.
     pub fn lines(&self) -> &[LineLowers]
         ensures { result.now ≡ self.now }
     {
         self.lines.as_slice()
     }
 
+    /// Returns the leaf or device that name `i` of a line refers to. Lines and names are numbered from 0.
     pub fn at(&self, line: usize, i: usize) -> Lower
         requires line { line < length self.now }
         requires name { i < length (get_or self.now line []) }

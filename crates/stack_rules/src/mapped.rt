@@ -71,24 +71,28 @@ impl Mapped {
         })
     }
 
+    /// Returns the name, without `/dev/mapper/`.
     pub fn name(&self) -> &[u8]
         ensures { result.now ≡ self.now.name }
     {
         self.name.as_slice()
     }
 
+    /// Returns whether the device is writable.
     pub fn writable(&self) -> bool
         ensures { result ≡ self.now.writable }
     {
         self.writable
     }
 
+    /// Returns the lines of the device.
     pub fn table(&self) -> &Table
         ensures { result.now ≡ self.now.table }
     {
         &self.table
     }
 
+    /// Returns the size in sectors of 512 bytes.
     pub fn size(&self) -> u128
         ensures { result ≡ table_sectors self.now.table }
     {

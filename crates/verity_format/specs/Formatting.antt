@@ -13,7 +13,7 @@ use Rattle.verity_format.specs.Blocks.{IsOnlyRead, IsFullRead, IsOnlyWritten}
 use Rattle.verity_format.specs.Image.{data_sectors, first_sectors, image_sectors, formatted, root_over}
 use Rattle.verity_format.specs.Writing.{IsPartOfTree}
 
--- the number of whole blocks of that size in so many sectors; 0 for sizes below a sector
+-- the number of whole blocks of that size in `sectors` sectors; 0 for sizes below a sector
 abbrev pub whole_blocks : ℕ → ℕ → ℕ
 whole_blocks sectors size = if nat_lt size 512 then 0 else sectors / (size / 512)
 
