@@ -86,8 +86,8 @@ pub record AreLostPlaces (l : Layout) (lost : List ℕ) (index : ℕ) (places : 
   pub each : EachIndex lost (λ k. IsTrue (is_beside l index (slice_index lost k)) → IsAmong places (slice_index lost k / code_rounds l))
   pub alone : EachIndex places (λ k. IsLostPlace l lost index (slice_index places k))
 
--- the bytes are the block at the first of these positions in every image with this parity whose blocks at the other
--- positions of the round, except the lost ones, are the same
+-- the bytes are the block at the first of these positions in every former image with this parity that has the same
+-- blocks at all other positions of the round
 abbrev pub IsFirstRestored : Layout → List (List ℕ) → List (List ℕ) → ℕ → List ℕ → List ℕ → List ℕ → Type 0
 IsFirstRestored l data_image hash_image round parity places bytes =
     (former_data former_hash : List (List ℕ)) → IsFormerly l data_image hash_image former_data former_hash round parity places

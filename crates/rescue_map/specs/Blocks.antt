@@ -20,7 +20,7 @@ status_named b = if b == 43 then Some true else if is_unfinished b then Some fal
 abbrev pub status_of : Word → Option Bool
 status_of word = if length word == 1 then status_named (slice_index word 0) else None
 
--- the status of the whole: one of those of a block, or `F` or `G`
+-- the status of the whole: a status of a block, or `F` or `G`
 abbrev pub is_whole_status : Word → Bool
 is_whole_status word =
     (length word == 1) && ((slice_index word 0 == 43) || is_unfinished (slice_index word 0) || (slice_index word 0 == 70) || (slice_index word 0 == 71))

@@ -1,4 +1,5 @@
--- The kind of a map: that of a copy, which holds each sector marked `+`, or of a scan, which copied nothing.
+-- The kind of a map. In the map of a copy, `+` marks the sectors in the copy; in the map of a scan, it marks the
+-- readable sectors.
 use Rattle.std.specs.Prelude.{ℕ, Bool, false, ◌&&◌, List, [], ◌∷◌, ◌++◌, codes, if◌then◌else◌}
 use Rattle.std.specs.Str.{bytes_eq}
 use Rattle.dm_table.specs.Words.{Word, text_lines, words}

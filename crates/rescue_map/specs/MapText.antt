@@ -36,8 +36,8 @@ map_of sectors text = runs_behind sectors (said (text_lines text))
 
 -- ---- the text that is written
 
--- whether a run that ends at sector `end` was tried: `None` means that all sectors were, `Some` that those before one
--- were
+-- whether a run that ends at sector `end` was tried: with `None` all sectors were tried, with `Some` those before a
+-- sector
 abbrev pub is_tried : Option ℕ → ℕ → Bool
 is_tried None end = true
 is_tried (Some tried) end = nat_le end tried

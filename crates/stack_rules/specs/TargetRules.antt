@@ -9,7 +9,7 @@ use Rattle.stack_rules.specs.FaultKinds.{load_number}
 abbrev pub Range : Type 0
 Range = List ℕ × ℕ
 
--- the properties of a target in a line; functions of a length get that of the line
+-- the properties of a target; functions of a length take the length of the line
 pub record TargetRules : Type 0 where
   -- the devices that the target names, from left to right, each with its first sector
   pub bases : List Base
