@@ -98,6 +98,7 @@ impl<R: Files<File = File> + AllocGlobal> FileCalls for SystemCalls<'_, R> {
 
     // Trusted: that the body of each function makes the call that its clause names.
 
+    #[tactic(auto, using(crate::proofs::FileLemmas::asked_of))]
     fn resolve(&mut self, path: &str) -> Result<String, ReplaceFault> {
         let Ok(mut at) = PathBuf::from_str(self.rt.alloc(), path) else {
             return Err(ReplaceFault::NoMemory);

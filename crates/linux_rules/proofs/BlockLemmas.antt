@@ -5,7 +5,6 @@ use Rattle.std.specs.List.{AllByRecursion}
 use Rattle.std.proofs.Math.Decide.{dec_le}
 use Rattle.std.proofs.lemmas.List.{get_or-set_same, get_or-set_other, get_or_past}
 use Rattle.std.proofs.Math.Seq.{take-append_seam}
-use Rattle.dm_table.specs.declared.table.Target.{Target}
 use Rattle.dm_table.specs.declared.table.Target.TheVariants.{Verity as verity_target}
 use Rattle.stack_rules.specs.declared.lower.Lower.{Lower}
 use Rattle.stack_rules.specs.declared.lower.Lower.TheVariants.{Leaf as leaf, Device as device}
@@ -17,7 +16,7 @@ use Rattle.stack_rules.proofs.lemmas.UnrollLemmas.{turn, falls-at}
 use Rattle.stack_rules.proofs.lemmas.CostRuleLemmas.{IsLineLocal, costs-same, cost_rule-local, cost-rule}
 use Rattle.stack_rules.proofs.lemmas.LowerLemmas.{IsInside, lowers-inside}
 use Rattle.stack_rules.proofs.lemmas.ValidLemmas.{depth-low, past_end}
-use Rattle.linux_rules.specs.Blocks.{line_block, logical_block, lower_block, unit_block, data_block, table_block, block_in, AreBlocks}
+use Rattle.linux_rules.specs.Blocks.{line_block, logical_block, unit_block, data_block, table_block, block_in, AreBlocks}
 
 line_block-local : IsLineLocal line_block
 line_block-local cost other (verity_target line) all = rw all.0 refl

@@ -1,5 +1,5 @@
 -- What a line asks of the devices that it names.
-use Rattle.std.proofs.Common.{◌≡◌, ◌*◌, ℕ, max, List, [], ◌∷◌, refl, sym, ap, ◌∙◌, Some, None, length, get_or, map, nat_lt, arith}
+use Rattle.std.proofs.Common.{◌≡◌, ℕ, max, List, [], ◌∷◌, refl, sym, ap, Some, None, map, arith}
 use Rattle.std.specs.Prelude.{slice_get}
 use Rattle.std.specs.Option.{option_map_or}
 use Rattle.dm_table.specs.declared.table.Target.{Target}
@@ -7,13 +7,13 @@ use Rattle.dm_table.specs.declared.table.Target.TheVariants.{Verity as verity_ta
 use Rattle.dm_table.specs.declared.verity.Verity.{Verity}
 use Rattle.stack_rules.specs.declared.lower.Lower.{Lower}
 use Rattle.stack_rules.specs.Records.{Configuration}
-use Rattle.stack_rules.specs.Names.{named, names, size}
-use Rattle.stack_rules.specs.Descend.{greatest, known, by_name}
+use Rattle.stack_rules.specs.Names.{named, names}
+use Rattle.stack_rules.specs.Descend.{greatest, by_name}
 use Rattle.stack_rules.specs.Passing.{Mean}
 use Rattle.stack_rules.specs.Trees.{verity_of}
 use Rattle.stack_rules.proofs.lemmas.LastCaseLemmas.{verity_of-is}
 use Rattle.linux_rules.specs.Blocks.{lower_block}
-use Rattle.linux_rules.specs.Rules.{are_smaller, begins_beyond, has_small_block, hash_sectors}
+use Rattle.linux_rules.specs.Rules.{are_smaller, has_small_block}
 
 -- what is given of the names is what is given of the devices that they mean
 pub by_name-row : (c : Configuration) (below : Lower → ℕ) (row : List Lower) (ns : List (List ℕ)) → Mean c row ns → map (by_name c 0 below) ns ≡ map below row
@@ -68,14 +68,3 @@ pub small-is : (c : Configuration) (below : Lower → ℕ) (row : List Lower) (t
 small-is c below row target line is means =
     let two = two-of-target c row target line is means in
     rw (← is, data-at c below row line two, hash-at c below row line two) refl
-
--- the hash device of a `verity` line
-pub begins-is : (c : Configuration) (row : List Lower) (target : Target) (line : Verity) (lower : Lower) → Some line ≡ verity_of target → Mean c row (names target)
-    → lower ≡ get_or row 1 lower → nat_lt (size c lower) (line.start * hash_sectors line) ≡ begins_beyond c target
-begins-is c row target line lower is means read =
-    let two = two-of-target c row target line is means in
-    let same : lower ≡ two.lower_hash = read ∙ ap (λ r. get_or r 1 lower) two.row_is in
-    rw (← is, two.hash_is, same) refl
-
-pub row-long : (c : Configuration) (row : List Lower) (target : Target) (line : Verity) → Some line ≡ verity_of target → Mean c row (names target) → length row ≡ 2
-row-long c row target line is means = ap length (two-of-target c row target line is means).row_is

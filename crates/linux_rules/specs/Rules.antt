@@ -9,7 +9,7 @@ use Rattle.dm_table.specs.declared.table.Target.{Target}
 use Rattle.dm_table.specs.declared.table.Target.TheVariants as targets
 use Rattle.dm_table.specs.declared.verity.Verity.{Verity}
 use Rattle.stack_rules.specs.declared.lower.Lower.{Lower}
-use Rattle.stack_rules.specs.Records.{Configuration, DeviceRecord}
+use Rattle.stack_rules.specs.Records.{Configuration}
 use Rattle.stack_rules.specs.Names.{mapped, table_sectors}
 use Rattle.stack_rules.specs.Descend.{by_name}
 use Rattle.stack_rules.specs.Rules.{ends_past}

@@ -19,7 +19,8 @@ pub enum LinuxKind {
     BeginBeyondDevice = 54,
     /// A line's length, a stripe's share or an offset isn't whole logical blocks.
     PartBlock = 55,
-    /// A line begins inside a logical block of its device, and lies on a device with larger blocks than what is left.
+    /// A line begins inside a logical block of its device and goes on after it, and what it has of the block isn't whole
+    /// blocks of the devices beneath the line.
     DividedBlock = 56,
     /// A crypt line begins inside a unit: Linux numbers the units otherwise.
     UnitStart = 57,

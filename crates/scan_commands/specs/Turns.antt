@@ -45,9 +45,9 @@ pub record Progressed (S : Type 0) : Type 0 where
 abbrev pub progressed : {S : Type 0} → S → Sides → List Run → ℕ → Progressed S
 progressed images sides runs at = record { images = images; sides = sides; runs = runs; at = at }
 
--- 64 MiB, or a 256th of a larger device
+-- 64 MiB, or a 256th of a larger device, in whole groups of eight sectors
 unfoldable pub turn_len : ℕ → ℕ
-turn_len sectors = max 131072 (sectors / 256)
+turn_len sectors = max 131072 ((sectors / 2048 + 1) * 8)
 
 -- the marks of the span as the map has them; all other sectors count as read before, so that they aren't read
 abbrev pub asked_marks : Span → ℕ → List Run → List Bool

@@ -21,6 +21,9 @@ use std::alloc::Global;
 
 const LEAST_TURN: u64 = 131_072;
 
+// A turn has whole groups of eight sectors, since units and data blocks have at most as many.
+const GROUP: u64 = 8;
+
 const MOST_TURNS: u64 = 256;
 
 // How many sectors of a device of so many are read in a turn.
@@ -29,7 +32,7 @@ fn turn_len(sectors: u64) -> u64
     ensures value { result ≡ turn_len sectors }
     ensures some { 1 ≤ result }
 {
-    LEAST_TURN.max(sectors / MOST_TURNS)
+    LEAST_TURN.max((sectors / (MOST_TURNS * GROUP) + 1) * GROUP)
 }
 
 // The map by which only sectors of a span are read: all others count as read before.

@@ -45,6 +45,7 @@ pub usage-no_output : (fault : CommandFault) → is_usage fault ≡ true → is_
 usage-no_output Usage usage = refl
 usage-no_output NoMemory usage = refl
 usage-no_output (Stack fault) usage = refl
+usage-no_output (Linux refusal) usage = refl
 usage-no_output (Request fault) usage = refl
 usage-no_output (Io fault) usage = refl
 usage-no_output (Recovering fault) usage = let clash : false ≡ true = usage in cc

@@ -11,7 +11,7 @@ use Rattle.stack_commands.specs.StackCommands.{IsCheckedIf, IsLinuxEnd, IsTaken}
 pub linux-end : (linux : Bool) (config : Configuration) (fault : LinuxFault) → IsCheckedIf linux config (Err fault) → (linux_ending fault ≡ NoMemory) ⊎ IsLinuxEnd linux config (linux_ending fault)
 linux-end true config (Refused refusal) checked = inr (refl, checked)
 linux-end true config refused_memory checked = inl refl
-linux-end false config fault checked = cc
+linux-end false config fault checked = let clash : Err fault ≡ Ok tt = checked in cc
 
 -- it found nothing
 pub linux-taken : (linux : Bool) (config : Configuration) (done : Unit {0}) → IsCheckedIf linux config (Ok done) → IsTaken linux config

@@ -1,4 +1,3 @@
-use Rattle.std.proofs.Common.{◌≡◌}
 use Rattle.linux_rules.specs.Blocks.{block_in}
 use Rattle.linux_rules.proofs.LineLemmas.{lower_block-verity, lower_block-plain}
 use Rattle.linux_rules.proofs.block.lower_block.Goals as goal

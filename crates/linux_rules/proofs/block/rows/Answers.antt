@@ -1,8 +1,5 @@
-use Rattle.std.proofs.Common.{List, [], map, get_or, sym, ap, ◌∙◌, length, arith, subst}
+use Rattle.std.proofs.Common.{List, [], map, get_or, sym, ap, ◌∙◌, length, arith}
 use Rattle.std.proofs.lemmas.List.{get_or-map}
-use Rattle.stack_rules.specs.declared.lower.Lower.{Lower}
-use Rattle.stack_rules.specs.Names.{lines_of}
-use Rattle.stack_rules.specs.Passing.{RowsMean}
 use Rattle.stack_rules.proofs.lemmas.LowerLemmas.{rows-of}
 use Rattle.stack_config.specs.declared.facts.DeviceFacts.{DeviceFacts}
 use Rattle.stack_config.proofs.lemmas.FactLemmas.{have-device, length-facts}

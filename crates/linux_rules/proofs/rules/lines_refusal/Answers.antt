@@ -1,10 +1,9 @@
-use Rattle.std.proofs.Common.{◌≡◌, ◌+◌, Bool, ap, subst, ◌∙◌, sym, refl, arith}
+use Rattle.std.proofs.Common.{◌+◌, Bool, ap, subst, ◌∙◌, sym, arith}
 use Rattle.std.specs.Option.{option_map}
 use Rattle.dm_table.specs.declared.table.Line.{Line}
 use Rattle.dm_table.specs.Grammar.{IsLineOfGrammar}
 use Rattle.stack_rules.specs.Descend.{by_name}
 use Rattle.stack_rules.proofs.lemmas.NameMeaningLemmas.{row-at, length-rows}
-use Rattle.linux_rules.specs.declared.refusal.LinuxKind.{LinuxKind}
 use Rattle.linux_rules.specs.Blocks.{block_in}
 use Rattle.linux_rules.specs.Rules.{first_from, first_kind, line_faults, line_refusal, refusal_at}
 use Rattle.linux_rules.proofs.FirstLemmas.{first_more, first_found, first_end}

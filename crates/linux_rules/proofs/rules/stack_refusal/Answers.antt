@@ -1,4 +1,4 @@
-use Rattle.std.proofs.Common.{◌≡◌, ◌+◌, ◌<◌, List, Some, ap, ◌∙◌, sym, length, arith}
+use Rattle.std.proofs.Common.{◌+◌, ◌<◌, Some, ap, ◌∙◌, sym, length, arith}
 use Rattle.std.specs.Prelude.{slice_get}
 use Rattle.stack_rules.specs.Records.{DeviceRecord}
 use Rattle.stack_rules.specs.Names.{lines_of}

@@ -75,31 +75,31 @@ device_cuts-loop-at-preserved t c =
 -- ---- where it isn't known, some sectors are encrypted
 
 pub lower_cuts-returns-in-Device-clause-units : goal.lower_cuts-returns-in-Device-clause-units
-lower_cuts-returns-in-Device-clause-units t c no =
-    subst (λ (x : Lower). SomeEncrypt (said_at c.args.config.now x) c.args.first c.args.count) (sym c.in-Device.is) (c.device_cuts.ensures.units no)
+lower_cuts-returns-in-Device-clause-units t c cut =
+    subst (λ (x : Lower). SomeEncrypt (said_at c.args.config.now x) c.args.first c.args.count) (sym c.in-Device.is) (c.device_cuts.ensures.units cut)
 
 pub run_cuts-returns-in-Below-clause-units : goal.run_cuts-returns-in-Below-clause-units
-run_cuts-returns-in-Below-clause-units t c no =
+run_cuts-returns-in-Below-clause-units t c cut =
     let config = c.args.config.now in
     let run = c.in-Below in
-    subst (λ (s : Source). SomeEncrypt (source_said config s) 0 c.args.count) (sym run.is) (below-some config run.lower run.first c.args.count (c.lower_cuts.ensures.units no))
+    subst (λ (s : Source). SomeEncrypt (source_said config s) 0 c.args.count) (sym run.is) (below-some config run.lower run.first c.args.count (c.lower_cuts.ensures.units cut))
 
 pub run_cuts-returns-in-Units-clause-units : goal.run_cuts-returns-in-Units-clause-units
-run_cuts-returns-in-Units-clause-units t c no =
+run_cuts-returns-in-Units-clause-units t c cut =
     subst (λ (s : Source). SomeEncrypt (source_said c.args.config.now s) 0 c.args.count) (sym c.in-Units.is) (units-some c.args.config.now c.in-Units.part c.args.count (omega (arith, c.if-count-left.false)))
 
 pub run_cuts-returns-in-UnitPart-clause-units : goal.run_cuts-returns-in-UnitPart-clause-units
-run_cuts-returns-in-UnitPart-clause-units t c no =
+run_cuts-returns-in-UnitPart-clause-units t c cut =
     subst (λ (s : Source). SomeEncrypt (source_said c.args.config.now s) 0 c.args.count) (sym c.in-UnitPart.is) (unit_part-some c.args.config.now c.in-UnitPart.field-0 c.args.count (omega (arith, c.if-count-left.false)))
 
 pub run_cuts-returns-in-Block-clause-units : goal.run_cuts-returns-in-Block-clause-units
-run_cuts-returns-in-Block-clause-units t c no = absurd (subst (SourceMayWrite c.args.config.now) c.in-Block.is c.requires.sectors.allowed)
+run_cuts-returns-in-Block-clause-units t c cut = absurd (subst (SourceMayWrite c.args.config.now) c.in-Block.is c.requires.sectors.allowed)
 
 pub run_cuts-returns-in-Blocks-clause-units : goal.run_cuts-returns-in-Blocks-clause-units
-run_cuts-returns-in-Blocks-clause-units t c no = absurd (subst (SourceMayWrite c.args.config.now) c.in-Blocks.is c.requires.sectors.allowed)
+run_cuts-returns-in-Blocks-clause-units t c cut = absurd (subst (SourceMayWrite c.args.config.now) c.in-Blocks.is c.requires.sectors.allowed)
 
 pub device_cuts-returns-then-not-run_cuts-clause-units : goal.device_cuts-returns-then-not-run_cuts-clause-units
-device_cuts-returns-then-not-run_cuts-clause-units t c no =
+device_cuts-returns-then-not-run_cuts-clause-units t c cut =
     let run = c.run_at-run.result in
     let inside : c.loop-at.at + run.count ≤ c.args.count = omega (arith, c.run_at-run.ensures.most, c.loop-at-test.true) in
     run-some c.args.config.now c.args.d.0 c.args.first c.loop-at.at run.count run.source c.requires.loaded c.run_at-run.ensures.served run.count c.args.count (omega arith) inside (c.if-not-run_cuts.ensures.units refl)
